@@ -1,7 +1,8 @@
 #!/usr/bin/env python3
 """Measures `telegate replay` on large traces made by fixed rules.
 
-    bench/bench.py [--program FILE] [--against FILE | --plain] [--events N] [--runs N] [--growth] [--keep FOLDER] [WORKLOAD ..]
+    bench/bench.py [--program FILE] [--against FILE | --plain] [--events N] [--runs N] [--growth | --instructions] [--keep FOLDER]
+                   [WORKLOAD ..]
 
 For each workload: a trace of about N events is made (the same each time), replayed three times (`--runs`) with the output thrown
 away, and the least processor time counts (user and system, so that other work on the machine disturbs little). Printed are the
@@ -13,10 +14,15 @@ With `--against` a second program with the same command line runs in turn with t
 outputs have to be equal: else the workload is told and the end is status 1. Printed besides are the ratios of the least processor
 times and of the peak memories, first program to second. `--plain` takes the plain Rust program of bench/plain as the second, which
 rustc compiles first.
+
+`--instructions` counts the instructions of one replay instead, by valgrind's callgrind, which no other work disturbs: of 10,000 events,
+unless `--events` says otherwise.
 """
 import argparse
 import filecmp
 import os
+import re
+import shutil
 import subprocess
 import sys
 import tempfile
@@ -290,6 +296,23 @@ def is_alike(programs, folder, settings, path):
     return alike
 
 
+def instructions(program, settings, trace):
+    """The instructions of one replay, in millions."""
+    words = ["valgrind", "--tool=callgrind", "--callgrind-out-file=/dev/null", program, "replay", settings, trace]
+    said = subprocess.run(words, stdout=subprocess.DEVNULL, stderr=subprocess.PIPE, text=True, check=True).stderr
+    return int(re.search(r"Collected : (\d+)", said)[1]) / 1e6
+
+
+def counted(programs, folder, name, events):
+    """Prints the instructions of a workload; answers whether the programs print the same."""
+    settings, path, trace, _ = made(folder, name, events)
+    alike = len(programs) == 1 or is_alike(programs, folder, settings, path)
+    counts = [instructions(program, settings, path) for program in programs]
+    ratio = f", {counts[0] / counts[1]:.3f} of the second; outputs {'equal' if alike else 'DIFFER'}" if len(counts) > 1 else ""
+    print(f"{name:9} {trace.events:8} events: {', '.join(f'{count:.2f}' for count in counts)} million instructions{ratio}", flush=True)
+    return alike
+
+
 def measured(programs, folder, name, events, runs):
     """Prints what a workload costs each program; answers whether they print the same."""
     settings, path, trace, counted = made(folder, name, events)
@@ -321,9 +344,10 @@ def main():
     other = words.add_mutually_exclusive_group()
     other.add_argument("--against", help="a second program, measured in turn with the first")
     other.add_argument("--plain", action="store_true", help="the plain Rust program of bench/plain as the second")
-    words.add_argument("--events", type=int, default=1000000)
+    words.add_argument("--events", type=int)
     words.add_argument("--runs", type=int, default=3)
     words.add_argument("--growth", action="store_true")
+    words.add_argument("--instructions", action="store_true")
     words.add_argument("--keep")
     words.add_argument("workloads", nargs="*")
     given = words.parse_args()
@@ -335,11 +359,16 @@ def main():
         against = plain.built(temporary) if given.plain else given.against
         if given.plain and against is None:
             words.error("--plain: there is no rustc")
+        if given.instructions and shutil.which("valgrind") is None:
+            words.error("--instructions: there is no valgrind")
         programs = [given.program] + ([against] if against else [])
         folder = given.keep or temporary
         os.makedirs(folder, exist_ok=True)
         for name in given.workloads or WORKLOADS:
-            for events in (10000, 100000, 1000000) if given.growth else (given.events,):
+            if given.instructions:
+                alike = counted(programs, folder, name, given.events or 10000) and alike
+                continue
+            for events in (10000, 100000, 1000000) if given.growth else (given.events or 1000000,):
                 alike = measured(programs, folder, name, events, given.runs) and alike
     return 0 if alike else 1
 

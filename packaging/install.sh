@@ -10,7 +10,8 @@
 #   PREFIX/share/man/man1/telegate.1      the man page, and shell completions
 #   PREFIX/lib/systemd/system/            telegate.service for one line, telegate@.service for several
 #   /etc/telegate/gateway.toml            settings to begin with
-#   /etc/telegate/telegate.env            words of `telegate run` that belong to this site
+#   /etc/telegate/site.toml               what belongs to this site: guests, names, the status port
+#   /etc/telegate/telegate.env            more words of `telegate run`: that file's name
 #
 # What stands in /etc is never written over, so a second call is an upgrade: it leaves what an
 # operator wrote. TELEGATE_PROGRAM is another file to be installed than the one that ./build made.
@@ -63,12 +64,13 @@ put_unit telegate.service ''
 put_unit telegate@.service 's|/etc/telegate/|/etc/telegate/%i/|g; s|^Description=.*|&, line %i|
 s|/var/lib/telegate|&-%i|; s|^StateDirectory=.*|&-%i|'
 put_once 644 examples/full.toml "$root/etc/telegate/gateway.toml"
+put_once 644 packaging/site.toml "$root/etc/telegate/site.toml"
 put_once 644 packaging/telegate.env "$root/etc/telegate/telegate.env"
 # A unit of an earlier version stood where an operator's own belong, and would hide the new one.
 earlier=$root/etc/systemd/system/telegate.service
 [ ! -e "$earlier" ] || echo "note: $earlier stands in front of $prefix/lib/systemd/system/telegate.service"
 
 echo "installed: $prefix/bin/telegate"
-echo "next: edit /etc/telegate/gateway.toml (telegate check judges it) and /etc/telegate/telegate.env,"
+echo "next: edit /etc/telegate/gateway.toml (telegate check judges it) and /etc/telegate/site.toml,"
 echo "name the two peers by systemctl edit telegate (IPAddressAllow), then"
 echo "systemctl daemon-reload && systemctl enable --now telegate"

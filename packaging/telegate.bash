@@ -2,18 +2,22 @@
 _telegate() {
     local word=${COMP_WORDS[COMP_CWORD]} command=${COMP_WORDS[1]}
     if [ "$COMP_CWORD" -eq 1 ]; then
-        COMPREPLY=($(compgen -W "show101 show104 check replay sim audit run help --help --version" -- "$word"))
+        COMPREPLY=($(compgen -W "show101 show104 check replay sim audit run status capture stations help --help --version" -- "$word"))
         return
     fi
     case $command in
-        replay) COMPREPLY=($(compgen -W "--left --counts --help" -- "$word")) ;;
-        run) COMPREPLY=($(compgen -W "--redial --log --record --state --state-or-stop --allow --help" -- "$word")) ;;
-        show101 | show104 | check | sim | audit) COMPREPLY=($(compgen -W "--help" -- "$word")) ;;
-        help) COMPREPLY=($(compgen -W "show101 show104 check replay sim audit run" -- "$word")) ;;
+        check) COMPREPLY=($(compgen -W "--live --explain --help" -- "$word")) ;;
+        replay) COMPREPLY=($(compgen -W "--left --counts --words --color --help" -- "$word")) ;;
+        run) COMPREPLY=($(compgen -W "--redial --log --record --state --state-or-stop --allow --status --site --log-severity --help" -- "$word")) ;;
+        show101 | show104) COMPREPLY=($(compgen -W "--words --help" -- "$word")) ;;
+        sim) COMPREPLY=($(compgen -W "--words --color --help" -- "$word")) ;;
+        audit | capture | stations) COMPREPLY=($(compgen -W "--help" -- "$word")) ;;
+        status) COMPREPLY=($(compgen -W "--json --help" -- "$word")) ;;
+        help) COMPREPLY=($(compgen -W "show101 show104 check replay sim audit run status capture stations" -- "$word")) ;;
     esac
     case $command,$word in
         *,-*) ;;
-        check,* | replay,* | sim,* | audit,* | run,*) COMPREPLY=($(compgen -f -- "$word")) ;;
+        check,* | replay,* | sim,* | audit,* | run,* | capture,* | stations,*) COMPREPLY=($(compgen -f -- "$word")) ;;
     esac
 }
 complete -o filenames -F _telegate telegate

@@ -1,5 +1,5 @@
 # Completion of telegate for fish: a file of its completions folder.
-set -l commands show101 show104 check replay sim audit run help
+set -l commands show101 show104 check replay sim audit run status capture stations help
 complete -c telegate -f
 complete -c telegate -n "not __fish_seen_subcommand_from $commands" -l help -s h -d "tells what it does"
 complete -c telegate -n "not __fish_seen_subcommand_from $commands" -l version -s V -d "tells the version"
@@ -10,14 +10,26 @@ complete -c telegate -n "not __fish_seen_subcommand_from $commands" -a replay -d
 complete -c telegate -n "not __fish_seen_subcommand_from $commands" -a sim -d "runs over simulated stations"
 complete -c telegate -n "not __fish_seen_subcommand_from $commands" -a audit -d "audits a recorded run"
 complete -c telegate -n "not __fish_seen_subcommand_from $commands" -a run -d "runs on a line"
+complete -c telegate -n "not __fish_seen_subcommand_from $commands" -a status -d "asks a live run how it stands"
+complete -c telegate -n "not __fish_seen_subcommand_from $commands" -a capture -d "writes a record as a capture"
+complete -c telegate -n "not __fish_seen_subcommand_from $commands" -a stations -d "plays outstations"
 complete -c telegate -n "not __fish_seen_subcommand_from $commands" -a help -d "tells what a command does"
-complete -c telegate -n "__fish_seen_subcommand_from check replay sim audit run" -F
+complete -c telegate -n "__fish_seen_subcommand_from check replay sim audit run capture stations" -F
 complete -c telegate -n "__fish_seen_subcommand_from $commands" -l help -s h -d "tells what it does"
+complete -c telegate -n "__fish_seen_subcommand_from check" -l live -d "as for a live run"
+complete -c telegate -n "__fish_seen_subcommand_from check" -l explain -d "what is wrong, and where"
 complete -c telegate -n "__fish_seen_subcommand_from replay" -l left -d "what was not acknowledged"
 complete -c telegate -n "__fish_seen_subcommand_from replay" -l counts -d "what was counted"
+complete -c telegate -n "__fish_seen_subcommand_from replay sim" -l words -d "events and actions in words"
+complete -c telegate -n "__fish_seen_subcommand_from replay sim" -l color -d "in colours"
+complete -c telegate -n "__fish_seen_subcommand_from status" -l json -d "JSON in place of the table"
 complete -c telegate -n "__fish_seen_subcommand_from run" -l redial -d "reaches the line again"
 complete -c telegate -n "__fish_seen_subcommand_from run" -l log -d "tells what happens"
 complete -c telegate -n "__fish_seen_subcommand_from run" -l record -d "prints each event and each action"
 complete -c telegate -n "__fish_seen_subcommand_from run" -l state -r -F -d "keeps the state there"
 complete -c telegate -n "__fish_seen_subcommand_from run" -l state-or-stop -d "ends where it can't be kept"
 complete -c telegate -n "__fish_seen_subcommand_from run" -l allow -x -d "lets in this address"
+complete -c telegate -n "__fish_seen_subcommand_from run" -l status -x -d "shows there how it stands"
+complete -c telegate -n "__fish_seen_subcommand_from run" -l site -r -F -d "what belongs to this site"
+complete -c telegate -n "__fish_seen_subcommand_from run" -l log-severity -d "how severe each line is"
+complete -c telegate -n "__fish_seen_subcommand_from show101 show104" -l words -d "on one line, in words"

@@ -9,6 +9,9 @@ commands=(
     'sim:runs the gateway over simulated stations'
     'audit:compares a recorded run with the run over its events'
     'run:runs the gateway between a line and a control centre'
+    'status:asks a live run how it stands'
+    'capture:writes a recorded run as a capture that Wireshark reads'
+    'stations:plays outstations in real time'
     'help:tells what a command does'
 )
 if ((CURRENT == 2)); then
@@ -17,21 +20,37 @@ if ((CURRENT == 2)); then
     return
 fi
 case $words[2] in
-    check) _arguments '--help[tells what the command does]' '2:settings:_files' ;;
+    check)
+        _arguments '--live[judges the keys of live as run does]' \
+            '--explain[what is wrong, and where]' '--help[tells what the command does]' \
+            '2:settings:_files'
+        ;;
     run)
         _arguments '--redial[reaches the line again where it ends]' \
             '--log[tells what happens]' '--record[prints each event and each action]' \
             '--state[keeps the state there]:directory:_files -/' \
             "--state-or-stop[ends where it can't be kept]" '*--allow[lets in this address]:address:' \
+            '--status[shows there how it stands]:host and port:' \
+            '--site[what belongs to this site]:site:_files' \
+            '--log-severity[tells how severe each line is]' \
             '--help[tells what the command does]' '2:settings:_files'
         ;;
     replay)
         _arguments '--left[what was not acknowledged]' '--counts[what was counted]' \
+            '--words[events and actions in words]' '--color[in colours]' \
             '--help[tells what the command does]' '2:settings:_files' '3:trace:_files'
         ;;
-    sim) _arguments '--help[tells what the command does]' '2:settings:_files' '3:script:_files' ;;
-    audit) _arguments '--help[tells what the command does]' '2:settings:_files' '3:record:_files' ;;
-    show101) _arguments '--help[tells what the command does]' '2:sizes:' '3:octets:' ;;
-    show104) _arguments '--help[tells what the command does]' '2:octets:' ;;
+    sim)
+        _arguments '--words[events and actions in words]' '--color[in colours]' \
+            '--help[tells what the command does]' '2:settings:_files' '3:script:_files'
+        ;;
+    status)
+        _arguments '--json[JSON in place of the table]' '--help[tells what the command does]' \
+            '2:host and port:'
+        ;;
+    audit | capture) _arguments '--help[tells what the command does]' '2:settings:_files' '3:record:_files' ;;
+    stations) _arguments '--help[tells what the command does]' '2:settings:_files' '3:script:_files' ;;
+    show101) _arguments '--words[on one line, in words]' '--help[tells what the command does]' '2:sizes:' '3:octets:' ;;
+    show104) _arguments '--words[on one line, in words]' '--help[tells what the command does]' '2:octets:' ;;
     help) _describe command commands ;;
 esac

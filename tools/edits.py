@@ -40,7 +40,7 @@ import tempfile
 
 TOP = os.path.dirname(os.path.dirname(os.path.abspath(__file__)))
 # A law: a public function without parameters and result. Its body is empty, or calls other laws.
-LAW = re.compile(r"^pub fn (\w+)\(\)$", re.M)
+LAW = re.compile(r"^pub fn (\w+)(?:<[^>]*>)?\(\)$", re.M)
 
 
 def libraries():

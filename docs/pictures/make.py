@@ -3,10 +3,12 @@
 
     docs/pictures/make.py
 
-Nothing else makes them, and nothing else is needed: text and boxes alone. Looking at one after a change: `rsvg-convert NAME.svg -o
-NAME.png`.
+Text and boxes alone, and what docs/PERFORMANCE.md measured: after a change of either call it again (checks/documents.py compares).
+Looking at one: `rsvg-convert NAME.svg -o NAME.png`. What stands between backticks is a line of the log, a word of the program or the
+name of a contract, as docs/TEXTS.md and the crates have it.
 """
 import os
+import re
 from html import escape
 
 HERE = os.path.dirname(os.path.abspath(__file__))
@@ -14,12 +16,16 @@ STYLE = """
 text { font: 13px sans-serif; fill: #1b1f24; }
 .small { font-size: 11px; fill: #57606a; }
 .loss { font-size: 11px; fill: #a40e26; }
+.code { font-family: monospace; font-size: 11px; }
 .title { font-weight: bold; }
 .box { fill: #eef4fb; stroke: #2f6db5; stroke-width: 1.3; }
 .far { fill: #f3f3f3; stroke: #6e7781; stroke-width: 1.3; }
 .disk { fill: #fdf6e3; stroke: #a67c00; stroke-width: 1.3; }
+.bar { fill: #2f6db5; }
+.other { fill: #c9ccd1; }
 .way { stroke: #1b1f24; stroke-width: 1.4; fill: none; marker-end: url(#head); }
 .back { stroke: #6e7781; stroke-width: 1.2; fill: none; stroke-dasharray: 5 3; marker-end: url(#grey); }
+.rule { stroke: #6e7781; stroke-width: 1; stroke-dasharray: 2 2; }
 """
 HEADS = """<defs>
 <marker id="head" viewBox="0 0 10 10" refX="9" refY="5" markerWidth="7" markerHeight="7" orient="auto-start-reverse"><path d="M0,0L10,5L0,10z" fill="#1b1f24"/></marker>
@@ -27,9 +33,15 @@ HEADS = """<defs>
 </defs>"""
 
 
+def spans(line):
+    """A line of text as SVG: what stands between backticks in the letters of code."""
+    parts = [escape(part) for part in line.split("`")]
+    return "".join(f'<tspan class="code">{part}</tspan>' if place % 2 else part for place, part in enumerate(parts))
+
+
 class Picture:
-    def __init__(self, name, width, height, title):
-        self.name, self.parts = name, []
+    def __init__(self, width, height, title):
+        self.parts = []
         self.head = (
             f'<svg xmlns="http://www.w3.org/2000/svg" width="{width}" height="{height}" viewBox="0 0 {width} {height}" role="img">\n'
             f"<title>{escape(title)}</title>\n<style>{STYLE}</style>\n{HEADS}\n"
@@ -38,7 +50,7 @@ class Picture:
 
     def text(self, x, y, words, kind="", anchor="middle"):
         for number, line in enumerate(words.split("\n")):
-            self.parts.append(f'<text x="{x}" y="{y + 15 * number}" class="{kind}" text-anchor="{anchor}">{escape(line)}</text>')
+            self.parts.append(f'<text x="{x}" y="{y + 15 * number}" class="{kind}" text-anchor="{anchor}">{spans(line)}</text>')
 
     def box(self, x, y, width, height, title, words="", kind="box"):
         self.parts.append(f'<rect x="{x}" y="{y}" width="{width}" height="{height}" rx="6" class="{kind}"/>')
@@ -48,22 +60,51 @@ class Picture:
         if words:
             self.text(x + width / 2, top + 16, words, "small")
 
+    def bar(self, x, y, width, height, kind):
+        self.parts.append(f'<rect x="{x}" y="{y}" width="{width:.1f}" height="{height}" class="{kind}"/>')
+
     def way(self, points, kind="way"):
         path = "M" + " L".join(f"{x},{y}" for x, y in points)
         self.parts.append(f'<path d="{path}" class="{kind}"/>')
 
-    def save(self):
-        with open(os.path.join(HERE, f"{self.name}.svg"), "w", encoding="utf-8") as file:
-            file.write(self.head + "\n".join(self.parts) + "\n</svg>\n")
+    def svg(self):
+        return self.head + "\n".join(self.parts) + "\n</svg>\n"
+
+
+def deployment():
+    """Where it sits, and who talks to it."""
+    p = Picture(960, 330, "Where telegate sits")
+    for y, number in ((50, 1), (115, 2), (180, 32)):
+        p.box(20, y, 130, 45, f"outstation {number}", "", "far")
+    p.text(85, 174, "..", "small")
+    p.way([(150, 72), (200, 72), (200, 137)])
+    p.way([(150, 137), (260, 137)])
+    p.way([(150, 202), (200, 202), (200, 137)])
+    p.text(175, 40, "one serial line\nIEC 60870-5-101", "small", "start")
+    p.box(260, 105, 130, 65, "device server", "`ser2net`, or a box\nbeside it", "far")
+    p.way([(390, 137), (490, 137)])
+    p.text(440, 112, "TCP, one peer\n`live.line`", "small")
+    p.box(490, 95, 150, 85, "telegate", "polls, keeps,\ngives, judges")
+    p.way([(800, 137), (640, 137)])
+    p.text(720, 97, "IEC 60870-5-104\n`live.listen`, port 2404,\nfrom `--allow`", "small")
+    p.box(800, 105, 140, 65, "control centre", "one at a time", "far")
+    p.box(440, 250, 150, 55, "disk", "`--state DIR`: the queue,\nwhat is on its way", "disk")
+    p.way([(530, 180), (530, 250)])
+    p.text(520, 215, "before it asks", "small", "end")
+    p.box(640, 250, 140, 55, "journal", "`--log`: lines with\na severity", "far")
+    p.way([(610, 180), (610, 215), (710, 215), (710, 250)])
+    p.box(560, 10, 190, 48, "browser, monitoring", "`--status HOST:PORT`: pages", "far")
+    p.way([(600, 58), (600, 95)])
+    return p
 
 
 def report():
     """The life of a report, where it can be lost, and what tells of it."""
-    p = Picture("report", 1000, 260, "The life of a report")
+    p = Picture(1000, 290, "The life of a report")
     places = [
         (20, "outstation", "keeps it until\nit is asked", "far"),
         (230, "line", "answer to a poll", "far"),
-        (440, "queue", "1 to 3 pieces\nkept until acknowledged", "box"),
+        (440, "queue", "1 to 3 pieces, kept\nuntil acknowledged", "box"),
         (650, "connection", "I frame", "far"),
         (860, "control centre", "acknowledges", "far"),
     ]
@@ -75,73 +116,125 @@ def report():
     p.text(710, 24, "N(R): the piece leaves the queue", "small")
     p.way([(300, 60), (300, 30), (90, 30), (90, 60)], "back")
     p.text(195, 24, "no answer: the same request, the same bit", "small")
-    p.way([(650, 110), (610, 110), (610, 165), (555, 165), (555, 130)], "back")
-    p.text(640, 160, "cut: all kept pieces\nare unsent again", "small", "start")
-    p.text(98, 160, "It is lost here where the\noutstation's own buffer is full,\nor where its link is reset:", "loss")
-    p.text(98, 208, "`station A gap: reports of it\nmay be lost`", "loss")
-    p.text(300, 160, "Octets that can't be read:\n`skipped`, `spoilt` in\n`counts`", "loss")
-    p.text(510, 205, "Where the queue is full nothing is polled, and reports\nwait in the outstations: `queue full`.\nWhat it holds ends with the process.", "small")
-    p.text(820, 205, "Nothing is lost on this side: what wasn't\nacknowledged goes out again on the\nnext connection, from the first one on.", "small")
-    p.save()
+    p.way([(650, 110), (610, 110), (610, 160), (560, 160), (560, 130)], "back")
+    p.text(655, 150, "cut: all kept pieces are unsent again,\nand go out on the next connection,\nfrom the first one on", "small", "start")
+    p.text(20, 160, "It is lost here where the\noutstation's own buffer is full,\nor where its link is reset:\n`station A gap:`\n`reports of it may be lost`", "loss", "start")
+    p.text(230, 160, "It is lost here where it\ncan't be read:\n`station A report skipped ..`", "loss", "start")
+    p.box(430, 215, 160, 60, "disk", "with `--state DIR`: it is\nthere before the next poll", "disk")
+    p.way([(500, 130), (500, 215)])
+    p.text(420, 245, "Without `--state` what the\nqueue holds ends with the process.", "loss", "end")
+    p.text(605, 240, "Where fewer than three places are free nothing is polled, and\nreports wait in the outstations: `queue full`.\nWhat is on the disk outlives the process and a power cut.", "small", "start")
+    return p
 
 
 def station():
     """A station's states, with the lines of the log on the arrows."""
-    p = Picture("station", 920, 380, "The states of a station")
+    p = Picture(960, 390, "The states of a station")
     p.box(40, 150, 150, 70, "down", "asked for its status,\nonce a turn")
-    p.box(330, 150, 150, 70, "known", "its link is reset")
-    p.box(620, 150, 170, 70, "up", "polled; commands go down")
-    p.box(620, 300, 170, 60, "held", "one request, once a turn,\nwith the same bit")
-    p.way([(190, 175), (330, 175)])
-    p.text(260, 165, "status of link (11)", "small")
-    p.way([(480, 175), (620, 175)])
-    p.text(550, 150, "reset confirmed\n`station A up`", "small")
-    p.way([(330, 205), (190, 205)], "back")
-    p.text(260, 222, "no answer", "small")
-    p.way([(705, 150), (705, 60), (115, 60), (115, 150)], "back")
-    p.text(410, 40, "answer 14 or 15; or no answer to retries + 1 sendings, where silence is \"reset\"\n`station A down`", "small")
-    p.way([(670, 220), (670, 300)])
-    p.text(660, 250, "no answer to retries + 1\nsendings, silence is \"hold\"\n`station A doesn't answer`", "small", "end")
-    p.way([(750, 300), (750, 220)], "back")
-    p.text(760, 255, "it answers\n`station A answers\nagain`", "small", "start")
-    p.text(40, 262, "After a reset amid a poll:\n`station A gap: reports of it may be lost`", "loss", "start")
-    p.save()
+    p.box(340, 150, 150, 70, "known", "its link is reset")
+    p.box(650, 150, 170, 70, "up", "polled; commands go down")
+    p.box(650, 305, 170, 60, "held", "one request, once a turn,\nwith the same bit")
+    p.way([(190, 175), (340, 175)])
+    p.text(265, 165, "status of link (11)", "small")
+    p.way([(490, 175), (650, 175)])
+    p.text(570, 150, "reset confirmed\n`station A up`", "small")
+    p.way([(340, 205), (190, 205)], "back")
+    p.text(265, 222, "no answer", "small")
+    p.way([(735, 150), (735, 60), (115, 60), (115, 150)], "back")
+    p.text(410, 35, "answer 14 or 15; or no answer to retries + 1 sendings, where silence is \"reset\"\n`station A down`", "small")
+    p.way([(700, 220), (700, 305)])
+    p.text(690, 250, "no answer to retries + 1\nsendings, silence is \"hold\"\n`station A doesn't answer`", "small", "end")
+    p.way([(780, 305), (780, 220)], "back")
+    p.text(790, 258, "it answers\n`station A answers again`", "small", "start")
+    p.text(40, 250, "At the first request to it:\n`station A asked for its status`", "small", "start")
+    p.text(40, 298, "Where it doesn't come up, asked retries + 1 times:\n`station A doesn't answer`", "small", "start")
+    p.text(40, 346, "Where a reset ended a session amid a poll:\n`station A gap: reports of it may be lost`", "loss", "start")
+    return p
 
 
 def crates():
     """The crates along the way of an octet, with the theorem at each joint."""
-    p = Picture("crates", 900, 400, "The crates and the theorem at each joint")
-    p.box(30, 40, 130, 60, "ft12", "frames of the line")
-    p.box(230, 40, 130, 60, "link", "procedures, turns")
-    p.box(430, 40, 130, 60, "asdu", "objects, pieces")
-    p.box(630, 40, 130, 60, "events", "the queue")
-    p.box(30, 300, 130, 60, "apci", "APDUs")
-    p.box(230, 300, 130, 60, "session", "numbers, timers")
-    p.box(430, 300, 130, 60, "command", "selections, answers")
-    p.box(430, 165, 130, 70, "gateway", "one step an event")
-    p.box(700, 165, 150, 70, "delivery", "nothing is lost,\nnothing twice")
-    p.way([(160, 70), (230, 70)])
-    p.text(195, 32, "one frame at the front", "small")
-    p.way([(360, 70), (430, 70)])
-    p.text(395, 32, "each service acts once", "small")
-    p.way([(560, 70), (630, 70)])
-    p.text(595, 32, "joined they are the report", "small")
-    p.way([(695, 100), (695, 140), (520, 140), (520, 165)])
-    p.text(612, 132, "pieces are kept in order", "small")
-    p.way([(160, 330), (230, 330)])
-    p.text(195, 292, "one APDU at the front", "small")
-    p.way([(295, 300), (295, 215), (430, 215)])
-    p.text(290, 240, "histories keep\nthe rules", "small", "end")
-    p.way([(495, 300), (495, 235)])
-    p.text(505, 270, "executes are selected,\nfresh, forwarded once", "small", "start")
-    p.way([(295, 100), (295, 185), (430, 185)])
-    p.text(290, 150, "the bit, the turns,\ncommands in order", "small", "end")
-    p.way([(560, 200), (700, 200)])
-    p.text(630, 190, "objects sent are\n", "small")
-    p.text(630, 218, "a run of those taken", "small")
-    p.save()
+    p = Picture(1000, 520, "The crates and the theorem at each joint")
+    for x, title, words in ((20, "ft12", "frames of the line"), (260, "link", "procedures, turns"), (520, "asdu", "objects, pieces"), (800, "events", "the queue")):
+        p.box(x, 50, 140, 60, title, words)
+    for x, title, words in ((20, "apci", "APDUs"), (260, "session", "numbers, timers"), (520, "command", "selections, answers")):
+        p.box(x, 330, 140, 60, title, words)
+    p.box(520, 190, 140, 70, "gateway", "one step an event")
+    p.box(800, 190, 160, 70, "delivery", "from station to centre:\n`nothing_is_lost`\n`losses_are_told`")
+    p.way([(160, 80), (260, 80)])
+    p.text(210, 70, "`front`", "small")
+    p.way([(400, 80), (520, 80)])
+    p.text(460, 40, "`each_service_acts_once`", "small")
+    p.way([(660, 80), (800, 80)])
+    p.text(730, 40, "`pieces_carry_the_report`", "small")
+    p.way([(870, 110), (870, 150), (610, 150), (610, 190)])
+    p.text(740, 143, "`pieces_are_kept_in_order`", "small")
+    p.way([(330, 110), (330, 205), (520, 205)])
+    p.text(340, 165, "`logs_keep_turns`\n`commands_go_before_polls`", "small", "start")
+    p.way([(160, 360), (260, 360)])
+    p.text(210, 350, "`front`", "small")
+    p.way([(330, 330), (330, 245), (520, 245)])
+    p.text(340, 275, "`histories_keep_the_rules`", "small", "start")
+    p.way([(590, 330), (590, 260)])
+    p.text(600, 285, "`executes_are_selected`\n`sent_activations_are_fresh`\n`places_come_back`", "small", "start")
+    p.way([(660, 225), (800, 225)])
+    p.text(730, 215, "`drive_on`", "small")
+    p.text(730, 243, "a contiguous run", "small")
+    p.text(20, 435, "A live run has ports around the gateway, one around the other, and its state on the disk:", "small", "start")
+    ports = [
+        (20, 210, "live", "`the_log_tells_what_passed`", "box"),
+        (240, 280, "state", "`nothing_goes_out_before_it_is_on_disk`", "disk"),
+        (530, 160, "segments", "`Segment::survives`", "disk"),
+        (700, 270, "journal", "`what_is_gathered_is_told_or_counted`", "box"),
+    ]
+    for x, width, title, words, kind in ports:
+        p.box(x, 450, width, 50, title, words, kind)
+    return p
+
+
+def rows_behind(text, heading):
+    """The rows of the first table behind a heading of columns, by their first column."""
+    head, _, rest = text.partition(heading)
+    if not rest:
+        raise ValueError(f"docs/PERFORMANCE.md has no table {heading}")
+    table = rest.split("\n\n", 1)[0]
+    return {cells[0]: cells[1:] for cells in ([cell.strip() for cell in row.strip("|").split("|")] for row in table.splitlines()[2:])}
+
+
+def speed():
+    """Instructions beside plain Rust's, and peaks of memory, as docs/PERFORMANCE.md has them."""
+    with open(os.path.join(os.path.dirname(HERE), "PERFORMANCE.md"), encoding="utf-8") as file:
+        text = file.read()
+    counts = rows_behind(text, "| workload | before | now | plain Rust | now, of plain | tenfold | plain Rust | now, of plain |")
+    peaks = rows_behind(text, "| workload | events a second | time | peak memory | of plain Rust | the trace |")
+    p = Picture(980, 60 + 32 * len(counts), "Instructions and memory beside plain Rust")
+    p.text(330, 22, "instructions, of plain Rust's (the grey bar is 1.0)", "small")
+    p.text(730, 22, "peak memory: telegate, plain Rust", "small")
+    for place, (name, cells) in enumerate(counts.items()):
+        y, ratio = 45 + 32 * place, float(cells[3])
+        p.text(100, y + 12, name, "", "end")
+        p.bar(110, y - 3, 250, 8, "other")
+        p.bar(110, y + 6, 250 * ratio, 9, "bar")
+        p.text(115 + 250 * max(ratio, 1), y + 12, f"{ratio:.2f}", "small", "start")
+        if name in peaks:
+            ours, theirs = (float(re.match(r"[\d.]+", peaks[name][at])[0]) for at in (2, 3))
+            p.bar(580, y - 3, 220 * min(theirs / 45, 1), 8, "other")
+            p.bar(580, y + 6, 220 * ours / 45, 9, "bar")
+            told = f"{ours:.1f} and {theirs:.1f} MB" + (" (cut off)" if theirs > 45 else "")
+            p.text(585 + 220 * min(max(ours, theirs) / 45, 1), y + 12, told, "small", "start")
+    return p
+
+
+def pictures():
+    """The text of each picture, by its name."""
+    return {make.__name__: make().svg() for make in (deployment, report, station, crates, speed)}
+
+
+def main():
+    for name, text in pictures().items():
+        with open(os.path.join(HERE, f"{name}.svg"), "w", encoding="utf-8") as file:
+            file.write(text)
 
 
 if __name__ == "__main__":
-    for picture in (report, station, crates):
-        picture()
+    main()

@@ -4,11 +4,9 @@
 //! Where a run ends, the values that settings give, the events that traces give and the lines that
 //! are written. They stand in a crate of their own, since a crate that has tests is proved twice.
 //! This crate has nothing else, and nothing uses it. What scripts do, and what is shown of octets,
-//! is tested over the built program: bench/simulations.py, bench/shows.py.
+//! is tested over the built program: checks/simulations.py, checks/shows.py.
 #![tactic(auto)]
 
-#[cfg(test)]
-mod calls;
 #[cfg(test)]
 mod runs;
 #[cfg(test)]

@@ -1,4 +1,4 @@
-//! Where a run ends. What goes out in runs is shown by bench/rows.py and bench/flood.py.
+//! Where a run ends. What goes out in runs is shown by checks/rows.py and checks/flood.py.
 ghost use Rattle.std.specs.Prelude.{◌≡◌, true, [], None};
 
 use asdu::{CaSize, CauseSize, IoaSize, Sizes};
@@ -44,7 +44,7 @@ fn config(alloc: Global) -> Result<Config, AllocError> {
 
 /// A port that has no event, and takes each action. It tells no log.
 #[derive(Drop)]
-pub(crate) struct Sink;
+struct Sink;
 
 impl Port for Sink {
     ghost log = { λ t. None };

@@ -1,5 +1,5 @@
 //! What traces say, and what is written, by both ports over a text. Which line of a wrong text is
-//! told is shown by bench/faults.py, and which octets can be given alone by bench/shows.py.
+//! told is shown by checks/faults.py, and which octets can be given alone by checks/shows.py.
 use gateway::{Action, Entry, Next, Port, Told};
 use session::Close;
 use std::alloc::Global;
@@ -267,8 +267,8 @@ fn the_longest_line_and_lines_one_by_one(rt: HostRuntime) -> Result<(), Fail> {
 
 /// Takes so many octets, one a write, and then fails.
 #[derive(Drop)]
-pub(crate) struct Failing {
-    pub(crate) octets: u64,
+struct Failing {
+    octets: u64,
 }
 
 impl Write for Failing {

@@ -1,5 +1,7 @@
 -- What each octet gives, and what the octets so far are.
-use Rattle.std.proofs.Common.{◌≡◌, ℕ, ◌+◌, ◌*◌, ◌%◌, ◌/◌, ◌^◌, ◌<◌, ◌≤◌, List, [], ◌∷◌, ◌++◌, length, get_or, take, All, Some, Option, refl, sym, ap, subst, append_assoc, ◌∙◌, arith, inl}
+use Rattle.std.proofs.Common.{◌≡◌, ℕ, ◌+◌, ◌*◌, ◌%◌, ◌/◌, ◌^◌, ◌<◌, ◌≤◌, List, [], ◌∷◌, ◌++◌}
+use Rattle.std.proofs.Common.{length, get_or, take, All, Some, Option, refl, sym, ap, subst}
+use Rattle.std.proofs.Common.{append_assoc, ◌∙◌, arith, inl}
 use Rattle.std.specs.Prelude.{IfSome}
 use Rattle.std.proofs.lemmas.List.{take_more}
 use Rattle.std.proofs.lemmas.List.Elements.{All-cons, All-nil}
@@ -16,7 +18,8 @@ use Rattle.apci.specs.declared.assembling.Step.TheVariants as steps
 use Rattle.apci.specs.Spelling.{counter, function, IsOctet}
 use Rattle.apci.specs.Reading.{IsMore, IsDecidedAt, IsFront}
 use Rattle.apci.specs.Progress.{so_far, IsState, Gives}
-use Rattle.apci.proofs.Fronts.{nothing, start_alone, length_more, i_more, i_asdu, i_third, s_1, s_2, s_3, u_1, u_2, u_3}
+use Rattle.apci.proofs.Fronts.{nothing, start_alone, length_more, i_more, i_asdu, i_third, s_1, s_2}
+use Rattle.apci.proofs.Fronts.{s_3, u_1, u_2, u_3}
 use Rattle.apci.proofs.Stream.{heard_apdu, heard_never, decided_by}
 
 -- the octets of a counter
@@ -36,13 +39,15 @@ pub third_wrong : (len ns o : ℕ) → 13 ≤ len → len ≤ 253 → ns < 2 ^ 1
     → IsFront (0x68 ∷ len ∷ (counter ns ++ o ∷ [])) (Never 4 Control)
 third_wrong len ns o long short fits octet odd =
     i_third len (ns % 128 * 2) (ns / 128 ∷ o ∷ []) long short (even_low ns) (low_octet ns)
-    (All-cons IsOctet (ns / 128) (o ∷ []) (high_octet ns fits) (one_octet o octet)) (omega arith) odd
+    (All-cons IsOctet (ns / 128) (o ∷ []) (high_octet ns fits) (one_octet o octet)) (omega arith)
+    odd
 
 -- the octets so far are the beginning of an APDU
 pub state_more : (s : State) (asdu x : List ℕ) → IsState s asdu → so_far s asdu ≡ Some x → IsMore x
 state_more state.Deaf asdu x h e = absurd cc
 state_more state.Start asdu x h e = (let x_is : [] ≡ x = cc in subst IsMore x_is (inl nothing))
-state_more state.Length asdu x h e = (let x_is : 0x68 ∷ [] ≡ x = cc in subst IsMore x_is (inl start_alone))
+state_more state.Length asdu x h e = (let x_is : 0x68 ∷ [] ≡ x = cc in
+    subst IsMore x_is (inl start_alone))
 state_more (state.Control len) asdu x h e = (let x_is : 0x68 ∷ len ∷ [] ≡ x = cc in
     subst IsMore x_is (length_more len h.1 h.2))
 state_more (state.ISecond len low) asdu x h e =
@@ -57,20 +62,24 @@ state_more (state.IThird len ns) asdu x h e =
     (one_octet (ns / 128) (high_octet ns h.2)) (λ lt. absurd (omega arith)) (omega (arith, h.1.0))))
 state_more (state.IFourth len ns low) asdu x h e =
     let x_is : 0x68 ∷ len ∷ (counter ns ++ low ∷ []) ≡ x = cc in
-    subst IsMore x_is (inl (i_more len (ns % 128 * 2) (ns / 128 ∷ low ∷ []) h.1.0 h.1.1 (even_low ns) (low_octet ns)
+    subst IsMore x_is
+    (inl (i_more len (ns % 128 * 2) (ns / 128 ∷ low ∷ []) h.1.0 h.1.1 (even_low ns) (low_octet ns)
     (All-cons IsOctet (ns / 128) (low ∷ []) (high_octet ns h.2) (one_octet low h.3.0)) (λ lt. h.3.1)
     (omega (arith, h.1.0))))
 state_more (state.Asdu len ns nr) asdu x h e =
     let x_is : 0x68 ∷ len ∷ (counter ns ++ counter nr ++ asdu) ≡ x = cc in
     subst IsMore x_is
-    (inl (i_asdu len (ns % 128 * 2) (ns / 128) (nr % 128 * 2) (nr / 128) asdu h.0.0 h.0.1 (even_low ns)
+    (inl (i_asdu len (ns % 128 * 2) (ns / 128) (nr % 128 * 2) (nr / 128) asdu h.0.0 h.0.1
+    (even_low ns)
     (even_low nr)
     (All-cons IsOctet (ns % 128 * 2) (ns / 128 ∷ nr % 128 * 2 ∷ nr / 128 ∷ asdu) (low_octet ns)
     (All-cons IsOctet (ns / 128) (nr % 128 * 2 ∷ nr / 128 ∷ asdu) (high_octet ns h.1)
     (All-cons IsOctet (nr % 128 * 2) (nr / 128 ∷ asdu) (low_octet nr)
     (All-cons IsOctet (nr / 128) asdu (high_octet nr h.2) h.3)))) h.4))
-state_more state.SSecond asdu x h e = (let x_is : 0x68 ∷ 4 ∷ 1 ∷ [] ≡ x = cc in subst IsMore x_is (inl s_1))
-state_more state.SThird asdu x h e = (let x_is : 0x68 ∷ 4 ∷ 1 ∷ 0 ∷ [] ≡ x = cc in subst IsMore x_is (inl s_2))
+state_more state.SSecond asdu x h e = (let x_is : 0x68 ∷ 4 ∷ 1 ∷ [] ≡ x = cc in
+    subst IsMore x_is (inl s_1))
+state_more state.SThird asdu x h e = (let x_is : 0x68 ∷ 4 ∷ 1 ∷ 0 ∷ [] ≡ x = cc in
+    subst IsMore x_is (inl s_2))
 state_more (state.SFourth low) asdu x h e = (let x_is : 0x68 ∷ 4 ∷ 1 ∷ 0 ∷ low ∷ [] ≡ x = cc in
     subst IsMore x_is (inl (s_3 low h.1.0 h.1.1)))
 state_more (state.USecond f) asdu x h e = (let x_is : 0x68 ∷ 4 ∷ function f ∷ [] ≡ x = cc in
@@ -79,11 +88,13 @@ state_more (state.UThird f) asdu x h e = (let x_is : 0x68 ∷ 4 ∷ function f �
     subst IsMore x_is (inl (u_2 f)))
 state_more (state.UFourth f) asdu x h e = (let x_is : 0x68 ∷ 4 ∷ function f ∷ 0 ∷ 0 ∷ [] ≡ x = cc in
     subst IsMore x_is (inl (u_3 f)))
-state_more (state.Information ns nr) asdu x h e = (let x_is : [] ≡ x = cc in subst IsMore x_is (inl nothing))
+state_more (state.Information ns nr) asdu x h e = (let x_is : [] ≡ x = cc in
+    subst IsMore x_is (inl nothing))
 state_more (state.Short a) asdu x h e = (let x_is : [] ≡ x = cc in subst IsMore x_is (inl nothing))
 
 -- one that isn't deaf has octets so far
-pub hears : (s : State) (asdu : List ℕ) → (s ≡ state.Deaf → ⊥) → (x : List ℕ) × (so_far s asdu ≡ Some x)
+pub hears : (s : State) (asdu : List ℕ) → (s ≡ state.Deaf → ⊥) → (x : List ℕ)
+    × (so_far s asdu ≡ Some x)
 hears state.Deaf asdu apart = absurd (apart refl)
 hears state.Start asdu apart = ([], refl)
 hears state.Length asdu apart = (_, refl)
@@ -120,7 +131,8 @@ one_more before piece i lt = append_assoc before (take i piece) (get_or piece i 
 
 pub goes_on : (s new : State) (asdu before piece : List ℕ) (i o : ℕ) (step : Step)
     → so_far s asdu ≡ Some (before ++ take i piece) → i < length piece → o ≡ get_or piece i 0
-    → IfSome (so_far s asdu) (λ octets. Gives (octets ++ o ∷ []) asdu o s step) → step ≡ steps.Goes new
+    → IfSome (so_far s asdu) (λ octets. Gives (octets ++ o ∷ []) asdu o s step)
+    → step ≡ steps.Goes new
     → IsState new asdu × (so_far new asdu ≡ Some (before ++ take (i + 1) piece))
 goes_on s new asdu before piece i o step joined lt at h is =
     let g : Gives ((before ++ take i piece) ++ get_or piece i 0 ∷ []) asdu o s (steps.Goes new) =
@@ -145,13 +157,17 @@ whole_heard : (s : State) (asdu before piece : List ℕ) (i : ℕ) (a : Apdu) (n
     → IsFront ((before ++ take i piece) ++ get_or piece i 0 ∷ []) (Whole a n)
     → IsFront (before ++ piece) (Whole a (length before + (i + 1)))
 whole_heard s asdu before piece i a n h joined lt front =
-    heard_apdu before piece (before ++ take i piece) ((before ++ take i piece) ++ get_or piece i 0 ∷ []) i a n refl lt
+    heard_apdu before piece (before ++ take i piece) ((before ++ take i piece) ++ get_or piece i 0
+    ∷ []) i a n refl lt
     (state_more s asdu (before ++ take i piece) h joined) refl front
 
-pub i_heard : (s : State) (asdu before piece : List ℕ) (i o : ℕ) (step : Step) (ns nr : ℕ) → IsState s asdu
+pub i_heard : (s : State) (asdu before piece : List ℕ) (i o : ℕ) (step : Step) (ns nr : ℕ)
+    → IsState s asdu
     → so_far s asdu ≡ Some (before ++ take i piece) → i < length piece → o ≡ get_or piece i 0
-    → IfSome (so_far s asdu) (λ octets. Gives (octets ++ o ∷ []) asdu o s step) → step ≡ steps.I ns nr
-    → IsFront (before ++ piece) (Whole (apdu.I ns nr (record { items = asdu ++ o ∷ [] })) (length before + (i + 1)))
+    → IfSome (so_far s asdu) (λ octets. Gives (octets ++ o ∷ []) asdu o s step)
+    → step ≡ steps.I ns nr
+    → IsFront (before ++ piece) (Whole (apdu.I ns nr (record { items = asdu ++ o ∷ [] }))
+    (length before + (i + 1)))
     × (length asdu < 249)
 i_heard s asdu before piece i o step ns nr state joined lt at h is =
     let x : List ℕ = (before ++ take i piece) ++ get_or piece i 0 ∷ [] in
@@ -162,7 +178,8 @@ i_heard s asdu before piece i o step ns nr state joined lt at h is =
       g.1,
     )
 
-pub s_heard : (s : State) (asdu before piece : List ℕ) (i o : ℕ) (step : Step) (nr : ℕ) → IsState s asdu
+pub s_heard : (s : State) (asdu before piece : List ℕ) (i o : ℕ) (step : Step) (nr : ℕ)
+    → IsState s asdu
     → so_far s asdu ≡ Some (before ++ take i piece) → i < length piece → o ≡ get_or piece i 0
     → IfSome (so_far s asdu) (λ octets. Gives (octets ++ o ∷ []) asdu o s step) → step ≡ steps.S nr
     → IsFront (before ++ piece) (Whole (apdu.S nr) (length before + (i + 1))) × (asdu ≡ [])
@@ -172,7 +189,8 @@ s_heard s asdu before piece i o step nr state joined lt at h is =
     (gives_at s asdu before piece i o step joined at h) in
     (whole_heard s asdu before piece i (apdu.S nr) (length x) state joined lt g.0, g.1)
 
-pub u_heard : (s : State) (asdu before piece : List ℕ) (i o : ℕ) (step : Step) (f : Uf) → IsState s asdu
+pub u_heard : (s : State) (asdu before piece : List ℕ) (i o : ℕ) (step : Step) (f : Uf)
+    → IsState s asdu
     → so_far s asdu ≡ Some (before ++ take i piece) → i < length piece → o ≡ get_or piece i 0
     → IfSome (so_far s asdu) (λ octets. Gives (octets ++ o ∷ []) asdu o s step) → step ≡ steps.U f
     → IsFront (before ++ piece) (Whole (apdu.U f) (length before + (i + 1))) × (asdu ≡ [])
@@ -182,9 +200,11 @@ u_heard s asdu before piece i o step f state joined lt at h is =
     (gives_at s asdu before piece i o step joined at h) in
     (whole_heard s asdu before piece i (apdu.U f) (length x) state joined lt g.0, g.1)
 
-pub never_heard : (s : State) (asdu before piece : List ℕ) (i o : ℕ) (step : Step) (place : ℕ) (why : Why)
+pub never_heard : (s : State) (asdu before piece : List ℕ) (i o : ℕ) (step : Step) (place : ℕ)
+    (why : Why)
     → so_far s asdu ≡ Some (before ++ take i piece) → i < length piece → o ≡ get_or piece i 0
-    → IfSome (so_far s asdu) (λ octets. Gives (octets ++ o ∷ []) asdu o s step) → step ≡ steps.Never place why
+    → IfSome (so_far s asdu) (λ octets. Gives (octets ++ o ∷ []) asdu o s step)
+    → step ≡ steps.Never place why
     → IsFront (before ++ piece) (Never place why)
 never_heard s asdu before piece i o step place why joined lt at h is =
     let x : List ℕ = (before ++ take i piece) ++ get_or piece i 0 ∷ [] in
@@ -193,9 +213,12 @@ never_heard s asdu before piece i o step place why joined lt at h is =
     heard_never before piece (before ++ take i piece) x i place why refl lt refl g
 
 -- the octet that decides is the one looked at last
-pub decided_here : (s : State) (asdu before piece : List ℕ) (i o : ℕ) (step : Step) (place : ℕ) (why : Why)
-    → IsState s asdu → so_far s asdu ≡ Some (before ++ take i piece) → i < length piece → o ≡ get_or piece i 0
-    → IfSome (so_far s asdu) (λ octets. Gives (octets ++ o ∷ []) asdu o s step) → step ≡ steps.Never place why
+pub decided_here : (s : State) (asdu before piece : List ℕ) (i o : ℕ) (step : Step) (place : ℕ)
+    (why : Why)
+    → IsState s asdu → so_far s asdu ≡ Some (before ++ take i piece) → i < length piece
+    → o ≡ get_or piece i 0
+    → IfSome (so_far s asdu) (λ octets. Gives (octets ++ o ∷ []) asdu o s step)
+    → step ≡ steps.Never place why
     → (decides : ℕ) × IsDecidedAt (before ++ piece) decides × (decides ≡ length before + i)
 decided_here s asdu before piece i o step place why state joined lt at h is =
     let x : List ℕ = before ++ take i piece in

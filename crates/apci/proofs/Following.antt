@@ -11,7 +11,8 @@ use Rattle.apci.specs.Reading.{IsFront}
 use Rattle.apci.specs.Assembly.{Assembly, Hears, IsHeardWhole}
 use Rattle.apci.proofs.Exact.{one_front}
 
-whole : (a : Apdu) (more : List ℕ) → Fits a → IsFront (spelling a ++ more) (Whole a (length (spelling a)))
+whole : (a : Apdu) (more : List ℕ) → Fits a
+    → IsFront (spelling a ++ more) (Whole a (length (spelling a)))
 whole a more fits =
     let longer = length-append (spelling a) more in
     (record { fits = fits; spelled = take-append_seam (spelling a) more }, omega (arith, longer))
@@ -20,16 +21,24 @@ pub heard_whole : (a : Apdu) (more : List ℕ) (n : ℕ) (h : Heard) (after : As
     → Hears [] (spelling a ++ more) n h after → IsHeardWhole a n h after
 heard_whole a more n heard.Whole after fits h =
     let same : Whole a (length (spelling a)) ≡ Whole h.0 (0 + n) =
-    one_front (spelling a ++ more) (Whole h.0 (0 + n)) (Whole a (length (spelling a))) h.1 (whole a more fits) in
+    one_front (spelling a ++ more) (Whole h.0 (0 + n)) (Whole a (length (spelling a))) h.1
+    (whole a more fits) in
     let apdus : a ≡ h.0 = cc in
     let lengths : length (spelling a) ≡ 0 + n = cc in
-    record { heard_is = refl; whole = h.3 ∙ ap Some (sym apdus); taken = omega (arith, lengths); listening = h.2 }
+    record {
+      heard_is = refl;
+      whole = h.3 ∙ ap Some (sym apdus);
+      taken =
+          omega (arith, lengths);
+      listening = h.2;
+    }
 heard_whole a more n heard.More after fits h =
     let same : Whole a (length (spelling a)) ≡ More =
     one_front (spelling a ++ more) More (Whole a (length (spelling a))) h.0 (whole a more fits) in
     absurd cc
 heard_whole a more n (heard.Never place why) after fits h =
     let same : Whole a (length (spelling a)) ≡ Never place why =
-    one_front (spelling a ++ more) (Never place why) (Whole a (length (spelling a))) h.0 (whole a more fits) in
+    one_front (spelling a ++ more) (Never place why) (Whole a (length (spelling a))) h.0
+    (whole a more fits) in
     absurd cc
 heard_whole a more n heard.Deaf after fits h = absurd h

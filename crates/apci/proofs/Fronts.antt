@@ -1,8 +1,11 @@
 -- What each return of the readers claims.
-use Rattle.std.proofs.Common.{◌≡◌, ℕ, zero, ◌+◌, ◌*◌, ◌-◌, ◌%◌, ◌/◌, ◌^◌, ◌<◌, ◌≤◌, List, [], ◌∷◌, ◌++◌, length, get_or, take, drop, All, Some, None, refl, sym, ap, subst, ◌∙◌, append_assoc, arith, inl, inr}
+use Rattle.std.proofs.Common.{◌≡◌, ℕ, zero, ◌+◌, ◌*◌, ◌-◌, ◌%◌, ◌/◌, ◌^◌, ◌<◌, ◌≤◌, List, [], ◌∷◌}
+use Rattle.std.proofs.Common.{◌++◌, length, get_or, take, drop, All, Some, None, refl, sym, ap}
+use Rattle.std.proofs.Common.{subst, ◌∙◌, append_assoc, arith, inl, inr}
 use Rattle.std.proofs.lemmas.Bool.{cases_lt, eq-eqb, ne_eqb}
 use Rattle.std.proofs.lemmas.List.{length-append, length-replicate, length-take-le}
-use Rattle.std.proofs.lemmas.List.Elements.{All-head, All-tail, All-append, All-replicate, All-nil, All-cons, All-take}
+use Rattle.std.proofs.lemmas.List.Elements.{All-head, All-tail, All-append, All-replicate, All-nil}
+use Rattle.std.proofs.lemmas.List.Elements.{All-cons, All-take}
 use Rattle.std.proofs.Math.Seq.{take-append-add}
 use Rattle.std.proofs.Math.ListN.{replicate}
 use Rattle.arrayvec.specs.ArrayVec.{ArrayVec}
@@ -13,7 +16,8 @@ use Rattle.apci.specs.declared.apdu.Why.TheVariants.{Start, Length, Control, Not
 use Rattle.apci.specs.declared.apdu.Front.TheVariants.{Whole, Never}
 use Rattle.apci.specs.Spelling.{counter, function, contents, IsOctet}
 use Rattle.apci.specs.Reading.{IsProperBeginning, IsMore, IsFront, function_of}
-use Rattle.apci.proofs.Apdus.{function_again, odd_function, Opens, opens, starts, length_open, counter_again}
+use Rattle.apci.proofs.Apdus.{function_again, odd_function, Opens, opens, starts, length_open}
+use Rattle.apci.proofs.Apdus.{counter_again}
 
 -- ---- how octets go on
 
@@ -22,7 +26,11 @@ proper_front x y o p = record {
   apdu = p.apdu;
   next = o;
   rest = y ++ p.next ∷ p.rest;
-  line = record { fits = p.line.fits; spelled = sym (append_assoc x (o ∷ y) (p.next ∷ p.rest)) ∙ p.line.spelled };
+  line = record {
+    fits = p.line.fits;
+    spelled = sym (append_assoc x (o ∷ y) (p.next ∷ p.rest))
+        ∙ p.line.spelled;
+  };
 }
 
 pub u_3 : (f : Uf) → IsProperBeginning (0x68 ∷ 4 ∷ function f ∷ 0 ∷ 0 ∷ [])
@@ -63,7 +71,8 @@ s_1 = proper_front (0x68 ∷ 4 ∷ 1 ∷ []) [] 0 s_2
 
 -- an I format up to some octet of its ASDU
 pub i_asdu : (len a b c d : ℕ) (asdu : List ℕ) → 13 ≤ len → len ≤ 253 → a % 2 ≡ 0 → c % 2 ≡ 0
-    → All IsOctet (a ∷ b ∷ c ∷ d ∷ asdu) → length asdu + 4 < len → IsProperBeginning (0x68 ∷ len ∷ a ∷ b ∷ c ∷ d ∷ asdu)
+    → All IsOctet (a ∷ b ∷ c ∷ d ∷ asdu) → length asdu + 4 < len
+    → IsProperBeginning (0x68 ∷ len ∷ a ∷ b ∷ c ∷ d ∷ asdu)
 i_asdu len a b c d asdu long short even_a even_c fits more =
     let octet_a : a < 256 = All-head IsOctet a (b ∷ c ∷ d ∷ asdu) fits in
     let fits_b = All-tail IsOctet a (b ∷ c ∷ d ∷ asdu) fits in
@@ -75,8 +84,10 @@ i_asdu len a b c d asdu long short even_a even_c fits more =
     let left : ℕ = len - 5 - length asdu in
     let zeros : List ℕ = 0 ∷ replicate left 0 in
     let whole : List ℕ = asdu ++ zeros in
-    let whole_len : length whole ≡ len - 4 = omega (arith, length-append asdu zeros, length-replicate left (zero)) in
-    let spelled_len : len ≡ length (counter (a / 2 + 128 * b) ++ counter (c / 2 + 128 * d) ++ whole) =
+    let whole_len : length whole ≡ len - 4 =
+    omega (arith, length-append asdu zeros, length-replicate left (zero)) in
+    let spelled_len : len ≡ length (counter (a / 2 + 128 * b) ++ counter (c / 2 + 128 * d)
+    ++ whole) =
     omega (arith, whole_len) in
     let ns = counter_again a b octet_a even_a octet_b in
     let nr = counter_again c d octet_c even_c octet_d in
@@ -90,37 +101,45 @@ i_asdu len a b c d asdu long short even_a even_c fits more =
           omega arith,
           omega arith,
           All-append IsOctet asdu zeros (All-tail IsOctet d asdu fits_d)
-              (All-cons IsOctet 0 (replicate left 0) (omega arith) (All-replicate IsOctet left 0 (omega arith))),
+              (All-cons IsOctet 0 (replicate left 0) (omega arith)
+              (All-replicate IsOctet left 0 (omega arith))),
           omega (arith, whole_len),
           omega (arith, whole_len),
         );
         spelled =
             ap (λ (l : List ℕ). 0x68 ∷ len ∷ (l ++ whole))
-            (sym (ap (λ (l : List ℕ). l ++ counter (c / 2 + 128 * d)) ns ∙ ap (λ (l : List ℕ). a ∷ b ∷ l) nr))
-            ∙ ap (λ (n : ℕ). 0x68 ∷ n ∷ (counter (a / 2 + 128 * b) ++ counter (c / 2 + 128 * d) ++ whole)) spelled_len;
+            (sym (ap (λ (l : List ℕ). l ++ counter (c / 2 + 128 * d)) ns
+            ∙ ap (λ (l : List ℕ). a ∷ b ∷ l) nr))
+            ∙ ap (λ (n : ℕ). 0x68 ∷ n ∷ (counter (a / 2 + 128 * b) ++ counter (c / 2 + 128 * d)
+            ++ whole)) spelled_len;
       };
     }
 
 -- an I format up to some octet after its first control octet
 pub i_more : (len a : ℕ) (y : List ℕ) → 13 ≤ len → len ≤ 253 → a % 2 ≡ 0 → a < 256 → All IsOctet y
-    → (1 < length y → get_or y 1 0 % 2 ≡ 0) → length y + 1 < len → IsProperBeginning (0x68 ∷ len ∷ a ∷ y)
+    → (1 < length y → get_or y 1 0 % 2 ≡ 0) → length y + 1 < len
+    → IsProperBeginning (0x68 ∷ len ∷ a ∷ y)
 i_more len a (b ∷ c ∷ d ∷ asdu) long short even octet fits even_c more =
-    i_asdu len a b c d asdu long short even (even_c (omega arith)) (All-cons IsOctet a (b ∷ c ∷ d ∷ asdu) octet fits)
+    i_asdu len a b c d asdu long short even (even_c (omega arith))
+    (All-cons IsOctet a (b ∷ c ∷ d ∷ asdu) octet fits)
     (omega arith)
 i_more len a (b ∷ c ∷ []) long short even octet fits even_c more =
-    proper_front (0x68 ∷ len ∷ a ∷ b ∷ c ∷ []) [] 0 (i_asdu len a b c 0 [] long short even (even_c (omega arith))
+    proper_front (0x68 ∷ len ∷ a ∷ b ∷ c ∷ []) [] 0
+    (i_asdu len a b c 0 [] long short even (even_c (omega arith))
     (All-append IsOctet (a ∷ b ∷ c ∷ []) (0 ∷ []) (All-cons IsOctet a (b ∷ c ∷ []) octet fits)
     (All-cons IsOctet 0 [] (omega arith) (All-nil IsOctet))) (omega arith))
 i_more len a (b ∷ []) long short even octet fits even_c more =
     proper_front (0x68 ∷ len ∷ a ∷ b ∷ []) (0 ∷ []) 0 (i_asdu len a b 0 0 [] long short even refl
     (All-append IsOctet (a ∷ b ∷ []) (0 ∷ 0 ∷ []) (All-cons IsOctet a (b ∷ []) octet fits)
-    (All-cons IsOctet 0 (0 ∷ []) (omega arith) (All-cons IsOctet 0 [] (omega arith) (All-nil IsOctet))))
+    (All-cons IsOctet 0 (0 ∷ []) (omega arith)
+    (All-cons IsOctet 0 [] (omega arith) (All-nil IsOctet))))
     (omega arith))
 i_more len a [] long short even octet fits even_c more =
     proper_front (0x68 ∷ len ∷ a ∷ []) (0 ∷ 0 ∷ []) 0 (i_asdu len a 0 0 0 [] long short even refl
     (All-append IsOctet (a ∷ []) (0 ∷ 0 ∷ 0 ∷ []) (All-cons IsOctet a [] octet fits)
     (All-cons IsOctet 0 (0 ∷ 0 ∷ []) (omega arith)
-    (All-cons IsOctet 0 (0 ∷ []) (omega arith) (All-cons IsOctet 0 [] (omega arith) (All-nil IsOctet)))))
+    (All-cons IsOctet 0 (0 ∷ []) (omega arith)
+    (All-cons IsOctet 0 [] (omega arith) (All-nil IsOctet)))))
     (omega arith))
 
 -- a length from 4 to 253
@@ -131,7 +150,8 @@ length_more len low high = elim (cases_lt len 5) [
   | inr le ↦ elim (cases_lt len 13) [
     | inl lt ↦ inr (record { len = len; low = le; high = omega arith; whole = refl })
     | inr long ↦ inl (proper_front (0x68 ∷ len ∷ []) [] 0
-        (i_more len 0 [] long high refl (omega arith) (All-nil IsOctet) (λ lt. absurd (omega arith)) (omega arith)))
+        (i_more len 0 [] long high refl (omega arith) (All-nil IsOctet) (λ lt. absurd (omega arith))
+        (omega arith)))
   ]
 ]
 
@@ -141,9 +161,14 @@ even_apart : (n m : ℕ) → n % 2 ≡ 1 → n ≡ m % 128 * 2 → ⊥
 even_apart n m odd e = absurd (omega arith)
 
 pub no_start : (o : ℕ) (z : List ℕ) → (o ≡ 0x68 → ⊥) → IsFront (o ∷ z) (Never 0 Start)
-no_start o z apart = (0, record { within = omega arith; before = inl nothing; here = λ h. apart (starts o [] h) }, refl)
+no_start o z apart = (
+  0,
+  record { within = omega arith; before = inl nothing; here = λ h. apart (starts o [] h) },
+  refl,
+)
 
-pub no_length : (len : ℕ) (z : List ℕ) → (4 ≤ len → len ≤ 253 → ⊥) → IsFront (0x68 ∷ len ∷ z) (Never 1 Length)
+pub no_length : (len : ℕ) (z : List ℕ) → (4 ≤ len → len ≤ 253 → ⊥)
+    → IsFront (0x68 ∷ len ∷ z) (Never 1 Length)
 no_length len z apart = (
   1,
   record {
@@ -154,7 +179,8 @@ no_length len z apart = (
   refl,
 )
 
-pub no_format : (len o : ℕ) (z : List ℕ) → 4 ≤ len → len ≤ 253 → o % 2 ≡ 1 → (o ≡ 1 → ⊥) → function_of o ≡ None
+pub no_format : (len o : ℕ) (z : List ℕ) → 4 ≤ len → len ≤ 253 → o % 2 ≡ 1 → (o ≡ 1 → ⊥)
+    → function_of o ≡ None
     → IsFront (0x68 ∷ len ∷ o ∷ z) (Never 2 Control)
 no_format len o z low high odd not_s not_u = (
   2,
@@ -165,14 +191,16 @@ no_format len o z low high odd not_s not_u = (
       | inl i ↦ even_apart o i.ns odd i.even
       | inr r ↦ elim r [
         | inl s ↦ not_s s.one
-        | inr u ↦ (let e : None ≡ Some u.f = sym not_u ∙ ap function_of u.function ∙ function_again u.f in absurd cc)
+        | inr u ↦ (let e : None ≡ Some u.f = sym not_u ∙ ap function_of u.function
+            ∙ function_again u.f in absurd cc)
       ]
     ];
   },
   rw (ne_eqb (o % 2) 0 (λ e. absurd (omega arith)), ne_eqb o 1 not_s, not_u) refl,
 )
 
-pub i_short : (len o : ℕ) (z : List ℕ) → 4 ≤ len → len < 13 → o % 2 ≡ 0 → IsFront (0x68 ∷ len ∷ o ∷ z) (Never 1 Short)
+pub i_short : (len o : ℕ) (z : List ℕ) → 4 ≤ len → len < 13 → o % 2 ≡ 0
+    → IsFront (0x68 ∷ len ∷ o ∷ z) (Never 1 Short)
 i_short len o z low high even = (
   2,
   record {
@@ -240,7 +268,8 @@ s_second b z apart = (
   refl,
 )
 
-pub s_third : (c : ℕ) (z : List ℕ) → c % 2 ≡ 1 → IsFront (0x68 ∷ 4 ∷ 1 ∷ 0 ∷ c ∷ z) (Never 4 Control)
+pub s_third : (c : ℕ) (z : List ℕ) → c % 2 ≡ 1
+    → IsFront (0x68 ∷ 4 ∷ 1 ∷ 0 ∷ c ∷ z) (Never 4 Control)
 s_third c z odd = (
   4,
   record {
@@ -259,13 +288,19 @@ s_third c z odd = (
 )
 
 -- a U format's next octets are 0
-u_zero : (f : Uf) (z : List ℕ) → Opens 4 (function f) z → (rest : List ℕ) × (z ++ rest ≡ 0 ∷ 0 ∷ 0 ∷ [])
+u_zero : (f : Uf) (z : List ℕ) → Opens 4 (function f) z → (rest : List ℕ)
+    × (z ++ rest ≡ 0 ∷ 0 ∷ 0 ∷ [])
 u_zero f z h = elim h [
   | inl i ↦ absurd (omega (arith, i.long))
-  | inr r ↦ elim r [ inl s ↦ absurd (omega (arith, s.one, (odd_function f).1)) | inr u ↦ (u.rest, u.whole) ]
+  | inr r ↦ elim r [
+    | inl s ↦ absurd (omega (arith, s.one, (odd_function f).1))
+    | inr u ↦
+        (u.rest, u.whole)
+  ]
 ]
 
-pub u_second : (f : Uf) (b : ℕ) (z : List ℕ) → (b ≡ 0 → ⊥) → IsFront (0x68 ∷ 4 ∷ function f ∷ b ∷ z) (Never 3 Control)
+pub u_second : (f : Uf) (b : ℕ) (z : List ℕ) → (b ≡ 0 → ⊥)
+    → IsFront (0x68 ∷ 4 ∷ function f ∷ b ∷ z) (Never 3 Control)
 u_second f b z apart = (
   3,
   record {
@@ -309,7 +344,8 @@ u_fourth f b z apart = (
   refl,
 )
 
-pub i_third : (len a : ℕ) (y : List ℕ) → 13 ≤ len → len ≤ 253 → a % 2 ≡ 0 → a < 256 → All IsOctet y → 1 < length y
+pub i_third : (len a : ℕ) (y : List ℕ) → 13 ≤ len → len ≤ 253 → a % 2 ≡ 0 → a < 256 → All IsOctet y
+    → 1 < length y
     → get_or y 1 0 % 2 ≡ 1 → IsFront (0x68 ∷ len ∷ a ∷ y) (Never 4 Control)
 i_third len a [] long short even octet fits some odd = absurd (omega arith)
 i_third len a (b ∷ []) long short even octet fits some odd = absurd (omega arith)
@@ -318,7 +354,8 @@ i_third len a (b ∷ c ∷ z) long short even octet fits some odd = (
   record {
     within = omega arith;
     before = inl (i_more len a (b ∷ []) long short even octet
-        (All-cons IsOctet b [] (All-head IsOctet b (c ∷ z) fits) (All-nil IsOctet)) (λ lt. absurd (omega arith))
+        (All-cons IsOctet b [] (All-head IsOctet b (c ∷ z) fits) (All-nil IsOctet))
+        (λ lt. absurd (omega arith))
         (omega arith));
     here = λ h. elim (opens len a (b ∷ c ∷ []) h) [
       | inl i ↦ (let w : b ∷ c ∷ i.rest ≡ i.ns / 128 ∷ i.nr % 128 * 2 ∷ i.nr / 128 ∷ i.asdu =
@@ -332,23 +369,31 @@ i_third len a (b ∷ c ∷ z) long short even octet fits some odd = (
   refl,
 )
 
-pub octet_at_1 : (xs : List ℕ) (x y : ℕ) (rest : List ℕ) → xs ≡ x ∷ y ∷ rest → get_or xs 1 0 < 256 → y < 256
+pub octet_at_1 : (xs : List ℕ) (x y : ℕ) (rest : List ℕ) → xs ≡ x ∷ y ∷ rest → get_or xs 1 0 < 256
+    → y < 256
 octet_at_1 xs x y rest e lt = subst (λ (l : List ℕ). get_or l 1 0 < 256) e lt
 
-pub octet_at_0 : (xs : List ℕ) (x : ℕ) (rest : List ℕ) → xs ≡ x ∷ rest → get_or xs 0 0 < 256 → x < 256
+pub octet_at_0 : (xs : List ℕ) (x : ℕ) (rest : List ℕ) → xs ≡ x ∷ rest → get_or xs 0 0 < 256
+    → x < 256
 octet_at_0 xs x rest e lt = subst (λ (l : List ℕ). get_or l 0 0 < 256) e lt
 
-pub i_whole : (len a ns nr : ℕ) (asdu : ArrayVec ℕ) (y : List ℕ) → 13 ≤ len → len ≤ 253 → All IsOctet y
+pub i_whole : (len a ns nr : ℕ) (asdu : ArrayVec ℕ) (y : List ℕ) → 13 ≤ len → len ≤ 253
+    → All IsOctet y
     → len ≤ length y + 1 → ns < 2 ^ 15 → nr < 2 ^ 15
     → counter ns ≡ a ∷ get_or y 0 0 ∷ [] → counter nr ≡ get_or y 1 0 ∷ get_or y 2 0 ∷ []
     → asdu.items ≡ take (len - 1 - 3) (drop 3 y)
     → IsFront (0x68 ∷ len ∷ a ∷ y) (Whole (I ns nr asdu) (2 + len))
-i_whole len a ns nr asdu [] long short fits enough ns_fits nr_fits ns_is nr_is asdu_is = absurd (omega arith)
-i_whole len a ns nr asdu (b ∷ []) long short fits enough ns_fits nr_fits ns_is nr_is asdu_is = absurd (omega arith)
-i_whole len a ns nr asdu (b ∷ c ∷ []) long short fits enough ns_fits nr_fits ns_is nr_is asdu_is = absurd (omega arith)
-i_whole len a ns nr asdu (b ∷ c ∷ d ∷ t) long short fits enough ns_fits nr_fits ns_is nr_is asdu_is =
+i_whole len a ns nr asdu [] long short fits enough ns_fits nr_fits ns_is nr_is asdu_is =
+    absurd (omega arith)
+i_whole len a ns nr asdu (b ∷ []) long short fits enough ns_fits nr_fits ns_is nr_is asdu_is =
+    absurd (omega arith)
+i_whole len a ns nr asdu (b ∷ c ∷ []) long short fits enough ns_fits nr_fits ns_is nr_is asdu_is =
+    absurd (omega arith)
+i_whole len a ns nr asdu (b ∷ c ∷ d ∷ t) long short fits enough ns_fits nr_fits ns_is nr_is
+    asdu_is =
     let k : ℕ = len - 1 - 3 in
-    let fits_t = All-tail IsOctet d t (All-tail IsOctet c (d ∷ t) (All-tail IsOctet b (c ∷ d ∷ t) fits)) in
+    let fits_t =
+    All-tail IsOctet d t (All-tail IsOctet c (d ∷ t) (All-tail IsOctet b (c ∷ d ∷ t) fits)) in
     let asdu_len : length asdu.items ≡ k = ap length asdu_is ∙ length-take-le k t (omega arith) in
     let head : List ℕ = 0x68 ∷ len ∷ a ∷ b ∷ c ∷ d ∷ [] in
     let count : 2 + len ≡ 6 + k = omega arith in

@@ -1,5 +1,6 @@
 -- An assembler is taken up again with the octets that it had.
-use Rattle.std.proofs.Common.{◌≡◌, ℕ, ◌+◌, ◌*◌, ◌/◌, ◌%◌, ◌^◌, ◌<◌, List, [], ◌∷◌, ◌++◌, length, All, Option, Some, None, IfSome, refl, sym, subst, arith, inl, inr}
+use Rattle.std.proofs.Common.{◌≡◌, ℕ, ◌+◌, ◌*◌, ◌/◌, ◌%◌, ◌^◌, ◌<◌, List, [], ◌∷◌, ◌++◌, length}
+use Rattle.std.proofs.Common.{All, Option, Some, None, IfSome, refl, sym, subst, arith, inl, inr}
 use Rattle.std.proofs.Math.Seq.{take-append_seam}
 use Rattle.std.proofs.lemmas.List.Elements.{All-cons, All-nil, All-take}
 use Rattle.apci.specs.declared.apdu.Front.TheVariants as front
@@ -17,7 +18,8 @@ use Rattle.apci.proofs.EachOctet.{state_more}
 use Rattle.apci.proofs.Exact.{one_front}
 
 -- Octets from which an APDU may go on are heard as no more than that.
-heard_open : (octets : List ℕ) (n : ℕ) (h : Heard) (after : Assembly) → IsMore octets → Hears [] octets n h after
+heard_open : (octets : List ℕ) (n : ℕ) (h : Heard) (after : Assembly) → IsMore octets
+    → Hears [] octets n h after
     → (after.so_far ≡ Some octets) × (after.whole ≡ None)
 heard_open octets n heard.More after is hears = (hears.2, hears.3)
 heard_open octets n heard.Whole after is hears =
@@ -25,7 +27,8 @@ heard_open octets n heard.Whole after is hears =
     one_front octets front.More (front.Whole hears.0 (0 + n)) is hears.1 in
     absurd cc
 heard_open octets n (heard.Never place why) after is hears =
-    let bad : front.Never place why ≡ front.More = one_front octets front.More (front.Never place why) is hears.0 in
+    let bad : front.Never place why ≡ front.More =
+    one_front octets front.More (front.Never place why) is hears.0 in
     absurd cc
 heard_open octets n heard.Deaf after is hears = absurd hears
 
@@ -45,7 +48,8 @@ high_octet n lt = omega arith
 
 with_counter : (n : ℕ) (x : List ℕ) → n < 2 ^ 15 → All IsOctet x → All IsOctet (counter n ++ x)
 with_counter n x lt all =
-    All-cons IsOctet (n % 128 * 2) (n / 128 ∷ x) (low_octet n) (All-cons IsOctet (n / 128) x (high_octet n lt) all)
+    All-cons IsOctet (n % 128 * 2) (n / 128 ∷ x) (low_octet n)
+    (All-cons IsOctet (n / 128) x (high_octet n lt) all)
 
 spelling_fits : (a : Apdu) → Fits a → All IsOctet (spelling a)
 spelling_fits (apdu.I ns nr asdu) fits =
@@ -64,20 +68,24 @@ spelling_fits (apdu.U f) fits =
     (All-cons IsOctet 4 (function f ∷ 0 ∷ 0 ∷ 0 ∷ []) (omega arith)
     (All-cons IsOctet (function f) (0 ∷ 0 ∷ 0 ∷ []) (odd_function f).2
     (All-cons IsOctet 0 (0 ∷ 0 ∷ []) (omega arith)
-    (All-cons IsOctet 0 (0 ∷ []) (omega arith) (All-cons IsOctet 0 [] (omega arith) (All-nil IsOctet))))))
+    (All-cons IsOctet 0 (0 ∷ []) (omega arith)
+    (All-cons IsOctet 0 [] (omega arith) (All-nil IsOctet))))))
 
 more_octets : (x : List ℕ) → IsMore x → All IsOctet x
 more_octets x (inl p) =
     let A : List ℕ → Type 0 = λ y. All IsOctet y in
     let all = subst A (sym p.line.spelled) (spelling_fits p.apdu p.line.fits) in
-    subst A (take-append_seam x (p.next ∷ p.rest)) (All-take IsOctet (length x) (x ++ p.next ∷ p.rest) all)
+    subst A (take-append_seam x (p.next ∷ p.rest))
+    (All-take IsOctet (length x) (x ++ p.next ∷ p.rest) all)
 more_octets x (inr u) =
     let A : List ℕ → Type 0 = λ y. All IsOctet y in
     let low : u.len < 256 = omega (arith, u.high) in
     subst A (sym u.whole)
-    (All-cons IsOctet 0x68 (u.len ∷ []) (omega arith) (All-cons IsOctet u.len [] low (All-nil IsOctet)))
+    (All-cons IsOctet 0x68 (u.len ∷ []) (omega arith)
+    (All-cons IsOctet u.len [] low (All-nil IsOctet)))
 
-resumable_at : (s : State) (asdu : List ℕ) (o : Option (List ℕ)) → IsState s asdu → so_far s asdu ≡ o → IfSome o IsResumable
+resumable_at : (s : State) (asdu : List ℕ) (o : Option (List ℕ)) → IsState s asdu → so_far s asdu
+    ≡ o → IfSome o IsResumable
 resumable_at s asdu None h e = tt
 resumable_at s asdu (Some x) h e =
     let more = state_more s asdu x h e in record { more = more; octets_fit = more_octets x more }

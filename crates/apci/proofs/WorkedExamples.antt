@@ -4,10 +4,12 @@ use Rattle.std.specs.Prelude.{slice_index}
 use Rattle.std.specs.List.{AllByRecursion}
 use Rattle.arrayvec.specs.ArrayVec.{ArrayVec}
 use Rattle.apci.specs.declared.apdu.Uf.{Uf}
-use Rattle.apci.specs.declared.apdu.Uf.TheVariants.{StartAct, StartCon, StopAct, StopCon, TestAct, TestCon}
+use Rattle.apci.specs.declared.apdu.Uf.TheVariants.{StartAct, StartCon, StopAct, StopCon, TestAct}
+use Rattle.apci.specs.declared.apdu.Uf.TheVariants.{TestCon}
 use Rattle.apci.specs.declared.apdu.Apdu.TheVariants.{I, U}
 use Rattle.apci.specs.Spelling.{spelling, Fits}
-use Rattle.apci.specs.Examples.{IsSpelledSo, IsInformation, TellFormats, IsRefusedSo, spelling_examples, refusal_examples}
+use Rattle.apci.specs.Examples.{IsSpelledSo, IsInformation, TellFormats, IsRefusedSo}
+use Rattle.apci.specs.Examples.{spelling_examples, refusal_examples}
 
 pub spellings_hold : AllByRecursion IsSpelledSo spelling_examples
 spellings_hold = (
@@ -22,7 +24,10 @@ spellings_hold = (
           (tt, refl),
           (
             (tt, refl),
-            ((search rules, refl), ((search rules, refl), ((search rules, refl), ((search rules, refl), tt)))),
+            (
+              (search rules, refl),
+              ((search rules, refl), ((search rules, refl), ((search rules, refl), tt))),
+            ),
           ),
         ),
       ),
@@ -30,8 +35,15 @@ spellings_hold = (
   ),
 )
 
-information : (ns nr : ℕ) (asdu : ArrayVec ℕ) → Fits (I ns nr asdu) → IsInformation (spelling (I ns nr asdu))
-information ns nr asdu h = record { start = refl; at_least = omega arith; at_most = omega arith; bit = omega arith }
+information : (ns nr : ℕ) (asdu : ArrayVec ℕ) → Fits (I ns nr asdu)
+    → IsInformation (spelling (I ns nr asdu))
+information ns nr asdu h = record {
+  start = refl;
+  at_least = omega arith;
+  at_most =
+      omega arith;
+  bit = omega arith;
+}
 
 unnumbered : (f : Uf) → slice_index (spelling (U f)) 2 % 4 ≡ 3
 unnumbered StartAct = refl
@@ -52,4 +64,5 @@ formats_hold = record {
 }
 
 pub refusals_hold : AllByRecursion IsRefusedSo refusal_examples
-refusals_hold = (refl, (refl, (refl, (refl, (refl, (refl, (refl, (refl, (refl, (refl, (refl, tt)))))))))))
+refusals_hold =
+    (refl, (refl, (refl, (refl, (refl, (refl, (refl, (refl, (refl, (refl, (refl, tt)))))))))))

@@ -1,8 +1,10 @@
 -- What stands at the front of octets: an APDU (IEC 60870-5-104, 5), the beginning of one, or
 -- neither. Which refusal is told for which place is this gateway's own profile.
-use Rattle.std.specs.Prelude.{◌≡◌, ℕ, ◌+◌, ◌%◌, ◌<◌, ◌≤◌, ◌==◌, ◌⊎◌, if◌then◌else◌, List, [], ◌∷◌, ◌++◌, length, take, slice_index, is_some, Option, Some, None}
+use Rattle.std.specs.Prelude.{◌≡◌, ℕ, ◌+◌, ◌%◌, ◌<◌, ◌≤◌, ◌==◌, ◌⊎◌, if◌then◌else◌, List, [], ◌∷◌}
+use Rattle.std.specs.Prelude.{◌++◌, length, take, slice_index, is_some, Option, Some, None}
 use Rattle.apci.specs.declared.apdu.Uf.{Uf}
-use Rattle.apci.specs.declared.apdu.Uf.TheVariants.{StartAct, StartCon, StopAct, StopCon, TestAct, TestCon}
+use Rattle.apci.specs.declared.apdu.Uf.TheVariants.{StartAct, StartCon, StopAct, StopCon, TestAct}
+use Rattle.apci.specs.declared.apdu.Uf.TheVariants.{TestCon}
 use Rattle.apci.specs.declared.apdu.Apdu.{Apdu}
 use Rattle.apci.specs.declared.apdu.Why.{Why}
 use Rattle.apci.specs.declared.apdu.Why.TheVariants.{Start, Length, Control, NotFour, Short}

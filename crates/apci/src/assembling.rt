@@ -1,6 +1,7 @@
 //! APDUs out of pieces of a stream, with each octet looked at once.
 
-ghost use Rattle.std.specs.Prelude.{◌≡◌, ℕ, ◌+◌, ◌-◌, ◌^◌, ◌<◌, ◌≤◌, min, ◌↔◌, List, None, [], ◌∷◌, ◌++◌, length, Some, IfSome, IfNone, IsTrue, OnOk};
+ghost use Rattle.std.specs.Prelude.{◌≡◌, ℕ, ◌+◌, ◌-◌, ◌^◌, ◌<◌, ◌≤◌, min, ◌↔◌, List, None, [], ◌∷◌};
+ghost use Rattle.std.specs.Prelude.{◌++◌, length, Some, IfSome, IfNone, IsTrue, OnOk};
 ghost use Rattle.apci.specs.declared.assembling.Heard.{Heard};
 ghost use Rattle.apci.specs.declared.assembling.Heard.TheVariants.{Deaf as HeardDeaf};
 ghost use Rattle.apci.specs.declared.assembling.State.TheVariants as State;

@@ -10,7 +10,8 @@ ghost use Rattle.apci.specs.Reading.{IsFront};
 ghost use Rattle.apci.specs.Places.{HavePlaces};
 ghost use Rattle.apci.specs.Refusals.{RefuseOctets};
 ghost use Rattle.std.specs.List.{AllByRecursion};
-ghost use Rattle.apci.specs.Examples.{IsSpelledSo, TellFormats, IsRefusedSo, spelling_examples, refusal_examples};
+ghost use Rattle.apci.specs.Examples.{IsSpelledSo, TellFormats, IsRefusedSo, spelling_examples};
+ghost use Rattle.apci.specs.Examples.{refusal_examples};
 
 /// Each APDU has one spelling.
 pub fn one_spelling()

@@ -1,12 +1,14 @@
 //! Octets to APDUs.
 
-ghost use Rattle.std.specs.Prelude.{◌≡◌, ◌%◌, ◌≤◌, ◌∷◌};
+ghost use Rattle.std.specs.Prelude.{◌≡◌, ◌%◌, ◌≤◌, ◌∷◌, IfSome};
 ghost use Rattle.apci.specs.declared.apdu.Front.{Front};
+ghost use Rattle.apci.specs.declared.apdu.Front.TheVariants.{Whole};
 ghost use Rattle.apci.specs.Spelling.{function};
 ghost use Rattle.apci.specs.Borrowed.{owned_front};
 ghost use Rattle.apci.specs.Reading.{IsFront};
+ghost use Rattle.apci.specs.Short.{apdu_of};
 
-use crate::apdu::{ApduRef, Front, FrontRef, Uf, Why};
+use crate::apdu::{ApduRef, Front, FrontRef, Short, Uf, Why};
 use crate::control::{Format, counter_of, format_of};
 use crate::writing::START;
 
@@ -100,6 +102,7 @@ fn u_format(len: u8, f: Uf, rest: &[u8]) -> FrontRef<'_>
 /// A refusal is told as soon as the octets seen decide it. An S or U format with a wrong length,
 /// and an I format too short for an ASDU, are refused at place 1 once the first control octet has
 /// come.
+#[inline(always)]
 pub fn front_ref(octets: &[u8]) -> FrontRef<'_>
     ensures right { IsFront octets.now (owned_front result) }
     // No other answer is right: so it is this one exactly where `IsFront` holds of it.
@@ -109,7 +112,39 @@ pub fn front_ref(octets: &[u8]) -> FrontRef<'_>
 }
 
 /// The answer of `front_ref`, before it is known to be the only one.
+#[inline(always)]
 fn first_of(octets: &[u8]) -> FrontRef<'_>
+    ensures { IsFront octets.now (owned_front result) }
+{
+    // A whole S or U format is found with no place in memory for an answer.
+    match short_of(octets) {
+        Some(Short::S { nr }) => FrontRef::Whole(ApduRef::S { nr }, 6),
+        Some(Short::U(function)) => FrontRef::Whole(ApduRef::U(function), 6),
+        None => octet_by_octet(octets),
+    }
+}
+
+/// The whole S or U format at the front of the octets, if one stands there.
+#[inline(always)]
+fn short_of(octets: &[u8]) -> Option<Short>
+    ensures { IfSome result (λ short. IsFront octets.now (Whole (apdu_of short) 6)) }
+{
+    if octets.len() < 6 || octets[0] != START || octets[1] != 4 || octets[3] != 0 {
+        return None;
+    }
+    let [third, fourth] = [octets[4], octets[5]];
+    match format_of(octets[2]) {
+        Format::S if third % 2 == 0 => Some(Short::S {
+            nr: counter_of(third, fourth),
+        }),
+        Format::U(function) if third == 0 && fourth == 0 => Some(Short::U(function)),
+        _ => None,
+    }
+}
+
+/// The answer of `first_of`, which each octet decides in turn.
+#[inline(never)]
+fn octet_by_octet(octets: &[u8]) -> FrontRef<'_>
     ensures { IsFront octets.now (owned_front result) }
 {
     let Some((start, rest)) = octets.split_first() else {

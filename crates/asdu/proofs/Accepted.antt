@@ -12,7 +12,8 @@ use Rattle.asdu.specs.Asdu.{AsduValue, IsAsdu, spelled}
 use Rattle.asdu.specs.Fields.{value_at}
 use Rattle.asdu.specs.Refusals.{refusal}
 use Rattle.asdu.specs.Reading.{value_of}
-use Rattle.asdu.proofs.Spelling.{IsWhole, accepted, refusal-none, IsAsdu-value_at, IsWhole-spelled, value_at-spelled}
+use Rattle.asdu.proofs.Spelling.{IsWhole, accepted, refusal-none, IsAsdu-value_at, IsWhole-spelled}
+use Rattle.asdu.proofs.Spelling.{value_at-spelled}
 
 pub IsWhole-accepted : (s : Sizes) (t : TypeId) (xs : List ℕ) → type_of (slice_index xs 0) ≡ Some t
     → refusal s xs ≡ None → IsWhole s t xs
@@ -37,8 +38,10 @@ found s xs (Ok a) all h =
     subst R h.1 (subst P h.0 here)
 found s xs (Err why) all h = tt
 
-pub only : (s : Sizes) (xs : List ℕ) (r : Result Asdu Refused) → IfOk r (λ a. (a.sizes ≡ s) × (a.octets.now ≡ xs))
-    → IfErr r (λ why. refusal s xs ≡ Some why.0) → (v : AsduValue) → IsAsdu s v xs → IsOkAnd r (λ a. value_of a ≡ v)
+pub only : (s : Sizes) (xs : List ℕ) (r : Result Asdu Refused)
+    → IfOk r (λ a. (a.sizes ≡ s) × (a.octets.now ≡ xs))
+    → IfErr r (λ why. refusal s xs ≡ Some why.0) → (v : AsduValue) → IsAsdu s v xs
+    → IsOkAnd r (λ a. value_of a ≡ v)
 only s xs (Ok a) source fault v spells =
     let code = type_of-code v.kind in
     let text = spells.octets in

@@ -1,5 +1,6 @@
 -- Lists in chunks, and how many there are.
-use Rattle.std.proofs.Common.{◌≡◌, ℕ, zero, suc, ◌+◌, ◌-◌, ◌*◌, ◌<◌, ◌≤◌, List, [], ◌∷◌, ◌++◌, length, take, drop, map, refl, sym, ap, ◌∙◌, arith, length-drop}
+use Rattle.std.proofs.Common.{◌≡◌, ℕ, zero, suc, ◌+◌, ◌-◌, ◌*◌, ◌<◌, ◌≤◌, List, [], ◌∷◌, ◌++◌}
+use Rattle.std.proofs.Common.{length, take, drop, map, refl, sym, ap, ◌∙◌, arith, length-drop}
 use Rattle.std.specs.List.{flat_map, AllByRecursion}
 use Rattle.std.specs.Int.{div_ceil}
 use Rattle.std.proofs.lemmas.Grind.{div_ceil_times}
@@ -40,7 +41,8 @@ pub record AreEnough (m k n : ℕ) : Type 0 where
   pub tight : k * m < n + m
 
 pub enough : (m n : ℕ) → 1 ≤ m → AreEnough m (div_ceil n m) n
-enough m n some = let there = div_ceil_times n m some in record { enough = there.0; tight = there.1 }
+enough m n some = let there = div_ceil_times n m some in
+    record { enough = there.0; tight = there.1 }
 
 pub enough-some : (m k n : ℕ) → AreEnough m (suc k) n → 1 ≤ n
 enough-some m k n h = let tight = h.tight in omega arith
@@ -79,12 +81,14 @@ module _ {X : Type 0} where
       ap (λ ys. map f (take m xs) ++ ys) (chunks-joined f m k (drop m xs) (enough-drop m k xs h))
       ∙ sym (map-append f (take m xs) (drop m xs)) ∙ ap (map f) (take-append-drop m xs)
 
-  pub All-take : (P : X → Type 0) (m : ℕ) (xs : List X) → AllByRecursion P xs → AllByRecursion P (take m xs)
+  pub All-take : (P : X → Type 0) (m : ℕ) (xs : List X) → AllByRecursion P xs
+      → AllByRecursion P (take m xs)
   All-take P zero xs h = tt
   All-take P (suc m) [] h = tt
   All-take P (suc m) (x ∷ xs) h = (h.0, All-take P m xs h.1)
 
-  pub All-drop : (P : X → Type 0) (m : ℕ) (xs : List X) → AllByRecursion P xs → AllByRecursion P (drop m xs)
+  pub All-drop : (P : X → Type 0) (m : ℕ) (xs : List X) → AllByRecursion P xs
+      → AllByRecursion P (drop m xs)
   All-drop P zero xs h = h
   All-drop P (suc m) [] h = tt
   All-drop P (suc m) (x ∷ xs) h = All-drop P m xs h.1

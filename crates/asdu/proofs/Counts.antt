@@ -4,7 +4,12 @@ use Rattle.std.proofs.Math.Nat.{mul-le-mul_left, lt_of_mul-lt-mul_right}
 use Rattle.std.specs.Int.{div_ceil}
 use Rattle.std.proofs.lemmas.Grind.{div_ceil_times}
 use Rattle.elements.specs.declared.types.TypeId.{TypeId}
-use Rattle.elements.specs.declared.types.TypeId.TheVariants.{MSpNa1, MDpNa1, MStNa1, MBoNa1, MMeNa1, MMeNb1, MMeNc1, MItNa1, MSpTb1, MDpTb1, MStTb1, MBoTb1, MMeTd1, MMeTe1, MMeTf1, MItTb1, MEiNa1, CScNa1, CDcNa1, CRcNa1, CSeNa1, CSeNb1, CIcNa1, CScTa1, CDcTa1, CRcTa1, CSeTa1, CSeTb1}
+use Rattle.elements.specs.declared.types.TypeId.TheVariants.{MSpNa1, MDpNa1, MStNa1, MBoNa1, MMeNa1}
+use Rattle.elements.specs.declared.types.TypeId.TheVariants.{MMeNb1, MMeNc1, MItNa1, MSpTb1, MDpTb1}
+use Rattle.elements.specs.declared.types.TypeId.TheVariants.{MStTb1, MBoTb1, MMeTd1, MMeTe1, MMeTf1}
+use Rattle.elements.specs.declared.types.TypeId.TheVariants.{MItTb1, MEiNa1, CScNa1, CDcNa1, CRcNa1}
+use Rattle.elements.specs.declared.types.TypeId.TheVariants.{CSeNa1, CSeNb1, CIcNa1, CScTa1, CDcTa1}
+use Rattle.elements.specs.declared.types.TypeId.TheVariants.{CRcTa1, CSeTa1, CSeTb1}
 use Rattle.asdu.specs.Asdu.{content_len}
 use Rattle.asdu.specs.Refusals.{body_len}
 use Rattle.asdu.specs.Translation.{piece_size}
@@ -101,9 +106,11 @@ content_len-high CSeTb1 = omega arith
 
 -- a piece has an object
 pub piece_size-some : (t : TypeId) (b : Bool) → 1 ≤ piece_size t b
-piece_size-some t false = let high = content_len-high t in let three = located-three t 1 (omega arith) in omega arith
+piece_size-some t false = let high = content_len-high t in
+    let three = located-three t 1 (omega arith) in omega arith
 piece_size-some t true =
-    let high = content_len-high t in let three = counted-three t 1 (omega arith) (omega arith) in omega arith
+    let high = content_len-high t in let three = counted-three t 1 (omega arith) (omega arith) in
+    omega arith
 
 -- three pieces are enough
 pub three_pieces : (t : TypeId) (w : ℕ) (b : Bool) (n header : ℕ) → 4 ≤ header → 1 ≤ w → n ≤ 127

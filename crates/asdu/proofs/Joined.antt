@@ -1,5 +1,6 @@
 -- Pieces joined are the source.
-use Rattle.std.proofs.Common.{◌≡◌, ℕ, ◌≤◌, Bool, true, false, List, [], ◌∷◌, ◌++◌, length, map, refl, sym, ap, ◌∙◌, arith}
+use Rattle.std.proofs.Common.{◌≡◌, ℕ, ◌≤◌, Bool, true, false, List, [], ◌∷◌, ◌++◌, length, map}
+use Rattle.std.proofs.Common.{refl, sym, ap, ◌∙◌, arith}
 use Rattle.std.specs.List.{flat_map, AllByRecursion}
 use Rattle.asdu.specs.Sizes.{tcp, cause_len, ca_len, ioa_len, header_len}
 use Rattle.asdu.specs.declared.sizes.CauseSize.{CauseSize}
@@ -10,7 +11,8 @@ use Rattle.asdu.specs.declared.sizes.IoaSize.{IoaSize}
 use Rattle.asdu.specs.declared.sizes.IoaSize.TheVariants as ioas
 use Rattle.asdu.specs.declared.sizes.Sizes.{Sizes}
 use Rattle.asdu.specs.Asdu.{AsduValue, spelled}
-use Rattle.asdu.specs.InformationObjects.{InformationObject, objects_of, value_objects, monitor_objects_of, only_if, is_passed_on}
+use Rattle.asdu.specs.InformationObjects.{InformationObject, objects_of, value_objects}
+use Rattle.asdu.specs.InformationObjects.{monitor_objects_of, only_if, is_passed_on}
 use Rattle.asdu.proofs.Related.{objects_of-IsAsdu, monitor_objects_of-IsAsdu, length-value_objects}
 use Rattle.asdu.specs.Writing.{with_infos}
 use Rattle.asdu.proofs.Spelling.{body_len-low}
@@ -37,13 +39,15 @@ only-nil : (b : Bool) → [] ≡ only_if b []
 only-nil true = refl
 only-nil false = refl
 
-only-append : (b : Bool) (os qs : List InformationObject) → only_if b os ++ only_if b qs ≡ only_if b (os ++ qs)
+only-append : (b : Bool) (os qs : List InformationObject) → only_if b os ++ only_if b qs
+    ≡ only_if b (os ++ qs)
 only-append true os qs = refl
 only-append false os qs = refl
 
 -- pieces pass on what the source passes on
 pub monitored-pieces : {X : Type 0} (octets : X → List ℕ) (v : AsduValue) (ps : List X)
-    → AllByRecursion (λ p. IsPiece v (octets p)) ps → flat_map (λ p. monitor_objects_of tcp (octets p)) ps
+    → AllByRecursion (λ p. IsPiece v (octets p)) ps
+    → flat_map (λ p. monitor_objects_of tcp (octets p)) ps
     ≡ only_if (is_passed_on v.kind v.cause) (flat_map (λ p. objects_of tcp (octets p)) ps)
 monitored-pieces octets v [] h = only-nil (is_passed_on v.kind v.cause)
 monitored-pieces octets v (p ∷ ps) h =
@@ -51,7 +55,8 @@ monitored-pieces octets v (p ∷ ps) h =
     let same = objects_of-IsAsdu tcp (with_infos v h.0.infos) (octets p) h.0.spells in
     let rest = monitored-pieces octets v ps h.1 in
     let b = is_passed_on v.kind v.cause in
-    ap (λ os. os ++ flat_map (λ q. monitor_objects_of tcp (octets q)) ps) (here ∙ ap (only_if b) (sym same))
+    ap (λ os. os ++ flat_map (λ q. monitor_objects_of tcp (octets q)) ps) (here
+    ∙ ap (only_if b) (sym same))
     ∙ ap (λ os. only_if b (objects_of tcp (octets p)) ++ os) rest
     ∙ only-append b (objects_of tcp (octets p)) (flat_map (λ q. objects_of tcp (octets q)) ps)
 
@@ -84,11 +89,13 @@ lengths octets v (p ∷ ps) h =
 -- ---- Of a list's octets
 
 module _ {X Y : Type 0} (f : X → Y) where
-  pub All-of_map : (P : Y → Type 0) (xs : List X) → AllByRecursion P (map f xs) → AllByRecursion (λ x. P (f x)) xs
+  pub All-of_map : (P : Y → Type 0) (xs : List X) → AllByRecursion P (map f xs)
+      → AllByRecursion (λ x. P (f x)) xs
   All-of_map P [] h = tt
   All-of_map P (x ∷ xs) h = (h.0, All-of_map P xs h.1)
 
-  pub AllButLast-of_map : (P : Y → Type 0) (xs : List X) → AllButLast P (map f xs) → AllButLast (λ x. P (f x)) xs
+  pub AllButLast-of_map : (P : Y → Type 0) (xs : List X) → AllButLast P (map f xs)
+      → AllButLast (λ x. P (f x)) xs
   AllButLast-of_map P [] h = tt
   AllButLast-of_map P (x ∷ []) h = tt
   AllButLast-of_map P (x ∷ y ∷ xs) h = (h.0, AllButLast-of_map P (y ∷ xs) h.1)

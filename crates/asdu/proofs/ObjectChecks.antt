@@ -50,12 +50,14 @@ tagged_point octets tag = record {
   tag = Some tag;
 }
 
-two_points : objects_of small (1 ∷ 2 ∷ 3 ∷ 1 ∷ 100 ∷ 1 ∷ 50 ∷ 240 ∷ []) ≡ point 3 100 (1 ∷ []) ∷ point 3 50 (240 ∷ [])
+two_points : objects_of small (1 ∷ 2 ∷ 3 ∷ 1 ∷ 100 ∷ 1 ∷ 50 ∷ 240 ∷ []) ≡ point 3 100 (1 ∷ [])
+    ∷ point 3 50 (240 ∷ [])
     ∷ []
 unfolding objects_of type_of
 two_points = refl
 
-two_in_sequence : objects_of tcp (9 ∷ 130 ∷ 3 ∷ 7 ∷ 1 ∷ 2 ∷ 10 ∷ 0 ∷ 0 ∷ 0 ∷ 128 ∷ 0 ∷ 255 ∷ 255 ∷ 128 ∷ [])
+two_in_sequence : objects_of tcp (9 ∷ 130 ∷ 3 ∷ 7 ∷ 1 ∷ 2 ∷ 10 ∷ 0 ∷ 0 ∷ 0 ∷ 128 ∷ 0 ∷ 255 ∷ 255
+    ∷ 128 ∷ [])
     ≡ measured 10 (0 ∷ 128 ∷ 0 ∷ []) ∷ measured 11 (255 ∷ 255 ∷ 128 ∷ []) ∷ []
 unfolding objects_of type_of
 two_in_sequence = refl

@@ -1,5 +1,6 @@
 -- What octets are read as, against the ASDU that they are.
-use Rattle.std.proofs.Common.{◌≡◌, ℕ, ◌≤◌, Bool, true, false, List, [], length, Option, Some, None, refl, sym, ap, ◌∙◌, arith}
+use Rattle.std.proofs.Common.{◌≡◌, ℕ, ◌≤◌, Bool, true, false, List, [], length, Option, Some, None}
+use Rattle.std.proofs.Common.{refl, sym, ap, ◌∙◌, arith}
 use Rattle.std.specs.Prelude.{slice_index, is_none}
 use Rattle.std.specs.Int.{div_ceil}
 use Rattle.std.proofs.lemmas.List.{length-map}
@@ -12,17 +13,20 @@ use Rattle.asdu.specs.declared.unit.Asdu.{Asdu}
 use Rattle.asdu.specs.Asdu.{AsduValue, IsAsdu, IsNoAsdu, spelled}
 use Rattle.asdu.specs.Fields.{number_at, is_sequence, value_at}
 use Rattle.asdu.specs.Refusals.{refusal, is_read}
-use Rattle.asdu.specs.InformationObjects.{object_in, value_objects, objects_of, monitor_objects_of, is_passed_on, only_if}
+use Rattle.asdu.specs.InformationObjects.{object_in, value_objects, objects_of, monitor_objects_of}
+use Rattle.asdu.specs.InformationObjects.{is_passed_on, only_if}
 use Rattle.asdu.specs.Reading.{value_of}
 use Rattle.asdu.specs.Translation.{parts, piece_size}
 use Rattle.asdu.proofs.Accepted.{IsAsdu-value_of}
-use Rattle.asdu.proofs.Spelling.{accepted, refusal-none, IsWhole-spelled, value_at-spelled, IsRead-spelled, IsAsdu-value_at}
+use Rattle.asdu.proofs.Spelling.{accepted, refusal-none, IsWhole-spelled, value_at-spelled}
+use Rattle.asdu.proofs.Spelling.{IsRead-spelled, IsAsdu-value_at}
 
 -- ---- Octets that are an ASDU
 
 pub refusal-IsAsdu : (s : Sizes) (u : AsduValue) (xs : List ℕ) → IsAsdu s u xs → refusal s xs ≡ None
 refusal-IsAsdu s u xs h =
-    ap (refusal s) h.octets ∙ refusal-none s u.kind (spelled s u) (type_of-code u.kind) (IsWhole-spelled s u h.value)
+    ap (refusal s) h.octets ∙ refusal-none s u.kind (spelled s u) (type_of-code u.kind)
+    (IsWhole-spelled s u h.value)
 
 pub is_read-IsAsdu : (s : Sizes) (u : AsduValue) (xs : List ℕ) → IsAsdu s u xs → is_read s xs ≡ true
 is_read-IsAsdu s u xs h = ap (λ r. is_none r) (refusal-IsAsdu s u xs h)
@@ -31,16 +35,20 @@ pub type_of-IsAsdu : (s : Sizes) (u : AsduValue) (xs : List ℕ) → IsAsdu s u 
     → type_of (slice_index xs 0) ≡ Some u.kind
 type_of-IsAsdu s u xs h = ap (λ ys. type_of (slice_index ys 0)) h.octets ∙ type_of-code u.kind
 
-pub value_at-IsAsdu : (s : Sizes) (u : AsduValue) (xs : List ℕ) → IsAsdu s u xs → value_at s u.kind xs ≡ u
+pub value_at-IsAsdu : (s : Sizes) (u : AsduValue) (xs : List ℕ) → IsAsdu s u xs
+    → value_at s u.kind xs ≡ u
 value_at-IsAsdu s u xs h = ap (value_at s u.kind) h.octets ∙ value_at-spelled s u h.value
 
-pub number_at-IsAsdu : (s : Sizes) (u : AsduValue) (xs : List ℕ) → IsAsdu s u xs → number_at xs ≡ length u.infos
+pub number_at-IsAsdu : (s : Sizes) (u : AsduValue) (xs : List ℕ) → IsAsdu s u xs → number_at xs
+    ≡ length u.infos
 number_at-IsAsdu s u xs h = ap number_at h.octets ∙ (IsRead-spelled s u h.value).number
 
-pub is_sequence-IsAsdu : (s : Sizes) (u : AsduValue) (xs : List ℕ) → IsAsdu s u xs → is_sequence xs ≡ u.sequence
+pub is_sequence-IsAsdu : (s : Sizes) (u : AsduValue) (xs : List ℕ) → IsAsdu s u xs → is_sequence xs
+    ≡ u.sequence
 is_sequence-IsAsdu s u xs h = ap is_sequence h.octets ∙ (IsRead-spelled s u h.value).sequence
 
-pub objects_of-IsAsdu : (s : Sizes) (u : AsduValue) (xs : List ℕ) → IsAsdu s u xs → objects_of s xs ≡ value_objects u
+pub objects_of-IsAsdu : (s : Sizes) (u : AsduValue) (xs : List ℕ) → IsAsdu s u xs → objects_of s xs
+    ≡ value_objects u
 unfolding objects_of
 objects_of-IsAsdu s u xs h =
     let none = refusal-IsAsdu s u xs h in
@@ -77,7 +85,8 @@ one_asdu s u v xs h k =
 
 -- ---- Octets that are none
 
-refused : (s : Sizes) (xs : List ℕ) (o : Option ℕ) → AreOctets xs → IsNoAsdu s xs → refusal s xs ≡ o → is_none o ≡ false
+refused : (s : Sizes) (xs : List ℕ) (o : Option ℕ) → AreOctets xs → IsNoAsdu s xs → refusal s xs ≡ o
+    → is_none o ≡ false
 refused s xs None all none_is h =
     let a = accepted s xs h in
     absurd (none_is (value_at s a.0 xs) (IsAsdu-value_at s a.0 xs a.1 a.2 all))
@@ -94,7 +103,8 @@ only-none : (b : Bool) → only_if b [] ≡ []
 only-none true = refl
 only-none false = refl
 
-pub no_monitor_objects : (s : Sizes) (xs : List ℕ) → is_read s xs ≡ false → monitor_objects_of s xs ≡ []
+pub no_monitor_objects : (s : Sizes) (xs : List ℕ) → is_read s xs ≡ false → monitor_objects_of s xs
+    ≡ []
 unfolding monitor_objects_of
 no_monitor_objects s xs h = rw (no_objects s xs h) (only-none _)
 
@@ -108,7 +118,8 @@ pub length-value_objects : (u : AsduValue) → length (value_objects u) ≡ leng
 length-value_objects u = length-map u.infos (object_in u)
 
 pub objects_of-value_of : (a : Asdu) → objects_of a.sizes a.octets.now ≡ value_objects (value_of a)
-objects_of-value_of a = objects_of-IsAsdu a.sizes (value_of a) a.octets.now (IsAsdu-value_of a a.are_octets)
+objects_of-value_of a = objects_of-IsAsdu a.sizes (value_of a) a.octets.now
+    (IsAsdu-value_of a a.are_octets)
 
 -- what is passed on has objects
 pub passed : (a : Asdu) (b : Bool) → b ≡ is_passed_on a.kind (value_of a).cause → b ≡ true
@@ -119,12 +130,14 @@ passed a b e h =
     let count = length-value_objects (value_of a) in
     let some = read.value.some in
     let goes : is_passed_on a.kind (value_of a).cause ≡ true = sym e ∙ h in
-    let all : monitor_objects_of a.sizes a.octets.now ≡ value_objects (value_of a) = objects ∙ rw goes refl in
+    let all : monitor_objects_of a.sizes a.octets.now ≡ value_objects (value_of a) = objects
+    ∙ rw goes refl in
     rw all (omega arith)
 
 pub kept : (a : Asdu) (b : Bool) → b ≡ is_passed_on a.kind (value_of a).cause → b ≡ false
     → monitor_objects_of a.sizes a.octets.now ≡ []
 kept a b e h =
-    let objects = monitor_objects_of-IsAsdu a.sizes (value_of a) a.octets.now (IsAsdu-value_of a a.are_octets) in
+    let objects = monitor_objects_of-IsAsdu a.sizes (value_of a) a.octets.now
+    (IsAsdu-value_of a a.are_octets) in
     let goes : is_passed_on a.kind (value_of a).cause ≡ false = sym e ∙ h in
     objects ∙ rw goes refl

@@ -1,5 +1,7 @@
 -- The pieces of a report carry it.
-use Rattle.std.proofs.Common.{◌≡◌, ℕ, zero, suc, ◌*◌, ◌≤◌, Bool, true, false, List, [], ◌∷◌, ◌++◌, length, take, drop, map, refl, sym, ap, subst, ◌∙◌, arith, length-take, length-drop}
+use Rattle.std.proofs.Common.{◌≡◌, ℕ, zero, suc, ◌*◌, ◌≤◌, Bool, true, false, List, [], ◌∷◌, ◌++◌}
+use Rattle.std.proofs.Common.{length, take, drop, map, refl, sym, ap, subst, ◌∙◌, arith}
+use Rattle.std.proofs.Common.{length-take, length-drop}
 use Rattle.std.specs.List.{flat_map, AllByRecursion}
 use Rattle.std.specs.Int.{div_ceil}
 use Rattle.std.specs.Prelude.{◌==◌, min}
@@ -8,16 +10,24 @@ use Rattle.std.proofs.lemmas.Bool.Decides.{nat_tests}
 use Rattle.std.proofs.Math.Nat.{min-zero, zero-min}
 use Rattle.asdu.specs.Sizes.{tcp, ioa_len, header_len}
 use Rattle.asdu.specs.declared.sizes.Sizes.{Sizes}
-use Rattle.asdu.specs.Asdu.{Info, AsduValue, FitsSizes, IsAsdu, IsInfo, AreInOrder, AreSuccessive, spelled}
+use Rattle.asdu.specs.Asdu.{Info, AsduValue, FitsSizes, IsAsdu, IsInfo, AreInOrder, AreSuccessive}
+use Rattle.asdu.specs.Asdu.{spelled}
 use Rattle.asdu.specs.Fields.{number_at}
-use Rattle.asdu.specs.InformationObjects.{object_in, objects_of, monitor_objects_of, value_objects, only_if, is_passed_on}
-use Rattle.asdu.specs.Translation.{piece_size, chunks, in_chunks, piece_with, report_pieces, parts, IsPiece, IsLargest, AllButLast}
+use Rattle.asdu.specs.InformationObjects.{object_in, objects_of, monitor_objects_of, value_objects}
+use Rattle.asdu.specs.InformationObjects.{only_if, is_passed_on}
+use Rattle.asdu.specs.Translation.{piece_size, chunks, in_chunks, piece_with, report_pieces, parts}
+use Rattle.asdu.specs.Translation.{IsPiece, IsLargest, AllButLast}
 use Rattle.asdu.specs.Writing.{with_infos}
-use Rattle.asdu.proofs.Chunks.{AreEnough, enough, enough-some, enough-drop, in_chunks-step, in_chunks-none, length-chunks, chunks-joined, div_ceil-three, All-take, All-drop}
+use Rattle.asdu.proofs.Chunks.{AreEnough, enough, enough-some, enough-drop, in_chunks-step}
+use Rattle.asdu.proofs.Chunks.{in_chunks-none, length-chunks, chunks-joined, div_ceil-three}
+use Rattle.asdu.proofs.Chunks.{All-take, All-drop}
 use Rattle.asdu.proofs.Counts.{three_pieces, piece_size-some}
-use Rattle.asdu.proofs.Joined.{header_len-low, ioa_len-low, monitored-pieces, some_monitored, lengths}
-use Rattle.asdu.proofs.Pieces.{AreInfos-wider, FitsSizes-with_infos, body_len-piece, ca-two, length-spelled, piece_size-few}
-use Rattle.asdu.proofs.Related.{monitor_objects_of-IsAsdu, number_at-IsAsdu, objects_of-IsAsdu, parts-IsAsdu}
+use Rattle.asdu.proofs.Joined.{header_len-low, ioa_len-low, monitored-pieces, some_monitored}
+use Rattle.asdu.proofs.Joined.{lengths}
+use Rattle.asdu.proofs.Pieces.{AreInfos-wider, FitsSizes-with_infos, body_len-piece, ca-two}
+use Rattle.asdu.proofs.Pieces.{length-spelled, piece_size-few}
+use Rattle.asdu.proofs.Related.{monitor_objects_of-IsAsdu, number_at-IsAsdu, objects_of-IsAsdu}
+use Rattle.asdu.proofs.Related.{parts-IsAsdu}
 
 -- ---- Addresses of a part
 
@@ -63,7 +73,8 @@ left-drop v m is h = record {
 abbrev size_of : AsduValue → ℕ
 size_of v = piece_size v.kind v.sequence
 
-piece_spells : (s : Sizes) (v : AsduValue) (is : List Info) → FitsSizes s v → AreLeft v is → 1 ≤ length is
+piece_spells : (s : Sizes) (v : AsduValue) (is : List Info) → FitsSizes s v → AreLeft v is
+    → 1 ≤ length is
     → IsAsdu tcp (with_infos v (take (size_of v) is)) (piece_with v (take (size_of v) is))
 piece_spells s v is h left more =
     let m = size_of v in
@@ -76,7 +87,8 @@ piece_spells s v is h left more =
       octets = refl;
     }
 
-one_piece : (s : Sizes) (v : AsduValue) (is : List Info) → FitsSizes s v → AreLeft v is → 1 ≤ length is
+one_piece : (s : Sizes) (v : AsduValue) (is : List Info) → FitsSizes s v → AreLeft v is
+    → 1 ≤ length is
     → IsPiece v (piece_with v (take (size_of v) is))
 one_piece s v is h left more =
     let m = size_of v in
@@ -137,7 +149,8 @@ all_full s v (suc (suc k)) is h left enough_here =
 left_of : (s : Sizes) (v : AsduValue) → FitsSizes s v → AreLeft v v.infos
 left_of s v h = record { infos = AreInfos-wider v.kind s.ioa v.infos h.infos; order = h.order }
 
-enough_of : (v : AsduValue) → AreEnough (size_of v) (div_ceil (length v.infos) (size_of v)) (length v.infos)
+enough_of : (v : AsduValue) → AreEnough (size_of v) (div_ceil (length v.infos) (size_of v))
+    (length v.infos)
 enough_of v = enough (size_of v) (length v.infos) (piece_size-some v.kind v.sequence)
 
 pub pieces_are : (s : Sizes) (v : AsduValue) (xs : List ℕ) → IsAsdu s v xs
@@ -171,7 +184,8 @@ pieces_monitored s v xs h =
 pub pieces_some_monitored : (s : Sizes) (v : AsduValue) (xs : List ℕ) → IsAsdu s v xs
     → is_passed_on v.kind v.cause ≡ true
     → AllByRecursion (λ p. 1 ≤ length (monitor_objects_of tcp p)) (report_pieces v)
-pieces_some_monitored s v xs h passed = some_monitored (λ p. p) v (report_pieces v) passed (pieces_are s v xs h)
+pieces_some_monitored s v xs h passed = some_monitored (λ p. p) v (report_pieces v) passed
+    (pieces_are s v xs h)
 
 pub pieces_lengths : (s : Sizes) (v : AsduValue) (xs : List ℕ) → IsAsdu s v xs
     → AllByRecursion (λ p. (9 ≤ length p) × (length p ≤ 249)) (report_pieces v)
@@ -179,9 +193,11 @@ pieces_lengths s v xs h = lengths (λ p. p) v (report_pieces v) (pieces_are s v 
 
 count : (v : AsduValue) → length (report_pieces v) ≡ div_ceil (length v.infos) (size_of v)
 unfolding report_pieces
-count v = length-map (in_chunks (size_of v) v.infos) (piece_with v) ∙ length-chunks (size_of v) _ v.infos
+count v = length-map (in_chunks (size_of v) v.infos) (piece_with v)
+    ∙ length-chunks (size_of v) _ v.infos
 
-pub pieces_number : (s : Sizes) (v : AsduValue) (xs : List ℕ) → IsAsdu s v xs → length (report_pieces v) ≡ parts s xs
+pub pieces_number : (s : Sizes) (v : AsduValue) (xs : List ℕ) → IsAsdu s v xs
+    → length (report_pieces v) ≡ parts s xs
 pieces_number s v xs h = count v ∙ sym (parts-IsAsdu s v xs h)
 
 pub pieces_few : (s : Sizes) (v : AsduValue) (xs : List ℕ) → IsAsdu s v xs → length xs ≤ 253
@@ -191,7 +207,8 @@ pieces_few s v xs h short =
     let long = length-spelled s v h.value.some h.value.infos in
     let same : length xs ≡ length (spelled s v) = ap (λ ys. length ys) h.octets in
     let enough : n ≤ 3 * size_of v =
-    three_pieces v.kind (ioa_len s.ioa) v.sequence n (header_len s) (header_len-low s) (ioa_len-low s.ioa) h.value.most
+    three_pieces v.kind (ioa_len s.ioa) v.sequence n (header_len s) (header_len-low s)
+    (ioa_len-low s.ioa) h.value.most
     (omega arith) in
     let few = div_ceil-three n (size_of v) (piece_size-some v.kind v.sequence) enough in
     let all = count v in
@@ -203,29 +220,34 @@ pieces_few s v xs h short =
 pub pieces-none : (v : AsduValue) → length v.infos ≡ 0 → report_pieces v ≡ []
 unfolding report_pieces
 pieces-none v none =
-    ap (map (piece_with v)) (in_chunks-none (size_of v) v.infos (piece_size-some v.kind v.sequence) none)
+    ap (map (piece_with v)) (in_chunks-none (size_of v) v.infos (piece_size-some v.kind v.sequence)
+    none)
 
 -- the next piece, and those of what is left then
 pub pieces-step : (v : AsduValue) (is : List Info) → 1 ≤ length is
     → report_pieces (with_infos v is)
     ≡ piece_with v (take (size_of v) is) ∷ report_pieces (with_infos v (drop (size_of v) is))
 unfolding report_pieces
-pieces-step v is more = ap (map (piece_with v)) (in_chunks-step (size_of v) is (piece_size-some v.kind v.sequence) more)
+pieces-step v is more =
+    ap (map (piece_with v)) (in_chunks-step (size_of v) is (piece_size-some v.kind v.sequence) more)
 
 -- whether something is left
 not_none : (n : ℕ) → 1 ≤ n → (n == 0) ≡ false
 not_none n h = grind (arith, nat_tests)
 
-pub is_over : (v : AsduValue) (is : List Info) (n : ℕ) (ps : List (List ℕ)) → report_pieces (with_infos v is) ≡ ps
+pub is_over : (v : AsduValue) (is : List Info) (n : ℕ) (ps : List (List ℕ))
+    → report_pieces (with_infos v is) ≡ ps
     → length is ≡ n → (n == 0) ≡ (length ps == 0)
 is_over v [] n ps e long =
     let none = ap (λ (qs : List (List ℕ)). length qs == 0) (pieces-none (with_infos v []) refl) in
     ap (λ k. k == 0) (sym long) ∙ sym none ∙ ap (λ (qs : List (List ℕ)). length qs == 0) e
 is_over v (i ∷ is) n ps e long =
-    let more = ap (λ (qs : List (List ℕ)). length qs) (sym e ∙ pieces-step v (i ∷ is) (omega arith)) in
+    let more = ap (λ (qs : List (List ℕ)). length qs) (sym e
+    ∙ pieces-step v (i ∷ is) (omega arith)) in
     not_none n (omega arith) ∙ sym (not_none (length ps) (omega arith))
 
-pub some_left : (v : AsduValue) (is : List Info) (ps : List (List ℕ)) → report_pieces (with_infos v is) ≡ ps
+pub some_left : (v : AsduValue) (is : List Info) (ps : List (List ℕ))
+    → report_pieces (with_infos v is) ≡ ps
     → 1 ≤ length ps → 1 ≤ length is
 some_left v [] ps e some =
     let none : ps ≡ [] = sym e ∙ pieces-none (with_infos v []) refl in
@@ -241,14 +263,19 @@ drop_min (suc m) (i ∷ is) =
     ap (λ k. drop k (i ∷ is)) less ∙ drop_min m is
 
 -- the next piece in the words of the code
-pub next_piece : (v : AsduValue) (m k n : ℕ) (is js ks : List Info) (ps : List (List ℕ)) (out : List ℕ)
-    → report_pieces (with_infos v is) ≡ ps → m ≡ size_of v → length is ≡ n → 1 ≤ length is → k ≡ min m n
-    → js ≡ take k is → ks ≡ drop k is → out ≡ piece_with v js → ps ≡ out ∷ report_pieces (with_infos v ks)
+pub next_piece : (v : AsduValue) (m k n : ℕ) (is js ks : List Info) (ps : List (List ℕ))
+    (out : List ℕ)
+    → report_pieces (with_infos v is) ≡ ps → m ≡ size_of v → length is ≡ n → 1 ≤ length is
+    → k ≡ min m n
+    → js ≡ take k is → ks ≡ drop k is → out ≡ piece_with v js
+    → ps ≡ out ∷ report_pieces (with_infos v ks)
 next_piece v m k n is js ks ps out e size long more small front rest text =
-    let number : k ≡ min (size_of v) (length is) = small ∙ ap (λ j. min j n) size ∙ ap (min (size_of v)) (sym long) in
+    let number : k ≡ min (size_of v) (length is) = small ∙ ap (λ j. min j n) size
+    ∙ ap (min (size_of v)) (sym long) in
     let first : js ≡ take (size_of v) is =
     front ∙ ap (λ j. take j is) number ∙ take_min (size_of v) is in
-    let others : ks ≡ drop (size_of v) is = rest ∙ ap (λ j. drop j is) number ∙ drop_min (size_of v) is in
+    let others : ks ≡ drop (size_of v) is = rest ∙ ap (λ j. drop j is) number
+    ∙ drop_min (size_of v) is in
     sym e ∙ pieces-step v is more
     ∙ ap (λ zs. piece_with v zs ∷ report_pieces (with_infos v (drop (size_of v) is))) (sym first)
     ∙ ap (λ xs. xs ∷ report_pieces (with_infos v (drop (size_of v) is))) (sym text)

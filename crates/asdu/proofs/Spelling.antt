@@ -1,5 +1,8 @@
 -- Octets are accepted exactly where they spell an ASDU, which is then the one that is read of them.
-use Rattle.std.proofs.Common.{◌≡◌, ℕ, zero, suc, ◌+◌, ◌*◌, ◌%◌, ◌^◌, ◌<◌, ◌≤◌, Bool, true, false, not, cond, ◌&&◌, ltb, leb, eqb, List, [], ◌∷◌, ◌++◌, length, take, drop, Option, Some, None, refl, sym, ap, ◌∙◌, arith, append_assoc, length-append, length-drop}
+use Rattle.std.proofs.Common.{◌≡◌, ℕ, zero, suc, ◌+◌, ◌*◌, ◌%◌, ◌^◌, ◌<◌, ◌≤◌, Bool, true, false}
+use Rattle.std.proofs.Common.{not, cond, ◌&&◌, ltb, leb, eqb, List, [], ◌∷◌, ◌++◌, length, take}
+use Rattle.std.proofs.Common.{drop, Option, Some, None, refl, sym, ap, ◌∙◌, arith, append_assoc}
+use Rattle.std.proofs.Common.{length-append, length-drop}
 use Rattle.std.specs.Prelude.{slice_index}
 use Rattle.std.specs.List.{flat_map, AllByRecursion}
 use Rattle.std.proofs.lemmas.List.{drop_at, take-append-drop, append-nil}
@@ -7,7 +10,8 @@ use Rattle.std.proofs.lemmas.Bool.{ltb-false, le-ltb, eqb-true, eq-eqb, le-leb}
 use Rattle.std.proofs.lemmas.Bool.Decides.{nat_tests}
 use Rattle.std.proofs.Math.Seq.{take-add}
 use Rattle.byteorder.specs.Endian.{little_bytes, little_number}
-use Rattle.byteorder.specs.Numbers.{little_number-reads_back, length-bytes_low_first, little_from-lt}
+use Rattle.byteorder.specs.Numbers.{little_number-reads_back, length-bytes_low_first}
+use Rattle.byteorder.specs.Numbers.{little_from-lt}
 use Rattle.elements.specs.declared.types.TypeId.{TypeId}
 use Rattle.elements.specs.Types.{row, type_of}
 use Rattle.elements.proofs.TypeCodes.{code-type_of}
@@ -17,10 +21,17 @@ use Rattle.asdu.specs.Sizes.{cause_len, ca_len, ioa_len, header_len}
 use Rattle.asdu.specs.declared.sizes.CauseSize.{CauseSize}
 use Rattle.asdu.specs.declared.sizes.CauseSize.TheVariants as causes
 use Rattle.asdu.specs.declared.sizes.Sizes.{Sizes}
-use Rattle.asdu.specs.Asdu.{Info, AsduValue, FitsSizes, IsAsdu, IsInfo, AreSuccessive, AreInOrder, IsOriginator, content_len, content, located, body, vsq, header, spelled, originator_octets}
+use Rattle.asdu.specs.Asdu.{Info, AsduValue, FitsSizes, IsAsdu, IsInfo, AreSuccessive, AreInOrder}
+use Rattle.asdu.specs.Asdu.{IsOriginator, content_len, content, located, body, vsq, header, spelled}
+use Rattle.asdu.specs.Asdu.{originator_octets}
 use Rattle.asdu.specs.Refusals.{body_len, refusal, typed_refusal, body_refusal}
-use Rattle.asdu.specs.Fields.{originator_at, ca_at, first_address, number_at, is_sequence, each_located, successive, infos_at, value_at}
-use Rattle.asdu.proofs.ObjectLists.{AreOctets-drop, length-content, each_located-again, successive-again, length-each_located, length-successive, flat_map-each_located, flat_map-successive, AreInfos-each_located, AreInfos-successive, AreSuccessive-successive}
+use Rattle.asdu.specs.Fields.{originator_at, ca_at, first_address, number_at, is_sequence}
+use Rattle.asdu.specs.Fields.{each_located, successive, infos_at, value_at}
+use Rattle.asdu.proofs.ObjectLists.{AreOctets-drop, length-content, each_located-again}
+use Rattle.asdu.proofs.ObjectLists.{successive-again, length-each_located, length-successive}
+use Rattle.asdu.proofs.ObjectLists.{flat_map-each_located, flat_map-successive}
+use Rattle.asdu.proofs.ObjectLists.{AreInfos-each_located, AreInfos-successive}
+use Rattle.asdu.proofs.ObjectLists.{AreSuccessive-successive}
 
 -- ---- The objects
 
@@ -44,7 +55,8 @@ length-contents t w (i ∷ is) h =
     let all = length-append (content i) (flat_map content is) in
     omega arith
 
-pub length-body : (t : TypeId) (w : ℕ) (b : Bool) (is : List Info) → 1 ≤ length is → AllByRecursion (IsInfo t w) is
+pub length-body : (t : TypeId) (w : ℕ) (b : Bool) (is : List Info) → 1 ≤ length is
+    → AllByRecursion (IsInfo t w) is
     → length (body w b is) ≡ body_len t w b (length is)
 length-body t w false is some h = length-each t w is h
 length-body t w true [] some h = absurd (omega arith)
@@ -54,10 +66,12 @@ length-body t w true (i ∷ is) some h =
     let contents = length-contents t w (i ∷ is) h in
     omega arith
 
-pub body_again : (t : TypeId) (w : ℕ) (b : Bool) (is : List Info) → AllByRecursion (IsInfo t w) is → AreInOrder b is
+pub body_again : (t : TypeId) (w : ℕ) (b : Bool) (is : List Info) → AllByRecursion (IsInfo t w) is
+    → AreInOrder b is
     → infos_at t w b (length is) (body w b is) ≡ is
 body_again t w false is h order =
-    ap (each_located t w (length is)) (sym (append-nil (flat_map (located w) is))) ∙ each_located-again t w is [] h
+    ap (each_located t w (length is)) (sym (append-nil (flat_map (located w) is)))
+    ∙ each_located-again t w is [] h
 body_again t w true [] h order = refl
 body_again t w true (i ∷ is) h order =
     let address = little_bytes w i.address in
@@ -70,14 +84,17 @@ body_again t w true (i ∷ is) h order =
     ∙ ap (successive t i.address (suc (length is))) (after ∙ sym (append-nil contents))
     ∙ successive-again t w i.address (i ∷ is) [] order h
 
-pub body-infos_at : (t : TypeId) (w : ℕ) (b : Bool) (n : ℕ) (xs : List ℕ) → 1 ≤ n → length xs ≡ body_len t w b n
+pub body-infos_at : (t : TypeId) (w : ℕ) (b : Bool) (n : ℕ) (xs : List ℕ) → 1 ≤ n
+    → length xs ≡ body_len t w b n
     → AreOctets xs → body w b (infos_at t w b n xs) ≡ xs
 body-infos_at t w false n xs some long all = flat_map-each_located t w n xs long all
 body-infos_at t w true zero xs some long all = absurd (omega arith)
 body-infos_at t w true (suc n) xs some long all =
     let address = little_bytes-little_number w xs (omega arith) all in
-    let contents = flat_map-successive t (little_number w xs) (suc n) (drop w xs) (omega (arith, length-drop w xs)) in
-    ap (λ ys. ys ++ flat_map content (successive t (little_number w xs) (suc n) (drop w xs))) address
+    let contents = flat_map-successive t (little_number w xs) (suc n) (drop w xs)
+    (omega (arith, length-drop w xs)) in
+    ap (λ ys. ys ++ flat_map content (successive t (little_number w xs) (suc n) (drop w xs)))
+    address
     ∙ ap (λ ys. take w xs ++ ys) contents
     ∙ take-append-drop w xs
 
@@ -120,7 +137,8 @@ originator_again : (c : CauseSize) (a b d o : ℕ) (rest : List ℕ) → IsOrigi
 originator_again causes.One a b d o rest h = sym h
 originator_again causes.Two a b d o rest h = refl
 
-IsOriginator-originator_at : (c : CauseSize) (xs : List ℕ) → AreOctets xs → IsOriginator c (originator_at c xs)
+IsOriginator-originator_at : (c : CauseSize) (xs : List ℕ) → AreOctets xs
+    → IsOriginator c (originator_at c xs)
 IsOriginator-originator_at causes.One xs all = refl
 IsOriginator-originator_at causes.Two xs all = all 3
 
@@ -156,7 +174,8 @@ body_len-low t w false zero h = absurd (omega arith)
 body_len-low t w false (suc n) h = omega arith
 body_len-low t w true n h = omega arith
 
-no_fault : (a b c : Bool) → cond {A = Option ℕ} a (Some 3) (cond b (Some 4) (cond c (Some 5) None)) ≡ None
+no_fault : (a b c : Bool) → cond {A = Option ℕ} a (Some 3) (cond b (Some 4) (cond c (Some 5) None))
+    ≡ None
     → (a ≡ false) × (b ≡ false) × (c ≡ false)
 no_fault true b c h = cc
 no_fault false true c h = cc
@@ -184,22 +203,29 @@ zero-eqb n h = grind (arith, nat_tests)
 IsWhole-none : (s : Sizes) (t : TypeId) (xs : List ℕ) → body_refusal s t xs ≡ None → IsWhole s t xs
 IsWhole-none s t xs h =
     let parts = no_fault (eqb (number_at xs) 0)
-    (not (eqb (length xs) (header_len s + body_len t (ioa_len s.ioa) (is_sequence xs) (number_at xs))))
+    (not
+    (eqb (length xs) (header_len s + body_len t (ioa_len s.ioa) (is_sequence xs) (number_at xs))))
     (is_sequence xs && ltb (256 ^ ioa_len s.ioa) (first_address s xs + number_at xs)) h in
     record {
       some = eqb-zero (number_at xs) parts.0;
-      whole = eqb-true (length xs) (header_len s + body_len t (ioa_len s.ioa) (is_sequence xs) (number_at xs))
+      whole =
+          eqb-true (length xs) (header_len s + body_len t (ioa_len s.ioa) (is_sequence xs)
+          (number_at xs))
           (not-false _ parts.1);
       last = λ e. ltb-false (256 ^ ioa_len s.ioa) (first_address s xs + number_at xs)
-          (and-false (is_sequence xs) (ltb (256 ^ ioa_len s.ioa) (first_address s xs + number_at xs)) parts.2 e);
+          (and-false (is_sequence xs)
+          (ltb (256 ^ ioa_len s.ioa) (first_address s xs + number_at xs)) parts.2 e);
     }
 
 none-IsWhole : (s : Sizes) (t : TypeId) (xs : List ℕ) → IsWhole s t xs → body_refusal s t xs ≡ None
 none-IsWhole s t xs h =
     let some = zero-eqb (number_at xs) h.some in
-    let whole = eq-eqb (length xs) (header_len s + body_len t (ioa_len s.ioa) (is_sequence xs) (number_at xs)) h.whole
+    let whole =
+    eq-eqb (length xs) (header_len s + body_len t (ioa_len s.ioa) (is_sequence xs) (number_at xs))
+    h.whole
     in
-    let last = and-not (is_sequence xs) (ltb (256 ^ ioa_len s.ioa) (first_address s xs + number_at xs))
+    let last =
+    and-not (is_sequence xs) (ltb (256 ^ ioa_len s.ioa) (first_address s xs + number_at xs))
     (λ e. le-ltb (256 ^ ioa_len s.ioa) (first_address s xs + number_at xs) (h.last e)) in
     rw (some, whole, last) refl
 
@@ -214,7 +240,8 @@ second_fault false r h = h
 accepted-by : (s : Sizes) (o : Option TypeId) (xs : List ℕ) → type_of (slice_index xs 0) ≡ o
     → cond (ltb (length xs) (header_len s + ioa_len s.ioa)) (Some 1) (typed_refusal s o xs) ≡ None
     → (t : TypeId) × (type_of (slice_index xs 0) ≡ Some t) × IsWhole s t xs
-accepted-by s None xs named h = absurd (two_faults (ltb (length xs) (header_len s + ioa_len s.ioa)) h)
+accepted-by s None xs named h =
+    absurd (two_faults (ltb (length xs) (header_len s + ioa_len s.ioa)) h)
 accepted-by s (Some t) xs named h = (
   t,
   named,
@@ -227,7 +254,8 @@ pub accepted : (s : Sizes) (xs : List ℕ) → refusal s xs ≡ None
     → (t : TypeId) × (type_of (slice_index xs 0) ≡ Some t) × IsWhole s t xs
 accepted s xs h = accepted-by s (type_of (slice_index xs 0)) xs refl h
 
-pub refusal-none : (s : Sizes) (t : TypeId) (xs : List ℕ) → type_of (slice_index xs 0) ≡ Some t → IsWhole s t xs
+pub refusal-none : (s : Sizes) (t : TypeId) (xs : List ℕ) → type_of (slice_index xs 0) ≡ Some t
+    → IsWhole s t xs
     → refusal s xs ≡ None
 refusal-none s t xs named h =
     let low = body_len-low t (ioa_len s.ioa) (is_sequence xs) (number_at xs) h.some in
@@ -236,40 +264,51 @@ refusal-none s t xs named h =
 
 -- ---- What was read is spelled
 
-pub length-infos_at : (t : TypeId) (w : ℕ) (b : Bool) (n : ℕ) (xs : List ℕ) → length (infos_at t w b n xs) ≡ n
+pub length-infos_at : (t : TypeId) (w : ℕ) (b : Bool) (n : ℕ) (xs : List ℕ)
+    → length (infos_at t w b n xs) ≡ n
 length-infos_at t w false n xs = length-each_located t w n xs
 length-infos_at t w true n xs = length-successive t (little_number w xs) n (drop w xs)
 
-AreInfos-infos_at : (t : TypeId) (w : ℕ) (b : Bool) (n : ℕ) (xs : List ℕ) → length xs ≡ body_len t w b n
-    → (b ≡ true → little_number w xs + n ≤ 256 ^ w) → AreOctets xs → AllByRecursion (IsInfo t w) (infos_at t w b n xs)
+AreInfos-infos_at : (t : TypeId) (w : ℕ) (b : Bool) (n : ℕ) (xs : List ℕ) → length xs
+    ≡ body_len t w b n
+    → (b ≡ true → little_number w xs + n ≤ 256 ^ w) → AreOctets xs
+    → AllByRecursion (IsInfo t w) (infos_at t w b n xs)
 AreInfos-infos_at t w false n xs long fits all = AreInfos-each_located t w n xs (omega arith) all
 AreInfos-infos_at t w true n xs long fits all =
-    AreInfos-successive t w (little_number w xs) n (drop w xs) (fits refl) (omega (arith, length-drop w xs))
+    AreInfos-successive t w (little_number w xs) n (drop w xs) (fits refl)
+    (omega (arith, length-drop w xs))
     (AreOctets-drop w xs all)
 
-AreInOrder-infos_at : (t : TypeId) (w : ℕ) (b : Bool) (n : ℕ) (xs : List ℕ) → AreInOrder b (infos_at t w b n xs)
+AreInOrder-infos_at : (t : TypeId) (w : ℕ) (b : Bool) (n : ℕ) (xs : List ℕ)
+    → AreInOrder b (infos_at t w b n xs)
 AreInOrder-infos_at t w false n xs = tt
 AreInOrder-infos_at t w true zero xs = tt
-AreInOrder-infos_at t w true (suc n) xs = AreSuccessive-successive t (little_number w xs) (suc n) (drop w xs)
+AreInOrder-infos_at t w true (suc n) xs = AreSuccessive-successive t (little_number w xs) (suc n)
+    (drop w xs)
 
 same_header : {a b v w : ℕ} {ys zs : List ℕ} (d : ℕ) (os : List ℕ) → a ≡ b → v ≡ w → ys ≡ zs
     → a ∷ v ∷ d ∷ (os ++ ys) ≡ b ∷ w ∷ d ∷ (os ++ zs)
 same_header d os e1 e2 e3 = rw (e1, e2, e3) refl
 
-header-read : (s : Sizes) (t : TypeId) (xs : List ℕ) → type_of (slice_index xs 0) ≡ Some t → header_len s ≤ length xs
-    → AreOctets xs → header s t (is_sequence xs) (number_at xs) (slice_index xs 2) (originator_at s.cause xs)
+header-read : (s : Sizes) (t : TypeId) (xs : List ℕ) → type_of (slice_index xs 0) ≡ Some t
+    → header_len s ≤ length xs
+    → AreOctets xs → header s t (is_sequence xs) (number_at xs) (slice_index xs 2)
+    (originator_at s.cause xs)
     (ca_at s xs) ≡ take (header_len s) xs
 header-read s t xs named long all =
     let code = code-type_of (slice_index xs 0) t named in
     let count = vsq-again (slice_index xs 1) (all 1) in
     let address = little_bytes-little_number (ca_len s.ca) (drop (2 + cause_len s.cause) xs)
-    (omega (arith, length-drop (2 + cause_len s.cause) xs)) (AreOctets-drop (2 + cause_len s.cause) xs all) in
+    (omega (arith, length-drop (2 + cause_len s.cause) xs))
+    (AreOctets-drop (2 + cause_len s.cause) xs all) in
     let front = take-front s.cause xs (omega arith) in
-    same_header (slice_index xs 2) (originator_octets s.cause (originator_at s.cause xs)) code count address
+    same_header (slice_index xs 2) (originator_octets s.cause (originator_at s.cause xs)) code count
+    address
     ∙ ap (λ ys. ys ++ take (ca_len s.ca) (drop (2 + cause_len s.cause) xs)) (sym front)
     ∙ sym (take-add (2 + cause_len s.cause) (ca_len s.ca) xs)
 
-pub IsAsdu-value_at : (s : Sizes) (t : TypeId) (xs : List ℕ) → type_of (slice_index xs 0) ≡ Some t → IsWhole s t xs
+pub IsAsdu-value_at : (s : Sizes) (t : TypeId) (xs : List ℕ) → type_of (slice_index xs 0) ≡ Some t
+    → IsWhole s t xs
     → AreOctets xs → IsAsdu s (value_at s t xs) xs
 IsAsdu-value_at s t xs named h all =
     let w = ioa_len s.ioa in
@@ -277,7 +316,8 @@ IsAsdu-value_at s t xs named h all =
     let b = is_sequence xs in
     let rest = drop (header_len s) xs in
     let count = length-infos_at t w b n rest in
-    let long : length rest ≡ body_len t w b n = omega (arith, length-drop (header_len s) xs, h.whole) in
+    let long : length rest ≡ body_len t w b n =
+    omega (arith, length-drop (header_len s) xs, h.whole) in
     let octets = AreOctets-drop (header_len s) xs all in
     record {
       value = record {
@@ -293,7 +333,8 @@ IsAsdu-value_at s t xs named h all =
       octets =
           sym (take-append-drop (header_len s) xs)
           ∙ ap (λ ys. ys ++ rest) (sym (header-read s t xs named (omega (arith, h.whole)) all))
-          ∙ ap (λ ys. header s t b n (slice_index xs 2) (originator_at s.cause xs) (ca_at s xs) ++ ys)
+          ∙ ap (λ ys. header s t b n (slice_index xs 2) (originator_at s.cause xs) (ca_at s xs)
+          ++ ys)
           (sym (body-infos_at t w b n rest h.some long octets))
           ∙ ap (λ m. header s t b m (slice_index xs 2) (originator_at s.cause xs) (ca_at s xs)
           ++ body w b (infos_at t w b n rest)) (sym count);
@@ -302,9 +343,18 @@ IsAsdu-value_at s t xs named h all =
 -- ---- What is spelled is read
 
 abbrev value : TypeId → Bool → ℕ → ℕ → ℕ → List Info → AsduValue
-value t b d o k is = record { kind = t; sequence = b; cause = d; originator = o; ca = k; infos = is }
+value t b d o k is = record {
+  kind = t;
+  sequence = b;
+  cause = d;
+  originator = o;
+  ca = k;
+  infos =
+      is;
+}
 
-same_value : (t : TypeId) (b c : Bool) (d o p k l : ℕ) (is js : List Info) → b ≡ c → o ≡ p → k ≡ l → is ≡ js
+same_value : (t : TypeId) (b c : Bool) (d o p k l : ℕ) (is js : List Info) → b ≡ c → o ≡ p → k ≡ l
+    → is ≡ js
     → value t b d o k is ≡ value t c d p l js
 same_value t b c d o p k l is js e1 e2 e3 e4 = rw (e1, e2, e3, e4) refl
 
@@ -324,15 +374,19 @@ IsRead-spelled s u h =
     let v = vsq u.sequence n in
     let text = body w u.sequence u.infos in
     let address = little_bytes (ca_len s.ca) u.ca in
-    let regroup : spelled s u ≡ code ∷ v ∷ u.cause ∷ (originator_octets s.cause u.originator ++ (address ++ text)) =
-    ap (λ ys. code ∷ v ∷ u.cause ∷ ys) (append_assoc (originator_octets s.cause u.originator) address text) in
+    let regroup : spelled s u ≡ code ∷ v ∷ u.cause
+    ∷ (originator_octets s.cause u.originator ++ (address ++ text)) =
+    ap (λ ys. code ∷ v ∷ u.cause ∷ ys) (append_assoc (originator_octets s.cause u.originator)
+    address text) in
     record {
       number = vsq-number u.sequence n h.most;
       sequence = vsq-sequence u.sequence n h.most;
-      originator = ap (originator_at s.cause) regroup ∙ originator_again s.cause code v u.cause u.originator (address
+      originator = ap (originator_at s.cause) regroup
+          ∙ originator_again s.cause code v u.cause u.originator (address
           ++ text) h.originator;
       ca = ap (ca_at s) regroup
-          ∙ ap (little_number (ca_len s.ca)) (front_again s.cause code v u.cause u.originator (address ++ text))
+          ∙ ap (little_number (ca_len s.ca)) (front_again s.cause code v u.cause u.originator
+          (address ++ text))
           ∙ little_number-reads_back (ca_len s.ca) u.ca text h.ca;
       rest = drop_at (header s u.kind u.sequence n u.cause u.originator u.ca) text (header_len s)
           (length-header s u.kind u.sequence n u.cause u.originator u.ca);
@@ -342,13 +396,15 @@ first-body : (t : TypeId) (w : ℕ) (is : List Info) → 1 ≤ length is → All
     → AreInOrder true is → little_number w (body w true is) + length is ≤ 256 ^ w
 first-body t w [] some h order = absurd (omega arith)
 first-body t w (i ∷ is) some h order =
-    let number : little_number w (little_bytes w i.address ++ flat_map content (i ∷ is)) ≡ i.address =
+    let number : little_number w (little_bytes w i.address ++ flat_map content (i ∷ is))
+    ≡ i.address =
     little_number-reads_back w i.address (flat_map content (i ∷ is)) h.0.address in
     let last = last_address t w i.address (i ∷ is) some order h in
     omega arith
 
 -- the same, of either kind of body
-first-body_if : (t : TypeId) (w : ℕ) (b : Bool) (is : List Info) → 1 ≤ length is → AllByRecursion (IsInfo t w) is
+first-body_if : (t : TypeId) (w : ℕ) (b : Bool) (is : List Info) → 1 ≤ length is
+    → AllByRecursion (IsInfo t w) is
     → AreInOrder b is → b ≡ true → little_number w (body w b is) + length is ≤ 256 ^ w
 first-body_if t w true is some h order e = first-body t w is some h order
 first-body_if t w false is some h order e = cc
@@ -362,22 +418,27 @@ IsWhole-spelled s u h =
     let text = body w u.sequence u.infos in
     let front = length-header s u.kind u.sequence n u.cause u.originator u.ca in
     let back = length-body u.kind w u.sequence u.infos h.some h.infos in
-    let whole : length (head ++ text) ≡ header_len s + body_len u.kind w u.sequence n = length-append head text
+    let whole : length (head ++ text) ≡ header_len s + body_len u.kind w u.sequence n =
+    length-append head text
     ∙ omega (arith, front, back) in
     record {
       some = rw r.number h.some;
       whole = rw (r.number, r.sequence) whole;
-      last = λ e. rw (r.number, r.rest) (first-body_if u.kind w u.sequence u.infos h.some h.infos h.order
+      last = λ e. rw (r.number, r.rest) (first-body_if u.kind w u.sequence u.infos h.some h.infos
+          h.order
           (sym r.sequence ∙ e));
     }
 
-pub value_at-spelled : (s : Sizes) (u : AsduValue) → FitsSizes s u → value_at s u.kind (spelled s u) ≡ u
+pub value_at-spelled : (s : Sizes) (u : AsduValue) → FitsSizes s u → value_at s u.kind (spelled s u)
+    ≡ u
 value_at-spelled s u h =
     let r = IsRead-spelled s u h in
     let w = ioa_len s.ioa in
     let infos : infos_at u.kind w (is_sequence (spelled s u)) (number_at (spelled s u))
     (drop (header_len s) (spelled s u)) ≡ u.infos =
     rw (r.number, r.sequence, r.rest) (body_again u.kind w u.sequence u.infos h.infos h.order) in
-    same_value u.kind (is_sequence (spelled s u)) u.sequence u.cause (originator_at s.cause (spelled s u)) u.originator
-    (ca_at s (spelled s u)) u.ca (infos_at u.kind w (is_sequence (spelled s u)) (number_at (spelled s u))
+    same_value u.kind (is_sequence (spelled s u)) u.sequence u.cause
+    (originator_at s.cause (spelled s u)) u.originator
+    (ca_at s (spelled s u)) u.ca (infos_at u.kind w (is_sequence (spelled s u))
+    (number_at (spelled s u))
     (drop (header_len s) (spelled s u))) u.infos r.sequence r.originator r.ca infos

@@ -1,17 +1,26 @@
 -- A command with a tag is spelled as the one without, but for its type and the tag.
-use Rattle.std.proofs.Common.{◌≡◌, ℕ, ◌+◌, ◌-◌, ◌≤◌, Bool, true, false, cond, List, [], ◌∷◌, ◌++◌, length, take, drop, map, Option, Some, None, refl, sym, ap, subst, ◌∙◌, arith, append_assoc, length-append}
+use Rattle.std.proofs.Common.{◌≡◌, ℕ, ◌+◌, ◌-◌, ◌≤◌, Bool, true, false, cond, List, [], ◌∷◌, ◌++◌}
+use Rattle.std.proofs.Common.{length, take, drop, map, Option, Some, None, refl, sym, ap, subst}
+use Rattle.std.proofs.Common.{◌∙◌, arith, append_assoc, length-append}
 use Rattle.std.specs.Prelude.{slice_index}
 use Rattle.std.specs.List.{AllByRecursion}
 use Rattle.std.proofs.lemmas.List.{append-nil, take_at}
 use Rattle.byteorder.specs.Endian.{little_bytes}
 use Rattle.elements.specs.declared.types.TypeId.{TypeId}
-use Rattle.elements.specs.declared.types.TypeId.TheVariants.{MSpNa1, MDpNa1, MStNa1, MBoNa1, MMeNa1, MMeNb1, MMeNc1, MItNa1, MSpTb1, MDpTb1, MStTb1, MBoTb1, MMeTd1, MMeTe1, MMeTf1, MItTb1, MEiNa1, CScNa1, CDcNa1, CRcNa1, CSeNa1, CSeNb1, CIcNa1, CScTa1, CDcTa1, CRcTa1, CSeTa1, CSeTb1}
+use Rattle.elements.specs.declared.types.TypeId.TheVariants.{MSpNa1, MDpNa1, MStNa1, MBoNa1, MMeNa1}
+use Rattle.elements.specs.declared.types.TypeId.TheVariants.{MMeNb1, MMeNc1, MItNa1, MSpTb1, MDpTb1}
+use Rattle.elements.specs.declared.types.TypeId.TheVariants.{MStTb1, MBoTb1, MMeTd1, MMeTe1, MMeTf1}
+use Rattle.elements.specs.declared.types.TypeId.TheVariants.{MItTb1, MEiNa1, CScNa1, CDcNa1, CRcNa1}
+use Rattle.elements.specs.declared.types.TypeId.TheVariants.{CSeNa1, CSeNb1, CIcNa1, CScTa1, CDcTa1}
+use Rattle.elements.specs.declared.types.TypeId.TheVariants.{CRcTa1, CSeTa1, CSeTb1}
 use Rattle.elements.specs.Types.{row}
 use Rattle.elements.specs.Octets.{AreOctets}
 use Rattle.asdu.specs.Sizes.{ca_len, ioa_len}
 use Rattle.asdu.specs.declared.sizes.Sizes.{Sizes}
-use Rattle.asdu.specs.Asdu.{Info, AsduValue, FitsSizes, IsAsdu, IsInfo, IsTag, AreInOrder, content, located, body, vsq, spelled, tag_octets, originator_octets}
-use Rattle.asdu.specs.Tagging.{is_tagged_command, is_plain_command, untagged_type, tagged_type, without_tag, untagged, with_tag, tagged}
+use Rattle.asdu.specs.Asdu.{Info, AsduValue, FitsSizes, IsAsdu, IsInfo, IsTag, AreInOrder, content}
+use Rattle.asdu.specs.Asdu.{located, body, vsq, spelled, tag_octets, originator_octets}
+use Rattle.asdu.specs.Tagging.{is_tagged_command, is_plain_command, untagged_type, tagged_type}
+use Rattle.asdu.specs.Tagging.{without_tag, untagged, with_tag, tagged}
 use Rattle.asdu.proofs.ObjectLists.{length-tag}
 
 -- a tagged command's type, and the one without a tag
@@ -57,7 +66,8 @@ single (i ∷ []) h = (i, refl)
 single (i ∷ j ∷ is) h = absurd (omega arith)
 
 -- the text of one object
-body-one : (w : ℕ) (b : Bool) (i : Info) → body w b (i ∷ []) ≡ (little_bytes w i.address ++ i.element)
+body-one : (w : ℕ) (b : Bool) (i : Info) → body w b (i ∷ [])
+    ≡ (little_bytes w i.address ++ i.element)
     ++ tag_octets i.tag
 body-one w false i = append-nil (located w i)
     ∙ sym (append_assoc (little_bytes w i.address) i.element (tag_octets i.tag))
@@ -68,7 +78,8 @@ body-one w true i =
 -- what stands between the type and the tag
 abbrev inside : Sizes → AsduValue → Info → List ℕ
 inside s v i =
-    (vsq v.sequence 1 ∷ v.cause ∷ (originator_octets s.cause v.originator ++ little_bytes (ca_len s.ca) v.ca))
+    (vsq v.sequence 1 ∷ v.cause
+    ∷ (originator_octets s.cause v.originator ++ little_bytes (ca_len s.ca) v.ca))
     ++ (little_bytes (ioa_len s.ioa) i.address ++ i.element)
 
 spelled-one : (s : Sizes) (v : AsduValue) (i : Info) → v.infos ≡ i ∷ []
@@ -88,7 +99,8 @@ IsTag-none : (b : Bool) → b ≡ false → IsTag b None
 IsTag-none true e = cc
 IsTag-none false e = tt
 
-IsInfo-untagged : (k t : TypeId) (w : ℕ) (i : Info) → IsUntagged k t → IsInfo k w i → IsInfo t w (without_tag i)
+IsInfo-untagged : (k t : TypeId) (w : ℕ) (i : Info) → IsUntagged k t → IsInfo k w i
+    → IsInfo t w (without_tag i)
 IsInfo-untagged k t w i u h = record {
   address = h.address;
   size = h.size ∙ sym u.size;
@@ -96,8 +108,10 @@ IsInfo-untagged k t w i u h = record {
   tag = IsTag-none (row t).tagged u.plain;
 }
 
-pub IsAsdu-untagged : (s : Sizes) (v : AsduValue) (xs out : List ℕ) → IsAsdu s v xs → length v.infos ≡ 1
-    → is_tagged_command v.kind ≡ true → out ≡ (slice_index xs 0 - 13) ∷ take (length xs - 7 - 1) (drop 1 xs)
+pub IsAsdu-untagged : (s : Sizes) (v : AsduValue) (xs out : List ℕ) → IsAsdu s v xs → length v.infos
+    ≡ 1
+    → is_tagged_command v.kind ≡ true → out ≡ (slice_index xs 0 - 13) ∷ take (length xs - 7 - 1)
+    (drop 1 xs)
     → IsAsdu s (untagged v) out
 IsAsdu-untagged s v xs out h one is text =
     let t = untagged_type v.kind in
@@ -112,12 +126,14 @@ IsAsdu-untagged s v xs out h one is text =
     let code = (row v.kind).code in
     let line : xs ≡ code ∷ (inside s v i ++ tag_octets i.tag) = h.octets ∙ spelled-one s v i o.1 in
     let sum = length-append (inside s v i) (tag_octets i.tag) in
-    let long : length (code ∷ (inside s v i ++ tag_octets i.tag)) - 7 - 1 ≡ length (inside s v i) = omega arith in
+    let long : length (code ∷ (inside s v i ++ tag_octets i.tag)) - 7 - 1 ≡ length (inside s v i) =
+    omega arith in
     let cut : take (length xs - 7 - 1) (drop 1 xs) ≡ inside s v i =
     ap (λ ys. take (length ys - 7 - 1) (drop 1 ys)) line
     ∙ ap (λ n. take n (inside s v i ++ tag_octets i.tag)) long
     ∙ take_at (inside s v i) (tag_octets i.tag) (length (inside s v i)) refl in
-    let first : slice_index xs 0 - 13 ≡ (row t).code = ap (λ ys. slice_index ys 0 - 13) line ∙ omega (arith, u.code) in
+    let first : slice_index xs 0 - 13 ≡ (row t).code = ap (λ ys. slice_index ys 0 - 13) line
+    ∙ omega (arith, u.code) in
     let infos : map without_tag v.infos ≡ without_tag i ∷ [] = ap (map without_tag) o.1 in
     let Q : List Info → Type 0 = λ is. AllByRecursion (IsInfo t w) is in
     let R : List Info → Type 0 = λ is. AreInOrder v.sequence is in
@@ -177,7 +193,8 @@ tagged_row CRcTa1 is = cc
 tagged_row CSeTa1 is = cc
 tagged_row CSeTb1 is = cc
 
-IsTag-some : (b : Bool) (octets : List ℕ) → b ≡ true → length octets ≡ 7 → AreOctets octets → IsTag b (Some octets)
+IsTag-some : (b : Bool) (octets : List ℕ) → b ≡ true → length octets ≡ 7 → AreOctets octets
+    → IsTag b (Some octets)
 IsTag-some true octets e seven all = (seven, all)
 IsTag-some false octets e seven all = cc
 
@@ -186,7 +203,8 @@ no_tag true o e h = cc
 no_tag false None e h = refl
 no_tag false (Some octets) e h = absurd h
 
-pub IsAsdu-tagged : (s : Sizes) (v : AsduValue) (xs out octets : List ℕ) → IsAsdu s v xs → length v.infos ≡ 1
+pub IsAsdu-tagged : (s : Sizes) (v : AsduValue) (xs out octets : List ℕ) → IsAsdu s v xs
+    → length v.infos ≡ 1
     → is_plain_command v.kind ≡ true → length octets ≡ 7 → AreOctets octets
     → out ≡ ((slice_index xs 0 + 13) ∷ drop 1 xs) ++ octets → IsAsdu s (tagged octets v) out
 IsAsdu-tagged s v xs out octets h one is seven all text =
@@ -202,8 +220,10 @@ IsAsdu-tagged s v xs out octets h one is seven all text =
     let line : xs ≡ code ∷ inside s v i =
     h.octets ∙ spelled-one s v i o.1 ∙ ap (λ ys. code ∷ (inside s v i ++ ys)) none
     ∙ ap (λ ys. code ∷ ys) (append-nil (inside s v i)) in
-    let first : slice_index xs 0 + 13 ≡ (row t).code = ap (λ ys. slice_index ys 0 + 13) line ∙ sym u.code in
-    let infos : map (with_tag octets) v.infos ≡ with_tag octets i ∷ [] = ap (map (with_tag octets)) o.1 in
+    let first : slice_index xs 0 + 13 ≡ (row t).code = ap (λ ys. slice_index ys 0 + 13) line
+    ∙ sym u.code in
+    let infos : map (with_tag octets) v.infos ≡ with_tag octets i ∷ [] =
+    ap (map (with_tag octets)) o.1 in
     let Q : List Info → Type 0 = λ is. AllByRecursion (IsInfo t w) is in
     let R : List Info → Type 0 = λ is. AreInOrder v.sequence is in
     let new = spelled-one s (tagged octets v) (with_tag octets i) infos in
@@ -227,7 +247,8 @@ IsAsdu-tagged s v xs out octets h one is seven all text =
         order = subst R (sym infos) (AreInOrder-one v.sequence (with_tag octets i));
       };
       octets =
-          text ∙ ap (λ n. (n ∷ drop 1 xs) ++ octets) first ∙ ap (λ ys. ((row t).code ∷ drop 1 ys) ++ octets) line
+          text ∙ ap (λ n. (n ∷ drop 1 xs) ++ octets) first
+          ∙ ap (λ ys. ((row t).code ∷ drop 1 ys) ++ octets) line
           ∙ sym new;
     }
 
@@ -269,7 +290,8 @@ without-with_tag tag t w [] plain all = refl
 without-with_tag tag t w (i ∷ is) plain all =
     let tail = without-with_tag tag t w is plain all.1 in
     let none : i.tag ≡ None = no_tag_at (row t).tagged i.tag plain all.0.tag in
-    ap (λ o. record { address = i.address; element = i.element; tag = o } ∷ map without_tag (map (with_tag tag) is))
+    ap (λ o. record { address = i.address; element = i.element; tag = o }
+    ∷ map without_tag (map (with_tag tag) is))
     (sym none) ∙ ap (λ xs. i ∷ xs) tail
   where
     no_tag_at : (b : Bool) (o : Option (List ℕ)) → b ≡ false → IsTag b o → o ≡ None
@@ -277,13 +299,15 @@ without-with_tag tag t w (i ∷ is) plain all =
     no_tag_at false None e h = refl
     no_tag_at false (Some octets) e h = absurd h
 
-pub untagged-tagged : (s : Sizes) (tag : List ℕ) (v : AsduValue) → FitsSizes s v → is_plain_command v.kind ≡ true
+pub untagged-tagged : (s : Sizes) (tag : List ℕ) (v : AsduValue) → FitsSizes s v
+    → is_plain_command v.kind ≡ true
     → untagged (tagged tag v) ≡ v
 untagged-tagged s tag v h is =
     let u = tagged_row v.kind is in
     ap (λ t. record v { kind = t; infos = map without_tag (map (with_tag tag) v.infos) })
     (untagged-tagged_type v.kind is)
-    ∙ ap (λ is. record v { infos = is }) (without-with_tag tag v.kind (ioa_len s.ioa) v.infos u.plain_one h.infos)
+    ∙ ap (λ is. record v { infos = is }) (without-with_tag tag v.kind (ioa_len s.ioa) v.infos
+    u.plain_one h.infos)
 
 -- the type's octet is far from the last
 pub plain_below : (k : TypeId) → is_plain_command k ≡ true → (row k).code ≤ 49

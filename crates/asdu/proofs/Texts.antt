@@ -1,5 +1,7 @@
 -- The octets of objects, as they stand and as they are written.
-use Rattle.std.proofs.Common.{◌≡◌, ℕ, zero, suc, ◌+◌, ◌-◌, ◌*◌, ◌≤◌, true, false, List, ◌++◌, length, take, drop, Option, Some, None, refl, sym, ap, subst, ◌∙◌, arith, append_assoc, length-append, length-drop}
+use Rattle.std.proofs.Common.{◌≡◌, ℕ, zero, suc, ◌+◌, ◌-◌, ◌*◌, ◌≤◌, true, false, List, ◌++◌}
+use Rattle.std.proofs.Common.{length, take, drop, Option, Some, None, refl, sym, ap, subst, ◌∙◌}
+use Rattle.std.proofs.Common.{arith, append_assoc, length-append, length-drop}
 use Rattle.std.specs.Prelude.{is_some}
 use Rattle.std.proofs.lemmas.List.{length-take-le}
 use Rattle.std.proofs.Math.Seq.{take-add}
@@ -15,7 +17,8 @@ use Rattle.asdu.proofs.ObjectLists.{AreOctets-drop, content-info_at, located-inf
 
 -- ---- Objects whose octets stay
 
-located_text : (t : TypeId) (w n : ℕ) (xs : List ℕ) → n * (w + content_len t) ≤ length xs → AreOctets xs
+located_text : (t : TypeId) (w n : ℕ) (xs : List ℕ) → n * (w + content_len t) ≤ length xs
+    → AreOctets xs
     → spelled_infos w false (each_located t w n xs) ≡ take (n * (w + content_len t)) xs
 located_text t w zero xs long all =
     let none : 0 * (w + content_len t) ≡ 0 = omega arith in
@@ -24,7 +27,8 @@ located_text t w (suc n) xs long all =
     let step = w + content_len t in
     let far : step + n * step ≡ suc n * step = omega arith in
     let first = located-info_at t w xs (omega arith) all in
-    let others = located_text t w n (drop step xs) (omega (arith, length-drop step xs)) (AreOctets-drop step xs all) in
+    let others = located_text t w n (drop step xs) (omega (arith, length-drop step xs))
+    (AreOctets-drop step xs all) in
     ap (λ ys. ys ++ spelled_infos w false (each_located t w n (drop step xs))) first
     ∙ ap (λ ys. take step xs ++ ys) others ∙ sym (take-add step (n * step) xs)
     ∙ ap (λ k. take k xs) far
@@ -37,7 +41,8 @@ counted_text t k a zero xs =
 counted_text t k a (suc n) xs =
     let step = content_len t in
     let far : step + n * step ≡ suc n * step = omega arith in
-    ap (λ ys. ys ++ spelled_infos k true (successive t (suc a) n (drop step xs))) (content-info_at t a xs)
+    ap (λ ys. ys ++ spelled_infos k true (successive t (suc a) n (drop step xs)))
+    (content-info_at t a xs)
     ∙ ap (λ ys. take step xs ++ ys) (counted_text t k (suc a) n (drop step xs))
     ∙ sym (take-add step (n * step) xs) ∙ ap (λ j. take j xs) far
 
@@ -50,22 +55,26 @@ pub text_kept : (t : TypeId) (k w : ℕ) (o : Option ℕ) (n : ℕ) (xs : List �
     → rest_len t w o n ≤ length xs → AreOctets xs
     → spelled_infos k false (rest_at t w o n xs) ≡ take (rest_len t w o n) xs
 text_kept t k w None n xs same mode long all =
-    ap (λ j. spelled_infos j false (each_located t w n xs)) (sym same) ∙ located_text t w n xs long all
+    ap (λ j. spelled_infos j false (each_located t w n xs)) (sym same)
+    ∙ located_text t w n xs long all
 text_kept t k w (Some a) n xs same mode long all = cc
 
 -- ---- Objects whose addresses change their size
 
 -- what the loop begins with
 pub resized-start : (t : TypeId) (w k m : ℕ) (o : Option ℕ) (n : ℕ) (xs out : List ℕ) → o ≡ None
-    → rest_len t w o n ≤ length xs → length out + length (spelled_infos k false (rest_at t w o n xs)) ≤ m
-    → (out ++ spelled_infos k false (each_located t w n xs) ≡ out ++ spelled_infos k false (rest_at t w o n xs))
+    → rest_len t w o n ≤ length xs
+    → length out + length (spelled_infos k false (rest_at t w o n xs)) ≤ m
+    → (out ++ spelled_infos k false (each_located t w n xs)
+    ≡ out ++ spelled_infos k false (rest_at t w o n xs))
     × (length out + length (spelled_infos k false (each_located t w n xs)) ≤ m)
     × (n * (w + content_len t) ≤ length xs)
 resized-start t w k m None n xs out none long fits = (refl, fits, long)
 resized-start t w k m (Some a) n xs out none long fits = cc
 
 -- the octets of the first object are there
-pub resized-first : (t : TypeId) (w n : ℕ) (xs : List ℕ) → 1 ≤ n → n * (w + content_len t) ≤ length xs
+pub resized-first : (t : TypeId) (w n : ℕ) (xs : List ℕ) → 1 ≤ n → n * (w + content_len t)
+    ≤ length xs
     → w + content_len t ≤ length xs
 resized-first t w zero xs some long = absurd (omega arith)
 resized-first t w (suc n) xs some long = omega arith
@@ -82,7 +91,8 @@ split t w k n xs =
     ∙ append_assoc address (take (content_len t) (drop w xs)) rest
 
 -- and there is room for it
-pub resized-room : (t : TypeId) (w k m n : ℕ) (xs out : List ℕ) → 1 ≤ n → n * (w + content_len t) ≤ length xs
+pub resized-room : (t : TypeId) (w k m n : ℕ) (xs out : List ℕ) → 1 ≤ n → n * (w + content_len t)
+    ≤ length xs
     → length out + length (spelled_infos k false (each_located t w n xs)) ≤ m
     → length out + (k + content_len t) ≤ m
 resized-room t w k m zero xs out some long fits = absurd (omega arith)
@@ -107,7 +117,8 @@ pub resized-step : (t : TypeId) (w k m n : ℕ) (xs ys zs out one two goal_text 
     → (two ++ spelled_infos k false (each_located t w (n - 1) zs) ≡ goal_text)
     × (length two + length (spelled_infos k false (each_located t w (n - 1) zs)) ≤ m)
     × ((n - 1) * (w + content_len t) ≤ length zs)
-resized-step t w k m zero xs ys zs out one two goal_text some long fits text e1 e2 e3 e4 = absurd (omega arith)
+resized-step t w k m zero xs ys zs out one two goal_text some long fits text e1 e2 e3 e4 =
+    absurd (omega arith)
 resized-step t w k m (suc n) xs ys zs out one two goal_text some long fits text e1 e2 e3 e4 =
     let step = w + content_len t in
     let address = little_bytes k (little_number w xs) in

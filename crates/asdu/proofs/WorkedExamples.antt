@@ -3,20 +3,30 @@ use Rattle.std.proofs.Common.{◌≡◌, ◌+◌, Bool, true, false, refl}
 use Rattle.std.specs.Prelude.{◌&&◌, nat_le, if◌then◌else◌}
 use Rattle.std.specs.List.{AllByRecursion}
 use Rattle.elements.specs.declared.types.TypeId.{TypeId}
-use Rattle.elements.specs.declared.types.TypeId.TheVariants.{MSpNa1, MDpNa1, MStNa1, MBoNa1, MMeNa1, MMeNb1, MMeNc1, MItNa1, MSpTb1, MDpTb1, MStTb1, MBoTb1, MMeTd1, MMeTe1, MMeTf1, MItTb1, MEiNa1, CScNa1, CDcNa1, CRcNa1, CSeNa1, CSeNb1, CIcNa1, CScTa1, CDcTa1, CRcTa1, CSeTa1, CSeTb1}
+use Rattle.elements.specs.declared.types.TypeId.TheVariants.{MSpNa1, MDpNa1, MStNa1, MBoNa1, MMeNa1}
+use Rattle.elements.specs.declared.types.TypeId.TheVariants.{MMeNb1, MMeNc1, MItNa1, MSpTb1, MDpTb1}
+use Rattle.elements.specs.declared.types.TypeId.TheVariants.{MStTb1, MBoTb1, MMeTd1, MMeTe1, MMeTf1}
+use Rattle.elements.specs.declared.types.TypeId.TheVariants.{MItTb1, MEiNa1, CScNa1, CDcNa1, CRcNa1}
+use Rattle.elements.specs.declared.types.TypeId.TheVariants.{CSeNa1, CSeNb1, CIcNa1, CScTa1, CDcTa1}
+use Rattle.elements.specs.declared.types.TypeId.TheVariants.{CRcTa1, CSeTa1, CSeTb1}
 use Rattle.elements.specs.Types.{row, type_of}
 use Rattle.asdu.specs.InformationObjects.{objects_of}
 use Rattle.asdu.specs.Translation.{parts}
 use Rattle.asdu.specs.Tagging.{is_plain_command, is_tagged_command, tagged_type, untagged_type}
-use Rattle.asdu.specs.Examples.{IsWorkedSo, IsRefusedSo, PassedExamples, PartExamples, IsMost, TagsByType, octet_examples, refusal_examples}
+use Rattle.asdu.specs.Examples.{IsWorkedSo, IsRefusedSo, PassedExamples, PartExamples, IsMost}
+use Rattle.asdu.specs.Examples.{TagsByType, octet_examples, refusal_examples}
 
 pub octets_hold : AllByRecursion IsWorkedSo octet_examples
 unfolding type_of objects_of
-octets_hold = ((refl, refl, refl), ((refl, refl, refl), ((refl, refl, refl), ((refl, refl, refl), tt))))
+octets_hold =
+    ((refl, refl, refl), ((refl, refl, refl), ((refl, refl, refl), ((refl, refl, refl), tt))))
 
 pub refusals_hold : AllByRecursion IsRefusedSo refusal_examples
 unfolding type_of
-refusals_hold = (refl, (refl, (refl, (refl, (refl, (refl, (refl, (refl, (refl, (refl, (refl, (refl, tt))))))))))))
+refusals_hold = (
+  refl,
+  (refl, (refl, (refl, (refl, (refl, (refl, (refl, (refl, (refl, (refl, (refl, tt))))))))))),
+)
 
 pub passed_hold : PassedExamples
 passed_hold = record {
@@ -152,7 +162,8 @@ tagged CRcTa1 = refl
 tagged CSeTa1 = refl
 tagged CSeTb1 = refl
 
-above : (t : TypeId) → (row (tagged_type t)).code ≡ (row t).code + (if is_plain_command t then 13 else 0)
+above : (t : TypeId) → (row (tagged_type t)).code ≡ (row t).code + (if is_plain_command t then 13
+    else 0)
 above MSpNa1 = refl
 above MDpNa1 = refl
 above MStNa1 = refl
@@ -182,7 +193,8 @@ above CRcTa1 = refl
 above CSeTa1 = refl
 above CSeTb1 = refl
 
-below : (t : TypeId) → (row (untagged_type t)).code + (if is_tagged_command t then 13 else 0) ≡ (row t).code
+below : (t : TypeId) → (row (untagged_type t)).code + (if is_tagged_command t then 13 else 0)
+    ≡ (row t).code
 below MSpNa1 = refl
 below MDpNa1 = refl
 below MStNa1 = refl

@@ -1,8 +1,10 @@
 -- ASDUs worked by hand from IEC 60870-5-101 (7.1 and 7.2) and IEC 60870-5-104 (7 and 8): their
 -- octets, what is refused, how reports are cut, and which commands have a tag.
-use Rattle.std.specs.Prelude.{◌≡◌, ℕ, suc, ◌+◌, Bool, true, false, ◌&&◌, nat_le, if◌then◌else◌, List, [], ◌∷◌, Option, Some, None, replicate}
+use Rattle.std.specs.Prelude.{◌≡◌, ℕ, suc, ◌+◌, Bool, true, false, ◌&&◌, nat_le, if◌then◌else◌}
+use Rattle.std.specs.Prelude.{List, [], ◌∷◌, Option, Some, None, replicate}
 use Rattle.elements.specs.declared.types.TypeId.{TypeId}
-use Rattle.elements.specs.declared.types.TypeId.TheVariants.{MSpNa1, MMeNa1, MSpTb1, MEiNa1, CScNa1, CIcNa1}
+use Rattle.elements.specs.declared.types.TypeId.TheVariants.{MSpNa1, MMeNa1, MSpTb1, MEiNa1, CScNa1}
+use Rattle.elements.specs.declared.types.TypeId.TheVariants.{CIcNa1}
 use Rattle.elements.specs.Types.{row}
 use Rattle.asdu.specs.declared.sizes.CauseSize.TheVariants as causes
 use Rattle.asdu.specs.declared.sizes.CaSize.TheVariants as cas

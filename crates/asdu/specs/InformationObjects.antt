@@ -1,6 +1,7 @@
 -- The information objects of an ASDU, each with what its ASDU says of it (IEC 60870-5-101, 7.2 and
 -- 7.3).
-use Rattle.std.specs.Prelude.{ℕ, Bool, not, ◌&&◌, ◌==◌, if◌then◌else◌, List, [], map, slice_index, Option, Some, None, false}
+use Rattle.std.specs.Prelude.{ℕ, Bool, not, ◌&&◌, ◌==◌, if◌then◌else◌, List, [], map, slice_index}
+use Rattle.std.specs.Prelude.{Option, Some, None, false}
 use Rattle.elements.specs.declared.types.TypeId.{TypeId}
 use Rattle.elements.specs.Types.{row, type_of}
 use Rattle.asdu.specs.declared.sizes.Sizes.{Sizes}

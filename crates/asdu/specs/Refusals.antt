@@ -1,5 +1,6 @@
 -- Why octets are no ASDU: this gateway's own numbers, the first that applies.
-use Rattle.std.specs.Prelude.{ℕ, ◌+◌, ◌*◌, ◌^◌, Bool, true, false, not, ◌&&◌, ◌==◌, nat_lt, if◌then◌else◌, List, length, slice_index, Option, Some, None, is_none}
+use Rattle.std.specs.Prelude.{ℕ, ◌+◌, ◌*◌, ◌^◌, Bool, true, false, not, ◌&&◌, ◌==◌, nat_lt}
+use Rattle.std.specs.Prelude.{if◌then◌else◌, List, length, slice_index, Option, Some, None, is_none}
 use Rattle.elements.specs.declared.types.TypeId.{TypeId}
 use Rattle.elements.specs.Types.{type_of}
 use Rattle.asdu.specs.Sizes.{ioa_len, header_len}

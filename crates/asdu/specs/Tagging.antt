@@ -2,7 +2,8 @@
 -- CP56Time2a behind the element).
 use Rattle.std.specs.Prelude.{ℕ, Bool, true, false, List, map, None, Some}
 use Rattle.elements.specs.declared.types.TypeId.{TypeId}
-use Rattle.elements.specs.declared.types.TypeId.TheVariants.{CScNa1, CDcNa1, CRcNa1, CSeNa1, CSeNb1, CScTa1, CDcTa1, CRcTa1, CSeTa1, CSeTb1}
+use Rattle.elements.specs.declared.types.TypeId.TheVariants.{CScNa1, CDcNa1, CRcNa1, CSeNa1, CSeNb1}
+use Rattle.elements.specs.declared.types.TypeId.TheVariants.{CScTa1, CDcTa1, CRcTa1, CSeTa1, CSeTb1}
 use Rattle.asdu.specs.Asdu.{AsduValue, Info}
 
 -- types 58 to 62

@@ -1,7 +1,9 @@
 -- The ASDUs of IEC 60870-5-104 that a report of the line is cut into. Their sizes and the 249
 -- octets of an ASDU are the standard's (60870-5-104, 5.1 and 7); how a longer report is cut is this
 -- gateway's own profile.
-use Rattle.std.specs.Prelude.{◌≡◌, ℕ, zero, suc, ◌+◌, ◌/◌, ◌≤◌, min, Bool, true, false, if◌then◌else◌, List, [], ◌∷◌, length, take, drop, map, slice_index, Option, Some, None, is_some, ⊤}
+use Rattle.std.specs.Prelude.{◌≡◌, ℕ, zero, suc, ◌+◌, ◌/◌, ◌≤◌, min, Bool, true, false}
+use Rattle.std.specs.Prelude.{if◌then◌else◌, List, [], ◌∷◌, length, take, drop, map, slice_index}
+use Rattle.std.specs.Prelude.{Option, Some, None, is_some, ⊤}
 use Rattle.std.specs.Int.{div_ceil}
 use Rattle.elements.specs.declared.types.TypeId.{TypeId}
 use Rattle.elements.specs.Types.{type_of}

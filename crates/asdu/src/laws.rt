@@ -7,11 +7,14 @@ ghost use Rattle.elements.specs.Octets.{AreOctets};
 ghost use Rattle.asdu.specs.declared.sizes.Sizes.{Sizes};
 ghost use Rattle.asdu.specs.Asdu.{AsduValue, IsAsdu, IsNoAsdu};
 ghost use Rattle.asdu.specs.Refusals.{is_read};
-ghost use Rattle.asdu.specs.InformationObjects.{value_objects, objects_of, monitor_objects_of, is_passed_on, only_if};
+ghost use Rattle.asdu.specs.InformationObjects.{value_objects, objects_of, monitor_objects_of};
+ghost use Rattle.asdu.specs.InformationObjects.{is_passed_on, only_if};
 ghost use Rattle.asdu.specs.Sizes.{tcp};
-ghost use Rattle.asdu.specs.Translation.{parts, piece_size, report_pieces, AllButLast, IsLargest, IsPiece};
+ghost use Rattle.asdu.specs.Translation.{parts, piece_size, report_pieces, AllButLast, IsLargest};
+ghost use Rattle.asdu.specs.Translation.{IsPiece};
 ghost use Rattle.elements.specs.declared.types.TypeId.{TypeId};
-ghost use Rattle.asdu.specs.Examples.{IsWorkedSo, IsRefusedSo, PassedExamples, PartExamples, IsMost, TagsByType, octet_examples, refusal_examples};
+ghost use Rattle.asdu.specs.Examples.{IsWorkedSo, IsRefusedSo, PassedExamples, PartExamples};
+ghost use Rattle.asdu.specs.Examples.{IsMost, TagsByType, octet_examples, refusal_examples};
 
 /// In given sizes octets are one ASDU at most, and an ASDU has one spelling.
 pub fn one_asdu_one_spelling()

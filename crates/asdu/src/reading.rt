@@ -1,5 +1,6 @@
 //! Reading ASDUs from octets.
-ghost use Rattle.std.specs.Prelude.{◌≡◌, ◌+◌, ◌≤◌, ◌<◌, ◌^◌, ◌↔◌, length, IsSome, IfSome, IfOk, IfErr, IsOkAnd, is_ok, Some, []};
+ghost use Rattle.std.specs.Prelude.{◌≡◌, ◌+◌, ◌≤◌, ◌<◌, ◌^◌, ◌↔◌, length, IsSome, IfSome, IfOk};
+ghost use Rattle.std.specs.Prelude.{IfErr, IsOkAnd, is_ok, Some, []};
 ghost use Rattle.asdu.specs.Sizes.{header_len, ioa_len};
 ghost use Rattle.asdu.specs.Asdu.{AsduValue, IsAsdu};
 ghost use Rattle.asdu.specs.Fields.{IsHeadOf};

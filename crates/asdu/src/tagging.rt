@@ -6,7 +6,8 @@ ghost use Rattle.asdu.specs.Asdu.{AsduValue, FitsSizes, IsAsdu};
 ghost use Rattle.asdu.specs.Fields.{number_at};
 ghost use Rattle.asdu.specs.Sizes.{tcp};
 ghost use Rattle.asdu.specs.Reading.{value_of};
-ghost use Rattle.asdu.specs.Tagging.{is_tagged_command as names_tagged_command, is_plain_command as names_plain_command, untagged, tagged};
+ghost use Rattle.asdu.specs.Tagging.{is_tagged_command as names_tagged_command};
+ghost use Rattle.asdu.specs.Tagging.{is_plain_command as names_plain_command, untagged, tagged};
 
 use crate::Asdu;
 use crate::writing::append;

@@ -5,7 +5,8 @@ ghost use Rattle.arrayvec.specs.ArrayVec.{array_vec_len};
 ghost use Rattle.asdu.specs.Sizes.{tcp};
 ghost use Rattle.asdu.specs.InformationObjects.{objects_of, monitor_objects_of, is_passed_on};
 ghost use Rattle.asdu.specs.Reading.{value_of};
-ghost use Rattle.asdu.specs.Translation.{AllButLast, IsLargest, IsPiece, parts, piece_size, report_pieces};
+ghost use Rattle.asdu.specs.Translation.{AllButLast, IsLargest, IsPiece, parts, piece_size};
+ghost use Rattle.asdu.specs.Translation.{report_pieces};
 
 use crate::objects::content_octets;
 use crate::writing::spell_into;

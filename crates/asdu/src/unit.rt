@@ -29,7 +29,8 @@ pub struct Asdu<'a> {
 pub struct Refused(pub u8);
 
 impl<'a> Asdu<'a> {
-    ghost use Rattle.std.specs.Prelude.{◌+◌, ◌≤◌, ◌<◌, ◌^◌, ◌%◌, [], drop, length, is_some, true, false};
+    ghost use Rattle.std.specs.Prelude.{◌+◌, ◌≤◌, ◌<◌, ◌^◌, ◌%◌, [], drop, length, is_some, true};
+    ghost use Rattle.std.specs.Prelude.{false};
     ghost use Rattle.asdu.specs.Sizes.{header_len, ioa_len};
     ghost use Rattle.asdu.specs.Fields.{number_at, is_sequence, first_address, IsHeadOf};
     ghost use Rattle.asdu.specs.Refusals.{body_len};

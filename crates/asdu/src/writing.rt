@@ -1,15 +1,17 @@
 //! Writing ASDUs.
-ghost use Rattle.std.specs.Prelude.{◌≡◌, ◌+◌, ◌<◌, ◌≤◌, ◌^◌, ◌∷◌, [], ◌++◌, length, is_some, true, false, None};
+ghost use Rattle.std.specs.Prelude.{◌≡◌, ◌+◌, ◌<◌, ◌≤◌, ◌^◌, ◌∷◌, [], ◌++◌, length, is_some, true};
+ghost use Rattle.std.specs.Prelude.{false, None, take};
 ghost use Rattle.std.specs.List.{AllByRecursion};
 ghost use Rattle.byteorder.specs.Endian.{little_bytes};
 ghost use Rattle.arrayvec.specs.ArrayVec.{array_vec_len};
 ghost use Rattle.asdu.specs.Sizes.{header_len, ca_len, ioa_len};
-ghost use Rattle.asdu.specs.Asdu.{vsq, IsInfo, IsAsdu, spelled, originator_octets};
+ghost use Rattle.asdu.specs.Asdu.{vsq, IsInfo, IsAsdu, spelled, content_len, originator_octets};
 ghost use Rattle.asdu.specs.Refusals.{body_len};
 ghost use Rattle.asdu.specs.Fields.{is_sequence};
 ghost use Rattle.asdu.specs.Reading.{value_of};
 ghost use Rattle.asdu.specs.Objects.{infos_left};
-ghost use Rattle.asdu.specs.Writing.{CanBeWritten, with_infos, carried, header_of, lead, lead_len, spelled_infos};
+ghost use Rattle.asdu.specs.Writing.{CanBeWritten, with_infos, carried, header_of, lead, lead_len};
+ghost use Rattle.asdu.specs.Writing.{spelled_infos};
 
 use crate::objects::content_octets;
 use crate::reading::body_octets;
@@ -202,8 +204,81 @@ fn append_located<const N: usize>(out: &mut ArrayVec<u8, N>, size: IoaSize, obje
     } else if objects.left == 1 {
         append_one(out, size, objects);
     } else {
-        append_resized(out, size, objects);
+        match (objects.ioa, size) {
+            (IoaSize::Two, IoaSize::Three) => append_widened(out, objects),
+            _ => append_resized(out, size, objects),
+        }
     }
+}
+
+/// Appends objects whose addresses grow from two octets to three, as those of most lines do.
+#[inline(never)]
+fn append_widened<const N: usize>(out: &mut ArrayVec<u8, N>, objects: Objects)
+    requires mode { objects.next_address ≡ None }
+    requires two { ioa_len objects.ioa ≡ 2 }
+    requires room { array_vec_len out.old
+        + length (spelled_infos 3 false (infos_left objects)) ≤ N }
+    ensures { out.new.items ≡ out.old.items
+        ++ spelled_infos 3 false (infos_left objects.entry) }
+{
+    // Each number of octets has a loop of its own, in which no copy is a call.
+    match content_octets(objects.kind) {
+        1 => append_each::<N, 1>(out, objects),
+        2 => append_each::<N, 2>(out, objects),
+        3 => append_each::<N, 3>(out, objects),
+        5 => append_each::<N, 5>(out, objects),
+        8 => append_each::<N, 8>(out, objects),
+        9 => append_each::<N, 9>(out, objects),
+        10 => append_each::<N, 10>(out, objects),
+        12 => append_each::<N, 12>(out, objects),
+        _ => append_resized(out, IoaSize::Three, objects),
+    }
+}
+
+/// Appends objects of so many octets whose addresses grow from two octets to three.
+#[inline(never)]
+fn append_each<const N: usize, const CONTENT: usize>(out: &mut ArrayVec<u8, N>, objects: Objects)
+    requires mode { objects.next_address ≡ None }
+    requires two { ioa_len objects.ioa ≡ 2 }
+    requires content { content_len objects.kind ≡ CONTENT }
+    requires short { CONTENT ≤ 12 }
+    requires room { array_vec_len out.old
+        + length (spelled_infos 3 false (infos_left objects)) ≤ N }
+    ensures { out.new.items ≡ out.old.items
+        ++ spelled_infos 3 false (infos_left objects.entry) }
+{
+    // The objects are appended all at once, so that none looks at what `out` has so far.
+    let mut row = [0; N];
+    let mut end = 0;
+    let mut octets = objects.octets;
+    let mut left = objects.left;
+    while left > 0 {
+        put_address(&mut row, end, IoaSize::Two.read(octets));
+        put(&mut row, end + 3, &octets[2..2 + CONTENT]);
+        end += 3 + CONTENT;
+        octets = &octets[2 + CONTENT..];
+        left -= 1;
+    }
+    append(out, &row[..end]);
+}
+
+/// Puts an address of three octets behind the first octets of a row.
+#[inline(always)]
+fn put_address(row: &mut [u8], end: usize, address: u32)
+    requires { end + 3 ≤ length row.old }
+    ensures { take (end + 3) row.new ≡ take end row.old ++ little_bytes 3 address }
+{
+    let [low, middle, high, _] = address.to_le_bytes();
+    put(row, end, &[low, middle, high]);
+}
+
+/// Puts octets behind the first octets of a row.
+#[inline(always)]
+fn put(row: &mut [u8], end: usize, octets: &[u8])
+    requires { end + length octets.now ≤ length row.old }
+    ensures { take (end + length octets.now) row.new ≡ take end row.old ++ octets.now }
+{
+    row[end..end + octets.len()].copy_from_slice(octets);
 }
 
 /// Appends one object whose address changes its size, as most reports have it.
@@ -257,6 +332,7 @@ fn append_resized<const N: usize>(out: &mut ArrayVec<u8, N>, size: IoaSize, obje
     }
 }
 
+#[inline(always)]
 fn append_address<const N: usize>(out: &mut ArrayVec<u8, N>, size: IoaSize, address: u32)
     requires { array_vec_len out.old + ioa_len size ≤ N }
     ensures { out.new.items ≡ out.old.items ++ little_bytes (ioa_len size) address }
@@ -270,6 +346,7 @@ fn append_address<const N: usize>(out: &mut ArrayVec<u8, N>, size: IoaSize, addr
 }
 
 /// Appends octets that fit.
+#[inline(always)]
 pub(crate) fn append<const N: usize>(out: &mut ArrayVec<u8, N>, octets: &[u8])
     requires { array_vec_len out.old + length octets.now ≤ N }
     ensures { out.new.items ≡ out.old.items ++ octets.now }

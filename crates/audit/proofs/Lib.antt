@@ -1,3 +1,5 @@
-mod LineLemmas
-mod RunLemmas
-mod Whole
+pub mod LineLemmas
+pub mod PassingLemmas
+pub mod CompareLemmas
+pub mod RunLemmas
+pub mod BlockLemmas

@@ -1,4 +1,5 @@
 pub mod Record
-pub mod Whole
 pub mod Audit
-pub mod Resume
+pub mod Passing
+pub mod Comparing
+pub mod Running

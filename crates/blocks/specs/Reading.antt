@@ -26,3 +26,8 @@ IsGiven text reading = AreCutOff text reading.lines reading.is_over reading.comi
 abbrev pub held_and_left : (held : ℕ) → (row : List ℕ) → (left : Option (List ℕ))
     → Option (List ℕ)
 held_and_left held row left = prepend_known (take held row) left
+
+-- these octets are all that a reader will give, where that is known
+abbrev pub Gives : Option (List ℕ) → List ℕ → Type 0
+Gives None octets = Unit {0}
+Gives (Some known) octets = known ≡ octets

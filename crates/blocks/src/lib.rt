@@ -8,7 +8,8 @@
 //! is taken, and which of the faults comes.
 #![tactic(auto)]
 
-ghost use Rattle.std.specs.Prelude.{◌≡◌, ◌-◌, ◌<◌, ◌≤◌, [], true, false, length, take, drop, slice_index, MatchOption, IfSome, IfOk, OnOk, OnErr};
+ghost use Rattle.std.specs.Prelude.{◌≡◌, ◌-◌, ◌<◌, ◌≤◌, [], true, false, length, take, drop};
+ghost use Rattle.std.specs.Prelude.{slice_index, MatchOption, IfSome, IfOk, OnOk, OnErr};
 ghost use Rattle.std.specs.Io.{ReadsAtMost};
 ghost use Rattle.std.specs.Io.KnownBytes.{IsAtEnd, Keeps, ReadConsumes};
 ghost use Rattle.blocks.specs.Reading.{IsGiven, held_and_left};

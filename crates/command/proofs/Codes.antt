@@ -7,11 +7,13 @@ use Rattle.elements.specs.declared.types.TypeId.{TypeId}
 
 found_at : (p : TypeId → Bool) (x : TypeId) (xs : List TypeId) (t : TypeId) (b : Bool) → p x ≡ b
     → (if b then Some x else find p xs) ≡ Some t → (find p xs ≡ Some t → p t ≡ true) → p t ≡ true
-found_at p x xs t true e h rest = (let same : x ≡ t = cc in subst (λ (y : TypeId). p y ≡ true) same e)
+found_at p x xs t true e h rest = (let same : x ≡ t = cc in
+    subst (λ (y : TypeId). p y ≡ true) same e)
 found_at p x xs t false e h rest = rest h
 
 -- what is found passes
-pub find_passes : (p : TypeId → Bool) (xs : List TypeId) (t : TypeId) → find p xs ≡ Some t → p t ≡ true
+pub find_passes : (p : TypeId → Bool) (xs : List TypeId) (t : TypeId) → find p xs ≡ Some t
+    → p t ≡ true
 find_passes p [] t h = cc
 find_passes p (x ∷ xs) t h = found_at p x xs t (p x) refl h (find_passes p xs t)
 

@@ -1,10 +1,12 @@
 -- A selected execute passes, by octets.
-use Rattle.std.proofs.Common.{◌≡◌, ℕ, ◌≤◌, ◌&&◌, Bool, true, false, not, List, [], ◌∷◌, refl, ap, ◌∙◌}
+use Rattle.std.proofs.Common.{◌≡◌, ℕ, ◌≤◌, ◌&&◌, Bool, true, false, not, List, [], ◌∷◌, refl, ap}
+use Rattle.std.proofs.Common.{◌∙◌}
 use Rattle.std.specs.Prelude.{Option, None, option_map}
 use Rattle.std.specs.List.{list_any}
 use Rattle.asdu.specs.declared.sizes.Sizes.{Sizes}
 use Rattle.command.specs.declared.station.StationInfo.{StationInfo}
-use Rattle.command.specs.Standard.{first_cause, own_rules, cause_of_fault, executes, must_be_selected}
+use Rattle.command.specs.Standard.{first_cause, own_rules, cause_of_fault, executes}
+use Rattle.command.specs.Standard.{must_be_selected}
 use Rattle.command.specs.Octets.{answer}
 use Rattle.command.specs.Command.{command_at}
 use Rattle.command.specs.Selection.{lets_through}
@@ -23,7 +25,8 @@ passing : (a b : Bool) → b ≡ true → (a && not b) ≡ false
 passing true b e = rw e refl
 passing false b e = refl
 
-module _ (stations : List StationInfo) (sizes : Sizes) (ms age : ℕ) (calls : List Call) (falls : NeverFall calls)
+module _ (stations : List StationInfo) (sizes : Sizes) (ms age : ℕ) (calls : List Call)
+    (falls : NeverFall calls)
     (now : ℕ) (later : latest calls ≤ now) (xs : List ℕ) (wall : Option ℕ)
     (f : cause_of_fault sizes stations age wall xs ≡ None) (x : executes xs ≡ true)
     (s : IsSelected sizes stations ms age xs now (run stations sizes ms age calls).history) where
@@ -34,7 +37,8 @@ module _ (stations : List StationInfo) (sizes : Sizes) (ms age : ℕ) (calls : L
   let_through =
       let right : IsGood xs = good_read sizes stations age wall xs f in
       run_passes sizes stations ms age calls falls (command_at xs) now later
-      (selected_by_machine sizes stations ms age xs now (run stations sizes ms age calls).history right
+      (selected_by_machine sizes stations ms age xs now (run stations sizes ms age calls).history
+      right
       (executes_read xs right ∙ x) s)
 
   pub is_let : (not_selected xs now after).applies ≡ false
@@ -49,9 +53,11 @@ module _ (stations : List StationInfo) (sizes : Sizes) (ms age : ℕ) (calls : L
       (run stations sizes ms age calls) (run_holds sizes stations ms age calls) f
 
   no_rule : (no_place xs after).applies ≡ false → first_cause (rules_for xs now wall after) ≡ None
-  no_rule room = more_rules (own_rules after.sizes after.stations after.max_age_ms wall xs) (not_selected xs now after
+  no_rule room = more_rules (own_rules after.sizes after.stations after.max_age_ms wall xs)
+      (not_selected xs now after
       ∷ no_place xs after ∷ []) ∙ rw (same_fault, is_let, room) refl
 
   pub is_forwarded : (no_place xs after).applies ≡ false → (judged xs now wall after).0 ≡ None
-  is_forwarded room = first_rule xs now wall after ∙ ap (λ (o : Option ℕ). option_map (λ cause. answer cause xs) o)
+  is_forwarded room = first_rule xs now wall after
+      ∙ ap (λ (o : Option ℕ). option_map (λ cause. answer cause xs) o)
       (no_rule room)

@@ -1,5 +1,6 @@
 -- No two selections are of one target, after every list of calls.
-use Rattle.std.proofs.Common.{◌≡◌, ℕ, ◌-◌, ◌&&◌, Bool, true, false, List, [], ◌∷◌, ◌++◌, refl, sym, subst, ap, ◌∙◌, rules}
+use Rattle.std.proofs.Common.{◌≡◌, ℕ, ◌-◌, ◌&&◌, Bool, true, false, List, [], ◌∷◌, ◌++◌, refl, sym}
+use Rattle.std.proofs.Common.{subst, ap, ◌∙◌, rules}
 use Rattle.std.specs.Prelude.{◌==◌, Option, Some, None, if◌then◌else◌, nat_lt, nat_le}
 use Rattle.std.specs.List.{filter_map, AllByRecursion, cons_option}
 use Rattle.asdu.specs.Asdu.{AsduValue, Info}
@@ -16,15 +17,18 @@ use Rattle.command.specs.declared.selection.Sign.{Sign}
 use Rattle.command.specs.declared.selection.Sign.TheVariants as sign
 use Rattle.command.specs.Octets.{negative}
 use Rattle.command.specs.Command.{command_at}
-use Rattle.command.specs.Selection.{advanced, target_of, same_target, same_element, is_accepted, lasts_from, after_sending, after_acceptance, after_loss}
+use Rattle.command.specs.Selection.{advanced, target_of, same_target, same_element, is_accepted}
+use Rattle.command.specs.Selection.{lasts_from, after_sending, after_acceptance, after_loss}
 use Rattle.command.specs.Selections.{HaveTwoTargets, AreDistinct}
 use Rattle.command.specs.State as state
 use Rattle.command.specs.State.{State, oldest, has_answer_place, first_answer, told}
 use Rattle.command.specs.Judging as judging
-use Rattle.command.specs.Judging.{fault, makes_selection, ends_selection, lacks_selection, lacks_place}
+use Rattle.command.specs.Judging.{fault, makes_selection, ends_selection, lacks_selection}
+use Rattle.command.specs.Judging.{lacks_place}
 use Rattle.command.specs.Mirrors as mirrors
 use Rattle.command.specs.Mirrors.{is_con, target_at, element_of}
-use Rattle.command.specs.Calls.{Call, Judge, PutOnLine, Accept, Busy, Lose, Mirror, Own, SendOwn, Cut, Due, Run, after_call, run, after_answer}
+use Rattle.command.specs.Calls.{Call, Judge, PutOnLine, Accept, Busy, Lose, Mirror, Own, SendOwn}
+use Rattle.command.specs.Calls.{Cut, Due, Run, after_call, run, after_answer}
 use Rattle.command.specs.Calls as calls
 use Rattle.command.proofs.Tied.{Perhaps, all_mapped}
 use Rattle.command.proofs.Judged.{same_target_itself}
@@ -45,7 +49,8 @@ sending_keeps z stage.Sent = tt
 sending_keeps z stage.Accepted = refl
 sending_keeps z (stage.Live since) = refl
 
-acceptance_keeps : (z : Selection) (st : Stage) → Perhaps (HasCommand z.command) (after_acceptance st z)
+acceptance_keeps : (z : Selection) (st : Stage)
+    → Perhaps (HasCommand z.command) (after_acceptance st z)
 acceptance_keeps z (stage.Queued ahead) = refl
 acceptance_keeps z stage.Sent = refl
 acceptance_keeps z stage.Accepted = refl
@@ -58,15 +63,22 @@ loss_keeps z stage.Accepted = refl
 loss_keeps z (stage.Live since) = refl
 
 -- a selection keeps its command as long as it is there
-advanced_keeps : (ms : ℕ) (what : Sign) (z : Selection) → Perhaps (HasCommand z.command) (advanced ms what z)
-advanced_keeps ms (sign.Sending k) z = pick (HasCommand z.command) (z.station == k) _ _ (sending_keeps z z.stage) refl
+advanced_keeps : (ms : ℕ) (what : Sign) (z : Selection)
+    → Perhaps (HasCommand z.command) (advanced ms what z)
+advanced_keeps ms (sign.Sending k) z = pick (HasCommand z.command) (z.station == k) _ _
+    (sending_keeps z z.stage) refl
 advanced_keeps ms (sign.Acceptance k) z = pick (HasCommand z.command) (z.station == k) _ _
     (acceptance_keeps z z.stage) refl
-advanced_keeps ms (sign.Loss k) z = pick (HasCommand z.command) (z.station == k) _ _ (loss_keeps z z.stage) refl
-advanced_keeps ms (sign.Over t) z = pick (HasCommand z.command) (same_target (target_of z.command) t) _ _ tt refl
-advanced_keeps ms (sign.Con t e now) z = pick (HasCommand z.command) (same_target (target_of z.command) t
-    && same_element z.command.element e && is_accepted z.stage && nat_lt (now - z.came) ms) _ _ refl refl
-advanced_keeps ms (sign.Time now) z = pick (HasCommand z.command) (nat_le ms (now - lasts_from z z.stage)) _ _ tt refl
+advanced_keeps ms (sign.Loss k) z = pick (HasCommand z.command) (z.station == k) _ _
+    (loss_keeps z z.stage) refl
+advanced_keeps ms (sign.Over t) z =
+    pick (HasCommand z.command) (same_target (target_of z.command) t) _ _ tt refl
+advanced_keeps ms (sign.Con t e now) z =
+    pick (HasCommand z.command) (same_target (target_of z.command) t
+    && same_element z.command.element e && is_accepted z.stage && nat_lt (now - z.came) ms) _ _ refl
+    refl
+advanced_keeps ms (sign.Time now) z =
+    pick (HasCommand z.command) (nat_le ms (now - lasts_from z z.stage)) _ _ tt refl
 
 -- ---- lists
 
@@ -79,12 +91,15 @@ two_stay y z w same h = λ kind ca address. h (kind ∙ ap (λ (c : Command). c.
 
 two_first : (y x z : Selection) → x.command ≡ y.command → HaveTwoTargets y z → HaveTwoTargets x z
 two_first y x z same h = λ kind ca address. h (sym (ap (λ (c : Command). c.kind) same)
-    ∙ kind) (sym (ap (λ (c : Command). c.ca) same) ∙ ca) (sym (ap (λ (c : Command). c.address) same) ∙ address)
+    ∙ kind) (sym (ap (λ (c : Command). c.ca) same) ∙ ca) (sym (ap (λ (c : Command). c.address) same)
+    ∙ address)
 
-others_left : (y : Selection) (ms : ℕ) (what : Sign) (zs : List Selection) → AllByRecursion (HaveTwoTargets y) zs
+others_left : (y : Selection) (ms : ℕ) (what : Sign) (zs : List Selection)
+    → AllByRecursion (HaveTwoTargets y) zs
     → AllByRecursion (HaveTwoTargets y) (After ms what zs)
 others_left y ms what [] h = tt
-others_left y ms what (z ∷ zs) h = joined (advanced ms what z) (advanced_keeps ms what z) (others_left y ms what zs h.1)
+others_left y ms what (z ∷ zs) h = joined (advanced ms what z) (advanced_keeps ms what z)
+    (others_left y ms what zs h.1)
   where
     joined : (o : Option Selection) → Perhaps (HasCommand z.command) o
         → AllByRecursion (HaveTwoTargets y) (After ms what zs)
@@ -92,27 +107,34 @@ others_left y ms what (z ∷ zs) h = joined (advanced ms what z) (advanced_keeps
     joined None same rest = rest
     joined (Some w) same rest = (two_stay y z w same h.0, rest)
 
-pub distinct_left : (ms : ℕ) (what : Sign) (zs : List Selection) → AreDistinct zs → AreDistinct (After ms what zs)
+pub distinct_left : (ms : ℕ) (what : Sign) (zs : List Selection) → AreDistinct zs
+    → AreDistinct (After ms what zs)
 distinct_left ms what [] h = tt
-distinct_left ms what (z ∷ zs) h = joined (advanced ms what z) (advanced_keeps ms what z) (distinct_left ms what zs h.1)
+distinct_left ms what (z ∷ zs) h = joined (advanced ms what z) (advanced_keeps ms what z)
+    (distinct_left ms what zs h.1)
   where
-    joined : (o : Option Selection) → Perhaps (HasCommand z.command) o → AreDistinct (After ms what zs)
+    joined : (o : Option Selection) → Perhaps (HasCommand z.command) o
+        → AreDistinct (After ms what zs)
         → AreDistinct (cons_option o (After ms what zs))
     joined None same rest = rest
     joined (Some w) same rest = (
-      all_mapped (HaveTwoTargets z) (HaveTwoTargets w) (λ x p. two_first z w x same p) (After ms what zs)
+      all_mapped (HaveTwoTargets z) (HaveTwoTargets w) (λ x p. two_first z w x same p)
+          (After ms what zs)
           (others_left z ms what zs h.0),
       rest,
     )
 
 -- those that are left are of other targets
-targets_are_one : (a b : Target) → a.kind ≡ b.kind → a.ca ≡ b.ca → a.address ≡ b.address → same_target a b ≡ true
+targets_are_one : (a b : Target) → a.kind ≡ b.kind → a.ca ≡ b.ca → a.address ≡ b.address
+    → same_target a b ≡ true
 targets_are_one a b kind ca address = rw (kind, ca, address) (same_target_itself b)
 
-other_target : (z y : Selection) → same_target (target_of z.command) (target_of y.command) ≡ false → HaveTwoTargets z y
+other_target : (z y : Selection) → same_target (target_of z.command) (target_of y.command) ≡ false
+    → HaveTwoTargets z y
 other_target z y h =
     λ kind ca address.
-    let no : false ≡ true = sym h ∙ targets_are_one (target_of z.command) (target_of y.command) kind ca address in
+    let no : false ≡ true = sym h ∙ targets_are_one (target_of z.command) (target_of y.command) kind
+    ca address in
     search (rules, no)
 
 left_of_over : (ms : ℕ) (y : Selection) (zs : List Selection)
@@ -128,15 +150,18 @@ left_of_over ms y (z ∷ zs) = joined (same_target (target_of z.command) (target
     joined true e rest = rest
     joined false e rest = (other_target z y e, rest)
 
-one_more : (P : Selection → Type 0) (zs : List Selection) (y : Selection) → AllByRecursion P zs → P y
+one_more : (P : Selection → Type 0) (zs : List Selection) (y : Selection) → AllByRecursion P zs
+    → P y
     → AllByRecursion P (zs ++ y ∷ [])
 one_more P [] y a p = (p, tt)
 one_more P (z ∷ zs) y a p = (a.0, one_more P zs y a.1 p)
 
-distinct_more : (zs : List Selection) (y : Selection) → AreDistinct zs → AllByRecursion (λ z. HaveTwoTargets z y) zs
+distinct_more : (zs : List Selection) (y : Selection) → AreDistinct zs
+    → AllByRecursion (λ z. HaveTwoTargets z y) zs
     → AreDistinct (zs ++ y ∷ [])
 distinct_more [] y d a = (tt, tt)
-distinct_more (z ∷ zs) y d a = (one_more (HaveTwoTargets z) zs y d.0 a.0, distinct_more zs y d.1 a.1)
+distinct_more (z ∷ zs) y d a =
+    (one_more (HaveTwoTargets z) zs y d.0 a.0, distinct_more zs y d.1 a.1)
 
 -- ---- calls
 
@@ -151,29 +176,35 @@ selects c now s d = distinct_more (After s.select_ms (sign.Over (target_of c)) s
     (judging.selection_of c now s) (tells (sign.Over (target_of c)) s d)
     (left_of_over s.select_ms (judging.selection_of c now s) s.selections)
 
-places : (xs : List ℕ) (c : Command) (now : ℕ) (t : State) → Keeps t → Keeps (judging.placed xs c now t).1
+places : (xs : List ℕ) (c : Command) (now : ℕ) (t : State) → Keeps t
+    → Keeps (judging.placed xs c now t).1
 places xs c now t d = by (lacks_place c t)
   where
     chosen : (b : Bool) → Keeps (judging.queued xs (if b then judging.selected c now t else t))
     chosen true = selects c now t d
     chosen false = d
 
-    by : (b : Bool) → Keeps (if b then judging.refused (negative xs) xs t else (None, judging.forwarded xs c now t)).1
+    by : (b : Bool) → Keeps (if b then judging.refused (negative xs) xs t
+        else (None, judging.forwarded xs c now t)).1
     by true = d
     by false = chosen (makes_selection t.stations c)
 
-judges : (xs : List ℕ) (now : ℕ) (wall : Option ℕ) (s : State) → Keeps s → Keeps (judging.judged xs now wall s).1
+judges : (xs : List ℕ) (now : ℕ) (wall : Option ℕ) (s : State) → Keeps s
+    → Keeps (judging.judged xs now wall s).1
 judges xs now wall s d = on_fault (fault s.sizes s.stations s.max_age_ms wall xs)
   where
     on_ends : (b : Bool)
-        → Keeps (judging.placed xs (command_at xs) now (if b then judging.without_selection (command_at xs) s else s)).1
+        → Keeps (judging.placed xs (command_at xs) now (if b
+        then judging.without_selection (command_at xs) s else s)).1
     on_ends true = places xs (command_at xs) now (judging.without_selection (command_at xs) s)
         (tells (sign.Over (target_of (command_at xs))) s d)
     on_ends false = places xs (command_at xs) now s d
 
     on_lack : (b : Bool) →
-        Keeps (if b then judging.refused (negative xs) xs (judging.without_selection (command_at xs) s)
-        else judging.placed xs (command_at xs) now (if ends_selection (command_at xs) then judging.without_selection
+        Keeps (if b
+        then judging.refused (negative xs) xs (judging.without_selection (command_at xs) s)
+        else judging.placed xs (command_at xs) now (if ends_selection (command_at xs)
+        then judging.without_selection
         (command_at xs) s else s)).1
     on_lack true = tells (sign.Over (target_of (command_at xs))) s d
     on_lack false = on_ends (ends_selection (command_at xs))
@@ -184,7 +215,8 @@ judges xs now wall s d = on_fault (fault s.sizes s.stations s.max_age_ms wall xs
 
 all_over : (v : AsduValue) (is : List Info) (s : State) → Keeps s → Keeps (mirrors.all_over v is s)
 all_over v [] s d = d
-all_over v (i ∷ is) s d = all_over v is (told (sign.Over (target_at v i)) s) (tells (sign.Over (target_at v i)) s d)
+all_over v (i ∷ is) s d = all_over v is (told (sign.Over (target_at v i)) s)
+    (tells (sign.Over (target_at v i)) s d)
 
 hears : (v : AsduValue) (now : ℕ) (s : State) → Keeps s → Keeps (mirrors.mirrored v now s)
 hears v now s d = by_sign (is_con true v.cause)
@@ -218,7 +250,8 @@ gives : (r : Run) (o : Option (List ℕ)) → Keeps r.state → Keeps (after_ans
 gives r None d = d
 gives r (Some octets) d = d
 
-offers : (octets : List ℕ) (s : State) (b : Bool) → Keeps s → Keeps (if b then state.kept octets s else s)
+offers : (octets : List ℕ) (s : State) (b : Bool) → Keeps s
+    → Keeps (if b then state.kept octets s else s)
 offers octets s true d = d
 offers octets s false d = d
 
@@ -237,5 +270,6 @@ step_keeps (Due now) r d = tells (sign.Time now) r.state d
 pub run_distinct : (stations : List StationInfo) (sizes : Sizes) (ms age : ℕ) (calls : List Call)
     → AreDistinct (run stations sizes ms age calls).state.selections
 run_distinct stations sizes ms age [] = tt
-run_distinct stations sizes ms age (call ∷ earlier) = step_keeps call (run stations sizes ms age earlier)
+run_distinct stations sizes ms age (call ∷ earlier) =
+    step_keeps call (run stations sizes ms age earlier)
     (run_distinct stations sizes ms age earlier)

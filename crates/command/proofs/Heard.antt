@@ -1,8 +1,10 @@
 -- A sign that no selection hears of changes none.
-use Rattle.std.proofs.Common.{◌≡◌, ℕ, ◌&&◌, ◌||◌, Bool, true, false, not, List, [], ◌∷◌, refl, sym, ap, ◌∙◌}
+use Rattle.std.proofs.Common.{◌≡◌, ℕ, ◌&&◌, ◌||◌, Bool, true, false, not, List, [], ◌∷◌, refl, sym}
+use Rattle.std.proofs.Common.{ap, ◌∙◌}
 use Rattle.std.specs.Prelude.{◌==◌, Option, Some, if◌then◌else◌}
 use Rattle.std.specs.List.{filter_map, list_any, cons_option}
-use Rattle.command.specs.Selection.{advanced, after_sending, after_acceptance, after_loss, hears, is_accepted}
+use Rattle.command.specs.Selection.{advanced, after_sending, after_acceptance, after_loss, hears}
+use Rattle.command.specs.Selection.{is_accepted}
 use Rattle.command.specs.State.{State, told}
 use Rattle.command.specs.declared.selection.Selection.{Selection}
 use Rattle.command.specs.declared.selection.Stage.{Stage}
@@ -11,8 +13,10 @@ use Rattle.command.specs.declared.selection.Sign.{Sign}
 use Rattle.command.specs.declared.selection.Sign.TheVariants as sign
 
 -- a step of the line changes nothing of a selection that its station accepted
-accepted_stays : (f : Stage → Selection → Option Selection) → ((z : Selection) → f Accepted z ≡ Some z)
-    → ((since : ℕ) (z : Selection) → f (Live since) z ≡ Some z) → (z : Selection) (here : Bool) (stage : Stage)
+accepted_stays : (f : Stage → Selection → Option Selection)
+    → ((z : Selection) → f Accepted z ≡ Some z)
+    → ((since : ℕ) (z : Selection) → f (Live since) z ≡ Some z)
+    → (z : Selection) (here : Bool) (stage : Stage)
     → (here && not (is_accepted stage)) ≡ false → (if here then f stage z else Some z) ≡ Some z
 accepted_stays f at live z false stage e = refl
 accepted_stays f at live z true (Queued ahead) e = absurd (let no : ⊥ = cc in no)
@@ -20,7 +24,8 @@ accepted_stays f at live z true Sent e = absurd (let no : ⊥ = cc in no)
 accepted_stays f at live z true Accepted e = at z
 accepted_stays f at live z true (Live since) e = live since z
 
-unheard_stays : (ms : ℕ) (what : Sign) (z : Selection) → hears ms what z ≡ false → advanced ms what z ≡ Some z
+pub unheard_stays : (ms : ℕ) (what : Sign) (z : Selection) → hears ms what z ≡ false
+    → advanced ms what z ≡ Some z
 unheard_stays ms (sign.Sending station) z e =
     accepted_stays after_sending (λ z. refl) (λ since z. refl) z (z.station == station) z.stage e
 unheard_stays ms (sign.Acceptance station) z e =
@@ -44,7 +49,9 @@ unheard ms what (z ∷ zs) e =
     (unheard_stays ms what z parts.0)
     ∙ ap (λ (ys : List Selection). z ∷ ys) (unheard ms what zs parts.1)
 
-pub unheard_told : (what : Sign) (s : State) → list_any (hears s.select_ms what) s.selections ≡ false
+pub unheard_told : (what : Sign) (s : State) → list_any (hears s.select_ms what) s.selections
+    ≡ false
     → s ≡ told what s
 unheard_told what s e =
-    ap (λ (zs : List Selection). record s { selections = zs }) (sym (unheard s.select_ms what s.selections e))
+    ap (λ (zs : List Selection). record s { selections = zs })
+    (sym (unheard s.select_ms what s.selections e))

@@ -1,5 +1,6 @@
 -- What judging keeps.
-use Rattle.std.proofs.Common.{◌≡◌, ℕ, ◌+◌, ◌-◌, ◌≤◌, ◌&&◌, ◌||◌, Bool, true, false, not, List, [], ◌∷◌, ◌++◌, length, drop, refl, sym, subst, ap, ◌∙◌, arith, rules}
+use Rattle.std.proofs.Common.{◌≡◌, ℕ, ◌+◌, ◌-◌, ◌≤◌, ◌&&◌, ◌||◌, Bool, true, false, not, List, []}
+use Rattle.std.proofs.Common.{◌∷◌, ◌++◌, length, drop, refl, sym, subst, ap, ◌∙◌, arith, rules}
 use Rattle.std.specs.Prelude.{◌==◌, Option, Some, None, if◌then◌else◌, is_none, slice_get}
 use Rattle.std.specs.List.{filter_map, list_any, AllByRecursion}
 use Rattle.std.proofs.lemmas.List.{length-append, append-nil, length-drop, drop-append-le}
@@ -15,18 +16,22 @@ use Rattle.command.specs.declared.selection.Stage.TheVariants as stage
 use Rattle.command.specs.declared.selection.Sign.TheVariants as sign
 use Rattle.command.specs.declared.waiting.Line.{Line}
 use Rattle.command.specs.Command.{command_at, is_execute, without_select}
-use Rattle.command.specs.Selection.{advanced, target_of, same_target, same_element, same_test, is_live, lets_through}
+use Rattle.command.specs.Selection.{advanced, target_of, same_target, same_element, same_test}
+use Rattle.command.specs.Selection.{is_live, lets_through}
 use Rattle.command.specs.Octets.{answer, negative}
 use Rattle.command.specs.Stations.{station_number, is_guarded}
 use Rattle.command.specs.State.{State}
 use Rattle.command.specs.Judging as judging
-use Rattle.command.specs.Judging.{fault, copies, waiting_count, makes_selection, ends_selection, lacks_selection}
+use Rattle.command.specs.Judging.{fault, copies, waiting_count, makes_selection, ends_selection}
+use Rattle.command.specs.Judging.{lacks_selection}
 use Rattle.command.specs.History.{Judged, History, sent_count, forwarded_to, is_for, cause_given}
 use Rattle.command.proofs.Machine.{Select, standing, names, IsSelected}
 use Rattle.command.proofs.ReadAlike.{faults_read}
-use Rattle.command.proofs.Sendings.{waiting_for, waiting_for-append, copies_for, if_for, copies_shaped, shaped-append, count_is, same}
+use Rattle.command.proofs.Sendings.{waiting_for, waiting_for-append, copies_for, if_for}
+use Rattle.command.proofs.Sendings.{copies_shaped, shaped-append, count_is, same}
 use Rattle.command.proofs.Keeps.{KeepsQueue, KeepsLines, KeepsOwn, Keeps, Same}
-use Rattle.command.proofs.Tied.{AtStage, station_at, select_of, Perhaps, all_kept, all_mapped, Tied, judged_tied}
+use Rattle.command.proofs.Tied.{AtStage, station_at, select_of, Perhaps, all_kept, all_mapped, Tied}
+use Rattle.command.proofs.Tied.{judged_tied}
 
 pub and_false : (a b : Bool) → b ≡ false → (a && b) ≡ false
 and_false true b h = h
@@ -68,32 +73,43 @@ module _ (sizes : Sizes) (stations : List StationInfo) (select_ms max_age_ms : �
   stand t h = standing sizes stations select_ms max_age_ms t h
 
   -- another target's select stands
-  other_target : (h : History) (now : ℕ) (wall : Option ℕ) (xs : List ℕ) (b : Option (List ℕ)) (t : Target)
-      → same_target t (target_of (command_at xs)) ≡ false → stand t (Judged now wall xs b ∷ h) ≡ stand t h
+  other_target : (h : History) (now : ℕ) (wall : Option ℕ) (xs : List ℕ) (b : Option (List ℕ))
+      (t : Target)
+      → same_target t (target_of (command_at xs)) ≡ false → stand t (Judged now wall xs b ∷ h)
+      ≡ stand t h
   other_target h now wall xs b t e =
-      rw (and_false (is_none (fault sizes stations max_age_ms wall xs)) (same_target t (target_of (command_at xs))) e)
+      rw (and_false (is_none (fault sizes stations max_age_ms wall xs))
+      (same_target t (target_of (command_at xs))) e)
       refl
 
-  faulty : (h : History) (now : ℕ) (wall : Option ℕ) (xs : List ℕ) (cause : ℕ) (a : List ℕ) (t : Target)
-      → fault sizes stations max_age_ms wall xs ≡ Some cause → stand t (Judged now wall xs (Some a) ∷ h) ≡ stand t h
+  faulty : (h : History) (now : ℕ) (wall : Option ℕ) (xs : List ℕ) (cause : ℕ) (a : List ℕ)
+      (t : Target)
+      → fault sizes stations max_age_ms wall xs ≡ Some cause
+      → stand t (Judged now wall xs (Some a) ∷ h) ≡ stand t h
   faulty h now wall xs cause a t e = rw e refl
 
-  left_alone : (h : History) (now : ℕ) (wall : Option ℕ) (xs : List ℕ) (b : Option (List ℕ)) (t : Target) (n : Bool)
+  left_alone : (h : History) (now : ℕ) (wall : Option ℕ) (xs : List ℕ) (b : Option (List ℕ))
+      (t : Target) (n : Bool)
       → names sizes stations select_ms max_age_ms t wall xs ≡ n
-      → (is_none b && makes_selection stations (command_at xs)) ≡ false → ends_selection (command_at xs) ≡ false
+      → (is_none b && makes_selection stations (command_at xs)) ≡ false
+      → ends_selection (command_at xs) ≡ false
       → stand t (Judged now wall xs b ∷ h) ≡ stand t h
   left_alone h now wall xs b t true e m d = rw (e, m, d) refl
   left_alone h now wall xs b t false e m d = rw e refl
 
-  over_at : (h : History) (now : ℕ) (wall : Option ℕ) (xs : List ℕ) (b : Option (List ℕ)) (z : Selection) (r : Bool)
+  over_at : (h : History) (now : ℕ) (wall : Option ℕ) (xs : List ℕ) (b : Option (List ℕ))
+      (z : Selection) (r : Bool)
       → same_target (target_of z.command) (target_of (command_at xs)) ≡ r
       → Tied sizes stations select_ms max_age_ms h z →
-      Perhaps (Tied sizes stations select_ms max_age_ms (Judged now wall xs b ∷ h)) (if r then None else Some z)
+      Perhaps (Tied sizes stations select_ms max_age_ms (Judged now wall xs b ∷ h)) (if r then None
+      else Some z)
   over_at h now wall xs b z true e t = tt
-  over_at h now wall xs b z false e t = judged_tied sizes stations select_ms max_age_ms h now wall xs b z t
+  over_at h now wall xs b z false e t = judged_tied sizes stations select_ms max_age_ms h now wall
+      xs b z t
       (other_target h now wall xs b (target_of z.command) e)
 
-  over_now : (h : History) (c : Command) (z : Selection) (r : Bool) → Tied sizes stations select_ms max_age_ms h z
+  over_now : (h : History) (c : Command) (z : Selection) (r : Bool)
+      → Tied sizes stations select_ms max_age_ms h z
       → Perhaps (Tied sizes stations select_ms max_age_ms h) (if r then None else Some z)
   over_now h c z true t = tt
   over_now h c z false t = t
@@ -104,11 +120,16 @@ module _ (sizes : Sizes) (stations : List StationInfo) (select_ms max_age_ms : �
   abbrev All : History → List Selection → Type 0
   All h zs = AllByRecursion (Tied sizes stations select_ms max_age_ms h) zs
 
-  all_over : (h : History) (now : ℕ) (wall : Option ℕ) (xs : List ℕ) (b : Option (List ℕ)) (zs : List Selection)
+  all_over : (h : History) (now : ℕ) (wall : Option ℕ) (xs : List ℕ) (b : Option (List ℕ))
+      (zs : List Selection)
       → All h zs → All (Judged now wall xs b ∷ h) (over (command_at xs) zs)
-  all_over h now wall xs b zs a = all_kept (advanced select_ms (sign.Over (target_of (command_at xs))))
-      (Tied sizes stations select_ms max_age_ms h) (Tied sizes stations select_ms max_age_ms (Judged now wall xs b
-      ∷ h)) (λ z t. over_at h now wall xs b z (same_target (target_of z.command) (target_of (command_at xs))) refl t)
+  all_over h now wall xs b zs a =
+      all_kept (advanced select_ms (sign.Over (target_of (command_at xs))))
+      (Tied sizes stations select_ms max_age_ms h)
+      (Tied sizes stations select_ms max_age_ms (Judged now wall xs b
+      ∷ h))
+      (λ z t. over_at h now wall xs b z
+      (same_target (target_of z.command) (target_of (command_at xs))) refl t)
       zs a
 
   all_over_now : (h : History) (c : Command) (zs : List Selection) → All h zs → All h (over c zs)
@@ -117,7 +138,8 @@ module _ (sizes : Sizes) (stations : List StationInfo) (select_ms max_age_ms : �
       (λ z t. over_now h c z _ t) zs a
 
   -- an ASDU that is answered changes nothing of the queue, the lines and the own answers
-  answered_queue : (waiting : List Waiting) (h : History) (now : ℕ) (wall : Option ℕ) (xs a : List ℕ)
+  answered_queue : (waiting : List Waiting) (h : History) (now : ℕ) (wall : Option ℕ)
+      (xs a : List ℕ)
       → KeepsQueue sizes stations select_ms max_age_ms waiting h
       → KeepsQueue sizes stations select_ms max_age_ms waiting (Judged now wall xs (Some a) ∷ h)
   answered_queue waiting h now wall xs a q = record {
@@ -128,21 +150,25 @@ module _ (sizes : Sizes) (stations : List StationInfo) (select_ms max_age_ms : �
         q.sends;
   }
 
-  judged_lines : (lines : List Line) (h : History) (now : ℕ) (wall : Option ℕ) (xs : List ℕ) (b : Option (List ℕ))
+  judged_lines : (lines : List Line) (h : History) (now : ℕ) (wall : Option ℕ) (xs : List ℕ)
+      (b : Option (List ℕ))
       → KeepsLines sizes stations select_ms max_age_ms lines h
       → KeepsLines sizes stations select_ms max_age_ms lines (Judged now wall xs b ∷ h)
   judged_lines lines h now wall xs b l = record { number = l.number; held = l.held; used = l.used }
 
-  judged_own : (answers : List (List ℕ)) (h : History) (now : ℕ) (wall : Option ℕ) (xs : List ℕ) (b : Option (List ℕ))
+  judged_own : (answers : List (List ℕ)) (h : History) (now : ℕ) (wall : Option ℕ) (xs : List ℕ)
+      (b : Option (List ℕ))
       → KeepsOwn answers h → KeepsOwn answers (Judged now wall xs b ∷ h)
   judged_own answers h now wall xs b o = record { in_turn = o.in_turn; kept = o.kept }
 
-  not_forwarded : (waiting : List Waiting) (lines : List Line) (old zs : List Selection) (answers : List (List ℕ))
+  not_forwarded : (waiting : List Waiting) (lines : List Line) (old zs : List Selection)
+      (answers : List (List ℕ))
       (h : History) (now : ℕ) (wall : Option ℕ) (xs a : List ℕ)
       → Keeps sizes stations select_ms max_age_ms waiting lines old answers h →
       a ≡ answer (cause_given sizes stations select_ms max_age_ms wall xs) xs
       → All (Judged now wall xs (Some a) ∷ h) zs
-      → Keeps sizes stations select_ms max_age_ms waiting lines zs answers (Judged now wall xs (Some a) ∷ h)
+      → Keeps sizes stations select_ms max_age_ms waiting lines zs answers
+      (Judged now wall xs (Some a) ∷ h)
   not_forwarded waiting lines old zs answers h now wall xs a k right all = record {
     queue = answered_queue waiting h now wall xs a k.queue;
     on_lines = judged_lines lines h now wall xs (Some a) k.on_lines;
@@ -162,37 +188,47 @@ module _ (sizes : Sizes) (stations : List StationInfo) (select_ms max_age_ms : �
   longer n fw xs true h = omega (arith, h, length-append fw (xs ∷ []))
   longer n fw xs false h = h
 
-  left_longer : (n : ℕ) (fw ws : List (List ℕ)) (xs : List ℕ) (b : Bool) → n ≤ length fw → drop n fw ≡ ws
+  left_longer : (n : ℕ) (fw ws : List (List ℕ)) (xs : List ℕ) (b : Bool) → n ≤ length fw
+      → drop n fw ≡ ws
       → drop n (if b then fw ++ xs ∷ [] else fw) ≡ ws ++ if_for b xs
   left_longer n fw ws xs true h e = drop-append-le n fw (xs ∷ []) h ∙ ap (λ ys. ys ++ xs ∷ []) e
   left_longer n fw ws xs false h e = e ∙ sym (append-nil ws)
 
   forwarded_queue : (waiting : List Waiting) (h : History) (now : ℕ) (wall : Option ℕ) (xs : List ℕ)
-      → fault sizes stations max_age_ms wall xs ≡ None → KeepsQueue sizes stations select_ms max_age_ms waiting h →
-      KeepsQueue sizes stations select_ms max_age_ms (waiting ++ copies sizes xs 0 stations) (Judged now wall xs None
+      → fault sizes stations max_age_ms wall xs ≡ None
+      → KeepsQueue sizes stations select_ms max_age_ms waiting h →
+      KeepsQueue sizes stations select_ms max_age_ms (waiting ++ copies sizes xs 0 stations)
+      (Judged now wall xs None
       ∷ h)
   forwarded_queue waiting h now wall xs f q = record {
     count = λ k. longer (sent_count sizes stations select_ms max_age_ms k h)
-        (forwarded_to sizes stations select_ms max_age_ms k h) xs (is_for sizes stations select_ms max_age_ms k xs)
+        (forwarded_to sizes stations select_ms max_age_ms k h) xs
+        (is_for sizes stations select_ms max_age_ms k xs)
         (q.count k);
     in_turn = λ k. (
         let none_before : k ≡ 0 + k = omega arith in
         left_longer (sent_count sizes stations select_ms max_age_ms k h)
         (forwarded_to sizes stations select_ms max_age_ms k h) (waiting_for k waiting) xs
         (is_for sizes stations select_ms max_age_ms k xs) (q.count k) (q.in_turn k)
-        ∙ ap (λ ys. waiting_for k waiting ++ ys) (sym (copies_for sizes xs k 0 k stations none_before))
+        ∙ ap (λ ys. waiting_for k waiting ++ ys)
+        (sym (copies_for sizes xs k 0 k stations none_before))
         ∙ sym (waiting_for-append k waiting (copies sizes xs 0 stations)));
     shaped = shaped-append sizes stations waiting (copies sizes xs 0 stations) q.shaped
-        (copies_shaped sizes stations max_age_ms wall xs f 0 stations (let e : 0 + length stations ≡ length stations =
-        omega arith in e) (λ k. let e : 0 + k ≡ k = omega arith in ap (λ n. slice_get stations n) e));
+        (copies_shaped sizes stations max_age_ms wall xs f 0 stations (let e : 0 + length stations
+        ≡ length stations =
+        omega arith in e) (λ k. let e : 0 + k ≡ k = omega arith in
+        ap (λ n. slice_get stations n) e));
     sends = q.sends;
   }
 
-  was_forwarded : (waiting : List Waiting) (lines : List Line) (old zs : List Selection) (answers : List (List ℕ))
+  was_forwarded : (waiting : List Waiting) (lines : List Line) (old zs : List Selection)
+      (answers : List (List ℕ))
       (h : History) (now : ℕ) (wall : Option ℕ) (xs : List ℕ)
       → Keeps sizes stations select_ms max_age_ms waiting lines old answers h →
-      fault sizes stations max_age_ms wall xs ≡ None → IsLet h now xs → All (Judged now wall xs None ∷ h) zs
-      → Keeps sizes stations select_ms max_age_ms (waiting ++ copies sizes xs 0 stations) lines zs answers
+      fault sizes stations max_age_ms wall xs ≡ None → IsLet h now xs
+      → All (Judged now wall xs None ∷ h) zs
+      → Keeps sizes stations select_ms max_age_ms (waiting ++ copies sizes xs 0 stations) lines zs
+      answers
       (Judged now wall xs None ∷ h)
   was_forwarded waiting lines old zs answers h now wall xs k f let_through all = record {
     queue = forwarded_queue waiting h now wall xs f k.queue;
@@ -216,9 +252,11 @@ module _ (sizes : Sizes) (stations : List StationInfo) (select_ms max_age_ms : �
   left_is n fw h = omega (arith, h, length-drop n fw)
 
   new_tied : (waiting : List Waiting) (h : History) (now : ℕ) (wall : Option ℕ) (xs : List ℕ)
-      → KeepsQueue sizes stations select_ms max_age_ms waiting h → fault sizes stations max_age_ms wall xs ≡ None
+      → KeepsQueue sizes stations select_ms max_age_ms waiting h
+      → fault sizes stations max_age_ms wall xs ≡ None
       → makes_selection stations (command_at xs) ≡ true →
-      Tied sizes stations select_ms max_age_ms (Judged now wall xs None ∷ h) (new_one (command_at xs) now waiting)
+      Tied sizes stations select_ms max_age_ms (Judged now wall xs None ∷ h)
+      (new_one (command_at xs) now waiting)
   new_tied waiting h now wall xs q f m =
       let k : ℕ = station_number (command_at xs).ca stations in
       let left : length (forwarded_to sizes stations select_ms max_age_ms k h)
@@ -238,16 +276,20 @@ module _ (sizes : Sizes) (stations : List StationInfo) (select_ms max_age_ms : �
       }
 
 module _ (s : State) (h : History) (xs : List ℕ) (now : ℕ) (wall : Option ℕ)
-    (ks : Keeps s.sizes s.stations s.select_ms s.max_age_ms s.waiting s.lines s.selections s.answers h) where
+    (ks : Keeps s.sizes s.stations s.select_ms s.max_age_ms s.waiting s.lines s.selections s.answers
+    h) where
   abbrev pub Goal : judging.Judgement → Type 0
-  Goal r = Same s r.1 × Keeps s.sizes s.stations s.select_ms s.max_age_ms r.1.waiting r.1.lines r.1.selections
+  Goal r = Same s r.1 × Keeps s.sizes s.stations s.select_ms s.max_age_ms r.1.waiting r.1.lines
+      r.1.selections
       r.1.answers (Judged now wall xs r.0 ∷ h)
 
   abbrev with_selections : List Selection → State
   with_selections zs = record s { selections = zs }
 
   abbrev Tied_after : Option (List ℕ) → List Selection → Type 0
-  Tied_after b zs = AllByRecursion (Tied s.sizes s.stations s.select_ms s.max_age_ms (Judged now wall xs b ∷ h)) zs
+  Tied_after b zs =
+      AllByRecursion (Tied s.sizes s.stations s.select_ms s.max_age_ms (Judged now wall xs b ∷ h))
+      zs
 
   abbrev refusal : List ℕ
   refusal = answer (negative xs) xs
@@ -257,15 +299,18 @@ module _ (s : State) (h : History) (xs : List ℕ) (now : ℕ) (wall : Option �
       → refusal ≡ answer (cause_given s.sizes s.stations s.select_ms s.max_age_ms wall xs) xs
   negative_given f = rw (sym (faults_read s.sizes s.stations s.max_age_ms wall xs) ∙ f) refl
 
-  refuse : (zs : List Selection) → fault s.sizes s.stations s.max_age_ms wall xs ≡ None → Tied_after (Some refusal) zs
+  refuse : (zs : List Selection) → fault s.sizes s.stations s.max_age_ms wall xs ≡ None
+      → Tied_after (Some refusal) zs
       → Goal (judging.refused (negative xs) xs (with_selections zs))
   refuse zs f all = (
     record { sizes = refl; stations = refl; select_ms = refl; max_age_ms = refl },
-    not_forwarded s.sizes s.stations s.select_ms s.max_age_ms s.waiting s.lines s.selections zs s.answers h now wall
+    not_forwarded s.sizes s.stations s.select_ms s.max_age_ms s.waiting s.lines s.selections zs
+        s.answers h now wall
         xs refusal ks (negative_given f) all,
   )
 
-  on_makes : (zs : List Selection) → AllByRecursion (Tied s.sizes s.stations s.select_ms s.max_age_ms h) zs
+  on_makes : (zs : List Selection)
+      → AllByRecursion (Tied s.sizes s.stations s.select_ms s.max_age_ms h) zs
       → (makes_selection s.stations (command_at xs) ≡ false → Tied_after None zs)
       → IsLet s.sizes s.stations s.select_ms s.max_age_ms h now xs
       → fault s.sizes s.stations s.max_age_ms wall xs ≡ None →
@@ -277,19 +322,25 @@ module _ (s : State) (h : History) (xs : List ℕ) (now : ℕ) (wall : Option �
       )
   on_makes zs a plain l f true e = (
     record { sizes = refl; stations = refl; select_ms = refl; max_age_ms = refl },
-    was_forwarded s.sizes s.stations s.select_ms s.max_age_ms s.waiting s.lines s.selections _ s.answers h now wall xs
+    was_forwarded s.sizes s.stations s.select_ms s.max_age_ms s.waiting s.lines s.selections _
+        s.answers h now wall xs
         ks f l
-        (all_append _ _ _ (all_over s.sizes s.stations s.select_ms s.max_age_ms h now wall xs None zs a)
-        (new_tied s.sizes s.stations s.select_ms s.max_age_ms s.waiting h now wall xs ks.queue f e)),
+        (all_append _ _ _ (all_over s.sizes s.stations s.select_ms s.max_age_ms h now wall xs None
+        zs a)
+        (new_tied s.sizes s.stations s.select_ms s.max_age_ms s.waiting h now wall xs ks.queue f
+        e)),
   )
   on_makes zs a plain l f false e = (
     record { sizes = refl; stations = refl; select_ms = refl; max_age_ms = refl },
-    was_forwarded s.sizes s.stations s.select_ms s.max_age_ms s.waiting s.lines s.selections zs s.answers h now wall
+    was_forwarded s.sizes s.stations s.select_ms s.max_age_ms s.waiting s.lines s.selections zs
+        s.answers h now wall
         xs ks f l (plain e),
   )
 
-  on_place : (zs : List Selection) → AllByRecursion (Tied s.sizes s.stations s.select_ms s.max_age_ms h) zs
-      → Tied_after (Some refusal) zs → (makes_selection s.stations (command_at xs) ≡ false → Tied_after None zs)
+  on_place : (zs : List Selection)
+      → AllByRecursion (Tied s.sizes s.stations s.select_ms s.max_age_ms h) zs
+      → Tied_after (Some refusal) zs → (makes_selection s.stations (command_at xs) ≡ false
+      → Tied_after None zs)
       → IsLet s.sizes s.stations s.select_ms s.max_age_ms h now xs
       → fault s.sizes s.stations s.max_age_ms wall xs ≡ None →
       (b : Bool) → Goal (if b then judging.refused (negative xs) xs (with_selections zs) else (
@@ -297,26 +348,36 @@ module _ (s : State) (h : History) (xs : List ℕ) (now : ℕ) (wall : Option �
         judging.forwarded xs (command_at xs) now (with_selections zs),
       ))
   on_place zs a refused plain l f true = refuse zs f refused
-  on_place zs a refused plain l f false = on_makes zs a plain l f (makes_selection s.stations (command_at xs)) refl
+  on_place zs a refused plain l f false =
+      on_makes zs a plain l f (makes_selection s.stations (command_at xs)) refl
 
   on_ends : IsLet s.sizes s.stations s.select_ms s.max_age_ms h now xs
-      → fault s.sizes s.stations s.max_age_ms wall xs ≡ None → (b : Bool) → ends_selection (command_at xs) ≡ b →
-      Goal (judging.placed xs (command_at xs) now (if b then judging.without_selection (command_at xs) s else s))
+      → fault s.sizes s.stations s.max_age_ms wall xs ≡ None → (b : Bool)
+      → ends_selection (command_at xs) ≡ b →
+      Goal (judging.placed xs (command_at xs) now (if b
+      then judging.without_selection (command_at xs) s else s))
   on_ends l f true e =
-      on_place _ (all_over_now s.sizes s.stations s.select_ms s.max_age_ms h (command_at xs) s.selections ks.tied)
-      (all_over s.sizes s.stations s.select_ms s.max_age_ms h now wall xs (Some refusal) s.selections ks.tied)
-      (λ m. all_over s.sizes s.stations s.select_ms s.max_age_ms h now wall xs None s.selections ks.tied) l f _
+      on_place _ (all_over_now s.sizes s.stations s.select_ms s.max_age_ms h (command_at xs)
+      s.selections ks.tied)
+      (all_over s.sizes s.stations s.select_ms s.max_age_ms h now wall xs (Some refusal)
+      s.selections ks.tied)
+      (λ m. all_over s.sizes s.stations s.select_ms s.max_age_ms h now wall xs None s.selections
+      ks.tied) l f _
   on_ends l f false e = on_place s.selections ks.tied
-      (all_mapped _ _ (λ z t. judged_tied s.sizes s.stations s.select_ms s.max_age_ms h now wall xs (Some refusal) z t
+      (all_mapped _ _ (λ z t. judged_tied s.sizes s.stations s.select_ms s.max_age_ms h now wall xs
+      (Some refusal) z t
       (left_alone s.sizes s.stations s.select_ms s.max_age_ms h now wall xs (Some refusal)
       (target_of z.command) _ refl refl e)) s.selections ks.tied)
-      (λ m. all_mapped _ _ (λ z t. judged_tied s.sizes s.stations s.select_ms s.max_age_ms h now wall xs None z t
-      (left_alone s.sizes s.stations s.select_ms s.max_age_ms h now wall xs None (target_of z.command) _ refl m e))
+      (λ m. all_mapped _ _ (λ z t. judged_tied s.sizes s.stations s.select_ms s.max_age_ms h now
+      wall xs None z t
+      (left_alone s.sizes s.stations s.select_ms s.max_age_ms h now wall xs None
+      (target_of z.command) _ refl m e))
       s.selections ks.tied) l f _
 
   on_lack : ((lacks_selection (command_at xs) now s ≡ false)
       → IsLet s.sizes s.stations s.select_ms s.max_age_ms h now xs)
-      → fault s.sizes s.stations s.max_age_ms wall xs ≡ None → (b : Bool) → lacks_selection (command_at xs) now s ≡ b →
+      → fault s.sizes s.stations s.max_age_ms wall xs ≡ None → (b : Bool)
+      → lacks_selection (command_at xs) now s ≡ b →
       Goal (if b then judging.refused (negative xs) xs
       (judging.without_selection (command_at xs) s) else judging.placed xs (command_at xs) now
       (if ends_selection (command_at xs) then judging.without_selection (command_at xs) s else s))
@@ -356,7 +417,8 @@ module _ (s : State) (h : History) (xs : List ℕ) (now : ℕ) (wall : Option �
   let_by z t e =
       let p : _ = and_parts (same_target (target_of z.command) (target_of (command_at xs))
       && same_element (without_select z.command.element) (command_at xs).element
-      && same_test z.command.cause (command_at xs).cause && z.command.received == (command_at xs).received)
+      && same_test z.command.cause (command_at xs).cause && z.command.received ==
+      (command_at xs).received)
       (is_live s.select_ms now z.stage) e in
       let o : _ = and_parts (same_target (target_of z.command) (target_of (command_at xs))
       && same_element (without_select z.command.element) (command_at xs).element
@@ -367,10 +429,12 @@ module _ (s : State) (h : History) (xs : List ℕ) (now : ℕ) (wall : Option �
       (same_test z.command.cause (command_at xs).cause) o.0 in
       let r : _ = and_parts (same_target (target_of z.command) (target_of (command_at xs)))
       (same_element (without_select z.command.element) (command_at xs).element) q.0 in
-      live_at z t z.stage t.at_stage p.1 (targets_equal (target_of z.command) (target_of (command_at xs)) r.0) o.1 r.1
+      live_at z t z.stage t.at_stage p.1
+      (targets_equal (target_of z.command) (target_of (command_at xs)) r.0) o.1 r.1
       q.1
 
-  found : (z : Selection) (zs : List Selection) (b : Bool) → lets_through s.select_ms (command_at xs) now z ≡ b
+  found : (z : Selection) (zs : List Selection) (b : Bool)
+      → lets_through s.select_ms (command_at xs) now z ≡ b
       → Tied s.sizes s.stations s.select_ms s.max_age_ms h z
       → (b || list_any (lets_through s.select_ms (command_at xs) now) zs) ≡ true →
       (list_any (lets_through s.select_ms (command_at xs) now) zs ≡ true
@@ -379,24 +443,33 @@ module _ (s : State) (h : History) (xs : List ℕ) (now : ℕ) (wall : Option �
   found z zs true e t h2 rest = let_by z t e
   found z zs false e t h2 rest = rest h2
 
-  find_select : (zs : List Selection) → AllByRecursion (Tied s.sizes s.stations s.select_ms s.max_age_ms h) zs
+  find_select : (zs : List Selection)
+      → AllByRecursion (Tied s.sizes s.stations s.select_ms s.max_age_ms h) zs
       → list_any (lets_through s.select_ms (command_at xs) now) zs ≡ true
       → IsSelected s.sizes s.stations s.select_ms s.max_age_ms (command_at xs) now h
   find_select [] a e = absurd (false_is_not_true e)
-  find_select (z ∷ zs) a e = found z zs (lets_through s.select_ms (command_at xs) now z) refl a.0 e (find_select zs a.1)
+  find_select (z ∷ zs) a e = found z zs (lets_through s.select_ms (command_at xs) now z) refl a.0 e
+      (find_select zs a.1)
 
-  selected : lacks_selection (command_at xs) now s ≡ false → IsLet s.sizes s.stations s.select_ms s.max_age_ms h now xs
+  selected : lacks_selection (command_at xs) now s ≡ false
+      → IsLet s.sizes s.stations s.select_ms s.max_age_ms h now xs
   selected e g x =
-      find_select s.selections ks.tied (has_one (is_guarded s.stations (command_at xs)) (is_execute (command_at xs))
+      find_select s.selections ks.tied (has_one (is_guarded s.stations (command_at xs))
+      (is_execute (command_at xs))
       (list_any (lets_through s.select_ms (command_at xs) now) s.selections) g x e)
 
-  on_fault : (f : Option ℕ) → fault s.sizes s.stations s.max_age_ms wall xs ≡ f → Goal (judging.by_fault f xs now s)
+  on_fault : (f : Option ℕ) → fault s.sizes s.stations s.max_age_ms wall xs ≡ f
+      → Goal (judging.by_fault f xs now s)
   on_fault (Some cause) e = (
     record { sizes = refl; stations = refl; select_ms = refl; max_age_ms = refl },
-    not_forwarded s.sizes s.stations s.select_ms s.max_age_ms s.waiting s.lines s.selections s.selections s.answers h
-        now wall xs (answer cause xs) ks (rw (sym (faults_read s.sizes s.stations s.max_age_ms wall xs) ∙ e) refl)
-        (all_mapped _ _ (λ z t. judged_tied s.sizes s.stations s.select_ms s.max_age_ms h now wall xs
-        (Some (answer cause xs)) z t (faulty s.sizes s.stations s.select_ms s.max_age_ms h now wall xs cause
+    not_forwarded s.sizes s.stations s.select_ms s.max_age_ms s.waiting s.lines s.selections
+        s.selections s.answers h
+        now wall xs (answer cause xs) ks
+        (rw (sym (faults_read s.sizes s.stations s.max_age_ms wall xs) ∙ e) refl)
+        (all_mapped _ _ (λ z t. judged_tied s.sizes s.stations s.select_ms s.max_age_ms h now wall
+        xs
+        (Some (answer cause xs)) z t (faulty s.sizes s.stations s.select_ms s.max_age_ms h now wall
+        xs cause
         (answer cause xs) (target_of z.command) e)) s.selections ks.tied),
   )
   on_fault None e = on_lack selected e (lacks_selection (command_at xs) now s) refl

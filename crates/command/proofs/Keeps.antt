@@ -9,7 +9,8 @@ use Rattle.command.specs.declared.waiting.Line.{Line}
 use Rattle.command.specs.declared.waiting.Line.TheVariants as line
 use Rattle.command.specs.declared.selection.Selection.{Selection}
 use Rattle.command.specs.State.{State, is_used}
-use Rattle.command.specs.History.{History, forwarded_to, sent_count, ForwardsCommands, on_line, is_on_line, GivesOwnAnswers, own_kept, own_sent, KeepsOwnAnswers}
+use Rattle.command.specs.History.{History, forwarded_to, sent_count, ForwardsCommands, on_line}
+use Rattle.command.specs.History.{is_on_line, GivesOwnAnswers, own_kept, own_sent, KeepsOwnAnswers}
 use Rattle.command.proofs.Sendings.{waiting_for, AreShaped}
 use Rattle.command.proofs.Machine.{ExecutesAreSelected}
 use Rattle.command.proofs.Tied.{Tied}
@@ -21,10 +22,13 @@ held (line.Holds received) = Some received
 held line.CutOff = None
 
 -- what was forwarded to a station and didn't go out waits for it, in the form in which it goes out
-pub record KeepsQueue (sizes : Sizes) (stations : List StationInfo) (ms age : ℕ) (waiting : List Waiting)
+pub record KeepsQueue (sizes : Sizes) (stations : List StationInfo) (ms age : ℕ)
+    (waiting : List Waiting)
     (h : History) : Type 0 where
-  pub count : (k : ℕ) → sent_count sizes stations ms age k h ≤ length (forwarded_to sizes stations ms age k h)
-  pub in_turn : (k : ℕ) → drop (sent_count sizes stations ms age k h) (forwarded_to sizes stations ms age k h)
+  pub count : (k : ℕ) → sent_count sizes stations ms age k h
+      ≤ length (forwarded_to sizes stations ms age k h)
+  pub in_turn : (k : ℕ)
+      → drop (sent_count sizes stations ms age k h) (forwarded_to sizes stations ms age k h)
       ≡ waiting_for k waiting
   pub shaped : AreShaped sizes stations waiting
   pub sends : ForwardsCommands sizes stations ms age h
@@ -42,7 +46,8 @@ pub record KeepsOwn (answers : List (List ℕ)) (h : History) : Type 0 where
   pub kept : KeepsOwnAnswers h
 
 pub record Keeps (sizes : Sizes) (stations : List StationInfo) (ms age : ℕ) (waiting : List Waiting)
-    (lines : List Line) (selections : List Selection) (answers : List (List ℕ)) (h : History) : Type 0 where
+    (lines : List Line) (selections : List Selection) (answers : List (List ℕ)) (h : History) : Type
+    0 where
   pub queue : KeepsQueue sizes stations ms age waiting h
   pub on_lines : KeepsLines sizes stations ms age lines h
   pub own : KeepsOwn answers h

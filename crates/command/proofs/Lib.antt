@@ -26,3 +26,5 @@ pub mod SavedBack
 pub mod Places
 pub mod Wholes
 pub mod Heard
+pub mod Glances
+pub mod Outlived

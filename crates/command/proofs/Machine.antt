@@ -1,4 +1,5 @@
--- The selects of a history by the machine's own functions. They are those of specs/History (proofs/Bridge).
+-- The selects of a history by the machine's own functions. They are those of specs/History
+-- (proofs/Bridge).
 use Rattle.std.proofs.Common.{◌≡◌, ℕ, ◌-◌, ◌<◌, ◌&&◌, Bool, true, false, not, List, [], ◌∷◌, length}
 use Rattle.std.specs.Prelude.{◌==◌, Option, Some, None, if◌then◌else◌, is_none, nat_lt}
 use Rattle.std.specs.List.{list_any}
@@ -17,7 +18,8 @@ use Rattle.command.specs.declared.station.StationInfo.{StationInfo}
 
 -- ---- Selects and cons
 
--- a select, when it came, and how many commands for its station were forwarded before it on its connection
+-- a select, when it came, and how many commands for its station were forwarded before it on its
+-- connection
 pub record Select : Type 0 where
   pub command : Command
   pub came : ℕ
@@ -33,7 +35,8 @@ is_element e (Some f) = same_element e f
 
 abbrev pub names_one : Command → AsduValue → List Info → Bool
 names_one c v [] = false
-names_one c v (i ∷ []) = same_target (target_of c) (target_at v i) && is_element c.element (element_of i.element)
+names_one c v (i ∷ []) = same_target (target_of c) (target_at v i)
+    && is_element c.element (element_of i.element)
 names_one c v (i ∷ j ∷ is) = false
 
 -- a positive con of this select: of one object, of equal type, addresses and element
@@ -49,7 +52,8 @@ module _ (sizes : Sizes) (stations : List StationInfo) (select_ms max_age_ms : �
   abbrev pub station_of : Command → ℕ
   station_of c = station_number c.ca stations
 
-  -- The select that stands for this target: the latest that was forwarded on the open connection, where no execute or
+  -- The select that stands for this target: the latest that was forwarded on the open connection,
+  -- where no execute or
   -- deactivation without a fault of its own, and no negative con, came since.
   abbrev pub standing : Target → History → Option Select
   standing t [] = None
@@ -60,7 +64,8 @@ module _ (sizes : Sizes) (stations : List StationInfo) (select_ms max_age_ms : �
         command = command_at xs;
         came = now;
         place =
-            length (forwarded_to sizes stations select_ms max_age_ms (station_of (command_at xs)) h);
+            length (forwarded_to sizes stations select_ms max_age_ms (station_of (command_at xs))
+            h);
       })
       else (if ends_selection (command_at xs) then None else standing t h))
   standing t (Mirrored now v ∷ h) = if negates t v then None else standing t h
@@ -77,7 +82,8 @@ module _ (sizes : Sizes) (stations : List StationInfo) (select_ms max_age_ms : �
   confirmed_at z (Ended ∷ h) = None
   confirmed_at z (_ ∷ h) = confirmed_at z h
 
-  -- This execute, which comes now, is selected: a select of its type and addresses stands, with its test bit and its
+  -- This execute, which comes now, is selected: a select of its type and addresses stands, with its
+  -- test bit and its
   -- element apart from S/E; the station accepted it, and confirmed it less than select_ms ago.
   pub record IsSelected (x : Command) (now : ℕ) (h : History) : Type 0 where
     pub select : Select

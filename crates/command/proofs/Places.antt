@@ -1,5 +1,6 @@
 -- Places come back: what waits is what was forwarded less what went out.
-use Rattle.std.proofs.Common.{◌≡◌, ℕ, suc, ◌+◌, ◌≤◌, ◌&&◌, ◌||◌, Bool, true, false, not, List, [], ◌∷◌, length, count_by, refl, sym, subst, ap, ◌∙◌, arith}
+use Rattle.std.proofs.Common.{◌≡◌, ℕ, suc, ◌+◌, ◌≤◌, ◌&&◌, ◌||◌, Bool, true, false, not, List, []}
+use Rattle.std.proofs.Common.{◌∷◌, length, count_by, refl, sym, subst, ap, ◌∙◌, arith}
 use Rattle.std.specs.Prelude.{◌==◌, Option, Some, None, if◌then◌else◌, option_map, nat_lt, nat_le}
 use Rattle.std.specs.List.{list_any}
 use Rattle.std.proofs.lemmas.List.{length-append}
@@ -12,14 +13,18 @@ use Rattle.command.specs.Command.{command_at}
 use Rattle.command.specs.Selection.{lets_through}
 use Rattle.command.specs.Stations.{is_addressed}
 use Rattle.command.specs.State as state
-use Rattle.command.specs.State.{State, oldest, without_oldest, put_out, has_answer_place, first_answer}
+use Rattle.command.specs.State.{State, oldest, without_oldest, put_out, has_answer_place}
+use Rattle.command.specs.State.{first_answer}
 use Rattle.command.specs.Judging as judging
-use Rattle.command.specs.Judging.{Judgement, copies, fault, ends_selection, lacks_selection, lacks_place, makes_selection}
+use Rattle.command.specs.Judging.{Judgement, copies, fault, ends_selection, lacks_selection}
+use Rattle.command.specs.Judging.{lacks_place, makes_selection}
 use Rattle.command.specs.Mirrors as mirrors
 use Rattle.command.specs.Rules.{not_selected, no_place, rules_for}
-use Rattle.command.specs.Standard.{first_cause, own_rules, cause_of_fault, executes, selects, must_be_selected, is_for_station}
+use Rattle.command.specs.Standard.{first_cause, own_rules, cause_of_fault, executes, selects}
+use Rattle.command.specs.Standard.{must_be_selected, is_for_station}
 use Rattle.command.specs.History.{Judged, History, forwarded_in_all, sent_in_all}
-use Rattle.command.specs.Calls.{Call, Judge, PutOnLine, Accept, Busy, Lose, Mirror, Own, SendOwn, Cut, Due, Run, after_call, run, after_sending, after_answer}
+use Rattle.command.specs.Calls.{Call, Judge, PutOnLine, Accept, Busy, Lose, Mirror, Own, SendOwn}
+use Rattle.command.specs.Calls.{Cut, Due, Run, after_call, run, after_sending, after_answer}
 use Rattle.command.proofs.Kept.{copies_count}
 use Rattle.command.proofs.Ruled.{counts_read, first_rule, more_rules}
 use Rattle.command.proofs.Runs.{run_holds, owned}
@@ -41,9 +46,11 @@ Adds xs s j = length j.1.waiting ≡ length s.waiting + added j.0 (for_all xs s)
 none_added : (n : ℕ) → n ≡ n + 0
 none_added n = omega arith
 
-queued_adds : (xs : List ℕ) (t : State) → length (judging.queued xs t).waiting ≡ length t.waiting + for_all xs t
+queued_adds : (xs : List ℕ) (t : State) → length (judging.queued xs t).waiting ≡ length t.waiting
+    + for_all xs t
 queued_adds xs t = length-append t.waiting (copies t.sizes xs 0 t.stations)
-    ∙ ap (λ (n : ℕ). length t.waiting + n) (copies_count t.sizes xs 0 t.stations ∙ counts_read xs t.stations)
+    ∙ ap (λ (n : ℕ). length t.waiting + n) (copies_count t.sizes xs 0 t.stations
+    ∙ counts_read xs t.stations)
 
 forwarded_adds : (xs : List ℕ) (c : Command) (now : ℕ) (t : State)
     → length (judging.forwarded xs c now t).waiting ≡ length t.waiting + for_all xs t
@@ -54,15 +61,18 @@ forwarded_adds xs c now t = go (makes_selection t.stations c)
     go true = queued_adds xs (judging.selected c now t)
     go false = queued_adds xs t
 
-placed_adds : (xs : List ℕ) (c : Command) (now : ℕ) (t : State) → Adds xs t (judging.placed xs c now t)
+placed_adds : (xs : List ℕ) (c : Command) (now : ℕ) (t : State)
+    → Adds xs t (judging.placed xs c now t)
 placed_adds xs c now t = go (lacks_place c t)
   where
     go : (b : Bool)
-        → Adds xs t (if b then judging.refused (negative xs) xs t else (None, judging.forwarded xs c now t))
+        → Adds xs t (if b then judging.refused (negative xs) xs t
+        else (None, judging.forwarded xs c now t))
     go true = none_added (length t.waiting)
     go false = forwarded_adds xs c now t
 
-judged_adds : (xs : List ℕ) (now : ℕ) (wall : Option ℕ) (s : State) → Adds xs s (judging.judged xs now wall s)
+judged_adds : (xs : List ℕ) (now : ℕ) (wall : Option ℕ) (s : State)
+    → Adds xs s (judging.judged xs now wall s)
 judged_adds xs now wall s = on_fault (fault s.sizes s.stations s.max_age_ms wall xs)
   where
     on_ends : (b : Bool) →
@@ -72,8 +82,10 @@ judged_adds xs now wall s = on_fault (fault s.sizes s.stations s.max_age_ms wall
     on_ends false = placed_adds xs (command_at xs) now s
 
     on_lack : (b : Bool) →
-        Adds xs s (if b then judging.refused (negative xs) xs (judging.without_selection (command_at xs) s)
-        else judging.placed xs (command_at xs) now (if ends_selection (command_at xs) then judging.without_selection
+        Adds xs s (if b
+        then judging.refused (negative xs) xs (judging.without_selection (command_at xs) s)
+        else judging.placed xs (command_at xs) now (if ends_selection (command_at xs)
+        then judging.without_selection
         (command_at xs) s else s))
     on_lack true = none_added (length s.waiting)
     on_lack false = on_ends (ends_selection (command_at xs))
@@ -94,12 +106,14 @@ room_is n m b e = by (nat_lt 64 (n + m)) refl e
     by false is e = grind (arith, is)
     by true is e = absurd (let no : ⊥ = cc in no)
 
-placed_few : (xs : List ℕ) (now : ℕ) (t : State) → IsFew t → IsFew (judging.placed xs (command_at xs) now t).1
+placed_few : (xs : List ℕ) (now : ℕ) (t : State) → IsFew t
+    → IsFew (judging.placed xs (command_at xs) now t).1
 placed_few xs now t few = go (lacks_place (command_at xs) t) refl
   where
     selecting : Bool
     selecting =
-        makes_selection t.stations (command_at xs) && nat_le 16 (length (judging.others (command_at xs) t))
+        makes_selection t.stations (command_at xs)
+        && nat_le 16 (length (judging.others (command_at xs) t))
 
     go : (b : Bool) → lacks_place (command_at xs) t ≡ b → IsFew (if b
         then judging.refused (negative xs) xs t
@@ -107,9 +121,12 @@ placed_few xs now t few = go (lacks_place (command_at xs) t) refl
     go true e = few
     go false e =
         let room : length t.waiting + count_by (is_addressed (command_at xs)) t.stations ≤ 64 =
-        room_is (length t.waiting) (count_by (is_addressed (command_at xs)) t.stations) selecting e in
-        let read : count_by (is_addressed (command_at xs)) t.stations ≡ for_all xs t = counts_read xs t.stations in
-        let long : length (judging.forwarded xs (command_at xs) now t).waiting ≡ length t.waiting + for_all xs t =
+        room_is (length t.waiting) (count_by (is_addressed (command_at xs)) t.stations) selecting
+        e in
+        let read : count_by (is_addressed (command_at xs)) t.stations ≡ for_all xs t =
+        counts_read xs t.stations in
+        let long : length (judging.forwarded xs (command_at xs) now t).waiting ≡ length t.waiting
+        + for_all xs t =
         forwarded_adds xs (command_at xs) now t in
         omega (arith, room, read, long)
 
@@ -123,8 +140,10 @@ judged_few xs now wall s few = on_fault (fault s.sizes s.stations s.max_age_ms w
     on_ends false = placed_few xs now s few
 
     on_lack : (b : Bool) →
-        IsFew (if b then judging.refused (negative xs) xs (judging.without_selection (command_at xs) s)
-        else judging.placed xs (command_at xs) now (if ends_selection (command_at xs) then judging.without_selection
+        IsFew (if b
+        then judging.refused (negative xs) xs (judging.without_selection (command_at xs) s)
+        else judging.placed xs (command_at xs) now (if ends_selection (command_at xs)
+        then judging.without_selection
         (command_at xs) s else s)).1
     on_lack true = few
     on_lack false = on_ends (ends_selection (command_at xs))
@@ -158,34 +177,41 @@ pub record CountsPlaces (stations : List StationInfo) (r : Run) : Type 0 where
   pub waiting : length r.state.waiting + sent_in_all r.history ≡ forwarded_in_all stations r.history
   pub few : length r.state.waiting ≤ 64
 
-one_judged : (stations : List StationInfo) (xs : List ℕ) (now : ℕ) (wall : Option ℕ) (s : State) (h : History)
-    (a : Option (List ℕ)) (n : ℕ) → n ≡ length s.waiting + added a (count_by (is_for_station xs) stations)
+one_judged : (stations : List StationInfo) (xs : List ℕ) (now : ℕ) (wall : Option ℕ) (s : State)
+    (h : History)
+    (a : Option (List ℕ)) (n : ℕ)
+    → n ≡ length s.waiting + added a (count_by (is_for_station xs) stations)
     → length s.waiting + sent_in_all h ≡ forwarded_in_all stations h
-    → n + sent_in_all (Judged now wall xs a ∷ h) ≡ forwarded_in_all stations (Judged now wall xs a ∷ h)
+    → n + sent_in_all (Judged now wall xs a ∷ h)
+    ≡ forwarded_in_all stations (Judged now wall xs a ∷ h)
 one_judged stations xs now wall s h None n is before = omega (arith, is, before)
 one_judged stations xs now wall s h (Some a) n is before = omega (arith, is, before)
 
 module _ (stations : List StationInfo) (r : Run) (same : r.state.stations ≡ stations)
     (c : CountsPlaces stations r) where
-  judges : (xs : List ℕ) (now : ℕ) (wall : Option ℕ) → CountsPlaces stations (after_call (Judge xs now wall) r)
+  judges : (xs : List ℕ) (now : ℕ) (wall : Option ℕ)
+      → CountsPlaces stations (after_call (Judge xs now wall) r)
   judges xs now wall = record {
     waiting =
         let j : Judgement = judging.judged xs now wall r.state in
         one_judged stations xs now wall r.state r.history j.0 (length j.1.waiting)
         (judged_adds xs now wall r.state
-        ∙ ap (λ (sts : List StationInfo). length r.state.waiting + added j.0 (count_by (is_for_station xs) sts)) same)
+        ∙ ap (λ (sts : List StationInfo). length r.state.waiting
+        + added j.0 (count_by (is_for_station xs) sts)) same)
         c.waiting;
     few = judged_few xs now wall r.state c.few;
   }
 
-  puts : (k : ℕ) (o : Option Waiting) → oldest k r.state.waiting ≡ o → CountsPlaces stations (after_sending o k r)
+  puts : (k : ℕ) (o : Option Waiting) → oldest k r.state.waiting ≡ o
+      → CountsPlaces stations (after_sending o k r)
   puts k None e = c
   puts k (Some w) e =
       let fewer : suc (length (state.sent k r.state).waiting) ≡ length r.state.waiting =
       sent_fewer k r.state w e in
       record { waiting = omega (arith, fewer, c.waiting); few = omega (arith, fewer, c.few) }
 
-  mirrors_it : (waiting : List Waiting) → waiting ≡ r.state.waiting → (length waiting + sent_in_all r.history
+  mirrors_it : (waiting : List Waiting) → waiting ≡ r.state.waiting
+      → (length waiting + sent_in_all r.history
       ≡ forwarded_in_all stations r.history) × (length waiting ≤ 64)
   mirrors_it waiting is = (
     ap (λ (ws : List Waiting). length ws + sent_in_all r.history) is ∙ c.waiting,
@@ -210,10 +236,12 @@ module _ (stations : List StationInfo) (r : Run) (same : r.state.stations ≡ st
   counts_on (Busy k) = record { waiting = c.waiting; few = c.few }
   counts_on (Lose k) = record { waiting = c.waiting; few = c.few }
   counts_on (Mirror v now) =
-      let both = mirrors_it (mirrors.mirrored v now r.state).waiting (mirroring_leaves_waiting v now r.state) in
+      let both = mirrors_it (mirrors.mirrored v now r.state).waiting
+      (mirroring_leaves_waiting v now r.state) in
       record { waiting = both.0; few = both.1 }
   counts_on (Own octets) =
-      let both = offers octets (has_answer_place r.state) in record { waiting = both.0; few = both.1 }
+      let both = offers octets (has_answer_place r.state) in
+      record { waiting = both.0; few = both.1 }
   counts_on SendOwn = gives (first_answer r.state.answers)
   counts_on Cut = record { waiting = refl; few = omega arith }
   counts_on (Due now) = record { waiting = c.waiting; few = c.few }
@@ -222,7 +250,8 @@ pub run_counts : (stations : List StationInfo) (sizes : Sizes) (ms age : ℕ) (c
     → CountsPlaces stations (run stations sizes ms age calls)
 run_counts stations sizes ms age [] = record { waiting = refl; few = omega arith }
 run_counts stations sizes ms age (call ∷ earlier) =
-    counts_on stations (run stations sizes ms age earlier) (run_holds sizes stations ms age earlier).same_stations
+    counts_on stations (run stations sizes ms age earlier)
+    (run_holds sizes stations ms age earlier).same_stations
     (run_counts stations sizes ms age earlier) call
 
 -- ---- a command that has a place passes
@@ -236,16 +265,19 @@ and_off a b c e = rw e refl
 first_off : (a b : Bool) → a ≡ false → (a && b) ≡ false
 first_off a b e = rw e refl
 
-module _ (stations : List StationInfo) (sizes : Sizes) (ms age : ℕ) (calls : List Call) (xs : List ℕ) where
+module _ (stations : List StationInfo) (sizes : Sizes) (ms age : ℕ) (calls : List Call)
+    (xs : List ℕ) where
   abbrev after : State
   after = (run stations sizes ms age calls).state
 
   pub has_room : forwarded_in_all stations (run stations sizes ms age calls).history
-      + count_by (is_for_station xs) stations ≤ sent_in_all (run stations sizes ms age calls).history + 64
+      + count_by (is_for_station xs) stations
+      ≤ sent_in_all (run stations sizes ms age calls).history + 64
       → (must_be_selected stations xs && selects xs) ≡ false → (no_place xs after).applies ≡ false
   has_room room unselected =
       let counts = run_counts stations sizes ms age calls in
-      let same : after.stations ≡ stations = (run_holds sizes stations ms age calls).same_stations in
+      let same : after.stations ≡ stations =
+      (run_holds sizes stations ms age calls).same_stations in
       let fits : length after.waiting + count_by (is_for_station xs) stations ≤ 64 =
       omega (arith, room, counts.waiting) in
       let few : nat_lt 64 (length after.waiting + count_by (is_for_station xs) stations) ≡ false =
@@ -253,7 +285,8 @@ module _ (stations : List StationInfo) (sizes : Sizes) (ms age : ℕ) (calls : L
       or_off (nat_lt 64 (length after.waiting + count_by (is_for_station xs) after.stations))
       (must_be_selected after.stations xs && selects xs
       && nat_le 16 (length (judging.others (command_at xs) after)))
-      (ap (λ (sts : List StationInfo). nat_lt 64 (length after.waiting + count_by (is_for_station xs) sts)) same
+      (ap (λ (sts : List StationInfo). nat_lt 64 (length after.waiting
+      + count_by (is_for_station xs) sts)) same
       ∙ few)
       (and_off (must_be_selected after.stations xs) (selects xs)
       (nat_le 16 (length (judging.others (command_at xs) after)))
@@ -262,11 +295,14 @@ module _ (stations : List StationInfo) (sizes : Sizes) (ms age : ℕ) (calls : L
   pub passes : (now : ℕ) (wall : Option ℕ) → cause_of_fault sizes stations age wall xs ≡ None
       → must_be_selected stations xs ≡ false
       → forwarded_in_all stations (run stations sizes ms age calls).history
-      + count_by (is_for_station xs) stations ≤ sent_in_all (run stations sizes ms age calls).history + 64
+      + count_by (is_for_station xs) stations
+      ≤ sent_in_all (run stations sizes ms age calls).history + 64
       → (judging.judged xs now wall after).0 ≡ None
   passes now wall faultless free room =
-      let same : after.stations ≡ stations = (run_holds sizes stations ms age calls).same_stations in
-      let no_fault : first_cause (own_rules after.sizes after.stations after.max_age_ms wall xs) ≡ None =
+      let same : after.stations ≡ stations =
+      (run_holds sizes stations ms age calls).same_stations in
+      let no_fault : first_cause (own_rules after.sizes after.stations after.max_age_ms wall xs)
+      ≡ None =
       owned (λ sizes stations ms age. cause_of_fault sizes stations age wall xs ≡ None)
       (run stations sizes ms age calls) (run_holds sizes stations ms age calls) faultless in
       let placed : (no_place xs after).applies ≡ false =
@@ -280,4 +316,5 @@ module _ (stations : List StationInfo) (sizes : Sizes) (ms age : ℕ) (calls : L
       let none : first_cause (rules_for xs now wall after) ≡ None =
       more_rules (own_rules after.sizes after.stations after.max_age_ms wall xs)
       (not_selected xs now after ∷ no_place xs after ∷ []) ∙ rw (no_fault, chosen, placed) refl in
-      first_rule xs now wall after ∙ ap (λ (o : Option ℕ). option_map (λ cause. answer cause xs) o) none
+      first_rule xs now wall after ∙ ap (λ (o : Option ℕ). option_map (λ cause. answer cause xs) o)
+      none

@@ -1,5 +1,6 @@
 -- An own answer is the ASDU that came, refused.
-use Rattle.std.proofs.Common.{◌≡◌, ◌≢◌, ℕ, zero, suc, ◌+◌, ◌*◌, ◌/◌, ◌%◌, ◌<◌, ◌≤◌, true, List, [], ◌∷◌, length, slice_index, refl, arith}
+use Rattle.std.proofs.Common.{◌≡◌, ◌≢◌, ℕ, zero, suc, ◌+◌, ◌*◌, ◌/◌, ◌%◌, ◌<◌, ◌≤◌, true, List, []}
+use Rattle.std.proofs.Common.{◌∷◌, length, slice_index, refl, arith}
 use Rattle.std.specs.Prelude.{nat_le}
 use Rattle.command.specs.Standard.{is_test, IsRefusal}
 use Rattle.command.specs.Octets.{answer, refused_cause}
@@ -13,7 +14,8 @@ same_test_bit cause z known octet = by (z / 128) refl (omega (arith, octet))
     by (suc (suc q)) e h = absurd (omega (arith, h))
 
 is_negative : (cause z : ℕ) → cause < 64 → nat_le 64 (refused_cause cause z % 128) ≡ true
-is_negative cause z known = (let low : (z / 128 * 128 + 64 + cause) % 128 ≡ 64 + cause = omega (arith, known) in
+is_negative cause z known = (let low : (z / 128 * 128 + 64 + cause) % 128 ≡ 64 + cause =
+    omega (arith, known) in
     rw low (grind arith))
 
 other_octets : (cause x y z : ℕ) (zs : List ℕ) (k : ℕ) → k ≢ 2

@@ -1,9 +1,13 @@
 -- What was put as lines of numbers reads back.
-use Rattle.std.proofs.Common.{◌≡◌, ℕ, zero, suc, ◌+◌, ◌<◌, ◌≤◌, ◌&&◌, nat_le, Bool, true, false, List, [], ◌∷◌, ◌++◌, length, take, drop, get_or, map, Some, Result, Ok, Err, MatchResult, refl, sym, ap, ◌∙◌, arith, append_assoc}
+use Rattle.std.proofs.Common.{◌≡◌, ℕ, zero, suc, ◌+◌, ◌<◌, ◌≤◌, ◌&&◌, nat_le, Bool, true, false}
+use Rattle.std.proofs.Common.{List, [], ◌∷◌, ◌++◌, length, take, drop, get_or, map, Some, Result}
+use Rattle.std.proofs.Common.{Ok, Err, MatchResult, refl, sym, ap, ◌∙◌, arith, append_assoc}
 use Rattle.std.specs.List.{list_all}
 use Rattle.std.proofs.lemmas.List.{take_more, drop_more, length-map}
-use Rattle.command.specs.Saved.{is_received, is_for_line, waiting_numbers, is_savable_waiting, waiting_in, are_octets, is_answer, is_savable_answer}
-use Rattle.command.specs.Restored.{HasSettings, ArePartsOf, IsSavable, state_with, is_long, are_long}
+use Rattle.command.specs.Saved.{is_received, is_for_line, waiting_numbers, is_savable_waiting}
+use Rattle.command.specs.Saved.{waiting_in, are_octets, is_answer, is_savable_answer}
+use Rattle.command.specs.Restored.{HasSettings, ArePartsOf, IsSavable, state_with, is_long}
+use Rattle.command.specs.Restored.{are_long}
 use Rattle.command.specs.Fields.{octets_of, AreAsdus}
 use Rattle.command.specs.State.{State}
 use Rattle.asdu.specs.declared.sizes.Sizes.{Sizes}
@@ -24,24 +28,35 @@ both true true e = (refl, refl)
 both true false e = absurd (let no : ⊥ = cc in no)
 both false b e = absurd (let no : ⊥ = cc in no)
 
-all_at : {X : Type 0} (p : X → Bool) (xs : List X) (i : ℕ) (d : X) → i < length xs → list_all p xs ≡ true
+all_at : {X : Type 0} (p : X → Bool) (xs : List X) (i : ℕ) (d : X) → i < length xs → list_all p xs
+    ≡ true
     → p (get_or xs i d) ≡ true
 all_at p [] i d lt all = absurd (omega (arith, lt))
 all_at p (x ∷ xs) zero d lt all = (both (p x) (list_all p xs) all).0
 all_at p (x ∷ xs) (suc i) d lt all =
-    let rest : list_all p xs ≡ true = (both (p x) (list_all p xs) all).1 in all_at p xs i d (omega (arith, lt)) rest
+    let rest : list_all p xs ≡ true = (both (p x) (list_all p xs) all).1 in
+    all_at p xs i d (omega (arith, lt)) rest
 
-pub at_place : {X : Type 0} (p : X → Bool) (xs : List X) (i : ℕ) → i < length xs → list_all p xs ≡ true
-    → (x : X) × (p x ≡ true) × (take (i + 1) xs ≡ take i xs ++ x ∷ []) × (drop i xs ≡ x ∷ drop (i + 1) xs)
+pub at_place : {X : Type 0} (p : X → Bool) (xs : List X) (i : ℕ) → i < length xs → list_all p xs
+    ≡ true
+    → (x : X) × (p x ≡ true) × (take (i + 1) xs ≡ take i xs ++ x ∷ [])
+    × (drop i xs ≡ x ∷ drop (i + 1) xs)
 at_place p [] i lt all = absurd (omega (arith, lt))
-at_place p (y ∷ ys) i lt all =
-    (get_or (y ∷ ys) i y, all_at p (y ∷ ys) i y lt all, take_more (y ∷ ys) i y lt, drop_more (y ∷ ys) i y lt)
+at_place p (y ∷ ys) i lt all = (
+  get_or (y ∷ ys) i y,
+  all_at p (y ∷ ys) i y lt all,
+  take_more (y ∷ ys) i y lt,
+  drop_more
+      (y ∷ ys) i y lt,
+)
 
 -- the next item is read behind those that were
-pub next_read : {X : Type 0} (old new some more : List X) (x y : X) → new ≡ old ++ y ∷ [] → old ≡ some → y ≡ x
+pub next_read : {X : Type 0} (old new some more : List X) (x y : X) → new ≡ old ++ y ∷ []
+    → old ≡ some → y ≡ x
     → more ≡ some ++ x ∷ [] → new ≡ more
 next_read old new some more x y is same read next =
-    is ∙ (ap (λ (ys : List _). ys ++ y ∷ []) same ∙ (ap (λ (z : _). some ++ z ∷ []) read ∙ sym next))
+    is ∙ (ap (λ (ys : List _). ys ++ y ∷ []) same
+    ∙ (ap (λ (z : _). some ++ z ∷ []) read ∙ sym next))
 
 -- ---- A command that waits
 
@@ -57,10 +72,17 @@ reaches : (xs ys : List ℕ) → nat_le (length xs) (length (xs ++ ys)) ≡ true
 reaches [] ys = grind arith
 reaches (x ∷ xs) ys = let h = reaches xs ys in grind (arith, h)
 
-pub waiting_back : (w : Waiting) → is_savable_waiting w ≡ true → waiting_in (waiting_numbers w) ≡ Some w
+pub waiting_back : (w : Waiting) → is_savable_waiting w ≡ true → waiting_in (waiting_numbers w)
+    ≡ Some w
 waiting_back w e =
     let h = both (is_received w.received) (is_for_line w.octets) e in
-    rw (reaches w.received w.octets, taken w.received w.octets, dropped w.received w.octets, h.0, h.1) refl
+    rw (
+      reaches w.received w.octets,
+      taken w.received w.octets,
+      dropped w.received w.octets,
+      h.0,
+      h.1,
+    ) refl
 
 -- ---- Own answers
 
@@ -76,7 +98,8 @@ pub answers_count : (octets : List (List ℕ)) → length (answers_of octets) �
 unfolding answers_of
 answers_count octets = length-map octets (λ (o : List ℕ). record { items = o })
 
-answer_is_savable : (o : List ℕ) → is_answer o ≡ true → is_savable_answer (record { items = o }) ≡ true
+answer_is_savable : (o : List ℕ) → is_answer o ≡ true → is_savable_answer (record { items = o })
+    ≡ true
 answer_is_savable o e = (both (is_savable_answer (record { items = o })) (nat_le 9 (length o)) e).0
 
 pub answers_savable : (octets : List (List ℕ)) → list_all is_answer octets ≡ true
@@ -117,7 +140,8 @@ long_by octets e =
     by false b d e = absurd (let no : ⊥ = cc in no)
 
 -- the answers of a state that can be saved are long enough
-pub long_answers : (answers : List (ArrayVec ℕ)) (octets : List (List ℕ)) → octets_of answers ≡ octets
+pub long_answers : (answers : List (ArrayVec ℕ)) (octets : List (List ℕ)) → octets_of answers
+    ≡ octets
     → list_all is_answer octets ≡ true → are_long answers ≡ true
 long_answers [] octets is all = refl
 long_answers (a ∷ more) [] is all = absurd (let no : ⊥ = cc in no)
@@ -130,7 +154,8 @@ long_answers (a ∷ more) (o ∷ os) is all =
     rw (first, rest) refl
 
 -- what was written, list by list
-pub joined : (old a b c d e u v w x y : List (List ℕ)) → u ≡ old ++ a → v ≡ u ++ b → w ≡ v ++ c → x ≡ w ++ d
+pub joined : (old a b c d e u v w x y : List (List ℕ)) → u ≡ old ++ a → v ≡ u ++ b → w ≡ v ++ c
+    → x ≡ w ++ d
     → y ≡ x ++ e → y ≡ old ++ (a ++ (b ++ (c ++ (d ++ e))))
 joined old a b c d e u v w x y iu iv iw ix iy =
     iy ∙ (ap (λ (z : List (List ℕ)). z ++ e)
@@ -142,7 +167,8 @@ joined old a b c d e u v w x y iu iv iw ix iy =
     ∙ (append_assoc (old ++ a) b (c ++ (d ++ e)) ∙ append_assoc old a (b ++ (c ++ (d ++ e)))))))
 
 -- the answers of which each line was put, and each is long enough
-pub answers_by : (answers : List (ArrayVec ℕ)) → list_all is_savable_answer answers ≡ true → AreAsdus answers
+pub answers_by : (answers : List (ArrayVec ℕ)) → list_all is_savable_answer answers ≡ true
+    → AreAsdus answers
     → list_all is_answer (octets_of answers) ≡ true
 answers_by [] all are = refl
 answers_by (a ∷ more) all are =
@@ -153,7 +179,8 @@ answers_by (a ∷ more) all are =
     rw (first, rest) refl
 
 -- the state that was made of the parts of a state is that state
-mk : List StationInfo → Sizes → ℕ → ℕ → List Waiting → List Line → List Selection → List Sending → List (List ℕ)
+mk : List StationInfo → Sizes → ℕ → ℕ → List Waiting → List Line → List Selection → List Sending
+    → List (List ℕ)
     → State
 mk stations sizes select_ms max_age_ms waiting lines selections sendings answers = record {
   stations = stations;
@@ -167,7 +194,8 @@ mk stations sizes select_ms max_age_ms waiting lines selections sendings answers
   answers = answers;
 }
 
-same_state : (stations : List StationInfo) (sizes : Sizes) (select_ms max_age_ms : ℕ) (s : State) (parts : Parts)
+same_state : (stations : List StationInfo) (sizes : Sizes) (select_ms max_age_ms : ℕ) (s : State)
+    (parts : Parts)
     → ArePartsOf s parts → HasSettings stations sizes select_ms max_age_ms s
     → state_with stations sizes select_ms max_age_ms parts ≡ s
 unfolding mk
@@ -181,26 +209,33 @@ same_state stations sizes select_ms max_age_ms s parts are has =
     let zs = are.selections in
     let ds = are.sendings in
     let os = are.answers in
-    let made : mk stations sizes select_ms max_age_ms parts.waiting.items parts.lines.items parts.selections.items
+    let made : mk stations sizes select_ms max_age_ms parts.waiting.items parts.lines.items
+    parts.selections.items
     parts.sendings.items (octets_of parts.answers.items)
-    ≡ mk s.stations s.sizes s.select_ms s.max_age_ms s.waiting s.lines s.selections s.sendings s.answers =
+    ≡ mk s.stations s.sizes s.select_ms s.max_age_ms s.waiting s.lines s.selections s.sendings
+    s.answers =
     rw (st, sz, se, ma, ws, ls, zs, ds, os) refl in
     made
 
-pub made_again : (r : Result State StateFault) (stations : List StationInfo) (sizes : Sizes) (select_ms max_age_ms : ℕ)
+pub made_again : (r : Result State StateFault) (stations : List StationInfo) (sizes : Sizes)
+    (select_ms max_age_ms : ℕ)
     (s : State) (parts : Parts) (now rest : List (List ℕ))
     → MatchResult r (λ c. c ≡ state_with stations sizes select_ms max_age_ms parts)
     (λ e. e ≡ Wrong → are_long parts.answers.items ≡ false)
-    → IsSavable s → HasSettings stations sizes select_ms max_age_ms s → ArePartsOf s parts → now ≡ rest
+    → IsSavable s → HasSettings stations sizes select_ms max_age_ms s → ArePartsOf s parts
+    → now ≡ rest
     → MatchResult r (λ c. (c ≡ s) × (now ≡ rest)) (λ e. e ≡ Wrong → ⊥)
 made_again (Ok c) stations sizes select_ms max_age_ms s parts now rest made savable has are left =
     (made ∙ same_state stations sizes select_ms max_age_ms s parts are has, left)
-made_again (Err e) stations sizes select_ms max_age_ms s parts now rest made savable has are left = λ wrong.
+made_again (Err e) stations sizes select_ms max_age_ms s parts now rest made savable has are left =
+    λ wrong.
     let no : false ≡ true =
     sym (made wrong) ∙ long_answers parts.answers.items s.answers are.answers savable.answers in
     let never : ⊥ = cc in never
 
-pub few_octets : (answers : List (ArrayVec ℕ)) → length answers ≤ 16 → length (octets_of answers) ≤ 16
+pub few_octets : (answers : List (ArrayVec ℕ)) → length answers ≤ 16 → length (octets_of answers)
+    ≤ 16
 few_octets answers few =
-    let same : length (octets_of answers) ≡ length answers = length-map answers (λ (a : ArrayVec ℕ). a.items) in
+    let same : length (octets_of answers) ≡ length answers =
+    length-map answers (λ (a : ArrayVec ℕ). a.items) in
     omega (arith, same, few)

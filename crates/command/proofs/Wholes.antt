@@ -1,13 +1,21 @@
 -- Each answer is whole, each guard holds for its station, and a deactivation may be of any age.
-use Rattle.std.proofs.Common.{◌≡◌, ℕ, zero, suc, ◌<◌, ◌≤◌, ◌%◌, ◌&&◌, ◌||◌, Bool, true, false, not, List, [], ◌∷◌, length, slice_index, refl, sym, subst, ap, ◌∙◌, arith}
-use Rattle.std.specs.Prelude.{◌==◌, Option, Some, None, if◌then◌else◌, option_map, unwrap_or, slice_get}
+use Rattle.std.proofs.Common.{◌≡◌, ℕ, zero, suc, ◌<◌, ◌≤◌, ◌%◌, ◌&&◌, ◌||◌, Bool, true, false, not}
+use Rattle.std.proofs.Common.{List, [], ◌∷◌, length, slice_index, refl, sym, subst, ap, ◌∙◌, arith}
+use Rattle.std.specs.Prelude.{◌==◌, Option, Some, None, if◌then◌else◌, option_map, unwrap_or}
+use Rattle.std.specs.Prelude.{slice_get}
 use Rattle.std.specs.List.{AllByRecursion}
 use Rattle.asdu.specs.declared.sizes.Sizes.{Sizes}
 use Rattle.elements.specs.TimeTag.{verdict_of}
 use Rattle.command.specs.declared.station.StationInfo.{StationInfo}
 use Rattle.command.specs.Octets.{answer}
-use Rattle.command.specs.Standard.{Rule, IsRefusal, first_cause, own_rules, cause_of_fault, negative_of, is_activation, is_deactivating, common_address, has_tag, tag_of, is_fresh, not_fresh, wants_select, must_be_selected, unknown_type, unknown_cause, unknown_station, unknown_object, malformed, not_permitted}
-use Rattle.command.specs.History.{Judged, Sent, Accepted, Refused, GivenUp, Mirrored, Offered, Answered, Ended, History, cause_given, on_line, GivesOwnAnswers, ExecutesAreSelected, AnswersWholly, IsGuarded}
+use Rattle.command.specs.Standard.{Rule, IsRefusal, first_cause, own_rules, cause_of_fault}
+use Rattle.command.specs.Standard.{negative_of, is_activation, is_deactivating, common_address}
+use Rattle.command.specs.Standard.{has_tag, tag_of, is_fresh, not_fresh, wants_select}
+use Rattle.command.specs.Standard.{must_be_selected, unknown_type, unknown_cause, unknown_station}
+use Rattle.command.specs.Standard.{unknown_object, malformed, not_permitted}
+use Rattle.command.specs.History.{Judged, Sent, Accepted, Refused, GivenUp, Mirrored, Offered}
+use Rattle.command.specs.History.{Answered, Ended, History, cause_given, on_line, GivesOwnAnswers}
+use Rattle.command.specs.History.{ExecutesAreSelected, AnswersWholly, IsGuarded}
 use Rattle.command.specs.Calls.{Call, run}
 use Rattle.command.proofs.Bridge.{executes_selected}
 use Rattle.command.proofs.Refusals.{refuses}
@@ -46,7 +54,8 @@ module _ (sizes : Sizes) (stations : List StationInfo) (ms age : ℕ) where
       let P : List ℕ → Type 0 = λ ys. IsRefusal cause xs ys in
       subst P (sym is) (refuses cause xs known long octet)
 
-  none_of_busy : (o : Option (List ℕ)) → None ≡ option_map (λ xs. answer (negative_of xs) xs) o → o ≡ None
+  none_of_busy : (o : Option (List ℕ)) → None ≡ option_map (λ xs. answer (negative_of xs) xs) o
+      → o ≡ None
   none_of_busy None e = refl
   none_of_busy (Some xs) e = cc
 
@@ -63,7 +72,8 @@ module _ (sizes : Sizes) (stations : List StationInfo) (ms age : ℕ) where
   answers_wholly [] g = tt
   answers_wholly (Judged now wall xs None ∷ h) g = answers_wholly h g.1
   answers_wholly (Judged now wall xs (Some a) ∷ h) g = (
-    λ long octet. is_refusal (cause_given sizes stations ms age wall xs) xs a (cause_known wall xs) g.0 long octet,
+    λ long octet. is_refusal (cause_given sizes stations ms age wall xs) xs a (cause_known wall xs)
+        g.0 long octet,
     answers_wholly h g.1,
   )
   answers_wholly (Sent j octets ∷ h) g = answers_wholly h g
@@ -103,7 +113,8 @@ guarded_at (x ∷ stations) zero station xs e guarded at =
     let first : wants_select xs x ≡ true = wanted xs x station is guarded at in
     ap (λ (b : Bool). b || must_be_selected stations xs) first
 guarded_at (x ∷ stations) (suc k) station xs e guarded at =
-    or_later (wants_select xs x) (must_be_selected stations xs) (guarded_at stations k station xs e guarded at)
+    or_later (wants_select xs x) (must_be_selected stations xs)
+    (guarded_at stations k station xs e guarded at)
 
 module _ (sizes : Sizes) (stations : List StationInfo) (ms age k : ℕ) (station : StationInfo)
     (stands : slice_get stations k ≡ Some station) (guarded : station.select ≡ true) where
@@ -137,32 +148,46 @@ fresh_off : (age : ℕ) (wall : Option ℕ) (xs : List ℕ) → is_deactivating 
 fresh_off age wall xs e = middle_off (has_tag (slice_index xs 0)) (is_activation xs)
     (not (is_fresh age wall (verdict_of (tag_of xs)))) (not_both (slice_index xs 2 % 64) e)
 
-pub any_age : (sizes : Sizes) (stations : List StationInfo) (age : ℕ) (wall : Option ℕ) (xs : List ℕ)
+pub any_age : (sizes : Sizes) (stations : List StationInfo) (age : ℕ) (wall : Option ℕ)
+    (xs : List ℕ)
     → is_deactivating xs ≡ true
     → cause_of_fault sizes stations age wall xs ≡ cause_of_fault sizes stations age None xs
 any_age sizes stations age wall xs e =
     ap (λ (b : Bool). first_cause (unknown_type xs ∷ unknown_cause xs ∷ unknown_station stations xs
-    ∷ unknown_object sizes xs ∷ malformed xs ∷ not_permitted xs ∷ record { applies = b; cause = negative_of xs } ∷ []))
+    ∷ unknown_object sizes xs ∷ malformed xs ∷ not_permitted xs ∷ record {
+      applies = b;
+      cause =
+          negative_of xs;
+    } ∷ []))
     (fresh_off age wall xs e ∙ sym (fresh_off age None xs e))
 
 -- ---- every list of calls
 
-pub run_selected : (stations : List StationInfo) (sizes : Sizes) (select_ms max_age_ms : ℕ) (calls : List Call)
-    → ExecutesAreSelected sizes stations select_ms max_age_ms (run stations sizes select_ms max_age_ms calls).history
+pub run_selected : (stations : List StationInfo) (sizes : Sizes) (select_ms max_age_ms : ℕ)
+    (calls : List Call)
+    → ExecutesAreSelected sizes stations select_ms max_age_ms
+    (run stations sizes select_ms max_age_ms calls).history
 run_selected stations sizes select_ms max_age_ms calls =
-    executes_selected sizes stations select_ms max_age_ms (run stations sizes select_ms max_age_ms calls).history
+    executes_selected sizes stations select_ms max_age_ms
+    (run stations sizes select_ms max_age_ms calls).history
     (run_holds sizes stations select_ms max_age_ms calls).keeps.rightly
     (run_holds sizes stations select_ms max_age_ms calls).keeps.executes
 
-pub run_guarded : (stations : List StationInfo) (sizes : Sizes) (select_ms max_age_ms : ℕ) (calls : List Call) (k : ℕ)
+pub run_guarded : (stations : List StationInfo) (sizes : Sizes) (select_ms max_age_ms : ℕ)
+    (calls : List Call) (k : ℕ)
     (station : StationInfo) → slice_get stations k ≡ Some station → station.select ≡ true
-    → IsGuarded sizes stations select_ms max_age_ms station (run stations sizes select_ms max_age_ms calls).history
+    → IsGuarded sizes stations select_ms max_age_ms station
+    (run stations sizes select_ms max_age_ms calls).history
 run_guarded stations sizes select_ms max_age_ms calls k station stands guarded =
     is_guarded sizes stations select_ms max_age_ms k station stands guarded
-    (run stations sizes select_ms max_age_ms calls).history (run_selected stations sizes select_ms max_age_ms calls)
+    (run stations sizes select_ms max_age_ms calls).history
+    (run_selected stations sizes select_ms max_age_ms calls)
 
-pub run_wholly : (stations : List StationInfo) (sizes : Sizes) (select_ms max_age_ms : ℕ) (calls : List Call)
-    → AnswersWholly sizes stations select_ms max_age_ms (run stations sizes select_ms max_age_ms calls).history
+pub run_wholly : (stations : List StationInfo) (sizes : Sizes) (select_ms max_age_ms : ℕ)
+    (calls : List Call)
+    → AnswersWholly sizes stations select_ms max_age_ms
+    (run stations sizes select_ms max_age_ms calls).history
 run_wholly stations sizes select_ms max_age_ms calls =
-    answers_wholly sizes stations select_ms max_age_ms (run stations sizes select_ms max_age_ms calls).history
+    answers_wholly sizes stations select_ms max_age_ms
+    (run stations sizes select_ms max_age_ms calls).history
     (run_holds sizes stations select_ms max_age_ms calls).keeps.rightly

@@ -5,10 +5,12 @@ use Rattle.asdu.specs.declared.sizes.Sizes.{Sizes}
 use Rattle.command.specs.declared.station.StationInfo.{StationInfo}
 use Rattle.command.specs.declared.waiting.Waiting.{Waiting}
 use Rattle.command.specs.State as state
-use Rattle.command.specs.State.{State, oldest_for, line_of, refusal_of, is_used, has_answer_place, offered, first_answer, answered}
+use Rattle.command.specs.State.{State, oldest_for, line_of, refusal_of, is_used, has_answer_place}
+use Rattle.command.specs.State.{offered, first_answer, answered}
 use Rattle.command.specs.Judging as judging
 use Rattle.command.specs.Mirrors as mirrors
-use Rattle.command.specs.History.{Judged, Sent, Accepted, Refused, GivenUp, Mirrored, Offered, Answered, Ended, History}
+use Rattle.command.specs.History.{Judged, Sent, Accepted, Refused, GivenUp, Mirrored, Offered}
+use Rattle.command.specs.History.{Answered, Ended, History}
 
 -- the calls that change something
 pub data Call : Type 0 where

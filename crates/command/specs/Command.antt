@@ -1,6 +1,7 @@
 -- A command with one object: what its octets hold and what it says (IEC 60870-5-101, 7.2.6 and
 -- 7.3.2; IEC 60870-5-104, 8, for time tags).
-use Rattle.std.specs.Prelude.{ℕ, ◌+◌, ◌-◌, ◌%◌, Bool, true, not, ◌&&◌, ◌||◌, ◌==◌, nat_lt, nat_le, if◌then◌else◌, List, [], ◌∷◌, ◌++◌, drop, slice_index}
+use Rattle.std.specs.Prelude.{ℕ, ◌+◌, ◌-◌, ◌%◌, Bool, true, not, ◌&&◌, ◌||◌, ◌==◌, nat_lt, nat_le}
+use Rattle.std.specs.Prelude.{if◌then◌else◌, List, [], ◌∷◌, ◌++◌, drop, slice_index}
 use Rattle.byteorder.specs.Endian.{little_bytes}
 use Rattle.asdu.specs.Sizes.{ca_len, ioa_len, tcp}
 use Rattle.asdu.specs.Asdu.{originator_octets}

@@ -1,5 +1,6 @@
 -- What this crate proves of every list of calls, and of its calls, gathered for crates above.
-use Rattle.std.specs.Prelude.{◌≡◌, ℕ, ◌<◌, ◌≤◌, ◌+◌, ◌&&◌, ◌++◌, ◌==◌, true, false, List, [], length, count_by, slice_get, slice_index, Option, Some, option_map}
+use Rattle.std.specs.Prelude.{◌≡◌, ℕ, ◌<◌, ◌≤◌, ◌+◌, ◌&&◌, ◌++◌, ◌==◌, true, false, List, []}
+use Rattle.std.specs.Prelude.{length, count_by, slice_get, slice_index, Option, Some, option_map}
 use Rattle.asdu.specs.Sizes.{tcp}
 use Rattle.asdu.specs.Asdu.{AsduValue}
 use Rattle.asdu.specs.InformationObjects.{monitor_objects_of}
@@ -8,7 +9,10 @@ use Rattle.command.specs.declared.station.StationInfo.{StationInfo}
 use Rattle.command.specs.State.{State, octets_waiting, line_of, refusal_of, sent}
 use Rattle.command.specs.Judging.{judged}
 use Rattle.command.specs.Mirrors.{mirrored, tag_for}
-use Rattle.command.specs.History.{ForwardsCommands, SendsFreshCommands, mirror_tag, ExecutesAreSelected, GivesOwnAnswers, AnswersWholly, IsGuarded, KeepsOwnAnswers, own_kept, own_sent, forwarded_in_all, sent_in_all}
+use Rattle.command.specs.History.{ForwardsCommands, SendsFreshCommands, mirror_tag}
+use Rattle.command.specs.History.{ExecutesAreSelected, GivesOwnAnswers, AnswersWholly, IsGuarded}
+use Rattle.command.specs.History.{KeepsOwnAnswers, own_kept, own_sent, forwarded_in_all}
+use Rattle.command.specs.History.{sent_in_all}
 use Rattle.command.specs.Rules.{no_place}
 use Rattle.command.specs.Standard.{is_for_station, must_be_selected, selects}
 use Rattle.command.specs.Calls.{Call, Run, after_call, first_run}

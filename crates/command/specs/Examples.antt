@@ -1,6 +1,7 @@
 -- Examples worked by hand from the standard: which octets say what, what becomes of a command, and
 -- what ends a selection. Each stands beside its negatives.
-use Rattle.std.specs.Prelude.{◌≡◌, ℕ, zero, suc, ◌+◌, Bool, true, false, not, List, [], ◌∷◌, Option, Some, None, option_map, filter, map, replicate}
+use Rattle.std.specs.Prelude.{◌≡◌, ℕ, zero, suc, ◌+◌, Bool, true, false, not, List, [], ◌∷◌, Option}
+use Rattle.std.specs.Prelude.{Some, None, option_map, filter, map, replicate}
 use Rattle.elements.specs.declared.types.TypeId.{TypeId}
 use Rattle.elements.specs.declared.types.TypeId.TheVariants.{CScNa1, CDcNa1, CSeNa1, CSeNb1}
 use Rattle.asdu.specs.Asdu.{AsduValue}
@@ -9,7 +10,9 @@ use Rattle.asdu.specs.declared.sizes.CaSize.TheVariants as cas
 use Rattle.asdu.specs.declared.sizes.IoaSize.TheVariants as ioas
 use Rattle.asdu.specs.declared.sizes.Sizes.{Sizes}
 use Rattle.command.specs.declared.station.StationInfo.{StationInfo}
-use Rattle.command.specs.Standard.{is_process_type, has_tag, plain_type, element_part, tag_if_any, is_activation, is_deactivating, selects, executes, may_operate, is_test, is_positive_confirmation, is_negative_confirmation}
+use Rattle.command.specs.Standard.{is_process_type, has_tag, plain_type, element_part, tag_if_any}
+use Rattle.command.specs.Standard.{is_activation, is_deactivating, selects, executes, may_operate}
+use Rattle.command.specs.Standard.{is_test, is_positive_confirmation, is_negative_confirmation}
 use Rattle.command.specs.Judging.{judged}
 use Rattle.command.specs.State.{octets_waiting}
 use Rattle.command.specs.Mirrors.{tag_for}

@@ -1,6 +1,9 @@
 -- What can be seen of commands from outside, and what the rules make of it. Nothing here knows how
 -- it is kept.
-use Rattle.std.specs.Prelude.{◌≡◌, ℕ, suc, ◌+◌, ◌-◌, ◌<◌, ◌≤◌, Bool, true, false, not, ◌&&◌, ◌||◌, ◌==◌, nat_lt, if◌then◌else◌, List, [], ◌∷◌, ◌++◌, length, count_by, take, drop, Option, Some, None, option_map, is_none, unwrap_or, slice_get, slice_index}
+use Rattle.std.specs.Prelude.{◌≡◌, ℕ, suc, ◌+◌, ◌-◌, ◌<◌, ◌≤◌, Bool, true, false, not, ◌&&◌, ◌||◌}
+use Rattle.std.specs.Prelude.{◌==◌, nat_lt, if◌then◌else◌, List, [], ◌∷◌, ◌++◌, length, count_by}
+use Rattle.std.specs.Prelude.{take, drop, Option, Some, None, option_map, is_none, unwrap_or}
+use Rattle.std.specs.Prelude.{slice_get, slice_index}
 use Rattle.std.specs.Option.{option_map_or}
 use Rattle.elements.specs.declared.types.TypeId.{TypeId}
 use Rattle.elements.specs.Types.{type_of}
@@ -11,7 +14,12 @@ use Rattle.asdu.specs.Writing.{carried}
 use Rattle.asdu.specs.Tagging.{untagged}
 use Rattle.asdu.specs.declared.sizes.Sizes.{Sizes}
 use Rattle.command.specs.Octets.{answer}
-use Rattle.command.specs.Standard.{common_address, IsRefusal, operates, has_tag, tag_if_any, is_activation, is_deactivating, selects, executes, have_one_target, have_one_type, have_one_element, have_one_test_bit, is_object_of, confirms_command, refuses_command, is_for_station, must_be_selected, station_of, negative_of, cause_of_fault, IsFresh}
+use Rattle.command.specs.Standard.{common_address, IsRefusal, operates, has_tag, tag_if_any}
+use Rattle.command.specs.Standard.{is_activation, is_deactivating, selects, executes}
+use Rattle.command.specs.Standard.{have_one_target, have_one_type, have_one_element}
+use Rattle.command.specs.Standard.{have_one_test_bit, is_object_of, confirms_command}
+use Rattle.command.specs.Standard.{refuses_command, is_for_station, must_be_selected, station_of}
+use Rattle.command.specs.Standard.{negative_of, cause_of_fault, IsFresh}
 use Rattle.command.specs.declared.station.StationInfo.{StationInfo}
 
 pub data Told : Type 0 where

@@ -1,11 +1,14 @@
 -- What becomes of an ASDU from the control centre: by the ASDU alone, and then by what is kept.
-use Rattle.std.specs.Prelude.{ℕ, ◌+◌, ◌%◌, ◌^◌, Bool, not, ◌&&◌, ◌||◌, ◌==◌, nat_lt, nat_le, if◌then◌else◌, List, [], ◌∷◌, ◌++◌, length, count_by, slice_index, Option, Some, None}
+use Rattle.std.specs.Prelude.{ℕ, ◌+◌, ◌%◌, ◌^◌, Bool, not, ◌&&◌, ◌||◌, ◌==◌, nat_lt, nat_le}
+use Rattle.std.specs.Prelude.{if◌then◌else◌, List, [], ◌∷◌, ◌++◌, length, count_by, slice_index}
+use Rattle.std.specs.Prelude.{Option, Some, None}
 use Rattle.std.specs.List.{filter_map, list_any}
 use Rattle.asdu.specs.Sizes.{ioa_len, tcp}
 use Rattle.asdu.specs.Fields.{ca_at, first_address}
 use Rattle.asdu.specs.declared.sizes.Sizes.{Sizes}
 use Rattle.command.specs.Octets.{answer, negative}
-use Rattle.command.specs.Command.{is_command_type, command_len, command_at, command_octets, is_permitted, is_deactivation, is_select, is_execute}
+use Rattle.command.specs.Command.{is_command_type, command_len, command_at, command_octets}
+use Rattle.command.specs.Command.{is_permitted, is_deactivation, is_select, is_execute}
 use Rattle.command.specs.Selection.{advanced, lets_through, target_of}
 use Rattle.command.specs.Tags.{is_stale}
 use Rattle.command.specs.Stations.{is_global, is_addressed, is_known, is_guarded, station_number}

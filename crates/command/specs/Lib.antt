@@ -17,4 +17,5 @@ pub mod CommandLaws
 pub mod Examples
 pub mod Saved
 pub mod Restored
+pub mod Refusals
 pub mod Carried

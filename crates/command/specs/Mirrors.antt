@@ -1,6 +1,7 @@
 -- What a station's answer to a command does to selections, and which tag it is passed on with (IEC
 -- 60870-5-101, 7.2.3: cause 7 is an activation con).
-use Rattle.std.specs.Prelude.{ℕ, ◌%◌, Bool, true, false, not, ◌&&◌, ◌==◌, nat_le, if◌then◌else◌, List, [], ◌∷◌, Option, Some, None}
+use Rattle.std.specs.Prelude.{ℕ, ◌%◌, Bool, true, false, not, ◌&&◌, ◌==◌, nat_le, if◌then◌else◌}
+use Rattle.std.specs.Prelude.{List, [], ◌∷◌, Option, Some, None}
 use Rattle.elements.specs.Types.{row}
 use Rattle.elements.specs.declared.tag.Cp56.{Cp56}
 use Rattle.asdu.specs.Asdu.{AsduValue, Info}

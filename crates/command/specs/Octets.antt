@@ -1,6 +1,7 @@
 -- The gateway's own answer to an ASDU (IEC 60870-5-101, 7.2.3: test bit, P/N and cause stand in one
 -- octet).
-use Rattle.std.specs.Prelude.{ℕ, ◌+◌, ◌*◌, ◌/◌, ◌%◌, ◌==◌, if◌then◌else◌, List, ◌∷◌, ◌++◌, take, drop, slice_index}
+use Rattle.std.specs.Prelude.{ℕ, ◌+◌, ◌*◌, ◌/◌, ◌%◌, ◌==◌, if◌then◌else◌, List, ◌∷◌, ◌++◌, take}
+use Rattle.std.specs.Prelude.{drop, slice_index}
 
 -- the octets of the cause: test bit kept, P/N set, this cause
 abbrev pub refused_cause : ℕ → ℕ → ℕ

@@ -1,5 +1,6 @@
 -- The state of commands as lines of numbers, of which it is made again (profile).
-use Rattle.std.specs.Prelude.{◌≡◌, ◌≤◌, ◌&&◌, nat_le, ℕ, Bool, true, List, [], ◌∷◌, ◌++◌, length, map, vec_capacity}
+use Rattle.std.specs.Prelude.{◌≡◌, ◌≤◌, ◌&&◌, nat_le, ℕ, Bool, true, List, [], ◌∷◌, ◌++◌, length}
+use Rattle.std.specs.Prelude.{map, vec_capacity}
 use Rattle.std.specs.List.{list_all}
 use Rattle.arrayvec.specs.ArrayVec.{ArrayVec}
 use Rattle.asdu.specs.declared.sizes.Sizes.{Sizes}
@@ -7,7 +8,9 @@ use Rattle.command.specs.State.{State}
 use Rattle.command.specs.declared.station.StationInfo.{StationInfo}
 use Rattle.command.specs.Fields.{octets_of}
 use Rattle.command.specs.declared.restoring.Parts.{Parts}
-use Rattle.command.specs.Saved.{waiting_numbers, line_numbers, selection_numbers, sending_numbers, is_savable_waiting, is_savable_line, is_savable_selection, is_savable_sending, is_answer}
+use Rattle.command.specs.Saved.{waiting_numbers, line_numbers, selection_numbers, sending_numbers}
+use Rattle.command.specs.Saved.{is_savable_waiting, is_savable_line, is_savable_selection}
+use Rattle.command.specs.Saved.{is_savable_sending, is_answer}
 
 -- how many there are, and then a line for each
 abbrev pub list_lines : List (List ℕ) → List (List ℕ)

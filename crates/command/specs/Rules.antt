@@ -1,8 +1,10 @@
 -- The rules by which an ASDU from the control centre is judged: those of the command alone, then
 -- those of what is kept (in this order by this gateway's own profile).
-use Rattle.std.specs.Prelude.{ℕ, ◌+◌, not, ◌&&◌, ◌||◌, nat_lt, nat_le, List, [], ◌∷◌, ◌++◌, length, count_by, Option}
+use Rattle.std.specs.Prelude.{ℕ, ◌+◌, not, ◌&&◌, ◌||◌, nat_lt, nat_le, List, [], ◌∷◌, ◌++◌, length}
+use Rattle.std.specs.Prelude.{count_by, Option}
 use Rattle.std.specs.List.{list_any}
-use Rattle.command.specs.Standard.{Rule, negative_of, own_rules, executes, selects, must_be_selected, is_for_station}
+use Rattle.command.specs.Standard.{Rule, negative_of, own_rules, executes, selects}
+use Rattle.command.specs.Standard.{must_be_selected, is_for_station}
 use Rattle.command.specs.Command.{command_at}
 use Rattle.command.specs.Selection.{lets_through}
 use Rattle.command.specs.State.{State}

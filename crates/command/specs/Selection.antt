@@ -1,6 +1,7 @@
 -- A selection, and what becomes of it (IEC 60870-5-101, 7.2.6.26 and 7.2.6.39: S/E; how long a
 -- selection lasts and what ends it is this gateway's own profile).
-use Rattle.std.specs.Prelude.{ℕ, ◌-◌, Bool, true, false, not, ◌&&◌, ◌==◌, nat_lt, nat_le, if◌then◌else◌, Option, Some, None}
+use Rattle.std.specs.Prelude.{ℕ, ◌-◌, Bool, true, false, not, ◌&&◌, ◌==◌, nat_lt, nat_le}
+use Rattle.std.specs.Prelude.{if◌then◌else◌, Option, Some, None}
 use Rattle.command.specs.declared.content.Command.{Command}
 use Rattle.command.specs.declared.content.Element.{Element}
 use Rattle.command.specs.declared.content.Element.TheVariants.{Octet, SetPoint}

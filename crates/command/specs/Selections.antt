@@ -1,11 +1,13 @@
 -- Which selects are kept, by the history (how long a selection lasts is this gateway's own
 -- profile).
-use Rattle.std.specs.Prelude.{◌≡◌, ℕ, ◌+◌, ◌-◌, ◌<◌, Bool, true, ◌&&◌, ◌==◌, List, [], ◌∷◌, Some, unwrap_or, slice_index}
+use Rattle.std.specs.Prelude.{◌≡◌, ℕ, ◌+◌, ◌-◌, ◌<◌, Bool, true, ◌&&◌, ◌==◌, List, [], ◌∷◌, Some}
+use Rattle.std.specs.Prelude.{unwrap_or, slice_index}
 use Rattle.std.specs.List.{AllByRecursion}
 use Rattle.asdu.specs.declared.sizes.Sizes.{Sizes}
 use Rattle.command.specs.Command.{command_at}
 use Rattle.command.specs.Standard.{plain_type, common_address, object_address, station_of}
-use Rattle.command.specs.History.{History, Select, sent_count, place_on_line, is_accepted_at, standing, confirmed_at}
+use Rattle.command.specs.History.{History, Select, sent_count, place_on_line, is_accepted_at}
+use Rattle.command.specs.History.{standing, confirmed_at}
 use Rattle.command.specs.declared.station.StationInfo.{StationInfo}
 use Rattle.command.specs.declared.selection.Selection.{Selection}
 use Rattle.command.specs.declared.selection.Stage.{Stage}

@@ -2,7 +2,9 @@
 -- 60870-5-101, 7.2 and 7.3.2, in the sizes of IEC 60870-5-104: two octets of cause, two of common
 -- address, three of object address, each low octet first). Nothing of the machine is borrowed here:
 -- laws say that its functions read the same.
-use Rattle.std.specs.Prelude.{◌≡◌, ◌≢◌, ℕ, suc, ◌+◌, ◌*◌, ◌-◌, ◌%◌, ◌^◌, ◌≤◌, Bool, true, false, not, ◌&&◌, ◌||◌, ◌==◌, nat_lt, nat_le, if◌then◌else◌, List, [], ◌∷◌, length, take, drop, slice_index, Option, Some, None}
+use Rattle.std.specs.Prelude.{◌≡◌, ◌≢◌, ℕ, suc, ◌+◌, ◌*◌, ◌-◌, ◌%◌, ◌^◌, ◌≤◌, Bool, true, false}
+use Rattle.std.specs.Prelude.{not, ◌&&◌, ◌||◌, ◌==◌, nat_lt, nat_le, if◌then◌else◌, List, [], ◌∷◌}
+use Rattle.std.specs.Prelude.{length, take, drop, slice_index, Option, Some, None}
 use Rattle.std.specs.List.{list_any}
 use Rattle.elements.specs.Types.{row}
 use Rattle.elements.specs.TimeTag.{verdict_of}

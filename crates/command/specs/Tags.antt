@@ -1,6 +1,7 @@
 -- The time tags of commands (IEC 60870-5-104, 8; how old a command may be, and how many are kept,
 -- is this gateway's own profile).
-use Rattle.std.specs.Prelude.{ℕ, ◌-◌, ◌%◌, Bool, false, not, ◌&&◌, ◌==◌, nat_le, if◌then◌else◌, List, [], ◌∷◌, ◌++◌, length, drop, slice_index, Option, Some, None}
+use Rattle.std.specs.Prelude.{ℕ, ◌-◌, ◌%◌, Bool, false, not, ◌&&◌, ◌==◌, nat_le, if◌then◌else◌}
+use Rattle.std.specs.Prelude.{List, [], ◌∷◌, ◌++◌, length, drop, slice_index, Option, Some, None}
 use Rattle.circular_buffer.specs.Buffer.{keep_last}
 use Rattle.elements.specs.TimeTag.{verdict_of}
 use Rattle.elements.specs.declared.tag.Cp56.{Cp56}

@@ -1,14 +1,18 @@
 //! What is kept of commands, and the calls.
-ghost use Rattle.std.specs.Prelude.{◌≡◌, ℕ, List, ◌++◌, OnOk, MatchResult, false, ◌≤◌, ◌<◌, ◌+◌, length, count_by, IfOk, IfSome, IfNone, Some, None, option_map, if◌then◌else◌, slice_index, vec_len};
+ghost use Rattle.std.specs.Prelude.{◌≡◌, ℕ, List, ◌++◌, OnOk, MatchResult, false, ◌≤◌, ◌<◌, ◌+◌};
+ghost use Rattle.std.specs.Prelude.{length, count_by, IfOk, IfSome, IfNone, Some, None, option_map};
+ghost use Rattle.std.specs.Prelude.{if◌then◌else◌, slice_index, vec_len};
 ghost use Rattle.arrayvec.specs.ArrayVec.{array_vec_len};
 ghost use Rattle.checkpoint.specs.declared.StateFault.TheVariants.{Wrong};
 ghost use Rattle.elements.specs.Types.{row};
 ghost use Rattle.asdu.specs.Reading.{value_of};
-ghost use Rattle.command.specs.Octets.{negative};
+ghost use Rattle.command.specs.Octets.{answer, negative};
 ghost use Rattle.command.specs.Command.{command_len, command_at};
-ghost use Rattle.command.specs.Mirrors.{all_over, one_confirmed, confirmed, mirrored, tag_for, element_of as element_in};
+ghost use Rattle.command.specs.Mirrors.{all_over, one_confirmed, confirmed, mirrored, tag_for};
+ghost use Rattle.command.specs.Mirrors.{element_of as element_in};
 
 mod carrying;
+mod refusing;
 
 use crate::act::{Act, Answer};
 use crate::content::{
@@ -19,8 +23,8 @@ use crate::judging::{
     negative_cause,
 };
 use crate::keeping::{
-    advanced, count_waiting, cut_all, free_lines, is_heard, is_used_at, kept_stations, place_of,
-    push_copies, refusal_at, station_number,
+    advance_all, count_others, count_waiting, cut_all, free_lines, is_heard, is_used_at,
+    kept_stations, place_of, push_copies, refusal_at, station_number,
 };
 use crate::mirrors::{element_of, is_con};
 use crate::restoring::{Parts, are_answers, read_parts, ring_of};
@@ -82,9 +86,19 @@ impl Model for Commands {
 }
 
 impl Commands {
-    ghost use Rattle.command.specs.Restored.{commands_lines, IsSavable, HasSettings, HaveRoom, state_with, are_long};
-    ghost use Rattle.command.specs.State.{State, new_state, told, has_answer_place, offered, first_answer, answered, closed, timed, octets_waiting, with_line, sent as after_sending, noted, accepted as after_acceptance, given_up, line_of, is_used, refusal_of};
-    ghost use Rattle.command.specs.Judging.{answer_of, judged, admitted, placed, ends_selection, without_selection, fault as fault_of, cause_fault as fault_of_cause, address_fault as fault_of_addresses, lacks_selection, lacks_place, makes_selection, forwarded, queued, selected, others};
+    ghost use Rattle.command.specs.Restored.{commands_lines, IsSavable, HasSettings, HaveRoom};
+    ghost use Rattle.command.specs.Restored.{state_with, are_long};
+    ghost use Rattle.command.specs.State.{State, new_state, told, has_answer_place, offered};
+    ghost use Rattle.command.specs.State.{first_answer, answered, closed, timed, octets_waiting};
+    ghost use Rattle.command.specs.State.{with_line, sent as after_sending, noted};
+    ghost use Rattle.command.specs.State.{accepted as after_acceptance, given_up, line_of, is_used};
+    ghost use Rattle.command.specs.State.{refusal_of};
+    ghost use Rattle.command.specs.Judging.{answer_of, judged, admitted, placed, ends_selection};
+    ghost use Rattle.command.specs.Judging.{without_selection, fault as fault_of};
+    ghost use Rattle.command.specs.Judging.{cause_fault as fault_of_cause};
+    ghost use Rattle.command.specs.Judging.{address_fault as fault_of_addresses, lacks_selection};
+    ghost use Rattle.command.specs.Judging.{lacks_place, makes_selection, forwarded, queued};
+    ghost use Rattle.command.specs.Judging.{selected, others};
     ghost use Rattle.command.specs.Stations.{is_addressed};
 
     /// No command, no selection and no own answer. This takes memory for all that may be kept.
@@ -202,19 +216,18 @@ impl Commands {
     fn tell(&mut self, sign: Sign)
         ensures { self.new ≡ told sign self.old }
     {
-        // Each event comes by here, and few change a selection: the list is made anew for those.
+        // Each event comes by here, and few change a selection.
         if is_heard(self.selections.as_slice(), self.select_ms, &sign) {
-            self.advance(sign);
+            self.advance(&sign);
         }
     }
 
-    /// Selections hear of something. Apart, so that the copy of the list stands in no function that
-    /// each event calls.
+    /// Selections hear of something. Apart, since few events do more than look.
     #[inline(never)]
-    fn advance(&mut self, sign: Sign)
-        ensures { self.new ≡ told sign self.old }
+    fn advance(&mut self, sign: &Sign)
+        ensures { self.new ≡ told sign.now self.old }
     {
-        self.selections = advanced(self.selections.as_slice(), self.select_ms, sign);
+        advance_all(&mut self.selections, self.select_ms, sign);
     }
 
     /// Judges an ASDU of 9 to 249 octets from the control centre, at moment `now` in ms, when the
@@ -227,8 +240,23 @@ impl Commands {
         ensures fits { IfSome (answer_of result)
             (λ answer. (9 ≤ length answer) × (length answer ≤ 249)) }
     {
-        match self.fault(octets, wall) {
+        // An answer is made in one place, since there has to be room for each that may be.
+        match self.refusal_cause(octets, now, wall) {
             Some(cause) => Act::Own(refuse(cause, octets)),
+            None => Act::Forward,
+        }
+    }
+
+    /// The cause of the answer, if the ASDU isn't forwarded.
+    fn refusal_cause(&mut self, octets: &[u8], now: u64, wall: Option<u64>) -> Option<u8>
+        requires long { 9 ≤ length octets.now }
+        requires fits { length octets.now ≤ 249 }
+        ensures judged { (option_map (λ cause. answer cause octets.now) result, self.new)
+            ≡ judged octets.now now wall self.old }
+        ensures known { IfSome result (λ cause. cause < 64) }
+    {
+        match self.fault(octets, wall) {
+            Some(cause) => Some(cause),
             None => self.admit(octets, read_command(octets), now),
         }
     }
@@ -284,21 +312,21 @@ impl Commands {
         form_fault(octets, self.max_age_ms, wall)
     }
 
-    /// A command without a fault of its own.
-    fn admit(&mut self, octets: &[u8], command: Command, now: u64) -> Act
+    /// A command without a fault of its own: the cause of its answer, if it isn't forwarded.
+    fn admit(&mut self, octets: &[u8], command: Command, now: u64) -> Option<u8>
         requires long { 9 ≤ length octets.now }
         requires whole { length octets.now ≡ command_len (slice_index octets.now 0) }
         requires read { command ≡ command_at octets.now }
-        ensures judged { (answer_of result, self.new) ≡ admitted octets.now command now self.old }
-        ensures fits { IfSome (answer_of result)
-            (λ answer. (9 ≤ length answer) × (length answer ≤ 249)) }
+        ensures judged { (option_map (λ cause. answer cause octets.now) result, self.new)
+            ≡ admitted octets.now command now self.old }
+        ensures known { IfSome result (λ cause. cause < 64) }
     {
         // Looked up before it ends: an execute uses its selection up whether it may go or not, so
         // that no second one operates the switch by the same select.
         let lacks_selection = self.lacks_selection(command, now);
         self.end_selection(command);
         if lacks_selection {
-            return Act::Own(refuse(negative_cause(octets), octets));
+            return Some(negative_cause(octets));
         }
         self.place(octets, command, now)
     }
@@ -313,20 +341,20 @@ impl Commands {
         }
     }
 
-    /// A command that may go, where there are places for it.
-    fn place(&mut self, octets: &[u8], command: Command, now: u64) -> Act
+    /// A command that may go, where there are places for it: else the cause of its answer.
+    fn place(&mut self, octets: &[u8], command: Command, now: u64) -> Option<u8>
         requires long { 9 ≤ length octets.now }
         requires whole { length octets.now ≡ command_len (slice_index octets.now 0) }
         requires read { command ≡ command_at octets.now }
-        ensures judged { (answer_of result, self.new) ≡ placed octets.now command now self.old }
-        ensures fits { IfSome (answer_of result)
-            (λ answer. (9 ≤ length answer) × (length answer ≤ 249)) }
+        ensures judged { (option_map (λ cause. answer cause octets.now) result, self.new)
+            ≡ placed octets.now command now self.old }
+        ensures known { IfSome result (λ cause. cause < 64) }
     {
         if self.lacks_place(command) {
-            return Act::Own(refuse(negative_cause(octets), octets));
+            return Some(negative_cause(octets));
         }
         self.forward(octets, command, now);
-        Act::Forward
+        None
     }
 
     /// Whether it is an execute without a live selection.
@@ -357,12 +385,7 @@ impl Commands {
         ensures { result ≡ length (others command self.now) }
     {
         // A select of a target that is selected already replaces that one, and wants no place.
-        advanced(
-            self.selections.as_slice(),
-            self.select_ms,
-            Sign::Over(command.target()),
-        )
-        .len()
+        count_others(self.selections.as_slice(), self.select_ms, command.target())
     }
 
     /// The command waits for the line.

@@ -4,7 +4,15 @@ ghost use Rattle.byteorder.specs.Endian.{little_bytes};
 ghost use Rattle.arrayvec.specs.ArrayVec.{array_vec_len};
 ghost use Rattle.asdu.specs.Sizes.{ca_len, ioa_len};
 ghost use Rattle.asdu.specs.Asdu.{originator_octets};
-ghost use Rattle.command.specs.Command.{command_at, element_at, element_octets, command_octets, element_len, command_len, tag_len, is_tagged as has_tag, line_kind as kind_on_line, is_set_point as set_point, qualifier as qualifier_of, is_select as selects, is_execute as executes, is_deactivation as deactivates, is_permitted as permitted, is_process_command as process_command, is_command_type as command_type, without_select as execute_of};
+ghost use Rattle.command.specs.Command.{command_at, element_at, element_octets, command_octets};
+ghost use Rattle.command.specs.Command.{element_len, command_len, tag_len, is_tagged as has_tag};
+ghost use Rattle.command.specs.Command.{line_kind as kind_on_line, is_set_point as set_point};
+ghost use Rattle.command.specs.Command.{qualifier as qualifier_of, is_select as selects};
+ghost use Rattle.command.specs.Command.{is_execute as executes, is_deactivation as deactivates};
+ghost use Rattle.command.specs.Command.{is_permitted as permitted};
+ghost use Rattle.command.specs.Command.{is_process_command as process_command};
+ghost use Rattle.command.specs.Command.{is_command_type as command_type};
+ghost use Rattle.command.specs.Command.{without_select as execute_of};
 ghost use Rattle.command.specs.Selection.{target_of};
 ghost use Rattle.command.specs.Octets.{answer};
 
@@ -281,6 +289,7 @@ pub(crate) fn append<const N: usize>(out: &mut ArrayVec<u8, N>, octets: &[u8])
 }
 
 /// The ASDU as an own answer: its test bit kept, P/N set, the new cause.
+#[inline(never)]
 pub(crate) fn refuse(cause: u8, octets: &[u8]) -> Answer
     requires known { cause < 64 }
     requires long { 3 ≤ length octets.now }

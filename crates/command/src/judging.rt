@@ -1,10 +1,12 @@
 //! The tests by which an ASDU from the control centre is judged.
-ghost use Rattle.std.specs.Prelude.{◌≡◌, ◌≤◌, ◌<◌, ◌%◌, ◌||◌, ◌&&◌, ◌==◌, not, length, IfSome, IfNone, slice_index, count_by};
+ghost use Rattle.std.specs.Prelude.{◌≡◌, ◌≤◌, ◌<◌, ◌%◌, ◌||◌, ◌&&◌, ◌==◌, not, length, IfSome};
+ghost use Rattle.std.specs.Prelude.{IfNone, slice_index, count_by};
 ghost use Rattle.std.specs.List.{list_any};
 ghost use Rattle.command.specs.Octets.{negative};
 ghost use Rattle.command.specs.Command.{command_len};
 ghost use Rattle.command.specs.Selection.{lets_through};
-ghost use Rattle.command.specs.Stations.{is_addressed, is_global as global, is_known as known, is_guarded as guarded};
+ghost use Rattle.command.specs.Stations.{is_addressed, is_global as global, is_known as known};
+ghost use Rattle.command.specs.Stations.{is_guarded as guarded};
 ghost use Rattle.command.specs.Judging.{form_fault as fault_of_form, is_object as object};
 
 use crate::content::{Command, command_octets_of, read_command};

@@ -1,18 +1,22 @@
 //! Lists of what is kept: waiting commands, lines and selections.
-ghost use Rattle.std.specs.Prelude.{◌≡◌, ◌≤◌, ◌<◌, ◌+◌, ◌++◌, [], ◌∷◌, length, map, remove, get_or, count_by, slice_index, slice_index_or, IfOk, IfSome, IfNone, Some, None, option_map, vec_len, vec_capacity};
+ghost use Rattle.std.specs.Prelude.{◌≡◌, ◌≤◌, ◌<◌, ◌+◌, ◌++◌, [], ◌∷◌, length, map, remove, get_or};
+ghost use Rattle.std.specs.Prelude.{count_by, slice_index, slice_index_or, IfOk, IfSome, IfNone};
+ghost use Rattle.std.specs.Prelude.{Some, None, option_map, vec_len, vec_capacity};
 ghost use Rattle.std.specs.List.{filter_map, list_any};
 ghost use Rattle.arrayvec.specs.ArrayVec.{array_vec_len};
 ghost use Rattle.command.specs.Command.{command_len, command_at};
 ghost use Rattle.command.specs.Selection.{hears, advanced as next_of};
 ghost use Rattle.command.specs.Stations.{is_addressed, station_number as number_of};
-ghost use Rattle.command.specs.State.{cut_off, free_line, oldest, without_oldest, is_used, refusal_of};
+ghost use Rattle.command.specs.State.{cut_off, free_line, oldest, without_oldest, is_used};
+ghost use Rattle.command.specs.State.{refusal_of};
 ghost use Rattle.command.specs.Judging.{copies, waiting_count};
 ghost use Rattle.command.specs.declared.waiting.Waiting.{Waiting};
 ghost use Rattle.command.specs.declared.waiting.Line.TheVariants.{Free};
+ghost use Rattle.command.specs.declared.selection.Sign.TheVariants.{Over as OverSign};
 
 use crate::act::Answer;
 use crate::commands::NoMemory;
-use crate::content::{read_command, refuse, write_command};
+use crate::content::{Target, read_command, refuse, write_command};
 use crate::judging::{is_for, negative_cause};
 use crate::selection::{Selection, Sign};
 use crate::station::StationInfo;
@@ -30,22 +34,43 @@ pub(crate) fn is_heard(selections: &[Selection], select_ms: u64, sign: &Sign) ->
         .any(|selection| selection.hears(select_ms, sign))
 }
 
-/// What is left of selections after a sign.
-pub(crate) fn advanced(
-    selections: &[Selection],
-    select_ms: u64,
-    sign: Sign,
-) -> ArrayVec<Selection, 16>
-    requires { length selections.now ≤ 16 }
-    ensures { result.items ≡ filter_map (next_of select_ms sign) selections.now }
+/// Each selection becomes what the sign leaves of it, where it stands.
+pub(crate) fn advance_all(selections: &mut ArrayVec<Selection, 16>, select_ms: u64, sign: &Sign)
+    ensures { selections.new.items
+        ≡ filter_map (next_of select_ms sign.now) selections.old.items }
 {
-    let mut left = ArrayVec::new();
-    for selection in selections {
-        if let Some(selection) = selection.advanced(select_ms, sign) {
-            left.push(selection);
+    let mut place = 0;
+    'selections: while place < selections.len() {
+        // Most stay as they are, and aren't moved.
+        if !selections[place].hears(select_ms, sign) {
+            place += 1;
+            continue;
+        }
+        match selections[place].advanced(select_ms, *sign) {
+            Some(selection) => {
+                selections[place] = selection;
+                place += 1;
+            }
+            None => {
+                selections.remove(place);
+            }
         }
     }
-    left
+}
+
+/// How many selections are of other targets.
+pub(crate) fn count_others(selections: &[Selection], select_ms: u64, target: Target) -> usize
+    ensures { result
+        ≡ length (filter_map (next_of select_ms (OverSign target)) selections.now) }
+{
+    let ends = Sign::Over(target);
+    let mut count = 0;
+    for selection in selections {
+        if !selection.hears(select_ms, &ends) {
+            count += 1;
+        }
+    }
+    count
 }
 
 /// The stations, kept.

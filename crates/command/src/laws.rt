@@ -4,7 +4,9 @@
 //! stations and what they answered, and the own answers. Each law says what the calls do by what
 //! the rules make of that history.
 
-ghost use Rattle.std.specs.Prelude.{◌≡◌, ◌≤◌, ◌<◌, ◌==◌, ◌+◌, ◌&&◌, ◌++◌, ℕ, List, [], length, count_by, slice_get, slice_index, Option, Some, None, false, true, option_map};
+ghost use Rattle.std.specs.Prelude.{◌≡◌, ◌≤◌, ◌<◌, ◌==◌, ◌+◌, ◌&&◌, ◌++◌, ℕ, List, [], length};
+ghost use Rattle.std.specs.Prelude.{count_by, slice_get, slice_index, Option, Some, None, false};
+ghost use Rattle.std.specs.Prelude.{true, option_map};
 ghost use Rattle.std.specs.List.{AllByRecursion};
 ghost use Rattle.asdu.specs.Asdu.{AsduValue};
 ghost use Rattle.asdu.specs.InformationObjects.{monitor_objects_of};
@@ -15,13 +17,21 @@ ghost use Rattle.command.specs.Judging.{judged};
 ghost use Rattle.command.specs.Mirrors.{mirrored, tag_for};
 ghost use Rattle.asdu.specs.declared.sizes.Sizes.{Sizes};
 ghost use Rattle.command.specs.declared.station.StationInfo.{StationInfo};
-ghost use Rattle.command.specs.Standard.{first_cause, cause_of_fault, executes, selects, must_be_selected, is_for_station, is_deactivating, IsRefusal};
+ghost use Rattle.command.specs.Standard.{first_cause, cause_of_fault, executes, selects};
+ghost use Rattle.command.specs.Standard.{must_be_selected, is_for_station, is_deactivating};
+ghost use Rattle.command.specs.Standard.{IsRefusal};
 ghost use Rattle.command.specs.Rules.{rules_for, not_selected, no_place};
-ghost use Rattle.command.specs.History.{ForwardsCommands, next_octets, SendsFreshCommands, mirror_tag, ExecutesAreSelected, IsSelected, GivesOwnAnswers, own_kept, own_sent, KeepsOwnAnswers, AnswersWholly, IsGuarded, forwarded_in_all, sent_in_all};
+ghost use Rattle.command.specs.History.{ForwardsCommands, next_octets, SendsFreshCommands};
+ghost use Rattle.command.specs.History.{mirror_tag, ExecutesAreSelected, IsSelected};
+ghost use Rattle.command.specs.History.{GivesOwnAnswers, own_kept, own_sent, KeepsOwnAnswers};
+ghost use Rattle.command.specs.History.{AnswersWholly, IsGuarded, forwarded_in_all, sent_in_all};
 ghost use Rattle.command.specs.Selections.{AreDistinct, IsStanding, IsInTime};
-ghost use Rattle.command.specs.Examples.{OctetExamples, IsRight, WaitsSo, rule_examples, selection_examples, line_examples, tag_examples, BearsIt, mirror_examples};
+ghost use Rattle.command.specs.Examples.{OctetExamples, IsRight, WaitsSo, rule_examples};
+ghost use Rattle.command.specs.Examples.{selection_examples, line_examples, tag_examples, BearsIt};
+ghost use Rattle.command.specs.Examples.{mirror_examples};
 ghost use Rattle.command.specs.Laws.{AfterEachRun, AtEachMoment, AfterEachDue};
 ghost use Rattle.command.specs.CommandLaws.{CommandLaws, RunLaws};
+ghost use Rattle.command.specs.Carried.{carried};
 
 /// The answer to an ASDU is the one that the first rule that applies gives; where none applies it
 /// is forwarded.
@@ -198,4 +208,27 @@ pub fn worked_examples_hold()
 pub fn commands_keep_the_rules()
     ensures calls { CommandLaws }
     ensures runs { RunLaws }
+{}
+
+/// Nothing of a connection outlives a change of settings, as nothing does its end: no command waits
+/// for the line, nothing is selected, so that no execute to a guarded station is let through
+/// without a select of its own connection, no answer is left to be sent, and no tag of a first
+/// sending. What stands on a line has no connection any more: a busy station's answer to it is
+/// given to nobody.
+pub fn nothing_of_a_connection_outlives_new_settings()
+    ensures waiting { (stations : List StationInfo) (sizes : Sizes) (select_ms max_age_ms : ℕ)
+        (before : List (Option ℕ)) (s : State) →
+        (carried stations sizes select_ms max_age_ms before s).waiting ≡ [] }
+    ensures selections { (stations : List StationInfo) (sizes : Sizes) (select_ms max_age_ms : ℕ)
+        (before : List (Option ℕ)) (s : State) →
+        (carried stations sizes select_ms max_age_ms before s).selections ≡ [] }
+    ensures answers { (stations : List StationInfo) (sizes : Sizes) (select_ms max_age_ms : ℕ)
+        (before : List (Option ℕ)) (s : State) →
+        (carried stations sizes select_ms max_age_ms before s).answers ≡ [] }
+    ensures sendings { (stations : List StationInfo) (sizes : Sizes) (select_ms max_age_ms : ℕ)
+        (before : List (Option ℕ)) (s : State) →
+        (carried stations sizes select_ms max_age_ms before s).sendings ≡ [] }
+    ensures lines { (stations : List StationInfo) (sizes : Sizes) (select_ms max_age_ms : ℕ)
+        (before : List (Option ℕ)) (s : State) (k : ℕ) →
+        refusal_of (line_of k (carried stations sizes select_ms max_age_ms before s)) ≡ None }
 {}

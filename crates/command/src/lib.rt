@@ -25,6 +25,11 @@
 //! speak of octets, in words of their own (specs/Standard) that no call is built of; a table of
 //! worked examples holds too.
 //!
+//! By which rule an ASDU is refused is told apart from its judgement ([`Commands::refusal_of`]),
+//! and also behind it, by a [`Glance`] that was taken before ([`Commands::refusal_at`]). Proved:
+//! there is a rule exactly where the judgement is an own answer, and the rule that is told behind
+//! it is that of the state of which the glance was taken.
+//!
 //! What is kept is put as lines of numbers ([`Commands::put_state`]) and made again of them
 //! ([`Commands::read_state`]). Proved: each state that a `Commands` has is one that can be saved
 //! (`IsSavable`), and its lines, with the settings, give that state and are never refused as wrong.
@@ -35,10 +40,12 @@
 mod act;
 mod commands;
 mod content;
+mod glance;
 mod judging;
 mod keeping;
 mod laws;
 mod mirrors;
+mod refusal;
 mod restoring;
 mod saving;
 mod selection;
@@ -48,11 +55,14 @@ mod waiting;
 
 pub use act::{Act, Answer};
 pub use commands::{Commands, NoMemory};
+pub use glance::Glance;
 pub use laws::{
     commands_are_forwarded, commands_keep_the_rules, executes_are_selected,
-    judgement_is_the_first_rule_that_applies, mirrors_bear_the_newest_tag, own_answers_are_given,
+    judgement_is_the_first_rule_that_applies, mirrors_bear_the_newest_tag,
+    nothing_of_a_connection_outlives_new_settings, own_answers_are_given,
     own_answers_bear_no_objects, places_come_back, selected_executes_pass,
     selections_are_selects_that_stand, sent_activations_are_fresh, settings_stay,
     waiting_commands_stay, worked_examples_hold,
 };
+pub use refusal::Refusal;
 pub use station::StationInfo;

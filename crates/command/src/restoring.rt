@@ -1,11 +1,15 @@
 //! What is kept of commands, made again of lines of numbers.
-ghost use Rattle.std.specs.Prelude.{◌≡◌, ◌≤◌, ◌++◌, ◌∷◌, [], ℕ, true, List, ◌&&◌, nat_le, length, map, option_map, vec_len, vec_capacity, IfOk, MatchResult};
+ghost use Rattle.std.specs.Prelude.{◌≡◌, ◌≤◌, ◌++◌, ◌∷◌, [], ℕ, true, List, ◌&&◌, nat_le, length};
+ghost use Rattle.std.specs.Prelude.{map, option_map, vec_len, vec_capacity, IfOk, MatchResult};
 ghost use Rattle.std.specs.List.{list_all};
 ghost use Rattle.checkpoint.specs.declared.StateFault.TheVariants.{Wrong, NoMemory};
 ghost use Rattle.command.specs.State.{State};
 ghost use Rattle.command.specs.Fields.{AreAsdus};
-ghost use Rattle.command.specs.Restored.{are_long, list_lines, commands_lines, IsSavable, ArePartsOf, HaveRoom};
-ghost use Rattle.command.specs.Saved.{octets_in, received_in, for_line_in, waiting_in, line_by, line_in, element_in, stage_in, command_with, selection_in, tag_in, target_in, sending_in};
+ghost use Rattle.command.specs.Restored.{are_long, list_lines, commands_lines, IsSavable};
+ghost use Rattle.command.specs.Restored.{ArePartsOf, HaveRoom};
+ghost use Rattle.command.specs.Saved.{octets_in, received_in, for_line_in, waiting_in, line_by};
+ghost use Rattle.command.specs.Saved.{line_in, element_in, stage_in, command_with, selection_in};
+ghost use Rattle.command.specs.Saved.{tag_in, target_in, sending_in};
 
 use crate::act::Answer;
 use crate::commands::{MOST_ANSWERS, MOST_SELECTIONS, MOST_WAITING};

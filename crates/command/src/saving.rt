@@ -1,9 +1,16 @@
 //! What is kept of commands, put as lines of numbers.
-ghost use Rattle.std.specs.Prelude.{◌≡◌, ◌≤◌, ◌++◌, ◌∷◌, [], ℕ, Bool, true, List, Option, Some, length, map, OnOk};
+ghost use Rattle.std.specs.Prelude.{◌≡◌, ◌≤◌, ◌++◌, ◌∷◌, [], ℕ, Bool, true, List, Option, Some};
+ghost use Rattle.std.specs.Prelude.{length, map, OnOk};
 ghost use Rattle.std.specs.List.{list_all};
 ghost use Rattle.command.specs.Command.{element_octets};
 ghost use Rattle.command.specs.Restored.{list_lines};
-ghost use Rattle.command.specs.Saved.{are_octets, is_received, is_for_line, is_answer, waiting_numbers, is_savable_waiting, line_numbers, is_savable_line, field_numbers, are_fields, stage_number, stage_detail, selection_numbers, is_savable_selection, is_savable_element, tag_numbers, is_savable_tag, sending_numbers, is_savable_sending, answer_numbers, is_savable_answer};
+ghost use Rattle.command.specs.Saved.{are_octets, is_received, is_for_line, is_answer};
+ghost use Rattle.command.specs.Saved.{waiting_numbers, is_savable_waiting, line_numbers};
+ghost use Rattle.command.specs.Saved.{is_savable_line, field_numbers, are_fields, stage_number};
+ghost use Rattle.command.specs.Saved.{stage_detail, selection_numbers, is_savable_selection};
+ghost use Rattle.command.specs.Saved.{is_savable_element, tag_numbers, is_savable_tag};
+ghost use Rattle.command.specs.Saved.{sending_numbers, is_savable_sending, answer_numbers};
+ghost use Rattle.command.specs.Saved.{is_savable_answer};
 
 use crate::act::Answer;
 use crate::content::{Command, Element};

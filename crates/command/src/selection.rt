@@ -1,7 +1,14 @@
 //! Selections.
 ghost use Rattle.std.specs.Prelude.{◌≡◌, ◌&&◌};
-ghost use Rattle.command.specs.Selection.{same_target as are_same_targets, same_element as are_same_elements, with_stage as staged, after_sending as sending, after_acceptance as acceptance, after_loss as loss, is_accepted as accepted, is_live as live, lasts_from as running_from, has_passed as passed, hears as may_change, advanced as next_of, lets_through as through, target_of};
-ghost use Rattle.command.specs.declared.selection.Sign.TheVariants.{Con as ConSign, Time as TimeSign};
+ghost use Rattle.command.specs.Selection.{same_target as are_same_targets};
+ghost use Rattle.command.specs.Selection.{same_element as are_same_elements, with_stage as staged};
+ghost use Rattle.command.specs.Selection.{after_sending as sending, after_acceptance as acceptance};
+ghost use Rattle.command.specs.Selection.{after_loss as loss, is_accepted as accepted};
+ghost use Rattle.command.specs.Selection.{is_live as live, lasts_from as running_from};
+ghost use Rattle.command.specs.Selection.{has_passed as passed, hears as may_change};
+ghost use Rattle.command.specs.Selection.{advanced as next_of, lets_through as through, target_of};
+ghost use Rattle.command.specs.declared.selection.Sign.TheVariants.{Con as ConSign};
+ghost use Rattle.command.specs.declared.selection.Sign.TheVariants.{Time as TimeSign};
 
 use crate::content::{Command, Element, Target};
 

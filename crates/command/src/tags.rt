@@ -2,7 +2,8 @@
 ghost use Rattle.std.specs.Prelude.{◌≡◌, ◌≤◌, ◌==◌, ◌&&◌, ◌%◌, length, slice_index, [], IfOk, None};
 ghost use Rattle.elements.specs.TimeTag.{verdict_of};
 ghost use Rattle.command.specs.Command.{command_len, is_tagged as has_tag};
-ghost use Rattle.command.specs.Tags.{tag_octets, tag_at, is_recent as is_near, is_stale as stale, sending_of, newest_tag as newest};
+ghost use Rattle.command.specs.Tags.{tag_octets, tag_at, is_recent as is_near, is_stale as stale};
+ghost use Rattle.command.specs.Tags.{sending_of, newest_tag as newest};
 
 use crate::commands::NoMemory;
 use crate::content::{Target, is_tagged, read_command};
@@ -82,7 +83,7 @@ fn is_recent(most: u64, wall: Option<u64>, verdict: Verdict) -> bool
 }
 
 /// The verdict on the tag of a command whose type has one.
-fn tag_verdict(octets: &[u8]) -> Verdict
+pub(crate) fn tag_verdict(octets: &[u8]) -> Verdict
     requires { 9 ≤ length octets.now }
     ensures { result ≡ verdict_of (tag_octets octets.now) }
 {
@@ -109,11 +110,16 @@ pub(crate) fn is_stale(most: u64, wall: Option<u64>, octets: &[u8]) -> bool
 pub(crate) fn newest_tag(sendings: &HeapCircularBuffer<Sending>, target: Target) -> Option<Cp56>
     ensures { result ≡ newest target None sendings.now.items }
 {
-    let mut tag = None;
-    for sending in sendings.iter() {
+    // From the newest on, which is most often the one.
+    let mut place = sendings.len();
+    'sendings: while place > 0 {
+        place -= 1;
+        let Some(sending) = sendings.get(place) else {
+            unreachable!();
+        };
         if same_target(sending.target, target) {
-            tag = sending.tag;
+            return sending.tag;
         }
     }
-    tag
+    None
 }

@@ -1,6 +1,7 @@
 -- The commands confirmed are those that the primary learnt to be accepted.
 use Rattle.std.specs.Prelude.{◌==◌}
-use Rattle.std.proofs.Common.{◌≡◌, ℕ, List, [], ◌∷◌, ◌++◌, map, Bool, true, false, if◌then◌else◌, Option, Some, None, refl, ap, sym, ◌∙◌}
+use Rattle.std.proofs.Common.{◌≡◌, ℕ, List, [], ◌∷◌, ◌++◌, map, Bool, true, false, if◌then◌else◌}
+use Rattle.std.proofs.Common.{Option, Some, None, refl, ap, sym, ◌∙◌}
 use Rattle.std.proofs.lemmas.List.{append-nil}
 use Rattle.link.specs.declared.settings.LinkSettings.{LinkSettings}
 use Rattle.link.specs.declared.service.Service.{Service}
@@ -12,13 +13,17 @@ use Rattle.link.specs.declared.answer.Answer.TheVariants as answer
 use Rattle.link.specs.Exchanges.{Exchange, answer_to}
 use Rattle.link.specs.Delivery.{learnt, learnt_by, commands, first_sending, pending_by}
 use Rattle.gateway.specs.Works.{Works, told_silent}
-use Rattle.delivery.specs.Commands.{LineStep, Begun, Confirmed, Busy, Lost, said_of, missed_by, goes_down, steps_at, steps_in, confirmed_by, steps_told, sent_to}
+use Rattle.delivery.specs.Commands.{LineStep, Begun, Confirmed, Busy, Lost, said_of, missed_by}
+use Rattle.delivery.specs.Commands.{goes_down, steps_at, steps_in, confirmed_by, steps_told}
+use Rattle.delivery.specs.Commands.{sent_to}
 use Rattle.delivery.proofs.Accepted.{commands-append}
 
-confirmed-append : (xs ys : List LineStep) → confirmed_by (xs ++ ys) ≡ confirmed_by xs ++ confirmed_by ys
+confirmed-append : (xs ys : List LineStep) → confirmed_by (xs ++ ys)
+    ≡ confirmed_by xs ++ confirmed_by ys
 confirmed-append [] ys = refl
 confirmed-append (Begun asdu ∷ xs) ys = confirmed-append xs ys
-confirmed-append (Confirmed asdu ∷ xs) ys = ap (λ (l : List (List ℕ)). asdu ∷ l) (confirmed-append xs ys)
+confirmed-append (Confirmed asdu ∷ xs) ys =
+    ap (λ (l : List (List ℕ)). asdu ∷ l) (confirmed-append xs ys)
 confirmed-append (Busy asdu ∷ xs) ys = confirmed-append xs ys
 confirmed-append (Lost ∷ xs) ys = confirmed-append xs ys
 
@@ -26,7 +31,8 @@ none_begun : (xs : List (List ℕ)) → confirmed_by (map (λ (asdu : List ℕ).
 none_begun [] = refl
 none_begun (x ∷ xs) = none_begun xs
 
-said_learnt : (request : Asked) (m : Option Answer) → confirmed_by (said_of request m) ≡ commands (learnt_by request m)
+said_learnt : (request : Asked) (m : Option Answer) → confirmed_by (said_of request m)
+    ≡ commands (learnt_by request m)
 said_learnt Status m = refl
 said_learnt Reset m = refl
 said_learnt (Counted fcb Class1) None = refl
@@ -55,21 +61,25 @@ none_lost : (b : Bool) → confirmed_by (if b then Lost ∷ [] else []) ≡ []
 none_lost true = refl
 none_lost false = refl
 
-pub confirmed_learnt : (s : LinkSettings) (a missed : ℕ) (pending : Option Service) (xs : List Exchange)
+pub confirmed_learnt : (s : LinkSettings) (a missed : ℕ) (pending : Option Service)
+    (xs : List Exchange)
     → confirmed_by (steps_in s a missed pending xs) ≡ commands (learnt a xs)
 confirmed_learnt s a missed pending [] = refl
 confirmed_learnt s a missed pending (x ∷ xs) =
     let later : Option Service = pending_by x.request (answer_to a x) pending in
     let more : ℕ = missed_by x.request x.closed (answer_to a x) missed in
-    let begun : List LineStep = map (λ (asdu : List ℕ). Begun asdu) (first_sending pending x.request) in
+    let begun : List LineStep =
+    map (λ (asdu : List ℕ). Begun asdu) (first_sending pending x.request) in
     let said : List LineStep = said_of x.request (answer_to a x) in
     let down : Bool = goes_down s missed x.request x.closed (answer_to a x) in
     let lost : List LineStep = if down then Lost ∷ [] else [] in
     confirmed-append (steps_at s a missed pending x) (steps_in s a more later xs)
     ∙ ap (λ (l : List (List ℕ)). l ++ confirmed_by (steps_in s a more later xs))
-    (confirmed-append begun (said ++ lost) ∙ ap (λ (l : List (List ℕ)). l ++ confirmed_by (said ++ lost))
+    (confirmed-append begun (said ++ lost)
+    ∙ ap (λ (l : List (List ℕ)). l ++ confirmed_by (said ++ lost))
     (none_begun (first_sending pending x.request))
-    ∙ confirmed-append said lost ∙ ap (λ (l : List (List ℕ)). confirmed_by said ++ l) (none_lost down)
+    ∙ confirmed-append said lost
+    ∙ ap (λ (l : List (List ℕ)). confirmed_by said ++ l) (none_lost down)
     ∙ append-nil (confirmed_by said) ∙ said_learnt x.request (answer_to a x))
     ∙ ap (λ (l : List (List ℕ)). commands (learnt_by x.request (answer_to a x)) ++ l)
     (confirmed_learnt s a more later xs)
@@ -87,6 +97,7 @@ confirmed_alike k (Some j) w = go (k == j)
         ∙ append-nil (confirmed_by (steps_told k w.history)))
     go false = refl
 
-pub sent_alike : (k : ℕ) (o : Option ℕ) (w : Works) → sent_to k w.history ≡ sent_to k (told_silent o w)
+pub sent_alike : (k : ℕ) (o : Option ℕ) (w : Works) → sent_to k w.history
+    ≡ sent_to k (told_silent o w)
 sent_alike k None w = refl
 sent_alike k (Some j) w = refl

@@ -1,6 +1,8 @@
--- What an event or a request makes of the steps of commands, as the exchanges show them and as the course tells them.
+-- What an event or a request makes of the steps of commands, as the exchanges show them and as the
+-- course tells them.
 use Rattle.std.specs.Prelude.{◌==◌, ◌&&◌, not, suc, nat_lt}
-use Rattle.std.proofs.Common.{◌≡◌, ℕ, Bool, true, false, List, [], ◌∷◌, ◌++◌, map, Option, Some, None, refl, ap, sym, ◌∙◌, append_assoc, eq-eqb, if◌then◌else◌}
+use Rattle.std.proofs.Common.{◌≡◌, ℕ, Bool, true, false, List, [], ◌∷◌, ◌++◌, map, Option, Some}
+use Rattle.std.proofs.Common.{None, refl, ap, sym, ◌∙◌, append_assoc, eq-eqb, if◌then◌else◌}
 use Rattle.std.proofs.lemmas.List.{append-nil}
 use Rattle.std.proofs.lemmas.Bool.{eqb-true}
 use Rattle.ft12.specs.declared.frame.Frame.{Frame}
@@ -15,15 +17,19 @@ use Rattle.link.specs.declared.outcome.Outcome.{Outcome}
 use Rattle.link.specs.declared.outcome.Outcome.TheVariants as outcome
 use Rattle.link.specs.declared.procedure.Link.{Link}
 use Rattle.link.specs.declared.procedure.Link.TheVariants.{Down, Available, Next, Held}
-use Rattle.link.specs.Exchanges.{Exchange, LineExchange, OpenExchange, Exchanges, all_of, answer_to, view, views, with_station}
+use Rattle.link.specs.Exchanges.{Exchange, LineExchange, OpenExchange, Exchanges, all_of, answer_to}
+use Rattle.link.specs.Exchanges.{view, views, with_station}
 use Rattle.link.specs.declared.settings.LinkSettings.{LinkSettings}
 use Rattle.link.specs.Procedure.{MaySend, is_held, is_up, held, after_silence}
 use Rattle.link.specs.Runs.{silence_outcome}
 use Rattle.link.specs.Primary.{is_command, outcome_of}
 use Rattle.link.specs.Delivery.{pending_by, pending_after, first_sending}
 use Rattle.command.specs.History.{History, Sent, Accepted, Refused, GivenUp}
-use Rattle.delivery.specs.Commands.{LineStep, Begun, Confirmed, Busy, Lost, said_of, is_silent, goes_down, steps_in, first_sendings, last_sent, steps_told, sent_to}
-use Rattle.delivery.proofs.Steps.{pending_more, missed_after, steps_more, sendings_more, Pends, AreProper, none_said, no_first, Counts, so_far, still_up}
+use Rattle.delivery.specs.Commands.{LineStep, Begun, Confirmed, Busy, Lost, said_of, is_silent}
+use Rattle.delivery.specs.Commands.{goes_down, steps_in, first_sendings, last_sent, steps_told}
+use Rattle.delivery.specs.Commands.{sent_to}
+use Rattle.delivery.proofs.Steps.{pending_more, missed_after, steps_more, sendings_more, Pends}
+use Rattle.delivery.proofs.Steps.{AreProper, none_said, no_first, Counts, so_far, still_up}
 use Rattle.delivery.proofs.History.{LineTold, line_told}
 
 pub other_place : (a b : ℕ) → (a == b) ≡ false → (b == a) ≡ false
@@ -31,7 +37,8 @@ other_place a b h = go (b == a) refl
   where
     go : (c : Bool) → (b == a) ≡ c → (b == a) ≡ false
     go false e = e
-    go true e = let same : b ≡ a = eqb-true b a e in let met : (a == b) ≡ true = eq-eqb a b (sym same) in cc
+    go true e = let same : b ≡ a = eqb-true b a e in let met : (a == b) ≡ true =
+        eq-eqb a b (sym same) in cc
 
 -- The exchanges with a station
 
@@ -39,15 +46,18 @@ abbrev pub exchanges_at : (List ℕ → Front) → ℕ → Exchanges → List Ex
 exchanges_at front i e = with_station i (views front (all_of e))
 
 pub at_append : (front : List ℕ → Front) (i : ℕ) (xs ys : List OpenExchange)
-    → with_station i (views front (xs ++ ys)) ≡ with_station i (views front xs) ++ with_station i (views front ys)
+    → with_station i (views front (xs ++ ys)) ≡ with_station i (views front xs)
+    ++ with_station i (views front ys)
 at_append front i [] ys = refl
 at_append front i (x ∷ xs) ys = go (x.station == i) (at_append front i xs ys)
   where
     go : (b : Bool) → with_station i (views front (xs ++ ys)) ≡ with_station i (views front xs)
         ++ with_station i (views front ys) →
-        (if b then (view front x).exchange ∷ with_station i (views front (xs ++ ys)) else with_station i
+        (if b then (view front x).exchange ∷ with_station i (views front (xs ++ ys))
+        else with_station i
         (views front (xs ++ ys)))
-        ≡ (if b then (view front x).exchange ∷ with_station i (views front xs) else with_station i (views front xs))
+        ≡ (if b then (view front x).exchange ∷ with_station i (views front xs)
+        else with_station i (views front xs))
         ++ with_station i (views front ys)
     go true ih = ap (λ (l : List Exchange). (view front x).exchange ∷ l) ih
     go false ih = ih
@@ -56,8 +66,10 @@ at_append front i (x ∷ xs) ys = go (x.station == i) (at_append front i xs ys)
 abbrev pub alone : ℕ → LineExchange → List Exchange
 alone i v = if v.station == i then v.exchange ∷ [] else []
 
--- What is told of a station's line is what its exchanges show; and the command that isn't done was sent last.
-pub record IsTold (s : LinkSettings) (a : ℕ) (xs : List Exchange) (k : ℕ) (h : History) : Type 0 where
+-- What is told of a station's line is what its exchanges show; and the command that isn't done was
+-- sent last.
+pub record IsTold (s : LinkSettings) (a : ℕ) (xs : List Exchange) (k : ℕ) (h : History) : Type
+    0 where
   pub steps : steps_told k h ≡ steps_in s a 0 None xs
   pub last : (asdu : List ℕ) → pending_after a None xs ≡ Some (Command asdu) → last_sent k h ≡ asdu
   pub sent : sent_to k h ≡ first_sendings a None xs
@@ -74,7 +86,8 @@ abbrev lost_if : Bool → List LineStep
 lost_if b = if b then Lost ∷ [] else []
 
 -- another exchange with the same answer in place of the last one
-pub alike_told : (s : LinkSettings) (a k : ℕ) (xs : List Exchange) (request : Asked) (front later : Option Frame)
+pub alike_told : (s : LinkSettings) (a k : ℕ) (xs : List Exchange) (request : Asked)
+    (front later : Option Frame)
     (closed over : Bool) (h new : History) →
     answer_to a (record { request = request; front = front; closed = closed })
     ≡ answer_to a (record { request = request; front = later; closed = over }) →
@@ -93,14 +106,18 @@ alike_told s a k xs request front later closed over h new alike down same t =
       steps = ap (λ (l : LineTold). l.steps) same ∙ t.steps ∙ steps_more s a 0 None xs x
           ∙ ap (λ (o : Option Answer). steps_in s a 0 None xs
           ++ (map (λ (asdu : List ℕ). Begun asdu) (first_sending pending request)
-          ++ (said_of request o ++ lost_if (goes_down s (missed_after a 0 xs) request closed o)))) alike
+          ++ (said_of request o ++ lost_if (goes_down s (missed_after a 0 xs) request closed o))))
+          alike
           ∙ ap (λ (b : Bool). steps_in s a 0 None xs ++
           (map (λ (asdu : List ℕ). Begun asdu) (first_sending pending request)
-          ++ (said_of request (answer_to a y) ++ lost_if b))) down ∙ sym (steps_more s a 0 None xs y);
+          ++ (said_of request (answer_to a y) ++ lost_if b))) down
+          ∙ sym (steps_more s a 0 None xs y);
       last = λ asdu e. ap (λ (l : LineTold). l.last) same
-          ∙ t.last asdu (pending_more a None xs x ∙ ap (λ (o : Option Answer). pending_by request o pending) alike
+          ∙ t.last asdu (pending_more a None xs x
+          ∙ ap (λ (o : Option Answer). pending_by request o pending) alike
           ∙ sym (pending_more a None xs y) ∙ e);
-      sent = ap (λ (l : LineTold). l.sent) same ∙ t.sent ∙ sendings_more a None xs x ∙ sym (sendings_more a None xs y);
+      sent = ap (λ (l : LineTold). l.sent) same ∙ t.sent ∙ sendings_more a None xs x
+          ∙ sym (sendings_more a None xs y);
     }
 
 -- An answer comes
@@ -132,7 +149,8 @@ pending_back (Counted fcb s) (Some (answer.Report asdu)) pending service e = cc
 pending_back (Counted fcb s) (Some answer.NoData) pending service e = cc
 pending_back (Counted fcb s) (Some answer.Unable) pending service e = e
 
-module _ (s : LinkSettings) (a k : ℕ) (xs : List Exchange) (request : Asked) (front later : Option Frame)
+module _ (s : LinkSettings) (a k : ℕ) (xs : List Exchange) (request : Asked)
+    (front later : Option Frame)
     (over : Bool) where
   abbrev before_it : Exchange
   before_it = record { request = request; front = front; closed = false }
@@ -147,13 +165,15 @@ module _ (s : LinkSettings) (a k : ℕ) (xs : List Exchange) (request : Asked) (
   grown m none is =
       let pending : Option Service = pending_after a None xs in
       let missed : ℕ = missed_after a 0 xs in
-      let first : List LineStep = map (λ (asdu : List ℕ). Begun asdu) (first_sending pending request) in
+      let first : List LineStep =
+      map (λ (asdu : List ℕ). Begun asdu) (first_sending pending request) in
       let old : List LineStep = steps_in s a 0 None xs in
       let more : List LineStep = said_of request m ++ lost_if (goes_down s missed request over m) in
       let was : steps_in s a 0 None (xs ++ before_it ∷ []) ≡ old ++ first =
       steps_more s a 0 None xs before_it ∙ ap (λ (o : Option Answer). old
       ++ (first ++ (said_of request o ++ lost_if (goes_down s missed request false o)))) none
-      ∙ ap (λ (l : List LineStep). old ++ (first ++ (l ++ lost_if (goes_down s missed request false None))))
+      ∙ ap (λ (l : List LineStep). old
+      ++ (first ++ (l ++ lost_if (goes_down s missed request false None))))
       (none_said request)
       ∙ ap (λ (b : Bool). old ++ (first ++ lost_if b)) (still_up s missed request)
       ∙ ap (λ (l : List LineStep). old ++ l) (append-nil first) in
@@ -161,20 +181,25 @@ module _ (s : LinkSettings) (a k : ℕ) (xs : List Exchange) (request : Asked) (
       ++ (first ++ (said_of request o ++ lost_if (goes_down s missed request over o)))) is
       ∙ sym (append_assoc old first more) ∙ ap (λ (l : List LineStep). l ++ more) (sym was)
 
-  same_sendings : first_sendings a None (xs ++ after_it ∷ []) ≡ first_sendings a None (xs ++ before_it ∷ [])
+  same_sendings : first_sendings a None (xs ++ after_it ∷ [])
+      ≡ first_sendings a None (xs ++ before_it ∷ [])
   same_sendings = sendings_more a None xs after_it ∙ sym (sendings_more a None xs before_it)
 
-  still_pending : (m : Option Answer) → answer_to a before_it ≡ None → answer_to a after_it ≡ m → (service : Service)
+  still_pending : (m : Option Answer) → answer_to a before_it ≡ None → answer_to a after_it ≡ m
+      → (service : Service)
       → pending_after a None (xs ++ after_it ∷ []) ≡ Some service
       → pending_after a None (xs ++ before_it ∷ []) ≡ Some service
   still_pending m none is service e =
       let pending : Option Service = pending_after a None xs in
-      pending_more a None xs before_it ∙ ap (λ (o : Option Answer). pending_by request o pending) none
-      ∙ pending_back request m pending service (ap (λ (o : Option Answer). pending_by request o pending) (sym is)
+      pending_more a None xs before_it ∙ ap (λ (o : Option Answer). pending_by request o pending)
+      none
+      ∙ pending_back request m pending service
+      (ap (λ (o : Option Answer). pending_by request o pending) (sym is)
       ∙ sym (pending_more a None xs after_it) ∙ e)
 
   -- nothing is said of a command
-  quiet_told : (m : Option Answer) (h new : History) → answer_to a before_it ≡ None → answer_to a after_it ≡ m
+  quiet_told : (m : Option Answer) (h new : History) → answer_to a before_it ≡ None
+      → answer_to a after_it ≡ m
       → said_of request m ++ lost_if (goes_down s (missed_after a 0 xs) request over m) ≡ []
       → line_told k new ≡ line_told k h →
       IsTold s a (xs ++ before_it ∷ []) k h → IsTold s a (xs ++ after_it ∷ []) k new
@@ -183,14 +208,16 @@ module _ (s : LinkSettings) (a k : ℕ) (xs : List Exchange) (request : Asked) (
         ∙ sym (append-nil (steps_in s a 0 None (xs ++ before_it ∷ [])))
         ∙ ap (λ (l : List LineStep). steps_in s a 0 None (xs ++ before_it ∷ []) ++ l) (sym nothing)
         ∙ sym (grown m none is);
-    last = λ asdu e. ap (λ (l : LineTold). l.last) same ∙ t.last asdu (still_pending m none is (Command asdu) e);
+    last = λ asdu e. ap (λ (l : LineTold). l.last) same
+        ∙ t.last asdu (still_pending m none is (Command asdu) e);
     sent = ap (λ (l : LineTold). l.sent) same ∙ t.sent ∙ sym same_sendings;
   }
 
   -- the command that went out last is spoken of
   spoken_told : (m : Option Answer) (asdu : List ℕ) (step : List ℕ → LineStep) (h new : History)
       → answer_to a before_it ≡ None → answer_to a after_it ≡ m →
-      said_of request m ++ lost_if (goes_down s (missed_after a 0 xs) request over m) ≡ step asdu ∷ []
+      said_of request m ++ lost_if (goes_down s (missed_after a 0 xs) request over m)
+      ≡ step asdu ∷ []
       → pending_by request None (pending_after a None xs) ≡ Some (Command asdu)
       → pending_by request m (pending_after a None xs) ≡ None →
       steps_told k new ≡ steps_told k h ++ step (last_sent k h) ∷ [] → sent_to k new ≡ sent_to k h →
@@ -211,26 +238,32 @@ module _ (s : LinkSettings) (a k : ℕ) (xs : List Exchange) (request : Asked) (
       }
 
   -- what stands on the line is lost
-  lost_told : (m : Option Answer) (h new : History) → answer_to a before_it ≡ None → answer_to a after_it ≡ m
-      → said_of request m ++ lost_if (goes_down s (missed_after a 0 xs) request over m) ≡ Lost ∷ [] →
+  lost_told : (m : Option Answer) (h new : History) → answer_to a before_it ≡ None
+      → answer_to a after_it ≡ m
+      → said_of request m ++ lost_if (goes_down s (missed_after a 0 xs) request over m) ≡ Lost ∷ []
+      →
       line_told k new ≡ line_told k (GivenUp k false ∷ h) → IsTold s a (xs ++ before_it ∷ []) k h
       → IsTold s a (xs ++ after_it ∷ []) k new
   lost_told m h new none is says same t = record {
     steps = ap (λ (l : LineTold). l.steps) same ∙ ap (λ (b : Bool). if b then steps_told k h ++ Lost
-        ∷ [] else steps_told k h) (eq-eqb k k refl) ∙ ap (λ (l : List LineStep). l ++ Lost ∷ []) t.steps
+        ∷ [] else steps_told k h) (eq-eqb k k refl)
+        ∙ ap (λ (l : List LineStep). l ++ Lost ∷ []) t.steps
         ∙ ap (λ (l : List LineStep). steps_in s a 0 None (xs ++ before_it ∷ []) ++ l) (sym says)
         ∙ sym (grown m none is);
-    last = λ asdu e. ap (λ (l : LineTold). l.last) same ∙ t.last asdu (still_pending m none is (Command asdu) e);
+    last = λ asdu e. ap (λ (l : LineTold). l.last) same
+        ∙ t.last asdu (still_pending m none is (Command asdu) e);
     sent = ap (λ (l : LineTold). l.sent) same ∙ t.sent ∙ sym same_sendings;
   }
 
 here_is : (k : ℕ) → (k == k) ≡ true
 here_is k = eq-eqb k k refl
 
-pub heard_one : (s : LinkSettings) (a k : ℕ) (xs : List Exchange) (request : Asked) (front later : Option Frame)
+pub heard_one : (s : LinkSettings) (a k : ℕ) (xs : List Exchange) (request : Asked)
+    (front later : Option Frame)
     (m : Option Answer) (h new : History) →
     answer_to a (record { request = request; front = front; closed = false }) ≡ None
-    → answer_to a (record { request = request; front = later; closed = false }) ≡ m → AreProper request m →
+    → answer_to a (record { request = request; front = later; closed = false }) ≡ m
+    → AreProper request m →
     line_told k new ≡ line_told k (told_by (outcome_of k request m) h) →
     IsTold s a (xs ++ record { request = request; front = front; closed = false } ∷ []) k h
     → IsTold s a (xs ++ record { request = request; front = later; closed = false } ∷ []) k new
@@ -242,57 +275,91 @@ heard_one s a k xs Status front later (Some answer.Ready) h new none is proper s
     quiet_told s a k xs Status front later false (Some answer.Ready) h new none is refl same t
 heard_one s a k xs Status front later (Some answer.Unable) h new none is proper same t =
     lost_told s a k xs Status front later false (Some answer.Unable) h new none is refl same t
-heard_one s a k xs Status front later (Some answer.Confirmed) h new none is proper same t = absurd proper
+heard_one s a k xs Status front later (Some answer.Confirmed) h new none is proper same t =
+    absurd proper
 heard_one s a k xs Status front later (Some answer.Busy) h new none is proper same t = absurd proper
-heard_one s a k xs Status front later (Some (answer.Report asdu)) h new none is proper same t = absurd proper
-heard_one s a k xs Status front later (Some answer.NoData) h new none is proper same t = absurd proper
+heard_one s a k xs Status front later (Some (answer.Report asdu)) h new none is proper same t =
+    absurd proper
+heard_one s a k xs Status front later (Some answer.NoData) h new none is proper same t =
+    absurd proper
 heard_one s a k xs Reset front later (Some answer.Confirmed) h new none is proper same t =
     quiet_told s a k xs Reset front later false (Some answer.Confirmed) h new none is refl same t
 heard_one s a k xs Reset front later (Some answer.Ready) h new none is proper same t = absurd proper
-heard_one s a k xs Reset front later (Some answer.Unable) h new none is proper same t = absurd proper
+heard_one s a k xs Reset front later (Some answer.Unable) h new none is proper same t =
+    absurd proper
 heard_one s a k xs Reset front later (Some answer.Busy) h new none is proper same t = absurd proper
-heard_one s a k xs Reset front later (Some (answer.Report asdu)) h new none is proper same t = absurd proper
-heard_one s a k xs Reset front later (Some answer.NoData) h new none is proper same t = absurd proper
-heard_one s a k xs (Counted fcb Class1) front later (Some (answer.Report asdu)) h new none is proper same t =
-    quiet_told s a k xs (Counted fcb Class1) front later false (Some (answer.Report asdu)) h new none is refl same t
-heard_one s a k xs (Counted fcb Class1) front later (Some answer.NoData) h new none is proper same t =
-    quiet_told s a k xs (Counted fcb Class1) front later false (Some answer.NoData) h new none is refl same t
-heard_one s a k xs (Counted fcb Class1) front later (Some answer.Unable) h new none is proper same t =
-    lost_told s a k xs (Counted fcb Class1) front later false (Some answer.Unable) h new none is refl same t
-heard_one s a k xs (Counted fcb Class1) front later (Some answer.Ready) h new none is proper same t = absurd proper
-heard_one s a k xs (Counted fcb Class1) front later (Some answer.Confirmed) h new none is proper same t = absurd proper
-heard_one s a k xs (Counted fcb Class1) front later (Some answer.Busy) h new none is proper same t = absurd proper
-heard_one s a k xs (Counted fcb Class2) front later (Some (answer.Report asdu)) h new none is proper same t =
-    quiet_told s a k xs (Counted fcb Class2) front later false (Some (answer.Report asdu)) h new none is refl same t
-heard_one s a k xs (Counted fcb Class2) front later (Some answer.NoData) h new none is proper same t =
-    quiet_told s a k xs (Counted fcb Class2) front later false (Some answer.NoData) h new none is refl same t
-heard_one s a k xs (Counted fcb Class2) front later (Some answer.Unable) h new none is proper same t =
-    lost_told s a k xs (Counted fcb Class2) front later false (Some answer.Unable) h new none is refl same t
-heard_one s a k xs (Counted fcb Class2) front later (Some answer.Ready) h new none is proper same t = absurd proper
-heard_one s a k xs (Counted fcb Class2) front later (Some answer.Confirmed) h new none is proper same t = absurd proper
-heard_one s a k xs (Counted fcb Class2) front later (Some answer.Busy) h new none is proper same t = absurd proper
-heard_one s a k xs (Counted fcb (Command asdu)) front later (Some answer.Confirmed) h new none is proper same t =
+heard_one s a k xs Reset front later (Some (answer.Report asdu)) h new none is proper same t =
+    absurd proper
+heard_one s a k xs Reset front later (Some answer.NoData) h new none is proper same t =
+    absurd proper
+heard_one s a k xs (Counted fcb Class1) front later (Some (answer.Report asdu)) h new none is proper
+    same t =
+    quiet_told s a k xs (Counted fcb Class1) front later false (Some (answer.Report asdu)) h new
+    none is refl same t
+heard_one s a k xs (Counted fcb Class1) front later (Some answer.NoData) h new none is proper same
+    t =
+    quiet_told s a k xs (Counted fcb Class1) front later false (Some answer.NoData) h new none is
+    refl same t
+heard_one s a k xs (Counted fcb Class1) front later (Some answer.Unable) h new none is proper same
+    t =
+    lost_told s a k xs (Counted fcb Class1) front later false (Some answer.Unable) h new none is
+    refl same t
+heard_one s a k xs (Counted fcb Class1) front later (Some answer.Ready) h new none is proper same
+    t = absurd proper
+heard_one s a k xs (Counted fcb Class1) front later (Some answer.Confirmed) h new none is proper
+    same t = absurd proper
+heard_one s a k xs (Counted fcb Class1) front later (Some answer.Busy) h new none is proper same t =
+    absurd proper
+heard_one s a k xs (Counted fcb Class2) front later (Some (answer.Report asdu)) h new none is proper
+    same t =
+    quiet_told s a k xs (Counted fcb Class2) front later false (Some (answer.Report asdu)) h new
+    none is refl same t
+heard_one s a k xs (Counted fcb Class2) front later (Some answer.NoData) h new none is proper same
+    t =
+    quiet_told s a k xs (Counted fcb Class2) front later false (Some answer.NoData) h new none is
+    refl same t
+heard_one s a k xs (Counted fcb Class2) front later (Some answer.Unable) h new none is proper same
+    t =
+    lost_told s a k xs (Counted fcb Class2) front later false (Some answer.Unable) h new none is
+    refl same t
+heard_one s a k xs (Counted fcb Class2) front later (Some answer.Ready) h new none is proper same
+    t = absurd proper
+heard_one s a k xs (Counted fcb Class2) front later (Some answer.Confirmed) h new none is proper
+    same t = absurd proper
+heard_one s a k xs (Counted fcb Class2) front later (Some answer.Busy) h new none is proper same t =
+    absurd proper
+heard_one s a k xs (Counted fcb (Command asdu)) front later (Some answer.Confirmed) h new none is
+    proper same t =
     spoken_told s a k xs (Counted fcb (Command asdu)) front later false (Some answer.Confirmed) asdu
     (λ x. Confirmed x) h new none is refl refl refl
-    (ap (λ (l : LineTold). l.steps) same ∙ ap (λ (b : Bool). if b then steps_told k h ++ Confirmed (last_sent k h)
+    (ap (λ (l : LineTold). l.steps) same
+    ∙ ap (λ (b : Bool). if b then steps_told k h ++ Confirmed (last_sent k h)
     ∷ [] else steps_told k h) (here_is k)) (ap (λ (l : LineTold). l.sent) same) t
-heard_one s a k xs (Counted fcb (Command asdu)) front later (Some answer.Busy) h new none is proper same t =
+heard_one s a k xs (Counted fcb (Command asdu)) front later (Some answer.Busy) h new none is proper
+    same t =
     spoken_told s a k xs (Counted fcb (Command asdu)) front later false (Some answer.Busy) asdu
     (λ x. Busy x) h new none is refl refl refl
-    (ap (λ (l : LineTold). l.steps) same ∙ ap (λ (b : Bool). if b then steps_told k h ++ Busy (last_sent k h)
+    (ap (λ (l : LineTold). l.steps) same
+    ∙ ap (λ (b : Bool). if b then steps_told k h ++ Busy (last_sent k h)
     ∷ [] else steps_told k h) (here_is k)) (ap (λ (l : LineTold). l.sent) same) t
-heard_one s a k xs (Counted fcb (Command asdu)) front later (Some answer.Unable) h new none is proper same t =
-    lost_told s a k xs (Counted fcb (Command asdu)) front later false (Some answer.Unable) h new none is refl same t
-heard_one s a k xs (Counted fcb (Command asdu)) front later (Some answer.Ready) h new none is proper same t =
+heard_one s a k xs (Counted fcb (Command asdu)) front later (Some answer.Unable) h new none is
+    proper same t =
+    lost_told s a k xs (Counted fcb (Command asdu)) front later false (Some answer.Unable) h new
+    none is refl same t
+heard_one s a k xs (Counted fcb (Command asdu)) front later (Some answer.Ready) h new none is proper
+    same t =
     absurd proper
-heard_one s a k xs (Counted fcb (Command asdu)) front later (Some (answer.Report report)) h new none is proper same t =
+heard_one s a k xs (Counted fcb (Command asdu)) front later (Some (answer.Report report)) h new none
+    is proper same t =
     absurd proper
-heard_one s a k xs (Counted fcb (Command asdu)) front later (Some answer.NoData) h new none is proper same t =
+heard_one s a k xs (Counted fcb (Command asdu)) front later (Some answer.NoData) h new none is
+    proper same t =
     absurd proper
 
 -- What is told of one station says nothing of another.
 
-accepted_far : (k j : ℕ) (h : History) → (k == j) ≡ false → line_told k (Accepted j ∷ h) ≡ line_told k h
+accepted_far : (k j : ℕ) (h : History) → (k == j) ≡ false → line_told k (Accepted j ∷ h)
+    ≡ line_told k h
 accepted_far k j h far =
     ap (λ (t : Bool).
     let r : LineTold = record {
@@ -301,7 +368,8 @@ accepted_far k j h far =
       sent = sent_to k h;
     } in r) far
 
-busy_far : (k j : ℕ) (h : History) → (k == j) ≡ false → line_told k (Refused j None ∷ h) ≡ line_told k h
+busy_far : (k j : ℕ) (h : History) → (k == j) ≡ false → line_told k (Refused j None ∷ h)
+    ≡ line_told k h
 busy_far k j h far =
     ap (λ (t : Bool).
     let r : LineTold = record {
@@ -310,7 +378,8 @@ busy_far k j h far =
       sent = sent_to k h;
     } in r) far
 
-lost_far : (k j : ℕ) (was : Bool) (h : History) → (k == j) ≡ false → line_told k (GivenUp j was ∷ h) ≡ line_told k h
+lost_far : (k j : ℕ) (was : Bool) (h : History) → (k == j) ≡ false → line_told k (GivenUp j was ∷ h)
+    ≡ line_told k h
 lost_far k j was h far =
     ap (λ (t : Bool).
     let r : LineTold = record {
@@ -320,7 +389,8 @@ lost_far k j was h far =
       sent = sent_to k h;
     } in r) far
 
-sent_far : (k j : ℕ) (asdu : List ℕ) (h : History) → (k == j) ≡ false → line_told k (Sent j asdu ∷ h) ≡ line_told k h
+sent_far : (k j : ℕ) (asdu : List ℕ) (h : History) → (k == j) ≡ false
+    → line_told k (Sent j asdu ∷ h) ≡ line_told k h
 sent_far k j asdu h far = ap (λ (t : Bool). let r : LineTold = record {
   steps = if t then steps_told k h ++ Begun asdu ∷ [] else steps_told k h;
   last = if t then asdu else last_sent k h;
@@ -332,37 +402,43 @@ pub heard_far : (k j : ℕ) (request : Asked) (m : Option Answer) (h : History) 
 heard_far k j request None h far = refl
 heard_far k j request (Some answer.Busy) h far = by_request request
   where
-    by_request : (r : Asked) → line_told k (told_by (outcome_of j r (Some answer.Busy)) h) ≡ line_told k h
+    by_request : (r : Asked) → line_told k (told_by (outcome_of j r (Some answer.Busy)) h)
+        ≡ line_told k h
     by_request Status = busy_far k j h far
     by_request Reset = busy_far k j h far
     by_request (Counted fcb service) = busy_far k j h far
 heard_far k j request (Some answer.Confirmed) h far = by_request request
   where
-    by_request : (r : Asked) → line_told k (told_by (outcome_of j r (Some answer.Confirmed)) h) ≡ line_told k h
+    by_request : (r : Asked) → line_told k (told_by (outcome_of j r (Some answer.Confirmed)) h)
+        ≡ line_told k h
     by_request Status = refl
     by_request Reset = refl
     by_request (Counted fcb service) = accepted_far k j h far
 heard_far k j request (Some answer.Ready) h far = by_request request
   where
-    by_request : (r : Asked) → line_told k (told_by (outcome_of j r (Some answer.Ready)) h) ≡ line_told k h
+    by_request : (r : Asked) → line_told k (told_by (outcome_of j r (Some answer.Ready)) h)
+        ≡ line_told k h
     by_request Status = refl
     by_request Reset = refl
     by_request (Counted fcb service) = refl
 heard_far k j request (Some (answer.Report asdu)) h far = by_request request
   where
-    by_request : (r : Asked) → line_told k (told_by (outcome_of j r (Some (answer.Report asdu))) h) ≡ line_told k h
+    by_request : (r : Asked) → line_told k (told_by (outcome_of j r (Some (answer.Report asdu))) h)
+        ≡ line_told k h
     by_request Status = refl
     by_request Reset = refl
     by_request (Counted fcb service) = refl
 heard_far k j request (Some answer.NoData) h far = by_request request
   where
-    by_request : (r : Asked) → line_told k (told_by (outcome_of j r (Some answer.NoData)) h) ≡ line_told k h
+    by_request : (r : Asked) → line_told k (told_by (outcome_of j r (Some answer.NoData)) h)
+        ≡ line_told k h
     by_request Status = refl
     by_request Reset = refl
     by_request (Counted fcb service) = refl
 heard_far k j request (Some answer.Unable) h far = by_request request
   where
-    by_request : (r : Asked) → line_told k (told_by (outcome_of j r (Some answer.Unable)) h) ≡ line_told k h
+    by_request : (r : Asked) → line_told k (told_by (outcome_of j r (Some answer.Unable)) h)
+        ≡ line_told k h
     by_request Status = lost_far k j false h far
     by_request Reset = lost_far k j false h far
     by_request (Counted fcb service) = lost_far k j false h far
@@ -383,13 +459,15 @@ asked_far true k j (Counted fcb Class2) h far = refl
 asked_far true k j (Counted fcb (Command asdu)) h far = sent_far k j asdu h far
 asked_far false k j request h far = refl
 
-module _ (s : LinkSettings) (a k : ℕ) (xs : List Exchange) (request : Asked) (front : Option Frame) where
+module _ (s : LinkSettings) (a k : ℕ) (xs : List Exchange) (request : Asked)
+    (front : Option Frame) where
   abbrev new_one : Exchange
   new_one = record { request = request; front = front; closed = false }
 
   asked_steps : (first : List (List ℕ)) → answer_to a new_one ≡ None
       → first_sending (pending_after a None xs) request ≡ first
-      → steps_in s a 0 None (xs ++ new_one ∷ []) ≡ steps_in s a 0 None xs ++ map (λ (asdu : List ℕ). Begun asdu) first
+      → steps_in s a 0 None (xs ++ new_one ∷ []) ≡ steps_in s a 0 None xs
+      ++ map (λ (asdu : List ℕ). Begun asdu) first
   asked_steps first none is =
       let missed : ℕ = missed_after a 0 xs in
       let old : List LineStep = steps_in s a 0 None xs in
@@ -401,8 +479,10 @@ module _ (s : LinkSettings) (a k : ℕ) (xs : List Exchange) (request : Asked) (
       ++ (said_of request None ++ lost_if (goes_down s missed request false None)))) is
       ∙ ap (λ (l : List LineStep). old ++ (map (λ (asdu : List ℕ). Begun asdu) first
       ++ (l ++ lost_if (goes_down s missed request false None)))) (none_said request)
-      ∙ ap (λ (b : Bool). old ++ (map (λ (asdu : List ℕ). Begun asdu) first ++ lost_if b)) (still_up s missed request)
-      ∙ ap (λ (l : List LineStep). old ++ l) (append-nil (map (λ (asdu : List ℕ). Begun asdu) first))
+      ∙ ap (λ (b : Bool). old ++ (map (λ (asdu : List ℕ). Begun asdu) first ++ lost_if b))
+      (still_up s missed request)
+      ∙ ap (λ (l : List LineStep). old ++ l)
+      (append-nil (map (λ (asdu : List ℕ). Begun asdu) first))
 
   asked_sendings : (first : List (List ℕ)) → first_sending (pending_after a None xs) request ≡ first
       → first_sendings a None (xs ++ new_one ∷ []) ≡ first_sendings a None xs ++ first
@@ -415,14 +495,17 @@ module _ (s : LinkSettings) (a k : ℕ) (xs : List Exchange) (request : Asked) (
       (λ (o : Option Answer). pending_by request o (pending_after a None xs)) none
 
   -- no command is sent for the first time
-  again_told : (h new : History) → answer_to a new_one ≡ None → first_sending (pending_after a None xs) request ≡ []
+  again_told : (h new : History) → answer_to a new_one ≡ None
+      → first_sending (pending_after a None xs) request ≡ []
       → ((asdu : List ℕ) → pending_by request None (pending_after a None xs) ≡ Some (Command asdu)
       → pending_after a None xs ≡ Some (Command asdu)) →
       line_told k new ≡ line_told k h → IsTold s a xs k h → IsTold s a (xs ++ new_one ∷ []) k new
   again_told h new none nothing back same t = record {
-    steps = ap (λ (l : LineTold). l.steps) same ∙ t.steps ∙ sym (append-nil (steps_in s a 0 None xs))
+    steps = ap (λ (l : LineTold). l.steps) same ∙ t.steps
+        ∙ sym (append-nil (steps_in s a 0 None xs))
         ∙ sym (asked_steps [] none nothing);
-    last = λ asdu e. ap (λ (l : LineTold). l.last) same ∙ t.last asdu (back asdu (sym (asked_pending none) ∙ e));
+    last = λ asdu e. ap (λ (l : LineTold). l.last) same
+        ∙ t.last asdu (back asdu (sym (asked_pending none) ∙ e));
     sent = ap (λ (l : LineTold). l.sent) same ∙ t.sent ∙ sym (append-nil (first_sendings a None xs))
         ∙ sym (asked_sendings [] nothing);
   }
@@ -430,37 +513,50 @@ module _ (s : LinkSettings) (a k : ℕ) (xs : List Exchange) (request : Asked) (
   -- a command is
   first_told : (fcb : Bool) (asdu : List ℕ) (h new : History) → answer_to a new_one ≡ None
       → request ≡ Counted fcb (Command asdu) → pending_after a None xs ≡ None →
-      line_told k new ≡ line_told k (Sent k asdu ∷ h) → IsTold s a xs k h → IsTold s a (xs ++ new_one ∷ []) k new
+      line_told k new ≡ line_told k (Sent k asdu ∷ h) → IsTold s a xs k h
+      → IsTold s a (xs ++ new_one ∷ []) k new
   first_told fcb asdu h new none is free same t =
       let first : first_sending (pending_after a None xs) request ≡ asdu ∷ [] =
-      ap (λ (o : Option Service). first_sending o request) free ∙ ap (λ (r : Asked). first_sending None r) is in
+      ap (λ (o : Option Service). first_sending o request) free
+      ∙ ap (λ (r : Asked). first_sending None r) is in
       record {
-        steps = ap (λ (l : LineTold). l.steps) same ∙ ap (λ (b : Bool). if b then steps_told k h ++ Begun asdu
+        steps = ap (λ (l : LineTold). l.steps) same
+            ∙ ap (λ (b : Bool). if b then steps_told k h ++ Begun asdu
             ∷ [] else steps_told k h) (here_is k)
-            ∙ ap (λ (l : List LineStep). l ++ Begun asdu ∷ []) t.steps ∙ sym (asked_steps (asdu ∷ []) none first);
+            ∙ ap (λ (l : List LineStep). l ++ Begun asdu ∷ []) t.steps
+            ∙ sym (asked_steps (asdu ∷ []) none first);
         last = λ other e.
             let held : Some (Command asdu) ≡ Some (Command other) =
-            sym (ap (λ (r : Asked). pending_by r None (pending_after a None xs)) is) ∙ sym (asked_pending none)
+            sym (ap (λ (r : Asked). pending_by r None (pending_after a None xs)) is)
+            ∙ sym (asked_pending none)
             ∙ e in
             let same_one : asdu ≡ other = cc in
-            ap (λ (l : LineTold). l.last) same ∙ ap (λ (b : Bool). if b then asdu else last_sent k h) (here_is k)
+            ap (λ (l : LineTold). l.last) same
+            ∙ ap (λ (b : Bool). if b then asdu else last_sent k h) (here_is k)
             ∙ same_one;
         sent = ap (λ (l : LineTold). l.sent) same ∙ ap (λ (b : Bool). if b then sent_to k h ++ asdu
             ∷ [] else sent_to k h) (here_is k)
-            ∙ ap (λ (l : List (List ℕ)). l ++ asdu ∷ []) t.sent ∙ sym (asked_sendings (asdu ∷ []) first);
+            ∙ ap (λ (l : List (List ℕ)). l ++ asdu ∷ []) t.sent
+            ∙ sym (asked_sendings (asdu ∷ []) first);
       }
 
-pub asked_one : (s : LinkSettings) (a k : ℕ) (xs : List Exchange) (request : Asked) (front : Option Frame)
+pub asked_one : (s : LinkSettings) (a k : ℕ) (xs : List Exchange) (request : Asked)
+    (front : Option Frame)
     (link : Link) (h new : History) →
-    answer_to a (record { request = request; front = front; closed = false }) ≡ None → MaySend link request
+    answer_to a (record { request = request; front = front; closed = false }) ≡ None
+    → MaySend link request
     → Pends link (pending_after a None xs) →
-    line_told k new ≡ line_told k (told_asked (is_command request && not (is_held link)) k request h) →
-    IsTold s a xs k h → IsTold s a (xs ++ record { request = request; front = front; closed = false } ∷ []) k new
+    line_told k new
+    ≡ line_told k (told_asked (is_command request && not (is_held link)) k request h) →
+    IsTold s a xs k h
+    → IsTold s a (xs ++ record { request = request; front = front; closed = false } ∷ []) k new
 asked_one s a k xs Status front link h new none may pends same t =
-    again_told s a k xs Status front h new none (no_first (pending_after a None xs) Status (λ fcb asdu e. cc))
+    again_told s a k xs Status front h new none
+    (no_first (pending_after a None xs) Status (λ fcb asdu e. cc))
     (λ asdu e. e) same t
 asked_one s a k xs Reset front link h new none may pends same t =
-    again_told s a k xs Reset front h new none (no_first (pending_after a None xs) Reset (λ fcb asdu e. cc))
+    again_told s a k xs Reset front h new none
+    (no_first (pending_after a None xs) Reset (λ fcb asdu e. cc))
     (λ asdu e. e) same t
 asked_one s a k xs (Counted fcb Class1) front link h new none may pends same t =
     again_told s a k xs (Counted fcb Class1) front h new none
@@ -469,10 +565,12 @@ asked_one s a k xs (Counted fcb Class2) front link h new none may pends same t =
     again_told s a k xs (Counted fcb Class2) front h new none
     (no_first (pending_after a None xs) (Counted fcb Class2) (λ f asdu e. cc)) (λ asdu e. cc) same t
 asked_one s a k xs (Counted fcb (Command asdu)) front Down h new none may pends same t = absurd may
-asked_one s a k xs (Counted fcb (Command asdu)) front Available h new none may pends same t = absurd may
+asked_one s a k xs (Counted fcb (Command asdu)) front Available h new none may pends same t =
+    absurd may
 asked_one s a k xs (Counted fcb (Command asdu)) front (Next due) h new none may pends same t =
     first_told s a k xs (Counted fcb (Command asdu)) front fcb asdu h new none refl pends same t
-asked_one s a k xs (Counted fcb (Command asdu)) front (Held due service missed) h new none may pends same t =
+asked_one s a k xs (Counted fcb (Command asdu)) front (Held due service missed) h new none may pends
+    same t =
     again_told s a k xs (Counted fcb (Command asdu)) front h new none
     (ap (λ (o : Option Service). first_sending o (Counted fcb (Command asdu))) pends)
     (λ other e. pends ∙ ap (λ (s : Service). Some s) (sym may.1) ∙ e) same t
@@ -488,7 +586,8 @@ abbrev down_if : ℕ → Bool → Outcome
 down_if j b = if b then outcome.Down j else outcome.None
 
 held_goes : (fcb : Bool) (service : Service) (n m : ℕ) (b c : Bool)
-    → not (is_up (if b then (if c then Held fcb service n else Down) else Held fcb service m)) ≡ (not c && b)
+    → not (is_up (if b then (if c then Held fcb service n else Down) else Held fcb service m))
+    ≡ (not c && b)
 held_goes fcb service n m true true = refl
 held_goes fcb service n m true false = refl
 held_goes fcb service n m false true = refl
@@ -499,9 +598,11 @@ same_silence : (hold : Bool) (retries n m : ℕ) → (hold ≡ false → n ≡ m
 same_silence true retries n m same = refl
 same_silence false retries n m same = ap (λ (i : ℕ). nat_lt retries (suc i)) (sym (same refl))
 
-pub silence_is : (s : LinkSettings) (j : ℕ) (request : Asked) (link : Link) (n : ℕ) → MaySend link request
+pub silence_is : (s : LinkSettings) (j : ℕ) (request : Asked) (link : Link) (n : ℕ)
+    → MaySend link request
     → Counts s link n →
-    silence_outcome j link (after_silence s request true link) ≡ down_if j (is_silent s n request true)
+    silence_outcome j link (after_silence s request true link)
+    ≡ down_if j (is_silent s n request true)
 silence_is s j Status Down n may c = refl
 silence_is s j Status Available n may c = refl
 silence_is s j Status (Next fcb) n may c = absurd may
@@ -516,14 +617,18 @@ silence_is s j (Counted fcb service) (Next due) n may c =
     ap (down_if j) (held_goes fcb service (suc s.retries) 1 (nat_lt s.retries 1) s.hold
     ∙ same_silence s.hold s.retries n 0 (so_far s (Next due) fcb service n may c))
 silence_is s j (Counted fcb service) (Held due other missed) n may c =
-    ap (down_if j) (held_goes fcb service (suc s.retries) (suc missed) (nat_lt s.retries (suc missed)) s.hold
+    ap (down_if j) (held_goes fcb service (suc s.retries) (suc missed)
+    (nat_lt s.retries (suc missed)) s.hold
     ∙ same_silence s.hold s.retries n missed (so_far s (Held due other missed) fcb service n may c))
 
-pub closed_one : (s : LinkSettings) (a k : ℕ) (xs : List Exchange) (request : Asked) (front : Option Frame)
+pub closed_one : (s : LinkSettings) (a k : ℕ) (xs : List Exchange) (request : Asked)
+    (front : Option Frame)
     (link : Link) (h new : History) →
-    answer_to a (record { request = request; front = front; closed = false }) ≡ None → MaySend link request
+    answer_to a (record { request = request; front = front; closed = false }) ≡ None
+    → MaySend link request
     → Counts s link (missed_after a 0 xs) →
-    line_told k new ≡ line_told k (told_due (silence_outcome k link (after_silence s request true link)) h) →
+    line_told k new
+    ≡ line_told k (told_due (silence_outcome k link (after_silence s request true link)) h) →
     IsTold s a (xs ++ record { request = request; front = front; closed = false } ∷ []) k h
     → IsTold s a (xs ++ record { request = request; front = front; closed = true } ∷ []) k new
 closed_one s a k xs request front link h new none may counts same t =
@@ -532,15 +637,19 @@ closed_one s a k xs request front link h new none may counts same t =
     (silence_is s k request link (missed_after a 0 xs) may counts))
   where
     says : (b : Bool) → is_silent s (missed_after a 0 xs) request true ≡ b
-        → said_of request None ++ lost_if (is_silent s (missed_after a 0 xs) request true) ≡ lost_if b
-    says b is = ap (λ (l : List LineStep). l ++ lost_if (is_silent s (missed_after a 0 xs) request true))
+        → said_of request None ++ lost_if (is_silent s (missed_after a 0 xs) request true)
+        ≡ lost_if b
+    says b is =
+        ap (λ (l : List LineStep). l ++ lost_if (is_silent s (missed_after a 0 xs) request true))
         (none_said request) ∙ ap lost_if is
 
     go : (b : Bool) → is_silent s (missed_after a 0 xs) request true ≡ b
         → line_told k new ≡ line_told k (told_due (down_if k b) h)
         → IsTold s a (xs ++ record { request = request; front = front; closed = true } ∷ []) k new
-    go true is same = lost_told s a k xs request front front true None h new none none (says true is) same t
-    go false is same = quiet_told s a k xs request front front true None h new none none (says false is) same t
+    go true is same = lost_told s a k xs request front front true None h new none none
+        (says true is) same t
+    go false is same = quiet_told s a k xs request front front true None h new none none
+        (says false is) same t
 
 pub closed_far : (k j : ℕ) (before later : Link) (h : History) → (k == j) ≡ false
     → line_told k (told_due (silence_outcome j before later) h) ≡ line_told k h

@@ -1,11 +1,14 @@
 -- The frames of a course: they fit, and where no connection is open there are none.
-use Rattle.std.proofs.Common.{◌≡◌, ℕ, Bool, true, false, List, [], ◌∷◌, ◌++◌, length, refl, ap, sym, ◌∙◌, length-append, arith, if◌then◌else◌}
+use Rattle.std.proofs.Common.{◌≡◌, ℕ, Bool, true, false, List, [], ◌∷◌, ◌++◌, length, refl, ap, sym}
+use Rattle.std.proofs.Common.{◌∙◌, length-append, arith, if◌then◌else◌}
 use Rattle.apci.specs.declared.apdu.Apdu.{Apdu}
 use Rattle.apci.specs.declared.apdu.Apdu.TheVariants.{I, S, U}
 use Rattle.apci.specs.Spelling.{spelling}
-use Rattle.session.specs.declared.kinds.Close.TheVariants.{Grammar, SendNumber, ReceiveNumber, Stopped, Timeout, OwnAnswers, Replaced}
+use Rattle.session.specs.declared.kinds.Close.TheVariants.{Grammar, SendNumber, ReceiveNumber}
+use Rattle.session.specs.declared.kinds.Close.TheVariants.{Stopped, Timeout, OwnAnswers, Replaced}
 use Rattle.session.specs.History.{History}
-use Rattle.gateway.specs.Log.{Log, Came, Went, Opened, LineIn, TcpIn, CutOff, Ticked, WallIs, LineOut, TcpOut, Closed, GapOut, latest}
+use Rattle.gateway.specs.Log.{Log, Came, Went, Opened, LineIn, TcpIn, CutOff, Ticked, WallIs}
+use Rattle.gateway.specs.Log.{LineOut, TcpOut, Closed, GapOut, latest}
 use Rattle.gateway.specs.Streams.{spelled, AllFit}
 use Rattle.gateway.specs.Connections.{Channel, present}
 use Rattle.gateway.specs.Reports.{Setup}
@@ -38,7 +41,8 @@ pub none_received : (log : Log) → (present log).is_open ≡ false → (present
 none_received [] h = refl
 none_received (Came now Opened ∷ log) h = cc
 none_received (Came now CutOff ∷ log) h = refl
-none_received (Came now (TcpIn octets) ∷ log) h = go (present log).is_open refl h (λ e. none_received log e)
+none_received (Came now (TcpIn octets) ∷ log) h =
+    go (present log).is_open refl h (λ e. none_received log e)
   where
     go : (b : Bool) → (present log).is_open ≡ b → (joined_by b (present log) octets).is_open ≡ false
         → ((present log).is_open ≡ false → (present log).received ≡ [])
@@ -61,7 +65,8 @@ none_received (Went now (Closed Replaced) ∷ log) h = none_received log h
 
 -- A frame that goes out is none that came.
 
-pub told_came : (frame : Apdu) (now : ℕ) (h : History) → came_frames (told_sent frame now h) ≡ came_frames h
+pub told_came : (frame : Apdu) (now : ℕ) (h : History) → came_frames (told_sent frame now h)
+    ≡ came_frames h
 told_came (I ns nr asdu) now h = refl
 told_came (S nr) now h = refl
 told_came (U u) now h = refl
@@ -70,7 +75,8 @@ told_came (U u) now h = refl
 
 taken_none : (log : Log) (frames : List Apdu) (rest : List ℕ) → (present log).is_open ≡ false
     → (present log).received ≡ spelled frames ++ rest → frames ≡ []
-taken_none log frames rest closed joined = no_frames frames rest (sym joined ∙ none_received log closed)
+taken_none log frames rest closed joined = no_frames frames rest (sym joined
+    ∙ none_received log closed)
 
 pub none_came : (p : Setup) (log : Log) (c : Course) → Runs p log c → (present log).is_open ≡ false
     → came_frames c.talk ≡ []
@@ -85,25 +91,36 @@ none_came p (Came now (LineIn octets) ∷ log) c r closed =
     ∙ none_came p log r.0 r.2 closed
 none_came p (Came now Ticked ∷ log) c r closed = ap (λ (x : Course). came_frames x.talk) r.5
     ∙ ap (λ (x : Course). came_frames x.talk) r.4.is ∙ none_came p log r.0 r.2 closed
-none_came p (Came now (WallIs number) ∷ log) c r closed = ap (λ (x : Course). came_frames x.talk) r.5
+none_came p (Came now (WallIs number) ∷ log) c r closed =
+    ap (λ (x : Course). came_frames x.talk) r.5
     ∙ ap (λ (x : Course). came_frames x.talk) r.4.is ∙ none_came p log r.0 r.2 closed
-none_came p (Went now (LineOut octets) ∷ log) c r closed = ap (λ (x : Course). came_frames x.talk) r.2.is
+none_came p (Went now (LineOut octets) ∷ log) c r closed =
+    ap (λ (x : Course). came_frames x.talk) r.2.is
     ∙ none_came p log r.0 r.1 closed
-none_came p (Went now (GapOut station session) ∷ log) c r closed = ap (λ (x : Course). came_frames x.talk) r.2.is
+none_came p (Went now (GapOut station session) ∷ log) c r closed =
+    ap (λ (x : Course). came_frames x.talk) r.2.is
     ∙ none_came p log r.0 r.1 closed
 none_came p (Went now (TcpOut octets) ∷ log) c r closed =
     taken_none (Went now (TcpOut octets) ∷ log) (came_frames c.talk) r.4.rest closed r.4.joined
-none_came p (Went now (Closed Grammar) ∷ log) c r closed = ap (λ (x : Course). came_frames x.talk) r.2
-none_came p (Went now (Closed SendNumber) ∷ log) c r closed = ap (λ (x : Course). came_frames x.talk) r.2
-none_came p (Went now (Closed ReceiveNumber) ∷ log) c r closed = ap (λ (x : Course). came_frames x.talk) r.2
-none_came p (Went now (Closed Stopped) ∷ log) c r closed = ap (λ (x : Course). came_frames x.talk) r.2
-none_came p (Went now (Closed Timeout) ∷ log) c r closed = ap (λ (x : Course). came_frames x.talk) r.2
-none_came p (Went now (Closed OwnAnswers) ∷ log) c r closed = ap (λ (x : Course). came_frames x.talk) r.2
-none_came p (Went now (Closed Replaced) ∷ log) c r closed = ap (λ (x : Course). came_frames x.talk) r.2
+none_came p (Went now (Closed Grammar) ∷ log) c r closed =
+    ap (λ (x : Course). came_frames x.talk) r.2
+none_came p (Went now (Closed SendNumber) ∷ log) c r closed =
+    ap (λ (x : Course). came_frames x.talk) r.2
+none_came p (Went now (Closed ReceiveNumber) ∷ log) c r closed =
+    ap (λ (x : Course). came_frames x.talk) r.2
+none_came p (Went now (Closed Stopped) ∷ log) c r closed =
+    ap (λ (x : Course). came_frames x.talk) r.2
+none_came p (Went now (Closed Timeout) ∷ log) c r closed =
+    ap (λ (x : Course). came_frames x.talk) r.2
+none_came p (Went now (Closed OwnAnswers) ∷ log) c r closed =
+    ap (λ (x : Course). came_frames x.talk) r.2
+none_came p (Went now (Closed Replaced) ∷ log) c r closed =
+    ap (λ (x : Course). came_frames x.talk) r.2
     ∙ none_came p log r.0 r.1 closed
 
 -- The frames that are taken fit.
-pub taken_fit : (p : Setup) (log : Log) (now : ℕ) (frames : List Apdu) (c : Course) → AreTaken p log now frames c
+pub taken_fit : (p : Setup) (log : Log) (now : ℕ) (frames : List Apdu) (c : Course)
+    → AreTaken p log now frames c
     → AllFit frames
 taken_fit p log now [] c h = tt
 taken_fit p log now (frame ∷ older) c h = (h.0.fits, taken_fit p log now older c h.1)

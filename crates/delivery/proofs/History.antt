@@ -1,5 +1,6 @@
 -- What the works of the course tell of commands.
-use Rattle.std.proofs.Common.{◌≡◌, ℕ, Bool, true, false, List, [], ◌∷◌, Option, Some, None, refl, ◌∙◌, if◌then◌else◌}
+use Rattle.std.proofs.Common.{◌≡◌, ℕ, Bool, true, false, List, [], ◌∷◌, Option, Some, None, refl}
+use Rattle.std.proofs.Common.{◌∙◌, if◌then◌else◌}
 use Rattle.command.specs.State.{State, has_answer_place, offered, first_answer}
 use Rattle.command.specs.Judging.{judged}
 use Rattle.command.specs.History.{Judged, Offered, Answered, Ended, History}
@@ -27,15 +28,31 @@ abbrev pub line_told : ℕ → History → LineTold
 line_told k h = record { steps = steps_told k h; last = last_sent k h; sent = sent_to k h }
 
 pub line_ignores : (k : ℕ) → Ignores (line_told k)
-line_ignores k = record { kept = λ octets is_kept h. refl; answered = λ octets h. refl; ended = λ h. refl }
+line_ignores k = record {
+  kept = λ octets is_kept h. refl;
+  answered = λ octets h. refl;
+  ended =
+      λ h. refl;
+}
 
 pub mirrors_ignore : Ignores mirrored_in
-mirrors_ignore = record { kept = λ octets is_kept h. refl; answered = λ octets h. refl; ended = λ h. refl }
+mirrors_ignore = record {
+  kept = λ octets is_kept h. refl;
+  answered = λ octets h. refl;
+  ended =
+      λ h. refl;
+}
 
 pub judged_ignore : Ignores judged_in
-judged_ignore = record { kept = λ octets is_kept h. refl; answered = λ octets h. refl; ended = λ h. refl }
+judged_ignore = record {
+  kept = λ octets is_kept h. refl;
+  answered = λ octets h. refl;
+  ended =
+      λ h. refl;
+}
 
-pub keeping : {X : Type 0} (F : History → X) → Ignores F → (xs : List (List ℕ)) (s : State) (h : History)
+pub keeping : {X : Type 0} (F : History → X) → Ignores F
+    → (xs : List (List ℕ)) (s : State) (h : History)
     → F (told_kept xs s h) ≡ F h
 keeping {X} F i [] s h = refl
 keeping {X} F i (x ∷ xs) s h = go (has_answer_place s)
@@ -51,15 +68,18 @@ keeping {X} F i (x ∷ xs) s h = go (has_answer_place s)
     go true ih = ih ∙ one
     go false ih = one
 
-pub sending_own : {X : Type 0} (F : History → X) → Ignores F → (w : Works) → F (told SendOwn w) ≡ F w.history
+pub sending_own : {X : Type 0} (F : History → X) → Ignores F → (w : Works) → F (told SendOwn w)
+    ≡ F w.history
 sending_own {X} F i w = go (first_answer w.serial.commands.answers)
   where
     go : (o : Option (List ℕ)) → F (after_answer o (tasks_of w)).history ≡ F w.history
     go None = refl
     go (Some octets) = i.answered octets w.history
 
-pub judging : {X : Type 0} (F : History → X) → Ignores F → (xs : List ℕ) (now : ℕ) (wall : Option ℕ) (w : Works)
-    → F (told_judged xs now wall w) ≡ F (Judged now wall xs (judged xs now wall w.serial.commands).0 ∷ w.history)
+pub judging : {X : Type 0} (F : History → X) → Ignores F
+    → (xs : List ℕ) (now : ℕ) (wall : Option ℕ) (w : Works)
+    → F (told_judged xs now wall w) ≡ F (Judged now wall xs (judged xs now wall w.serial.commands).0
+    ∷ w.history)
 judging {X} F i xs now wall w = keeping F i (listed (judged xs now wall w.serial.commands).0)
     (judged xs now wall w.serial.commands).1 (told (Judge xs now wall) w)
 
@@ -68,7 +88,8 @@ judging {X} F i xs now wall w = keeping F i (listed (judged xs now wall w.serial
 abbrev pub WaitsFit : Setup → State → Type 0
 WaitsFit p s = AllFitLine p.link.size s.waiting
 
-pub one_fits : (stay : AnswersStay) (p : Setup) (call : Call) (r : Run) → IsFitCall call → WaitsFit p r.state
+pub one_fits : (stay : AnswersStay) (p : Setup) (call : Call) (r : Run) → IsFitCall call
+    → WaitsFit p r.state
     → WaitsFit p (after_call call r).state
 one_fits stay p call r h k = call_fits stay p.link.size call r h k
 

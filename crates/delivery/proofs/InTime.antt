@@ -1,8 +1,10 @@
--- The commands of a course are what calls made, at the moments of the log, which never fall; so a step leaves
+-- The commands of a course are what calls made, at the moments of the log, which never fall; so a
+-- step leaves
 -- no selection that is over.
 use Rattle.std.specs.Prelude.{if◌then◌else◌, min}
 use Rattle.std.specs.List.{AllByRecursion}
-use Rattle.std.proofs.Common.{◌≡◌, ℕ, ◌≤◌, Bool, true, false, List, [], ◌∷◌, Option, Some, None, refl, ap, sym, ◌∙◌, subst, le_refl, le_trans}
+use Rattle.std.proofs.Common.{◌≡◌, ℕ, ◌≤◌, Bool, true, false, List, [], ◌∷◌, Option, Some, None}
+use Rattle.std.proofs.Common.{refl, ap, sym, ◌∙◌, subst, le_refl, le_trans}
 use Rattle.std.proofs.Math.Nat.{le-max_left, le_antisymm}
 use Rattle.asdu.specs.Asdu.{AsduValue}
 use Rattle.apci.specs.declared.apdu.Apdu.{Apdu}
@@ -10,23 +12,33 @@ use Rattle.apci.specs.declared.apdu.Apdu.TheVariants.{I, S, U}
 use Rattle.link.specs.declared.outcome.Outcome.{Outcome}
 use Rattle.link.specs.declared.outcome.Outcome.TheVariants as outcome
 use Rattle.session.specs.declared.kinds.Close.{Close}
-use Rattle.session.specs.declared.kinds.Close.TheVariants.{Grammar, SendNumber, ReceiveNumber, Stopped, Timeout, OwnAnswers, Replaced}
+use Rattle.session.specs.declared.kinds.Close.TheVariants.{Grammar, SendNumber, ReceiveNumber}
+use Rattle.session.specs.declared.kinds.Close.TheVariants.{Stopped, Timeout, OwnAnswers, Replaced}
 use Rattle.command.specs.declared.waiting.Waiting.{Waiting}
 use Rattle.command.specs.State as tasks
-use Rattle.command.specs.State.{has_answer_place, first_answer, oldest_for, line_of, refusal_of, is_used}
+use Rattle.command.specs.State.{has_answer_place, first_answer, oldest_for, line_of, refusal_of}
+use Rattle.command.specs.State.{is_used}
 use Rattle.command.specs.Judging.{judged}
-use Rattle.command.specs.History.{Told, Judged, Sent, Accepted, Refused, GivenUp, Mirrored, Offered, Answered, Ended, History}
+use Rattle.command.specs.History.{Told, Judged, Sent, Accepted, Refused, GivenUp, Mirrored, Offered}
+use Rattle.command.specs.History.{Answered, Ended, History}
 use Rattle.command.specs.Calls as calls
-use Rattle.command.specs.Calls.{Call, Judge, PutOnLine, Accept, Busy, Lose, Mirror, Own, SendOwn, Cut, Due, Run, run, first_run, after_call, after_answer, after_sending, NeverFall}
+use Rattle.command.specs.Calls.{Call, Judge, PutOnLine, Accept, Busy, Lose, Mirror, Own, SendOwn}
+use Rattle.command.specs.Calls.{Cut, Due, Run, run, first_run, after_call, after_answer}
+use Rattle.command.specs.Calls.{after_sending, NeverFall}
 use Rattle.command.specs.Laws.{AfterEachDue}
 use Rattle.command.specs.Selections.{IsInTime}
 use Rattle.gateway.specs.Objects.{has_objects}
-use Rattle.gateway.specs.Log.{Log, LogEntry, Input, LineIn, Opened, TcpIn, CutOff, Ticked, WallIs, Came, Went, LineOut, TcpOut, Closed, GapOut, latest, last_moment}
+use Rattle.gateway.specs.Log.{Log, LogEntry, Input, LineIn, Opened, TcpIn, CutOff, Ticked, WallIs}
+use Rattle.gateway.specs.Log.{Came, Went, LineOut, TcpOut, Closed, GapOut, latest, last_moment}
 use Rattle.gateway.specs.Connections.{present}
 use Rattle.gateway.specs.Reports.{Setup}
-use Rattle.gateway.specs.Serial.{kept_until, listed, refusals, is_first_command, put_on_line, unless_silent}
-use Rattle.gateway.specs.Works.{Works, tasks_of, told_kept, is_command_report, mirrored_works, LearnsReport, LearnsOf, heard_works, answered_works, told_silent, settled_works, ready_works, unasked_works, done_works, told_put}
-use Rattle.gateway.specs.Course.{Course, with_frames, with_sent, IsNext, closed_course, IsLeft, room_in, Runs}
+use Rattle.gateway.specs.Serial.{kept_until, listed, refusals, is_first_command, put_on_line}
+use Rattle.gateway.specs.Serial.{unless_silent}
+use Rattle.gateway.specs.Works.{Works, tasks_of, told_kept, is_command_report, mirrored_works}
+use Rattle.gateway.specs.Works.{LearnsReport, LearnsOf, heard_works, answered_works, told_silent}
+use Rattle.gateway.specs.Works.{settled_works, ready_works, unasked_works, done_works, told_put}
+use Rattle.gateway.specs.Course.{Course, with_frames, with_sent, IsNext, closed_course, IsLeft}
+use Rattle.gateway.specs.Course.{room_in, Runs}
 use Rattle.delivery.specs.Selections.{EndInTime, AreAt, TellsAtMoments}
 
 -- calls that leave these commands, the latest not past this moment
@@ -40,7 +52,13 @@ abbrev pub IsMade : Setup → ℕ → Works → Type 0
 IsMade p at w = IsCalled p at (tasks_of w)
 
 later : (p : Setup) (at soon : ℕ) (r : Run) → at ≤ soon → IsCalled p at r → IsCalled p soon r
-later p at soon r h c = record { made = c.made; leave = c.leave; rise = c.rise; past = le_trans c.past h }
+later p at soon r h c = record {
+  made = c.made;
+  leave = c.leave;
+  rise = c.rise;
+  past =
+      le_trans c.past h;
+}
 
 -- a call at this moment, or at none
 abbrev pub IsAt : ℕ → Call → Type 0
@@ -65,16 +83,19 @@ module _ (p : Setup) (at : ℕ) (Q : Run → Type 0) (one : (call : Call) (r : R
   now_is : (n : ℕ) → n ≤ at → (n ≤ at) × (at ≤ at)
   now_is n h = (h, le_refl at)
 
-  keep : (xs : List (List ℕ)) (s : tasks.State) (h : History) → Q (record { state = s; history = h })
+  keep : (xs : List (List ℕ)) (s : tasks.State) (h : History)
+      → Q (record { state = s; history = h })
       → Q (record { state = kept_until xs s; history = told_kept xs s h })
   keep [] s h c = c
   keep (x ∷ xs) s h c =
-      go (has_answer_place s) here (keep xs (tasks.offered x s) (Offered x (has_answer_place s) ∷ h) here)
+      go (has_answer_place s) here (keep xs (tasks.offered x s) (Offered x (has_answer_place s) ∷ h)
+      here)
     where
       here : Q (record { state = tasks.offered x s; history = Offered x (has_answer_place s) ∷ h })
       here = one (Own x) (record { state = s; history = h }) still c
 
-      go : (b : Bool) → Q (record { state = tasks.offered x s; history = Offered x (has_answer_place s) ∷ h }) →
+      go : (b : Bool)
+          → Q (record { state = tasks.offered x s; history = Offered x (has_answer_place s) ∷ h }) →
           Q (record {
             state = kept_until xs (tasks.offered x s);
             history =
@@ -83,7 +104,8 @@ module _ (p : Setup) (at : ℕ) (Q : Run → Type 0) (one : (call : Call) (r : R
           Q (record {
             state = if b then kept_until xs (tasks.offered x s) else tasks.offered x s;
             history =
-                if b then told_kept xs (tasks.offered x s) (Offered x (has_answer_place s) ∷ h) else Offered x
+                if b then told_kept xs (tasks.offered x s) (Offered x (has_answer_place s) ∷ h)
+                else Offered x
                 (has_answer_place s) ∷ h;
           })
       go true here all = all
@@ -97,15 +119,19 @@ module _ (p : Setup) (at : ℕ) (Q : Run → Type 0) (one : (call : Call) (r : R
   mirror true v pieces w c = keep pieces (after_call (Mirror v at) (tasks_of w)).state
       (after_call (Mirror v at) (tasks_of w)).history (one (Mirror v at) (tasks_of w) now_is c)
 
-  report : (running b : Bool) (asdu : List ℕ) (w z : Works) → LearnsReport p at running b asdu w z → Q (tasks_of w)
+  report : (running b : Bool) (asdu : List ℕ) (w z : Works) → LearnsReport p at running b asdu w z
+      → Q (tasks_of w)
       → Q (tasks_of z)
   report running false asdu w z is c = subst (λ (w : Works). Q (tasks_of w)) (sym is) c
-  report running true asdu w z is c = subst (λ (w : Works). Q (tasks_of w)) (sym is.5) (mirror running is.0 is.2 w c)
+  report running true asdu w z is c = subst (λ (w : Works). Q (tasks_of w)) (sym is.5)
+      (mirror running is.0 is.2 w c)
 
-  learn : (running : Bool) (o : Outcome) (w z : Works) → LearnsOf p at running o w z → Q (tasks_of w) → Q (tasks_of z)
+  learn : (running : Bool) (o : Outcome) (w z : Works) → LearnsOf p at running o w z
+      → Q (tasks_of w) → Q (tasks_of z)
   learn running outcome.None w z is c = subst (λ (w : Works). Q (tasks_of w)) (sym is) c
   learn running (outcome.Started k) w z is c = subst (λ (w : Works). Q (tasks_of w)) (sym is) c
-  learn running (outcome.StartedGap k session) w z is c = subst (λ (w : Works). Q (tasks_of w)) (sym is) c
+  learn running (outcome.StartedGap k session) w z is c =
+      subst (λ (w : Works). Q (tasks_of w)) (sym is) c
   learn running (outcome.Empty k) w z is c = subst (λ (w : Works). Q (tasks_of w)) (sym is) c
   learn running (outcome.Accepted k) w z is c = subst (λ (w : Works). Q (tasks_of w)) (sym is)
       (one (Accept k) (tasks_of w) still c)
@@ -120,7 +146,8 @@ module _ (p : Setup) (at : ℕ) (Q : Run → Type 0) (one : (call : Call) (r : R
 
   -- Frames come and go
 
-  hear : (frame : Apdu) (wall : Option ℕ) (w : Works) → Q (tasks_of w) → Q (tasks_of (heard_works frame at wall w))
+  hear : (frame : Apdu) (wall : Option ℕ) (w : Works) → Q (tasks_of w)
+      → Q (tasks_of (heard_works frame at wall w))
   hear (S nr) wall w c = c
   hear (U u) wall w c = c
   hear (I ns nr asdu) wall w c =
@@ -134,16 +161,19 @@ module _ (p : Setup) (at : ℕ) (Q : Run → Type 0) (one : (call : Call) (r : R
   hear_all (frame ∷ frames) wall c made = hear frame wall (with_frames p frames at wall c).works
       (hear_all frames wall c made)
 
-  answer : (w : Works) (x : List ℕ) → first_answer w.serial.commands.answers ≡ Some x → Q (tasks_of w)
+  answer : (w : Works) (x : List ℕ) → first_answer w.serial.commands.answers ≡ Some x
+      → Q (tasks_of w)
       → Q (tasks_of (answered_works w))
   answer w x is c = subst Q so (one SendOwn (tasks_of w) still c)
     where
       so : after_call SendOwn (tasks_of w) ≡ tasks_of (answered_works w)
       so = ap (λ (o : Option (List ℕ)). after_answer o (tasks_of w)) is
-          ∙ ap (λ (h : History). let r : Run = record { state = tasks.answered w.serial.commands; history = h } in
+          ∙ ap (λ (h : History). let r : Run =
+          record { state = tasks.answered w.serial.commands; history = h } in
           r) (sym (ap (λ (o : Option (List ℕ)). (after_answer o (tasks_of w)).history) is))
 
-  pub send : (log : Log) (frame : Apdu) (now : ℕ) (c : Course) → IsNext p log frame c → Q (tasks_of c.works)
+  pub send : (log : Log) (frame : Apdu) (now : ℕ) (c : Course) → IsNext p log frame c
+      → Q (tasks_of c.works)
       → Q (tasks_of (with_sent frame now c).works)
   send log (S nr) now c next made = made
   send log (U u) now c next made = made
@@ -178,7 +208,8 @@ module _ (p : Setup) (at : ℕ) (Q : Run → Type 0) (one : (call : Call) (r : R
   pub put : (b : Bool) (k : ℕ) (w : Works) → Q (tasks_of w)
       → Q (record { state = put_on_line b k w.serial.commands; history = told_put b k w })
   put false k w c = c
-  put true k w c = subst Q (go (oldest_for k w.serial.commands) refl) (one (PutOnLine k) (tasks_of w) still c)
+  put true k w c = subst Q (go (oldest_for k w.serial.commands) refl)
+      (one (PutOnLine k) (tasks_of w) still c)
     where
       go : (o : Option Waiting) → oldest_for k w.serial.commands ≡ o
           → after_sending o k (tasks_of w) ≡ record {
@@ -209,24 +240,30 @@ module _ (p : Setup) (at : ℕ) (Q : Run → Type 0) (one : (call : Call) (r : R
   close OwnAnswers is_open c made = cut c.works made
 
 -- a step's entry is its moment's
-module _ (p : Setup) (P : Log → Run → Type 0) (one : (log : Log) (call : Call) (r : Run) → IsAt (latest log) call
-    → P log r → P log (after_call call r)) (next : (entry : LogEntry) (log : Log) (r : Run) → P log r
+module _ (p : Setup) (P : Log → Run → Type 0) (one : (log : Log) (call : Call) (r : Run)
+    → IsAt (latest log) call
+    → P log r → P log (after_call call r)) (next : (entry : LogEntry) (log : Log) (r : Run)
+    → P log r
     → P (entry ∷ log) r) where
   abbrev So : Log → Course → Type 0
   So log c = P log (tasks_of c.works)
 
-  left_so : (log : Log) (now : ℕ) (event : Input) (before after : Course) → IsLeft p log before after → So log before
+  left_so : (log : Log) (now : ℕ) (event : Input) (before after : Course)
+      → IsLeft p log before after → So log before
       → So (Came now event ∷ log) after
   left_so log now event before after left h =
       next (Came now event) log (tasks_of after.works)
-      (subst (So log) (sym left.is) (finish p (latest log) (P log) (one log) (room_in p log before) before.works h))
+      (subst (So log) (sym left.is) (finish p (latest log) (P log) (one log) (room_in p log before)
+      before.works h))
 
-  pub all_so : P [] (first_run p.stations p.sizes p.select_ms p.max_age_ms) → (log : Log) (c : Course) → Runs p log c
+  pub all_so : P [] (first_run p.stations p.sizes p.select_ms p.max_age_ms)
+      → (log : Log) (c : Course) → Runs p log c
       → So log c
   all_so start [] c r = subst (So []) (sym r) start
   all_so start (Came now Ticked ∷ log) c r = subst (So (Came now Ticked ∷ log)) (sym r.5)
       (left_so log now Ticked r.0 r.1 r.4 (all_so start log r.0 r.2))
-  all_so start (Came now (WallIs number) ∷ log) c r = subst (So (Came now (WallIs number) ∷ log)) (sym r.5)
+  all_so start (Came now (WallIs number) ∷ log) c r = subst (So (Came now (WallIs number) ∷ log))
+      (sym r.5)
       (left_so log now (WallIs number) r.0 r.1 r.4 (all_so start log r.0 r.2))
   all_so start (Came now (LineIn octets) ∷ log) c r =
       let new : Log = Came now (LineIn octets) ∷ log in
@@ -259,12 +296,15 @@ module _ (p : Setup) (P : Log → Run → Type 0) (one : (log : Log) (call : Cal
   all_so start (Went now (TcpOut octets) ∷ log) c r =
       let new : Log = Went now (TcpOut octets) ∷ log in
       let sent : So new r.1 =
-      subst (So new) (sym r.3.put) (send p (latest new) (P new) (one new) log r.3.frame (latest log) r.0 r.3.next
+      subst (So new) (sym r.3.put) (send p (latest new) (P new) (one new) log r.3.frame (latest log)
+      r.0 r.3.next
       (next (Went now (TcpOut octets)) log (tasks_of r.0.works) (all_so start log r.0 r.2))) in
-      subst (So new) (sym r.4.taken) (hear_all p (latest new) (P new) (one new) r.4.frames _ r.1 sent)
+      subst (So new) (sym r.4.taken) (hear_all p (latest new) (P new) (one new) r.4.frames _ r.1
+      sent)
   all_so start (Went now (Closed cause) ∷ log) c r =
       let new : Log = Went now (Closed cause) ∷ log in
-      subst (So new) (sym r.2) (close p (latest new) (P new) (one new) cause (present log).is_open r.0
+      subst (So new) (sym r.2) (close p (latest new) (P new) (one new) cause (present log).is_open
+      r.0
       (next (Went now (Closed cause)) log (tasks_of r.0.works) (all_so start log r.0 r.1)))
 
 -- Calls whose moments never fall
@@ -289,11 +329,14 @@ pub due_leaves : (p : Setup) (at : ℕ) → TimeLaw → (r : Run) → IsCalled p
     AllByRecursion (IsInTime p.sizes p.stations p.select_ms p.max_age_ms at r.history xs)
     (tasks.timed at r.state).selections
 due_leaves p at law r c xs =
-    subst (λ (r : Run). AllByRecursion (IsInTime p.sizes p.stations p.select_ms p.max_age_ms at r.history xs)
+    subst
+    (λ (r : Run). AllByRecursion (IsInTime p.sizes p.stations p.select_ms p.max_age_ms at r.history
+    xs)
     (tasks.timed at r.state).selections) c.leave
     (law p.stations p.sizes p.select_ms p.max_age_ms c.made at (c.past, c.rise) xs)
 
-pub end_in_time : (p : Setup) → TimeLaw → (log : Log) (c : Course) → Runs p log c → EndInTime p log c
+pub end_in_time : (p : Setup) → TimeLaw → (log : Log) (c : Course) → Runs p log c
+    → EndInTime p log c
 end_in_time p law log c r due xs =
     let at : ℕ = latest log in
     let quiet : Run = record {
@@ -301,11 +344,14 @@ end_in_time p law log c r due xs =
       history =
           told_silent c.works.serial.silent c.works;
     } in
-    subst (λ (b : Bool). AllByRecursion (IsInTime p.sizes p.stations p.select_ms p.max_age_ms (latest log)
-    (if b then unasked_works (latest log) (room_in p log c) (ready_works (latest log) c.works) else c.works).history xs)
+    subst
+    (λ (b : Bool). AllByRecursion (IsInTime p.sizes p.stations p.select_ms p.max_age_ms (latest log)
+    (if b then unasked_works (latest log) (room_in p log c) (ready_works (latest log) c.works)
+    else c.works).history xs)
     (if b then unasked_works (latest log) (room_in p log c)
     (ready_works (latest log) c.works) else c.works).serial.commands.selections) (sym due)
-    (due_leaves p at law quiet (silence p at (IsCalled p at) (called_more p at) c.works.serial.silent c.works
+    (due_leaves p at law quiet (silence p at (IsCalled p at) (called_more p at)
+    c.works.serial.silent c.works
     (all_made p log c r)) xs)
 
 -- What is told bears the log's moments
@@ -321,7 +367,8 @@ are_more at (Offered octets is_kept) h is all = all
 are_more at (Answered octets) h is all = all
 are_more at Ended h is all = all
 
-tell_more : (log : Log) (e : Told) (h : History) → AreAt (latest log) (e ∷ []) → TellsAtMoments log h
+tell_more : (log : Log) (e : Told) (h : History) → AreAt (latest log) (e ∷ [])
+    → TellsAtMoments log h
     → TellsAtMoments log (e ∷ h)
 tell_more [] e h is t = are_more 0 e h is t
 tell_more (entry ∷ log) e h is t = (
@@ -336,7 +383,8 @@ tell_more (entry ∷ log) e h is t = (
 pub moment_is : (at now : ℕ) → (at ≤ now) × (now ≤ at) → now ≡ at
 moment_is at now h = le_antisymm h.1 h.0
 
-told_call : (log : Log) (call : Call) (r : Run) → IsAt (latest log) call → TellsAtMoments log r.history
+told_call : (log : Log) (call : Call) (r : Run) → IsAt (latest log) call
+    → TellsAtMoments log r.history
     → TellsAtMoments log (after_call call r).history
 told_call log (Judge xs now wall) r when t = tell_more log
     (Judged now wall xs (judged xs now wall r.state).0) r.history
@@ -344,9 +392,12 @@ told_call log (Judge xs now wall) r when t = tell_more log
 told_call log (Mirror v now) r when t = tell_more log (Mirrored now v) r.history
     (moment_is (latest log) now (when (latest log) (le_refl (latest log))), tt) t
 told_call log (Accept k) r when t = tell_more log (Accepted k) r.history tt t
-told_call log (Busy k) r when t = tell_more log (Refused k (refusal_of (line_of k r.state))) r.history tt t
-told_call log (Lose k) r when t = tell_more log (GivenUp k (is_used (line_of k r.state))) r.history tt t
-told_call log (Own octets) r when t = tell_more log (Offered octets (has_answer_place r.state)) r.history tt t
+told_call log (Busy k) r when t = tell_more log (Refused k (refusal_of (line_of k r.state)))
+    r.history tt t
+told_call log (Lose k) r when t = tell_more log (GivenUp k (is_used (line_of k r.state))) r.history
+    tt t
+told_call log (Own octets) r when t = tell_more log (Offered octets (has_answer_place r.state))
+    r.history tt t
 told_call log Cut r when t = tell_more log Ended r.history tt t
 told_call log (Due now) r when t = t
 told_call log (PutOnLine k) r when t = go (oldest_for k r.state)
@@ -360,6 +411,7 @@ told_call log SendOwn r when t = go (first_answer r.state.answers)
     go None = t
     go (Some octets) = tell_more log (Answered octets) r.history tt t
 
-pub at_moments : (p : Setup) (log : Log) (c : Course) → Runs p log c → TellsAtMoments log c.works.history
+pub at_moments : (p : Setup) (log : Log) (c : Course) → Runs p log c
+    → TellsAtMoments log c.works.history
 at_moments p = all_so p (λ log r. TellsAtMoments log r.history) told_call
     (λ entry log r t. ([], r.history, refl, tt, t)) tt

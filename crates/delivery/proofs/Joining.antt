@@ -1,6 +1,7 @@
 -- The course of a log and the exchanges of its line are one story: from entry to entry.
 use Rattle.std.specs.Prelude.{not, option_and_then, option_map}
-use Rattle.std.proofs.Common.{◌≡◌, ℕ, Bool, true, false, List, [], ◌∷◌, Option, Some, None, refl, ap, sym, subst, ◌∙◌, if◌then◌else◌}
+use Rattle.std.proofs.Common.{◌≡◌, ℕ, Bool, true, false, List, [], ◌∷◌, Option, Some, None, refl}
+use Rattle.std.proofs.Common.{ap, sym, subst, ◌∙◌, if◌then◌else◌}
 use Rattle.std.proofs.lemmas.Bool.{and_parts}
 use Rattle.ft12.specs.Fronts.{front_of}
 use Rattle.ft12.specs.Spelling as line
@@ -9,55 +10,73 @@ use Rattle.apci.specs.declared.apdu.Apdu.{Apdu}
 use Rattle.link.specs.declared.service.Service.TheVariants.{Command}
 use Rattle.link.specs.declared.service.Asked.TheVariants.{Counted}
 use Rattle.link.specs.Counts.{saturated}
-use Rattle.link.specs.Exchanges.{Exchanges, Sending, begun_by, heard_current, timed_current, reports_of_exchanges}
+use Rattle.link.specs.Exchanges.{Exchanges, Sending, begun_by, heard_current, timed_current}
+use Rattle.link.specs.Exchanges.{reports_of_exchanges}
 use Rattle.link.specs.Procedure.{is_held}
 use Rattle.link.specs.Requests.{request_frame, request_in}
 use Rattle.link.specs.Turns.{station_at}
 use Rattle.link.specs.Primary.{Primary, asked, sending, due_outcome, is_command}
 use Rattle.link.specs.Telling.{Tells}
 use Rattle.session.specs.declared.kinds.Close.{Close}
-use Rattle.session.specs.declared.kinds.Close.TheVariants.{Grammar, SendNumber, ReceiveNumber, Stopped, Timeout, OwnAnswers, Replaced}
+use Rattle.session.specs.declared.kinds.Close.TheVariants.{Grammar, SendNumber, ReceiveNumber}
+use Rattle.session.specs.declared.kinds.Close.TheVariants.{Stopped, Timeout, OwnAnswers, Replaced}
 use Rattle.command.specs.State.{octets_waiting}
 use Rattle.command.specs.Calls.{Cut}
-use Rattle.gateway.specs.Log.{Log, Came, Went, Opened, LineIn, TcpIn, CutOff, Ticked, WallIs, LineOut, TcpOut, Closed, GapOut, latest}
+use Rattle.gateway.specs.Log.{Log, Came, Went, Opened, LineIn, TcpIn, CutOff, Ticked, WallIs}
+use Rattle.gateway.specs.Log.{LineOut, TcpOut, Closed, GapOut, latest}
 use Rattle.gateway.specs.Streams.{AllFit}
 use Rattle.gateway.specs.Connections.{present}
 use Rattle.gateway.specs.Reports.{Setup, address_at, sent_to, sending_in, exchanges_of}
 use Rattle.gateway.specs.Traffic.{ActsRightly}
 use Rattle.gateway.specs.Serial.{heard_outcome, is_first_command}
-use Rattle.gateway.specs.Works.{Works, tasks_of, LearnsOf, octets_works, begun_works, cut_works, gapless_works, ready_works, settled_works, unasked_works, done_works, told_put, told_silent, asked_works}
-use Rattle.gateway.specs.Course.{Course, with_frames, with_sent, closed_course, with_works, IsLeft, SendsNext, room_in, Runs}
+use Rattle.gateway.specs.Works.{Works, tasks_of, LearnsOf, octets_works, begun_works, cut_works}
+use Rattle.gateway.specs.Works.{gapless_works, ready_works, settled_works, unasked_works}
+use Rattle.gateway.specs.Works.{done_works, told_put, told_silent, asked_works}
+use Rattle.gateway.specs.Course.{Course, with_frames, with_sent, closed_course, with_works, IsLeft}
+use Rattle.gateway.specs.Course.{SendsNext, room_in, Runs}
 use Rattle.delivery.specs.Joined.{IsSetUp, mirrored_in, command_reports, skipped_among, AreValues}
 use Rattle.delivery.proofs.Waiting.{AnswersStay}
 use Rattle.delivery.proofs.History.{line_told, WaitsFit, one_fits}
 use Rattle.delivery.proofs.Exchanging.{exchanges_at, IsTold, stays_told}
 use Rattle.delivery.proofs.Line.{LinkLaws, heard_told, asked_told, timed_told}
-use Rattle.delivery.proofs.Works.{all_told, IsAllTold, told_alike, silent_told, IsLearnt, learnt_of, IsQuiet, heard_quiet, heard_line, sent_quiet, sent_line, settled_quiet, settled_line, offers_tell, put_told, put_mirrors, put_fits}
+use Rattle.delivery.proofs.Works.{all_told, IsAllTold, told_alike, silent_told, IsLearnt, learnt_of}
+use Rattle.delivery.proofs.Works.{IsQuiet, heard_quiet, heard_line, sent_quiet, sent_line}
+use Rattle.delivery.proofs.Works.{settled_quiet, settled_line, offers_tell, put_told, put_mirrors}
+use Rattle.delivery.proofs.Works.{put_fits}
 use Rattle.delivery.proofs.Frames.{taken_fit}
 
 -- the works are what these exchanges make them
 pub record Joins (p : Setup) (e : Exchanges) (w : Works) : Type 0 where
   pub tells : Tells p.link p.addresses w.serial.line e
-  pub told : (k : ℕ) → IsTold p.link (address_at p.addresses k) (exchanges_at (front_of p.link.size) k e) k (all_told w)
+  pub told : (k : ℕ)
+      → IsTold p.link (address_at p.addresses k) (exchanges_at (front_of p.link.size) k e) k
+      (all_told w)
   pub left : IsAllTold w
   pub mirrors : AreValues p.sizes (mirrored_in w.history)
-      (command_reports p.sizes (reports_of_exchanges (front_of p.link.size) (address_at p.addresses) e))
+      (command_reports p.sizes (reports_of_exchanges (front_of p.link.size) (address_at p.addresses)
+      e))
   pub fits : WaitsFit p w.serial.commands
   pub skips : w.serial.counts.skipped
-      ≡ saturated (skipped_among p.sizes (reports_of_exchanges (front_of p.link.size) (address_at p.addresses) e))
+      ≡ saturated
+      (skipped_among p.sizes (reports_of_exchanges (front_of p.link.size) (address_at p.addresses)
+      e))
 
 module _ (laws : LinkLaws) (stay : AnswersStay) (p : Setup) where
   abbrev reports_by : Exchanges → List (ℕ × List ℕ)
   reports_by e = reports_of_exchanges (front_of p.link.size) (address_at p.addresses) e
 
-  quiet_joins : (e : Exchanges) (w z : Works) → Tells p.link p.addresses z.serial.line e → IsQuiet p w z → Joins p e w
+  quiet_joins : (e : Exchanges) (w z : Works) → Tells p.link p.addresses z.serial.line e
+      → IsQuiet p w z → Joins p e w
       → Joins p e z
   quiet_joins e w z tells q j = record {
     tells = tells;
-    told = λ k. stays_told p.link (address_at p.addresses k) (exchanges_at (front_of p.link.size) k e) k (all_told w)
+    told = λ k. stays_told p.link (address_at p.addresses k)
+        (exchanges_at (front_of p.link.size) k e) k (all_told w)
         (all_told z) (q.told k) (j.told k);
     left = q.left j.left;
-    mirrors = subst (λ (vs : List AsduValue). AreValues p.sizes vs (command_reports p.sizes (reports_by e)))
+    mirrors =
+        subst (λ (vs : List AsduValue). AreValues p.sizes vs
+        (command_reports p.sizes (reports_by e)))
         (sym q.mirrors) j.mirrors;
     fits = q.fits j.fits;
     skips = q.skips ∙ j.skips;
@@ -65,12 +84,15 @@ module _ (laws : LinkLaws) (stay : AnswersStay) (p : Setup) where
 
   -- Frames
 
-  frames_join : (frames : List Apdu) (now : ℕ) (wall : Option ℕ) (e : Exchanges) (c : Course) → AllFit frames
+  frames_join : (frames : List Apdu) (now : ℕ) (wall : Option ℕ) (e : Exchanges) (c : Course)
+      → AllFit frames
       → Joins p e c.works → Joins p e (with_frames p frames now wall c).works
   frames_join [] now wall e c fit j = j
   frames_join (frame ∷ frames) now wall e c fit j =
-      let before : Joins p e (with_frames p frames now wall c).works = frames_join frames now wall e c fit.1 j in
-      quiet_joins e (with_frames p frames now wall c).works (with_frames p (frame ∷ frames) now wall c).works
+      let before : Joins p e (with_frames p frames now wall c).works =
+      frames_join frames now wall e c fit.1 j in
+      quiet_joins e (with_frames p frames now wall c).works
+      (with_frames p (frame ∷ frames) now wall c).works
       (subst (λ (q : Primary). Tells p.link p.addresses q e)
       (sym (heard_line frame now wall (with_frames p frames now wall c).works)) before.tells)
       (heard_quiet stay p frame now wall (with_frames p frames now wall c).works fit.0) before
@@ -78,11 +100,13 @@ module _ (laws : LinkLaws) (stay : AnswersStay) (p : Setup) where
   sent_joins : (frame : Apdu) (now : ℕ) (e : Exchanges) (c : Course) → Joins p e c.works
       → Joins p e (with_sent frame now c).works
   sent_joins frame now e c j = quiet_joins e c.works (with_sent frame now c).works
-      (subst (λ (q : Primary). Tells p.link p.addresses q e) (sym (sent_line frame c.works)) j.tells)
+      (subst (λ (q : Primary). Tells p.link p.addresses q e) (sym (sent_line frame c.works))
+      j.tells)
       (sent_quiet stay p frame c.works) j
 
   cut_joins : (e : Exchanges) (w : Works) → Joins p e w → Joins p e (cut_works w)
-  cut_joins e w j = quiet_joins e w (cut_works w) (laws.withdraw p.link p.addresses w.serial.line e j.tells)
+  cut_joins e w j =
+      quiet_joins e w (cut_works w) (laws.withdraw p.link p.addresses w.serial.line e j.tells)
       (record {
         told = λ k. told_alike k w.serial.silent w (cut_works w) refl;
         left = λ h. h;
@@ -92,7 +116,8 @@ module _ (laws : LinkLaws) (stay : AnswersStay) (p : Setup) where
         skips = refl;
       }) j
 
-  settled_joins : (at : ℕ) (e : Exchanges) (w : Works) → Joins p e w → Joins p e (settled_works at w)
+  settled_joins : (at : ℕ) (e : Exchanges) (w : Works) → Joins p e w
+      → Joins p e (settled_works at w)
   settled_joins at e w j = quiet_joins e w (settled_works at w)
       (subst (λ (q : Primary). Tells p.link p.addresses q e) (sym (settled_line at w)) j.tells)
       (settled_quiet stay p at w) j
@@ -103,38 +128,55 @@ module _ (laws : LinkLaws) (stay : AnswersStay) (p : Setup) where
       quiet_joins e (settled_works at w) (ready_works at w)
       (offers_tell laws p.link p.addresses e (settled_works at w).serial.commands.waiting
       (settled_works at w).serial.line s.fits s.tells)
-      (record { told = λ k. refl; left = λ h due. refl; mirrors = refl; fits = λ f. f; skips = refl }) s
+      (record {
+        told = λ k. refl;
+        left = λ h due. refl;
+        mirrors = refl;
+        fits = λ f. f;
+        skips =
+            refl;
+      }) s
 
   -- An event's moment and octets
 
   timed_joins : (at : ℕ) (e : Exchanges) (w : Works) → w.serial.silent ≡ None → Joins p e w
-      → Joins p (record { ended = e.ended; current = timed_current p.link.answer_ms at e.current }) (begun_works at w)
+      → Joins p (record { ended = e.ended; current = timed_current p.link.answer_ms at e.current })
+      (begun_works at w)
   timed_joins at e w none j = record {
     tells = laws.due p.link p.addresses w.serial.line e at j.tells;
-    told = λ k. timed_told laws p w.serial.line e j.tells at k w.history (all_told (begun_works at w))
+    told = λ k. timed_told laws p w.serial.line e j.tells at k w.history
+        (all_told (begun_works at w))
         (silent_told k (due_outcome w.serial.line at) (begun_works at w))
-        (subst (λ (o : Option ℕ). IsTold p.link (address_at p.addresses k) (exchanges_at (front_of p.link.size) k e) k
+        (subst (λ (o : Option ℕ). IsTold p.link (address_at p.addresses k)
+        (exchanges_at (front_of p.link.size) k e) k
         (told_silent o w)) none (j.told k));
     left = λ due. cc;
-    mirrors = subst (λ (l : List (ℕ × List ℕ)). AreValues p.sizes (mirrored_in w.history) (command_reports p.sizes l))
-        (sym (laws.due_reports p.link.size (address_at p.addresses) p.link.answer_ms at e)) j.mirrors;
+    mirrors =
+        subst (λ (l : List (ℕ × List ℕ)). AreValues p.sizes (mirrored_in w.history)
+        (command_reports p.sizes l))
+        (sym (laws.due_reports p.link.size (address_at p.addresses) p.link.answer_ms at e))
+        j.mirrors;
     fits = j.fits;
     skips = j.skips ∙ ap (λ (l : List (ℕ × List ℕ)). saturated (skipped_among p.sizes l))
         (sym (laws.due_reports p.link.size (address_at p.addresses) p.link.answer_ms at e));
   }
 
   heard_joins : (octets : List ℕ) (at : ℕ) (running : Bool) (e : Exchanges) (w z : Works)
-      → LearnsOf p at running (heard_outcome octets w.serial) (octets_works octets w) z → w.serial.silent ≡ None
+      → LearnsOf p at running (heard_outcome octets w.serial) (octets_works octets w) z
+      → w.serial.silent ≡ None
       → Joins p e w →
-      (z.serial.silent ≡ None) × Joins p (record { ended = e.ended; current = heard_current octets e.current }) z
+      (z.serial.silent ≡ None)
+      × Joins p (record { ended = e.ended; current = heard_current octets e.current }) z
   heard_joins octets at running e w z learns none j =
       let learnt : IsLearnt p (heard_outcome octets w.serial) (octets_works octets w) z =
-      learnt_of stay p at running (heard_outcome octets w.serial) (octets_works octets w) z learns in
+      learnt_of stay p at running (heard_outcome octets w.serial) (octets_works octets w) z
+      learns in
       let quiet : z.serial.silent ≡ None = learnt.silent ∙ none in (
         quiet,
         record {
           tells = subst (λ (q : Primary). Tells p.link p.addresses q
-              (record { ended = e.ended; current = heard_current octets e.current })) (sym learnt.line)
+              (record { ended = e.ended; current = heard_current octets e.current }))
+              (sym learnt.line)
               (laws.octets p.link p.addresses w.serial.line e octets j.tells);
           told = λ k. heard_told laws p w.serial.line e j.tells octets k w.history (all_told z)
               (ap (λ (o : Option ℕ). line_told k (told_silent o z)) quiet ∙ learnt.told k)
@@ -142,7 +184,8 @@ module _ (laws : LinkLaws) (stay : AnswersStay) (p : Setup) where
               (exchanges_at (front_of p.link.size) k e) k (told_silent o w)) none (j.told k));
           left = λ due. quiet;
           mirrors = subst (λ (l : List (ℕ × List ℕ)). AreValues p.sizes (mirrored_in z.history)
-              (command_reports p.sizes l)) (sym (laws.octets_report p.link p.addresses w.serial.line e octets j.tells))
+              (command_reports p.sizes l))
+              (sym (laws.octets_report p.link p.addresses w.serial.line e octets j.tells))
               (learnt.mirrors (reports_by e) j.mirrors);
           fits = learnt.fits j.fits;
           skips = learnt.skips (reports_by e) j.skips ∙ ap
@@ -163,113 +206,149 @@ module _ (laws : LinkLaws) (stay : AnswersStay) (p : Setup) where
       unasked is =
           let r : Joins p e (ready_works at w) = ready_joins at e w j in
           quiet_joins e (ready_works at w) (unasked_works at room (ready_works at w))
-          (subst (λ (o : Option Sending). Tells p.link p.addresses (asked (ready_works at w).serial.line at room)
-          (begun_by at o e)) is (laws.next p.link p.addresses (ready_works at w).serial.line e at room r.tells))
-          (record { told = λ k. refl; left = λ h due. refl; mirrors = refl; fits = λ f. f; skips = refl }) r
+          (subst (λ (o : Option Sending). Tells p.link p.addresses
+          (asked (ready_works at w).serial.line at room)
+          (begun_by at o e)) is (laws.next p.link p.addresses (ready_works at w).serial.line e at
+          room r.tells))
+          (record {
+            told = λ k. refl;
+            left = λ h due. refl;
+            mirrors = refl;
+            fits = λ f. f;
+            skips =
+                refl;
+          }) r
 
-      go : (b : Bool) → w.is_due ≡ b → ((if b then unasked_works at room (ready_works at w) else w).serial.silent
+      go : (b : Bool) → w.is_due ≡ b
+          → ((if b then unasked_works at room (ready_works at w) else w).serial.silent
           ≡ None) × Joins p e (if b then unasked_works at room (ready_works at w) else w)
       go true is = (refl, unasked (none is))
       go false is = (j.left is, j)
 
-  left_joins : (log : Log) (before after : Course) (e : Exchanges) → IsLeft p log before after → Joins p e before.works
+  left_joins : (log : Log) (before after : Course) (e : Exchanges) → IsLeft p log before after
+      → Joins p e before.works
       → (after.works.serial.silent ≡ None) × Joins p e after.works
-  left_joins log before after e left j = subst (λ (c : Course). (c.works.serial.silent ≡ None) × Joins p e c.works)
+  left_joins log before after e left j = subst (λ (c : Course). (c.works.serial.silent ≡ None)
+      × Joins p e c.works)
       (sym left.is) (done_joins (latest log) (room_in p log before) e before.works left.none j)
 
   -- A request goes out
 
-  back : (q : Primary) (e : Exchanges) (may : Bool) (s : Sending) → IsSetUp p → Tells p.link p.addresses q e
+  back : (q : Primary) (e : Exchanges) (may : Bool) (s : Sending) → IsSetUp p
+      → Tells p.link p.addresses q e
       → sending q may ≡ Some s
-      → sending_in p (line.spelling p.link.size (request_frame (address_at p.addresses s.station) s.request)) ≡ Some s
+      → sending_in p
+      (line.spelling p.link.size (request_frame (address_at p.addresses s.station) s.request))
+      ≡ Some s
   back q e may s set h is =
       let fits = laws.fit p.link p.addresses q e may s h is in
       let reads : request_in p.link.size (line.spelling p.link.size
       (request_frame (address_at p.addresses s.station) s.request))
       ≡ Some (address_at p.addresses s.station, s.request) =
-      laws.back p.link.size (address_at p.addresses s.station) s.request fits.address fits.request in
+      laws.back p.link.size (address_at p.addresses s.station) s.request fits.address
+      fits.request in
       ap (option_and_then (sent_to p.addresses)) reads
-      ∙ ap (option_map (λ (i : ℕ). let made : Sending = record { station = i; request = s.request } in made))
+      ∙ ap (option_map (λ (i : ℕ). let made : Sending =
+      record { station = i; request = s.request } in made))
       (set.found s.station fits.station)
 
-  asked_joins : (at : ℕ) (room : Bool) (s : Sending) (e : Exchanges) (w : Works) → sending w.serial.line room ≡ Some s →
-      ((fcb : Bool) (asdu : List ℕ) → s.request ≡ Counted fcb (Command asdu) → is_first_command w.serial.line s ≡ true
+  asked_joins : (at : ℕ) (room : Bool) (s : Sending) (e : Exchanges) (w : Works)
+      → sending w.serial.line room ≡ Some s →
+      ((fcb : Bool) (asdu : List ℕ) → s.request ≡ Counted fcb (Command asdu)
+      → is_first_command w.serial.line s ≡ true
       → octets_waiting s.station w.serial.commands ≡ Some asdu) →
-      w.serial.silent ≡ None → Joins p e w → Joins p (begun_by at (Some s) e) (asked_works at room s w)
+      w.serial.silent ≡ None → Joins p e w
+      → Joins p (begun_by at (Some s) e) (asked_works at room s w)
   asked_joins at room s e w is waits none j = record {
-    tells = subst (λ (o : Option Sending). Tells p.link p.addresses (asked w.serial.line at room) (begun_by at o e)) is
+    tells =
+        subst (λ (o : Option Sending). Tells p.link p.addresses (asked w.serial.line at room)
+        (begun_by at o e)) is
         (laws.next p.link p.addresses w.serial.line e at room j.tells);
     told = λ k. subst (λ (o : Option ℕ). IsTold p.link (address_at p.addresses k)
-        (exchanges_at (front_of p.link.size) k (begun_by at (Some s) e)) k (told_silent o (asked_works at room s w)))
+        (exchanges_at (front_of p.link.size) k (begun_by at (Some s) e)) k
+        (told_silent o (asked_works at room s w)))
         (sym none)
         (asked_told laws p w.serial.line e j.tells room s at k w.history
         (told_put (is_first_command w.serial.line s) s.station w) is
         (put_told (is_first_command w.serial.line s) s.station s.request w k
         (λ first. (and_parts (is_command s.request)
         (not (is_held (station_at w.serial.line.stations s.station).link)) first).0) waits)
-        (subst (λ (o : Option ℕ). IsTold p.link (address_at p.addresses k) (exchanges_at (front_of p.link.size) k e) k
+        (subst (λ (o : Option ℕ). IsTold p.link (address_at p.addresses k)
+        (exchanges_at (front_of p.link.size) k e) k
         (told_silent o w)) none (j.told k)));
     left = λ due. none;
     mirrors = subst (λ (vs : List AsduValue). AreValues p.sizes vs
         (command_reports p.sizes (reports_by (begun_by at (Some s) e))))
         (sym (put_mirrors (is_first_command w.serial.line s) s.station w))
-        (subst (λ (l : List (ℕ × List ℕ)). AreValues p.sizes (mirrored_in w.history) (command_reports p.sizes l))
+        (subst (λ (l : List (ℕ × List ℕ)). AreValues p.sizes (mirrored_in w.history)
+        (command_reports p.sizes l))
         (sym (laws.next_reports p.link.size (address_at p.addresses) at (Some s) e)) j.mirrors);
     fits = put_fits stay p (is_first_command w.serial.line s) s.station w j.fits;
     skips = j.skips ∙ ap (λ (l : List (ℕ × List ℕ)). saturated (skipped_among p.sizes l))
         (sym (laws.next_reports p.link.size (address_at p.addresses) at (Some s) e));
   }
 
-  sends_joins : (set : IsSetUp p) (log : Log) (now : ℕ) (octets : List ℕ) (before after : Course) → now ≡ latest log
+  sends_joins : (set : IsSetUp p) (log : Log) (now : ℕ) (octets : List ℕ) (before after : Course)
+      → now ≡ latest log
       → SendsNext p log octets before after →
-      Joins p (exchanges_of p log) before.works → Joins p (exchanges_of p (Went now (LineOut octets) ∷ log)) after.works
+      Joins p (exchanges_of p log) before.works
+      → Joins p (exchanges_of p (Went now (LineOut octets) ∷ log)) after.works
   sends_joins set log now octets before after moment sends j =
       let ready : Joins p (exchanges_of p log) (ready_works (latest log) before.works) =
       ready_joins (latest log) (exchanges_of p log) before.works j in
-      let read : sending_in p octets ≡ Some sends.request = ap (λ (xs : List ℕ). sending_in p xs) sends.spelled_so
+      let read : sending_in p octets ≡ Some sends.request =
+      ap (λ (xs : List ℕ). sending_in p xs) sends.spelled_so
       ∙ back (ready_works (latest log) before.works).serial.line (exchanges_of p log)
       (room_in p log before) sends.request set ready.tells sends.next in
       let made : Joins p (begun_by (latest log) (Some sends.request) (exchanges_of p log))
-      (asked_works (latest log) (room_in p log before) sends.request (ready_works (latest log) before.works)) =
+      (asked_works (latest log) (room_in p log before) sends.request
+      (ready_works (latest log) before.works)) =
       asked_joins (latest log) (room_in p log before) sends.request (exchanges_of p log)
       (ready_works (latest log) before.works) sends.next sends.waits refl ready in
-      subst (λ (c : Course). Joins p (exchanges_of p (Went now (LineOut octets) ∷ log)) c.works) (sym sends.is)
-      (subst (λ (e : Exchanges). Joins p e (asked_works (latest log) (room_in p log before) sends.request
+      subst (λ (c : Course). Joins p (exchanges_of p (Went now (LineOut octets) ∷ log)) c.works)
+      (sym sends.is)
+      (subst
+      (λ (e : Exchanges). Joins p e (asked_works (latest log) (room_in p log before) sends.request
       (ready_works (latest log) before.works)))
       (sym (ap (λ (o : Option Sending). begun_by now o (exchanges_of p log)) read
       ∙ ap (λ (n : ℕ). begun_by n (Some sends.request) (exchanges_of p log)) moment)) made)
 
-  closed_joins : (cause : Close) (is_open : Bool) (at : ℕ) (e : Exchanges) (c : Course) → Joins p e c.works
+  closed_joins : (cause : Close) (is_open : Bool) (at : ℕ) (e : Exchanges) (c : Course)
+      → Joins p e c.works
       → Joins p e (closed_course p cause is_open at c).works
   closed_joins Grammar is_open at e c j = cut_joins e c.works j
   closed_joins SendNumber is_open at e c j = cut_joins e c.works j
   closed_joins ReceiveNumber is_open at e c j = cut_joins e c.works j
   closed_joins Stopped is_open at e c j = cut_joins e c.works j
-  closed_joins Timeout is_open at e c j = cut_joins e (settled_works at c.works) (settled_joins at e c.works j)
+  closed_joins Timeout is_open at e c j =
+      cut_joins e (settled_works at c.works) (settled_joins at e c.works j)
   closed_joins OwnAnswers is_open at e c j = cut_joins e c.works j
   closed_joins Replaced is_open at e c j = j
 
   -- Each log
 
-  moment_of : (log : Log) (now : ℕ) (octets : List ℕ) → ActsRightly p (Went now (LineOut octets) ∷ log)
+  moment_of : (log : Log) (now : ℕ) (octets : List ℕ)
+      → ActsRightly p (Went now (LineOut octets) ∷ log)
       → now ≡ latest log
   moment_of log now octets acts = acts.0.moment
 
   pub joins : (set : IsSetUp p) (log : Log) (c : Course) → Runs p log c → ActsRightly p log
       → Joins p (exchanges_of p log) c.works
-  joins set [] c r acts = subst (λ (x : Course). Joins p (exchanges_of p []) x.works) (sym r) (record {
-    tells = laws.begins p.link p.addresses set.some set.fit;
-    told = λ k. record { steps = refl; last = λ asdu e. cc; sent = refl };
-    left = λ due. refl;
-    mirrors = tt;
-    fits = tt;
-    skips = refl;
-  })
+  joins set [] c r acts = subst (λ (x : Course). Joins p (exchanges_of p []) x.works) (sym r)
+      (record {
+        tells = laws.begins p.link p.addresses set.some set.fit;
+        told = λ k. record { steps = refl; last = λ asdu e. cc; sent = refl };
+        left = λ due. refl;
+        mirrors = tt;
+        fits = tt;
+        skips = refl;
+      })
   joins set (Came now (LineIn octets) ∷ log) c r acts =
       let at : ℕ = latest (Came now (LineIn octets) ∷ log) in
       let left : (r.1.works.serial.silent ≡ None) × Joins p (exchanges_of p log) r.1.works =
       left_joins log r.0 r.1 (exchanges_of p log) r.4 (joins set log r.0 r.2 acts) in
-      subst (λ (x : Course). Joins p (exchanges_of p (Came now (LineIn octets) ∷ log)) x.works) (sym r.5.2)
+      subst (λ (x : Course). Joins p (exchanges_of p (Came now (LineIn octets) ∷ log)) x.works)
+      (sym r.5.2)
       (timed_joins at (record {
         ended = (exchanges_of p log).ended;
         current =
@@ -281,10 +360,12 @@ module _ (laws : LinkLaws) (stay : AnswersStay) (p : Setup) where
       let at : ℕ = latest (Came now (TcpIn octets) ∷ log) in
       let left : (r.1.works.serial.silent ≡ None) × Joins p (exchanges_of p log) r.1.works =
       left_joins log r.0 r.1 (exchanges_of p log) r.4 (joins set log r.0 r.2 acts) in
-      subst (λ (x : Course). Joins p (exchanges_of p (Came now (TcpIn octets) ∷ log)) x.works) (sym r.5.taken)
+      subst (λ (x : Course). Joins p (exchanges_of p (Came now (TcpIn octets) ∷ log)) x.works)
+      (sym r.5.taken)
       (frames_join r.5.frames at _ (exchanges_of p (Came now (TcpIn octets) ∷ log))
       (with_works (begun_works at r.1.works) r.1)
-      (taken_fit p (Came at (TcpIn octets) ∷ log) at r.5.frames (with_works (begun_works at r.1.works) r.1) r.5.each)
+      (taken_fit p (Came at (TcpIn octets) ∷ log) at r.5.frames
+      (with_works (begun_works at r.1.works) r.1) r.5.each)
       (timed_joins at (exchanges_of p log) r.1.works left.0 left.1))
   joins set (Came now Ticked ∷ log) c r acts =
       let at : ℕ = latest (Came now Ticked ∷ log) in
@@ -296,7 +377,8 @@ module _ (laws : LinkLaws) (stay : AnswersStay) (p : Setup) where
       let at : ℕ = latest (Came now (WallIs number) ∷ log) in
       let left : (r.1.works.serial.silent ≡ None) × Joins p (exchanges_of p log) r.1.works =
       left_joins log r.0 r.1 (exchanges_of p log) r.4 (joins set log r.0 r.2 acts) in
-      subst (λ (x : Course). Joins p (exchanges_of p (Came now (WallIs number) ∷ log)) x.works) (sym r.5)
+      subst (λ (x : Course). Joins p (exchanges_of p (Came now (WallIs number) ∷ log)) x.works)
+      (sym r.5)
       (timed_joins at (exchanges_of p log) r.1.works left.0 left.1)
   joins set (Came now Opened ∷ log) c r acts =
       let at : ℕ = latest (Came now Opened ∷ log) in
@@ -313,7 +395,8 @@ module _ (laws : LinkLaws) (stay : AnswersStay) (p : Setup) where
       (cut_joins (exchanges_of p (Came now CutOff ∷ log)) (begun_works at r.1.works)
       (timed_joins at (exchanges_of p log) r.1.works left.0 left.1))
   joins set (Went now (LineOut octets) ∷ log) c r acts =
-      sends_joins set log now octets r.0 c (moment_of log now octets acts) r.2 (joins set log r.0 r.1 acts.1)
+      sends_joins set log now octets r.0 c (moment_of log now octets acts) r.2
+      (joins set log r.0 r.1 acts.1)
   joins set (Went now (GapOut station session) ∷ log) c r acts =
       let before : Joins p (exchanges_of p log) r.0.works = joins set log r.0 r.1 acts.1 in
       subst (λ (x : Course). Joins p (exchanges_of p log) x.works) (sym r.2.is)

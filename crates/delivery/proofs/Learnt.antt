@@ -1,6 +1,7 @@
 -- The reports taken from a station are those that its exchanges tell.
 use Rattle.std.specs.Prelude.{◌==◌, ◌%◌, ◌||◌, ◌&&◌, option_and_then}
-use Rattle.std.proofs.Common.{◌≡◌, ℕ, Bool, true, false, List, [], ◌∷◌, ◌++◌, Option, Some, None, refl, sym, ap, ◌∙◌, append_assoc, if◌then◌else◌}
+use Rattle.std.proofs.Common.{◌≡◌, ℕ, Bool, true, false, List, [], ◌∷◌, ◌++◌, Option, Some, None}
+use Rattle.std.proofs.Common.{refl, sym, ap, ◌∙◌, append_assoc, if◌then◌else◌}
 use Rattle.std.specs.List.{flat_map}
 use Rattle.std.proofs.lemmas.Bool.{eqb-true}
 use Rattle.ft12.specs.Fronts.{front_of}
@@ -10,9 +11,12 @@ use Rattle.link.specs.declared.service.Service.TheVariants.{Class1, Class2, Comm
 use Rattle.link.specs.declared.service.Asked.{Asked}
 use Rattle.link.specs.declared.service.Asked.TheVariants.{Status, Reset, Counted}
 use Rattle.link.specs.declared.answer.Answer.{Answer}
-use Rattle.link.specs.declared.answer.Answer.TheVariants.{Ready, Confirmed, Busy, Report, NoData, Unable}
-use Rattle.link.specs.Answers.{unable_answer, service_answer, code_answer, single_answer, data_answer, comes_from, answer_of}
-use Rattle.link.specs.Exchanges.{LineExchange, with_station, views, all_of, answer_to, report_by, reports_of}
+use Rattle.link.specs.declared.answer.Answer.TheVariants.{Ready, Confirmed, Busy, Report, NoData}
+use Rattle.link.specs.declared.answer.Answer.TheVariants.{Unable}
+use Rattle.link.specs.Answers.{unable_answer, service_answer, code_answer, single_answer}
+use Rattle.link.specs.Answers.{data_answer, comes_from, answer_of}
+use Rattle.link.specs.Exchanges.{LineExchange, with_station, views, all_of, answer_to, report_by}
+use Rattle.link.specs.Exchanges.{reports_of}
 use Rattle.link.specs.Outstation.{Effect}
 use Rattle.link.specs.Delivery.{learnt_by, learnt, reports, given_by}
 use Rattle.gateway.specs.Log.{Log}
@@ -25,14 +29,16 @@ abbrev borne : Option Answer → List (List ℕ)
 borne (Some (Report asdu)) = asdu ∷ []
 borne answer = []
 
-either : (b : Bool) (x y : Option Answer) → borne x ≡ [] → borne y ≡ [] → borne (if b then x else y) ≡ []
+either : (b : Bool) (x y : Option Answer) → borne x ≡ [] → borne y ≡ [] → borne (if b then x else y)
+    ≡ []
 either true x y h k = h
 either false x y h k = k
 
 unable_bears : (code : ℕ) → borne (unable_answer code) ≡ []
 unable_bears code = either ((code == 14) || (code == 15)) (Some Unable) None refl refl
 
-command_bears : (fcb : Bool) (asdu : List ℕ) (code : ℕ) → borne (service_answer (Command asdu) code) ≡ []
+command_bears : (fcb : Bool) (asdu : List ℕ) (code : ℕ) → borne (service_answer (Command asdu) code)
+    ≡ []
 command_bears fcb asdu code =
     either (code == 0) (Some Confirmed) (if code == 1 then Some Busy else unable_answer code) refl
     (either (code == 1) (Some Busy) (unable_answer code) refl (unable_bears code))
@@ -40,22 +46,27 @@ command_bears fcb asdu code =
 -- a frame bears no report to a request whose fixed and variable frames bear none
 frame_bears : (station : ℕ) (request : Asked) (frame : Frame) → borne (single_answer request) ≡ []
     → ((code : ℕ) → borne (code_answer request code) ≡ []) →
-    ((asdu : List ℕ) → borne (data_answer request asdu) ≡ []) → borne (answer_of station request frame) ≡ []
+    ((asdu : List ℕ) → borne (data_answer request asdu) ≡ [])
+    → borne (answer_of station request frame) ≡ []
 frame_bears station request Single s c d = s
 frame_bears station request (Fixed control address) s c d =
-    either (comes_from station control address) (code_answer request (control % 16)) None (c (control % 16)) refl
+    either (comes_from station control address) (code_answer request (control % 16)) None
+    (c (control % 16)) refl
 frame_bears station request (Data control address body) s c d =
-    either (comes_from station control address && (control % 16 == 8)) (data_answer request body.items) None
+    either (comes_from station control address && (control % 16 == 8))
+    (data_answer request body.items) None
     (d body.items) refl
 
-bears_none : (station : ℕ) (request : Asked) (front : Option Frame) → borne (single_answer request) ≡ []
+bears_none : (station : ℕ) (request : Asked) (front : Option Frame) → borne (single_answer request)
+    ≡ []
     → ((code : ℕ) → borne (code_answer request code) ≡ []) →
     ((asdu : List ℕ) → borne (data_answer request asdu) ≡ [])
     → borne (option_and_then (answer_of station request) front) ≡ []
 bears_none station request None s c d = refl
 bears_none station request (Some frame) s c d = frame_bears station request frame s c d
 
-class1_learns : (fcb : Bool) (m : Option Answer) → reports (learnt_by (Counted fcb Class1) m) ≡ borne m
+class1_learns : (fcb : Bool) (m : Option Answer) → reports (learnt_by (Counted fcb Class1) m)
+    ≡ borne m
 class1_learns fcb None = refl
 class1_learns fcb (Some Ready) = refl
 class1_learns fcb (Some Confirmed) = refl
@@ -64,7 +75,8 @@ class1_learns fcb (Some (Report asdu)) = refl
 class1_learns fcb (Some NoData) = refl
 class1_learns fcb (Some Unable) = refl
 
-class2_learns : (fcb : Bool) (m : Option Answer) → reports (learnt_by (Counted fcb Class2) m) ≡ borne m
+class2_learns : (fcb : Bool) (m : Option Answer) → reports (learnt_by (Counted fcb Class2) m)
+    ≡ borne m
 class2_learns fcb None = refl
 class2_learns fcb (Some Ready) = refl
 class2_learns fcb (Some Confirmed) = refl
@@ -88,10 +100,13 @@ learns : (station : ℕ) (request : Asked) (front : Option Frame) →
     reports (learnt_by request (option_and_then (answer_of station request) front))
     ≡ borne (option_and_then (answer_of station request) front)
 learns station Status front =
-    sym (bears_none station Status front refl (λ code. either (code == 11) (Some Ready) (unable_answer code) refl
+    sym
+    (bears_none station Status front refl
+    (λ code. either (code == 11) (Some Ready) (unable_answer code) refl
     (unable_bears code)) (λ asdu. refl))
 learns station Reset front =
-    sym (bears_none station Reset front refl (λ code. either (code == 0) (Some Confirmed) None refl refl)
+    sym (bears_none station Reset front refl (λ code. either (code == 0) (Some Confirmed) None refl
+    refl)
     (λ asdu. refl))
 learns station (Counted fcb Class1) front = class1_learns fcb
     (option_and_then (answer_of station (Counted fcb Class1)) front)
@@ -99,16 +114,19 @@ learns station (Counted fcb Class2) front = class2_learns fcb
     (option_and_then (answer_of station (Counted fcb Class2)) front)
 learns station (Counted fcb (Command asdu)) front =
     command_learns fcb asdu (option_and_then (answer_of station (Counted fcb (Command asdu))) front)
-    ∙ sym (bears_none station (Counted fcb (Command asdu)) front refl (λ code. command_bears fcb asdu code)
+    ∙ sym (bears_none station (Counted fcb (Command asdu)) front refl
+    (λ code. command_bears fcb asdu code)
     (λ body. refl))
 
 reports-append : (first bs : List Effect) → reports (first ++ bs) ≡ reports first ++ reports bs
 reports-append [] bs = refl
-reports-append (e ∷ first) bs = ap (λ (l : List (List ℕ)). given_by e ++ l) (reports-append first bs)
+reports-append (e ∷ first) bs =
+    ap (λ (l : List (List ℕ)). given_by e ++ l) (reports-append first bs)
     ∙ sym (append_assoc (given_by e) (reports first) (reports bs))
 
 values_of-report : (i station : ℕ) (m : Option Answer) (rest : List (ℕ × List ℕ)) →
-    values_of i (report_by station m ++ rest) ≡ (if station == i then borne m ++ values_of i rest else values_of i rest)
+    values_of i (report_by station m ++ rest) ≡ (if station == i then borne m ++ values_of i rest
+    else values_of i rest)
 values_of-report i station m rest = go m
   where
     same : (b : Bool) → values_of i rest ≡ (if b then values_of i rest else values_of i rest)
@@ -136,13 +154,17 @@ station_reports address i (e ∷ es) =
         ≡ reports (learnt (address i) (with_station i es)) →
         (if b then borne (answer_to (address e.station) e.exchange)
         ++ values_of i (reports_of address es) else values_of i (reports_of address es))
-        ≡ reports (learnt (address i) (if b then e.exchange ∷ with_station i es else with_station i es))
+        ≡ reports (learnt (address i) (if b then e.exchange ∷ with_station i es
+        else with_station i es))
     go true same ih =
-        ap (λ (s : ℕ). borne (answer_to (address s) e.exchange) ++ values_of i (reports_of address es))
+        ap (λ (s : ℕ). borne (answer_to (address s) e.exchange)
+        ++ values_of i (reports_of address es))
         (eqb-true e.station i same)
         ∙ ap (λ (l : List (List ℕ)). l ++ values_of i (reports_of address es))
         (sym (learns (address i) e.exchange.request e.exchange.front))
-        ∙ ap (λ (l : List (List ℕ)). reports (learnt_by e.exchange.request (answer_to (address i) e.exchange)) ++ l) ih
+        ∙ ap
+        (λ (l : List (List ℕ)). reports
+        (learnt_by e.exchange.request (answer_to (address i) e.exchange)) ++ l) ih
         ∙ sym (reports-append (learnt_by e.exchange.request (answer_to (address i) e.exchange))
         (learnt (address i) (with_station i es)))
     go false same ih = ih

@@ -24,4 +24,6 @@ pub mod Settings
 pub mod Confirmed
 pub mod InTime
 pub mod Lasting
+pub mod Parts
+pub mod HasCome
 mod Examples

@@ -1,6 +1,8 @@
 -- The exchanges of the line, and what the course tells of them, as the line goes on.
 use Rattle.std.specs.Prelude.{◌==◌, ◌&&◌, ◌||◌, not, nat_le, option_and_then, slice_index}
-use Rattle.std.proofs.Common.{◌≡◌, ℕ, ◌<◌, ◌+◌, eq-eqb, Bool, true, false, All, List, [], ◌∷◌, ◌++◌, inl, inr, length, Option, Some, None, refl, ap, sym, subst, ◌∙◌, if◌then◌else◌}
+use Rattle.std.proofs.Common.{◌≡◌, ℕ, ◌<◌, ◌+◌, eq-eqb, Bool, true, false, All, List, [], ◌∷◌, ◌++◌}
+use Rattle.std.proofs.Common.{inl, inr, length, Option, Some, None, refl, ap, sym, subst, ◌∙◌}
+use Rattle.std.proofs.Common.{if◌then◌else◌}
 use Rattle.std.proofs.lemmas.List.{append-nil}
 use Rattle.std.proofs.lemmas.Bool.{eqb-true}
 use Rattle.ft12.specs.declared.frame.Frame.{Frame}
@@ -13,7 +15,10 @@ use Rattle.link.specs.declared.settings.LinkSettings.{LinkSettings}
 use Rattle.link.specs.declared.procedure.Link.{Link}
 use Rattle.link.specs.declared.procedure.Link.TheVariants.{Down}
 use Rattle.link.specs.Answers.{answer_of}
-use Rattle.link.specs.Exchanges.{Exchange, OpenExchange, Exchanges, Sending, IsOutstanding, no_exchanges, all_of, answer_to, begun_by, heard_octets, heard_current, timed, timed_current, view, views, whole_of, with_station, reports_of_exchanges}
+use Rattle.link.specs.Exchanges.{Exchange, OpenExchange, Exchanges, Sending, IsOutstanding}
+use Rattle.link.specs.Exchanges.{no_exchanges, all_of, answer_to, begun_by, heard_octets}
+use Rattle.link.specs.Exchanges.{heard_current, timed, timed_current, view, views, whole_of}
+use Rattle.link.specs.Exchanges.{with_station, reports_of_exchanges}
 use Rattle.link.specs.Procedure.{MaySend, KeepsFrameCountBit, is_held, link_after, after_silence}
 use Rattle.link.specs.Runs.{silence_outcome}
 use Rattle.link.specs.Requests.{request_frame, request_in, FitsAddress, FitsAsked, IsUserData}
@@ -21,20 +26,30 @@ use Rattle.link.specs.Turns.{station_at}
 use Rattle.link.specs.Gaps.{gap_at}
 use Rattle.link.specs.declared.outcome.Outcome.{Outcome}
 use Rattle.link.specs.declared.outcome.Outcome.TheVariants as outcome
-use Rattle.link.specs.Primary.{Outstanding, Primary, start, asked, sending, sending_from, received, received_outcome, outcome_from, outcome_of, started, with_gap, timed_out, due_outcome, due_outcome_from, is_command, offered_to, withdrawn}
-use Rattle.link.specs.Telling.{Tells, IsCurrent, IsAwaited, IsHeard, IsOver, AreLinks, past, report_in, IsFittingSending}
+use Rattle.link.specs.Primary.{Outstanding, Primary, start, asked, sending, sending_from, received}
+use Rattle.link.specs.Primary.{received_outcome, outcome_from, outcome_of, started, with_gap}
+use Rattle.link.specs.Primary.{timed_out, due_outcome, due_outcome_from, is_command, offered_to}
+use Rattle.link.specs.Primary.{withdrawn}
+use Rattle.link.specs.Telling.{Tells, IsCurrent, IsAwaited, IsHeard, IsOver, AreLinks, past}
+use Rattle.link.specs.Telling.{report_in, IsFittingSending}
 use Rattle.command.specs.History.{History}
 use Rattle.gateway.specs.Reports.{Setup, address_at}
 use Rattle.delivery.specs.Commands.{goes_down}
-use Rattle.delivery.proofs.Steps.{last_may, front_keeps, pends, answers_proper, missed_after, counts, answered_alike}
+use Rattle.delivery.proofs.Steps.{last_may, front_keeps, pends, answers_proper, missed_after}
+use Rattle.delivery.proofs.Steps.{counts, answered_alike}
 use Rattle.delivery.proofs.History.{line_told}
-use Rattle.delivery.proofs.Exchanging.{exchanges_at, at_append, alone, other_place, IsTold, stays_told, alike_told, told_by, heard_one, heard_far, told_asked, asked_one, asked_far, told_due, closed_one, closed_far}
+use Rattle.delivery.proofs.Exchanging.{exchanges_at, at_append, alone, other_place, IsTold}
+use Rattle.delivery.proofs.Exchanging.{stays_told, alike_told, told_by, heard_one, heard_far}
+use Rattle.delivery.proofs.Exchanging.{told_asked, asked_one, asked_far, told_due, closed_one}
+use Rattle.delivery.proofs.Exchanging.{closed_far}
 
 -- what `link` proves of a primary station and the exchanges of its line
 pub record LinkLaws : Type 0 where
   pub begins : (settings : LinkSettings) (addresses : List ℕ) → 0 < length addresses
-      → All (FitsAddress settings.size) addresses → Tells settings addresses (start settings addresses) no_exchanges
-  pub octets : (settings : LinkSettings) (addresses : List ℕ) (q : Primary) (e : Exchanges) (octets : List ℕ)
+      → All (FitsAddress settings.size) addresses
+      → Tells settings addresses (start settings addresses) no_exchanges
+  pub octets : (settings : LinkSettings) (addresses : List ℕ) (q : Primary) (e : Exchanges)
+      (octets : List ℕ)
       → Tells settings addresses q e →
       Tells settings addresses (received (front_of q.settings.size) q octets)
       (record { ended = e.ended; current = heard_current octets e.current })
@@ -45,17 +60,21 @@ pub record LinkLaws : Type 0 where
         current =
             timed_current settings.answer_ms at e.current;
       })
-  pub next : (settings : LinkSettings) (addresses : List ℕ) (q : Primary) (e : Exchanges) (now : ℕ) (may_poll : Bool)
+  pub next : (settings : LinkSettings) (addresses : List ℕ) (q : Primary) (e : Exchanges) (now : ℕ)
+      (may_poll : Bool)
       → Tells settings addresses q e →
       Tells settings addresses (asked q now may_poll) (begun_by now (sending q may_poll) e)
-  pub offer : (settings : LinkSettings) (addresses : List ℕ) (q : Primary) (e : Exchanges) (station : ℕ)
+  pub offer : (settings : LinkSettings) (addresses : List ℕ) (q : Primary) (e : Exchanges)
+      (station : ℕ)
       (asdu : List ℕ) →
       station < length q.stations → IsUserData q.settings.size asdu → Tells settings addresses q e
       → Tells settings addresses (offered_to q station asdu) e
   pub withdraw : (settings : LinkSettings) (addresses : List ℕ) (q : Primary) (e : Exchanges)
       → Tells settings addresses q e → Tells settings addresses (withdrawn q) e
-  pub count : (q : Primary) (i : ℕ) (asdu : List ℕ) → length (offered_to q i asdu).stations ≡ length q.stations
-  pub octets_report : (settings : LinkSettings) (addresses : List ℕ) (q : Primary) (e : Exchanges) (octets : List ℕ)
+  pub count : (q : Primary) (i : ℕ) (asdu : List ℕ) → length (offered_to q i asdu).stations
+      ≡ length q.stations
+  pub octets_report : (settings : LinkSettings) (addresses : List ℕ) (q : Primary) (e : Exchanges)
+      (octets : List ℕ)
       → Tells settings addresses q e →
       reports_of_exchanges (front_of settings.size) (λ i. slice_index addresses i)
       (record { ended = e.ended; current = heard_current octets e.current })
@@ -68,14 +87,19 @@ pub record LinkLaws : Type 0 where
             timed_current answer_ms at e.current;
       })
       ≡ reports_of_exchanges (front_of size) address e
-  pub next_reports : (size : LinkSize) (address : ℕ → ℕ) (now : ℕ) (s : Option Sending) (e : Exchanges) →
-      reports_of_exchanges (front_of size) address (begun_by now s e) ≡ reports_of_exchanges (front_of size) address e
-  pub fit : (settings : LinkSettings) (addresses : List ℕ) (q : Primary) (e : Exchanges) (may_poll : Bool)
+  pub next_reports : (size : LinkSize) (address : ℕ → ℕ) (now : ℕ) (s : Option Sending)
+      (e : Exchanges) →
+      reports_of_exchanges (front_of size) address (begun_by now s e)
+      ≡ reports_of_exchanges (front_of size) address e
+  pub fit : (settings : LinkSettings) (addresses : List ℕ) (q : Primary) (e : Exchanges)
+      (may_poll : Bool)
       (s : Sending) → Tells settings addresses q e →
       sending q may_poll ≡ Some s → IsFittingSending settings addresses s
-  pub back : (size : LinkSize) (address : ℕ) (request : Asked) → FitsAddress size address → FitsAsked size request →
+  pub back : (size : LinkSize) (address : ℕ) (request : Asked) → FitsAddress size address
+      → FitsAsked size request →
       request_in size (spelling size (request_frame address request)) ≡ Some (address, request)
-  pub answered : (settings : LinkSettings) (addresses : List ℕ) (q : Primary) (e : Exchanges) (octets : List ℕ)
+  pub answered : (settings : LinkSettings) (addresses : List ℕ) (q : Primary) (e : Exchanges)
+      (octets : List ℕ)
       (x : OpenExchange) →
       Tells settings addresses q e → e.current ≡ Some x →
       IsOutstanding (slice_index addresses x.station) (view (front_of settings.size) x).exchange →
@@ -83,7 +107,8 @@ pub record LinkLaws : Type 0 where
       ≡ with_gap (gap_at (front_of settings.size) addresses x.station e)
       (outcome_of x.station x.request (answer_to (slice_index addresses x.station)
       (view (front_of settings.size) (heard_octets octets x)).exchange))
-  pub silent : (settings : LinkSettings) (addresses : List ℕ) (q : Primary) (e : Exchanges) (at : ℕ) (x : OpenExchange)
+  pub silent : (settings : LinkSettings) (addresses : List ℕ) (q : Primary) (e : Exchanges) (at : ℕ)
+      (x : OpenExchange)
       →
       Tells settings addresses q e → e.current ≡ Some x
       → IsOutstanding (slice_index addresses x.station) (view (front_of settings.size) x).exchange →
@@ -91,19 +116,23 @@ pub record LinkLaws : Type 0 where
       due_outcome q at ≡ silence_outcome x.station
       (link_after settings (slice_index addresses x.station) Down
       (with_station x.station (views (front_of settings.size) e.ended)))
-      (after_silence settings x.request true (link_after settings (slice_index addresses x.station) Down
+      (after_silence settings x.request true (link_after settings (slice_index addresses x.station)
+      Down
       (with_station x.station (views (front_of settings.size) e.ended))))
-  pub early : (settings : LinkSettings) (addresses : List ℕ) (q : Primary) (e : Exchanges) (at : ℕ) (x : OpenExchange) →
+  pub early : (settings : LinkSettings) (addresses : List ℕ) (q : Primary) (e : Exchanges) (at : ℕ)
+      (x : OpenExchange) →
       Tells settings addresses q e → e.current ≡ Some x
       → IsOutstanding (slice_index addresses x.station) (view (front_of settings.size) x).exchange →
-      (timed settings.answer_ms at x).closed ≡ false → (timed_out q at ≡ q) × (due_outcome q at ≡ outcome.None)
+      (timed settings.answer_ms at x).closed ≡ false → (timed_out q at ≡ q)
+      × (due_outcome q at ≡ outcome.None)
 
 -- of commands a gap tells nothing
 started_tells : (gap : Option ℕ) (station : ℕ) (h : History) → told_by (started station gap) h ≡ h
 started_tells None station h = refl
 started_tells (Some session) station h = refl
 
-gap_tells_nothing : (gap : Option ℕ) (o : Outcome) (h : History) → told_by (with_gap gap o) h ≡ told_by o h
+gap_tells_nothing : (gap : Option ℕ) (o : Outcome) (h : History) → told_by (with_gap gap o) h
+    ≡ told_by o h
 gap_tells_nothing gap (outcome.Started station) h = started_tells gap station h
 gap_tells_nothing gap (outcome.StartedGap station session) h = refl
 gap_tells_nothing gap (outcome.Report station asdu) h = refl
@@ -114,7 +143,8 @@ gap_tells_nothing gap (outcome.Empty station) h = refl
 gap_tells_nothing gap outcome.None h = refl
 
 -- an exchange with a station is the latest, or with another one
-at_last : (s : LinkSettings) (a k : ℕ) (xs : List Exchange) (station : ℕ) (x y : Exchange) (h new : History) →
+at_last : (s : LinkSettings) (a k : ℕ) (xs : List Exchange) (station : ℕ) (x y : Exchange)
+    (h new : History) →
     (station ≡ k → IsTold s a (xs ++ x ∷ []) k h → IsTold s a (xs ++ y ∷ []) k new)
     → ((k == station) ≡ false → line_told k new ≡ line_told k h) →
     IsTold s a (xs ++ alone k (record { station = station; exchange = x })) k h
@@ -128,8 +158,10 @@ at_last s a k xs station x y h new hit miss t = go (station == k) refl t
 
 -- An event's octets
 
-same_when_over : (front : List ℕ → Front) (a : ℕ) (octets : List ℕ) (x : OpenExchange) → IsOver front a x
-    → answer_to a (view front x).exchange ≡ answer_to a (view front (heard_octets octets x)).exchange
+same_when_over : (front : List ℕ → Front) (a : ℕ) (octets : List ℕ) (x : OpenExchange)
+    → IsOver front a x
+    → answer_to a (view front x).exchange
+    ≡ answer_to a (view front (heard_octets octets x)).exchange
 same_when_over front a octets x (inl closed) =
     sym (ap (λ (b : Bool). option_and_then (answer_of a x.request)
     (whole_of (front (if b then x.octets else x.octets ++ octets)))) closed)
@@ -140,14 +172,18 @@ same_when_over front a octets x (inr over) = go x.closed
         (sym (append-nil x.octets)) ∙ over.1 []
 
     go : (b : Bool) → option_and_then (answer_of a x.request) (whole_of (front x.octets))
-        ≡ option_and_then (answer_of a x.request) (whole_of (front (if b then x.octets else x.octets ++ octets)))
+        ≡ option_and_then (answer_of a x.request)
+        (whole_of (front (if b then x.octets else x.octets ++ octets)))
     go true = refl
     go false = before ∙ sym (over.1 octets)
 
-nothing_said : (front : List ℕ → Front) (a : ℕ) (x : OpenExchange) (o : Option (List ℕ)) → IsHeard front a x o
+nothing_said : (front : List ℕ → Front) (a : ℕ) (x : OpenExchange) (o : Option (List ℕ))
+    → IsHeard front a x o
     → option_and_then (answer_of a x.request) (whole_of (front x.octets)) ≡ None
-nothing_said front a x (Some octets) h = ap (λ f. option_and_then (answer_of a x.request) (whole_of f)) h.1
-nothing_said front a x None h = ap (λ xs. option_and_then (answer_of a x.request) (whole_of (front xs)))
+nothing_said front a x (Some octets) h =
+    ap (λ f. option_and_then (answer_of a x.request) (whole_of f)) h.1
+nothing_said front a x None h =
+    ap (λ xs. option_and_then (answer_of a x.request) (whole_of (front xs)))
     (sym (append-nil x.octets)) ∙ h []
 
 -- no frame stands at the front of no octets
@@ -155,49 +191,64 @@ no_front : (size : LinkSize) → whole_of (front_of size []) ≡ None
 unfolding front_of
 no_front size = refl
 
-module _ (laws : LinkLaws) (p : Setup) (q : Primary) (e : Exchanges) (tells : Tells p.link p.addresses q e) where
+module _ (laws : LinkLaws) (p : Setup) (q : Primary) (e : Exchanges)
+    (tells : Tells p.link p.addresses q e) where
   abbrev front : List ℕ → Front
   front = front_of p.link.size
 
   abbrev address : ℕ → ℕ
   address i = address_at p.addresses i
 
-  split : (k : ℕ) (c : OpenExchange) → exchanges_at front k (record { ended = e.ended; current = Some c })
+  split : (k : ℕ) (c : OpenExchange)
+      → exchanges_at front k (record { ended = e.ended; current = Some c })
       ≡ with_station k (views front e.ended) ++ alone k (view front c)
   split k c = at_append front k e.ended (c ∷ [])
 
   pub heard_told : (octets : List ℕ) (k : ℕ) (h new : History) →
-      line_told k new ≡ line_told k (told_by (received_outcome (front_of q.settings.size) q octets) h) →
+      line_told k new
+      ≡ line_told k (told_by (received_outcome (front_of q.settings.size) q octets) h) →
       IsTold p.link (address k) (exchanges_at front k e) k h
       → IsTold p.link (address k) (exchanges_at front k
       (record { ended = e.ended; current = heard_current octets e.current })) k new
   heard_told octets k h new same t = go q.outstanding e.current refl refl tells.current t
     where
       said : line_told k new ≡ line_told k (told_by (received_outcome front q octets) h)
-      said = same ∙ ap (λ (s : LinkSettings). line_told k (told_by (received_outcome (front_of s.size) q octets) h))
+      said = same
+          ∙ ap
+          (λ (s : LinkSettings). line_told k (told_by (received_outcome (front_of s.size) q octets)
+          h))
           tells.settings_are
 
       silent : q.outstanding ≡ None → line_told k new ≡ line_told k h
-      silent out = said ∙ ap (λ (o : Option Outstanding). line_told k (told_by (outcome_from front q o octets) h)) out
+      silent out = said
+          ∙ ap (λ (o : Option Outstanding). line_told k (told_by (outcome_from front q o octets) h))
+          out
 
       over : (x : OpenExchange) → q.outstanding ≡ None → IsOver front (address x.station) x
-          → IsTold p.link (address k) (exchanges_at front k (record { ended = e.ended; current = Some x })) k h →
+          → IsTold p.link (address k)
+          (exchanges_at front k (record { ended = e.ended; current = Some x })) k h →
           IsTold p.link (address k) (exchanges_at front k
           (record { ended = e.ended; current = Some (heard_octets octets x) })) k new
       over x out was t = subst (λ (l : List Exchange). IsTold p.link (address k) l k new)
           (sym (split k (heard_octets octets x)))
-          (at_last p.link (address k) k (with_station k (views front e.ended)) x.station (view front x).exchange
+          (at_last p.link (address k) k (with_station k (views front e.ended)) x.station
+          (view front x).exchange
           (view front (heard_octets octets x)).exchange h new
-          (λ here told. alike_told p.link (address k) k (with_station k (views front e.ended)) x.request
-          (view front x).exchange.front (view front (heard_octets octets x)).exchange.front x.closed x.closed h new
+          (λ here told. alike_told p.link (address k) k (with_station k (views front e.ended))
+          x.request
+          (view front x).exchange.front (view front (heard_octets octets x)).exchange.front x.closed
+          x.closed h new
           (subst (λ (i : ℕ). answer_to (address i) (view front x).exchange
           ≡ answer_to (address i) (view front (heard_octets octets x)).exchange) here
           (same_when_over front (address x.station) octets x was))
           refl (silent out) told)
-          (λ far. silent out) (subst (λ (l : List Exchange). IsTold p.link (address k) l k h) (split k x) t))
+          (λ far. silent out) (subst (λ (l : List Exchange). IsTold p.link (address k) l k h)
+          (split k x) t))
 
-      awaited : (o : Outstanding) (x : OpenExchange) → e.current ≡ Some x → IsAwaited front (address q.turn) q.turn o x
-          → IsTold p.link (address k) (exchanges_at front k (record { ended = e.ended; current = Some x })) k h →
+      awaited : (o : Outstanding) (x : OpenExchange) → e.current ≡ Some x
+          → IsAwaited front (address q.turn) q.turn o x
+          → IsTold p.link (address k)
+          (exchanges_at front k (record { ended = e.ended; current = Some x })) k h →
           IsTold p.link (address k) (exchanges_at front k
           (record { ended = e.ended; current = Some (heard_octets octets x) })) k new
       awaited o x is w t =
@@ -208,15 +259,20 @@ module _ (laws : LinkLaws) (p : Setup) (q : Primary) (e : Exchanges) (tells : Te
           ≡ line_told k
           (told_by (outcome_of x.station x.request
           (answer_to (address x.station) (view front (heard_octets octets x)).exchange)) h) =
-          said ∙ ap (λ o. line_told k (told_by o h)) (laws.answered p.link p.addresses q e octets x tells is (
+          said
+          ∙ ap (λ o. line_told k (told_by o h)) (laws.answered p.link p.addresses q e octets x tells
+          is (
             none,
             w.waits,
           ))
           ∙ ap (line_told k) (gap_tells_nothing (gap_at front p.addresses x.station e) _ h) in
-          subst (λ (l : List Exchange). IsTold p.link (address k) l k new) (sym (split k (heard_octets octets x)))
-          (at_last p.link (address k) k (with_station k (views front e.ended)) x.station (view front x).exchange
+          subst (λ (l : List Exchange). IsTold p.link (address k) l k new)
+          (sym (split k (heard_octets octets x)))
+          (at_last p.link (address k) k (with_station k (views front e.ended)) x.station
+          (view front x).exchange
           (view front (heard_octets octets x)).exchange h new
-          (λ here before. subst (λ (b : Bool). IsTold p.link (address k) (with_station k (views front e.ended)
+          (λ here before. subst (λ (b : Bool). IsTold p.link (address k)
+          (with_station k (views front e.ended)
           ++ record {
             request = x.request;
             front = (view front (heard_octets octets x)).exchange.front;
@@ -229,10 +285,13 @@ module _ (laws : LinkLaws) (p : Setup) (q : Primary) (e : Exchanges) (tells : Te
           (subst (λ (i : ℕ). answer_to (address i) (view front x).exchange ≡ None) here none) refl
           (answers_proper (address k) x.request (view front (heard_octets octets x)).exchange.front)
           (subst (λ (i : ℕ). line_told k new ≡ line_told k
-          (told_by (outcome_of i x.request (answer_to (address i) (view front (heard_octets octets x)).exchange))
+          (told_by
+          (outcome_of i x.request
+          (answer_to (address i) (view front (heard_octets octets x)).exchange))
           h)) here told)
           (subst (λ (b : Bool). IsTold p.link (address k) (with_station k (views front e.ended)
-          ++ record { request = x.request; front = (view front x).exchange.front; closed = b } ∷ []) k h) w.waits
+          ++ record { request = x.request; front = (view front x).exchange.front; closed = b } ∷ [])
+          k h) w.waits
           before)))
           (λ far. told ∙ heard_far k x.station x.request
           (answer_to (address x.station) (view front (heard_octets octets x)).exchange) h far)
@@ -240,32 +299,38 @@ module _ (laws : LinkLaws) (p : Setup) (q : Primary) (e : Exchanges) (tells : Te
 
       go : (o : Option Outstanding) (c : Option OpenExchange) → q.outstanding ≡ o → e.current ≡ c
           → IsCurrent front p.addresses q.turn q.outstanding e.current →
-          IsTold p.link (address k) (exchanges_at front k (record { ended = e.ended; current = c })) k h
+          IsTold p.link (address k) (exchanges_at front k (record { ended = e.ended; current = c }))
+          k h
           → IsTold p.link (address k) (exchanges_at front k
           (record { ended = e.ended; current = heard_current octets c })) k new
       go None None out is w t = stays_told p.link (address k)
           (exchanges_at front k (record { ended = e.ended; current = None })) k h new (silent out) t
       go None (Some x) out is w t =
           over x out (subst (IsCurrent front p.addresses q.turn None) is
-          (subst (λ (o : Option Outstanding). IsCurrent front p.addresses q.turn o e.current) out w)) t
+          (subst (λ (o : Option Outstanding). IsCurrent front p.addresses q.turn o e.current) out
+          w)) t
       go (Some o) None out is w t =
           absurd (subst (IsCurrent front p.addresses q.turn (Some o)) is
-          (subst (λ (o : Option Outstanding). IsCurrent front p.addresses q.turn o e.current) out w))
+          (subst (λ (o : Option Outstanding). IsCurrent front p.addresses q.turn o e.current) out
+          w))
       go (Some o) (Some x) out is w t = awaited o x is
           (subst (IsCurrent front p.addresses q.turn (Some o)) is
-          (subst (λ (o : Option Outstanding). IsCurrent front p.addresses q.turn o e.current) out w)) t
+          (subst (λ (o : Option Outstanding). IsCurrent front p.addresses q.turn o e.current) out
+          w)) t
 
   -- A request goes out
 
   abbrev fresh_of : Sending → Exchange
   fresh_of s = record { request = s.request; front = whole_of (front []); closed = false }
 
-  pub asked_told : (may : Bool) (s : Sending) (at k : ℕ) (h new : History) → sending q may ≡ Some s →
+  pub asked_told : (may : Bool) (s : Sending) (at k : ℕ) (h new : History) → sending q may ≡ Some s
+      →
       line_told k new ≡ line_told k (told_asked (is_command s.request
       && not (is_held (station_at q.stations s.station).link)) s.station s.request h) →
       IsTold p.link (address k) (exchanges_at front k e) k h
       → IsTold p.link (address k) (exchanges_at front k (begun_by at (Some s) e)) k new
-  asked_told may s at k h new is same t = subst (λ (l : List Exchange). IsTold p.link (address k) l k new) (sym added)
+  asked_told may s at k h new is same t =
+      subst (λ (l : List Exchange). IsTold p.link (address k) l k new) (sym added)
       (at_end (s.station == k) refl)
     where
       added : exchanges_at front k (begun_by at (Some s) e) ≡ exchanges_at front k e
@@ -281,45 +346,61 @@ module _ (laws : LinkLaws) (p : Setup) (q : Primary) (e : Exchanges) (tells : Te
 
       free : (o : Option Outstanding) → q.outstanding ≡ o → q.outstanding ≡ None
       free None out = out
-      free (Some o) out = let no : None ≡ Some s = sym (ap (λ (x : Option Outstanding). sending_from q x may) out) ∙ is
+      free (Some o) out = let no : None ≡ Some s =
+          sym (ap (λ (x : Option Outstanding). sending_from q x may) out) ∙ is
           in cc
 
-      link_is : link_after p.link (address k) Down (exchanges_at front k e) ≡ (station_at q.stations k).link
-      link_is = subst (λ (o : Option Outstanding). AreLinks front p.link p.addresses q.stations (past o e))
+      link_is : link_after p.link (address k) Down (exchanges_at front k e)
+          ≡ (station_at q.stations k).link
+      link_is =
+          subst (λ (o : Option Outstanding). AreLinks front p.link p.addresses q.stations
+          (past o e))
           (free q.outstanding refl) tells.links k
 
-      hit : s.station ≡ k → (s.station == k) ≡ true → IsTold p.link (address k) (exchanges_at front k e ++ (fresh_of s)
+      hit : s.station ≡ k → (s.station == k) ≡ true
+          → IsTold p.link (address k) (exchanges_at front k e ++ (fresh_of s)
           ∷ []) k new
       hit here test =
           let link : Link = link_after p.link (address k) Down (exchanges_at front k e) in
-          let all : exchanges_at front k (begun_by at (Some s) e) ≡ exchanges_at front k e ++ (fresh_of s) ∷ [] = added
-          ∙ ap (λ (b : Bool). exchanges_at front k e ++ (if b then (fresh_of s) ∷ [] else [])) test in
-          let kept : KeepsFrameCountBit p.link (address k) Down (exchanges_at front k (begun_by at (Some s) e)) =
+          let all : exchanges_at front k (begun_by at (Some s) e) ≡ exchanges_at front k e
+          ++ (fresh_of s) ∷ [] = added
+          ∙ ap (λ (b : Bool). exchanges_at front k e ++ (if b then (fresh_of s) ∷ [] else []))
+          test in
+          let kept : KeepsFrameCountBit p.link (address k) Down
+          (exchanges_at front k (begun_by at (Some s) e)) =
           subst (λ (o : Option Sending). KeepsFrameCountBit p.link (address k) Down
           (exchanges_at front k (begun_by at o e))) is
           ((laws.next p.link p.addresses q e at may tells).keeps k) in
-          let may_send : MaySend link s.request = last_may p.link (address k) Down (exchanges_at front k e)
+          let may_send : MaySend link s.request =
+          last_may p.link (address k) Down (exchanges_at front k e)
           (fresh_of s) (subst (KeepsFrameCountBit p.link (address k) Down) all kept) in
           let held : (station_at q.stations s.station).link ≡ link =
           ap (λ (i : ℕ). (station_at q.stations i).link) here ∙ sym link_is in
-          asked_one p.link (address k) k (exchanges_at front k e) s.request (whole_of (front [])) link h new
-          (ap (λ (o : Option Frame). option_and_then (answer_of (address k) s.request) o) (no_front p.link.size))
+          asked_one p.link (address k) k (exchanges_at front k e) s.request (whole_of (front []))
+          link h new
+          (ap (λ (o : Option Frame). option_and_then (answer_of (address k) s.request) o)
+          (no_front p.link.size))
           may_send (pends p.link (address k) Down None (exchanges_at front k e) (tells.keeps k) tt)
           (same ∙ ap (λ (l : Link). line_told k (told_asked (is_command s.request
           && not (is_held l)) s.station s.request h)) held
-          ∙ ap (λ (i : ℕ). line_told k (told_asked (is_command s.request && not (is_held link)) i s.request h)) here) t
+          ∙ ap
+          (λ (i : ℕ). line_told k (told_asked (is_command s.request && not (is_held link)) i
+          s.request h)) here) t
 
       at_end : (b : Bool) → (s.station == k) ≡ b → IsTold p.link (address k) (exchanges_at front k e
           ++ alone k (record { station = s.station; exchange = (fresh_of s) })) k new
       at_end true test =
           subst (λ (b : Bool). IsTold p.link (address k) (exchanges_at front k e
-          ++ (if b then (fresh_of s) ∷ [] else [])) k new) (sym test) (hit (eqb-true s.station k test) test)
+          ++ (if b then (fresh_of s) ∷ [] else [])) k new) (sym test)
+          (hit (eqb-true s.station k test) test)
       at_end false test =
           subst (λ (b : Bool). IsTold p.link (address k) (exchanges_at front k e
           ++ (if b then (fresh_of s) ∷ [] else [])) k new) (sym test)
-          (subst (λ (l : List Exchange). IsTold p.link (address k) l k new) (sym (append-nil (exchanges_at front k e)))
+          (subst (λ (l : List Exchange). IsTold p.link (address k) l k new)
+          (sym (append-nil (exchanges_at front k e)))
           (stays_told p.link (address k) (exchanges_at front k e) k h new (same
-          ∙ asked_far (is_command s.request && not (is_held (station_at q.stations s.station).link)) k s.station
+          ∙ asked_far (is_command s.request && not (is_held (station_at q.stations s.station).link))
+          k s.station
           s.request h (other_place s.station k test)) t))
 
   -- A moment ends an exchange
@@ -327,9 +408,11 @@ module _ (laws : LinkLaws) (p : Setup) (q : Primary) (e : Exchanges) (tells : Te
   -- one that is over stays as it is
   alike_down : (a n at : ℕ) (x : OpenExchange) → IsOver front a x →
       goes_down p.link n x.request x.closed (answer_to a (view front x).exchange)
-      ≡ goes_down p.link n x.request (timed p.link.answer_ms at x).closed (answer_to a (view front x).exchange)
+      ≡ goes_down p.link n x.request (timed p.link.answer_ms at x).closed
+      (answer_to a (view front x).exchange)
   alike_down a n at x (inl closed) =
-      ap (λ (b : Bool). goes_down p.link n x.request b (answer_to a (view front x).exchange)) (closed
+      ap (λ (b : Bool). goes_down p.link n x.request b (answer_to a (view front x).exchange))
+      (closed
       ∙ sym (ap (λ (b : Bool). b || nat_le (x.since + p.link.answer_ms) at) closed))
   alike_down a n at x (inr over) =
       let said : answer_to a (view front x).exchange ≡ Some over.0 =
@@ -342,42 +425,52 @@ module _ (laws : LinkLaws) (p : Setup) (q : Primary) (e : Exchanges) (tells : Te
   abbrev timed_exchanges : ℕ → Option OpenExchange → Exchanges
   timed_exchanges at c = record { ended = e.ended; current = timed_current p.link.answer_ms at c }
 
-  pub timed_told : (at k : ℕ) (h new : History) → line_told k new ≡ line_told k (told_due (due_outcome q at) h) →
+  pub timed_told : (at k : ℕ) (h new : History) → line_told k new
+      ≡ line_told k (told_due (due_outcome q at) h) →
       IsTold p.link (address k) (exchanges_at front k e) k h
       → IsTold p.link (address k) (exchanges_at front k (timed_exchanges at e.current)) k new
   timed_told at k h new same t = go q.outstanding e.current refl refl tells.current t
     where
       idle : q.outstanding ≡ None → line_told k new ≡ line_told k h
-      idle out = same ∙ ap (λ (o : Option Outstanding). line_told k (told_due (due_outcome_from q o at) h)) out
+      idle out = same
+          ∙ ap (λ (o : Option Outstanding). line_told k (told_due (due_outcome_from q o at) h)) out
 
       over : (x : OpenExchange) → q.outstanding ≡ None → IsOver front (address x.station) x
-          → IsTold p.link (address k) (exchanges_at front k (record { ended = e.ended; current = Some x })) k h →
+          → IsTold p.link (address k)
+          (exchanges_at front k (record { ended = e.ended; current = Some x })) k h →
           IsTold p.link (address k) (exchanges_at front k (timed_exchanges at (Some x))) k new
       over x out was t = subst (λ (l : List Exchange). IsTold p.link (address k) l k new)
           (sym (split k (timed p.link.answer_ms at x)))
-          (at_last p.link (address k) k (with_station k (views front e.ended)) x.station (view front x).exchange
+          (at_last p.link (address k) k (with_station k (views front e.ended)) x.station
+          (view front x).exchange
           (view front (timed p.link.answer_ms at x)).exchange h new
-          (λ here told. alike_told p.link (address k) k (with_station k (views front e.ended)) x.request
+          (λ here told. alike_told p.link (address k) k (with_station k (views front e.ended))
+          x.request
           (view front x).exchange.front (view front x).exchange.front x.closed
           (timed p.link.answer_ms at x).closed h new refl
-          (alike_down (address k) (missed_after (address k) 0 (with_station k (views front e.ended))) at x
+          (alike_down (address k)
+          (missed_after (address k) 0 (with_station k (views front e.ended))) at x
           (subst (λ (i : ℕ). IsOver front (address i) x) here was)) (idle out) told)
-          (λ far. idle out) (subst (λ (l : List Exchange). IsTold p.link (address k) l k h) (split k x) t))
+          (λ far. idle out) (subst (λ (l : List Exchange). IsTold p.link (address k) l k h)
+          (split k x) t))
 
       none_yet : (o : Outstanding) (x : OpenExchange) → IsAwaited front (address q.turn) q.turn o x
           → answer_to (address x.station) (view front x).exchange ≡ None
       none_yet o x w = ap (λ (i : ℕ). answer_to (address i) (view front x).exchange) w.station
           ∙ nothing_said front (address q.turn) x o.heard w.heard
 
-      awaited : (o : Outstanding) (x : OpenExchange) (b : Bool) → (timed p.link.answer_ms at x).closed ≡ b
+      awaited : (o : Outstanding) (x : OpenExchange) (b : Bool)
+          → (timed p.link.answer_ms at x).closed ≡ b
           → e.current ≡ Some x → IsAwaited front (address q.turn) q.turn o x →
-          IsTold p.link (address k) (with_station k (views front e.ended) ++ alone k (view front x)) k h
+          IsTold p.link (address k) (with_station k (views front e.ended) ++ alone k (view front x))
+          k h
           → IsTold p.link (address k) (with_station k (views front e.ended)
           ++ alone k (view front (timed p.link.answer_ms at x))) k new
       awaited o x false is cur w t =
           let early : due_outcome q at ≡ outcome.None =
           (laws.early p.link p.addresses q e at x tells cur (none_yet o x w, w.waits) is).1 in
-          let still : line_told k new ≡ line_told k h = same ∙ ap (λ (o : Outcome). line_told k (told_due o h)) early in
+          let still : line_told k new ≡ line_told k h = same
+          ∙ ap (λ (o : Outcome). line_told k (told_due o h)) early in
           subst (λ (b : Bool). IsTold p.link (address k) (with_station k (views front e.ended)
           ++ alone k (record {
             station = x.station;
@@ -390,22 +483,29 @@ module _ (laws : LinkLaws) (p : Setup) (q : Primary) (e : Exchanges) (tells : Te
           let due : line_told k new
           ≡ line_told k
           (told_due (silence_outcome x.station
-          (link_after p.link (address x.station) Down (with_station x.station (views front e.ended)))
+          (link_after p.link (address x.station) Down
+          (with_station x.station (views front e.ended)))
           (after_silence p.link x.request true (link_after p.link (address x.station) Down
           (with_station x.station (views front e.ended))))) h) =
           same ∙ ap (λ (o : Outcome). line_told k (told_due o h))
           (laws.silent p.link p.addresses q e at x tells cur (none_yet o x w, w.waits) is) in
-          at_last p.link (address k) k (with_station k (views front e.ended)) x.station (view front x).exchange
+          at_last p.link (address k) k (with_station k (views front e.ended)) x.station
+          (view front x).exchange
           (view front (timed p.link.answer_ms at x)).exchange h new
-          (λ here before. subst (λ (b : Bool). IsTold p.link (address k) (with_station k (views front e.ended)
-          ++ record { request = x.request; front = (view front x).exchange.front; closed = b } ∷ []) k new) (sym is)
+          (λ here before. subst (λ (b : Bool). IsTold p.link (address k)
+          (with_station k (views front e.ended)
+          ++ record { request = x.request; front = (view front x).exchange.front; closed = b } ∷ [])
+          k new) (sym is)
           (hit here (subst (λ (i : ℕ). line_told k new
           ≡ line_told k
-          (told_due (silence_outcome i (link_after p.link (address i) Down (with_station i (views front e.ended)))
+          (told_due
+          (silence_outcome i
+          (link_after p.link (address i) Down (with_station i (views front e.ended)))
           (after_silence p.link x.request true (link_after p.link (address i) Down
           (with_station i (views front e.ended))))) h)) here due)
           (subst (λ (b : Bool). IsTold p.link (address k) (with_station k (views front e.ended)
-          ++ record { request = x.request; front = (view front x).exchange.front; closed = b } ∷ []) k h) w.waits
+          ++ record { request = x.request; front = (view front x).exchange.front; closed = b } ∷ [])
+          k h) w.waits
           before)))
           (λ far. due ∙ closed_far k x.station (link_after p.link (address x.station) Down
           (with_station x.station (views front e.ended)))
@@ -413,43 +513,64 @@ module _ (laws : LinkLaws) (p : Setup) (q : Primary) (e : Exchanges) (tells : Te
           (with_station x.station (views front e.ended)))) h far) t
         where
           hit : x.station ≡ k → line_told k new ≡ line_told k
-              (told_due (silence_outcome k (link_after p.link (address k) Down (with_station k (views front e.ended)))
+              (told_due
+              (silence_outcome k
+              (link_after p.link (address k) Down (with_station k (views front e.ended)))
               (after_silence p.link x.request true (link_after p.link (address k) Down
               (with_station k (views front e.ended))))) h) →
               IsTold p.link (address k) (with_station k (views front e.ended)
-              ++ record { request = x.request; front = (view front x).exchange.front; closed = false } ∷ []) k h →
+              ++ record {
+                request = x.request;
+                front = (view front x).exchange.front;
+                closed =
+                    false;
+              } ∷ []) k h →
               IsTold p.link (address k) (with_station k (views front e.ended)
-              ++ record { request = x.request; front = (view front x).exchange.front; closed = true } ∷ []) k new
+              ++ record {
+                request = x.request;
+                front = (view front x).exchange.front;
+                closed =
+                    true;
+              } ∷ []) k new
           hit here told before =
               let ended : List Exchange = with_station k (views front e.ended) in
               let all : exchanges_at front k e ≡ ended ++ (view front x).exchange ∷ [] =
-              ap (λ (c : Option OpenExchange). exchanges_at front k (record { ended = e.ended; current = c })) cur
-              ∙ split k x ∙ ap (λ (b : Bool). ended ++ (if b then (view front x).exchange ∷ [] else []))
+              ap (λ (c : Option OpenExchange). exchanges_at front k
+              (record { ended = e.ended; current = c })) cur
+              ∙ split k x
+              ∙ ap (λ (b : Bool). ended ++ (if b then (view front x).exchange ∷ [] else []))
               (eq-eqb x.station k here) in
-              let kept : KeepsFrameCountBit p.link (address k) Down (ended ++ (view front x).exchange ∷ []) =
+              let kept : KeepsFrameCountBit p.link (address k) Down
+              (ended ++ (view front x).exchange ∷ []) =
               subst (KeepsFrameCountBit p.link (address k) Down) all (tells.keeps k) in
               closed_one p.link (address k) k ended x.request (view front x).exchange.front
               (link_after p.link (address k) Down ended) h new
-              (subst (λ (i : ℕ). answer_to (address i) (view front x).exchange ≡ None) here (none_yet o x w))
+              (subst (λ (i : ℕ). answer_to (address i) (view front x).exchange ≡ None) here
+              (none_yet o x w))
               (last_may p.link (address k) Down ended (view front x).exchange kept)
               (counts p.link (address k) Down 0 ended (front_keeps p.link (address k) Down ended
               (view front x).exchange kept) tt) told before
 
       go : (o : Option Outstanding) (c : Option OpenExchange) → q.outstanding ≡ o → e.current ≡ c
           → IsCurrent front p.addresses q.turn q.outstanding e.current →
-          IsTold p.link (address k) (exchanges_at front k (record { ended = e.ended; current = c })) k h
+          IsTold p.link (address k) (exchanges_at front k (record { ended = e.ended; current = c }))
+          k h
           → IsTold p.link (address k) (exchanges_at front k (timed_exchanges at c)) k new
       go None None out is w t = stays_told p.link (address k)
           (exchanges_at front k (record { ended = e.ended; current = None })) k h new (idle out) t
       go None (Some x) out is w t =
           over x out (subst (IsCurrent front p.addresses q.turn None) is
-          (subst (λ (o : Option Outstanding). IsCurrent front p.addresses q.turn o e.current) out w)) t
+          (subst (λ (o : Option Outstanding). IsCurrent front p.addresses q.turn o e.current) out
+          w)) t
       go (Some o) None out is w t =
           absurd (subst (IsCurrent front p.addresses q.turn (Some o)) is
-          (subst (λ (o : Option Outstanding). IsCurrent front p.addresses q.turn o e.current) out w))
-      go (Some o) (Some x) out is w t = subst (λ (l : List Exchange). IsTold p.link (address k) l k new)
+          (subst (λ (o : Option Outstanding). IsCurrent front p.addresses q.turn o e.current) out
+          w))
+      go (Some o) (Some x) out is w t =
+          subst (λ (l : List Exchange). IsTold p.link (address k) l k new)
           (sym (split k (timed p.link.answer_ms at x)))
           (awaited o x (timed p.link.answer_ms at x).closed refl is
           (subst (IsCurrent front p.addresses q.turn (Some o)) is
-          (subst (λ (o : Option Outstanding). IsCurrent front p.addresses q.turn o e.current) out w))
+          (subst (λ (o : Option Outstanding). IsCurrent front p.addresses q.turn o e.current) out
+          w))
           (subst (λ (l : List Exchange). IsTold p.link (address k) l k h) (split k x) t))

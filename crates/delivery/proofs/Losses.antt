@@ -1,23 +1,28 @@
 -- Each session loses at most its last report, and one without a gap loses none.
-use Rattle.std.proofs.Common.{◌≡◌, ◌⊎◌, ℕ, suc, ◌+◌, ◌≤◌, Bool, true, false, List, [], ◌∷◌, ◌++◌, length, Some, None, refl, sym, ap, subst, inl, inr, arith, if◌then◌else◌}
+use Rattle.std.proofs.Common.{◌≡◌, ◌⊎◌, ℕ, suc, ◌+◌, ◌≤◌, Bool, true, false, List, [], ◌∷◌, ◌++◌}
+use Rattle.std.proofs.Common.{length, Some, None, refl, sym, ap, subst, inl, inr, arith}
+use Rattle.std.proofs.Common.{if◌then◌else◌}
 use Rattle.std.specs.List.{AllByRecursion}
 use Rattle.std.proofs.lemmas.List.{length-append}
 use Rattle.link.specs.Outstation.{all_done}
-use Rattle.link.specs.Delivery.{Session, learnt, reports, is_gap, pending_after, IsAllOrButLast, HasReports}
+use Rattle.link.specs.Delivery.{Session, learnt, reports, is_gap, pending_after, IsAllOrButLast}
+use Rattle.link.specs.Delivery.{HasReports}
 use Rattle.link.specs.Counts.{saturated}
 use Rattle.link.specs.Gaps.{as_numbers, ended_with_gap}
 use Rattle.gateway.specs.Gaps.{gaps_of, gaps_told}
 use Rattle.gateway.specs.Log.{Log}
 use Rattle.gateway.specs.Reports.{Setup}
 use Rattle.gateway.specs.Traffic.{HasRested}
-use Rattle.delivery.specs.Sessions.{ended, gaps_in, given_in, taken_in, LosesNone, LosesLastAtMost, LoseAsTold}
+use Rattle.delivery.specs.Sessions.{ended, gaps_in, given_in, taken_in, LosesNone, LosesLastAtMost}
+use Rattle.delivery.specs.Sessions.{LoseAsTold}
 
 -- each that ended is told where it has a gap
 as_told : (station number : ℕ) (ss : List Session) → AllByRecursion (λ s. HasReports station s) ss
     → LoseAsTold station number ss (ended_with_gap station number ss)
 as_told station number [] all = refl
 as_told station number (s ∷ []) all = refl
-as_told station number (s ∷ (next ∷ later)) all = go (is_gap (pending_after station None s.exchanges)) refl
+as_told station number (s ∷ (next ∷ later)) all =
+    go (is_gap (pending_after station None s.exchanges)) refl
     (as_told station (suc number) (next ∷ later) all.1)
   where
     rest : List ℕ
@@ -30,24 +35,29 @@ as_told station number (s ∷ (next ∷ later)) all = go (is_gap (pending_after 
         → LoseAsTold station (suc number) (next ∷ later) rest →
         (LosesNone station s × LoseAsTold station (suc number) (next ∷ later)
         (as_numbers (if b then Some (saturated number) else None) ++ rest))
-        ⊎ ((others : List ℕ) × (as_numbers (if b then Some (saturated number) else None) ++ rest ≡ saturated number
-        ∷ others) × LosesLastAtMost station s × LoseAsTold station (suc number) (next ∷ later) others)
+        ⊎ ((others : List ℕ) × (as_numbers (if b then Some (saturated number) else None) ++ rest
+        ≡ saturated number
+        ∷ others) × LosesLastAtMost station s × LoseAsTold station (suc number) (next ∷ later)
+        others)
     go true e ih = inr (rest, refl, all.0.most, ih)
     go false e ih = inl (all.0.all e, ih)
 
-pub told_so : (station : ℕ) (ss : List Session) (told : List ℕ) → AllByRecursion (λ s. HasReports station s) ss
+pub told_so : (station : ℕ) (ss : List Session) (told : List ℕ)
+    → AllByRecursion (λ s. HasReports station s) ss
     → told ≡ ended_with_gap station 1 ss → LoseAsTold station 1 ss told
 told_so station ss told all is = subst (LoseAsTold station 1 ss) (sym is) (as_told station 1 ss all)
 
 -- once a step is over each gap is told
-pub gaps_rested : (p : Setup) (log : Log) (i : ℕ) → HasRested p log → gaps_told i log ≡ gaps_of p i log
+pub gaps_rested : (p : Setup) (log : Log) (i : ℕ) → HasRested p log → gaps_told i log
+    ≡ gaps_of p i log
 gaps_rested p [] i rests = refl
 gaps_rested p (entry ∷ log) i rests = rests.gaps i
 
 -- at most one fewer
 within_one : (all some : List (List ℕ)) → IsAllOrButLast all some
     → (length some ≤ length all) × (length all ≤ length some + 1)
-within_one all some (inl same) = let even : length some ≡ length all = ap length same in (omega arith, omega arith)
+within_one all some (inl same) = let even : length some ≡ length all = ap length same in
+    (omega arith, omega arith)
 within_one all some (inr more) =
     let whole : length (some ++ more.0 ∷ []) ≡ length all = ap length more.1 in
     let one : length (some ++ more.0 ∷ []) ≡ length some + 1 = length-append some (more.0 ∷ []) in
@@ -58,7 +68,8 @@ pub record AreWithin (station : ℕ) (ss : List Session) : Type 0 where
   pub taken : taken_in station ss ≤ given_in ss
   pub lost : given_in ss ≤ taken_in station ss + gaps_in station ss
 
-within_more : (station : ℕ) (s : Session) (ss : List Session) → HasReports station s → AreWithin station ss
+within_more : (station : ℕ) (s : Session) (ss : List Session) → HasReports station s
+    → AreWithin station ss
     → AreWithin station (s ∷ ss)
 within_more station s ss has h = go (is_gap (pending_after station None s.exchanges)) refl
   where
@@ -71,7 +82,8 @@ within_more station s ss has h = go (is_gap (pending_after station None s.exchan
     one : (took ≤ gave) × (gave ≤ took + 1)
     one = within_one (reports (all_done s.turns)) (reports (learnt station s.exchanges)) has.most
 
-    go : (b : Bool) → is_gap (pending_after station None s.exchanges) ≡ b → AreWithin station (s ∷ ss)
+    go : (b : Bool) → is_gap (pending_after station None s.exchanges) ≡ b
+        → AreWithin station (s ∷ ss)
     go true e = record {
       taken = omega (arith, one.0, h.taken);
       lost = rw e (omega (arith, one.1, h.lost));

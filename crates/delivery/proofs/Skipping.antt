@@ -1,6 +1,7 @@
 -- What is counted as skipped are the reports that are skipped.
 use Rattle.std.specs.Prelude.{◌==◌, slice_index, map}
-use Rattle.std.proofs.Common.{◌≡◌, ℕ, suc, ◌&&◌, Bool, true, false, not, Option, Some, None, List, [], ◌∷◌, ◌++◌, length, refl, ap, sym, ◌∙◌, arith, if◌then◌else◌}
+use Rattle.std.proofs.Common.{◌≡◌, ℕ, suc, ◌&&◌, Bool, true, false, not, Option, Some, None, List}
+use Rattle.std.proofs.Common.{[], ◌∷◌, ◌++◌, length, refl, ap, sym, ◌∙◌, arith, if◌then◌else◌}
 use Rattle.std.proofs.lemmas.Bool.{eqb-true}
 use Rattle.elements.specs.declared.types.TypeId.{TypeId}
 use Rattle.elements.specs.Types.{type_of}
@@ -8,11 +9,14 @@ use Rattle.asdu.specs.declared.sizes.Sizes.{Sizes}
 use Rattle.asdu.specs.Asdu.{AsduValue, Info}
 use Rattle.asdu.specs.Fields.{value_at}
 use Rattle.asdu.specs.Refusals.{is_read}
-use Rattle.asdu.specs.InformationObjects.{InformationObject, object_in, typed_objects, objects_of, is_passed_on, is_typed_passed_on, only_if, monitor_objects_of}
+use Rattle.asdu.specs.InformationObjects.{InformationObject, object_in, typed_objects, objects_of}
+use Rattle.asdu.specs.InformationObjects.{is_passed_on, is_typed_passed_on, only_if}
+use Rattle.asdu.specs.InformationObjects.{monitor_objects_of}
 use Rattle.link.specs.Counts.{saturated}
 use Rattle.gateway.specs.declared.counts.Tally.{Tally}
 use Rattle.gateway.specs.Objects.{monitor_objects}
-use Rattle.gateway.specs.Counting.{one_more, one_skipped, one_lost, is_answer_type, counted_by, counted}
+use Rattle.gateway.specs.Counting.{one_more, one_skipped, one_lost, is_answer_type, counted_by}
+use Rattle.gateway.specs.Counting.{counted}
 use Rattle.gateway.specs.Works.{is_command_by, is_command_report}
 use Rattle.delivery.specs.Joined.{is_skipped, skipped_among}
 
@@ -31,18 +35,22 @@ some_object n = go (suc n == 0) refl
     go true e = let no : suc n ≡ 0 = eqb-true (suc n) 0 e in absurd (omega (arith, no))
     go false e = refl
 
-by_first : (answers passed : Bool) (c : Tally) (o : InformationObject) (os : List InformationObject) → answers ≡ false →
+by_first : (answers passed : Bool) (c : Tally) (o : InformationObject) (os : List InformationObject)
+    → answers ≡ false →
     (if answers then c else (if passed then c else one_skipped c)).skipped
     ≡ skips_if (length (only_if passed (o ∷ os)) == 0) c.skipped
 by_first true passed c o os h = cc
-by_first false true c o os h = ap (λ (b : Bool). skips_if b c.skipped) (sym (some_object (length os)))
+by_first false true c o os h =
+    ap (λ (b : Bool). skips_if b c.skipped) (sym (some_object (length os)))
 by_first false false c o os h = refl
 
-by_infos : (v : AsduValue) (infos : List Info) (c : Tally) → is_command_by (map (object_in v) infos) ≡ false →
+by_infos : (v : AsduValue) (infos : List Info) (c : Tally) → is_command_by (map (object_in v) infos)
+    ≡ false →
     (counted_by (map (object_in v) infos) c).skipped ≡ skips_if
     (length (only_if (is_passed_on v.kind v.cause) (map (object_in v) infos)) == 0) c.skipped
 by_infos v [] c h = no_objects (is_passed_on v.kind v.cause) c.skipped
-by_infos v (i ∷ infos) c h = by_first (is_answer_type v.kind) (is_passed_on v.kind v.cause) c (object_in v i)
+by_infos v (i ∷ infos) c h = by_first (is_answer_type v.kind) (is_passed_on v.kind v.cause) c
+    (object_in v i)
     (map (object_in v) infos) h
 
 by_parts : (sizes : Sizes) (xs : List ℕ) (reads : Bool) (t : Option TypeId) (c : Tally)
@@ -66,13 +74,15 @@ skipped_by true n = suc n
 skipped_by false n = n
 
 skipped_more : (sizes : Sizes) (rs : List (ℕ × List ℕ)) (r : ℕ × List ℕ)
-    → skipped_among sizes (rs ++ r ∷ []) ≡ skipped_by (is_skipped sizes r.1) (skipped_among sizes rs)
+    → skipped_among sizes (rs ++ r ∷ [])
+    ≡ skipped_by (is_skipped sizes r.1) (skipped_among sizes rs)
 skipped_more sizes [] r = go (is_skipped sizes r.1)
   where
     go : (b : Bool) → (if b then suc 0 else 0) ≡ skipped_by b 0
     go true = refl
     go false = refl
-skipped_more sizes (x ∷ rs) r = go (is_skipped sizes x.1) (is_skipped sizes r.1) (skipped_more sizes rs r)
+skipped_more sizes (x ∷ rs) r = go (is_skipped sizes x.1) (is_skipped sizes r.1)
+    (skipped_more sizes rs r)
   where
     go : (b c : Bool) → skipped_among sizes (rs ++ r ∷ []) ≡ skipped_by c (skipped_among sizes rs) →
         (if b then suc (skipped_among sizes (rs ++ r ∷ [])) else skipped_among sizes (rs ++ r ∷ []))
@@ -88,14 +98,18 @@ one_saturated n = omega arith
 -- a report that is no answer to a command
 pub skip_one : (sizes : Sizes) (station : ℕ) (report : List ℕ) (c : Tally) (rs : List (ℕ × List ℕ))
     → is_command_report sizes report ≡ false → c.skipped ≡ saturated (skipped_among sizes rs) →
-    (counted sizes report c).skipped ≡ saturated (skipped_among sizes (rs ++ (station, report) ∷ []))
+    (counted sizes report c).skipped
+    ≡ saturated (skipped_among sizes (rs ++ (station, report) ∷ []))
 skip_one sizes station report c rs plain h = go (length (monitor_objects sizes report) == 0)
-    (is_command_report sizes report) plain (counting sizes report c plain) (skipped_more sizes rs (station, report))
+    (is_command_report sizes report) plain (counting sizes report c plain)
+    (skipped_more sizes rs (station, report))
   where
-    go : (none command : Bool) → command ≡ false → (counted sizes report c).skipped ≡ skips_if none c.skipped
+    go : (none command : Bool) → command ≡ false → (counted sizes report c).skipped
+        ≡ skips_if none c.skipped
         → skipped_among sizes (rs ++ (station, report) ∷ [])
         ≡ skipped_by (none && not command) (skipped_among sizes rs) →
-        (counted sizes report c).skipped ≡ saturated (skipped_among sizes (rs ++ (station, report) ∷ []))
+        (counted sizes report c).skipped
+        ≡ saturated (skipped_among sizes (rs ++ (station, report) ∷ []))
     go none true is count more = cc
     go true false is count more = count ∙ ap one_more h ∙ one_saturated (skipped_among sizes rs)
         ∙ ap saturated (sym more)

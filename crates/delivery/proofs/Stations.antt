@@ -1,18 +1,25 @@
 -- Each exchange of a log is one of a station of the settings.
 use Rattle.std.specs.Prelude.{◌==◌, option_map, option_and_then}
-use Rattle.std.proofs.Common.{◌≡◌, ℕ, suc, ◌<◌, Bool, true, false, List, [], ◌∷◌, ◌++◌, length, Option, Some, None, refl, subst, arith, if◌then◌else◌}
+use Rattle.std.proofs.Common.{◌≡◌, ℕ, suc, ◌<◌, Bool, true, false, List, [], ◌∷◌, ◌++◌, length}
+use Rattle.std.proofs.Common.{Option, Some, None, refl, subst, arith, if◌then◌else◌}
 use Rattle.std.specs.List.{AllByRecursion}
 use Rattle.ft12.specs.declared.frame.Front.{Front}
 use Rattle.ft12.specs.Fronts.{front_of}
 use Rattle.link.specs.declared.service.Asked.{Asked}
 use Rattle.link.specs.declared.answer.Answer.{Answer}
-use Rattle.link.specs.declared.answer.Answer.TheVariants.{Report, Ready, Confirmed, Busy, NoData, Unable}
-use Rattle.link.specs.Exchanges.{OpenExchange, Exchanges, Sending, as_list, all_of, heard_current, timed_current, begun_by, view, views, answer_to, report_by, reports_of}
+use Rattle.link.specs.declared.answer.Answer.TheVariants.{Report, Ready, Confirmed, Busy, NoData}
+use Rattle.link.specs.declared.answer.Answer.TheVariants.{Unable}
+use Rattle.link.specs.Exchanges.{OpenExchange, Exchanges, Sending, as_list, all_of, heard_current}
+use Rattle.link.specs.Exchanges.{timed_current, begun_by, view, views, answer_to, report_by}
+use Rattle.link.specs.Exchanges.{reports_of}
 use Rattle.link.specs.Requests.{request_in}
-use Rattle.gateway.specs.Log.{Log, Came, Went, Opened, LineIn, TcpIn, CutOff, Ticked, WallIs, LineOut, TcpOut, Closed, GapOut, latest}
-use Rattle.gateway.specs.Reports.{Setup, address_at, index_of, sent_to, sending_in, exchanges_of, reports_in}
+use Rattle.gateway.specs.Log.{Log, Came, Went, Opened, LineIn, TcpIn, CutOff, Ticked, WallIs}
+use Rattle.gateway.specs.Log.{LineOut, TcpOut, Closed, GapOut, latest}
+use Rattle.gateway.specs.Reports.{Setup, address_at, index_of, sent_to, sending_in, exchanges_of}
+use Rattle.gateway.specs.Reports.{reports_in}
 
-index_within : (address : ℕ) (addresses : List ℕ) (i : ℕ) → index_of address addresses ≡ Some i → i < length addresses
+index_within : (address : ℕ) (addresses : List ℕ) (i : ℕ) → index_of address addresses ≡ Some i
+    → i < length addresses
 index_within address [] i h = cc
 index_within address (a ∷ addresses) i h = go (a == address) (index_of address addresses)
     (λ j. index_within address addresses j) h
@@ -21,7 +28,8 @@ index_within address (a ∷ addresses) i h = go (a == address) (index_of address
         → (if b then Some 0 else option_map suc m) ≡ Some i → i < suc (length addresses)
     go true m ih e = let z : 0 ≡ i = cc in subst (λ n. n < suc (length addresses)) z (omega arith)
     go false None ih e = cc
-    go false (Some j) ih e = let k : suc j ≡ i = cc in let below : j < length addresses = ih j refl in
+    go false (Some j) ih e = let k : suc j ≡ i = cc in let below : j < length addresses =
+        ih j refl in
         subst (λ n. n < suc (length addresses)) k (omega (arith, below))
 
 -- the station of an exchange, if there is one, is below
@@ -33,15 +41,18 @@ record AreBelow (n : ℕ) (e : Exchanges) : Type 0 where
   ended : AllByRecursion (λ (x : OpenExchange). x.station < n) e.ended
   current : IsBelow n e.current
 
-below_heard : (n : ℕ) (octets : List ℕ) (x : Option OpenExchange) → IsBelow n x → IsBelow n (heard_current octets x)
+below_heard : (n : ℕ) (octets : List ℕ) (x : Option OpenExchange) → IsBelow n x
+    → IsBelow n (heard_current octets x)
 below_heard n octets None h = tt
 below_heard n octets (Some x) h = h
 
-below_timed : (n at ms : ℕ) (x : Option OpenExchange) → IsBelow n x → IsBelow n (timed_current ms at x)
+below_timed : (n at ms : ℕ) (x : Option OpenExchange) → IsBelow n x
+    → IsBelow n (timed_current ms at x)
 below_timed n at ms None h = tt
 below_timed n at ms (Some x) h = h
 
-all_append : (n : ℕ) (xs ys : List OpenExchange) → AllByRecursion (λ (x : OpenExchange). x.station < n) xs
+all_append : (n : ℕ) (xs ys : List OpenExchange)
+    → AllByRecursion (λ (x : OpenExchange). x.station < n) xs
     → AllByRecursion (λ (x : OpenExchange). x.station < n) ys →
     AllByRecursion (λ (x : OpenExchange). x.station < n) (xs ++ ys)
 all_append n [] ys h k = k
@@ -52,21 +63,26 @@ below_list : (n : ℕ) (x : Option OpenExchange) → IsBelow n x
 below_list n None h = tt
 below_list n (Some x) h = (h, tt)
 
-below_sent : (p : Setup) (octets : List ℕ) (s : Sending) → sending_in p octets ≡ Some s → s.station < length p.addresses
+below_sent : (p : Setup) (octets : List ℕ) (s : Sending) → sending_in p octets ≡ Some s
+    → s.station < length p.addresses
 below_sent p octets s h = go (request_in p.link.size octets) h
   where
     found : (request : Asked) (m : Option ℕ) (address : ℕ) → index_of address p.addresses ≡ m
-        → option_map (λ (i : ℕ). record { station = i; request = request }) m ≡ Some s → s.station < length p.addresses
+        → option_map (λ (i : ℕ). record { station = i; request = request }) m ≡ Some s → s.station
+        < length p.addresses
     found request None address same e = cc
     found request (Some i) address same e =
         let k : record { station = i; request = request } ≡ s = cc in
-        subst (λ (t : Sending). t.station < length p.addresses) k (index_within address p.addresses i same)
+        subst (λ (t : Sending). t.station < length p.addresses) k
+        (index_within address p.addresses i same)
 
-    go : (m : Option (ℕ × Asked)) → option_and_then (sent_to p.addresses) m ≡ Some s → s.station < length p.addresses
+    go : (m : Option (ℕ × Asked)) → option_and_then (sent_to p.addresses) m ≡ Some s → s.station
+        < length p.addresses
     go None e = cc
     go (Some request) e = found request.1 (index_of request.0 p.addresses) request.0 refl e
 
-below_begun : (p : Setup) (now : ℕ) (m : Option Sending) (octets : List ℕ) (e : Exchanges) → sending_in p octets ≡ m
+below_begun : (p : Setup) (now : ℕ) (m : Option Sending) (octets : List ℕ) (e : Exchanges)
+    → sending_in p octets ≡ m
     → AreBelow (length p.addresses) e → AreBelow (length p.addresses) (begun_by now m e)
 below_begun p now None octets e same h = h
 below_begun p now (Some s) octets e same h = record {
@@ -76,14 +92,16 @@ below_begun p now (Some s) octets e same h = record {
 }
 
 timed_below : (p : Setup) (at : ℕ) (e : Exchanges) → AreBelow (length p.addresses) e
-    → AreBelow (length p.addresses) (record { ended = e.ended; current = timed_current p.link.answer_ms at e.current })
+    → AreBelow (length p.addresses)
+    (record { ended = e.ended; current = timed_current p.link.answer_ms at e.current })
 timed_below p at e h = record {
   ended = h.ended;
   current =
       below_timed (length p.addresses) at p.link.answer_ms e.current h.current;
 }
 
-heard_below : (p : Setup) (octets : List ℕ) (at : ℕ) (e : Exchanges) → AreBelow (length p.addresses) e →
+heard_below : (p : Setup) (octets : List ℕ) (at : ℕ) (e : Exchanges)
+    → AreBelow (length p.addresses) e →
     AreBelow (length p.addresses) (record {
       ended = e.ended;
       current =
@@ -97,17 +115,22 @@ heard_below p octets at e h = record {
 
 are_below : (p : Setup) (log : Log) → AreBelow (length p.addresses) (exchanges_of p log)
 are_below p [] = record { ended = tt; current = tt }
-are_below p (Came now (LineIn octets) ∷ log) = heard_below p octets (latest (Came now (LineIn octets) ∷ log))
+are_below p (Came now (LineIn octets) ∷ log) =
+    heard_below p octets (latest (Came now (LineIn octets) ∷ log))
     (exchanges_of p log) (are_below p log)
-are_below p (Came now Opened ∷ log) = timed_below p (latest (Came now Opened ∷ log)) (exchanges_of p log)
+are_below p (Came now Opened ∷ log) = timed_below p (latest (Came now Opened ∷ log))
+    (exchanges_of p log)
     (are_below p log)
 are_below p (Came now (TcpIn octets) ∷ log) = timed_below p (latest (Came now (TcpIn octets) ∷ log))
     (exchanges_of p log) (are_below p log)
-are_below p (Came now CutOff ∷ log) = timed_below p (latest (Came now CutOff ∷ log)) (exchanges_of p log)
+are_below p (Came now CutOff ∷ log) = timed_below p (latest (Came now CutOff ∷ log))
+    (exchanges_of p log)
     (are_below p log)
-are_below p (Came now Ticked ∷ log) = timed_below p (latest (Came now Ticked ∷ log)) (exchanges_of p log)
+are_below p (Came now Ticked ∷ log) = timed_below p (latest (Came now Ticked ∷ log))
+    (exchanges_of p log)
     (are_below p log)
-are_below p (Came now (WallIs number) ∷ log) = timed_below p (latest (Came now (WallIs number) ∷ log))
+are_below p (Came now (WallIs number) ∷ log) =
+    timed_below p (latest (Came now (WallIs number) ∷ log))
     (exchanges_of p log) (are_below p log)
 are_below p (Went now (LineOut octets) ∷ log) = below_begun p now (sending_in p octets) octets
     (exchanges_of p log) refl (are_below p log)
@@ -135,7 +158,8 @@ reports_below n front address (x ∷ xs) h =
     (reports_of address (views front xs)) h.0 (reports_below n front address xs h.1)
 
 -- each report is from one of the stations
-pub reporters : (p : Setup) (log : Log) → AllByRecursion (λ (r : ℕ × List ℕ). r.0 < length p.addresses)
+pub reporters : (p : Setup) (log : Log)
+    → AllByRecursion (λ (r : ℕ × List ℕ). r.0 < length p.addresses)
     (reports_in p log)
 reporters p log =
     let h = are_below p log in

@@ -1,5 +1,6 @@
 -- How the steps of commands grow with the exchanges of a station.
-use Rattle.std.proofs.Common.{◌≡◌, ℕ, suc, Bool, true, false, List, [], ◌∷◌, ◌++◌, Option, Some, None, refl, ap, sym, ◌∙◌, append_assoc, nat_lt, if◌then◌else◌}
+use Rattle.std.proofs.Common.{◌≡◌, ℕ, suc, Bool, true, false, List, [], ◌∷◌, ◌++◌, Option, Some}
+use Rattle.std.proofs.Common.{None, refl, ap, sym, ◌∙◌, append_assoc, nat_lt, if◌then◌else◌}
 use Rattle.std.specs.Prelude.{◌==◌, ◌%◌, ◌||◌, ◌&&◌, option_and_then}
 use Rattle.std.proofs.lemmas.List.{append-nil}
 use Rattle.ft12.specs.declared.frame.Frame.{Frame}
@@ -9,29 +10,37 @@ use Rattle.link.specs.declared.service.Service.TheVariants.{Class1, Class2, Comm
 use Rattle.link.specs.declared.service.Asked.{Asked}
 use Rattle.link.specs.declared.service.Asked.TheVariants.{Status, Reset, Counted}
 use Rattle.link.specs.declared.answer.Answer.{Answer}
-use Rattle.link.specs.declared.answer.Answer.TheVariants.{Ready, Confirmed, Busy, Report, NoData, Unable}
+use Rattle.link.specs.declared.answer.Answer.TheVariants.{Ready, Confirmed, Busy, Report, NoData}
+use Rattle.link.specs.declared.answer.Answer.TheVariants.{Unable}
 use Rattle.link.specs.declared.settings.LinkSettings.{LinkSettings}
 use Rattle.link.specs.declared.procedure.Link.{Link}
 use Rattle.link.specs.declared.procedure.Link.TheVariants.{Down, Available, Next, Held}
-use Rattle.link.specs.Answers.{unable_answer, code_answer, single_answer, data_answer, comes_from, answer_of}
+use Rattle.link.specs.Answers.{unable_answer, code_answer, single_answer, data_answer, comes_from}
+use Rattle.link.specs.Answers.{answer_of}
 use Rattle.link.specs.Exchanges.{Exchange, answer_to}
-use Rattle.link.specs.Procedure.{held, after, after_outcome, after_silence, link_after, missed_so_far, MaySend, KeepsFrameCountBit}
+use Rattle.link.specs.Procedure.{held, after, after_outcome, after_silence, link_after}
+use Rattle.link.specs.Procedure.{missed_so_far, MaySend, KeepsFrameCountBit}
 use Rattle.link.specs.Delivery.{pending_by, pending_after, first_sending}
-use Rattle.delivery.specs.Commands.{LineStep, said_of, missed_by, goes_down, steps_at, steps_in, first_sendings}
+use Rattle.delivery.specs.Commands.{LineStep, said_of, missed_by, goes_down, steps_at, steps_in}
+use Rattle.delivery.specs.Commands.{first_sendings}
 
 -- One more exchange
 
 pub pending_more : (a : ℕ) (pending : Option Service) (xs : List Exchange) (x : Exchange) →
-    pending_after a pending (xs ++ x ∷ []) ≡ pending_by x.request (answer_to a x) (pending_after a pending xs)
+    pending_after a pending (xs ++ x ∷ [])
+    ≡ pending_by x.request (answer_to a x) (pending_after a pending xs)
 pending_more a pending [] x = refl
-pending_more a pending (y ∷ xs) x = pending_more a (pending_by y.request (answer_to a y) pending) xs x
+pending_more a pending (y ∷ xs) x = pending_more a (pending_by y.request (answer_to a y) pending) xs
+    x
 
 -- how often in a row a counted request had no answer in time, after these exchanges
 abbrev pub missed_after : ℕ → ℕ → List Exchange → ℕ
 missed_after a missed [] = missed
-missed_after a missed (x ∷ xs) = missed_after a (missed_by x.request x.closed (answer_to a x) missed) xs
+missed_after a missed (x ∷ xs) =
+    missed_after a (missed_by x.request x.closed (answer_to a x) missed) xs
 
-pub steps_more : (s : LinkSettings) (a missed : ℕ) (pending : Option Service) (xs : List Exchange) (x : Exchange) →
+pub steps_more : (s : LinkSettings) (a missed : ℕ) (pending : Option Service) (xs : List Exchange)
+    (x : Exchange) →
     steps_in s a missed pending (xs ++ x ∷ []) ≡ steps_in s a missed pending xs
     ++ steps_at s a (missed_after a missed xs) (pending_after a pending xs) x
 steps_more s a missed pending [] x = append-nil (steps_at s a missed pending x)
@@ -55,14 +64,17 @@ sendings_more a pending (y ∷ xs) x =
     (first_sending (pending_after a pending (y ∷ xs)) x.request))
 
 pub last_may : (settings : LinkSettings) (a : ℕ) (link : Link) (xs : List Exchange) (x : Exchange) →
-    KeepsFrameCountBit settings a link (xs ++ x ∷ []) → MaySend (link_after settings a link xs) x.request
+    KeepsFrameCountBit settings a link (xs ++ x ∷ [])
+    → MaySend (link_after settings a link xs) x.request
 last_may settings a link [] x h = h.0
 last_may settings a link (y ∷ xs) x h = last_may settings a (after settings a y link) xs x h.1
 
-pub front_keeps : (settings : LinkSettings) (a : ℕ) (link : Link) (xs : List Exchange) (x : Exchange) →
+pub front_keeps : (settings : LinkSettings) (a : ℕ) (link : Link) (xs : List Exchange)
+    (x : Exchange) →
     KeepsFrameCountBit settings a link (xs ++ x ∷ []) → KeepsFrameCountBit settings a link xs
 front_keeps settings a link [] x h = tt
-front_keeps settings a link (y ∷ xs) x h = (h.0, front_keeps settings a (after settings a y link) xs x h.1)
+front_keeps settings a link (y ∷ xs) x h =
+    (h.0, front_keeps settings a (after settings a y link) xs x h.1)
 
 -- The service that isn't done is the one that the link holds.
 
@@ -77,22 +89,32 @@ held_pends : (settings : LinkSettings) (fcb : Bool) (service : Service) (missed 
 held_pends settings fcb service missed = by_repeats (nat_lt settings.retries missed) settings.hold
   where
     by_repeats : (b c : Bool)
-        → Pends (if b then (if c then Held fcb service (suc settings.retries) else Down) else Held fcb service missed)
+        → Pends (if b then (if c then Held fcb service (suc settings.retries) else Down)
+        else Held fcb service missed)
         (Some service)
     by_repeats true true = refl
     by_repeats true false = tt
     by_repeats false c = refl
 
-silent_pends : (settings : LinkSettings) (fcb : Bool) (service : Service) (closed : Bool) (link : Link)
+silent_pends : (settings : LinkSettings) (fcb : Bool) (service : Service) (closed : Bool)
+    (link : Link)
     → Pends (after_silence settings (Counted fcb service) closed link) (Some service)
-silent_pends settings fcb service true link = held_pends settings fcb service (suc (missed_so_far link))
+silent_pends settings fcb service true link =
+    held_pends settings fcb service (suc (missed_so_far link))
 silent_pends settings fcb service false link = refl
 
-counted_pends : (settings : LinkSettings) (fcb : Bool) (service : Service) (m : Option Answer) (front : Option Frame)
+counted_pends : (settings : LinkSettings) (fcb : Bool) (service : Service) (m : Option Answer)
+    (front : Option Frame)
     (closed : Bool) (link : Link) (pending : Option Service) →
-    Pends (after_outcome settings m (record { request = Counted fcb service; front = front; closed = closed }) link)
+    Pends (after_outcome settings m (record {
+      request = Counted fcb service;
+      front = front;
+      closed =
+          closed;
+    }) link)
     (pending_by (Counted fcb service) m pending)
-counted_pends settings fcb service None front closed link pending = silent_pends settings fcb service closed link
+counted_pends settings fcb service None front closed link pending =
+    silent_pends settings fcb service closed link
 counted_pends settings fcb service (Some Ready) front closed link pending = refl
 counted_pends settings fcb service (Some Confirmed) front closed link pending = refl
 counted_pends settings fcb service (Some Busy) front closed link pending = refl
@@ -113,9 +135,11 @@ down_pends Available pending h = tt
 down_pends (Next fcb) pending h = absurd h
 down_pends (Held fcb service missed) pending h = absurd h
 
-status_pends : (settings : LinkSettings) (m : Option Answer) (front : Option Frame) (closed : Bool) (link : Link)
+status_pends : (settings : LinkSettings) (m : Option Answer) (front : Option Frame) (closed : Bool)
+    (link : Link)
     (pending : Option Service) → IsDown link →
-    Pends (after_outcome settings m (record { request = Status; front = front; closed = closed }) link)
+    Pends (after_outcome settings m (record { request = Status; front = front; closed = closed })
+    link)
     (pending_by Status m pending)
 status_pends settings None front closed link pending h = tt
 status_pends settings (Some Ready) front closed link pending h = tt
@@ -125,9 +149,11 @@ status_pends settings (Some (Report asdu)) front closed link pending h = down_pe
 status_pends settings (Some NoData) front closed link pending h = down_pends link pending h
 status_pends settings (Some Unable) front closed link pending h = tt
 
-reset_pends : (settings : LinkSettings) (m : Option Answer) (front : Option Frame) (closed : Bool) (link : Link)
+reset_pends : (settings : LinkSettings) (m : Option Answer) (front : Option Frame) (closed : Bool)
+    (link : Link)
     (pending : Option Service) → IsDown link →
-    Pends (after_outcome settings m (record { request = Reset; front = front; closed = closed }) link)
+    Pends (after_outcome settings m (record { request = Reset; front = front; closed = closed })
+    link)
     (pending_by Reset m pending)
 reset_pends settings None front closed link pending h = tt
 reset_pends settings (Some Ready) front closed link pending h = down_pends link pending h
@@ -149,9 +175,11 @@ may_reset Available h = tt
 may_reset (Next fcb) h = h
 may_reset (Held fcb service missed) h = h
 
-one_pends : (settings : LinkSettings) (request : Asked) (m : Option Answer) (front : Option Frame) (closed : Bool)
+one_pends : (settings : LinkSettings) (request : Asked) (m : Option Answer) (front : Option Frame)
+    (closed : Bool)
     (link : Link) (pending : Option Service) → MaySend link request →
-    Pends (after_outcome settings m (record { request = request; front = front; closed = closed }) link)
+    Pends (after_outcome settings m (record { request = request; front = front; closed = closed })
+    link)
     (pending_by request m pending)
 one_pends settings Status m front closed link pending h =
     status_pends settings m front closed link pending (may_status link h)
@@ -160,7 +188,8 @@ one_pends settings Reset m front closed link pending h =
 one_pends settings (Counted fcb service) m front closed link pending h =
     counted_pends settings fcb service m front closed link pending
 
-pub pends : (settings : LinkSettings) (a : ℕ) (link : Link) (pending : Option Service) (xs : List Exchange)
+pub pends : (settings : LinkSettings) (a : ℕ) (link : Link) (pending : Option Service)
+    (xs : List Exchange)
     → KeepsFrameCountBit settings a link xs → Pends link pending →
     Pends (link_after settings a link xs) (pending_after a pending xs)
 pends settings a link pending [] h p = p
@@ -190,20 +219,25 @@ abbrev pub AreProper : Asked → Option Answer → Type 0
 AreProper request None = Unit {0}
 AreProper request (Some answer) = IsProper request answer
 
-either : (request : Asked) (b : Bool) (m n : Option Answer) → AreProper request m → AreProper request n
+either : (request : Asked) (b : Bool) (m n : Option Answer) → AreProper request m
+    → AreProper request n
     → AreProper request (if b then m else n)
 either request true m n h k = h
 either request false m n h k = k
 
-unable_proper : (request : Asked) (code : ℕ) → IsProper request Unable → AreProper request (unable_answer code)
+unable_proper : (request : Asked) (code : ℕ) → IsProper request Unable
+    → AreProper request (unable_answer code)
 unable_proper request code h = either request ((code == 14) || (code == 15)) (Some Unable) None h tt
 
 code_proper : (request : Asked) (code : ℕ) → AreProper request (code_answer request code)
-code_proper Status code = either Status (code == 11) (Some Ready) (unable_answer code) tt (unable_proper Status code tt)
+code_proper Status code = either Status (code == 11) (Some Ready) (unable_answer code) tt
+    (unable_proper Status code tt)
 code_proper Reset code = either Reset (code == 0) (Some Confirmed) None tt tt
-code_proper (Counted fcb Class1) code = either (Counted fcb Class1) (code == 9) (Some NoData) (unable_answer code) tt
+code_proper (Counted fcb Class1) code = either (Counted fcb Class1) (code == 9) (Some NoData)
+    (unable_answer code) tt
     (unable_proper (Counted fcb Class1) code tt)
-code_proper (Counted fcb Class2) code = either (Counted fcb Class2) (code == 9) (Some NoData) (unable_answer code) tt
+code_proper (Counted fcb Class2) code = either (Counted fcb Class2) (code == 9) (Some NoData)
+    (unable_answer code) tt
     (unable_proper (Counted fcb Class2) code tt)
 code_proper (Counted fcb (Command asdu)) code =
     either (Counted fcb (Command asdu)) (code == 0) (Some Confirmed)
@@ -225,12 +259,14 @@ data_proper (Counted fcb Class1) asdu = tt
 data_proper (Counted fcb Class2) asdu = tt
 data_proper (Counted fcb (Command command)) asdu = tt
 
-frame_proper : (a : ℕ) (request : Asked) (frame : Frame) → AreProper request (answer_of a request frame)
+frame_proper : (a : ℕ) (request : Asked) (frame : Frame)
+    → AreProper request (answer_of a request frame)
 frame_proper a request Single = single_proper request
 frame_proper a request (Fixed control address) = either request (comes_from a control address)
     (code_answer request (control % 16)) None (code_proper request (control % 16)) tt
 frame_proper a request (Data control address body) =
-    either request (comes_from a control address && (control % 16 == 8)) (data_answer request body.items) None
+    either request (comes_from a control address && (control % 16 == 8))
+    (data_answer request body.items) None
     (data_proper request body.items) tt
 
 pub answers_proper : (a : ℕ) (request : Asked) (front : Option Frame)
@@ -248,7 +284,8 @@ none_said (Counted fcb (Command asdu)) = refl
 
 -- and only a command is sent for the first time
 pub no_first : (pending : Option Service) (request : Asked)
-    → ((fcb : Bool) (asdu : List ℕ) → request ≡ Counted fcb (Command asdu) → ⊥) → first_sending pending request ≡ []
+    → ((fcb : Bool) (asdu : List ℕ) → request ≡ Counted fcb (Command asdu) → ⊥)
+    → first_sending pending request ≡ []
 no_first None Status h = refl
 no_first None Reset h = refl
 no_first None (Counted fcb Class1) h = refl
@@ -256,7 +293,8 @@ no_first None (Counted fcb Class2) h = refl
 no_first None (Counted fcb (Command asdu)) h = absurd (h fcb asdu refl)
 no_first (Some service) request h = refl
 
--- How often a service was unanswered in a row is what the link counts, as long as it is up, and may be reset
+-- How often a service was unanswered in a row is what the link counts, as long as it is up, and may
+-- be reset
 -- by silence.
 
 abbrev pub Counts : LinkSettings → Link → ℕ → Type 0
@@ -273,12 +311,14 @@ so_far s Available fcb service n may c h = absurd may
 so_far s (Next due) fcb service n may c h = c
 so_far s (Held due held missed) fcb service n may c h = c h
 
-held_counts : (s : LinkSettings) (fcb : Bool) (service : Service) (n missed : ℕ) → (s.hold ≡ false → n ≡ missed)
+held_counts : (s : LinkSettings) (fcb : Bool) (service : Service) (n missed : ℕ)
+    → (s.hold ≡ false → n ≡ missed)
     → Counts s (held s fcb service missed) n
 held_counts s fcb service n missed same = by_repeats (nat_lt s.retries missed) s.hold refl
   where
     by_repeats : (b c : Bool) → s.hold ≡ c
-        → Counts s (if b then (if c then Held fcb service (suc s.retries) else Down) else Held fcb service missed) n
+        → Counts s (if b then (if c then Held fcb service (suc s.retries) else Down)
+        else Held fcb service missed) n
     by_repeats true true is = λ no. let e : true ≡ false = sym is ∙ no in cc
     by_repeats true false is = tt
     by_repeats false c is = same
@@ -289,26 +329,36 @@ down_counts s Available n h = tt
 down_counts s (Next fcb) n h = absurd h
 down_counts s (Held fcb service missed) n h = absurd h
 
-one_counts : (s : LinkSettings) (request : Asked) (m : Option Answer) (front : Option Frame) (closed : Bool)
+one_counts : (s : LinkSettings) (request : Asked) (m : Option Answer) (front : Option Frame)
+    (closed : Bool)
     (link : Link) (n : ℕ) → MaySend link request → Counts s link n →
     Counts s (after_outcome s m (record { request = request; front = front; closed = closed }) link)
     (missed_by request closed m n)
 one_counts s Status None front closed link n may c = tt
 one_counts s Status (Some Ready) front closed link n may c = tt
-one_counts s Status (Some Confirmed) front closed link n may c = down_counts s link 0 (may_status link may)
-one_counts s Status (Some Busy) front closed link n may c = down_counts s link 0 (may_status link may)
-one_counts s Status (Some (Report asdu)) front closed link n may c = down_counts s link 0 (may_status link may)
-one_counts s Status (Some NoData) front closed link n may c = down_counts s link 0 (may_status link may)
+one_counts s Status (Some Confirmed) front closed link n may c =
+    down_counts s link 0 (may_status link may)
+one_counts s Status (Some Busy) front closed link n may c =
+    down_counts s link 0 (may_status link may)
+one_counts s Status (Some (Report asdu)) front closed link n may c =
+    down_counts s link 0 (may_status link may)
+one_counts s Status (Some NoData) front closed link n may c =
+    down_counts s link 0 (may_status link may)
 one_counts s Status (Some Unable) front closed link n may c = tt
 one_counts s Reset None front closed link n may c = tt
-one_counts s Reset (Some Ready) front closed link n may c = down_counts s link 0 (may_reset link may)
+one_counts s Reset (Some Ready) front closed link n may c =
+    down_counts s link 0 (may_reset link may)
 one_counts s Reset (Some Confirmed) front closed link n may c = refl
 one_counts s Reset (Some Busy) front closed link n may c = down_counts s link 0 (may_reset link may)
-one_counts s Reset (Some (Report asdu)) front closed link n may c = down_counts s link 0 (may_reset link may)
-one_counts s Reset (Some NoData) front closed link n may c = down_counts s link 0 (may_reset link may)
-one_counts s Reset (Some Unable) front closed link n may c = down_counts s link 0 (may_reset link may)
+one_counts s Reset (Some (Report asdu)) front closed link n may c =
+    down_counts s link 0 (may_reset link may)
+one_counts s Reset (Some NoData) front closed link n may c =
+    down_counts s link 0 (may_reset link may)
+one_counts s Reset (Some Unable) front closed link n may c =
+    down_counts s link 0 (may_reset link may)
 one_counts s (Counted fcb service) None front true link n may c =
-    held_counts s fcb service (suc n) (suc (missed_so_far link)) (λ h. ap suc (so_far s link fcb service n may c h))
+    held_counts s fcb service (suc n) (suc (missed_so_far link))
+    (λ h. ap suc (so_far s link fcb service n may c h))
 one_counts s (Counted fcb service) None front false link n may c = so_far s link fcb service n may c
 one_counts s (Counted fcb service) (Some Ready) front closed link n may c = refl
 one_counts s (Counted fcb service) (Some Confirmed) front closed link n may c = refl
@@ -317,20 +367,24 @@ one_counts s (Counted fcb service) (Some (Report asdu)) front closed link n may 
 one_counts s (Counted fcb service) (Some NoData) front closed link n may c = refl
 one_counts s (Counted fcb service) (Some Unable) front closed link n may c = tt
 
-pub counts : (s : LinkSettings) (a : ℕ) (link : Link) (n : ℕ) (xs : List Exchange) → KeepsFrameCountBit s a link xs
+pub counts : (s : LinkSettings) (a : ℕ) (link : Link) (n : ℕ) (xs : List Exchange)
+    → KeepsFrameCountBit s a link xs
     → Counts s link n → Counts s (link_after s a link xs) (missed_after a n xs)
 counts s a link n [] h c = c
-counts s a link n (x ∷ xs) h c = counts s a (after s a x link) (missed_by x.request x.closed (answer_to a x) n) xs h.1
+counts s a link n (x ∷ xs) h c =
+    counts s a (after s a x link) (missed_by x.request x.closed (answer_to a x) n) xs h.1
     (one_counts s x.request (answer_to a x) x.front x.closed link n h.0 c)
 
 -- No link goes down where an answer is still awaited.
-pub still_up : (s : LinkSettings) (missed : ℕ) (request : Asked) → goes_down s missed request false None ≡ false
+pub still_up : (s : LinkSettings) (missed : ℕ) (request : Asked)
+    → goes_down s missed request false None ≡ false
 still_up s missed Status = refl
 still_up s missed Reset = refl
 still_up s missed (Counted fcb service) = refl
 
 -- that an answered exchange is over changes nothing
-pub answered_alike : (s : LinkSettings) (missed : ℕ) (request : Asked) (closed over : Bool) (m : Answer)
+pub answered_alike : (s : LinkSettings) (missed : ℕ) (request : Asked) (closed over : Bool)
+    (m : Answer)
     → goes_down s missed request closed (Some m) ≡ goes_down s missed request over (Some m)
 answered_alike s missed request closed over Ready = refl
 answered_alike s missed request closed over Confirmed = refl

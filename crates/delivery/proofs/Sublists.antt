@@ -1,5 +1,6 @@
 -- Lists of which elements are struck out.
-use Rattle.std.proofs.Common.{◌≡◌, ℕ, zero, suc, List, [], ◌∷◌, ◌++◌, inl, inr, map, take, refl, ap, ◌∙◌}
+use Rattle.std.proofs.Common.{◌≡◌, ℕ, zero, suc, List, [], ◌∷◌, ◌++◌, inl, inr, map, take, refl, ap}
+use Rattle.std.proofs.Common.{◌∙◌}
 use Rattle.std.specs.List.{AllByRecursion}
 use Rattle.delivery.specs.Merges.{IsSublist}
 
@@ -11,12 +12,14 @@ pub sub_all : {A : Type 0} (xs : List A) → IsSublist xs xs
 sub_all {A} [] = tt
 sub_all {A} (x ∷ xs) = inl (refl, sub_all xs)
 
-pub sub_of_sub : {A : Type 0} (xs ys zs : List A) → IsSublist xs ys → IsSublist ys zs → IsSublist xs zs
+pub sub_of_sub : {A : Type 0} (xs ys zs : List A) → IsSublist xs ys → IsSublist ys zs
+    → IsSublist xs zs
 sub_of_sub {A} [] ys zs h k = tt
 sub_of_sub {A} (x ∷ xs) [] zs h k = absurd h
 sub_of_sub {A} (x ∷ xs) (y ∷ ys) [] h k = absurd k
 sub_of_sub {A} (x ∷ xs) (y ∷ ys) (z ∷ zs) h (inr k) = inr (sub_of_sub (x ∷ xs) (y ∷ ys) zs h k)
-sub_of_sub {A} (x ∷ xs) (y ∷ ys) (z ∷ zs) (inl h) (inl k) = inl (h.0 ∙ k.0, sub_of_sub xs ys zs h.1 k.1)
+sub_of_sub {A} (x ∷ xs) (y ∷ ys) (z ∷ zs) (inl h) (inl k) =
+    inl (h.0 ∙ k.0, sub_of_sub xs ys zs h.1 k.1)
 sub_of_sub {A} (x ∷ xs) (y ∷ ys) (z ∷ zs) (inr h) (inl k) = inr (sub_of_sub (x ∷ xs) ys zs h k.1)
 
 -- some elements more in front
@@ -40,7 +43,8 @@ pub sub_prefix : {A : Type 0} (xs more : List A) → IsSublist xs (xs ++ more)
 sub_prefix {A} [] more = tt
 sub_prefix {A} (x ∷ xs) more = inl (refl, sub_prefix xs more)
 
-pub all_of_sub : {A : Type 0} (P : A → Type 0) (xs ys : List A) → IsSublist xs ys → AllByRecursion P ys
+pub all_of_sub : {A : Type 0} (P : A → Type 0) (xs ys : List A) → IsSublist xs ys
+    → AllByRecursion P ys
     → AllByRecursion P xs
 all_of_sub {A} P [] ys h k = tt
 all_of_sub {A} P (x ∷ xs) [] h k = absurd h
@@ -56,7 +60,8 @@ pub record IsImage {A B : Type 0} (f : A → B) (xs : List B) (ys : List A) : Ty
   pub part : IsSublist left ys
   pub is : xs ≡ map f left
 
-pub sub_of_map : {A B : Type 0} (f : A → B) (xs : List B) (ys : List A) → IsSublist xs (map f ys) → IsImage f xs ys
+pub sub_of_map : {A B : Type 0} (f : A → B) (xs : List B) (ys : List A) → IsSublist xs (map f ys)
+    → IsImage f xs ys
 sub_of_map {A} {B} f [] ys h = record { left = []; part = tt; is = refl }
 sub_of_map {A} {B} f (x ∷ xs) [] h = absurd h
 sub_of_map {A} {B} f (x ∷ xs) (y ∷ ys) (inl h) =
@@ -71,7 +76,8 @@ sub_of_map {A} {B} f (x ∷ xs) (y ∷ ys) (inr h) =
     let rest : IsImage f (x ∷ xs) ys = sub_of_map f (x ∷ xs) ys h in
     record { left = rest.left; part = sub_skip rest.left ys y rest.part; is = rest.is }
 
-pub all_append : {X : Type 0} (P : X → Type 0) (xs ys : List X) → AllByRecursion P xs → AllByRecursion P ys
+pub all_append : {X : Type 0} (P : X → Type 0) (xs ys : List X) → AllByRecursion P xs
+    → AllByRecursion P ys
     → AllByRecursion P (xs ++ ys)
 all_append {X} P [] ys h k = k
 all_append {X} P (x ∷ xs) ys h k = (h.0, all_append P xs ys h.1 k)

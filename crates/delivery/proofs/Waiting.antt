@@ -1,5 +1,7 @@
 -- What waits for the line fits a frame.
-use Rattle.std.proofs.Common.{◌≡◌, ℕ, zero, suc, ◌+◌, ◌-◌, ◌≤◌, Bool, true, false, All, List, [], ◌∷◌, ◌++◌, length, drop, Option, Some, None, refl, ap, sym, subst, arith, length-append, if◌then◌else◌}
+use Rattle.std.proofs.Common.{◌≡◌, ℕ, zero, suc, ◌+◌, ◌-◌, ◌≤◌, Bool, true, false, All, List, []}
+use Rattle.std.proofs.Common.{◌∷◌, ◌++◌, length, drop, Option, Some, None, refl, ap, sym, subst}
+use Rattle.std.proofs.Common.{arith, length-append, if◌then◌else◌}
 use Rattle.std.specs.Prelude.{◌==◌, ◌^◌, ◌/◌, slice_index}
 use Rattle.std.specs.List.{AllByRecursion}
 use Rattle.std.specs.Int.{byte_at, bytes_low_first}
@@ -23,14 +25,19 @@ use Rattle.command.specs.declared.content.Command.{Command}
 use Rattle.command.specs.declared.content.Element.{Element}
 use Rattle.command.specs.declared.content.Element.TheVariants.{Octet, SetPoint}
 use Rattle.command.specs.declared.station.StationInfo.{StationInfo}
-use Rattle.command.specs.Command.{is_tagged, line_kind, command_at, command_octets, element_octets, is_set_point}
+use Rattle.command.specs.Command.{is_tagged, line_kind, command_at, command_octets, element_octets}
+use Rattle.command.specs.Command.{is_set_point}
 use Rattle.command.specs.Stations.{is_addressed}
 use Rattle.command.specs.State as tasks
 use Rattle.command.specs.Octets.{negative}
-use Rattle.command.specs.State.{State, oldest, oldest_for, without_oldest, put_out, has_answer_place, first_answer}
-use Rattle.command.specs.Judging.{judged, fault, by_fault, refused, admitted, placed, copies, lacks_selection, lacks_place, ends_selection, without_selection, makes_selection, selected, queued, forwarded}
+use Rattle.command.specs.State.{State, oldest, oldest_for, without_oldest, put_out}
+use Rattle.command.specs.State.{has_answer_place, first_answer}
+use Rattle.command.specs.Judging.{judged, fault, by_fault, refused, admitted, placed, copies}
+use Rattle.command.specs.Judging.{lacks_selection, lacks_place, ends_selection, without_selection}
+use Rattle.command.specs.Judging.{makes_selection, selected, queued, forwarded}
 use Rattle.command.specs.Mirrors.{mirrored}
-use Rattle.command.specs.Calls.{Call, Judge, PutOnLine, Accept, Busy, Lose, Mirror, Own, SendOwn, Cut, Due, Run, after_sending, after_answer, after_call}
+use Rattle.command.specs.Calls.{Call, Judge, PutOnLine, Accept, Busy, Lose, Mirror, Own, SendOwn}
+use Rattle.command.specs.Calls.{Cut, Due, Run, after_sending, after_answer, after_call}
 use Rattle.delivery.proofs.Sublists.{all_append}
 
 -- Octets
@@ -95,25 +102,31 @@ kind_is : (b : Bool) (n : ℕ) → IsOctet n → IsOctet (if b then n - 13 else 
 kind_is true n h = omega (arith, h)
 kind_is false n h = h
 
-command_are : (s : Sizes) (ca : ℕ) (xs : List ℕ) → All IsOctet xs → All IsOctet (command_octets s ca (command_at xs))
+command_are : (s : Sizes) (ca : ℕ) (xs : List ℕ) → All IsOctet xs
+    → All IsOctet (command_octets s ca (command_at xs))
 command_are s ca xs h =
     let c : Command = command_at xs in
     let code : ℕ = line_kind (slice_index xs 0) in
     let rest : List ℕ = drop 9 xs in
-    let element = element_are (is_set_point code) (slice_index rest 0) (slice_index rest 1) (slice_index rest 2)
+    let element = element_are (is_set_point code) (slice_index rest 0) (slice_index rest 1)
+    (slice_index rest 2)
     (octet_at rest 0 (octets_drop 9 xs h)) (octet_at rest 1 (octets_drop 9 xs h))
     (octet_at rest 2 (octets_drop 9 xs h)) in
-    let addressed = All-append IsOctet (bytes_low_first 0 (ioa_len s.ioa) c.address) (element_octets c.element)
+    let addressed = All-append IsOctet (bytes_low_first 0 (ioa_len s.ioa) c.address)
+    (element_octets c.element)
     (bytes_are 0 (ioa_len s.ioa) c.address) element in
-    let common = All-append IsOctet (bytes_low_first 0 (ca_len s.ca) ca) (bytes_low_first 0 (ioa_len s.ioa) c.address
+    let common = All-append IsOctet (bytes_low_first 0 (ca_len s.ca) ca)
+    (bytes_low_first 0 (ioa_len s.ioa) c.address
     ++ element_octets c.element) (bytes_are 0 (ca_len s.ca) ca) addressed in
     let behind : List ℕ = originator_octets s.cause c.originator
     ++ (bytes_low_first 0 (ca_len s.ca) ca ++ (bytes_low_first 0 (ioa_len s.ioa) c.address
     ++ element_octets c.element)) in
-    let all = All-append IsOctet (originator_octets s.cause c.originator) (bytes_low_first 0 (ca_len s.ca) ca
+    let all = All-append IsOctet (originator_octets s.cause c.originator)
+    (bytes_low_first 0 (ca_len s.ca) ca
     ++ (bytes_low_first 0 (ioa_len s.ioa) c.address ++ element_octets c.element))
     (originator_are s.cause c.originator (octet_at xs 3 h)) common in
-    All-cons IsOctet code (1 ∷ c.cause ∷ behind) (kind_is (is_tagged (slice_index xs 0)) (slice_index xs 0)
+    All-cons IsOctet code (1 ∷ c.cause ∷ behind)
+    (kind_is (is_tagged (slice_index xs 0)) (slice_index xs 0)
     (octet_at xs 0 h)) (All-cons IsOctet 1 (c.cause ∷ behind) (omega arith)
     (All-cons IsOctet c.cause behind (octet_at xs 2 h) all))
 
@@ -144,7 +157,8 @@ command_fits size s ca xs h = record {
 abbrev pub AllFitLine : LinkSize → List Waiting → Type 0
 AllFitLine size ws = AllByRecursion (λ (w : Waiting). IsUserData size w.octets) ws
 
-copies_fit : (size : LinkSize) (s : Sizes) (xs : List ℕ) (i : ℕ) (stations : List StationInfo) → All IsOctet xs
+copies_fit : (size : LinkSize) (s : Sizes) (xs : List ℕ) (i : ℕ) (stations : List StationInfo)
+    → All IsOctet xs
     → AllFitLine size (copies s xs i stations)
 copies_fit size s xs i [] h = tt
 copies_fit size s xs i (station ∷ stations) h = go (is_addressed (command_at xs) station)
@@ -164,27 +178,32 @@ copies_fit size s xs i (station ∷ stations) h = go (is_addressed (command_at x
 abbrev Fit : LinkSize → State → Type 0
 Fit size s = AllFitLine size s.waiting
 
-forwarded_fit : (size : LinkSize) (xs : List ℕ) (c : Command) (now : ℕ) (s : State) → All IsOctet xs → Fit size s
+forwarded_fit : (size : LinkSize) (xs : List ℕ) (c : Command) (now : ℕ) (s : State) → All IsOctet xs
+    → Fit size s
     → Fit size (forwarded xs c now s)
 forwarded_fit size xs c now s h k = go (makes_selection s.stations c)
   where
     both : (t : State) → Fit size t → Fit size (queued xs t)
-    both t f = all_append (λ (w : Waiting). IsUserData size w.octets) t.waiting (copies t.sizes xs 0 t.stations) f
+    both t f = all_append (λ (w : Waiting). IsUserData size w.octets) t.waiting
+        (copies t.sizes xs 0 t.stations) f
         (copies_fit size t.sizes xs 0 t.stations h)
 
     go : (b : Bool) → Fit size (queued xs (if b then selected c now s else s))
     go true = both (selected c now s) k
     go false = both s k
 
-placed_fit : (size : LinkSize) (xs : List ℕ) (c : Command) (now : ℕ) (s : State) → All IsOctet xs → Fit size s
+placed_fit : (size : LinkSize) (xs : List ℕ) (c : Command) (now : ℕ) (s : State) → All IsOctet xs
+    → Fit size s
     → Fit size (placed xs c now s).1
 placed_fit size xs c now s h k = go (lacks_place c s)
   where
-    go : (b : Bool) → Fit size (if b then refused (negative xs) xs s else (None, forwarded xs c now s)).1
+    go : (b : Bool) → Fit size (if b then refused (negative xs) xs s
+        else (None, forwarded xs c now s)).1
     go true = k
     go false = forwarded_fit size xs c now s h k
 
-admitted_fit : (size : LinkSize) (xs : List ℕ) (c : Command) (now : ℕ) (s : State) → All IsOctet xs → Fit size s
+admitted_fit : (size : LinkSize) (xs : List ℕ) (c : Command) (now : ℕ) (s : State) → All IsOctet xs
+    → Fit size s
     → Fit size (admitted xs c now s).1
 admitted_fit size xs c now s h k = go (lacks_selection c now s) (ends_selection c)
   where
@@ -198,7 +217,8 @@ admitted_fit size xs c now s h k = go (lacks_selection c now s) (ends_selection 
     go true d = k
     go false d = placed_fit size xs c now (if d then without_selection c s else s) h (ending d)
 
-judged_fit : (size : LinkSize) (xs : List ℕ) (now : ℕ) (wall : Option ℕ) (s : State) → All IsOctet xs → Fit size s
+judged_fit : (size : LinkSize) (xs : List ℕ) (now : ℕ) (wall : Option ℕ) (s : State)
+    → All IsOctet xs → Fit size s
     → Fit size (judged xs now wall s).1
 judged_fit size xs now wall s h k = go (fault s.sizes s.stations s.max_age_ms wall xs)
   where
@@ -216,7 +236,8 @@ without_fit size station (w ∷ ws) h = go (w.station == station) (without_fit s
     go true ih = h.1
     go false ih = (h.0, ih)
 
-put_fit : (size : LinkSize) (k : ℕ) (s : State) (o : Option Waiting) → Fit size s → Fit size (put_out o k s)
+put_fit : (size : LinkSize) (k : ℕ) (s : State) (o : Option Waiting) → Fit size s
+    → Fit size (put_out o k s)
 put_fit size k s None h = h
 put_fit size k s (Some w) h = without_fit size k s.waiting h
 
@@ -254,12 +275,15 @@ call_fits stay size SendOwn r h k = go (first_answer r.state.answers)
 call_fits stay size Cut r h k = tt
 call_fits stay size (Due now) r h k = k
 
-pub oldest_fits : (size : LinkSize) (station : ℕ) (ws : List Waiting) (w : Waiting) → AllFitLine size ws
+pub oldest_fits : (size : LinkSize) (station : ℕ) (ws : List Waiting) (w : Waiting)
+    → AllFitLine size ws
     → oldest station ws ≡ Some w → IsUserData size w.octets
 oldest_fits size station [] w h e = cc
-oldest_fits size station (v ∷ ws) w h e = go (v.station == station) (λ f. oldest_fits size station ws w h.1 f) e
+oldest_fits size station (v ∷ ws) w h e =
+    go (v.station == station) (λ f. oldest_fits size station ws w h.1 f) e
   where
     go : (b : Bool) → (oldest station ws ≡ Some w → IsUserData size w.octets)
         → (if b then Some v else oldest station ws) ≡ Some w → IsUserData size w.octets
-    go true ih e = let same : v ≡ w = cc in subst (λ (x : Waiting). IsUserData size x.octets) same h.0
+    go true ih e = let same : v ≡ w = cc in
+        subst (λ (x : Waiting). IsUserData size x.octets) same h.0
     go false ih e = ih e

@@ -1,6 +1,8 @@
 -- What the parts of a step make of the works of a course, beside its exchanges.
 use Rattle.std.specs.Prelude.{◌==◌, option_map}
-use Rattle.std.proofs.Common.{◌≡◌, ℕ, zero, suc, ◌≤◌, Bool, true, false, List, [], ◌∷◌, ◌++◌, length, Option, Some, None, refl, ap, sym, subst, ◌∙◌, arith, if◌then◌else◌}
+use Rattle.std.proofs.Common.{◌≡◌, ℕ, zero, suc, ◌≤◌, Bool, true, false, List, [], ◌∷◌, ◌++◌}
+use Rattle.std.proofs.Common.{length, Option, Some, None, refl, ap, sym, subst, ◌∙◌, arith}
+use Rattle.std.proofs.Common.{if◌then◌else◌}
 use Rattle.std.proofs.lemmas.List.{append-nil}
 use Rattle.asdu.specs.declared.sizes.Sizes.{Sizes}
 use Rattle.asdu.specs.Asdu.{AsduValue, IsAsdu}
@@ -20,20 +22,27 @@ use Rattle.link.specs.Primary.{Primary, is_command}
 use Rattle.link.specs.declared.settings.LinkSettings.{LinkSettings}
 use Rattle.link.specs.Telling.{Tells, report_in}
 use Rattle.command.specs.declared.waiting.Waiting.{Waiting}
-use Rattle.command.specs.State.{State, octets_waiting, oldest, oldest_for, put_out, given_up, is_used, line_of}
+use Rattle.command.specs.State.{State, octets_waiting, oldest, oldest_for, put_out, given_up}
+use Rattle.command.specs.State.{is_used, line_of}
 use Rattle.command.specs.Mirrors.{mirrored}
 use Rattle.command.specs.Judging.{judged}
 use Rattle.command.specs.History.{History, Sent}
 use Rattle.command.specs.Calls.{Judge, PutOnLine, Accept, Busy, Lose, Mirror, after_sending}
 use Rattle.gateway.specs.Objects.{has_objects}
 use Rattle.gateway.specs.Reports.{Setup}
-use Rattle.gateway.specs.Serial.{refusals, reported, with_gap, listed, silent_by, unless_silent, offered_by, offered_upto, put_on_line}
-use Rattle.gateway.specs.Works.{Works, tasks_of, told, LearnsOf, LearnsReport, is_command_report, mirrored_works, accepted_works, refused_works, given_up_works, heard_works, answered_works, sent_works, told_silent, settled_works, told_put}
+use Rattle.gateway.specs.Serial.{refusals, reported, with_gap, listed, silent_by, unless_silent}
+use Rattle.gateway.specs.Serial.{offered_by, offered_upto, put_on_line}
+use Rattle.gateway.specs.Works.{Works, tasks_of, told, LearnsOf, LearnsReport, is_command_report}
+use Rattle.gateway.specs.Works.{mirrored_works, accepted_works, refused_works, given_up_works}
+use Rattle.gateway.specs.Works.{heard_works, answered_works, sent_works, told_silent, settled_works}
+use Rattle.gateway.specs.Works.{told_put}
 use Rattle.delivery.specs.Commands.{Lost, judged_in}
 use Rattle.delivery.specs.Joined.{mirrored_in, command_reports, skipped_among, AreValues}
 use Rattle.delivery.proofs.Skipping.{skip_one, skip_none, lost_skips}
 use Rattle.delivery.proofs.Waiting.{AnswersStay, AllFitLine, oldest_fits}
-use Rattle.delivery.proofs.History.{LineTold, line_told, line_ignores, mirrors_ignore, judged_ignore, keeping, sending_own, judging, WaitsFit, one_fits, kept_fit}
+use Rattle.delivery.proofs.History.{LineTold, line_told, line_ignores, mirrors_ignore}
+use Rattle.delivery.proofs.History.{judged_ignore, keeping, sending_own, judging, WaitsFit}
+use Rattle.delivery.proofs.History.{one_fits, kept_fit}
 use Rattle.delivery.proofs.Exchanging.{told_by, told_asked, told_due}
 use Rattle.delivery.proofs.Line.{LinkLaws}
 
@@ -47,7 +56,8 @@ abbrev pub IsAllTold : Works → Type 0
 IsAllTold w = w.is_due ≡ false → w.serial.silent ≡ None
 
 -- what is still to be told makes no difference
-pub told_alike : (k : ℕ) (o : Option ℕ) (w z : Works) → line_told k z.history ≡ line_told k w.history
+pub told_alike : (k : ℕ) (o : Option ℕ) (w z : Works) → line_told k z.history
+    ≡ line_told k w.history
     → line_told k (told_silent o z) ≡ line_told k (told_silent o w)
 told_alike k None w z same = same
 told_alike k (Some j) w z same =
@@ -81,13 +91,15 @@ reports_more sizes (x ∷ rs) r = go (is_command_report sizes x.1) (reports_more
   where
     go : (b : Bool) → command_reports sizes (rs ++ r ∷ []) ≡ command_reports sizes rs
         ++ (if is_command_report sizes r.1 then r.1 ∷ [] else []) →
-        (if b then x.1 ∷ command_reports sizes (rs ++ r ∷ []) else command_reports sizes (rs ++ r ∷ []))
+        (if b then x.1 ∷ command_reports sizes (rs ++ r ∷ [])
+        else command_reports sizes (rs ++ r ∷ []))
         ≡ (if b then x.1 ∷ command_reports sizes rs else command_reports sizes rs)
         ++ (if is_command_report sizes r.1 then r.1 ∷ [] else [])
     go true ih = ap (λ (l : List (List ℕ)). x.1 ∷ l) ih
     go false ih = ih
 
-values_more : (sizes : Sizes) (vs : List AsduValue) (rs : List (List ℕ)) (v : AsduValue) (r : List ℕ)
+values_more : (sizes : Sizes) (vs : List AsduValue) (rs : List (List ℕ)) (v : AsduValue)
+    (r : List ℕ)
     → AreValues sizes vs rs → IsAsdu sizes v r → AreValues sizes (vs ++ v ∷ []) (rs ++ r ∷ [])
 values_more sizes [] [] v r h k = (k, tt)
 values_more sizes [] (y ∷ rs) v r h k = absurd h
@@ -101,24 +113,31 @@ pub record IsLearnt (p : Setup) (o : Outcome) (w z : Works) : Type 0 where
   pub silent : z.serial.silent ≡ w.serial.silent
   pub told : (k : ℕ) → line_told k z.history ≡ line_told k (told_by o w.history)
   pub fits : WaitsFit p w.serial.commands → WaitsFit p z.serial.commands
-  pub mirrors : (rs : List (ℕ × List ℕ)) → AreValues p.sizes (mirrored_in w.history) (command_reports p.sizes rs)
+  pub mirrors : (rs : List (ℕ × List ℕ))
+      → AreValues p.sizes (mirrored_in w.history) (command_reports p.sizes rs)
       → AreValues p.sizes (mirrored_in z.history) (command_reports p.sizes (rs ++ report_in o))
   pub judged : judged_in z.history ≡ judged_in w.history
-  pub skips : (rs : List (ℕ × List ℕ)) → w.serial.counts.skipped ≡ saturated (skipped_among p.sizes rs)
+  pub skips : (rs : List (ℕ × List ℕ)) → w.serial.counts.skipped
+      ≡ saturated (skipped_among p.sizes rs)
       → z.serial.counts.skipped ≡ saturated (skipped_among p.sizes (rs ++ report_in o))
 
 -- without a report
-same_skips : (sizes : Sizes) (n m : ℕ) (rs : List (ℕ × List ℕ)) → n ≡ m → m ≡ saturated (skipped_among sizes rs)
+same_skips : (sizes : Sizes) (n m : ℕ) (rs : List (ℕ × List ℕ)) → n ≡ m
+    → m ≡ saturated (skipped_among sizes rs)
     → n ≡ saturated (skipped_among sizes (rs ++ []))
-same_skips sizes n m rs same h = same ∙ h ∙ ap (λ (l : List (ℕ × List ℕ)). saturated (skipped_among sizes l))
+same_skips sizes n m rs same h = same ∙ h
+    ∙ ap (λ (l : List (ℕ × List ℕ)). saturated (skipped_among sizes l))
     (sym (append-nil rs))
 
 no_report : (sizes : Sizes) (vs : List AsduValue) (rs : List (ℕ × List ℕ))
-    → AreValues sizes vs (command_reports sizes rs) → AreValues sizes vs (command_reports sizes (rs ++ []))
-no_report sizes vs rs h = subst (λ (l : List (ℕ × List ℕ)). AreValues sizes vs (command_reports sizes l))
+    → AreValues sizes vs (command_reports sizes rs)
+    → AreValues sizes vs (command_reports sizes (rs ++ []))
+no_report sizes vs rs h =
+    subst (λ (l : List (ℕ × List ℕ)). AreValues sizes vs (command_reports sizes l))
     (sym (append-nil rs)) h
 
-same_learnt : (p : Setup) (o : Outcome) (w z : Works) → report_in o ≡ [] → ((h : History) → told_by o h ≡ h) → z ≡ w
+same_learnt : (p : Setup) (o : Outcome) (w z : Works) → report_in o ≡ []
+    → ((h : History) → told_by o h ≡ h) → z ≡ w
     → IsLearnt p o w z
 same_learnt p o w z none quiet is = record {
   line = ap (λ (x : Works). x.serial.line) is;
@@ -128,7 +147,8 @@ same_learnt p o w z none quiet is = record {
   fits = λ f. subst (λ (x : Works). WaitsFit p x.serial.commands) (sym is) f;
   mirrors = λ rs h. subst (λ (x : Works). AreValues p.sizes (mirrored_in x.history)
       (command_reports p.sizes (rs ++ report_in o))) (sym is)
-      (subst (λ (l : List (ℕ × List ℕ)). AreValues p.sizes (mirrored_in w.history) (command_reports p.sizes (rs ++ l)))
+      (subst (λ (l : List (ℕ × List ℕ)). AreValues p.sizes (mirrored_in w.history)
+      (command_reports p.sizes (rs ++ l)))
       (sym none) (no_report p.sizes (mirrored_in w.history) rs h));
   judged = ap (λ (x : Works). judged_in x.history) is;
   skips = λ rs h. same_skips p.sizes z.serial.counts.skipped w.serial.counts.skipped rs
@@ -137,7 +157,8 @@ same_learnt p o w z none quiet is = record {
 }
 
 gap_learnt : (p : Setup) (station session : ℕ) (w : Works)
-    → IsLearnt p (outcome.StartedGap station session) w (record w { serial = with_gap station session w.serial })
+    → IsLearnt p (outcome.StartedGap station session) w
+    (record w { serial = with_gap station session w.serial })
 gap_learnt p station session w = record {
   line = refl;
   silent = refl;
@@ -171,7 +192,9 @@ busy_learnt stay p station w =
       silent = refl;
       told = λ k. keeping (line_told k) (line_ignores k) own s tells;
       fits = λ f. kept_fit stay p own s (one_fits stay p (Busy station) (tasks_of w) tt f);
-      mirrors = λ rs h. subst (λ (vs : List AsduValue). AreValues p.sizes vs (command_reports p.sizes (rs ++ [])))
+      mirrors =
+          λ rs h. subst (λ (vs : List AsduValue). AreValues p.sizes vs
+          (command_reports p.sizes (rs ++ [])))
           (sym (keeping mirrored_in mirrors_ignore own s tells))
           (no_report p.sizes (mirrored_in w.history) rs h);
       judged = keeping judged_in judged_ignore own s tells;
@@ -187,11 +210,13 @@ down_learnt stay p station w = record {
   fits = λ f. one_fits stay p (Lose station) (tasks_of w) tt f;
   mirrors = λ rs h. no_report p.sizes (mirrored_in w.history) rs h;
   judged = refl;
-  skips = λ rs h. same_skips p.sizes (given_up_works station w).serial.counts.skipped w.serial.counts.skipped rs
+  skips = λ rs h. same_skips p.sizes (given_up_works station w).serial.counts.skipped
+      w.serial.counts.skipped rs
       (lost_skips (is_used (line_of station w.serial.commands)) w.serial.counts) h;
 }
 
-module _ (stay : AnswersStay) (p : Setup) (at : ℕ) (station : ℕ) (asdu : ArrayVec ℕ) (w : Works) where
+module _ (stay : AnswersStay) (p : Setup) (at : ℕ) (station : ℕ) (asdu : ArrayVec ℕ)
+    (w : Works) where
   abbrev said : Outcome
   said = outcome.Report station asdu
 
@@ -210,7 +235,8 @@ module _ (stay : AnswersStay) (p : Setup) (at : ℕ) (station : ℕ) (asdu : Arr
     skips = λ rs h. skip_one p.sizes station asdu.items w.serial.counts rs other h;
   }
 
-  more_mirrored : (v : AsduValue) (rs : List (ℕ × List ℕ)) → is_command_report p.sizes asdu.items ≡ true
+  more_mirrored : (v : AsduValue) (rs : List (ℕ × List ℕ)) → is_command_report p.sizes asdu.items
+      ≡ true
       → IsAsdu p.sizes v asdu.items →
       AreValues p.sizes (mirrored_in w.history) (command_reports p.sizes rs)
       → AreValues p.sizes (mirrored_in (told (Mirror v at) w))
@@ -218,8 +244,10 @@ module _ (stay : AnswersStay) (p : Setup) (at : ℕ) (station : ℕ) (asdu : Arr
   more_mirrored v rs command value h =
       subst (λ (l : List (List ℕ)). AreValues p.sizes (mirrored_in w.history ++ v ∷ []) l)
       (sym (reports_more p.sizes rs (station, asdu.items)
-      ∙ ap (λ (b : Bool). command_reports p.sizes rs ++ (if b then asdu.items ∷ [] else [])) command))
-      (values_more p.sizes (mirrored_in w.history) (command_reports p.sizes rs) v asdu.items h value)
+      ∙ ap (λ (b : Bool). command_reports p.sizes rs ++ (if b then asdu.items ∷ [] else []))
+      command))
+      (values_more p.sizes (mirrored_in w.history) (command_reports p.sizes rs) v asdu.items h
+      value)
 
   command_report : (running : Bool) (v : AsduValue) (pieces : List (List ℕ))
       → is_command_report p.sizes asdu.items ≡ true → IsAsdu p.sizes v asdu.items
@@ -234,7 +262,8 @@ module _ (stay : AnswersStay) (p : Setup) (at : ℕ) (station : ℕ) (asdu : Arr
         fits = λ f. kept_fit stay p pieces s (one_fits stay p (Mirror v at) (tasks_of w) tt f);
         mirrors = λ rs h. subst (λ (vs : List AsduValue). AreValues p.sizes vs
             (command_reports p.sizes (rs ++ (station, asdu.items) ∷ [])))
-            (sym (keeping mirrored_in mirrors_ignore pieces s tells)) (more_mirrored v rs command value h);
+            (sym (keeping mirrored_in mirrors_ignore pieces s tells))
+            (more_mirrored v rs command value h);
         judged = keeping judged_in judged_ignore pieces s tells;
         skips = λ rs h. h ∙ ap saturated (sym (skip_none p.sizes station asdu.items rs command));
       }
@@ -252,22 +281,29 @@ module _ (stay : AnswersStay) (p : Setup) (at : ℕ) (station : ℕ) (asdu : Arr
       → LearnsReport p at running b asdu.items w z → IsLearnt p said w z
   report_learnt running true z is h = subst (λ (x : Works). IsLearnt p said w x) (sym h.5)
       (command_report running h.0 h.2 is h.3.value)
-  report_learnt running false z is h = subst (λ (x : Works). IsLearnt p said w x) (sym h) (plain_report is)
+  report_learnt running false z is h = subst (λ (x : Works). IsLearnt p said w x) (sym h)
+      (plain_report is)
 
-pub learnt_of : (stay : AnswersStay) (p : Setup) (at : ℕ) (running : Bool) (o : Outcome) (w z : Works)
+pub learnt_of : (stay : AnswersStay) (p : Setup) (at : ℕ) (running : Bool) (o : Outcome)
+    (w z : Works)
     → LearnsOf p at running o w z → IsLearnt p o w z
 learnt_of stay p at running outcome.None w z h = same_learnt p outcome.None w z refl (λ h. refl) h
 learnt_of stay p at running (outcome.Started station) w z h =
     same_learnt p (outcome.Started station) w z refl (λ h. refl) h
 learnt_of stay p at running (outcome.StartedGap station session) w z h =
-    subst (λ (x : Works). IsLearnt p (outcome.StartedGap station session) w x) (sym h) (gap_learnt p station session w)
-learnt_of stay p at running (outcome.Empty station) w z h = same_learnt p (outcome.Empty station) w z refl (λ h. refl) h
+    subst (λ (x : Works). IsLearnt p (outcome.StartedGap station session) w x) (sym h)
+    (gap_learnt p station session w)
+learnt_of stay p at running (outcome.Empty station) w z h =
+    same_learnt p (outcome.Empty station) w z refl (λ h. refl) h
 learnt_of stay p at running (outcome.Accepted station) w z h =
-    subst (λ (x : Works). IsLearnt p (outcome.Accepted station) w x) (sym h) (accepted_learnt stay p station w)
+    subst (λ (x : Works). IsLearnt p (outcome.Accepted station) w x) (sym h)
+    (accepted_learnt stay p station w)
 learnt_of stay p at running (outcome.Busy station) w z h =
-    subst (λ (x : Works). IsLearnt p (outcome.Busy station) w x) (sym h) (busy_learnt stay p station w)
+    subst (λ (x : Works). IsLearnt p (outcome.Busy station) w x) (sym h)
+    (busy_learnt stay p station w)
 learnt_of stay p at running (outcome.Down station) w z h =
-    subst (λ (x : Works). IsLearnt p (outcome.Down station) w x) (sym h) (down_learnt stay p station w)
+    subst (λ (x : Works). IsLearnt p (outcome.Down station) w x) (sym h)
+    (down_learnt stay p station w)
 learnt_of stay p at running (outcome.Report station asdu) w z h =
     report_learnt stay p at station asdu w running (is_command_report p.sizes asdu.items) z refl h
 
@@ -281,7 +317,8 @@ pub record IsQuiet (p : Setup) (w z : Works) : Type 0 where
   pub fits : WaitsFit p w.serial.commands → WaitsFit p z.serial.commands
   pub skips : z.serial.counts.skipped ≡ w.serial.counts.skipped
 
-pub heard_quiet : (stay : AnswersStay) (p : Setup) (frame : Apdu) (now : ℕ) (wall : Option ℕ) (w : Works) → Fits frame
+pub heard_quiet : (stay : AnswersStay) (p : Setup) (frame : Apdu) (now : ℕ) (wall : Option ℕ)
+    (w : Works) → Fits frame
     → IsQuiet p w (heard_works frame now wall w)
 heard_quiet stay p (I ns nr asdu) now wall w fits =
     let s : State = w.serial.commands in
@@ -290,7 +327,8 @@ heard_quiet stay p (I ns nr asdu) now wall w fits =
           (judging (line_told k) (line_ignores k) asdu.items now wall w);
       left = λ h. h;
       mirrors = judging mirrored_in mirrors_ignore asdu.items now wall w;
-      fits = λ f. kept_fit stay p (listed (judged asdu.items now wall s).0) (judged asdu.items now wall s).1
+      fits = λ f. kept_fit stay p (listed (judged asdu.items now wall s).0)
+          (judged asdu.items now wall s).1
           (one_fits stay p (Judge asdu.items now wall) (tasks_of w) fits.2 f);
       skips = refl;
     }
@@ -326,11 +364,19 @@ heard_judged (I ns nr asdu) now wall w = judging judged_in judged_ignore asdu.it
 heard_judged (S nr) now wall w = sym (append-nil (judged_in w.history))
 heard_judged (U u) now wall w = sym (append-nil (judged_in w.history))
 
-pub sent_quiet : (stay : AnswersStay) (p : Setup) (frame : Apdu) (w : Works) → IsQuiet p w (sent_works frame w)
+pub sent_quiet : (stay : AnswersStay) (p : Setup) (frame : Apdu) (w : Works)
+    → IsQuiet p w (sent_works frame w)
 sent_quiet stay p (I ns nr asdu) w = go (has_objects asdu.items)
   where
     go : (b : Bool) → IsQuiet p w (if b then w else answered_works w)
-    go true = record { told = λ k. refl; left = λ h. h; mirrors = refl; fits = λ f. f; skips = refl }
+    go true = record {
+      told = λ k. refl;
+      left = λ h. h;
+      mirrors = refl;
+      fits = λ f. f;
+      skips =
+          refl;
+    }
     go false = record {
       told = λ k. told_alike k w.serial.silent w (answered_works w)
           (sending_own (line_told k) (line_ignores k) w);
@@ -340,8 +386,22 @@ sent_quiet stay p (I ns nr asdu) w = go (has_objects asdu.items)
       fits = λ f. f;
       skips = refl;
     }
-sent_quiet stay p (S nr) w = record { told = λ k. refl; left = λ h. h; mirrors = refl; fits = λ f. f; skips = refl }
-sent_quiet stay p (U u) w = record { told = λ k. refl; left = λ h. h; mirrors = refl; fits = λ f. f; skips = refl }
+sent_quiet stay p (S nr) w = record {
+  told = λ k. refl;
+  left = λ h. h;
+  mirrors = refl;
+  fits =
+      λ f. f;
+  skips = refl;
+}
+sent_quiet stay p (U u) w = record {
+  told = λ k. refl;
+  left = λ h. h;
+  mirrors = refl;
+  fits =
+      λ f. f;
+  skips = refl;
+}
 
 pub sent_line : (frame : Apdu) (w : Works) → (sent_works frame w).serial.line ≡ w.serial.line
 sent_line (I ns nr asdu) w = go (has_objects asdu.items)
@@ -352,7 +412,8 @@ sent_line (I ns nr asdu) w = go (has_objects asdu.items)
 sent_line (S nr) w = refl
 sent_line (U u) w = refl
 
-pub sent_judged : (frame : Apdu) (w : Works) → judged_in (sent_works frame w).history ≡ judged_in w.history
+pub sent_judged : (frame : Apdu) (w : Works) → judged_in (sent_works frame w).history
+    ≡ judged_in w.history
 sent_judged (I ns nr asdu) w = go (has_objects asdu.items)
   where
     go : (b : Bool) → judged_in (if b then w else answered_works w).history ≡ judged_in w.history
@@ -361,7 +422,8 @@ sent_judged (I ns nr asdu) w = go (has_objects asdu.items)
 sent_judged (S nr) w = refl
 sent_judged (U u) w = refl
 
-pub settled_quiet : (stay : AnswersStay) (p : Setup) (at : ℕ) (w : Works) → IsQuiet p w (settled_works at w)
+pub settled_quiet : (stay : AnswersStay) (p : Setup) (at : ℕ) (w : Works)
+    → IsQuiet p w (settled_works at w)
 settled_quiet stay p at w = record {
   told = λ k. refl;
   left = λ h due. refl;
@@ -375,7 +437,8 @@ settled_quiet stay p at w = record {
     answers None = refl
     answers (Some station) = refl
 
-    fit : (o : Option ℕ) → WaitsFit p w.serial.commands → WaitsFit p (unless_silent o w.serial).commands
+    fit : (o : Option ℕ) → WaitsFit p w.serial.commands
+        → WaitsFit p (unless_silent o w.serial).commands
     fit None f = f
     fit (Some station) f = one_fits stay p (Lose station) (tasks_of w) tt f
 
@@ -390,7 +453,8 @@ settled_line at w = go w.serial.silent
     go None = refl
     go (Some station) = refl
 
-pub settled_judged : (at : ℕ) (w : Works) → judged_in (settled_works at w).history ≡ judged_in w.history
+pub settled_judged : (at : ℕ) (w : Works) → judged_in (settled_works at w).history
+    ≡ judged_in w.history
 settled_judged at w = go w.serial.silent
   where
     go : (o : Option ℕ) → judged_in (told_silent o w) ≡ judged_in w.history
@@ -400,7 +464,8 @@ settled_judged at w = go w.serial.silent
 -- Commands are offered
 
 module _ (laws : LinkLaws) (settings : LinkSettings) (addresses : List ℕ) (e : Exchanges) where
-  count_upto : (n : ℕ) (ws : List Waiting) (q : Primary) → length (offered_upto n ws q).stations ≡ length q.stations
+  count_upto : (n : ℕ) (ws : List Waiting) (q : Primary) → length (offered_upto n ws q).stations
+      ≡ length q.stations
   count_upto zero ws q = refl
   count_upto (suc k) ws q = by_oldest (count_upto k ws q) (oldest k ws)
     where
@@ -409,13 +474,15 @@ module _ (laws : LinkLaws) (settings : LinkSettings) (addresses : List ℕ) (e :
       by_oldest h None = h
       by_oldest h (Some w) = laws.count (offered_upto k ws q) k w.octets ∙ h
 
-  offers_upto : (n : ℕ) (ws : List Waiting) (q : Primary) → n ≤ length q.stations → AllFitLine settings.size ws
+  offers_upto : (n : ℕ) (ws : List Waiting) (q : Primary) → n ≤ length q.stations
+      → AllFitLine settings.size ws
       → Tells settings addresses q e → Tells settings addresses (offered_upto n ws q) e
   offers_upto zero ws q within fits t = t
   offers_upto (suc k) ws q within fits t = by_oldest (oldest k ws) refl
       (offers_upto k ws q (omega (arith, within)) fits t)
     where
-      by_oldest : (o : Option Waiting) → oldest k ws ≡ o → Tells settings addresses (offered_upto k ws q) e
+      by_oldest : (o : Option Waiting) → oldest k ws ≡ o
+          → Tells settings addresses (offered_upto k ws q) e
           → Tells settings addresses (offered_by o k (offered_upto k ws q)) e
       by_oldest None is t = t
       by_oldest (Some w) is t = laws.offer settings addresses (offered_upto k ws q) e k w.octets
@@ -423,7 +490,8 @@ module _ (laws : LinkLaws) (settings : LinkSettings) (addresses : List ℕ) (e :
           (subst (λ (s : LinkSettings). IsUserData s.size w.octets) (sym t.settings_are)
           (oldest_fits settings.size k ws w fits is)) t
 
-  pub offers_tell : (ws : List Waiting) (q : Primary) → AllFitLine settings.size ws → Tells settings addresses q e
+  pub offers_tell : (ws : List Waiting) (q : Primary) → AllFitLine settings.size ws
+      → Tells settings addresses q e
       → Tells settings addresses (offered_upto (length q.stations) ws q) e
   offers_tell ws q fits t = offers_upto (length q.stations) ws q (omega arith) fits t
 
@@ -433,10 +501,13 @@ pub put_told : (first : Bool) (station : ℕ) (request : Asked) (w : Works) (k :
     → (first ≡ true → is_command request ≡ true) →
     ((fcb : Bool) (asdu : List ℕ) → request ≡ Counted fcb (Command asdu) → first ≡ true
     → octets_waiting station w.serial.commands ≡ Some asdu) →
-    line_told k (told_put first station w) ≡ line_told k (told_asked first station request w.history)
+    line_told k (told_put first station w)
+    ≡ line_told k (told_asked first station request w.history)
 put_told false station request w k command waits = refl
-put_told true station Status w k command waits = let no : is_command Status ≡ true = command refl in cc
-put_told true station Reset w k command waits = let no : is_command Reset ≡ true = command refl in cc
+put_told true station Status w k command waits = let no : is_command Status ≡ true = command refl in
+    cc
+put_told true station Reset w k command waits = let no : is_command Reset ≡ true = command refl in
+    cc
 put_told true station (Counted fcb Class1) w k command waits =
     let no : is_command (Counted fcb Class1) ≡ true = command refl in cc
 put_told true station (Counted fcb Class2) w k command waits =
@@ -445,7 +516,8 @@ put_told true station (Counted fcb (Command asdu)) w k command waits =
     go (oldest_for station w.serial.commands) (waits fcb asdu refl refl)
   where
     go : (o : Option Waiting) → option_map (λ (w : Waiting). w.octets) o ≡ Some asdu
-        → line_told k (after_sending o station (tasks_of w)).history ≡ line_told k (Sent station asdu ∷ w.history)
+        → line_told k (after_sending o station (tasks_of w)).history
+        ≡ line_told k (Sent station asdu ∷ w.history)
     go None e = cc
     go (Some x) e = let same : x.octets ≡ asdu = cc in
         ap (λ (l : List ℕ). line_told k (Sent station l ∷ w.history)) same
@@ -455,25 +527,31 @@ pub put_mirrors : (first : Bool) (station : ℕ) (w : Works)
 put_mirrors false station w = refl
 put_mirrors true station w = go (oldest_for station w.serial.commands)
   where
-    go : (o : Option Waiting) → mirrored_in (after_sending o station (tasks_of w)).history ≡ mirrored_in w.history
+    go : (o : Option Waiting) → mirrored_in (after_sending o station (tasks_of w)).history
+        ≡ mirrored_in w.history
     go None = refl
     go (Some x) = refl
 
-pub put_judged : (first : Bool) (station : ℕ) (w : Works) → judged_in (told_put first station w) ≡ judged_in w.history
+pub put_judged : (first : Bool) (station : ℕ) (w : Works) → judged_in (told_put first station w)
+    ≡ judged_in w.history
 put_judged false station w = refl
 put_judged true station w = go (oldest_for station w.serial.commands)
   where
-    go : (o : Option Waiting) → judged_in (after_sending o station (tasks_of w)).history ≡ judged_in w.history
+    go : (o : Option Waiting) → judged_in (after_sending o station (tasks_of w)).history
+        ≡ judged_in w.history
     go None = refl
     go (Some x) = refl
 
-pub put_fits : (stay : AnswersStay) (p : Setup) (first : Bool) (station : ℕ) (w : Works) → WaitsFit p w.serial.commands
+pub put_fits : (stay : AnswersStay) (p : Setup) (first : Bool) (station : ℕ) (w : Works)
+    → WaitsFit p w.serial.commands
     → WaitsFit p (put_on_line first station w.serial.commands)
 put_fits stay p false station w f = f
 put_fits stay p true station w f = go (oldest_for station w.serial.commands) refl
     (one_fits stay p (PutOnLine station) (tasks_of w) tt f)
   where
     go : (o : Option Waiting) → oldest_for station w.serial.commands ≡ o
-        → WaitsFit p (after_sending o station (tasks_of w)).state → WaitsFit p (put_out o station w.serial.commands)
+        → WaitsFit p (after_sending o station (tasks_of w)).state
+        → WaitsFit p (put_out o station w.serial.commands)
     go None e h = h
-    go (Some x) e h = subst (λ (o : Option Waiting). WaitsFit p (put_out o station w.serial.commands)) e h
+    go (Some x) e h =
+        subst (λ (o : Option Waiting). WaitsFit p (put_out o station w.serial.commands)) e h

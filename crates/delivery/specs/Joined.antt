@@ -1,7 +1,8 @@
 -- The course of a log and the exchanges of its line are one story (IEC 60870-5-2, unbalanced
 -- transmission procedures; IEC 60870-5-101, 7.2: commands and their answers).
 use Rattle.std.specs.Prelude.{◌==◌, ◌&&◌, not, suc, Bool, false}
-use Rattle.std.specs.Prelude.{◌≡◌, ℕ, ◌<◌, List, [], ◌∷◌, ◌++◌, All, map, length, None, if◌then◌else◌}
+use Rattle.std.specs.Prelude.{◌≡◌, ℕ, ◌<◌, List, [], ◌∷◌, ◌++◌, All, map, length, None}
+use Rattle.std.specs.Prelude.{if◌then◌else◌}
 use Rattle.asdu.specs.declared.sizes.Sizes.{Sizes}
 use Rattle.asdu.specs.Asdu.{AsduValue, IsAsdu}
 use Rattle.link.specs.Counts.{saturated}

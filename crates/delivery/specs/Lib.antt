@@ -5,3 +5,4 @@ pub mod Joined
 pub mod Delivery
 pub mod Sessions
 pub mod Selections
+pub mod Received

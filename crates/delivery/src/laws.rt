@@ -1,5 +1,6 @@
 //! The laws.
-ghost use Rattle.std.specs.Prelude.{◌≡◌, ◌≢◌, ◌<◌, ◌≤◌, ◌++◌, ℕ, true, List, length, Some, flat_map};
+ghost use Rattle.std.specs.Prelude.{◌≡◌, ◌≢◌, ◌<◌, ◌≤◌, ◌++◌, ℕ, true, List, length, Some};
+ghost use Rattle.std.specs.Prelude.{flat_map};
 ghost use Rattle.std.specs.List.{AllByRecursion};
 ghost use Rattle.link.specs.declared.answer.Answer.TheVariants.{Unable};
 ghost use Rattle.link.specs.Exchanges.{answer_to};

@@ -4,7 +4,8 @@
 //! Laws over every log of a gateway ([`gateway::drive`] promises that its log is faithful), with no
 //! body, since they hold of definitions. Upwards: [`nothing_is_lost`], and
 //! [`each_session_is_known`] for links that are reset on the way, where [`losses_are_told`] as gaps
-//! and [`losses_have_gaps`] says how many there are at most. Downwards:
+//! and [`losses_have_gaps`] says how many there are at most. What comes of it to the control centre
+//! is one run, over closes and new connections: [`what_has_come_is_one_run`]. Downwards:
 //! [`each_command_is_given_once`]. Between them: [`the_course_is_the_logs`], that what the
 //! gateway's course tells of the line and of commands is what the octets of the log show; and
 //! [`selections_end_in_time`], by the log's moments.
@@ -12,7 +13,8 @@
 //! Their premises are of the line alone: serial answers are neither late nor altered unseen
 //! (`IsHonest`), and for the first law no link reset is caused (`IsSteady`; the start of a link is
 //! no such reset, and where unanswered services are held silence never is one:
-//! [`silence_is_no_reset`]). Of the control centre and of TCP nothing is asked. The laws on
+//! [`silence_is_no_reset`]). Of the control centre and of TCP nothing is asked, but that what came
+//! on all connections is one run only where it acknowledges no frame that hasn't come. The laws on
 //! commands speak of settings whose stations are found by their link addresses (`IsSetUp`), as
 //! those of each gateway are ([`settings_are_set_up`]). What they don't say: that a report is ever
 //! polled, or that a command is ever put on the line or accepted.
@@ -20,6 +22,7 @@
 
 mod commands;
 mod laws;
+mod received;
 
 pub use commands::{
     each_command_is_given_once, selections_end_in_time, settings_are_set_up, the_course_is_the_logs,
@@ -27,3 +30,4 @@ pub use commands::{
 pub use laws::{
     each_session_is_known, losses_are_told, losses_have_gaps, nothing_is_lost, silence_is_no_reset,
 };
+pub use received::what_has_come_is_one_run;

@@ -1,11 +1,18 @@
 -- The table of types is the standard's, and the worked examples hold.
 use Rattle.std.proofs.Common.{◌≡◌, refl}
 use Rattle.std.specs.List.{AllByRecursion}
-use Rattle.jiff_core.specs.Calendar.{day_count, days_from_civil, days_of_months, days_of_years, weekday_number}
+use Rattle.jiff_core.specs.Calendar.{day_count, days_from_civil, days_of_months, days_of_years}
+use Rattle.jiff_core.specs.Calendar.{weekday_number}
 use Rattle.elements.specs.declared.types.TypeId.{TypeId}
-use Rattle.elements.specs.declared.types.TypeId.TheVariants.{MSpNa1, MDpNa1, MStNa1, MBoNa1, MMeNa1, MMeNb1, MMeNc1, MItNa1, MSpTb1, MDpTb1, MStTb1, MBoTb1, MMeTd1, MMeTe1, MMeTf1, MItTb1, MEiNa1, CScNa1, CDcNa1, CRcNa1, CSeNa1, CSeNb1, CIcNa1, CScTa1, CDcTa1, CRcTa1, CSeTa1, CSeTb1}
+use Rattle.elements.specs.declared.types.TypeId.TheVariants.{MSpNa1, MDpNa1, MStNa1, MBoNa1, MMeNa1}
+use Rattle.elements.specs.declared.types.TypeId.TheVariants.{MMeNb1, MMeNc1, MItNa1, MSpTb1, MDpTb1}
+use Rattle.elements.specs.declared.types.TypeId.TheVariants.{MStTb1, MBoTb1, MMeTd1, MMeTe1, MMeTf1}
+use Rattle.elements.specs.declared.types.TypeId.TheVariants.{MItTb1, MEiNa1, CScNa1, CDcNa1, CRcNa1}
+use Rattle.elements.specs.declared.types.TypeId.TheVariants.{CSeNa1, CSeNb1, CIcNa1, CScTa1, CDcTa1}
+use Rattle.elements.specs.declared.types.TypeId.TheVariants.{CRcTa1, CSeTa1, CSeTb1}
 use Rattle.elements.specs.Types.{row, type_of}
-use Rattle.elements.specs.Standard.{TypesAreTheStandards, LayoutExamples, IsShownSo, IsJudgedSo, is_monitor_type, is_type_with_tag, value_examples, tag_examples}
+use Rattle.elements.specs.Standard.{TypesAreTheStandards, LayoutExamples, IsShownSo, IsJudgedSo}
+use Rattle.elements.specs.Standard.{is_monitor_type, is_type_with_tag, value_examples, tag_examples}
 
 monitor : (t : TypeId) → (row t).monitor ≡ is_monitor_type (row t).code
 monitor MSpNa1 = refl
@@ -89,7 +96,13 @@ layouts_hold = record { short = refl; word = refl; long = refl }
 pub values_hold : AllByRecursion IsShownSo value_examples
 values_hold = (
   refl,
-  (refl, (refl, (refl, (refl, (refl, (refl, (refl, (refl, (refl, (refl, (refl, (refl, (refl, tt))))))))))))),
+  (
+    refl,
+    (
+      refl,
+      (refl, (refl, (refl, (refl, (refl, (refl, (refl, (refl, (refl, (refl, (refl, tt))))))))))),
+    ),
+  ),
 )
 
 pub tags_hold : AllByRecursion IsJudgedSo tag_examples
@@ -100,7 +113,16 @@ tags_hold = (
     refl,
     (
       refl,
-      (refl, (refl, (refl, (refl, (refl, (refl, (refl, (refl, (refl, (refl, (refl, (refl, (refl, tt))))))))))))),
+      (
+        refl,
+        (
+          refl,
+          (
+            refl,
+            (refl, (refl, (refl, (refl, (refl, (refl, (refl, (refl, (refl, (refl, tt)))))))))),
+          ),
+        ),
+      ),
     ),
   ),
 )

@@ -1,8 +1,10 @@
 -- The verdict's definition, computed for tags of known days.
 use Rattle.std.proofs.Common.{◌≡◌, [], ◌∷◌, refl}
 use Rattle.elements.specs.TimeTag.{verdict_of}
-use Rattle.elements.specs.declared.tag.Verdict.TheVariants.{Good, MarkedInvalid, OutOfRange, NoSuchDay, WrongWeekday}
-use Rattle.jiff_core.specs.Calendar.{days_from_civil, day_count, days_of_years, days_of_months, weekday_number}
+use Rattle.elements.specs.declared.tag.Verdict.TheVariants.{Good, MarkedInvalid, OutOfRange}
+use Rattle.elements.specs.declared.tag.Verdict.TheVariants.{NoSuchDay, WrongWeekday}
+use Rattle.jiff_core.specs.Calendar.{days_from_civil, day_count, days_of_years, days_of_months}
+use Rattle.jiff_core.specs.Calendar.{weekday_number}
 
 -- ---- Days that exist
 

@@ -1,9 +1,15 @@
 -- An octet names the type whose octet it is, and no other.
-use Rattle.std.proofs.Common.{◌≡◌, ℕ, List, [], ◌∷◌, Bool, true, false, Option, Some, refl, eqb, cond}
+use Rattle.std.proofs.Common.{◌≡◌, ℕ, List, [], ◌∷◌, Bool, true, false, Option, Some, refl, eqb}
+use Rattle.std.proofs.Common.{cond}
 use Rattle.std.specs.List.{find}
 use Rattle.std.proofs.lemmas.Bool.{eqb-true}
 use Rattle.elements.specs.declared.types.TypeId.{TypeId}
-use Rattle.elements.specs.declared.types.TypeId.TheVariants.{MSpNa1, MDpNa1, MStNa1, MBoNa1, MMeNa1, MMeNb1, MMeNc1, MItNa1, MSpTb1, MDpTb1, MStTb1, MBoTb1, MMeTd1, MMeTe1, MMeTf1, MItTb1, MEiNa1, CScNa1, CDcNa1, CRcNa1, CSeNa1, CSeNb1, CIcNa1, CScTa1, CDcTa1, CRcTa1, CSeTa1, CSeTb1}
+use Rattle.elements.specs.declared.types.TypeId.TheVariants.{MSpNa1, MDpNa1, MStNa1, MBoNa1, MMeNa1}
+use Rattle.elements.specs.declared.types.TypeId.TheVariants.{MMeNb1, MMeNc1, MItNa1, MSpTb1, MDpTb1}
+use Rattle.elements.specs.declared.types.TypeId.TheVariants.{MStTb1, MBoTb1, MMeTd1, MMeTe1, MMeTf1}
+use Rattle.elements.specs.declared.types.TypeId.TheVariants.{MItTb1, MEiNa1, CScNa1, CDcNa1, CRcNa1}
+use Rattle.elements.specs.declared.types.TypeId.TheVariants.{CSeNa1, CSeNb1, CIcNa1, CScTa1, CDcTa1}
+use Rattle.elements.specs.declared.types.TypeId.TheVariants.{CRcTa1, CSeTa1, CSeTb1}
 use Rattle.elements.specs.Types.{row, type_of, types}
 
 pub type_of-code : (t : TypeId) → type_of ((row t).code) ≡ Some t

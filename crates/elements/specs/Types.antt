@@ -1,8 +1,14 @@
 -- The types of ASDU that this gateway carries (IEC 60870-5-101, 7.2.1 and 7.3): one table.
-use Rattle.std.specs.Prelude.{ℕ, ℤ, pos, ◌-ℤ◌, ◌%◌, Bool, true, false, nat_lt, if◌then◌else◌, List, [], ◌∷◌, Option, ◌==◌, find, slice_index}
+use Rattle.std.specs.Prelude.{ℕ, ℤ, pos, ◌-ℤ◌, ◌%◌, Bool, true, false, nat_lt, if◌then◌else◌, List}
+use Rattle.std.specs.Prelude.{[], ◌∷◌, Option, ◌==◌, find, slice_index}
 use Rattle.elements.specs.Layouts.{short_at, word_at, long_at}
 use Rattle.elements.specs.declared.types.TypeId.{TypeId}
-use Rattle.elements.specs.declared.types.TypeId.TheVariants.{MSpNa1, MDpNa1, MStNa1, MBoNa1, MMeNa1, MMeNb1, MMeNc1, MItNa1, MSpTb1, MDpTb1, MStTb1, MBoTb1, MMeTd1, MMeTe1, MMeTf1, MItTb1, MEiNa1, CScNa1, CDcNa1, CRcNa1, CSeNa1, CSeNb1, CIcNa1, CScTa1, CDcTa1, CRcTa1, CSeTa1, CSeTb1}
+use Rattle.elements.specs.declared.types.TypeId.TheVariants.{MSpNa1, MDpNa1, MStNa1, MBoNa1, MMeNa1}
+use Rattle.elements.specs.declared.types.TypeId.TheVariants.{MMeNb1, MMeNc1, MItNa1, MSpTb1, MDpTb1}
+use Rattle.elements.specs.declared.types.TypeId.TheVariants.{MStTb1, MBoTb1, MMeTd1, MMeTe1, MMeTf1}
+use Rattle.elements.specs.declared.types.TypeId.TheVariants.{MItTb1, MEiNa1, CScNa1, CDcNa1, CRcNa1}
+use Rattle.elements.specs.declared.types.TypeId.TheVariants.{CSeNa1, CSeNb1, CIcNa1, CScTa1, CDcTa1}
+use Rattle.elements.specs.declared.types.TypeId.TheVariants.{CRcTa1, CSeTa1, CSeTb1}
 
 -- A type's octet, how many octets its element has, whether a time tag follows each, and whether it
 -- goes in monitor direction.

@@ -1,6 +1,7 @@
 //! What the standard says of types, elements and time tags, each law called for its contract.
 ghost use Rattle.std.specs.List.{AllByRecursion};
-ghost use Rattle.elements.specs.Standard.{TypesAreTheStandards, LayoutExamples, IsShownSo, IsJudgedSo, value_examples, tag_examples};
+ghost use Rattle.elements.specs.Standard.{TypesAreTheStandards, LayoutExamples, IsShownSo};
+ghost use Rattle.elements.specs.Standard.{IsJudgedSo, value_examples, tag_examples};
 
 /// The table of types is that of IEC 60870-5-101, 7.2.1 and 7.3: which octet names which type,
 /// which go in monitor direction, which have a time tag, and how many octets their elements have.

@@ -1,6 +1,7 @@
 //! The layouts that information elements share. Numbers are low octet first (IEC 60870-5-4, 5).
 ghost use Rattle.std.specs.Prelude.{◌≡◌, length};
-ghost use Rattle.elements.specs.Layouts.{octet, IsOctet, short, IsShort, word, IsWord, long, IsLong};
+ghost use Rattle.elements.specs.Layouts.{octet, IsOctet, short, IsShort, word, IsWord, long};
+ghost use Rattle.elements.specs.Layouts.{IsLong};
 
 use byteorder::{ByteOrder, LittleEndian};
 

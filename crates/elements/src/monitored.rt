@@ -1,8 +1,10 @@
 //! The elements of monitor types.
 ghost use Rattle.std.specs.Prelude.{[], ◌∷◌, slice_index, refl};
 ghost use Rattle.std.proofs.Common.{ap};
-ghost use Rattle.elements.specs.Layouts.{octet, IsOctet, short, short_at, IsShort, word, word_at, IsWord, long, long_at, IsLong};
-ghost use Rattle.elements.specs.OctetLemmas.{octet_again, two_octets, short_read, short_again, word_read, word_again, long_read, long_again};
+ghost use Rattle.elements.specs.Layouts.{octet, IsOctet, short, short_at, IsShort, word, word_at};
+ghost use Rattle.elements.specs.Layouts.{IsWord, long, long_at, IsLong};
+ghost use Rattle.elements.specs.OctetLemmas.{octet_again, two_octets, short_read, short_again};
+ghost use Rattle.elements.specs.OctetLemmas.{word_read, word_again, long_read, long_again};
 
 use crate::Element;
 use crate::layout::{put_long, put_octet, put_short, put_word};

@@ -1,6 +1,7 @@
 //! The time tag and the verdict on it.
 ghost use Rattle.std.specs.Prelude.{◌≡◌};
-ghost use Rattle.elements.specs.TimeTag.{AreBits, IsDateOf, fields_of, verdict_of, verdict_of_fields, is_weekday_wrong, instant_of};
+ghost use Rattle.elements.specs.TimeTag.{AreBits, IsDateOf, fields_of, verdict_of};
+ghost use Rattle.elements.specs.TimeTag.{verdict_of_fields, is_weekday_wrong, instant_of};
 
 use jiff::civil::Date;
 

@@ -1,6 +1,9 @@
 -- A list with a mark, and the two lists round the mark.
-use Rattle.std.proofs.Common.{◌≡◌, ℕ, ◌+◌, ◌-◌, ◌≤◌, List, [], ◌∷◌, ◌++◌, length, take, drop, refl, ap, sym, subst, ◌∙◌, arith, suc, zero, append_assoc, length-append}
-use Rattle.std.proofs.lemmas.List.{map-append, take-append-drop, take-map, drop-map, drop-drop, drop-take, take-append-le, drop-append-le, take-take, length-map, length-take}
+use Rattle.std.proofs.Common.{◌≡◌, ℕ, ◌+◌, ◌-◌, ◌≤◌, List, [], ◌∷◌, ◌++◌, length, take, drop, refl}
+use Rattle.std.proofs.Common.{ap, sym, subst, ◌∙◌, arith, suc, zero, append_assoc, length-append}
+use Rattle.std.proofs.lemmas.List.{map-append, take-append-drop, take-map, drop-map, drop-drop}
+use Rattle.std.proofs.lemmas.List.{drop-take, take-append-le, drop-append-le, take-take, length-map}
+use Rattle.std.proofs.lemmas.List.{length-take}
 use Rattle.std.proofs.Math.Seq.{set-append_seam}
 use Rattle.std.specs.Prelude.{Some, None, Result, Ok, Err, IsOk, OnOk, slice_get, slice_set}
 use Rattle.arrayvec.specs.ArrayVec.{ArrayVec}
@@ -11,11 +14,13 @@ use Rattle.events.specs.Restored.{marked}
 abbrev pub queue_from : List (List ℕ) → List (List ℕ) → ℕ → Queue
 queue_from sent unsent places = record { sent = sent; unsent = unsent; places = places }
 
-pub same_queue : (s t u v : List (List ℕ)) (n : ℕ) → s ≡ t → u ≡ v → queue_from s u n ≡ queue_from t v n
+pub same_queue : (s t u v : List (List ℕ)) (n : ℕ) → s ≡ t → u ≡ v → queue_from s u n
+    ≡ queue_from t v n
 same_queue s t u v n e f = ap (λ x. queue_from x u n) e ∙ ap (λ x. queue_from t x n) f
 
 -- what stands before the mark, n further on
-take_next : (n : ℕ) (xs : List (ArrayVec ℕ)) (m : ℕ) → octets_of (take (m + n) xs) ≡ octets_of (take m xs)
+take_next : (n : ℕ) (xs : List (ArrayVec ℕ)) (m : ℕ) → octets_of (take (m + n) xs)
+    ≡ octets_of (take m xs)
     ++ take n (octets_of (drop m xs))
 take_next n xs m =
     let split : take (m + n) xs ≡ take m xs ++ take n (drop m xs) =
@@ -29,7 +34,8 @@ pub queue_of-marked : (n : ℕ) (xs : List (ArrayVec ℕ)) (m places : ℕ)
 queue_of-marked n xs m places = same_queue _ _ _ _ places (take_next n xs m)
     (ap octets_of (sym (drop-drop n m xs)) ∙ sym (drop-map (λ p. p.items) n (drop m xs)))
 
-pub queue_of-rewound : (xs : List (ArrayVec ℕ)) (m places : ℕ) → queue_of xs 0 places ≡ rewound (queue_of xs m places)
+pub queue_of-rewound : (xs : List (ArrayVec ℕ)) (m places : ℕ) → queue_of xs 0 places
+    ≡ rewound (queue_of xs m places)
 queue_of-rewound xs m places = same_queue _ _ _ _ places refl
     (ap octets_of (sym (take-append-drop m xs)) ∙ map-append (λ p. p.items) (take m xs) (drop m xs))
 
@@ -52,7 +58,8 @@ queue_of-pushed xs more m places le = same_queue _ _ _ _ places
     (ap octets_of (take-append-le m xs more le))
     (ap octets_of (drop-append-le m xs more le) ∙ map-append (λ p. p.items) (drop m xs) more)
 
-pub within_mark : (xs : List (ArrayVec ℕ)) (m places n : ℕ) (q : Queue) → queue_of xs m places ≡ q → n ≤ length q.sent
+pub within_mark : (xs : List (ArrayVec ℕ)) (m places n : ℕ) (q : Queue) → queue_of xs m places ≡ q
+    → n ≤ length q.sent
     → n ≤ m
 within_mark xs m places n q e h =
     omega (
@@ -66,10 +73,12 @@ within_mark xs m places n q e h =
 pub unsent_some : (xs : List (ArrayVec ℕ)) (m : ℕ) (p : ArrayVec ℕ) → slice_get xs m ≡ Some p
     → octets_of (drop m xs) ≡ p.items ∷ drop 1 (octets_of (drop m xs))
 unsent_some [] m p h = cc
-unsent_some (x ∷ xs) zero p h = let same : x ≡ p = cc in ap (λ (y : ArrayVec ℕ). y.items ∷ octets_of xs) same
+unsent_some (x ∷ xs) zero p h = let same : x ≡ p = cc in
+    ap (λ (y : ArrayVec ℕ). y.items ∷ octets_of xs) same
 unsent_some (x ∷ xs) (suc m) p h = unsent_some xs m p h
 
-pub unsent_none : (xs : List (ArrayVec ℕ)) (m : ℕ) → slice_get xs m ≡ None → octets_of (drop m xs) ≡ []
+pub unsent_none : (xs : List (ArrayVec ℕ)) (m : ℕ) → slice_get xs m ≡ None → octets_of (drop m xs)
+    ≡ []
 unsent_none [] zero h = refl
 unsent_none [] (suc m) h = refl
 unsent_none (x ∷ xs) zero h = cc
@@ -90,7 +99,8 @@ asdus-drop zero xs h = h
 asdus-drop (suc n) [] h = h
 asdus-drop (suc n) (x ∷ xs) h = asdus-drop n xs h.1
 
-pub asdus-get : (xs : List (ArrayVec ℕ)) (m : ℕ) (p : ArrayVec ℕ) → AreAsdus xs → slice_get xs m ≡ Some p
+pub asdus-get : (xs : List (ArrayVec ℕ)) (m : ℕ) (p : ArrayVec ℕ) → AreAsdus xs → slice_get xs m
+    ≡ Some p
     → (9 ≤ length p.items) × (length p.items ≤ 249)
 asdus-get [] m p h e = cc
 asdus-get (x ∷ xs) zero p h e = (let same : x ≡ p = cc in
@@ -104,17 +114,20 @@ sendable-drop zero ps h = h
 sendable-drop (suc n) [] h = h
 sendable-drop (suc n) (p ∷ ps) h = sendable-drop n ps h.1
 
-pub written_there : (xs ys : List (ArrayVec ℕ)) (y p : ArrayVec ℕ) (n : ℕ) → ys ≡ xs ++ y ∷ [] → n ≡ length xs
+pub written_there : (xs ys : List (ArrayVec ℕ)) (y p : ArrayVec ℕ) (n : ℕ) → ys ≡ xs ++ y ∷ []
+    → n ≡ length xs
     → slice_set ys n p ≡ xs ++ p ∷ []
 written_there xs ys y p n e at =
-    ap (λ zs. slice_set zs n p) e ∙ ap (λ k. slice_set (xs ++ y ∷ []) k p) at ∙ set-append_seam xs y [] p
+    ap (λ zs. slice_set zs n p) e ∙ ap (λ k. slice_set (xs ++ y ∷ []) k p) at
+    ∙ set-append_seam xs y [] p
 
 module _ (left rest : List (List ℕ)) (q r : Queue) (unsent : r.unsent ≡ q.unsent ++ take 1 left)
     (others : rest ≡ drop 1 left) where
   pub unsent-next : r.unsent ++ rest ≡ q.unsent ++ left
   unsent-next =
       ap (λ ps. r.unsent ++ ps) others ∙ ap (λ ps. ps ++ drop 1 left) unsent
-      ∙ append_assoc q.unsent (take 1 left) (drop 1 left) ∙ ap (λ ps. q.unsent ++ ps) (take-append-drop 1 left)
+      ∙ append_assoc q.unsent (take 1 left) (drop 1 left)
+      ∙ ap (λ ps. q.unsent ++ ps) (take-append-drop 1 left)
 
   -- they have as many places as before
   pub room-next : r.sent ≡ q.sent → length (kept q) + length left ≡ length (kept r) + length rest
@@ -127,6 +140,7 @@ module _ (left rest : List (List ℕ)) (q r : Queue) (unsent : r.unsent ≡ q.un
       let sum_after = length-append r.unsent rest in
       omega arith
 
-pub kept-queue_of : (xs : List (ArrayVec ℕ)) (m places : ℕ) → kept (queue_of xs m places) ≡ octets_of xs
+pub kept-queue_of : (xs : List (ArrayVec ℕ)) (m places : ℕ) → kept (queue_of xs m places)
+    ≡ octets_of xs
 kept-queue_of xs m places =
     sym (map-append (λ p. p.items) (take m xs) (drop m xs)) ∙ ap octets_of (take-append-drop m xs)

@@ -2,7 +2,8 @@
 -- isn't acknowledged, in its order (IEC 60870-5-104, 5.1, keeps what is sent until it is
 -- acknowledged; the rest is this gateway's own profile).
 use Rattle.std.specs.Prelude.{◌≡◌, ℕ, suc, ◌+◌, ◌-◌, ◌<◌, ◌≤◌, List, [], ◌∷◌, ◌++◌, length, drop, ⊤}
-use Rattle.events.specs.Queue.{Queue, kept, free_places, empty, pushed, marked_sent, acknowledged, rewound}
+use Rattle.events.specs.Queue.{Queue, kept, free_places, empty, pushed, marked_sent, acknowledged}
+use Rattle.events.specs.Queue.{rewound}
 
 -- the calls that change a queue
 pub data Call : Type 0 where

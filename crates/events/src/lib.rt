@@ -20,7 +20,8 @@
 
 ghost use Rattle.std.specs.Map.Iter.{TakesFirst, deref};
 ghost use Rattle.std.specs.Iterator.{at_most};
-ghost use Rattle.std.specs.Prelude.{◌≡◌, ◌<◌, ◌≤◌, ◌↔◌, [], ◌∷◌, length, take, drop, IfOk, IfSome, IfNone, IsTrue};
+ghost use Rattle.std.specs.Prelude.{◌≡◌, ◌<◌, ◌≤◌, ◌↔◌, [], ◌∷◌, length, take, drop, IfOk, IfSome};
+ghost use Rattle.std.specs.Prelude.{IfNone, IsTrue};
 ghost use Rattle.asdu.specs.Reading.{value_of};
 ghost use Rattle.asdu.specs.Translation.{report_pieces};
 ghost use Rattle.events.specs.Pieces.{IsSendable, AreAsdus, AreSendable};
@@ -67,7 +68,8 @@ impl Model for Events {
 }
 
 impl Events {
-    ghost use Rattle.events.specs.Queue.{empty, kept, free_places, pushed, marked_sent, acknowledged, rewound, octets_of};
+    ghost use Rattle.events.specs.Queue.{empty, kept, free_places, pushed, marked_sent};
+    ghost use Rattle.events.specs.Queue.{acknowledged, rewound, octets_of};
 
     /// An empty queue of so many places. This takes memory for them.
     pub fn new(alloc: Global, places: usize) -> Result<Events, NoMemory>

@@ -1,6 +1,7 @@
 //! A queue as lines, and back: how many pieces are kept and how many of them are sent, and then a
 //! line of octets for each piece, the oldest first.
-ghost use Rattle.std.specs.Prelude.{◌≡◌, ◌≤◌, ◌<◌, ℕ, List, [], ◌∷◌, ◌++◌, length, IfSome, IfNone, IfOk, OnOk, MatchResult, Err};
+ghost use Rattle.std.specs.Prelude.{◌≡◌, ◌≤◌, ◌<◌, ℕ, List, [], ◌∷◌, ◌++◌, length, IfSome, IfNone};
+ghost use Rattle.std.specs.Prelude.{IfOk, OnOk, MatchResult, Err};
 ghost use Rattle.std.specs.List.{AllByRecursion};
 ghost use Rattle.checkpoint.specs.Octets.{IsOctetLine};
 ghost use Rattle.checkpoint.specs.declared.StateFault.TheVariants.{Wrong};

@@ -8,7 +8,13 @@ pub spellings_hold : AllByRecursion IsSpelledSo spelling_examples
 unfolding front_of
 spellings_hold = (
   (refl, refl),
-  ((refl, refl), ((refl, refl), ((refl, refl), ((refl, refl), ((refl, refl), ((refl, refl), ((refl, refl), tt))))))),
+  (
+    (refl, refl),
+    (
+      (refl, refl),
+      ((refl, refl), ((refl, refl), ((refl, refl), ((refl, refl), ((refl, refl), tt))))),
+    ),
+  ),
 )
 
 pub refusals_hold : AllByRecursion IsRefusedSo refusal_examples
@@ -23,7 +29,10 @@ refusals_hold = (
         (refl, refl),
         (
           (refl, refl),
-          ((refl, refl), ((refl, refl), ((refl, refl), ((refl, refl), ((refl, refl), ((refl, refl), tt)))))),
+          (
+            (refl, refl),
+            ((refl, refl), ((refl, refl), ((refl, refl), ((refl, refl), ((refl, refl), tt))))),
+          ),
         ),
       ),
     ),

@@ -17,23 +17,27 @@ whole : (size : LinkSize) (f : Frame) (more : List ℕ) → Fits size f
 whole size f more fits = subst (λ front. IsFront size (spelling size f ++ more) front)
     (front_of-spelling size f more fits) (front_is size (spelling size f ++ more))
 
-pub heard_whole : (size : LinkSize) (f : Frame) (more : List ℕ) (n : ℕ) (h : Heard) (after : Option (List ℕ))
+pub heard_whole : (size : LinkSize) (f : Frame) (more : List ℕ) (n : ℕ) (h : Heard)
+    (after : Option (List ℕ))
     → Fits size f
     → Hears size [] (spelling size f ++ more) n h after → IsHeardWhole size f n h after
 heard_whole size f more n (heard.Frame g) after fits h =
     let same : Whole f (length (spelling size f)) ≡ Whole g (0 + n) =
-    one_front size (spelling size f ++ more) (Whole g (0 + n)) (Whole f (length (spelling size f))) h.0
+    one_front size (spelling size f ++ more) (Whole g (0 + n)) (Whole f (length (spelling size f)))
+    h.0
     (whole size f more fits) in
     let frames : f ≡ g = cc in
     let lengths : length (spelling size f) ≡ 0 + n = cc in
     record { frame_is = cc; taken = omega (arith, lengths); listening = h.1 }
 heard_whole size f more n heard.More after fits h =
     let same : Whole f (length (spelling size f)) ≡ More =
-    one_front size (spelling size f ++ more) More (Whole f (length (spelling size f))) h.0 (whole size f more fits) in
+    one_front size (spelling size f ++ more) More (Whole f (length (spelling size f))) h.0
+    (whole size f more fits) in
     absurd cc
 heard_whole size f more n (heard.Never place why) after fits h =
     let same : Whole f (length (spelling size f)) ≡ Never place why =
-    one_front size (spelling size f ++ more) (Never place why) (Whole f (length (spelling size f))) h.0
+    one_front size (spelling size f ++ more) (Never place why) (Whole f (length (spelling size f)))
+    h.0
     (whole size f more fits) in
     absurd cc
 heard_whole size f more n heard.Deaf after fits h = absurd h

@@ -1,5 +1,6 @@
 -- An assembler is taken up again with the octets that it had.
-use Rattle.std.proofs.Common.{◌≡◌, ℕ, ◌+◌, List, [], ◌++◌, length, Option, Some, None, refl, sym, ap, subst, IfSome}
+use Rattle.std.proofs.Common.{◌≡◌, ℕ, ◌+◌, List, [], ◌++◌, length, Option, Some, None, refl, sym}
+use Rattle.std.proofs.Common.{ap, subst, IfSome}
 use Rattle.ft12.specs.declared.frame.LinkSize.{LinkSize}
 use Rattle.ft12.specs.declared.frame.Front.TheVariants as front
 use Rattle.ft12.specs.declared.assembling.Heard.{Heard}
@@ -20,7 +21,8 @@ use Rattle.ft12.proofs.Frames.{spelling_fits}
 use Rattle.ft12.proofs.Exact.{one_front}
 
 -- after nothing, the beginning of a frame isn't heard as anything else
-pub is_more : (size : LinkSize) (octets : List ℕ) (n : ℕ) (h : Heard) (so_far after : Option (List ℕ))
+pub is_more : (size : LinkSize) (octets : List ℕ) (n : ℕ) (h : Heard)
+    (so_far after : Option (List ℕ))
     → IsProperBeginning size octets → so_far ≡ Some []
     → IfSome so_far (λ before. Hears size before octets n h after) → h ≡ heard.More
 is_more size octets n h None after is e hears = let bad : ⊥ = cc in absurd bad
@@ -36,15 +38,18 @@ is_more size octets n h (Some before) after is e hears = by h hears
     by heard.More hears = refl
     by (heard.Frame f) hears =
         let P : List ℕ → Type 0 = λ x. IsFront size x (front.Whole f (length before + n)) in
-        let bad = one_front size octets front.More (front.Whole f (length before + n)) is (subst P same hears.0) in
+        let bad = one_front size octets front.More (front.Whole f (length before + n)) is
+        (subst P same hears.0) in
         let no : ⊥ = cc in absurd no
     by (heard.Never place why) hears =
         let P : List ℕ → Type 0 = λ x. IsFront size x (front.Never place why) in
-        let bad = one_front size octets front.More (front.Never place why) is (subst P same hears.0) in
+        let bad = one_front size octets front.More (front.Never place why) is
+        (subst P same hears.0) in
         let no : ⊥ = cc in absurd no
     by heard.Deaf hears = absurd hears
 
-pub resumable : (size : LinkSize) (stage : Option Stage) (kept : List ℕ) → ForSome stage (λ s. IsStage size s kept)
+pub resumable : (size : LinkSize) (stage : Option Stage) (kept : List ℕ)
+    → ForSome stage (λ s. IsStage size s kept)
     → IfSome (option_map (λ s. so_far size s kept) stage) (IsProperBeginning size)
 resumable size None kept h = tt
 resumable size (Some s) kept h = stage_more size s kept (h s refl)
@@ -53,10 +58,12 @@ proper_octets : (size : LinkSize) (x : List ℕ) → IsProperBeginning size x �
 proper_octets size x p =
     let A : List ℕ → Type 0 = λ y. All IsOctet y in
     let all = subst A (sym p.line.spelled) (spelling_fits size p.frame p.line.fits) in
-    subst A (take-append_seam x (p.next ∷ p.rest)) (All-take IsOctet (length x) (x ++ p.next ∷ p.rest) all)
+    subst A (take-append_seam x (p.next ∷ p.rest))
+    (All-take IsOctet (length x) (x ++ p.next ∷ p.rest) all)
 
 pub resumable_octets : (size : LinkSize) (stage : Option Stage) (kept : List ℕ)
     → ForSome stage (λ s. IsStage size s kept)
     → IfSome (option_map (λ s. so_far size s kept) stage) (λ octets. All IsOctet octets)
 resumable_octets size None kept h = tt
-resumable_octets size (Some s) kept h = proper_octets size (so_far size s kept) (stage_more size s kept (h s refl))
+resumable_octets size (Some s) kept h =
+    proper_octets size (so_far size s kept) (stage_more size s kept (h s refl))

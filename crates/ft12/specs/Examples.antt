@@ -6,7 +6,8 @@ use Rattle.ft12.specs.declared.frame.LinkSize.TheVariants.{One, Two}
 use Rattle.ft12.specs.declared.frame.Frame.{Frame}
 use Rattle.ft12.specs.declared.frame.Frame.TheVariants.{Single, Fixed, Data}
 use Rattle.ft12.specs.declared.frame.Why.{Why}
-use Rattle.ft12.specs.declared.frame.Why.TheVariants.{Start, LengthsDiffer, SecondStart, LengthSmall, Sum, End}
+use Rattle.ft12.specs.declared.frame.Why.TheVariants.{Start, LengthsDiffer, SecondStart}
+use Rattle.ft12.specs.declared.frame.Why.TheVariants.{LengthSmall, Sum, End}
 use Rattle.ft12.specs.declared.frame.Front.TheVariants.{Whole, More, Never}
 use Rattle.ft12.specs.Spelling.{spelling}
 use Rattle.ft12.specs.Fronts.{front_of}

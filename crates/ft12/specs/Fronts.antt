@@ -1,13 +1,15 @@
 -- What stands at the front of octets, computed: the octets are read one after another, as FT1.2 of
 -- IEC 60870-5-1 (6.2.4.2) lays them out. (What a front is, `IsFront` says. That this is the front,
 -- and the only one, is the law `front_is_computed`.)
-use Rattle.std.specs.Prelude.{ℕ, ◌+◌, ◌*◌, ◌%◌, ◌==◌, nat_lt, if◌then◌else◌, Bool, List, [], ◌∷◌, length, take, drop, sum, slice_index}
+use Rattle.std.specs.Prelude.{ℕ, ◌+◌, ◌*◌, ◌%◌, ◌==◌, nat_lt, if◌then◌else◌, Bool, List, [], ◌∷◌}
+use Rattle.std.specs.Prelude.{length, take, drop, sum, slice_index}
 use Rattle.std.specs.List.{prefix_len}
 use Rattle.ft12.specs.declared.frame.LinkSize.{LinkSize}
 use Rattle.ft12.specs.declared.frame.LinkSize.TheVariants.{One, Two}
 use Rattle.ft12.specs.declared.frame.Frame.{Frame}
 use Rattle.ft12.specs.declared.frame.Frame.TheVariants.{Single, Fixed, Data}
-use Rattle.ft12.specs.declared.frame.Why.TheVariants.{Start, LengthsDiffer, SecondStart, LengthSmall, Sum, End}
+use Rattle.ft12.specs.declared.frame.Why.TheVariants.{Start, LengthsDiffer, SecondStart}
+use Rattle.ft12.specs.declared.frame.Why.TheVariants.{LengthSmall, Sum, End}
 use Rattle.ft12.specs.declared.frame.Front.{Front}
 use Rattle.ft12.specs.declared.frame.Front.TheVariants.{Whole, More, Never}
 use Rattle.ft12.specs.Spelling.{address_len}

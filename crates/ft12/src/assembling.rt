@@ -1,6 +1,7 @@
 //! Frames out of pieces of a stream.
 
-ghost use Rattle.std.specs.Prelude.{◌≡◌, ◌+◌, ◌-◌, ◌^◌, ◌≤◌, ◌<◌, ◌↔◌, ◌++◌, [], length, min, slice_index, Some, None, All};
+ghost use Rattle.std.specs.Prelude.{◌≡◌, ◌+◌, ◌-◌, ◌^◌, ◌≤◌, ◌<◌, ◌↔◌, ◌++◌, [], length, min};
+ghost use Rattle.std.specs.Prelude.{slice_index, Some, None, All};
 ghost use Rattle.std.specs.Prelude.{IfSome, IfNone, IsSome, OnOk, IsTrue, true, false};
 ghost use Rattle.ft12.specs.declared.assembling.Heard.TheVariants.{Deaf};
 ghost use Rattle.ft12.specs.Assembly.{Hears, HearsInner, looked_at, so_far_numbers};

@@ -1,5 +1,6 @@
 -- What a state between two steps keeps and has counted.
-use Rattle.std.proofs.Common.{◌≡◌, [], ◌∷◌, length, drop, refl, ap, sym, subst, ◌∙◌, Option, Some, None}
+use Rattle.std.proofs.Common.{◌≡◌, [], ◌∷◌, length, drop, refl, ap, sym, subst, ◌∙◌, Option, Some}
+use Rattle.std.proofs.Common.{None}
 use Rattle.std.specs.Prelude.{IfSome, Bool, true, false, if◌then◌else◌}
 use Rattle.std.specs.List.{flat_map}
 use Rattle.std.specs.Bool.{OnTrue}
@@ -25,51 +26,61 @@ use Rattle.gateway.proofs.Agreement.{faithful}
 use Rattle.gateway.proofs.Closing.{stands_now}
 use Rattle.gateway.proofs.Objects.{carries_end}
 
-accounted_at : (p : Setup) (s : State) (log : Log) (a : Agrees p s log [] (resting log)) → IsAccounted p s log
+accounted_at : (p : Setup) (s : State) (log : Log) (a : Agrees p s log [] (resting log))
+    → IsAccounted p s log
 accounted_at p s log a = record {
   course = a.course;
   course_runs = a.talk.course_runs;
   are = record { open_one = stands_now p s log (resting log) a; earlier = a.before.are };
-  left = sym (ap (λ n. drop n (taken_objects p log)) (sym all.front) ∙ ap (drop (length all.gone)) all.joined
+  left = sym (ap (λ n. drop n (taken_objects p log)) (sym all.front)
+      ∙ ap (drop (length all.gone)) all.joined
       ∙ drop-append_seam all.gone (flat_map objects (kept s.centre.queue)));
   counts = counted log a;
   spoilt = a.line.spoilt;
 }
   where
-    all : Carries (taken_objects p log) (parts_of_all p.sizes (reports_in p log)) (taken_pieces p log)
+    all : Carries (taken_objects p log) (parts_of_all p.sizes (reports_in p log))
+        (taken_pieces p log)
         (here_of a.course ∷ a.course.earlier) [] (kept s.centre.queue)
-    all = carries_end (taken_objects p log) (parts_of_all p.sizes (reports_in p log)) (taken_pieces p log) a.course.earlier
-        (here_of a.course) s.centre.session s.centre.queue.sent s.centre.queue.unsent a.here.tied a.carries
+    all = carries_end (taken_objects p log) (parts_of_all p.sizes (reports_in p log))
+        (taken_pieces p log) a.course.earlier
+        (here_of a.course) s.centre.session s.centre.queue.sent s.centre.queue.unsent a.here.tied
+        a.carries
 
     counted : (log : Log) (a : Agrees p s log [] (resting log))
         → s.serial.counts ≡ (done_in p log a.course).serial.counts
     counted [] a = ap (λ (z : Serial). z.counts) a.stands.does
         ∙ sym (ap (λ b. (if b then unasked_works (latest []) (room_in p [] a.course)
-        (ready_works (latest []) a.course.works) else a.course.works).serial.counts) a.stands.asks.0)
+        (ready_works (latest []) a.course.works) else a.course.works).serial.counts)
+        a.stands.asks.0)
     counted (entry ∷ log) a = ap (λ (z : Serial). z.counts) a.stands.does
 
 untold : (old : Option Log) → tell old [] ≡ old
 untold None = refl
 untold (Some log) = refl
 
-pub accounted : (p : Setup) (s : State) (told : Option Log) → Follows p s told → IfSome told (IsAccounted p s)
+pub accounted : (p : Setup) (s : State) (told : Option Log) → Follows p s told
+    → IfSome told (IsAccounted p s)
 accounted p s None h = tt
 accounted p s (Some log) h = accounted_at p s log h.0
 
 -- and so after a step, unless the device failed
-pub step_accounted : (result : Bool) (p : Setup) (s : State) (told : Option Log) → OnTrue result (Follows p s told)
+pub step_accounted : (result : Bool) (p : Setup) (s : State) (told : Option Log)
+    → OnTrue result (Follows p s told)
     → OnTrue result (IfSome told (IsAccounted p s))
 step_accounted true p s told h = accounted p s told h
 step_accounted false p s told h = tt
 
 -- the actions of each step keep their order
-pub ordered : (p : Setup) (s : State) (told : Option Log) → ((log : Log) → IsFaithful p log → KeepsOrder log)
+pub ordered : (p : Setup) (s : State) (told : Option Log)
+    → ((log : Log) → IsFaithful p log → KeepsOrder log)
     → Follows p s told → IfSome told KeepsOrder
 ordered p s None law h = tt
 ordered p s (Some log) law h = law log (faithful p s log [] (resting log) h.0)
 
 -- at the end of a run, where no more has come
-pub ends_accounted : (e : End) (p : Setup) (s : State) (old new : Option Log) (news : Log) → Follows p s old
+pub ends_accounted : (e : End) (p : Setup) (s : State) (old new : Option Log) (news : Log)
+    → Follows p s old
     → new ≡ tell old news → news ≡ [] → UnlessDevice e (IfSome new (IsAccounted p s))
 ends_accounted Finished p s old new news h told none =
     accounted p s new (subst (Follows p s) (sym (told ∙ ap (tell old) none ∙ untold old)) h)

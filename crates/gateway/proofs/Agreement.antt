@@ -1,5 +1,7 @@
 -- Each thing that is told keeps the agreement of state and log.
-use Rattle.std.proofs.Common.{◌≡◌, ℕ, ◌+◌, ◌%◌, ◌<◌, ◌≤◌, ◌&&◌, Bool, true, false, not, nat_lt, List, [], ◌∷◌, ◌++◌, length, take, drop, refl, ap, sym, ◌∙◌, subst, arith, length-append, Some, None, zero-add, inl, inr}
+use Rattle.std.proofs.Common.{◌≡◌, ℕ, ◌+◌, ◌%◌, ◌<◌, ◌≤◌, ◌&&◌, Bool, true, false, not, nat_lt}
+use Rattle.std.proofs.Common.{List, [], ◌∷◌, ◌++◌, length, take, drop, refl, ap, sym, ◌∙◌, subst}
+use Rattle.std.proofs.Common.{arith, length-append, Some, None, zero-add, inl, inr}
 use Rattle.std.specs.Prelude.{if◌then◌else◌}
 use Rattle.std.specs.List.{flat_map}
 use Rattle.std.specs.Prelude.{◌⊎◌}
@@ -17,7 +19,9 @@ use Rattle.events.specs.Queue.{free_places}
 use Rattle.gateway.specs.Objects.{objects, has_objects}
 use Rattle.gateway.specs.Log.{Log, Went, TcpOut, latest}
 use Rattle.gateway.specs.Streams.{spelled}
-use Rattle.gateway.specs.Frames.{Sent, Connection, data_frames, acknowledged_count, acknowledged_reports, reports_among, objects_of_frames, IsNumberedFrom, IsInOrder}
+use Rattle.gateway.specs.Frames.{Sent, Connection, data_frames, acknowledged_count}
+use Rattle.gateway.specs.Frames.{acknowledged_reports, reports_among, objects_of_frames}
+use Rattle.gateway.specs.Frames.{IsNumberedFrom, IsInOrder}
 use Rattle.gateway.specs.Connections.{is_replaced, Channel, sending, present}
 use Rattle.gateway.specs.Reports.{Setup, taken_objects, taken_pieces, reports_in, parts_of_all}
 use Rattle.gateway.specs.Polls.{has_room}
@@ -31,29 +35,40 @@ use Rattle.gateway.specs.State.{State, with_session, piece_sent, own_sent}
 use Rattle.gateway.specs.Works.{has_lacked_place, Works, answered_works}
 use Rattle.command.specs.State.{oldest}
 use Rattle.command.specs.History as happened
-use Rattle.gateway.specs.Course.{Course, here_of, came_frames, room_by, room_in, kind_of, told_sent, with_sent, HasSentAll, IsFlushed, IsUntouched, HasBegun, IsNextData}
-use Rattle.gateway.specs.Phases.{Phase, Fresh, Taking, Judged, Idle, Crowded, Timed, Asked, IsPast, IsLeftIn, IsFlushing, IsPhase, works_in, IsAsked, IsPlaced}
+use Rattle.gateway.specs.Course.{Course, here_of, came_frames, room_by, room_in, kind_of, told_sent}
+use Rattle.gateway.specs.Course.{with_sent, HasSentAll, IsFlushed, IsUntouched, HasBegun}
+use Rattle.gateway.specs.Course.{IsNextData}
+use Rattle.gateway.specs.Phases.{Phase, Fresh, Taking, Judged, Idle, Crowded, Timed, Asked, IsPast}
+use Rattle.gateway.specs.Phases.{IsLeftIn, IsFlushing, IsPhase, works_in, IsAsked, IsPlaced}
 use Rattle.session.specs.History as talk
 use Rattle.session.specs.History.{History, frame_due}
 use Rattle.session.specs.Runs.{Call, Send, after_call}
 use Rattle.session.specs.Ends.{IsConfirmed}
 use Rattle.gateway.specs.Conversation.{KeepsRulesSoFar}
-use Rattle.gateway.specs.Agrees.{Presently, Carries, Past, Talks, Agrees, Tied, ArePlain, IsSpent, IsUndue, pending}
+use Rattle.gateway.specs.Agrees.{Presently, Carries, Past, Talks, Agrees, Tied, ArePlain, IsSpent}
+use Rattle.gateway.specs.Agrees.{IsUndue, pending}
 use Rattle.gateway.proofs.Working.{answers_in, own_serial, asked_own, own_placed}
-use Rattle.gateway.proofs.Talking.{at, HasNoData, next_plain, sends, kept_talk, talk_out, all_taken, confirmed_by, may_by, due_by}
+use Rattle.gateway.proofs.Talking.{at, HasNoData, next_plain, sends, kept_talk, talk_out, all_taken}
+use Rattle.gateway.proofs.Talking.{confirmed_by, may_by, due_by}
 use Rattle.gateway.proofs.Unconfirmed.{numbered_more}
 use Rattle.gateway.proofs.Tied.{tied_piece, tied_own, sent_more, SameWindow, tied_same}
 use Rattle.gateway.proofs.Frames.{pass_grows}
-use Rattle.gateway.proofs.Objects.{next_objects, next_piece, carries_piece, carries_own, first_whole, run_now, split_reports}
+use Rattle.gateway.proofs.Objects.{next_objects, next_piece, carries_piece, carries_own}
+use Rattle.gateway.proofs.Objects.{first_whole, run_now, split_reports}
 use Rattle.gateway.proofs.Stations.{keeps_links}
 
 pub in_order : (objs : List InformationObject) (parts : ℕ) (all : List (List ℕ)) (c : Connection)
     (earlier : List Connection) (unsent : List (List ℕ)) → IsNumberedFrom 0 c.sent_frames
     → Carries objs parts all earlier c.sent_frames unsent → IsInOrder objs c earlier
 in_order objs parts all c earlier unsent numbered carries =
-    record { run = run_now objs parts all earlier c.sent_frames unsent carries; numbered = numbered }
+    record {
+      run = run_now objs parts all earlier c.sent_frames unsent carries;
+      numbered =
+          numbered;
+    }
 
-pub faithful : (p : Setup) (s : State) (log : Log) (unjudged : List ℕ) (phase : Phase) → Agrees p s log unjudged phase
+pub faithful : (p : Setup) (s : State) (log : Log) (unjudged : List ℕ) (phase : Phase)
+    → Agrees p s log unjudged phase
     → IsFaithful p log
 faithful p s log unjudged phase a = record {
   course = a.course;
@@ -123,19 +138,24 @@ same_room p s log unjudged phase a = by_places (cases_lt (free_places s.centre.q
     by_places (inl few) = ap not (lt-ltb used (parts + 3) (is_full p s log unjudged phase a few)
         ∙ sym (lt-ltb (free_places s.centre.queue) 3 few))
     by_places (inr free) =
-        ap not (le-ltb used (parts + 3) (not-less used (parts + 3) (has_places p s log unjudged phase a free))
+        ap not
+        (le-ltb used (parts + 3)
+        (not-less used (parts + 3) (has_places p s log unjudged phase a free))
         ∙ sym (le-ltb (free_places s.centre.queue) 3 free))
       where
         not-less : (m n : ℕ) → (m < n → ⊥) → n ≤ m
         not-less m n h = elim (cases_lt m n) [ inl lt ↦ absurd (h lt) | inr le ↦ le ]
 
 -- as more is sent the same is acknowledged
-pub room_more : (p : Setup) (parts : ℕ) (received : List Apdu) (sent more : List Sent) (earlier : List Connection)
+pub room_more : (p : Setup) (parts : ℕ) (received : List Apdu) (sent more : List Sent)
+    (earlier : List Connection)
     → acknowledged_count received ≤ length sent →
     room_by p parts (record { sent_frames = sent ++ more; received_frames = received }) earlier
     ≡ room_by p parts (record { sent_frames = sent; received_frames = received }) earlier
 room_more p parts received sent more earlier within =
-    ap (λ (fs : List Sent). not (nat_lt (p.places + (reports_among fs + acknowledged_reports earlier)) (parts + 3)))
+    ap
+    (λ (fs : List Sent). not (nat_lt (p.places + (reports_among fs + acknowledged_reports earlier))
+    (parts + 3)))
     (take-append-le (acknowledged_count received) sent more within)
 
 -- Works in a phase, of another state and course
@@ -144,13 +164,16 @@ pub same_does : (phase : Phase) (at : ℕ) (room other : Bool) (w : Works) (s : 
     → s ≡ (works_in phase at room w).serial → s ≡ (works_in phase at other w).serial
 same_does phase at room other w s same d = d ∙ ap (λ r. (works_in phase at r w).serial) (sym same)
 
-pub same_asks : (phase : Phase) (at : ℕ) (room other : Bool) (w : Works) → other ≡ room → IsAsked phase at room w
+pub same_asks : (phase : Phase) (at : ℕ) (room other : Bool) (w : Works) → other ≡ room
+    → IsAsked phase at room w
     → IsAsked phase at other w
 same_asks phase at room other w same h = subst (λ r. IsAsked phase at r w) (sym same) h
 
-pub phase_out : (phase : Phase) (log : Log) (now : ℕ) (octets : List ℕ) → (present log).is_open ≡ true
+pub phase_out : (phase : Phase) (log : Log) (now : ℕ) (octets : List ℕ) → (present log).is_open
+    ≡ true
     → IsPhase phase log → IsPhase phase (Went now (TcpOut octets) ∷ log)
-phase_out Fresh log now octets on h = let no : false ≡ true = sym (ap (λ l. (present l).is_open) h) ∙ on in cc
+phase_out Fresh log now octets on h = let no : false ≡ true = sym (ap (λ l. (present l).is_open) h)
+    ∙ on in cc
 phase_out Taking log now octets on h = h
 phase_out Idle log now octets on h = tt
 phase_out Crowded log now octets on h = tt
@@ -158,7 +181,8 @@ phase_out Judged log now octets on h = h
 phase_out Timed log now octets on h = tt
 phase_out Asked log now octets on h = tt
 
-left_out : (phase : Phase) (log : Log) (now : ℕ) (octets so_far unjudged : List ℕ) → IsLeftIn phase log so_far unjudged
+left_out : (phase : Phase) (log : Log) (now : ℕ) (octets so_far unjudged : List ℕ)
+    → IsLeftIn phase log so_far unjudged
     → IsLeftIn phase (Went now (TcpOut octets) ∷ log) so_far unjudged
 left_out Fresh log now octets so_far unjudged h = h
 left_out Taking log now octets so_far unjudged h = h
@@ -170,7 +194,8 @@ left_out Asked log now octets so_far unjudged h = h
 
 -- what found a place before found one still
 pub placed_on : (phase : Phase) (log new : Log) (h g : happened.History)
-    → ((present new).is_open ≡ true → (present log).is_open ≡ true) → has_lacked_place g ≡ has_lacked_place h
+    → ((present new).is_open ≡ true → (present log).is_open ≡ true) → has_lacked_place g
+    ≡ has_lacked_place h
     → IsPlaced phase log h → IsPlaced phase new g
 placed_on Crowded log new h g on same k = tt
 placed_on Judged log new h g on same k = λ o. same ∙ k (on o)
@@ -181,7 +206,8 @@ placed_on Timed log new h g on same k = λ o. same ∙ k (on o)
 placed_on Asked log new h g on same k = λ o. same ∙ k (on o)
 
 -- where a frame may go out each own answer found a place
-placed_in : (phase : Phase) (log : Log) (h : happened.History) → IsFlushing phase → IsPlaced phase log h
+placed_in : (phase : Phase) (log : Log) (h : happened.History) → IsFlushing phase
+    → IsPlaced phase log h
     → (present log).is_open ≡ true → has_lacked_place h ≡ false
 placed_in Fresh log h flushing placed on = placed on
 placed_in Taking log h flushing placed on = absurd flushing
@@ -192,7 +218,8 @@ placed_in Timed log h flushing placed on = placed on
 placed_in Asked log h flushing placed on = placed on
 
 -- where a connection has just ended nothing is lacked_place
-pub placed_cut : (phase : Phase) (log : Log) (h : happened.History) → IsPlaced phase log (happened.Ended ∷ h)
+pub placed_cut : (phase : Phase) (log : Log) (h : happened.History)
+    → IsPlaced phase log (happened.Ended ∷ h)
 placed_cut Crowded log h = tt
 placed_cut Judged log h = λ o. refl
 placed_cut Fresh log h = λ o. refl
@@ -202,7 +229,8 @@ placed_cut Timed log h = λ o. refl
 placed_cut Asked log h = λ o. refl
 
 acknowledged_within : (p : Setup) (s : State) (log : Log) (unjudged : List ℕ) (phase : Phase)
-    (a : Agrees p s log unjudged phase) → acknowledged_count (came_frames a.course.talk) ≤ length a.course.sent
+    (a : Agrees p s log unjudged phase) → acknowledged_count (came_frames a.course.talk)
+    ≤ length a.course.sent
 acknowledged_within p s log unjudged phase a = omega (arith, a.here.tied.unconfirmed.count)
 
 -- where nothing can be sent any more, all has gone out
@@ -214,7 +242,8 @@ sent_all p s log unjudged phase a all = record {
     arith,
     a.carries.front,
     ap length a.carries.joined,
-    length-append a.carries.gone (objects_of_frames a.course.sent ++ flat_map objects s.centre.queue.unsent),
+    length-append a.carries.gone (objects_of_frames a.course.sent
+        ++ flat_map objects s.centre.queue.unsent),
     length-append (objects_of_frames a.course.sent) (flat_map objects s.centre.queue.unsent),
     ap (λ xs. length (flat_map objects xs)) all.0,
   );
@@ -228,7 +257,8 @@ flushed_by p s log unjudged phase a spent started room =
     sent_all p s log unjudged phase a (spent (may_by p s.centre.session log a.course a.talk
     ∙ can (talk.is_started a.course.talk) started))
   where
-    can : (b : Bool) → b ≡ true → (b && nat_lt (length (talk.still_unacknowledged a.course.talk)) p.session.k) ≡ true
+    can : (b : Bool) → b ≡ true
+        → (b && nat_lt (length (talk.still_unacknowledged a.course.talk)) p.session.k) ≡ true
     can true h = lt-ltb (length (talk.still_unacknowledged a.course.talk)) p.session.k room
     can false h = cc
 
@@ -253,7 +283,8 @@ begun_by p s log unjudged phase a flushing = by_phase phase flushing a.left
       length-append (spelled (came_frames a.course.talk)) (a.here.so_far ++ unjudged),
     ))
 
-    by_phase : (phase : Phase) → IsFlushing phase → IsLeftIn phase log (pending s.centre.so_far) unjudged
+    by_phase : (phase : Phase) → IsFlushing phase
+        → IsLeftIn phase log (pending s.centre.so_far) unjudged
         → HasBegun log a.course
     by_phase Fresh f h = none_left h
     by_phase Taking f h = absurd f
@@ -281,9 +312,11 @@ undue_by p s log unjudged phase a (inr h) =
     (sym (due_by p s.centre.session log a.course a.talk s.moment) ∙ h))
 
 -- a frame is handed to TCP
-went_out : (s t : Centre) (octets : Channel) (unjudged : List ℕ) (c : Connection) (fs : List Sent) (f : Apdu)
+went_out : (s t : Centre) (octets : Channel) (unjudged : List ℕ) (c : Connection) (fs : List Sent)
+    (f : Apdu)
     (h : Presently s octets unjudged c) → Fits f → session.is_open s.session ≡ true
-    → session.is_open t.session ≡ session.is_open s.session → t.so_far ≡ s.so_far → t.heard ≡ s.heard →
+    → session.is_open t.session ≡ session.is_open s.session → t.so_far ≡ s.so_far
+    → t.heard ≡ s.heard →
     fs ≡ data_frames (f ∷ h.put) → length c.sent_frames ≤ length fs →
     Tied (record { sent_frames = fs; received_frames = c.received_frames }) t.session t.queue.sent
     → IsNumberedFrom 0 fs →
@@ -293,7 +326,11 @@ went_out s t octets unjudged c fs f h fits on same so heard bears more tied numb
   link = same ∙ h.link;
   none = λ off. absurd (false≢true (sym off ∙ sym h.link ∙ on));
   put = f ∷ h.put;
-  handed = record { joined = ap (λ x. x ++ spelling f) h.handed.joined; fit = (fits, h.handed.fit) };
+  handed = record {
+    joined = ap (λ x. x ++ spelling f) h.handed.joined;
+    fit =
+        (fits, h.handed.fit);
+  };
   sent = bears;
   so_far = h.so_far;
   assembler = so ∙ h.assembler;
@@ -307,7 +344,8 @@ went_out s t octets unjudged c fs f h fits on same so heard bears more tied numb
 }
 
 -- what goes out changes no connection but the open one
-past_put : (p : Setup) (log : Log) (earlier : List Connection) (now : ℕ) (f : Apdu) → now ≡ latest log
+past_put : (p : Setup) (log : Log) (earlier : List Connection) (now : ℕ) (f : Apdu)
+    → now ≡ latest log
     → is_replaced log ≡ false → (present log).is_open ≡ true → Fits f
     → KeepsRulesSoFar p (Went now (TcpOut (spelling f)) ∷ log) → Past p log earlier
     → Past p (Went now (TcpOut (spelling f)) ∷ log) earlier
@@ -333,25 +371,33 @@ past_put p log earlier now f e settled on fits talk b = record {
 abbrev data_course : State → List ℕ → Kind → (moment : ℕ) → Works → Course → Course
 data_course s asdu kind moment w c = record {
   talk = talk.Sent s.centre.session.next_sent s.centre.session.next_received kind moment ∷ c.talk;
-  sent = c.sent ++ record { ns = s.centre.session.next_sent; nr = s.centre.session.next_received; asdu = asdu } ∷ [];
+  sent = c.sent ++ record {
+    ns = s.centre.session.next_sent;
+    nr =
+        s.centre.session.next_received;
+    asdu = asdu;
+  } ∷ [];
   earlier = c.earlier;
   works = w;
 }
 
 data_queue : (s : State) (asdu : List ℕ) (moment : ℕ) (c : Course) → has_objects asdu ≡ true
-    → with_sent (next_frame s.centre.session asdu) moment c ≡ data_course s asdu FromQueue moment c.works c
+    → with_sent (next_frame s.centre.session asdu) moment c
+    ≡ data_course s asdu FromQueue moment c.works c
 data_queue s asdu moment c has =
     ap (λ b. data_course s asdu (if b then FromQueue else Own) moment
     (if b then c.works else answered_works c.works) c) has
 
 data_own : (s : State) (asdu : List ℕ) (moment : ℕ) (c : Course) → has_objects asdu ≡ false
-    → with_sent (next_frame s.centre.session asdu) moment c ≡ data_course s asdu Own moment (answered_works c.works) c
+    → with_sent (next_frame s.centre.session asdu) moment c
+    ≡ data_course s asdu Own moment (answered_works c.works) c
 data_own s asdu moment c none =
     ap (λ b. data_course s asdu (if b then FromQueue else Own) moment
     (if b then c.works else answered_works c.works) c) none
 
 -- an I frame with this ASDU goes out
-module _ (p : Setup) (s t : State) (log : Log) (unjudged asdu : List ℕ) (kind : Kind) (phase : Phase) (w : Works)
+module _ (p : Setup) (s t : State) (log : Log) (unjudged asdu : List ℕ) (kind : Kind)
+    (phase : Phase) (w : Works)
     (a : Agrees p s log unjudged phase) where
   abbrev data_log : Log
   data_log = Went s.moment (TcpOut (spelling (next_frame s.centre.session asdu))) ∷ log
@@ -361,25 +407,37 @@ module _ (p : Setup) (s t : State) (log : Log) (unjudged asdu : List ℕ) (kind 
 
   data_room : room_in p data_log after_data ≡ room_in p log a.course
   data_room = room_more p (parts_of_all p.sizes (reports_in p log))
-      (came_frames a.course.talk) a.course.sent _ a.course.earlier (acknowledged_within p s log unjudged phase a)
+      (came_frames a.course.talk) a.course.sent _ a.course.earlier
+      (acknowledged_within p s log unjudged phase a)
 
-  data_talk : may_send s.centre.session ≡ true → kind_of asdu ≡ kind → IsNextData p log asdu a.course
+  data_talk : may_send s.centre.session ≡ true → kind_of asdu ≡ kind
+      → IsNextData p log asdu a.course
       → has_lacked_place a.course.works.history ≡ false → Fits (next_frame s.centre.session asdu)
       → with_sent (next_frame s.centre.session asdu) s.moment a.course ≡ after_data
       → Talks p (session.sent kind s.moment s.centre.session) data_log after_data
   data_talk may is next placed fits same =
       subst (Talks p (session.sent kind s.moment s.centre.session) data_log) same
-      (talk_out p s.centre.session (session.sent kind s.moment s.centre.session) log a.course s.moment s.moment
+      (talk_out p s.centre.session (session.sent kind s.moment s.centre.session) log a.course
+      s.moment s.moment
       (next_frame s.centre.session asdu) (Send kind s.moment) a.talk fits a.clock next placed
-      (sends s.centre.session a.course.talk asdu kind s.moment may is) (a.here.so_far ++ unjudged, a.here.joined))
+      (sends s.centre.session a.course.talk asdu kind s.moment may is)
+      (a.here.so_far ++ unjudged, a.here.joined))
 
-pub after_piece : (p : Setup) (s : State) (log : Log) (unjudged asdu : List ℕ) (rest : List (List ℕ)) (phase : Phase)
+pub after_piece : (p : Setup) (s : State) (log : Log) (unjudged asdu : List ℕ)
+    (rest : List (List ℕ)) (phase : Phase)
     → Agrees p s log unjudged phase → IsFlushing phase → IsConfirmed s.centre.session
-    → may_send s.centre.session ≡ true → session.is_open s.centre.session ≡ true → s.serial.commands.answers ≡ []
+    → may_send s.centre.session ≡ true → session.is_open s.centre.session ≡ true
+    → s.serial.commands.answers ≡ []
     → s.centre.queue.unsent ≡ asdu ∷ rest → Fits (next_frame s.centre.session asdu) →
-    Agrees p (piece_sent s) (Went s.moment (TcpOut (spelling (next_frame s.centre.session asdu))) ∷ log) unjudged phase
+    Agrees p (piece_sent s) (Went s.moment (TcpOut (spelling (next_frame s.centre.session asdu)))
+    ∷ log) unjudged phase
 after_piece p s log unjudged asdu rest phase a flushing ready may on none unsent fits =
-    let f : Sent = record { ns = s.centre.session.next_sent; nr = s.centre.session.next_received; asdu = asdu } in
+    let f : Sent = record {
+      ns = s.centre.session.next_sent;
+      nr =
+          s.centre.session.next_received;
+      asdu = asdu;
+    } in
     let has : has_objects asdu ≡ true = first_whole (taken_objects p log)
     (parts_of_all p.sizes (reports_in p log)) (taken_pieces p log) a.course.earlier a.course.sent
     s.centre.queue.unsent rest asdu unsent a.carries in
@@ -395,11 +453,13 @@ after_piece p s log unjudged asdu rest phase a flushing ready may on none unsent
       none = λ some. answers;
       report =
           λ some. next_objects (taken_objects p log)
-          (parts_of_all p.sizes (reports_in p log)) (taken_pieces p log) a.course.earlier a.course.sent
+          (parts_of_all p.sizes (reports_in p log)) (taken_pieces p log) a.course.earlier
+          a.course.sent
           s.centre.queue.unsent rest asdu unsent a.carries;
       piece =
           λ some. next_piece (taken_objects p log)
-          (parts_of_all p.sizes (reports_in p log)) (taken_pieces p log) a.course.earlier a.course.sent
+          (parts_of_all p.sizes (reports_in p log)) (taken_pieces p log) a.course.earlier
+          a.course.sent
           s.centre.queue.unsent rest asdu unsent a.carries;
     }) (placed_in phase log _ flushing a.stands.placed (sym a.here.link ∙ on)) fits
     (data_queue s asdu s.moment a.course has) in
@@ -427,22 +487,29 @@ after_piece p s log unjudged asdu rest phase a flushing ready may on none unsent
       gaps = a.gaps;
       offers = a.offers;
       plain = a.plain;
-      here = went_out s.centre (piece_sent s).centre (present log) unjudged (here_of a.course) (a.course.sent ++ f
+      here = went_out s.centre (piece_sent s).centre (present log) unjudged (here_of a.course)
+          (a.course.sent ++ f
           ∷ []) (next_frame s.centre.session asdu) a.here fits on refl refl refl
-          (ap (λ xs. xs ++ f ∷ []) a.here.sent) (omega (arith, length-append a.course.sent (f ∷ [])))
-          (subst (λ u. Tied (sent_more f (here_of a.course)) (session.sent FromQueue s.moment s.centre.session)
+          (ap (λ xs. xs ++ f ∷ []) a.here.sent)
+          (omega (arith, length-append a.course.sent (f ∷ [])))
+          (subst (λ u. Tied (sent_more f (here_of a.course))
+          (session.sent FromQueue s.moment s.centre.session)
           (s.centre.queue.sent ++ take 1 u)) (sym unsent)
-          (tied_piece f s.moment (here_of a.course) s.centre.session s.centre.queue.sent a.here.tied may has))
+          (tied_piece f s.moment (here_of a.course) s.centre.session s.centre.queue.sent a.here.tied
+          may has))
           (numbered_more 0 a.course.sent f (a.here.tied.next
           ∙ ap (λ n. n % 32768) (sym (zero-add (length a.course.sent)))) a.here.numbered);
       left = left_out phase log s.moment _ _ unjudged a.left;
-      carries = carries_piece (taken_objects p log) (parts_of_all p.sizes (reports_in p log)) (taken_pieces p log) a.course.earlier
+      carries = carries_piece (taken_objects p log) (parts_of_all p.sizes (reports_in p log))
+          (taken_pieces p log) a.course.earlier
           a.course.sent s.centre.queue.unsent rest f unsent has a.carries;
-      before = past_put p log a.course.earlier s.moment (next_frame s.centre.session asdu) a.clock a.settled
+      before = past_put p log a.course.earlier s.moment (next_frame s.centre.session asdu) a.clock
+          a.settled
           (sym a.here.link ∙ on) fits (kept_talk p _ _ _ talk) a.before;
     }
 
-first_plain : (answers : List (List ℕ)) (asdu : List ℕ) → tasks.first_answer answers ≡ Some asdu → ArePlain answers
+first_plain : (answers : List (List ℕ)) (asdu : List ℕ) → tasks.first_answer answers ≡ Some asdu
+    → ArePlain answers
     → has_objects asdu ≡ false
 first_plain [] asdu e h = cc
 first_plain (x ∷ xs) asdu e h = subst (λ y. has_objects y ≡ false) (same e) h.0
@@ -457,11 +524,19 @@ fewer_plain (x ∷ xs) h = h.1
 pub after_own : (p : Setup) (s : State) (log : Log) (unjudged asdu : List ℕ) (phase : Phase)
     → Agrees p s log unjudged phase → IsFlushing phase → IsConfirmed s.centre.session
     → may_send s.centre.session ≡ true → session.is_open s.centre.session ≡ true
-    → tasks.first_answer s.serial.commands.answers ≡ Some asdu → Fits (next_frame s.centre.session asdu) →
-    Agrees p (own_sent s) (Went s.moment (TcpOut (spelling (next_frame s.centre.session asdu))) ∷ log) unjudged phase
+    → tasks.first_answer s.serial.commands.answers ≡ Some asdu
+    → Fits (next_frame s.centre.session asdu) →
+    Agrees p (own_sent s) (Went s.moment (TcpOut (spelling (next_frame s.centre.session asdu)))
+    ∷ log) unjudged phase
 after_own p s log unjudged asdu phase a flushing ready may on first fits =
-    let f : Sent = record { ns = s.centre.session.next_sent; nr = s.centre.session.next_received; asdu = asdu } in
-    let none : has_objects asdu ≡ false = first_plain s.serial.commands.answers asdu first a.plain in
+    let f : Sent = record {
+      ns = s.centre.session.next_sent;
+      nr =
+          s.centre.session.next_received;
+      asdu = asdu;
+    } in
+    let none : has_objects asdu ≡ false = first_plain s.serial.commands.answers asdu first
+    a.plain in
     let oldest : tasks.first_answer a.course.works.serial.commands.answers ≡ Some asdu =
     ap tasks.first_answer (sym (ap (λ (z : Serial). z.commands.answers) a.stands.does
     ∙ answers_in phase (latest log) (room_in p log a.course) a.course.works)) ∙ first in
@@ -493,26 +568,35 @@ after_own p s log unjudged asdu phase a flushing ready may on first fits =
       course = data_course s asdu Own s.moment w a.course;
       talk = talk;
       stands = record {
-        does = same_does phase (latest log) _ _ w (serial.answered s.serial) room (ap serial.answered a.stands.does
-            ∙ sym (own_serial a.course.works asdu oldest phase (latest log) (room_in p log a.course)));
+        does = same_does phase (latest log) _ _ w (serial.answered s.serial) room
+            (ap serial.answered a.stands.does
+            ∙ sym (own_serial a.course.works asdu oldest phase (latest log)
+            (room_in p log a.course)));
         asks = same_asks phase (latest log) _ _ w room
-            (asked_own a.course.works asdu oldest phase (latest log) (room_in p log a.course) a.stands.asks);
+            (asked_own a.course.works asdu oldest phase (latest log) (room_in p log a.course)
+            a.stands.asks);
         phase_is = phase_out phase log s.moment _ (sym a.here.link ∙ on) a.stands.phase_is;
-        placed = placed_on phase log _ _ _ (λ o. o) (own_placed a.course.works asdu oldest) a.stands.placed;
+        placed = placed_on phase log _ _ _ (λ o. o) (own_placed a.course.works asdu oldest)
+            a.stands.placed;
       };
       gaps = a.gaps;
       offers = a.offers;
       plain = fewer_plain s.serial.commands.answers a.plain;
-      here = went_out s.centre (own_sent s).centre (present log) unjudged (here_of a.course) (a.course.sent ++ f ∷ [])
+      here = went_out s.centre (own_sent s).centre (present log) unjudged (here_of a.course)
+          (a.course.sent ++ f ∷ [])
           (next_frame s.centre.session asdu) a.here fits on refl refl refl
-          (ap (λ xs. xs ++ f ∷ []) a.here.sent) (omega (arith, length-append a.course.sent (f ∷ [])))
-          (tied_own f s.moment (here_of a.course) s.centre.session s.centre.queue.sent a.here.tied may none)
+          (ap (λ xs. xs ++ f ∷ []) a.here.sent)
+          (omega (arith, length-append a.course.sent (f ∷ [])))
+          (tied_own f s.moment (here_of a.course) s.centre.session s.centre.queue.sent a.here.tied
+          may none)
           (numbered_more 0 a.course.sent f (a.here.tied.next
           ∙ ap (λ n. n % 32768) (sym (zero-add (length a.course.sent)))) a.here.numbered);
       left = left_out phase log s.moment _ _ unjudged a.left;
-      carries = carries_own (taken_objects p log) (parts_of_all p.sizes (reports_in p log)) (taken_pieces p log) a.course.earlier
+      carries = carries_own (taken_objects p log) (parts_of_all p.sizes (reports_in p log))
+          (taken_pieces p log) a.course.earlier
           a.course.sent s.centre.queue.unsent f none a.carries;
-      before = past_put p log a.course.earlier s.moment (next_frame s.centre.session asdu) a.clock a.settled
+      before = past_put p log a.course.earlier s.moment (next_frame s.centre.session asdu) a.clock
+          a.settled
           (sym a.here.link ∙ on) fits (kept_talk p _ _ _ talk) a.before;
     }
 
@@ -531,15 +615,19 @@ due_course f moment c = record {
       c.works;
 }
 
-due_same : (f : Apdu) (moment : ℕ) (c : Course) → HasNoData f → with_sent f moment c ≡ due_course f moment c
-due_same (I ns nr asdu) moment c none = let no : data_frames (I ns nr asdu ∷ []) ≡ [] = none [] in cc
+due_same : (f : Apdu) (moment : ℕ) (c : Course) → HasNoData f → with_sent f moment c
+    ≡ due_course f moment c
+due_same (I ns nr asdu) moment c none = let no : data_frames (I ns nr asdu ∷ []) ≡ [] = none [] in
+    cc
 due_same (S nr) moment c none = refl
 due_same (U u) moment c none = refl
 
-pub after_due : (p : Setup) (s : State) (t : Session) (log : Log) (unjudged : List ℕ) (f : Apdu) (phase : Phase)
+pub after_due : (p : Setup) (s : State) (t : Session) (log : Log) (unjudged : List ℕ) (f : Apdu)
+    (phase : Phase)
     (a : Agrees p s log unjudged phase) → IsFlushing phase
     → (talk.confirmation_of a.course.talk ≡ Some f) ⊎ ((talk.confirmation_of a.course.talk ≡ None)
-    × IsFlushed p log a.course × HasBegun log a.course) → session.is_open s.centre.session ≡ true → Fits f
+    × IsFlushed p log a.course × HasBegun log a.course) → session.is_open s.centre.session ≡ true
+    → Fits f
     → HasNoData f → GoesOut s.centre.session t s.moment f → SameWindow s.centre.session t →
     Agrees p (with_session t s) (Went s.moment (TcpOut (spelling f)) ∷ log) unjudged phase
 after_due p s t log unjudged f phase a flushing next on fits none goes same = record {
@@ -567,15 +655,20 @@ after_due p s t log unjudged f phase a flushing next on fits none goes same = re
   here = went_out s.centre (with_session t s).centre (present log) unjudged
       (here_of a.course) a.course.sent f a.here fits on same.same_connected refl refl (a.here.sent
       ∙ sym (none a.here.put)) (omega arith)
-      (tied_same (here_of a.course) s.centre.session t s.centre.queue.sent same a.here.tied) a.here.numbered;
+      (tied_same (here_of a.course) s.centre.session t s.centre.queue.sent same a.here.tied)
+      a.here.numbered;
   left = left_out phase log s.moment _ _ unjudged a.left;
   carries = a.carries;
   before = past_put p log a.course.earlier s.moment f a.clock a.settled (sym a.here.link
       ∙ on) fits (kept_talk p _ _ _ talk_due) a.before;
 }
   where
-    talk_due : Talks p t (Went s.moment (TcpOut (spelling f)) ∷ log) (due_course f s.moment a.course)
-    talk_due = subst (Talks p t (Went s.moment (TcpOut (spelling f)) ∷ log)) (due_same f s.moment a.course none)
-        (talk_out p s.centre.session t log a.course s.moment s.moment f goes.call a.talk fits a.clock
-        (next_plain p log a.course f none next) (placed_in phase log _ flushing a.stands.placed (sym a.here.link
+    talk_due : Talks p t (Went s.moment (TcpOut (spelling f)) ∷ log)
+        (due_course f s.moment a.course)
+    talk_due = subst (Talks p t (Went s.moment (TcpOut (spelling f)) ∷ log))
+        (due_same f s.moment a.course none)
+        (talk_out p s.centre.session t log a.course s.moment s.moment f goes.call a.talk fits
+        a.clock
+        (next_plain p log a.course f none next) (placed_in phase log _ flushing a.stands.placed
+        (sym a.here.link
         ∙ on)) (goes.made a.course.talk) (a.here.so_far ++ unjudged, a.here.joined))

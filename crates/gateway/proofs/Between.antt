@@ -2,8 +2,10 @@
 use Rattle.std.proofs.Common.{◌≡◌, ℕ, Bool, true, false, [], ◌∷◌, None, refl, sym, ap, ◌∙◌}
 use Rattle.std.specs.Prelude.{if◌then◌else◌}
 use Rattle.session.specs.declared.kinds.Close.{Close}
-use Rattle.session.specs.declared.kinds.Close.TheVariants.{Grammar, SendNumber, ReceiveNumber, Stopped, Timeout, OwnAnswers, Replaced}
-use Rattle.gateway.specs.Log.{Log, LineIn, Opened, TcpIn, CutOff, Ticked, WallIs, LineOut, TcpOut, Closed, GapOut, Came, Went, latest}
+use Rattle.session.specs.declared.kinds.Close.TheVariants.{Grammar, SendNumber, ReceiveNumber}
+use Rattle.session.specs.declared.kinds.Close.TheVariants.{Stopped, Timeout, OwnAnswers, Replaced}
+use Rattle.gateway.specs.Log.{Log, LineIn, Opened, TcpIn, CutOff, Ticked, WallIs, LineOut, TcpOut}
+use Rattle.gateway.specs.Log.{Closed, GapOut, Came, Went, latest}
 use Rattle.gateway.specs.Connections.{present}
 use Rattle.gateway.specs.Reports.{Setup}
 use Rattle.gateway.specs.Serial.{Serial}
@@ -17,7 +19,8 @@ use Rattle.gateway.proofs.Working.{gap_in}
 
 -- Nothing but the timers touches the silence of a step
 
-closed_silent : (p : Setup) (cause : Close) (is_open : Bool) (at : ℕ) (c : Course) → c.works.serial.silent ≡ None
+closed_silent : (p : Setup) (cause : Close) (is_open : Bool) (at : ℕ) (c : Course)
+    → c.works.serial.silent ≡ None
     → (closed_course p cause is_open at c).works.serial.silent ≡ None
 closed_silent p Grammar is_open at c h = h
 closed_silent p SendNumber is_open at c h = h
@@ -44,7 +47,8 @@ none_silent p (Came now Opened ∷ log) c r due =
     let no : true ≡ false = sym (ap (λ (d : Course). d.works.is_due) r.5) ∙ due in absurd (cc)
 none_silent p (Came now CutOff ∷ log) c r due =
     let no : true ≡ false = sym (ap (λ (d : Course). d.works.is_due) r.5) ∙ due in absurd (cc)
-none_silent p (Went now (LineOut octets) ∷ log) c r due = ap (λ (d : Course). d.works.serial.silent) r.2.is
+none_silent p (Went now (LineOut octets) ∷ log) c r due =
+    ap (λ (d : Course). d.works.serial.silent) r.2.is
 none_silent p (Went now (GapOut station session) ∷ log) c r due =
     ap (λ (d : Course). d.works.serial.silent) r.2.is
     ∙ none_silent p log r.0 r.1 (sym (ap (λ (d : Course). d.works.is_due) r.2.is) ∙ due)
@@ -69,7 +73,8 @@ done_silent : (b : Bool) (at : ℕ) (room : Bool) (w : Works) → (b ≡ false �
 done_silent true at room w h = refl
 done_silent false at room w h = h refl
 
-pub between_steps : (p : Setup) (s : State) (log : Log) → Agrees p s log [] (resting log) → IsBetweenSteps s
+pub between_steps : (p : Setup) (s : State) (log : Log) → Agrees p s log [] (resting log)
+    → IsBetweenSteps s
 between_steps p s [] a = record {
   silent = ap (λ (t : Serial). t.silent) a.stands.does
       ∙ none_silent p [] a.course a.talk.course_runs a.stands.asks.0;
@@ -81,6 +86,7 @@ between_steps p s (entry ∷ log) a = record {
       ∙ done_silent a.course.works.is_due _ (room_in p (entry ∷ log) a.course) a.course.works
       (none_silent p (entry ∷ log) a.course a.talk.course_runs);
   gap = ap (λ (t : Serial). t.gap) a.stands.does
-      ∙ gap_in Asked (latest (entry ∷ log)) (room_in p (entry ∷ log) a.course) a.course.works ∙ a.stands.asks.2;
+      ∙ gap_in Asked (latest (entry ∷ log)) (room_in p (entry ∷ log) a.course) a.course.works
+      ∙ a.stands.asks.2;
   heard = a.here.taken;
 }

@@ -1,5 +1,6 @@
 -- Commands without an answer are given up at a restart, and all else stays.
-use Rattle.std.proofs.Common.{◌≡◌, ◌≢◌, ◌+◌, ◌<◌, ◌≤◌, add-one, ℕ, zero, suc, Bool, true, false, length, refl, sym, ap, subst, ◌∙◌, arith}
+use Rattle.std.proofs.Common.{◌≡◌, ◌≢◌, ◌+◌, ◌<◌, ◌≤◌, add-one, ℕ, zero, suc, Bool, true, false}
+use Rattle.std.proofs.Common.{length, refl, sym, ap, subst, ◌∙◌, arith}
 use Rattle.std.specs.Prelude.{◌⊎◌, if◌then◌else◌}
 use Rattle.std.proofs.Common.{inl, inr}
 use Rattle.std.proofs.lemmas.Bool.{cases_eq}
@@ -7,15 +8,18 @@ use Rattle.link.specs.Turns.{station_at}
 use Rattle.link.specs.Primary.{Primary}
 use Rattle.link.specs.Carried.{awaits_command, station_given_up, given_up}
 use Rattle.gateway.specs.Serial.{Serial}
-use Rattle.gateway.specs.Carried.{link_given_up, command_given_up, commands_given_up_upto, without_commands}
+use Rattle.gateway.specs.Carried.{link_given_up, command_given_up, commands_given_up_upto}
+use Rattle.gateway.specs.Carried.{without_commands}
 
 -- what giving up a link does to a line, as `giving_up_is_for_one_station` says it
 pub record IsForOne : Type 0 where
   pub done : (p : Primary) (k : ℕ) → k < length p.stations → awaits_command (given_up k p) k ≡ false
   pub itself : (p : Primary) (k : ℕ) → k < length p.stations
       → station_at (given_up k p).stations k ≡ station_given_up (station_at p.stations k)
-  pub others : (p : Primary) (k j : ℕ) → j ≢ k → station_at (given_up k p).stations j ≡ station_at p.stations j
-  pub awaited : (p : Primary) (k j : ℕ) → j ≢ k → awaits_command (given_up k p) j ≡ awaits_command p j
+  pub others : (p : Primary) (k j : ℕ) → j ≢ k → station_at (given_up k p).stations j
+      ≡ station_at p.stations j
+  pub awaited : (p : Primary) (k j : ℕ) → j ≢ k → awaits_command (given_up k p) j
+      ≡ awaits_command p j
   pub number : (p : Primary) (k : ℕ) → length (given_up k p).stations ≡ length p.stations
 
 module _ (law : IsForOne) where
@@ -26,19 +30,24 @@ module _ (law : IsForOne) where
   one_line k s true e = ap (λ (b : Bool). (if b then link_given_up k s else s).line) e
   one_line k s false e = ap (λ (b : Bool). (if b then link_given_up k s else s).line) e
 
-  one_number : (k : ℕ) (s : Serial) → length (command_given_up k s).line.stations ≡ length s.line.stations
+  one_number : (k : ℕ) (s : Serial) → length (command_given_up k s).line.stations
+      ≡ length s.line.stations
   one_number k s = go (awaits_command s.line k) refl
     where
       go : (b : Bool) → awaits_command s.line k ≡ b
           → length (command_given_up k s).line.stations ≡ length s.line.stations
-      go true e = ap (λ (p : Primary). length p.stations) (one_line k s true e) ∙ law.number s.line k
+      go true e = ap (λ (p : Primary). length p.stations) (one_line k s true e)
+          ∙ law.number s.line k
       go false e = ap (λ (p : Primary). length p.stations) (one_line k s false e)
 
-  one_done : (k : ℕ) (s : Serial) → k < length s.line.stations → awaits_command (command_given_up k s).line k ≡ false
+  one_done : (k : ℕ) (s : Serial) → k < length s.line.stations
+      → awaits_command (command_given_up k s).line k ≡ false
   one_done k s within = go (awaits_command s.line k) refl
     where
-      go : (b : Bool) → awaits_command s.line k ≡ b → awaits_command (command_given_up k s).line k ≡ false
-      go true e = ap (λ (p : Primary). awaits_command p k) (one_line k s true e) ∙ law.done s.line k within
+      go : (b : Bool) → awaits_command s.line k ≡ b → awaits_command (command_given_up k s).line k
+          ≡ false
+      go true e = ap (λ (p : Primary). awaits_command p k) (one_line k s true e)
+          ∙ law.done s.line k within
       go false e = ap (λ (p : Primary). awaits_command p k) (one_line k s false e) ∙ e
 
   one_awaited : (k j : ℕ) (s : Serial) → j ≢ k
@@ -47,7 +56,8 @@ module _ (law : IsForOne) where
     where
       go : (b : Bool) → awaits_command s.line k ≡ b
           → awaits_command (command_given_up k s).line j ≡ awaits_command s.line j
-      go true e = ap (λ (p : Primary). awaits_command p j) (one_line k s true e) ∙ law.awaited s.line k j other
+      go true e = ap (λ (p : Primary). awaits_command p j) (one_line k s true e)
+          ∙ law.awaited s.line k j other
       go false e = ap (λ (p : Primary). awaits_command p j) (one_line k s false e)
 
   one_station : (k j : ℕ) (s : Serial) → j ≢ k
@@ -56,20 +66,24 @@ module _ (law : IsForOne) where
     where
       go : (b : Bool) → awaits_command s.line k ≡ b
           → station_at (command_given_up k s).line.stations j ≡ station_at s.line.stations j
-      go true e = ap (λ (p : Primary). station_at p.stations j) (one_line k s true e) ∙ law.others s.line k j other
+      go true e = ap (λ (p : Primary). station_at p.stations j) (one_line k s true e)
+          ∙ law.others s.line k j other
       go false e = ap (λ (p : Primary). station_at p.stations j) (one_line k s false e)
 
   one_down : (k : ℕ) (s : Serial) → k < length s.line.stations → awaits_command s.line k ≡ true
-      → station_at (command_given_up k s).line.stations k ≡ station_given_up (station_at s.line.stations k)
+      → station_at (command_given_up k s).line.stations k
+      ≡ station_given_up (station_at s.line.stations k)
   one_down k s within e =
-      ap (λ (p : Primary). station_at p.stations k) (one_line k s true e) ∙ law.itself s.line k within
+      ap (λ (p : Primary). station_at p.stations k) (one_line k s true e)
+      ∙ law.itself s.line k within
 
   one_kept : (k : ℕ) (s : Serial) → awaits_command s.line k ≡ false → command_given_up k s ≡ s
   one_kept k s e = ap (λ (b : Bool). if b then link_given_up k s else s) e
 
   -- so many stations
 
-  number : (n : ℕ) (s : Serial) → length (commands_given_up_upto n s).line.stations ≡ length s.line.stations
+  number : (n : ℕ) (s : Serial) → length (commands_given_up_upto n s).line.stations
+      ≡ length s.line.stations
   number zero s = refl
   number (suc n) s = one_number n (commands_given_up_upto n s) ∙ number n s
 
@@ -92,17 +106,22 @@ module _ (law : IsForOne) where
   done_upto zero j s most lt = absurd (omega (arith, lt))
   done_upto (suc n) j s most lt = go (λ lt. done_upto n j s (omega arith) lt) (cases_eq j n)
     where
-      go : (j < n → awaits_command (commands_given_up_upto n s).line j ≡ false) → (j ≡ n) ⊎ (j ≡ n → ⊥)
+      go : (j < n → awaits_command (commands_given_up_upto n s).line j ≡ false)
+          → (j ≡ n) ⊎ (j ≡ n → ⊥)
           → awaits_command (commands_given_up_upto (suc n) s).line j ≡ false
       go before (inl here) =
-          let there : n < length (commands_given_up_upto n s).line.stations = omega (arith, number n s, most) in
-          subst (λ (i : ℕ). awaits_command (commands_given_up_upto (suc n) s).line i ≡ false) (sym here)
+          let there : n < length (commands_given_up_upto n s).line.stations =
+          omega (arith, number n s, most) in
+          subst (λ (i : ℕ). awaits_command (commands_given_up_upto (suc n) s).line i ≡ false)
+          (sym here)
           (one_done n (commands_given_up_upto n s) there)
       go before (inr other) =
           one_awaited n j (commands_given_up_upto n s) other ∙ before (omega (arith, lt, other))
 
-  down_upto : (n j : ℕ) (s : Serial) → n ≤ length s.line.stations → j < n → awaits_command s.line j ≡ true
-      → station_at (commands_given_up_upto n s).line.stations j ≡ station_given_up (station_at s.line.stations j)
+  down_upto : (n j : ℕ) (s : Serial) → n ≤ length s.line.stations → j < n → awaits_command s.line j
+      ≡ true
+      → station_at (commands_given_up_upto n s).line.stations j
+      ≡ station_given_up (station_at s.line.stations j)
   down_upto zero j s most lt e = absurd (omega (arith, lt))
   down_upto (suc n) j s most lt e = go (λ lt. down_upto n j s (omega arith) lt e) (cases_eq j n)
     where
@@ -111,7 +130,8 @@ module _ (law : IsForOne) where
           → (j ≡ n) ⊎ (j ≡ n → ⊥) → station_at (commands_given_up_upto (suc n) s).line.stations j
           ≡ station_given_up (station_at s.line.stations j)
       go before (inl here) =
-          let there : n < length (commands_given_up_upto n s).line.stations = omega (arith, number n s, most) in
+          let there : n < length (commands_given_up_upto n s).line.stations =
+          omega (arith, number n s, most) in
           subst (λ (i : ℕ). station_at (commands_given_up_upto (suc n) s).line.stations i
           ≡ station_given_up (station_at s.line.stations i)) (sym here)
           (one_down n (commands_given_up_upto n s) there
@@ -131,7 +151,8 @@ module _ (law : IsForOne) where
       go before (inl here) =
           subst (λ (i : ℕ). station_at (commands_given_up_upto (suc n) s).line.stations i
           ≡ station_at s.line.stations i) (sym here)
-          (ap (λ (t : Serial). station_at t.line.stations n) (one_kept n (commands_given_up_upto n s)
+          (ap (λ (t : Serial). station_at t.line.stations n)
+          (one_kept n (commands_given_up_upto n s)
           (later n n s (omega arith) ∙ ap (λ (i : ℕ). awaits_command s.line i) (sym here) ∙ e))
           ∙ later_station n n s (omega arith))
       go before (inr other) = one_station n j (commands_given_up_upto n s) other ∙ before
@@ -145,11 +166,13 @@ module _ (law : IsForOne) where
 
   -- all stations
 
-  pub done : (s : Serial) (k : ℕ) → k < length s.line.stations → awaits_command (without_commands s).line k ≡ false
+  pub done : (s : Serial) (k : ℕ) → k < length s.line.stations
+      → awaits_command (without_commands s).line k ≡ false
   done s k lt = done_upto (length s.line.stations) k s (omega arith) lt
 
   pub down : (s : Serial) (k : ℕ) → k < length s.line.stations → awaits_command s.line k ≡ true
-      → station_at (without_commands s).line.stations k ≡ station_given_up (station_at s.line.stations k)
+      → station_at (without_commands s).line.stations k
+      ≡ station_given_up (station_at s.line.stations k)
   down s k lt e = down_upto (length s.line.stations) k s (omega arith) lt e
 
   pub others : (s : Serial) (k : ℕ) → awaits_command s.line k ≡ false

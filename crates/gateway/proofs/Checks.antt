@@ -1,4 +1,5 @@
--- The definitions, computed on the log of one report: the start of the link, a poll answered by a single point, and a
+-- The definitions, computed on the log of one report: the start of the link, a poll answered by a
+-- single point, and a
 -- connection with STARTDT on which the point goes out.
 use Rattle.std.proofs.Common.{◌≡◌, [], ◌∷◌, true, false, None, refl}
 use Rattle.ft12.specs.declared.frame.LinkSize.TheVariants.{One}
@@ -11,7 +12,8 @@ use Rattle.asdu.specs.declared.sizes.IoaSize.TheVariants as ioas
 use Rattle.asdu.specs.InformationObjects.{InformationObject, objects_of, monitor_objects_of}
 use Rattle.apci.specs.declared.apdu.Apdu.TheVariants.{U}
 use Rattle.apci.specs.declared.apdu.Uf.TheVariants.{StartAct}
-use Rattle.gateway.specs.Log.{Log, Came, Went, LineIn, Opened, TcpIn, Ticked, LineOut, TcpOut, latest}
+use Rattle.gateway.specs.Log.{Log, Came, Went, LineIn, Opened, TcpIn, Ticked, LineOut, TcpOut}
+use Rattle.gateway.specs.Log.{latest}
 use Rattle.gateway.specs.Frames.{Connection, monitor_objects_sent, first_unacknowledged}
 use Rattle.gateway.specs.Connections.{present}
 use Rattle.gateway.specs.Reports.{Setup, taken_objects}
@@ -31,10 +33,12 @@ setup = record {
 -- newest first
 log : Log
 log =
-    Went 50 (TcpOut (0x68 ∷ 0x0E ∷ 0x00 ∷ 0x00 ∷ 0x00 ∷ 0x00 ∷ 0x01 ∷ 0x01 ∷ 0x03 ∷ 0x00 ∷ 0x01 ∷ 0x00 ∷ 0x64 ∷ 0x00
+    Went 50 (TcpOut (0x68 ∷ 0x0E ∷ 0x00 ∷ 0x00 ∷ 0x00 ∷ 0x00 ∷ 0x01 ∷ 0x01 ∷ 0x03 ∷ 0x00 ∷ 0x01
+    ∷ 0x00 ∷ 0x64 ∷ 0x00
     ∷ 0x00 ∷ 0x01 ∷ []))
     ∷ Went 50 (LineOut (0x10 ∷ 0x5B ∷ 0x01 ∷ 0x5C ∷ 0x16 ∷ []))
-    ∷ Came 50 (LineIn (0x68 ∷ 0x09 ∷ 0x09 ∷ 0x68 ∷ 0x08 ∷ 0x01 ∷ 0x01 ∷ 0x01 ∷ 0x03 ∷ 0x01 ∷ 0x64 ∷ 0x00 ∷ 0x01 ∷ 0x74
+    ∷ Came 50 (LineIn (0x68 ∷ 0x09 ∷ 0x09 ∷ 0x68 ∷ 0x08 ∷ 0x01 ∷ 0x01 ∷ 0x01 ∷ 0x03 ∷ 0x01 ∷ 0x64
+    ∷ 0x00 ∷ 0x01 ∷ 0x74
     ∷ 0x16 ∷ []))
     ∷ Went 40 (TcpOut (0x68 ∷ 0x04 ∷ 0x0B ∷ 0x00 ∷ 0x00 ∷ 0x00 ∷ []))
     ∷ Came 40 (TcpIn (0x68 ∷ 0x04 ∷ 0x07 ∷ 0x00 ∷ 0x00 ∷ 0x00 ∷ []))
@@ -48,7 +52,16 @@ log =
     ∷ []
 
 point : InformationObject
-point = record { kind = MSpNa1; cause = 3; originator = 0; ca = 1; address = 100; element = 1 ∷ []; tag = None }
+point = record {
+  kind = MSpNa1;
+  cause = 3;
+  originator = 0;
+  ca = 1;
+  address = 100;
+  element =
+      1 ∷ [];
+  tag = None;
+}
 
 -- the point is taken, once
 taken_is : taken_objects setup log ≡ point ∷ []

@@ -1,5 +1,7 @@
 -- A connection ends, and the step comes to rest.
-use Rattle.std.proofs.Common.{◌≡◌, ℕ, ◌<◌, ◌&&◌, Bool, true, false, nat_lt, List, [], ◌∷◌, ◌++◌, length, drop, refl, ap, sym, ◌∙◌, subst, arith, Option, Some, None, inl, inr}
+use Rattle.std.proofs.Common.{◌≡◌, ℕ, ◌<◌, ◌&&◌, Bool, true, false, nat_lt, List, [], ◌∷◌, ◌++◌}
+use Rattle.std.proofs.Common.{length, drop, refl, ap, sym, ◌∙◌, subst, arith, Option, Some, None}
+use Rattle.std.proofs.Common.{inl, inr}
 use Rattle.std.specs.Prelude.{if◌then◌else◌, map, option_map}
 use Rattle.std.specs.Prelude.{◌⊎◌}
 use Rattle.std.proofs.lemmas.List.{append-nil}
@@ -11,15 +13,19 @@ use Rattle.apci.specs.Reading.{IsMore}
 use Rattle.link.specs.Primary.{Primary, Outstanding}
 use Rattle.link.specs.Primary as primary
 use Rattle.session.specs.declared.kinds.Close.{Close}
-use Rattle.session.specs.declared.kinds.Close.TheVariants.{Grammar, SendNumber, ReceiveNumber, Stopped, Timeout, OwnAnswers, Replaced}
+use Rattle.session.specs.declared.kinds.Close.TheVariants.{Grammar, SendNumber, ReceiveNumber}
+use Rattle.session.specs.declared.kinds.Close.TheVariants.{Stopped, Timeout, OwnAnswers, Replaced}
 use Rattle.session.specs.Session as session
 use Rattle.session.specs.Session.{is_transferring, is_from_queue}
 use Rattle.events.specs.Queue as queue
 use Rattle.gateway.specs.Log.{Log, Went, Closed, latest}
 use Rattle.gateway.specs.Streams.{IsRefused}
-use Rattle.gateway.specs.Frames.{Connection, new_connection, acknowledged_count, fault_of, AreInOrder}
-use Rattle.gateway.specs.Connections.{Channel, no_channel, ends, present, past, over, closed_by, IsBehind, BeginsWithFault, IsConnection, AreConnections}
-use Rattle.gateway.specs.Reports.{Setup, address_at, exchanges_of, exchanges_with, taken_objects, taken_pieces, reports_in, parts_of_all}
+use Rattle.gateway.specs.Frames.{Connection, new_connection, acknowledged_count, fault_of}
+use Rattle.gateway.specs.Frames.{AreInOrder}
+use Rattle.gateway.specs.Connections.{Channel, no_channel, ends, present, past, over, closed_by}
+use Rattle.gateway.specs.Connections.{IsBehind, BeginsWithFault, IsConnection, AreConnections}
+use Rattle.gateway.specs.Reports.{Setup, address_at, exchanges_of, exchanges_with, taken_objects}
+use Rattle.gateway.specs.Reports.{taken_pieces, reports_in, parts_of_all}
 use Rattle.gateway.specs.Gaps.{gaps_told, gap_for}
 use Rattle.gateway.specs.Traffic.{replaces, IsAtRest}
 use Rattle.command.specs.State as tasks
@@ -41,13 +47,16 @@ use Rattle.link.specs.Telling as telling
 use Rattle.ft12.specs.Fronts.{front_of}
 use Rattle.command.specs.State.{octets_waiting, oldest}
 use Rattle.command.specs.declared.waiting.Waiting.{Waiting}
-use Rattle.gateway.specs.Course.{Course, here_of, came_frames, room_in, ended_course, works_at, closed_course, IsCause, Runs}
-use Rattle.gateway.specs.Phases.{Phase, Fresh, Taking, Judged, Idle, Crowded, Timed, Asked, IsLeftIn, IsPhase, works_in, IsAsked, IsOut}
+use Rattle.gateway.specs.Course.{Course, here_of, came_frames, room_in, ended_course, works_at}
+use Rattle.gateway.specs.Course.{closed_course, IsCause, Runs}
+use Rattle.gateway.specs.Phases.{Phase, Fresh, Taking, Judged, Idle, Crowded, Timed, Asked}
+use Rattle.gateway.specs.Phases.{IsLeftIn, IsPhase, works_in, IsAsked, IsOut}
 use Rattle.session.specs.History.{frame_due, has_timed_out}
 use Rattle.gateway.specs.Agrees.{Presently, Carries, Talks, Agrees, IsSpent, IsQuiet, pieces_of}
 use Rattle.gateway.proofs.Working.{gap_in}
 use Rattle.gateway.proofs.Offering.{count_upto, offers_cut}
-use Rattle.gateway.proofs.Talking.{at, kept_talk, talk_cut, all_taken, confirmed_by, due_by, late_by}
+use Rattle.gateway.proofs.Talking.{at, kept_talk, talk_cut, all_taken, confirmed_by, due_by}
+use Rattle.gateway.proofs.Talking.{late_by}
 use Rattle.gateway.proofs.Tied.{fault_cases}
 use Rattle.gateway.proofs.Frames.{nothing_waits}
 use Rattle.gateway.proofs.Objects.{carries_end}
@@ -57,7 +66,8 @@ use Rattle.gateway.proofs.Stations.{line_rests}
 use Rattle.gateway.proofs.Agreement.{in_order, is_full, same_room, placed_cut, sent_all}
 
 -- what stands on the connection
-stands : (p : Setup) (s : State) (log : Log) (unjudged : List ℕ) (phase : Phase) (a : Agrees p s log unjudged phase)
+stands : (p : Setup) (s : State) (log : Log) (unjudged : List ℕ) (phase : Phase)
+    (a : Agrees p s log unjudged phase)
     (fault : Option Close) → IsBehind (present log).lacked_place (length a.course.sent)
     (came_frames a.course.talk) fault
     (a.here.so_far ++ unjudged) → IsConnection (present log) (here_of a.course) fault
@@ -76,16 +86,19 @@ stands p s log unjudged phase a fault behind = record {
 
 pub stands_now : (p : Setup) (s : State) (log : Log) (phase : Phase) (a : Agrees p s log [] phase)
     → IsConnection (present log) (here_of a.course) None
-stands_now p s log phase a = stands p s log [] phase a None (subst IsMore (sym (append-nil a.here.so_far)) a.here.waits)
+stands_now p s log phase a =
+    stands p s log [] phase a None (subst IsMore (sym (append-nil a.here.so_far)) a.here.waits)
 
 pub stands_garbled : (p : Setup) (s : State) (log : Log) (unjudged : List ℕ) (phase : Phase)
     (a : Agrees p s log unjudged phase) → IsRefused (a.here.so_far ++ unjudged)
     → IsConnection (present log) (here_of a.course) (Some Grammar)
-stands_garbled p s log unjudged phase a refused = stands p s log unjudged phase a (Some Grammar) refused
+stands_garbled p s log unjudged phase a refused = stands p s log unjudged phase a (Some Grammar)
+    refused
 
 -- an own answer found no place
 pub stands_overfull : (p : Setup) (s : State) (log : Log) (unjudged : List ℕ) (phase : Phase)
-    (a : Agrees p s log unjudged phase) → IsConnection (closed_by OwnAnswers (present log)) (here_of a.course)
+    (a : Agrees p s log unjudged phase)
+    → IsConnection (closed_by OwnAnswers (present log)) (here_of a.course)
     (Some OwnAnswers)
 stands_overfull p s log unjudged phase a = record {
   put = a.here.put;
@@ -100,8 +113,10 @@ stands_overfull p s log unjudged phase a = record {
   behind = refl;
 }
 
-pub stands_faulty : (p : Setup) (s : State) (log : Log) (unjudged more : List ℕ) (f : Apdu) (cause : Close)
-    (phase : Phase) (a : Agrees p s log unjudged phase) → Fits f → a.here.so_far ++ unjudged ≡ spelling f ++ more
+pub stands_faulty : (p : Setup) (s : State) (log : Log) (unjudged more : List ℕ) (f : Apdu)
+    (cause : Close)
+    (phase : Phase) (a : Agrees p s log unjudged phase) → Fits f → a.here.so_far ++ unjudged
+    ≡ spelling f ++ more
     → fault_of (length a.course.sent) (came_frames a.course.talk) f ≡ Some cause →
     IsConnection (present log) (here_of a.course) (Some cause)
 stands_faulty p s log unjudged more f cause phase a fits whole fault =
@@ -117,24 +132,32 @@ stands_faulty p s log unjudged more f cause phase a fits whole fault =
     (λ e. stands p s log unjudged phase a (Some ReceiveNumber) (begins ReceiveNumber e))
     sent came f cause fault fault
 
-pub fault_ends : (sent : ℕ) (older : List Apdu) (f : Apdu) (cause : Close) → fault_of sent older f ≡ Some cause
+pub fault_ends : (sent : ℕ) (older : List Apdu) (f : Apdu) (cause : Close) → fault_of sent older f
+    ≡ Some cause
     → ends cause ≡ true
-fault_ends sent older f cause fault = fault_cases (λ cause. ends cause ≡ true) refl refl refl sent older f cause fault
+fault_ends sent older f cause fault = fault_cases (λ cause. ends cause ≡ true) refl refl refl sent
+    older f cause fault
 
 -- such a cause leaves the channel as it is, and shows while octets are taken
 pub fault_closes_so : (sent : ℕ) (older : List Apdu) (f : Apdu) (cause : Close) (c : Channel)
     → fault_of sent older f ≡ Some cause → (closed_by cause c ≡ c) × IsCloseAt cause Taking
-fault_closes_so sent older f cause c fault = fault_cases (λ cause. (closed_by cause c ≡ c) × IsCloseAt cause Taking)
+fault_closes_so sent older f cause c fault =
+    fault_cases (λ cause. (closed_by cause c ≡ c) × IsCloseAt cause Taking)
     (refl, tt) (refl, tt) (refl, tt) sent older f cause fault
 
 -- the open connection, if any, joins those that are over
 pub record Ended (p : Setup) (s : State) (log : Log) (c : Course) (octets : Channel) : Type 0 where
-  pub are : AreConnections (over octets (past log)) (if octets.is_open then here_of c ∷ c.earlier else c.earlier)
-  pub orders : AreInOrder (taken_objects p log) (if octets.is_open then here_of c ∷ c.earlier else c.earlier)
-  pub carries : Carries (taken_objects p log) (parts_of_all p.sizes (reports_in p log)) (taken_pieces p log)
-      (if octets.is_open then here_of c ∷ c.earlier else c.earlier) [] (queue.rewound s.centre.queue).unsent
+  pub are : AreConnections (over octets (past log)) (if octets.is_open then here_of c ∷ c.earlier
+      else c.earlier)
+  pub orders : AreInOrder (taken_objects p log) (if octets.is_open then here_of c ∷ c.earlier
+      else c.earlier)
+  pub carries : Carries (taken_objects p log) (parts_of_all p.sizes (reports_in p log))
+      (taken_pieces p log)
+      (if octets.is_open then here_of c ∷ c.earlier else c.earlier) []
+      (queue.rewound s.centre.queue).unsent
 
-pub ended : (p : Setup) (s : State) (log : Log) (unjudged : List ℕ) (phase : Phase) (a : Agrees p s log unjudged phase)
+pub ended : (p : Setup) (s : State) (log : Log) (unjudged : List ℕ) (phase : Phase)
+    (a : Agrees p s log unjudged phase)
     (octets : Channel) (fault : Option Close) → octets.is_open ≡ (present log).is_open
     → IsConnection octets (here_of a.course) fault → Ended p s log a.course octets
 ended p s log unjudged phase a octets fault as_now stands = by_case octets.is_open refl
@@ -153,40 +176,52 @@ ended p s log unjudged phase a octets fault as_now stands = by_case octets.is_op
 
     by_case : (b : Bool) → octets.is_open ≡ b → Ended p s log c octets
     by_case true h =
-        let is : (if octets.is_open then here_of c ∷ c.earlier else c.earlier) ≡ here_of c ∷ c.earlier =
+        let is : (if octets.is_open then here_of c ∷ c.earlier else c.earlier)
+        ≡ here_of c ∷ c.earlier =
         ap (λ b. if b then here_of c ∷ c.earlier else c.earlier) h in
-        let gone : over octets (past log) ≡ octets ∷ past log = ap (λ b. if b then octets ∷ past log else past log) h in
+        let gone : over octets (past log) ≡ octets ∷ past log = ap (λ b. if b then octets ∷ past log
+        else past log) h in
         record {
           are = subst (AreConnections (over octets (past log))) (sym is)
-              (subst (λ cs. AreConnections cs (here_of c ∷ c.earlier)) (sym gone) (fault, stands, a.before.are));
+              (subst (λ cs. AreConnections cs (here_of c ∷ c.earlier)) (sym gone)
+              (fault, stands, a.before.are));
           orders = subst (AreInOrder objs) (sym is) (
             in_order objs parts all
                 (here_of c) c.earlier s.centre.queue.unsent a.here.numbered a.carries,
             a.before.orders,
           );
-          carries = subst (λ cs. Carries objs parts all cs [] (queue.rewound s.centre.queue).unsent) (sym is)
-              (carries_end objs parts all c.earlier (here_of c) s.centre.session s.centre.queue.sent s.centre.queue.unsent
+          carries = subst (λ cs. Carries objs parts all cs [] (queue.rewound s.centre.queue).unsent)
+              (sym is)
+              (carries_end objs parts all c.earlier (here_of c) s.centre.session s.centre.queue.sent
+              s.centre.queue.unsent
               a.here.tied a.carries);
         }
     by_case false h =
         let is : (if octets.is_open then here_of c ∷ c.earlier else c.earlier) ≡ c.earlier =
         ap (λ b. if b then here_of c ∷ c.earlier else c.earlier) h in
-        let gone : over octets (past log) ≡ past log = ap (λ b. if b then octets ∷ past log else past log) h in
+        let gone : over octets (past log) ≡ past log = ap (λ b. if b then octets ∷ past log
+        else past log) h in
         let new : here_of c ≡ new_connection = (a.here.none (sym as_now ∙ h)).1 in
         let none : s.centre.queue.sent ≡ [] = a.here.tied.unconfirmed.pieces_are
-        ∙ ap (λ (c : Connection). pieces_of (drop (acknowledged_count c.received_frames) c.sent_frames)) new in
+        ∙ ap
+        (λ (c : Connection). pieces_of (drop (acknowledged_count c.received_frames) c.sent_frames))
+        new in
         record {
           are = subst (AreConnections (over octets (past log))) (sym is)
               (subst (λ cs. AreConnections cs c.earlier) (sym gone) a.before.are);
           orders = subst (AreInOrder objs) (sym is) a.before.orders;
-          carries = subst (λ cs. Carries objs parts all cs [] (queue.rewound s.centre.queue).unsent) (sym is)
-              (subst (λ q. Carries objs parts all c.earlier [] (q ++ s.centre.queue.unsent)) (sym none)
-              (subst (λ (d : Connection). Carries objs parts all c.earlier d.sent_frames s.centre.queue.unsent) new
+          carries = subst (λ cs. Carries objs parts all cs [] (queue.rewound s.centre.queue).unsent)
+              (sym is)
+              (subst (λ q. Carries objs parts all c.earlier [] (q ++ s.centre.queue.unsent))
+              (sym none)
+              (subst (λ (d : Connection). Carries objs parts all c.earlier d.sent_frames
+              s.centre.queue.unsent) new
               a.carries));
         }
 
 -- the state of a connection that has just begun, or of none
-pub fresh : (s : Centre) (octets : Channel) → s.session.k < 32768 → session.is_open s.session ≡ octets.is_open
+pub fresh : (s : Centre) (octets : Channel) → s.session.k < 32768 → session.is_open s.session
+    ≡ octets.is_open
     → (octets.is_open ≡ false → octets ≡ no_channel) → octets.sent ≡ [] → octets.received ≡ []
     → is_transferring s.session ≡ false → s.session.next_received ≡ 0 → s.session.next_sent ≡ 0
     → s.session.unacknowledged ≡ [] → s.queue.sent ≡ [] → s.so_far ≡ Some [] → s.heard ≡ None →
@@ -263,7 +298,8 @@ closed_left Asked log so_far cause timely = refl
 -- the cut takes place where the step is
 closed_does : (s : Serial) (cause : Close) (phase : Phase) (at : ℕ) (room other : Bool) (w : Works)
     → IsCloseAt cause phase → s ≡ (works_in phase at room w).serial
-    → serial.cut s ≡ (works_in (after_closing phase) at other (cut_works (works_at cause at w))).serial
+    → serial.cut s
+    ≡ (works_in (after_closing phase) at other (cut_works (works_at cause at w))).serial
 closed_does s Grammar Taking at room other w timely d = ap serial.cut d
 closed_does s SendNumber Taking at room other w timely d = ap serial.cut d
 closed_does s ReceiveNumber Taking at room other w timely d = ap serial.cut d
@@ -312,7 +348,8 @@ works_due OwnAnswers at w = refl
 works_due Replaced at w = refl
 
 -- before the step's request
-closing_due : (cause : Close) (phase : Phase) (at : ℕ) (room : Bool) (w : Works) → IsCloseAt cause phase
+closing_due : (cause : Close) (phase : Phase) (at : ℕ) (room : Bool) (w : Works)
+    → IsCloseAt cause phase
     → IsAsked phase at room w → w.is_due ≡ true
 closing_due cause Taking at room w timely h = h
 closing_due cause Idle at room w timely h = h
@@ -322,8 +359,10 @@ closing_due cause Judged at room w timely h = h
 closing_due cause Fresh at room w timely h = absurd (not_fresh cause timely)
 closing_due cause Asked at room w timely h = absurd (not_asked cause timely)
 
-closed_asks : (cause : Close) (phase : Phase) (at : ℕ) (room other : Bool) (w : Works) → IsCloseAt cause phase
-    → IsAsked phase at room w → IsAsked (after_closing phase) at other (cut_works (works_at cause at w))
+closed_asks : (cause : Close) (phase : Phase) (at : ℕ) (room other : Bool) (w : Works)
+    → IsCloseAt cause phase
+    → IsAsked phase at room w
+    → IsAsked (after_closing phase) at other (cut_works (works_at cause at w))
 closed_asks cause Taking at room other w timely h = works_due cause at w ∙ h
 closed_asks cause Idle at room other w timely h = absurd (never cause timely)
   where
@@ -370,15 +409,18 @@ same_open Timeout c = refl
 same_open OwnAnswers c = refl
 same_open Replaced c = refl
 
-pub after_close : (laws : LineLaws) (p : Setup) (s : State) (log : Log) (unjudged : List ℕ) (cause : Close)
+pub after_close : (laws : LineLaws) (p : Setup) (s : State) (log : Log) (unjudged : List ℕ)
+    (cause : Close)
     (phase : Phase) (fault : Option Close) (a : Agrees p s log unjudged phase)
     → session.is_open s.centre.session ≡ true → ends cause ≡ true → IsCloseAt cause phase
-    → IsConnection (closed_by cause (present log)) (here_of a.course) fault → IsCause p log cause a.course →
+    → IsConnection (closed_by cause (present log)) (here_of a.course) fault
+    → IsCause p log cause a.course →
     Agrees p (disconnected s) (Went s.moment (Closed cause) ∷ log) [] (after_closing phase)
 after_close laws p s log unjudged cause phase fault a on last timely stands why =
     let new : Log = Went s.moment (Closed cause) ∷ log in
     let octets : Channel = closed_by cause (present log) in
-    let course : Course = ended_course octets.is_open (works_at cause (latest log) a.course.works) a.course in
+    let course : Course = ended_course octets.is_open (works_at cause (latest log) a.course.works)
+    a.course in
     let end = ended p s log unjudged phase a octets fault (same_open cause (present log)) stands in
     let runs : Runs p new course = (
       a.course,
@@ -387,12 +429,14 @@ after_close laws p s log unjudged cause phase fault a on last timely stands why 
           ∙ ap (λ b. ended_course b (works_at cause (latest log) a.course.works) a.course)
           (sym (same_open cause (present log)))),
       why,
-      closing_due cause phase (latest log) (room_in p log a.course) a.course.works timely a.stands.asks,
+      closing_due cause phase (latest log) (room_in p log a.course) a.course.works timely
+          a.stands.asks,
     ) in
     let talk : Talks p (session.closed s.centre.session) new course =
     talk_cut p s.centre.session s.centre.session log new a.course course a.talk refl refl runs in
     let shut : present new ≡ no_channel = ap (λ b. if b then no_channel else present log) last in
-    let gone : past new ≡ over octets (past log) = ap (λ b. if b then over octets (past log) else past log) last in
+    let gone : past new ≡ over octets (past log) = ap (λ b. if b then over octets (past log)
+    else past log) last in
     record {
       k = a.k;
       sizes = a.sizes;
@@ -447,7 +491,8 @@ after_close laws p s log unjudged cause phase fault a on last timely stands why 
     no_replaced Replaced h = cc
 
 -- where nothing can be sent any more, the step has done all that it could
-pub rested : (laws : LineLaws) (p : Setup) (s : State) (log : Log) (a : Agrees p s log [] Asked) → IsSpent s
+pub rested : (laws : LineLaws) (p : Setup) (s : State) (log : Log) (a : Agrees p s log [] Asked)
+    → IsSpent s
     → IsQuiet s → IsAtRest p log
 rested laws p s log a spent quiet = record {
   course = a.course;
@@ -458,15 +503,18 @@ rested laws p s log a spent quiet = record {
   eager = λ on started room. sent_all p s log [] Asked a
       (spent (can (is_transferring s.centre.session) (a.here.tied.transferring
       ∙ started) (omega (arith, room, a.here.tied.unconfirmed.count, a.k))));
-  gaps = λ i. sym (append-nil (gaps_told i log)) ∙ ap (λ g. gaps_told i log ++ gap_for i g) (sym all_told) ∙ a.gaps i;
+  gaps = λ i. sym (append-nil (gaps_told i log))
+      ∙ ap (λ g. gaps_told i log ++ gap_for i g) (sym all_told) ∙ a.gaps i;
   line = line_rests laws p s.serial.line log a.course (room_in p log a.course) a.line
       (none_left a.course.works.is_due refl) (here_of a.course ∷ a.course.earlier)
-      (λ none. is_full p s log [] Asked a (no_room_means s.centre.queue (sym (same_room p s log [] Asked a) ∙ none)))
+      (λ none. is_full p s log [] Asked a
+      (no_room_means s.centre.queue (sym (same_room p s log [] Asked a) ∙ none)))
       served;
   talk = record {
     all = all_taken log a.course a.here.so_far a.here.joined a.here.waits;
     confirmed = sym (confirmed_by p s.centre.session log a.course a.talk) ∙ quiet.confirmed;
-    none_due = subst (λ m. frame_due p.session.w p.session.t2 p.session.t3 m a.course.talk ≡ None) a.clock
+    none_due = subst (λ m. frame_due p.session.w p.session.t2 p.session.t3 m a.course.talk ≡ None)
+        a.clock
         (sym (due_by p s.centre.session log a.course a.talk s.moment) ∙ quiet.pulled_all);
     in_time = subst (λ m. has_timed_out p.session.t1 m a.course.talk ≡ false) a.clock
         (sym (late_by p s.centre.session log a.course a.talk s.moment) ∙ quiet.in_time);
@@ -485,7 +533,8 @@ rested laws p s log a spent quiet = record {
     room = room_in p log a.course
 
     all_told : s.serial.gap ≡ None
-    all_told = ap (λ (z : Serial). z.gap) a.stands.does ∙ gap_in Asked (latest log) room w ∙ a.stands.asks.2
+    all_told = ap (λ (z : Serial). z.gap) a.stands.does ∙ gap_in Asked (latest log) room w
+        ∙ a.stands.asks.2
 
     out_none : (o : Option Outstanding) → IsOut o → primary.sending_from w.serial.line o room ≡ None
     out_none None h = absurd h
@@ -493,27 +542,35 @@ rested laws p s log a spent quiet = record {
 
     none_left : (b : Bool) → w.is_due ≡ b → primary.sending s.serial.line room ≡ None
     none_left true due =
-        let is : s.serial.line ≡ primary.asked (ready_works (latest log) w).serial.line (latest log) room =
+        let is : s.serial.line ≡ primary.asked (ready_works (latest log) w).serial.line (latest log)
+        room =
         ap (λ (z : Serial). z.line) a.stands.does
-        ∙ ap (λ b. (if b then unasked_works (latest log) room (ready_works (latest log) w) else w).serial.line)
+        ∙ ap (λ b. (if b then unasked_works (latest log) room (ready_works (latest log) w)
+        else w).serial.line)
         due in
         subst (λ q. primary.sending q room ≡ None) (sym is)
         (laws.over (ready_works (latest log) w).serial.line (latest log) room (a.stands.asks.0 due))
     none_left false due =
         let is : s.serial.line ≡ w.serial.line = ap (λ (z : Serial). z.line) a.stands.does
-        ∙ ap (λ b. (if b then unasked_works (latest log) room (ready_works (latest log) w) else w).serial.line)
+        ∙ ap (λ b. (if b then unasked_works (latest log) room (ready_works (latest log) w)
+        else w).serial.line)
         due in
-        subst (λ q. primary.sending q room ≡ None) (sym is) (out_none w.serial.line.outstanding (a.stands.asks.1 due))
+        subst (λ q. primary.sending q room ≡ None) (sym is)
+        (out_none w.serial.line.outstanding (a.stands.asks.1 due))
 
     -- a command that waits was offered, and is offered no more only where it went out
-    none_waits : (b : Bool) → w.is_due ≡ b → s.serial.line.outstanding ≡ None → (i : ℕ) → i < length p.addresses
-        → offered_at s.serial.line i ≡ None → holds_command (station_at s.serial.line.stations i).link ≡ false
+    none_waits : (b : Bool) → w.is_due ≡ b → s.serial.line.outstanding ≡ None → (i : ℕ)
+        → i < length p.addresses
+        → offered_at s.serial.line i ≡ None
+        → holds_command (station_at s.serial.line.stations i).link ≡ false
         → octets_waiting i s.serial.commands ≡ None
     none_waits false due out i within none free =
         let is : s.serial.line ≡ w.serial.line = ap (λ (z : Serial). z.line) a.stands.does
-        ∙ ap (λ b. (if b then unasked_works (latest log) room (ready_works (latest log) w) else w).serial.line)
+        ∙ ap (λ b. (if b then unasked_works (latest log) room (ready_works (latest log) w)
+        else w).serial.line)
         due in
-        absurd (subst IsOut (sym (ap (λ (q : primary.Primary). q.outstanding) is) ∙ out) (a.stands.asks.1 due))
+        absurd (subst IsOut (sym (ap (λ (q : primary.Primary). q.outstanding) is)
+        ∙ out) (a.stands.asks.1 due))
     none_waits true due out i within none free =
         let r : Works = ready_works (latest log) w in
         let is : s.serial.line ≡ primary.asked r.serial.line (latest log) room =
@@ -521,18 +578,23 @@ rested laws p s log a spent quiet = record {
         ∙ ap (λ b. (if b then unasked_works (latest log) room r else w).serial.line) due in
         let next : primary.sending r.serial.line room ≡ None = a.stands.asks.0 due in
         let stays = unasked_stays r.serial.line (latest log) room next in
-        let same : s.serial.line.stations ≡ r.serial.line.stations = ap (λ (q : primary.Primary). q.stations) is
+        let same : s.serial.line.stations ≡ r.serial.line.stations =
+        ap (λ (q : primary.Primary). q.stations) is
         ∙ stays.0 in
         let quiet : r.serial.line.outstanding ≡ None = sym stays.1
         ∙ sym (ap (λ (q : primary.Primary). q.outstanding) is) ∙ out in
         let q : primary.Primary = (settled_works (latest log) w).serial.line in
         let ws : List Waiting = (settled_works (latest log) w).serial.commands.waiting in
         let kept = upto_leaves laws (length q.stations) ws q (omega arith) in
-        let waits : octets_waiting i s.serial.commands ≡ option_map (λ (z : Waiting). z.octets) (oldest i ws) =
+        let waits : octets_waiting i s.serial.commands ≡ option_map (λ (z : Waiting). z.octets)
+        (oldest i ws) =
         ap (λ (z : Serial). octets_waiting i z.commands) a.stands.does
-        ∙ ap (λ b. octets_waiting i (if b then unasked_works (latest log) room r else w).serial.commands) due in
-        let empty : offered_at r.serial.line i ≡ None = sym (ap (λ xs. (station_at xs i).offered) same) ∙ none in
-        let able : holds_command (station_at q.stations i).link ≡ false = ap holds_command (sym (kept.link i))
+        ∙ ap (λ b. octets_waiting i (if b then unasked_works (latest log) room r
+        else w).serial.commands) due in
+        let empty : offered_at r.serial.line i ≡ None =
+        sym (ap (λ xs. (station_at xs i).offered) same) ∙ none in
+        let able : holds_command (station_at q.stations i).link ≡ false =
+        ap holds_command (sym (kept.link i))
         ∙ ap (λ xs. holds_command (station_at xs i).link) (sym same) ∙ free in
         let known : i < length q.stations = omega (
           arith,
@@ -541,11 +603,14 @@ rested laws p s log a spent quiet = record {
           ap length same,
           count_upto laws (length q.stations) ws q,
         ) in
-        waits ∙ by_oldest (oldest i ws) refl (λ z e. offers_reach laws (length q.stations) ws q i z known
+        waits
+        ∙ by_oldest (oldest i ws) refl (λ z e. offers_reach laws (length q.stations) ws q i z known
         (omega arith) e (sym kept.outstanding ∙ quiet) able empty)
       where
-        by_oldest : (o : Option Waiting) → oldest i (settled_works (latest log) w).serial.commands.waiting ≡ o
-            → ((z : Waiting) → oldest i (settled_works (latest log) w).serial.commands.waiting ≡ Some z → ⊥)
+        by_oldest : (o : Option Waiting)
+            → oldest i (settled_works (latest log) w).serial.commands.waiting ≡ o
+            → ((z : Waiting) → oldest i (settled_works (latest log) w).serial.commands.waiting
+            ≡ Some z → ⊥)
             → option_map (λ (z : Waiting). z.octets) o ≡ None
         by_oldest None e never = refl
         by_oldest (Some z) e never = absurd (never z e)
@@ -558,14 +623,16 @@ rested laws p s log a spent quiet = record {
         let link : link_after p.link (address_at p.addresses i) Down (exchanges_with p i log)
         ≡ (station_at s.serial.line.stations i).link =
         subst (λ (o : Option primary.Outstanding). telling.AreLinks
-        (front_of p.link.size) p.link p.addresses s.serial.line.stations (telling.past o (exchanges_of p log))) out
+        (front_of p.link.size) p.link p.addresses s.serial.line.stations
+        (telling.past o (exchanges_of p log))) out
         a.line.links i in
         let flags = a.line.flags i in
         let here = left_at_rest s.serial.line i (octets_waiting i s.serial.commands) left
         (none_waits w.is_due refl out i within) in
         subst (λ (c : tasks.State). (octets_waiting i c ≡ None)
         ⊎ ((flags_after (address_at p.addresses i) clear (exchanges_with p i log)).dfc ≡ true)
-        ⊎ (holds_poll (link_after p.link (address_at p.addresses i) Down (exchanges_with p i log)) ≡ true))
+        ⊎ (holds_poll (link_after p.link (address_at p.addresses i) Down (exchanges_with p i log))
+        ≡ true))
         (ap (λ (z : Serial). z.commands) a.stands.does)
         (by_exchanges link flags here)
       where
@@ -573,11 +640,13 @@ rested laws p s log a spent quiet = record {
             ≡ (station_at s.serial.line.stations i).link
             → flags_after (address_at p.addresses i) clear (exchanges_with p i log)
             ≡ telling.flags_of (station_at s.serial.line.stations i) →
-            (octets_waiting i s.serial.commands ≡ None) ⊎ ((station_at s.serial.line.stations i).dfc ≡ true)
+            (octets_waiting i s.serial.commands ≡ None) ⊎ ((station_at s.serial.line.stations i).dfc
+            ≡ true)
             ⊎ (holds_poll (station_at s.serial.line.stations i).link ≡ true) →
             (octets_waiting i s.serial.commands ≡ None)
             ⊎ ((flags_after (address_at p.addresses i) clear (exchanges_with p i log)).dfc ≡ true)
-            ⊎ (holds_poll (link_after p.link (address_at p.addresses i) Down (exchanges_with p i log)) ≡ true)
+            ⊎ (holds_poll (link_after p.link (address_at p.addresses i) Down
+            (exchanges_with p i log)) ≡ true)
         by_exchanges link flags (inl none) = inl none
         by_exchanges link flags (inr (inl full)) = inr (inl (ap (λ f. f.dfc) flags ∙ full))
         by_exchanges link flags (inr (inr held)) = inr (inr (ap holds_poll link ∙ held))

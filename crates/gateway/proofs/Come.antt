@@ -1,5 +1,6 @@
 -- An event comes: the part of the line. What follows on the connection stands in Connecting.
-use Rattle.std.proofs.Common.{◌≡◌, ℕ, ◌+◌, ◌==◌, Bool, true, false, List, [], ◌∷◌, ◌++◌, length, max, min, refl, sym, ap, subst, ◌∙◌, arith}
+use Rattle.std.proofs.Common.{◌≡◌, ℕ, ◌+◌, ◌==◌, Bool, true, false, List, [], ◌∷◌, ◌++◌, length}
+use Rattle.std.proofs.Common.{max, min, refl, sym, ap, subst, ◌∙◌, arith}
 use Rattle.std.specs.Prelude.{if◌then◌else◌, slice_index}
 use Rattle.elements.specs.Types.{type_of}
 use Rattle.std.specs.List.{flat_map, list_all}
@@ -16,17 +17,21 @@ use Rattle.link.specs.declared.outcome.Outcome.{Outcome}
 use Rattle.link.specs.declared.outcome.Outcome.TheVariants as outcome
 use Rattle.link.specs.Telling.{Tells, report_in, gap_in_outcome}
 use Rattle.session.specs.Session.{is_transferring as is_transferring_of}
-use Rattle.gateway.specs.Objects.{objects, has_objects, monitor_objects, parts_of, typed_pieces, pieces_of_report}
-use Rattle.gateway.specs.Log.{Log, Input, LineIn, Opened, TcpIn, CutOff, Ticked, WallIs, Came, latest, last_moment}
+use Rattle.gateway.specs.Objects.{objects, has_objects, monitor_objects, parts_of, typed_pieces}
+use Rattle.gateway.specs.Objects.{pieces_of_report}
+use Rattle.gateway.specs.Log.{Log, Input, LineIn, Opened, TcpIn, CutOff, Ticked, WallIs, Came}
+use Rattle.gateway.specs.Log.{latest, last_moment}
 use Rattle.gateway.specs.Gaps.{gaps_told}
 use Rattle.gateway.specs.Frames.{transfers}
 use Rattle.gateway.specs.Connections.{present}
-use Rattle.gateway.specs.Reports.{Setup, exchanges_of, taken_objects, taken_pieces, reports_in, parts_of_all}
+use Rattle.gateway.specs.Reports.{Setup, exchanges_of, taken_objects, taken_pieces, reports_in}
+use Rattle.gateway.specs.Reports.{parts_of_all}
 use Rattle.gateway.specs.Serial as serial
 use Rattle.gateway.specs.Serial.{Serial, mirrored, heard, heard_outcome}
 use Rattle.gateway.specs.Centre.{Centre, pushed}
 use Rattle.gateway.specs.State.{State, with_serial, at_moment, line_timed}
-use Rattle.gateway.specs.Works.{Works, has_lacked_place, is_command_report, LearnsOf, octets_works, begun_works}
+use Rattle.gateway.specs.Works.{Works, has_lacked_place, is_command_report, LearnsOf, octets_works}
+use Rattle.gateway.specs.Works.{begun_works}
 use Rattle.gateway.specs.Course.{Course, came_frames, room_in}
 use Rattle.gateway.specs.Phases.{resting, IsPlaced}
 use Rattle.link.specs.LineLaws.{LineLaws}
@@ -36,8 +41,10 @@ use Rattle.gateway.specs.Agrees.{Agrees, GapsTold, OffersWait, ArePlain}
 use Rattle.gateway.proofs.Working.{done_placed}
 use Rattle.gateway.proofs.Reached.{IsReached, left_reached}
 use Rattle.gateway.proofs.Offering.{offers_stay}
-use Rattle.gateway.proofs.Stations.{LineGoesOn, taken_grows, pieces_grow, parts_grow, after_octets, after_moment}
-use Rattle.gateway.proofs.Learning.{left_of, at_rest_works, is_left, none_left, all_told, beside, Learnt, learnt}
+use Rattle.gateway.proofs.Stations.{LineGoesOn, taken_grows, pieces_grow, parts_grow, after_octets}
+use Rattle.gateway.proofs.Stations.{after_moment}
+use Rattle.gateway.proofs.Learning.{left_of, at_rest_works, is_left, none_left, all_told, beside}
+use Rattle.gateway.proofs.Learning.{Learnt, learnt}
 
 -- The line's part of an event
 
@@ -49,7 +56,8 @@ pub record Kept (p : Setup) (s t : State) (reports : List (ℕ × List ℕ)) : T
   pub wall : t.wall ≡ s.wall
   pub pieces : List (List ℕ)
   pub centre : t.centre ≡ pushed pieces s.centre
-  pub objects_are : flat_map objects pieces ≡ flat_map (λ (r : ℕ × List ℕ). monitor_objects p.sizes r.1) reports
+  pub objects_are : flat_map objects pieces
+      ≡ flat_map (λ (r : ℕ × List ℕ). monitor_objects p.sizes r.1) reports
   pub number : length pieces ≡ parts_of_all p.sizes reports
   pub spelled : pieces ≡ flat_map (λ (r : ℕ × List ℕ). pieces_of_report p.sizes r.1) reports
   pub whole : list_all has_objects pieces ≡ true
@@ -57,11 +65,13 @@ pub record Kept (p : Setup) (s t : State) (reports : List (ℕ × List ℕ)) : T
 none_pushed : (c : Centre) → c ≡ pushed [] c
 none_pushed c = ap
     (λ (u : List (List ℕ)).
-    let made : Centre = record c { queue = record { sent = c.queue.sent; unsent = u; places = c.queue.places } } in
+    let made : Centre =
+    record c { queue = record { sent = c.queue.sent; unsent = u; places = c.queue.places } } in
     made) (sym (append-nil c.queue.unsent))
 
 -- nothing but the line's side changes
-kept_nothing : (p : Setup) (s t : State) (x : Serial) → x.line ≡ s.serial.line → t ≡ with_serial x s → Kept p s t []
+kept_nothing : (p : Setup) (s t : State) (x : Serial) → x.line ≡ s.serial.line → t ≡ with_serial x s
+    → Kept p s t []
 kept_nothing p s t x line is = subst (λ y. Kept p s y []) (sym is)
     (record {
       line = line;
@@ -83,8 +93,10 @@ mirrored_line at true v pieces s = refl
 mirrored_line at false v pieces s = refl
 
 -- an answer to a command has no objects of the queue's, and needs no place there
-mirrored_kept : (p : Setup) (s t : State) (station : ℕ) (report : List ℕ) → t.serial.line ≡ s.serial.line
-    → monitor_objects p.sizes report ≡ [] → t ≡ with_serial t.serial s → Kept p s t ((station, report) ∷ [])
+mirrored_kept : (p : Setup) (s t : State) (station : ℕ) (report : List ℕ) → t.serial.line
+    ≡ s.serial.line
+    → monitor_objects p.sizes report ≡ [] → t ≡ with_serial t.serial s
+    → Kept p s t ((station, report) ∷ [])
 mirrored_kept p s t station report line none is =
     let no_parts : parts_of p.sizes report + 0 ≡ 0 = omega (
       arith,
@@ -99,53 +111,63 @@ mirrored_kept p s t station report line none is =
       centre = ap (λ (x : State). x.centre) is ∙ none_pushed s.centre;
       objects_are = sym (append-nil _ ∙ none);
       number = sym no_parts;
-      spelled = sym (append-nil _ ∙ ap (λ (os : List InformationObject). if length os == 0 then [] else
+      spelled = sym (append-nil _ ∙ ap (λ (os : List InformationObject). if length os == 0 then []
+          else
           typed_pieces p.sizes (type_of (slice_index report 0)) report) none);
       whole = refl;
     }
 
-kept_report : (p : Setup) (s t : State) (station : ℕ) (report : List ℕ) → s.sizes ≡ p.sizes → Keeps s report t
+kept_report : (p : Setup) (s t : State) (station : ℕ) (report : List ℕ) → s.sizes ≡ p.sizes
+    → Keeps s report t
     → Kept p s t ((station, report) ∷ [])
-kept_report p s t station report same k = subst (λ x. Kept p s x ((station, report) ∷ [])) (sym k.after) (record {
-  line = refl;
-  sizes = refl;
-  moment = refl;
-  wall = refl;
-  pieces = k.pieces;
-  centre = refl;
-  objects_are = k.objects_are ∙ ap (λ z. monitor_objects z report) same
-      ∙ sym (append-nil (monitor_objects p.sizes report));
-  number = omega (arith, k.number, ap (λ z. parts_of z report) same);
-  spelled = k.spelled ∙ ap (λ z. pieces_of_report z report) same
-      ∙ sym (append-nil (pieces_of_report p.sizes report));
-  whole = k.whole;
-})
+kept_report p s t station report same k = subst (λ x. Kept p s x ((station, report) ∷ []))
+    (sym k.after) (record {
+      line = refl;
+      sizes = refl;
+      moment = refl;
+      wall = refl;
+      pieces = k.pieces;
+      centre = refl;
+      objects_are = k.objects_are ∙ ap (λ z. monitor_objects z report) same
+          ∙ sym (append-nil (monitor_objects p.sizes report));
+      number = omega (arith, k.number, ap (λ z. parts_of z report) same);
+      spelled = k.spelled ∙ ap (λ z. pieces_of_report z report) same
+          ∙ sym (append-nil (pieces_of_report p.sizes report));
+      whole = k.whole;
+    })
 
-kept_of : (p : Setup) (s t : State) (station : ℕ) (report : List ℕ) (fits b : Bool) → s.sizes ≡ p.sizes
-    → is_command_report p.sizes report ≡ b → steps.LearnsReport b s report fits t → Kept p s t ((station, report) ∷ [])
+kept_of : (p : Setup) (s t : State) (station : ℕ) (report : List ℕ) (fits b : Bool)
+    → s.sizes ≡ p.sizes
+    → is_command_report p.sizes report ≡ b → steps.LearnsReport b s report fits t
+    → Kept p s t ((station, report) ∷ [])
 kept_of p s t station report fits true same of h =
     mirrored_kept p s t station report (ap (λ (x : Serial). x.line) h.0.after
     ∙ mirrored_line s.moment (is_transferring_of s.centre.session) h.0.v h.0.pieces s.serial)
     (sym (ap (λ z. monitor_objects z report) same) ∙ h.0.none) h.1
 kept_of p s t station report fits false same of h = kept_report p s t station report same h.0
 
-pub kept : (p : Setup) (s t : State) (o : Outcome) (fits : Bool) → s.sizes ≡ p.sizes → Learns s o fits t
+pub kept : (p : Setup) (s t : State) (o : Outcome) (fits : Bool) → s.sizes ≡ p.sizes
+    → Learns s o fits t
     → Kept p s t (report_in o)
 kept p s t (outcome.Report station report) fits same h =
     kept_of p s t station report.items fits (is_command_report p.sizes report.items) same refl
-    (subst (λ z. steps.LearnsReport (is_command_report z report.items) s report.items fits t) same h)
-kept p s t (outcome.Accepted i) fits same h = kept_nothing p s t (serial.accepted i s.serial) refl h.0
+    (subst (λ z. steps.LearnsReport (is_command_report z report.items) s report.items fits t) same
+    h)
+kept p s t (outcome.Accepted i) fits same h = kept_nothing p s t (serial.accepted i s.serial) refl
+    h.0
 kept p s t (outcome.Busy i) fits same h = kept_nothing p s t (serial.refused i s.serial) refl h.0
 kept p s t (outcome.Down i) fits same h = kept_nothing p s t (serial.given_up i s.serial) refl h.0
 kept p s t outcome.None fits same h = kept_nothing p s t s.serial refl h.0
 kept p s t (outcome.Started i) fits same h = kept_nothing p s t s.serial refl h.0
-kept p s t (outcome.StartedGap i k) fits same h = kept_nothing p s t (serial.with_gap i k s.serial) refl h.0
+kept p s t (outcome.StartedGap i k) fits same h = kept_nothing p s t (serial.with_gap i k s.serial)
+    refl h.0
 kept p s t (outcome.Empty i) fits same h = kept_nothing p s t s.serial refl h.0
 
 -- what the line's part of an event makes of the works
 abbrev pub Worked : Setup → Log → (at : ℕ) → Input → Course → Works → Type 0
 Worked p log at (LineIn octets) c z =
-    (y : Works) × LearnsOf p at (transfers (came_frames c.talk)) (heard_outcome octets c.works.serial)
+    (y : Works) × LearnsOf p at (transfers (came_frames c.talk))
+    (heard_outcome octets c.works.serial)
     (octets_works octets c.works) y × (z ≡ begun_works at y)
 Worked p log at event c z = z ≡ begun_works at c.works
 
@@ -175,7 +197,8 @@ pub record Heard (p : Setup) (s t : State) (old : Log) (now : ℕ) (event : Inpu
   pub spelled : taken_pieces p (Came now event ∷ old) ≡ taken_pieces p old ++ pieces
   pub whole : list_all has_objects pieces ≡ true
 
-module _ (p : Setup) (s t : State) (old : Log) (now : ℕ) (event : Input) (left : Course) (fits : Bool)
+module _ (p : Setup) (s t : State) (old : Log) (now : ℕ) (event : Input) (left : Course)
+    (fits : Bool)
     (h : Heard p s t old now event left fits) where
   pub heard_session : t.centre.session ≡ s.centre.session
   heard_session = ap (λ (c : Centre). c.session) h.centre
@@ -193,7 +216,8 @@ moments : (s : State) (log : Log) (now : ℕ) → s.moment ≡ latest log
     → (at_moment s now).moment ≡ max (latest log) (min now last_moment)
 moments s log now e = ap (λ m. max m (min now last_moment)) e
 
-heard_line : (laws : LineLaws) (p : Setup) (s t : State) (log : Log) (now : ℕ) (octets : List ℕ) (fits : Bool)
+heard_line : (laws : LineLaws) (p : Setup) (s t : State) (log : Log) (now : ℕ) (octets : List ℕ)
+    (fits : Bool)
     → (a : Agrees p s log [] (resting log)) → steps.Begins s now (LineIn octets) fits t
     → Heard p s t log now (LineIn octets) (left_of p log a.course) fits
 heard_line laws p s t log now octets fits a b =
@@ -228,14 +252,16 @@ heard_line laws p s t log now octets fits a b =
       sizes = k.sizes;
       wall = k.wall;
       clock = moved;
-      line = subst (λ x. Tells p.link p.addresses x (exchanges_of p new)) (ap (timed_out q) clock ∙ sym timed) on.tells;
+      line = subst (λ x. Tells p.link p.addresses x (exchanges_of p new)) (ap (timed_out q) clock
+          ∙ sym timed) on.tells;
       z = begun_works at l.z;
       worked = (l.z, learns, refl);
       does = ap (λ m. serial.timed m b.middle.serial) moved ∙ ap (serial.timed at) l.serial;
       due = refl;
       full = l.full;
       placed = l.placed;
-      gaps = λ i. ap (λ g. gaps_told i log ++ g) (l.gap i) ∙ ap (λ gs. gs ++ gap_in_outcome i o) (all_told p s log a i)
+      gaps = λ i. ap (λ g. gaps_told i log ++ g) (l.gap i)
+          ∙ ap (λ gs. gs ++ gap_in_outcome i o) (all_told p s log a i)
           ∙ sym (laws.due_gaps p.link.size p.addresses p.link.answer_ms at
           (record {
             ended = (exchanges_of p log).ended;
@@ -243,10 +269,13 @@ heard_line laws p s t log now octets fits a b =
                 heard_current octets (exchanges_of p log).current;
           }) i
           ∙ laws.octets_gap p.link p.addresses s.serial.line (exchanges_of p log) octets i a.line);
-      offers = offers_stay s.serial.line (timed_out b.middle.serial.line b.middle.moment) s.serial.commands
+      offers = offers_stay s.serial.line (timed_out b.middle.serial.line b.middle.moment)
+          s.serial.commands
           b.middle.serial.commands
-          (λ i. laws.timed_offers b.middle.serial.line b.middle.moment i ∙ ap (λ x. offered_at x i) k.line
-          ∙ laws.heard_offers (front_of s.serial.line.settings.size) s.serial.line octets i) l.waiting a.offers;
+          (λ i. laws.timed_offers b.middle.serial.line b.middle.moment i
+          ∙ ap (λ x. offered_at x i) k.line
+          ∙ laws.heard_offers (front_of s.serial.line.settings.size) s.serial.line octets i)
+          l.waiting a.offers;
       plain = l.plain;
       more = flat_map (λ (r : ℕ × List ℕ). monitor_objects p.sizes r.1) (report_in o);
       taken = taken_grows p log new (report_in o) on.reported;
@@ -263,13 +292,15 @@ abbrev NotOfLine : ℕ → Input → Setup → Log → Type 0
 NotOfLine now event p log = (middle t : State) (fits : Bool) → HearsEvent middle event fits t
     → (t ≡ middle) × (fits ≡ true)
 
-only_time : (laws : LineLaws) (p : Setup) (s t : State) (log : Log) (now : ℕ) (event : Input) (fits : Bool)
+only_time : (laws : LineLaws) (p : Setup) (s t : State) (log : Log) (now : ℕ) (event : Input)
+    (fits : Bool)
     → (a : Agrees p s log [] (resting log)) → NotOfLine now event p log
     → ((at : ℕ) (c : Course) (z : Works) → z ≡ begun_works at c.works → Worked p log at event c z) →
     exchanges_of p (Came now event ∷ log) ≡ record {
       ended = (exchanges_of p log).ended;
       current =
-          timed_current p.link.answer_ms (latest (Came now event ∷ log)) (exchanges_of p log).current;
+          timed_current p.link.answer_ms (latest (Came now event ∷ log))
+          (exchanges_of p log).current;
     }
     → steps.Begins s now event fits t → Heard p s t log now event (left_of p log a.course) fits
 only_time laws p s t log now event fits a other works is b =
@@ -292,13 +323,15 @@ only_time laws p s t log now event fits a other works is b =
       line = subst (λ x. Tells p.link p.addresses x (exchanges_of p new)) (sym timed) on.tells;
       z = begun_works at left.works;
       worked = works at left (begun_works at left.works) refl;
-      does = ap (λ m. serial.timed m s.serial) clock ∙ ap (serial.timed at) (at_rest_works p s log a);
+      does = ap (λ m. serial.timed m s.serial) clock
+          ∙ ap (serial.timed at) (at_rest_works p s log a);
       due = refl;
       full = λ off. let no : false ≡ true = sym off ∙ none.1 in cc;
       placed = λ on. refl;
       gaps = λ i. a.gaps i ∙ sym (ap (gaps_at (front_of p.link.size) p.addresses i) is
           ∙ laws.due_gaps p.link.size p.addresses p.link.answer_ms at (exchanges_of p log) i);
-      offers = offers_stay s.serial.line (timed_out s.serial.line first.moment) s.serial.commands s.serial.commands
+      offers = offers_stay s.serial.line (timed_out s.serial.line first.moment) s.serial.commands
+          s.serial.commands
           (λ i. laws.timed_offers s.serial.line first.moment i) refl a.offers;
       plain = a.plain;
       more = [];
@@ -310,19 +343,26 @@ only_time laws p s t log now event fits a other works is b =
     })
 
 -- the same for each event
-pub heard_event : (laws : LineLaws) (p : Setup) (s t : State) (log : Log) (now : ℕ) (event : Input) (fits : Bool)
+pub heard_event : (laws : LineLaws) (p : Setup) (s t : State) (log : Log) (now : ℕ) (event : Input)
+    (fits : Bool)
     → (a : Agrees p s log [] (resting log)) → steps.Begins s now event fits t
     → Heard p s t log now event (left_of p log a.course) fits
-heard_event laws p s t log now (LineIn octets) fits a b = heard_line laws p s t log now octets fits a b
-heard_event laws p s t log now Opened fits a b = only_time laws p s t log now Opened fits a (λ middle t fits h. h)
+heard_event laws p s t log now (LineIn octets) fits a b =
+    heard_line laws p s t log now octets fits a b
+heard_event laws p s t log now Opened fits a b =
+    only_time laws p s t log now Opened fits a (λ middle t fits h. h)
     (λ at c z is. is) refl b
 heard_event laws p s t log now (TcpIn octets) fits a b =
-    only_time laws p s t log now (TcpIn octets) fits a (λ middle t fits h. h) (λ at c z is. is) refl b
-heard_event laws p s t log now CutOff fits a b = only_time laws p s t log now CutOff fits a (λ middle t fits h. h)
+    only_time laws p s t log now (TcpIn octets) fits a (λ middle t fits h. h) (λ at c z is. is) refl
+    b
+heard_event laws p s t log now CutOff fits a b =
+    only_time laws p s t log now CutOff fits a (λ middle t fits h. h)
     (λ at c z is. is) refl b
 heard_event laws p s t log now (WallIs number) fits a b =
-    only_time laws p s t log now (WallIs number) fits a (λ middle t fits h. h) (λ at c z is. is) refl b
-heard_event laws p s t log now Ticked fits a b = only_time laws p s t log now Ticked fits a (λ middle t fits h. h)
+    only_time laws p s t log now (WallIs number) fits a (λ middle t fits h. h) (λ at c z is. is)
+    refl b
+heard_event laws p s t log now Ticked fits a b =
+    only_time laws p s t log now Ticked fits a (λ middle t fits h. h)
     (λ at c z is. is) refl b
 
 -- what found a place before the event
@@ -331,7 +371,8 @@ pub placed_before : (p : Setup) (s : State) (log : Log) (a : Agrees p s log [] (
 placed_before p s log a on = done_placed (latest log) (room_in p log a.course) a.course.works
     ∙ at_rest log on a.stands.placed
   where
-    at_rest : (log : Log) → (present log).is_open ≡ true → IsPlaced (resting log) log a.course.works.history
+    at_rest : (log : Log) → (present log).is_open ≡ true
+        → IsPlaced (resting log) log a.course.works.history
         → has_lacked_place a.course.works.history ≡ false
     at_rest [] on h = h on
     at_rest (entry ∷ log) on h = h on

@@ -1,5 +1,6 @@
 -- What an event makes of the connection: it goes on, is over, or another one begins.
-use Rattle.std.proofs.Common.{◌≡◌, ℕ, ◌+◌, ◌<◌, Bool, true, false, List, [], ◌∷◌, ◌++◌, length, Option, None, refl, sym, ap, subst, ◌∙◌, append_assoc}
+use Rattle.std.proofs.Common.{◌≡◌, ℕ, ◌+◌, ◌<◌, Bool, true, false, List, [], ◌∷◌, ◌++◌, length}
+use Rattle.std.proofs.Common.{Option, None, refl, sym, ap, subst, ◌∙◌, append_assoc}
 use Rattle.std.specs.Prelude.{if◌then◌else◌}
 use Rattle.std.proofs.lemmas.List.{append-nil}
 use Rattle.link.specs.Primary.{withdrawn}
@@ -11,8 +12,10 @@ use Rattle.events.specs.Queue as queue
 use Rattle.gateway.specs.Log.{Log, Input, Opened, TcpIn, CutOff, Came, Went, Closed, latest}
 use Rattle.gateway.specs.Streams.{spelled}
 use Rattle.gateway.specs.Frames.{Sent, Connection, new_connection, AreInOrder}
-use Rattle.gateway.specs.Connections.{is_replaced, Channel, no_channel, new_channel, receiving, present, past, AreConnections}
-use Rattle.gateway.specs.Reports.{Setup, exchanges_of, taken_objects, taken_pieces, reports_in, parts_of_all}
+use Rattle.gateway.specs.Connections.{is_replaced, Channel, no_channel, new_channel, receiving}
+use Rattle.gateway.specs.Connections.{present, past, AreConnections}
+use Rattle.gateway.specs.Reports.{Setup, exchanges_of, taken_objects, taken_pieces, reports_in}
+use Rattle.gateway.specs.Reports.{parts_of_all}
 use Rattle.gateway.specs.Traffic.{HasRested, IsFaithful}
 use Rattle.gateway.specs.declared.walls.Wall.{Wall}
 use Rattle.gateway.specs.Walls.{wall_told}
@@ -20,7 +23,8 @@ use Rattle.gateway.specs.Serial as serial
 use Rattle.gateway.specs.Centre.{Centre}
 use Rattle.gateway.specs.State.{State, disconnected, connected}
 use Rattle.gateway.specs.Works.{Works, has_lacked_place, begun_works}
-use Rattle.gateway.specs.Course.{Course, came_frames, here_of, TakesFrames, HasTakenAll, ended_course, opened_course, with_works, Comes, Runs}
+use Rattle.gateway.specs.Course.{Course, came_frames, here_of, TakesFrames, HasTakenAll}
+use Rattle.gateway.specs.Course.{ended_course, opened_course, with_works, Comes, Runs}
 use Rattle.gateway.specs.Phases.{Idle, Taking, resting, IsLeftIn, after_line}
 use Rattle.link.specs.LineLaws.{LineLaws}
 use Rattle.gateway.specs.Agrees.{IsAt, Presently, Carries, Talks, Agrees}
@@ -36,27 +40,35 @@ use Rattle.gateway.proofs.Come.{kept, Worked, Heard, heard_sent, heard_unsent, p
 -- The connection's part
 
 -- the pieces kept are carried
-carried : (p : Setup) (s t : State) (old : Log) (now : ℕ) (event : Input) (left : Course) (fits : Bool)
+carried : (p : Setup) (s t : State) (old : Log) (now : ℕ) (event : Input) (left : Course)
+    (fits : Bool)
     (earlier : List Connection) (sent : List Sent) → Heard p s t old now event left fits
-    → Carries (taken_objects p old) (parts_of_all p.sizes (reports_in p old)) (taken_pieces p old) earlier sent
+    → Carries (taken_objects p old) (parts_of_all p.sizes (reports_in p old)) (taken_pieces p old)
+    earlier sent
     s.centre.queue.unsent →
-    Carries (taken_objects p (Came now event ∷ old)) (parts_of_all p.sizes (reports_in p (Came now event ∷ old)))
+    Carries (taken_objects p (Came now event ∷ old))
+    (parts_of_all p.sizes (reports_in p (Came now event ∷ old)))
     (taken_pieces p (Came now event ∷ old)) earlier sent t.centre.queue.unsent
 carried p s t old now event left fits earlier sent h c =
     subst (λ objs. Carries objs (parts_of_all p.sizes (reports_in p (Came now event ∷ old)))
     (taken_pieces p (Came now event ∷ old)) earlier sent t.centre.queue.unsent) (sym h.taken)
-    (subst (λ n. Carries (taken_objects p old ++ h.more) n (taken_pieces p (Came now event ∷ old)) earlier sent
+    (subst (λ n. Carries (taken_objects p old ++ h.more) n (taken_pieces p (Came now event ∷ old))
+    earlier sent
     t.centre.queue.unsent) (sym h.parts)
     (subst (λ all. Carries (taken_objects p old ++ h.more)
-    (parts_of_all p.sizes (reports_in p old) + length h.pieces) all earlier sent t.centre.queue.unsent) (sym h.spelled)
+    (parts_of_all p.sizes (reports_in p old) + length h.pieces) all earlier sent
+    t.centre.queue.unsent) (sym h.spelled)
     (subst (λ u. Carries (taken_objects p old ++ h.more)
-    (parts_of_all p.sizes (reports_in p old) + length h.pieces) (taken_pieces p old ++ h.pieces) earlier sent u)
+    (parts_of_all p.sizes (reports_in p old) + length h.pieces) (taken_pieces p old ++ h.pieces)
+    earlier sent u)
     (sym (heard_unsent p s t old now event left fits h))
-    (carries_more (taken_objects p old) h.more (parts_of_all p.sizes (reports_in p old)) (taken_pieces p old) earlier
+    (carries_more (taken_objects p old) h.more (parts_of_all p.sizes (reports_in p old))
+    (taken_pieces p old) earlier
     sent s.centre.queue.unsent h.pieces h.objects_are h.whole c))))
 
 -- the connection goes on as it was
-goes_on : (p : Setup) (s t : State) (old : Log) (now : ℕ) (event : Input) (left : Course) (fits : Bool)
+goes_on : (p : Setup) (s t : State) (old : Log) (now : ℕ) (event : Input) (left : Course)
+    (fits : Bool)
     (octets : Channel) (unjudged : List ℕ) (c : Connection) → Heard p s t old now event left fits
     → Presently s.centre octets unjudged c → Presently t.centre octets unjudged c
 goes_on p s t old now event left fits octets unjudged c h w =
@@ -79,20 +91,31 @@ goes_on p s t old now event left fits octets unjudged c h w =
 
 -- an event of the line, or of time alone
 abbrev pub IsAside : ℕ → Input → Log → Type 0
-IsAside now event log = (present (Came now event ∷ log) ≡ present log) × (past (Came now event ∷ log) ≡ past log)
+IsAside now event log = (present (Came now event ∷ log) ≡ present log)
+    × (past (Came now event ∷ log) ≡ past log)
     × (is_replaced (Came now event ∷ log) ≡ false)
 
 -- the course goes on with these works
 abbrev GoesOn : ℕ → Input → Log → Type 0
-GoesOn now event log = (p : Setup) (c : Course) (z : Works) → Worked p log (latest (Came now event ∷ log)) event c z
+GoesOn now event log = (p : Setup) (c : Course) (z : Works)
+    → Worked p log (latest (Came now event ∷ log)) event c z
     → Comes p log (latest (Came now event ∷ log)) event c (with_works z c)
 
 -- the works after such an event, by whether what it brought of own answers found places
-other_stands : (p : Setup) (t : State) (new : Log) (d : Course) (kept : Bool) → t.serial ≡ d.works.serial
-    → d.works.is_due ≡ true → (kept ≡ true → (present new).is_open ≡ true → has_lacked_place d.works.history ≡ false)
+other_stands : (p : Setup) (t : State) (new : Log) (d : Course) (kept : Bool)
+    → t.serial ≡ d.works.serial
+    → d.works.is_due ≡ true → (kept ≡ true → (present new).is_open ≡ true
+    → has_lacked_place d.works.history ≡ false)
     → IsAt p new (after_line kept) t d
-other_stands p t new d true does due placed = record { does = does; asks = due; phase_is = tt; placed = placed refl }
-other_stands p t new d false does due placed = record { does = does; asks = due; phase_is = tt; placed = tt }
+other_stands p t new d true does due placed =
+    record { does = does; asks = due; phase_is = tt; placed = placed refl }
+other_stands p t new d false does due placed = record {
+  does = does;
+  asks = due;
+  phase_is =
+      tt;
+  placed = tt;
+}
 
 -- the line leaves nothing of the connection's octets
 line_left : (kept : Bool) (log : Log) (so_far : List ℕ) → IsLeftIn (after_line kept) log so_far []
@@ -108,7 +131,8 @@ abbrev pub walled : Option Wall → State → State
 walled wall t = record t { wall = wall }
 
 pub come_other : (p : Setup) (s t : State) (log : Log) (now : ℕ) (event : Input) (fits kept : Bool)
-    (wall : Option Wall) → wall ≡ wall_told (Came now event ∷ log) → Counts kept fits log → IsAside now event log
+    (wall : Option Wall) → wall ≡ wall_told (Came now event ∷ log) → Counts kept fits log
+    → IsAside now event log
     → GoesOn now event log → HasRested p log → (a : Agrees p s log [] (resting log))
     → (h : Heard p s t log now event (left_of p log a.course) fits) →
     Agrees p (walled wall t) (Came now event ∷ log) [] (after_line kept)
@@ -124,7 +148,8 @@ come_other p s t log now event fits kept wall shows counts aside on rest a h =
       is_left p s log a,
       on p left h.z h.worked,
     ) in
-    let talk : Talks p t.centre.session new d = talk_on p s.centre.session t.centre.session log new a.course d a.talk
+    let talk : Talks p t.centre.session new d = talk_on p s.centre.session t.centre.session log new
+    a.course d a.talk
     (ap (λ (c : Centre). c.session) h.centre) refl course_runs in
     record {
       k = ap (λ (c : Centre). c.session.k) h.centre ∙ a.k;
@@ -138,7 +163,8 @@ come_other p s t log now event fits kept wall shows counts aside on rest a h =
       course = d;
       talk = talk;
       stands = other_stands p (walled wall t) new d kept h.does h.due
-          (λ yes o. let was : (present log).is_open ≡ true = ap (λ (x : Channel). x.is_open) (sym aside.0) ∙ o in
+          (λ yes o. let was : (present log).is_open ≡ true =
+          ap (λ (x : Channel). x.is_open) (sym aside.0) ∙ o in
           h.placed (counts yes was) ∙ placed_before p s log a was);
       gaps = h.gaps;
       offers = h.offers;
@@ -159,40 +185,52 @@ come_other p s t log now event fits kept wall shows counts aside on rest a h =
 
 -- with these works
 pub come_course : (p : Setup) (s t : State) (log : Log) (now : ℕ) (event : Input) (fits kept : Bool)
-    (wall : Option Wall) (shows : wall ≡ wall_told (Came now event ∷ log)) (counts : Counts kept fits log)
+    (wall : Option Wall) (shows : wall ≡ wall_told (Came now event ∷ log))
+    (counts : Counts kept fits log)
     (aside : IsAside now event log) (on : GoesOn now event log) (rest : HasRested p log)
-    (a : Agrees p s log [] (resting log)) → (h : Heard p s t log now event (left_of p log a.course) fits) →
+    (a : Agrees p s log [] (resting log))
+    → (h : Heard p s t log now event (left_of p log a.course) fits) →
     (come_other p s t log now event fits kept wall shows counts aside on rest a h).course
     ≡ with_works h.z (left_of p log a.course)
 unfolding come_other
 come_course p s t log now event fits kept wall shows counts aside on rest a h = refl
 
 -- what the ended connection leaves in the queue, with the pieces kept since
-left_over : (p : Setup) (s t : State) (log : Log) (now : ℕ) (event : Input) (left : Course) (fits : Bool)
+left_over : (p : Setup) (s t : State) (log : Log) (now : ℕ) (event : Input) (left : Course)
+    (fits : Bool)
     (earlier : List Connection) → Heard p s t log now event left fits
-    → Carries (taken_objects p log) (parts_of_all p.sizes (reports_in p log)) (taken_pieces p log) earlier []
+    → Carries (taken_objects p log) (parts_of_all p.sizes (reports_in p log)) (taken_pieces p log)
+    earlier []
     (queue.rewound s.centre.queue).unsent →
-    Carries (taken_objects p (Came now event ∷ log)) (parts_of_all p.sizes (reports_in p (Came now event ∷ log)))
+    Carries (taken_objects p (Came now event ∷ log))
+    (parts_of_all p.sizes (reports_in p (Came now event ∷ log)))
     (taken_pieces p (Came now event ∷ log)) earlier [] (queue.rewound t.centre.queue).unsent
 left_over p s t log now event left fits earlier h c =
-    let all : (queue.rewound t.centre.queue).unsent ≡ (queue.rewound s.centre.queue).unsent ++ h.pieces =
+    let all : (queue.rewound t.centre.queue).unsent ≡ (queue.rewound s.centre.queue).unsent
+    ++ h.pieces =
     ap (λ q. q ++ t.centre.queue.unsent) (heard_sent p s t log now event left fits h)
     ∙ ap (λ u. s.centre.queue.sent ++ u) (heard_unsent p s t log now event left fits h)
     ∙ sym (append_assoc s.centre.queue.sent s.centre.queue.unsent h.pieces) in
     subst (λ objs. Carries objs (parts_of_all p.sizes (reports_in p (Came now event ∷ log)))
-    (taken_pieces p (Came now event ∷ log)) earlier [] (queue.rewound t.centre.queue).unsent) (sym h.taken)
-    (subst (λ n. Carries (taken_objects p log ++ h.more) n (taken_pieces p (Came now event ∷ log)) earlier []
+    (taken_pieces p (Came now event ∷ log)) earlier [] (queue.rewound t.centre.queue).unsent)
+    (sym h.taken)
+    (subst (λ n. Carries (taken_objects p log ++ h.more) n (taken_pieces p (Came now event ∷ log))
+    earlier []
     (queue.rewound t.centre.queue).unsent) (sym h.parts)
     (subst (λ ps. Carries (taken_objects p log ++ h.more)
-    (parts_of_all p.sizes (reports_in p log) + length h.pieces) ps earlier [] (queue.rewound t.centre.queue).unsent)
+    (parts_of_all p.sizes (reports_in p log) + length h.pieces) ps earlier []
+    (queue.rewound t.centre.queue).unsent)
     (sym h.spelled)
     (subst (λ u. Carries (taken_objects p log ++ h.more)
-    (parts_of_all p.sizes (reports_in p log) + length h.pieces) (taken_pieces p log ++ h.pieces) earlier [] u) (sym all)
-    (carries_more (taken_objects p log) h.more (parts_of_all p.sizes (reports_in p log)) (taken_pieces p log) earlier []
+    (parts_of_all p.sizes (reports_in p log) + length h.pieces) (taken_pieces p log ++ h.pieces)
+    earlier [] u) (sym all)
+    (carries_more (taken_objects p log) h.more (parts_of_all p.sizes (reports_in p log))
+    (taken_pieces p log) earlier []
     (queue.rewound s.centre.queue).unsent h.pieces h.objects_are h.whole c))))
 
 -- The open connection, if any, is over by an event that the line's part leaves alone.
-module _ (laws : LineLaws) (p : Setup) (s t : State) (log : Log) (now : ℕ) (event : Input) (fits : Bool)
+module _ (laws : LineLaws) (p : Setup) (s t : State) (log : Log) (now : ℕ) (event : Input)
+    (fits : Bool)
     (rest : HasRested p log) (a : Agrees p s log [] (resting log))
     (h : Heard p s t log now event (left_of p log a.course) fits) where
   abbrev left : Course
@@ -203,20 +241,24 @@ module _ (laws : LineLaws) (p : Setup) (s t : State) (log : Log) (now : ℕ) (ev
   over_course = ended_course (present log).is_open h.z left
 
   over_ended : Ended p s log a.course (present log)
-  over_ended = ended p s log [] (resting log) a (present log) None refl (stands_now p s log (resting log) a)
+  over_ended = ended p s log [] (resting log) a (present log) None refl
+      (stands_now p s log (resting log) a)
 
   over_orders : AreInOrder (taken_objects p (Came now event ∷ log)) over_course.earlier
   over_orders = subst (λ objs. AreInOrder objs over_course.earlier) (sym h.taken)
       (orders_grow (taken_objects p log) h.more over_course.earlier over_ended.orders)
 
   over_carries : Carries (taken_objects p (Came now event ∷ log))
-      (parts_of_all p.sizes (reports_in p (Came now event ∷ log))) (taken_pieces p (Came now event ∷ log))
+      (parts_of_all p.sizes (reports_in p (Came now event ∷ log)))
+      (taken_pieces p (Came now event ∷ log))
       over_course.earlier []
       (queue.rewound t.centre.queue).unsent
   over_carries = left_over p s t log now event left fits over_course.earlier h over_ended.carries
 
-  over_line : Tells p.link p.addresses (withdrawn t.serial.line) (exchanges_of p (Came now event ∷ log))
-  over_line = laws.withdraw p.link p.addresses t.serial.line (exchanges_of p (Came now event ∷ log)) h.line
+  over_line : Tells p.link p.addresses (withdrawn t.serial.line)
+      (exchanges_of p (Came now event ∷ log))
+  over_line = laws.withdraw p.link p.addresses t.serial.line (exchanges_of p (Came now event ∷ log))
+      h.line
 
   small : t.centre.session.k < 32768
   small = subst (λ (c : Centre). c.session.k < 32768) (sym h.centre) a.here.tied.small
@@ -224,14 +266,18 @@ module _ (laws : LineLaws) (p : Setup) (s t : State) (log : Log) (now : ℕ) (ev
   all_came : HasTakenAll (present log) a.course.talk
   all_came = all_taken log a.course a.here.so_far a.here.joined a.here.waits
 
-pub come_cut : (laws : LineLaws) (p : Setup) (s t : State) (log : Log) (now : ℕ) (fits : Bool) → HasRested p log
-    → (a : Agrees p s log [] (resting log)) → (h : Heard p s t log now CutOff (left_of p log a.course) fits)
+pub come_cut : (laws : LineLaws) (p : Setup) (s t : State) (log : Log) (now : ℕ) (fits : Bool)
+    → HasRested p log
+    → (a : Agrees p s log [] (resting log))
+    → (h : Heard p s t log now CutOff (left_of p log a.course) fits)
     → Agrees p (disconnected t) (Came now CutOff ∷ log) [] Idle
 come_cut laws p s t log now fits rest a h =
     let new : Log = Came now CutOff ∷ log in
     let d : Course = over_course laws p s t log now CutOff fits rest a h in
-    let same : ended_course (present log).is_open (begun_works (latest new) (left_of p log a.course).works)
-    (left_of p log a.course) ≡ d = ap (λ z. ended_course (present log).is_open z (left_of p log a.course))
+    let same : ended_course (present log).is_open
+    (begun_works (latest new) (left_of p log a.course).works)
+    (left_of p log a.course) ≡ d =
+    ap (λ z. ended_course (present log).is_open z (left_of p log a.course))
     (sym h.worked) in
     let runs : Runs p new d = (
       a.course,
@@ -255,11 +301,18 @@ come_cut laws p s t log now fits rest a h =
       line = over_line laws p s t log now CutOff fits rest a h;
       course = d;
       talk = talk;
-      stands = record { does = ap serial.cut h.does; asks = h.due; phase_is = tt; placed = λ o. refl };
+      stands = record {
+        does = ap serial.cut h.does;
+        asks = h.due;
+        phase_is = tt;
+        placed =
+            λ o. refl;
+      };
       gaps = h.gaps;
       offers = offers_cut laws t.serial.line (tasks.closed t.serial.commands);
       plain = tt;
-      here = fresh (disconnected t).centre no_channel (small laws p s t log now CutOff fits rest a h) refl
+      here = fresh (disconnected t).centre no_channel (small laws p s t log now CutOff fits rest a
+          h) refl
           (λ h. refl) refl refl refl refl refl refl refl refl refl;
       left = refl;
       carries = over_carries laws p s t log now CutOff fits rest a h;
@@ -274,18 +327,23 @@ come_cut laws p s t log now fits rest a h =
 
 -- A connection opens.
 
-module _ (laws : LineLaws) (p : Setup) (s t : State) (log : Log) (now : ℕ) (fits : Bool) (rest : HasRested p log)
-    (a : Agrees p s log [] (resting log)) (h : Heard p s t log now Opened (left_of p log a.course) fits) where
+module _ (laws : LineLaws) (p : Setup) (s t : State) (log : Log) (now : ℕ) (fits : Bool)
+    (rest : HasRested p log)
+    (a : Agrees p s log [] (resting log)) (h : Heard p s t log now Opened (left_of p log a.course)
+    fits) where
   abbrev opened : Course
   opened = opened_course t.moment (over_course laws p s t log now Opened fits rest a h)
 
   opened_runs : Runs p (Came now Opened ∷ log) opened
   opened_runs =
       let at : ℕ = latest (Came now Opened ∷ log) in
-      let same : opened_course at (ended_course (present log).is_open (begun_works at (left_of p log a.course).works)
+      let same : opened_course at
+      (ended_course (present log).is_open (begun_works at (left_of p log a.course).works)
       (left_of p log a.course)) ≡ opened =
-      ap (λ z. opened_course at (ended_course (present log).is_open z (left_of p log a.course))) (sym h.worked)
-      ∙ ap (λ m. opened_course m (over_course laws p s t log now Opened fits rest a h)) (sym h.clock) in (
+      ap (λ z. opened_course at (ended_course (present log).is_open z (left_of p log a.course)))
+      (sym h.worked)
+      ∙ ap (λ m. opened_course m (over_course laws p s t log now Opened fits rest a h))
+      (sym h.clock) in (
         a.course,
         left_of p log a.course,
         a.talk.course_runs,
@@ -296,14 +354,16 @@ module _ (laws : LineLaws) (p : Setup) (s t : State) (log : Log) (now : ℕ) (fi
 
   opened_talk : Talks p (connected (disconnected t)).centre.session (Came now Opened ∷ log) opened
   opened_talk = talk_open p s.centre.session t.centre.session log (Came now Opened
-      ∷ log) a.course opened t.moment a.talk (ap (λ (c : Centre). c.session) h.centre) refl opened_runs
+      ∷ log) a.course opened t.moment a.talk (ap (λ (c : Centre). c.session) h.centre) refl
+      opened_runs
 
   opened_does : (connected (disconnected t)).serial ≡ opened.works.serial
   opened_does = ap serial.cut h.does
 
   opened_here : Presently (connected (disconnected t)).centre new_channel [] new_connection
   opened_here = fresh (connected (disconnected t)).centre new_channel
-      (small laws p s t log now Opened fits rest a h) refl (λ h. cc) refl refl refl refl refl refl refl refl refl
+      (small laws p s t log now Opened fits rest a h) refl (λ h. cc) refl refl refl refl refl refl
+      refl refl refl
 
   -- as it is once the close of the one before it, if any, has gone out
   pub come_open : session.is_open t.centre.session ≡ false
@@ -336,11 +396,13 @@ module _ (laws : LineLaws) (p : Setup) (s t : State) (log : Log) (now : ℕ) (fi
   }
 
   pub come_replaced : session.is_open t.centre.session ≡ true
-      → Agrees p (connected (disconnected t)) (Went t.moment (Closed Replaced) ∷ Came now Opened ∷ log) [] Idle
+      → Agrees p (connected (disconnected t)) (Went t.moment (Closed Replaced) ∷ Came now Opened
+      ∷ log) [] Idle
   come_replaced on =
       let new : Log = Went t.moment (Closed Replaced) ∷ Came now Opened ∷ log in
       let talk : Talks p (connected (disconnected t)).centre.session new opened =
-      talk_on p (connected (disconnected t)).centre.session (connected (disconnected t)).centre.session
+      talk_on p (connected (disconnected t)).centre.session
+      (connected (disconnected t)).centre.session
       (Came now Opened ∷ log) new opened opened opened_talk refl refl (
         opened,
         opened_runs,
@@ -395,9 +457,11 @@ module _ (laws : LineLaws) (p : Setup) (s t : State) (log : Log) (now : ℕ) (fi
     are = (over_ended laws p s t log now Opened fits rest a h).are;
     orders = (
       in_order (taken_objects p (Came now Opened ∷ log))
-          (parts_of_all p.sizes (reports_in p (Came now Opened ∷ log))) (taken_pieces p (Came now Opened ∷ log))
+          (parts_of_all p.sizes (reports_in p (Came now Opened ∷ log)))
+          (taken_pieces p (Came now Opened ∷ log))
           new_connection opened.earlier
-          (queue.rewound t.centre.queue).unsent tt (over_carries laws p s t log now Opened fits rest a h),
+          (queue.rewound t.centre.queue).unsent tt (over_carries laws p s t log now Opened fits rest
+          a h),
       over_orders laws p s t log now Opened fits rest a h,
     );
     links = keeps_links p t.serial.line (Came now Opened ∷ log) h.line;
@@ -407,10 +471,12 @@ module _ (laws : LineLaws) (p : Setup) (s t : State) (log : Log) (now : ℕ) (fi
   }
 
 -- octets of no connection count for nothing; else none is judged yet
-pub come_bytes : (p : Setup) (s t : State) (log : Log) (now : ℕ) (octets : List ℕ) (fits : Bool) → fits ≡ true
+pub come_bytes : (p : Setup) (s t : State) (log : Log) (now : ℕ) (octets : List ℕ) (fits : Bool)
+    → fits ≡ true
     → HasRested p log → (a : Agrees p s log [] (resting log))
     → Heard p s t log now (TcpIn octets) (left_of p log a.course) fits
-    → Agrees p t (Came now (TcpIn octets) ∷ log) (if session.is_open t.centre.session then octets else []) Taking
+    → Agrees p t (Came now (TcpIn octets) ∷ log) (if session.is_open t.centre.session then octets
+    else []) Taking
 come_bytes p s t log now octets fits settled_fits rest a h =
     subst (λ b. Agrees p t (Came now (TcpIn octets) ∷ log) (if b then octets else []) Taking)
     (sym (ap (λ (c : Centre). session.is_open c.session) h.centre)) (record {
@@ -435,7 +501,8 @@ come_bytes p s t log now octets fits settled_fits rest a h =
       offers = h.offers;
       plain = h.plain;
       here = subst (λ x. Presently t.centre x more (here_of d))
-          (sym (bytes_at (session.is_open s.centre.session) (present log) (sym a.here.link))) (record {
+          (sym (bytes_at (session.is_open s.centre.session) (present log) (sym a.here.link)))
+          (record {
             link = w.link;
             none = λ off. (
               closed (session.is_open s.centre.session) (a.here.link ∙ off) (a.here.none off).0,
@@ -455,7 +522,8 @@ come_bytes p s t log now octets fits settled_fits rest a h =
             numbered = w.numbered;
           });
       left = tt;
-      carries = carried p s t log now (TcpIn octets) left fits a.course.earlier a.course.sent h a.carries;
+      carries = carried p s t log now (TcpIn octets) left fits a.course.earlier a.course.sent h
+          a.carries;
       before = record {
         are = a.before.are;
         orders = subst (λ objs. AreInOrder objs a.course.earlier) (sym h.taken)
@@ -510,7 +578,13 @@ come_bytes p s t log now octets fits settled_fits rest a h =
           lacked_place =
               c.lacked_place;
         } else c) h
-        ∙ ap (λ l. record { is_open = c.is_open; sent = c.sent; received = l; lacked_place = c.lacked_place })
+        ∙ ap (λ l. record {
+          is_open = c.is_open;
+          sent = c.sent;
+          received = l;
+          lacked_place =
+              c.lacked_place;
+        })
         (sym (append-nil c.received))
 
     opens : (c : Channel) → (receiving c octets).is_open ≡ c.is_open
@@ -552,9 +626,12 @@ come_bytes p s t log now octets fits settled_fits rest a h =
               c.lacked_place;
         }) none
 
-    joined_now : (present log).received ++ more ≡ spelled (came_frames a.course.talk) ++ (w.so_far ++ more)
-    joined_now = ap (λ x. x ++ more) w.joined ∙ append_assoc (spelled (came_frames a.course.talk)) (w.so_far
-        ++ []) more ∙ ap (λ x. spelled (came_frames a.course.talk) ++ (x ++ more)) (append-nil w.so_far)
+    joined_now : (present log).received ++ more ≡ spelled (came_frames a.course.talk)
+        ++ (w.so_far ++ more)
+    joined_now = ap (λ x. x ++ more) w.joined
+        ∙ append_assoc (spelled (came_frames a.course.talk)) (w.so_far
+        ++ []) more ∙ ap (λ x. spelled (came_frames a.course.talk) ++ (x ++ more))
+        (append-nil w.so_far)
 
     brings : TakesFrames p (Came (latest (Came now (TcpIn octets) ∷ log)) (TcpIn octets) ∷ log)
         (latest (Came now (TcpIn octets) ∷ log)) (with_works
@@ -564,12 +641,15 @@ come_bytes p s t log now octets fits settled_fits rest a h =
       taken = ap (λ z. with_works z left) h.worked;
       each = tt;
       rest = w.so_far ++ more;
-      joined = ap (λ (x : Channel). x.received) (bytes_at (session.is_open s.centre.session) (present log)
+      joined =
+          ap (λ (x : Channel). x.received) (bytes_at (session.is_open s.centre.session)
+          (present log)
           (sym a.here.link)) ∙ joined_now;
     }
 
     talk_now : Talks p t.centre.session (Came now (TcpIn octets) ∷ log) d
-    talk_now = talk_on p s.centre.session t.centre.session log (Came now (TcpIn octets) ∷ log) a.course d a.talk
+    talk_now = talk_on p s.centre.session t.centre.session log (Came now (TcpIn octets) ∷ log)
+        a.course d a.talk
         (ap (λ (c : Centre). c.session) h.centre) refl (
           a.course,
           left,

@@ -8,7 +8,8 @@ left_of nr count = (count % 32768 + (32768 - nr % 32768)) % 32768
 
 pub reached-valid : (acknowledged unacknowledged nr : ℕ) → unacknowledged < 32768 →
     left_of nr (acknowledged + unacknowledged) ≤ unacknowledged →
-    reached acknowledged nr + left_of nr (acknowledged + unacknowledged) ≡ acknowledged + unacknowledged
+    reached acknowledged nr + left_of nr (acknowledged + unacknowledged)
+    ≡ acknowledged + unacknowledged
 reached-valid a u nr small valid = omega arith
 
 pub reached-invalid : (acknowledged unacknowledged nr : ℕ) → unacknowledged < 32768 →

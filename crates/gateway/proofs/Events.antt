@@ -1,7 +1,8 @@
 -- The line's lemmas where a port may tell no log, in the form that answers cite.
-use Rattle.std.proofs.Common.{◌≡◌, ℕ, ◌≤◌, ◌+◌, ◌==◌, Bool, true, false, not, List, [], ◌∷◌, ◌++◌, length, refl, ap, sym, ◌∙◌, subst, arith, inl, Option, Some, None, length-append}
+use Rattle.std.proofs.Common.{◌≡◌, ℕ, ◌≤◌, ◌+◌, ◌==◌, Bool, true, false, not, List, [], ◌∷◌, ◌++◌}
+use Rattle.std.proofs.Common.{length, refl, ap, sym, ◌∙◌, subst, arith, inl, Option, Some, None}
+use Rattle.std.proofs.Common.{length-append}
 use Rattle.std.specs.Prelude.{IfSome, is_some, if◌then◌else◌, option_map}
-use Rattle.std.specs.Bool.{OnTrue}
 use Rattle.std.proofs.lemmas.List.{append-nil}
 use Rattle.std.proofs.lemmas.Bool.{and_parts}
 use Rattle.link.specs.declared.service.Service.TheVariants.{Command}
@@ -10,7 +11,8 @@ use Rattle.link.specs.Procedure.{is_held}
 use Rattle.link.specs.declared.turn.Chosen.{Chosen}
 use Rattle.link.specs.Turns.{station_at}
 use Rattle.link.specs.Exchanges.{Exchanges, Sending, begun_by}
-use Rattle.link.specs.Primary.{Primary, Outstanding, asked, asked_from, after_choice, choice, sending, sending_from, sending_by, request_of, is_command}
+use Rattle.link.specs.Primary.{Primary, Outstanding, asked, asked_from, after_choice, choice}
+use Rattle.link.specs.Primary.{sending, sending_from, sending_by, request_of, is_command}
 use Rattle.link.specs.declared.request.Request.{Request}
 use Rattle.link.specs.Offers.{offered_at}
 use Rattle.link.specs.Telling.{Tells}
@@ -18,12 +20,13 @@ use Rattle.session.specs.declared.kinds.Close.TheVariants.{OwnAnswers, Replaced}
 use Rattle.command.specs.State.{octets_waiting}
 use Rattle.events.specs.Queue.{free_places}
 use Rattle.session.specs.Session.{is_open}
-use Rattle.session.specs.Ends.{IsConfirmed}
 use Rattle.gateway.proofs.Talking.{kept_talk, talk_on, all_taken}
-use Rattle.gateway.specs.Log.{Log, LogEntry, events_of, Input, Opened, TcpIn, CutOff, Ticked, WallIs, LineIn, Came, Went, LineOut, Closed, GapOut, latest, tell}
+use Rattle.gateway.specs.Log.{Log, Input, Opened, TcpIn, CutOff, Ticked}
+use Rattle.gateway.specs.Log.{WallIs, LineIn, Came, Went, LineOut, Closed, GapOut, latest, tell}
 use Rattle.gateway.specs.Frames.{AreInOrder}
 use Rattle.gateway.specs.Connections.{Channel, receiving, received_before, present}
-use Rattle.gateway.specs.Reports.{Setup, sending_in, exchanges_of, taken_objects, taken_pieces, reports_in, parts_of_all}
+use Rattle.gateway.specs.Reports.{Setup, sending_in, exchanges_of, taken_objects, taken_pieces}
+use Rattle.gateway.specs.Reports.{reports_in, parts_of_all}
 use Rattle.link.specs.Leave.{is_poll_request}
 use Rattle.gateway.specs.declared.gaps.Gap.{Gap}
 use Rattle.gateway.specs.Gaps.{gaps_told, gap_for, TellsGaps}
@@ -31,16 +34,19 @@ use Rattle.gateway.specs.Polls.{has_room}
 use Rattle.gateway.specs.Serial as serial
 use Rattle.gateway.specs.Serial.{Serial, is_first_command, put_on_line}
 use Rattle.gateway.specs.Centre.{Centre}
-use Rattle.gateway.specs.Works.{Works, has_lacked_place, ready_works, gapless_works, unasked_works, asked_works}
-use Rattle.gateway.specs.Course.{Course, first_course, room_in, with_works, Comes, Runs}
-use Rattle.gateway.specs.Phases.{Phase, Fresh, Taking, Idle, Crowded, Timed, Asked, IsOut}
+use Rattle.gateway.specs.Works.{Works, has_lacked_place, ready_works, gapless_works, unasked_works}
+use Rattle.gateway.specs.Works.{asked_works}
+use Rattle.gateway.specs.Course.{Course, room_in, with_works, Comes, Runs}
+use Rattle.gateway.specs.Phases.{Phase, Taking, Idle, Crowded, Timed, Asked, IsOut}
 use Rattle.link.specs.LineLaws.{LineLaws}
 use Rattle.gateway.specs.Traffic.{IsFaithful}
-use Rattle.gateway.specs.Runs.{events_told, MoreEvents}
 use Rattle.gateway.specs.declared.walls.Wall.{Wall}
-use Rattle.gateway.specs.State.{State, with_wall, with_serial, at_moment, line_timed, settled, disconnected, connected, after_request as after_next}
+use Rattle.gateway.specs.State.{State, with_wall, with_serial, at_moment, line_timed, settled}
+use Rattle.gateway.specs.State.{disconnected, connected, after_request as after_next}
 use Rattle.gateway.specs.Steps.{HearsEvent, Begins, MayClose}
-use Rattle.gateway.specs.Agrees.{Talks, Agrees, OffersWait, ArePlain, Tracks, Awaits, Leaves, Follows, HasCome, Rests, Carries, IsClear, IsUndue, IsSpent, pending}
+use Rattle.gateway.specs.Agrees.{Talks, Agrees, OffersWait, ArePlain, Tracks, Awaits, Leaves}
+use Rattle.gateway.specs.Agrees.{HasCome, Carries, IsClear, IsUndue}
+use Rattle.gateway.specs.Agrees.{pending}
 use Rattle.gateway.proofs.Working.{gap_in, settled_gap, settled_placed, put_placed}
 use Rattle.gateway.proofs.Offering.{offers_stay, offers_made, offers_asked, offers_unasked}
 use Rattle.gateway.proofs.Closing.{stands_now, stands_overfull}
@@ -49,7 +55,8 @@ use Rattle.gateway.proofs.Hearing.{now_idle}
 use Rattle.gateway.proofs.Put.{told_faithful}
 use Rattle.gateway.proofs.Stations.{octets_of, taken_grows, pieces_grow, parts_grow, after_request}
 use Rattle.gateway.proofs.Come.{Heard, heard_event, Worked}
-use Rattle.gateway.proofs.Connecting.{Counts, come_other, come_course, come_open, come_replaced, come_cut, come_bytes, opened_faithful}
+use Rattle.gateway.proofs.Connecting.{Counts, come_other, come_course, come_open, come_replaced}
+use Rattle.gateway.proofs.Connecting.{come_cut, come_bytes, opened_faithful}
 use Rattle.gateway.proofs.Learning.{left_of}
 
 -- The request is asked for, once commands were offered.
@@ -57,14 +64,17 @@ use Rattle.gateway.proofs.Learning.{left_of}
 -- the state once commands were offered
 pub record IsReady (p : Setup) (s t : State) (told : Option Log) : Type 0 where
   pub is : t ≡ with_serial (serial.offered s.serial) s
-  pub tells : (e : Exchanges) → Tells p.link p.addresses s.serial.line e → Tells p.link p.addresses t.serial.line e
+  pub tells : (e : Exchanges) → Tells p.link p.addresses s.serial.line e
+      → Tells p.link p.addresses t.serial.line e
 
 -- and once a request was asked for
 abbrev pub asked_state : State → Option Sending → State
-asked_state s x = with_serial (serial.asked s.moment (has_room s.centre.queue) x (serial.offered s.serial)) s
+asked_state s x =
+    with_serial (serial.asked s.moment (has_room s.centre.queue) x (serial.offered s.serial)) s
 
 module _ (laws : LineLaws) (p : Setup) (s : State) (log : Log) (a : Agrees p s log [] Timed)
-    (tells : Tells p.link p.addresses (serial.offered s.serial).line (exchanges_of p log)) (no_gap : s.serial.gap
+    (tells : Tells p.link p.addresses (serial.offered s.serial).line (exchanges_of p log))
+    (no_gap : s.serial.gap
     ≡ None) where
   abbrev at : ℕ
   at = latest log
@@ -80,10 +90,12 @@ module _ (laws : LineLaws) (p : Setup) (s : State) (log : Log) (a : Agrees p s l
 
   -- each gap is told
   none_left : w.serial.gap ≡ None
-  none_left = sym (gap_in Timed at (room_in p log a.course) w) ∙ ap (λ (z : Serial). z.gap) (sym a.stands.does) ∙ no_gap
+  none_left = sym (gap_in Timed at (room_in p log a.course) w)
+      ∙ ap (λ (z : Serial). z.gap) (sym a.stands.does) ∙ no_gap
 
   all_told : TellsGaps p log
-  all_told i = sym (append-nil (gaps_told i log)) ∙ ap (λ g. gaps_told i log ++ gap_for i g) (sym no_gap) ∙ a.gaps i
+  all_told i = sym (append-nil (gaps_told i log))
+      ∙ ap (λ g. gaps_told i log ++ gap_for i g) (sym no_gap) ∙ a.gaps i
 
   -- what is offered
   same_ready : serial.offered s.serial ≡ ready.serial
@@ -97,19 +109,24 @@ module _ (laws : LineLaws) (p : Setup) (s : State) (log : Log) (a : Agrees p s l
 
   same_next : (x : Option Sending) → sending q (has_room s.centre.queue) ≡ x
       → sending ready.serial.line (room_in p log a.course) ≡ x
-  same_next x h = ap (sending ready.serial.line) room ∙ ap (λ (z : Serial). sending z.line (has_room s.centre.queue))
+  same_next x h = ap (sending ready.serial.line) room
+      ∙ ap (λ (z : Serial). sending z.line (has_room s.centre.queue))
       (sym same_ready) ∙ h
 
-  same_asked : (x : Option Sending) → (asked_state s x).serial ≡ serial.asked at (room_in p log a.course) x ready.serial
-  same_asked x = ap (λ m. serial.asked m (has_room s.centre.queue) x (serial.offered s.serial)) a.clock
+  same_asked : (x : Option Sending) → (asked_state s x).serial
+      ≡ serial.asked at (room_in p log a.course) x ready.serial
+  same_asked x = ap (λ m. serial.asked m (has_room s.centre.queue) x (serial.offered s.serial))
+      a.clock
       ∙ ap (λ b. serial.asked at b x (serial.offered s.serial)) (sym room)
       ∙ ap (serial.asked at (room_in p log a.course) x) same_ready
 
-  command_waits : (x : Sending) → sending q (has_room s.centre.queue) ≡ Some x → (fcb : Bool) (asdu : List ℕ)
+  command_waits : (x : Sending) → sending q (has_room s.centre.queue) ≡ Some x
+      → (fcb : Bool) (asdu : List ℕ)
       → x.request ≡ Counted fcb (Command asdu) → is_first_command ready.serial.line x ≡ true
       → octets_waiting x.station ready.serial.commands ≡ Some asdu
   command_waits x next fcb asdu request first =
-      let new : is_first_command q x ≡ true = ap (λ (z : Serial). is_first_command z.line x) same_ready ∙ first in
+      let new : is_first_command q x ≡ true = ap (λ (z : Serial). is_first_command z.line x)
+      same_ready ∙ first in
       let fresh : is_held (station_at q.stations x.station).link ≡ false =
       not-true _ (and_parts (is_command x.request) _ new).1 in
       ap (λ (z : Serial). octets_waiting x.station z.commands) (sym same_ready)
@@ -123,11 +140,13 @@ module _ (laws : LineLaws) (p : Setup) (s : State) (log : Log) (a : Agrees p s l
       → IsOut (asked q s.moment (has_room s.centre.queue)).outstanding
   is_out x next = by_outstanding q.outstanding next
     where
-      by_choice : (c : Option Chosen) → sending_by c ≡ Some x → IsOut (after_choice q s.moment c).outstanding
+      by_choice : (c : Option Chosen) → sending_by c ≡ Some x
+          → IsOut (after_choice q s.moment c).outstanding
       by_choice None h = cc
       by_choice (Some c) h = tt
 
-      by_outstanding : (o : Option Outstanding) → sending_from q o (has_room s.centre.queue) ≡ Some x
+      by_outstanding : (o : Option Outstanding) → sending_from q o (has_room s.centre.queue)
+          ≡ Some x
           → IsOut (asked_from q o s.moment (has_room s.centre.queue)).outstanding
       by_outstanding None h = by_choice (choice q (has_room s.centre.queue)) h
       by_outstanding (Some o) h = cc
@@ -142,7 +161,8 @@ module _ (laws : LineLaws) (p : Setup) (s : State) (log : Log) (a : Agrees p s l
       let fits = laws.fit p.link p.addresses q (exchanges_of p log) may x tells next in
       let same : taken_objects p new ≡ taken_objects p log = taken_grows p log new [] goes.reported
       ∙ append-nil (taken_objects p log) in
-      let parts : parts_of_all p.sizes (reports_in p new) ≡ parts_of_all p.sizes (reports_in p log) =
+      let parts : parts_of_all p.sizes (reports_in p new)
+      ≡ parts_of_all p.sizes (reports_in p log) =
       omega (arith, parts_grow p log new [] goes.reported) in
       let all : taken_pieces p new ≡ taken_pieces p log = pieces_grow p log new [] goes.reported
       ∙ append-nil (taken_pieces p log) in
@@ -184,7 +204,8 @@ module _ (laws : LineLaws) (p : Setup) (s : State) (log : Log) (a : Agrees p s l
             gap_in Timed at (room_in p log a.course) w ∙ none_left,
           );
           phase_is = tt;
-          placed = λ o. put_placed (is_first_command ready.serial.line x) x.station ready ∙ settled_placed at w
+          placed = λ o. put_placed (is_first_command ready.serial.line x) x.station ready
+              ∙ settled_placed at w
               ∙ a.stands.placed o;
         };
         gaps = λ i. a.gaps i
@@ -195,11 +216,15 @@ module _ (laws : LineLaws) (p : Setup) (s : State) (log : Log) (a : Agrees p s l
         plain = subst ArePlain (sym (put_answers (is_first_command q x))) a.plain;
         here = a.here;
         left = refl;
-        carries = subst (λ objs. Carries objs (parts_of_all p.sizes (reports_in p new)) (taken_pieces p new)
+        carries =
+            subst (λ objs. Carries objs (parts_of_all p.sizes (reports_in p new))
+            (taken_pieces p new)
             a.course.earlier a.course.sent s.centre.queue.unsent) (sym same)
-            (subst (λ n. Carries (taken_objects p log) n (taken_pieces p new) a.course.earlier a.course.sent
+            (subst (λ n. Carries (taken_objects p log) n (taken_pieces p new) a.course.earlier
+            a.course.sent
             s.centre.queue.unsent) (sym parts)
-            (subst (λ ps. Carries (taken_objects p log) (parts_of_all p.sizes (reports_in p log)) ps a.course.earlier
+            (subst (λ ps. Carries (taken_objects p log) (parts_of_all p.sizes (reports_in p log)) ps
+            a.course.earlier
             a.course.sent s.centre.queue.unsent) (sym all) a.carries));
         before = record {
           are = a.before.are;
@@ -231,12 +256,14 @@ module _ (laws : LineLaws) (p : Setup) (s : State) (log : Log) (a : Agrees p s l
         };
       }
     where
-      put_answers : (b : Bool) → (put_on_line b x.station s.serial.commands).answers ≡ s.serial.commands.answers
+      put_answers : (b : Bool) → (put_on_line b x.station s.serial.commands).answers
+          ≡ s.serial.commands.answers
       put_answers true = a.talk.command_laws.sent_answers x.station s.serial.commands
       put_answers false = refl
 
   -- no request is left
-  pub none_asked : sending q (has_room s.centre.queue) ≡ None → Agrees p (asked_state s None) log [] Asked
+  pub none_asked : sending q (has_room s.centre.queue) ≡ None
+      → Agrees p (asked_state s None) log [] Asked
   none_asked none = record {
     k = a.k;
     sizes = a.sizes;
@@ -247,14 +274,21 @@ module _ (laws : LineLaws) (p : Setup) (s : State) (log : Log) (a : Agrees p s l
     found = a.found;
     line = subst (λ o. Tells p.link p.addresses (asked q s.moment (has_room s.centre.queue))
         (begun_by s.moment o (exchanges_of p log))) none
-        (laws.next p.link p.addresses q (exchanges_of p log) s.moment (has_room s.centre.queue) tells);
+        (laws.next p.link p.addresses q (exchanges_of p log) s.moment (has_room s.centre.queue)
+        tells);
     course = a.course;
     talk = a.talk;
     stands = record {
       does = subst (λ b. (asked_state s None).serial ≡
-          (if b then unasked_works at (room_in p log a.course) ready else w).serial) (sym a.stands.asks)
+          (if b then unasked_works at (room_in p log a.course) ready else w).serial)
+          (sym a.stands.asks)
           (same_asked None);
-      asks = (λ due. same_next None none, λ off. let no : false ≡ true = sym off ∙ a.stands.asks in cc, none_left);
+      asks = (
+        λ due. same_next None none,
+        λ off. let no : false ≡ true = sym off ∙ a.stands.asks in
+            cc,
+        none_left,
+      );
       phase_is = tt;
       placed = a.stands.placed;
     };
@@ -267,26 +301,33 @@ module _ (laws : LineLaws) (p : Setup) (s : State) (log : Log) (a : Agrees p s l
     before = a.before;
   }
 
-ready_state : (s r : State) (p : Setup) (told : Option Log) → IsReady p s r told → (x : Option Sending)
+ready_state : (s r : State) (p : Setup) (told : Option Log) → IsReady p s r told
+    → (x : Option Sending)
     → after_next r x ≡ asked_state s x
 ready_state s r p told ready x = ap (λ (z : State). after_next z x) ready.is
 
--- the same where a port may tell no log: s is the state before commands were offered, r the one after, t the
+-- the same where a port may tell no log: s is the state before commands were offered, r the one
+-- after, t the
 -- one once asked
 
-pub asked_none : (laws : LineLaws) (p : Setup) (told : Option Log) (s r t : State) → s.serial.gap ≡ None
-    → IsReady p s r told → sending r.serial.line (has_room r.centre.queue) ≡ None → t ≡ after_next r None
+pub asked_none : (laws : LineLaws) (p : Setup) (told : Option Log) (s r t : State) → s.serial.gap
+    ≡ None
+    → IsReady p s r told → sending r.serial.line (has_room r.centre.queue) ≡ None
+    → t ≡ after_next r None
     → Tracks p s told [] Timed → Tracks p t told [] Asked
 asked_none laws p None s r t no_gap made none is h = tt
 asked_none laws p (Some log) s r t no_gap made none is a =
     let same : t ≡ asked_state s None = is ∙ ready_state s r p (Some log) made None in
-    let tells = subst (λ (z : State). Tells p.link p.addresses z.serial.line (exchanges_of p log)) made.is
+    let tells = subst (λ (z : State). Tells p.link p.addresses z.serial.line (exchanges_of p log))
+    made.is
     (made.tells (exchanges_of p log) a.line) in
     subst (λ x. Agrees p x log [] Asked) (sym same) (none_asked laws p s log a tells no_gap
     (ap (λ (x : State). sending x.serial.line (has_room x.centre.queue)) (sym made.is) ∙ none))
 
-told_asked : (laws : LineLaws) (p : Setup) (told after : Option Log) (s r t : State) (x : Sending) (octets : List ℕ)
-    (now : ℕ) → s.serial.gap ≡ None → IsReady p s r told → sending r.serial.line (has_room r.centre.queue) ≡ Some x
+told_asked : (laws : LineLaws) (p : Setup) (told after : Option Log) (s r t : State) (x : Sending)
+    (octets : List ℕ)
+    (now : ℕ) → s.serial.gap ≡ None → IsReady p s r told
+    → sending r.serial.line (has_room r.centre.queue) ≡ Some x
     → (is_poll_request x.request ≡ true → 3 ≤ free_places r.centre.queue)
     → octets ≡ (request_of r.serial.line x).octets.items →
     now ≡ r.moment → t ≡ after_next r (Some x) → after ≡ tell told (Went now (LineOut octets) ∷ [])
@@ -297,26 +338,32 @@ told_asked laws p told after s r t x octets now no_gap made next poll spelled sa
     rw (e, moment, state) (by_log told made h)
   where
     by_log : (told : Option Log) → IsReady p s r told → Tracks p s told [] Timed
-        → Tracks p (asked_state s (Some x)) (tell told (Went s.moment (LineOut octets) ∷ [])) [] Asked
+        → Tracks p (asked_state s (Some x)) (tell told (Went s.moment (LineOut octets) ∷ [])) []
+        Asked
     by_log None made h = tt
     by_log (Some log) made a =
         let tells : Tells p.link p.addresses r.serial.line (exchanges_of p log) =
         made.tells (exchanges_of p log) a.line in
         let written : octets ≡ octets_of p x = spelled
         ∙ laws.spelled p.link p.addresses r.serial.line (exchanges_of p log) x tells in
-        subst (λ o. Agrees p (asked_state s (Some x)) (Went s.moment (LineOut o) ∷ log) [] Asked) (sym written)
-        (after_asked laws p s log a (subst (λ (z : State). Tells p.link p.addresses z.serial.line (exchanges_of p log))
+        subst (λ o. Agrees p (asked_state s (Some x)) (Went s.moment (LineOut o) ∷ log) [] Asked)
+        (sym written)
+        (after_asked laws p s log a
+        (subst (λ (z : State). Tells p.link p.addresses z.serial.line (exchanges_of p log))
         made.is tells) no_gap x
         (ap (λ (z : State). sending z.serial.line (has_room z.centre.queue)) (sym made.is)
-        ∙ next) (λ polls. subst (λ (z : State). 3 ≤ free_places z.centre.queue) made.is (poll polls)))
+        ∙ next) (λ polls. subst (λ (z : State). 3 ≤ free_places z.centre.queue) made.is
+        (poll polls)))
 
-pub asked_leaves : (laws : LineLaws) (result : Bool) (p : Setup) (told after : Option Log) (s r t : State)
+pub asked_leaves : (laws : LineLaws) (result : Bool) (p : Setup) (told after : Option Log)
+    (s r t : State)
     (x : Sending) (octets : List ℕ) (now : ℕ) → s.serial.gap ≡ None → IsReady p s r told
     → sending r.serial.line (has_room r.centre.queue) ≡ Some x
     → (is_poll_request x.request ≡ true → 3 ≤ free_places r.centre.queue)
     → octets ≡ (request_of r.serial.line x).octets.items →
     now ≡ r.moment → t ≡ after_next r (Some x) → after
-    ≡ (if result then tell told (Went now (LineOut octets) ∷ []) else told) → Tracks p s told [] Timed
+    ≡ (if result then tell told (Went now (LineOut octets) ∷ []) else told)
+    → Tracks p s told [] Timed
     → Leaves result p t after [] Asked
 asked_leaves laws true p told after s r t x octets now no_gap made next poll spelled same is e h =
     told_asked laws p told after s r t x octets now no_gap made next poll spelled same is e h
@@ -324,7 +371,8 @@ asked_leaves laws false p told after s r t x octets now no_gap made next poll sp
     subst (λ l. IfSome l (IsFaithful p)) (sym e) (told_faithful p told s [] Timed h)
 
 -- what a request says of what is next
-pub next_is : (q : Primary) (o : Option Sending) (r : Request) → Some r ≡ option_map (request_of q) o
+pub next_is : (q : Primary) (o : Option Sending) (r : Request)
+    → Some r ≡ option_map (request_of q) o
     → (x : Sending) × (o ≡ Some x) × (r ≡ request_of q x)
 next_is q None r e = cc
 next_is q (Some x) r e = (x, refl, (let same : r ≡ request_of q x = cc in same))
@@ -334,14 +382,16 @@ none_is q None e = refl
 none_is q (Some x) e = cc
 
 -- while a request is outstanding there is no next one, and asking for it changes nothing
-pub awaiting_none : (q : Primary) (room : Bool) → is_some q.outstanding ≡ true → sending q room ≡ None
+pub awaiting_none : (q : Primary) (room : Bool) → is_some q.outstanding ≡ true → sending q room
+    ≡ None
 awaiting_none q room e = go q.outstanding e
   where
     go : (o : Option Outstanding) → is_some o ≡ true → sending_from q o room ≡ None
     go (Some o) e = refl
     go None e = cc
 
-awaiting_asked : (q : Primary) (at : ℕ) (room : Bool) → is_some q.outstanding ≡ true → asked q at room ≡ q
+awaiting_asked : (q : Primary) (at : ℕ) (room : Bool) → is_some q.outstanding ≡ true
+    → asked q at room ≡ q
 awaiting_asked q at room e = go q.outstanding e
   where
     go : (o : Option Outstanding) → is_some o ≡ true → asked_from q o at room ≡ q
@@ -354,7 +404,8 @@ awaiting_same r e = sym (ap (λ (q : Primary). with_serial (record r.serial { li
 
 -- The timers
 
-now_settled : (p : Setup) (s : State) (log : Log) → Agrees p s log [] Idle → Agrees p (settled s) log [] Timed
+now_settled : (p : Setup) (s : State) (log : Log) → Agrees p s log [] Idle
+    → Agrees p (settled s) log [] Timed
 now_settled p s log a = record {
   k = a.k;
   sizes = a.sizes;
@@ -363,7 +414,8 @@ now_settled p s log a = record {
   wall = a.wall;
   settled = a.settled;
   found = a.found;
-  line = subst (λ q. Tells p.link p.addresses q (exchanges_of p log)) (sym (same_line s.serial.silent)) a.line;
+  line = subst (λ q. Tells p.link p.addresses q (exchanges_of p log))
+      (sym (same_line s.serial.silent)) a.line;
   course = a.course;
   talk = a.talk;
   stands = record {
@@ -374,8 +426,10 @@ now_settled p s log a = record {
     placed = a.stands.placed;
   };
   gaps = λ i. ap (λ g. gaps_told i log ++ gap_for i g) (same_gap s.serial.silent) ∙ a.gaps i;
-  offers = offers_stay s.serial.line (settled s).serial.line s.serial.commands (settled s).serial.commands
-      (λ k. ap (λ q. offered_at q k) (same_line s.serial.silent)) (same_waiting s.serial.silent) a.offers;
+  offers = offers_stay s.serial.line (settled s).serial.line s.serial.commands
+      (settled s).serial.commands
+      (λ k. ap (λ q. offered_at q k) (same_line s.serial.silent)) (same_waiting s.serial.silent)
+      a.offers;
   plain = subst ArePlain (sym (same_answers s.serial.silent)) a.plain;
   here = a.here;
   left = refl;
@@ -391,18 +445,22 @@ now_settled p s log a = record {
     same_gap None = refl
     same_gap (Some i) = refl
 
-    same_waiting : (o : Option ℕ) → (serial.unless_silent o s.serial).commands.waiting ≡ s.serial.commands.waiting
+    same_waiting : (o : Option ℕ) → (serial.unless_silent o s.serial).commands.waiting
+        ≡ s.serial.commands.waiting
     same_waiting None = refl
     same_waiting (Some i) = refl
 
-    same_answers : (o : Option ℕ) → (serial.unless_silent o s.serial).commands.answers ≡ s.serial.commands.answers
+    same_answers : (o : Option ℕ) → (serial.unless_silent o s.serial).commands.answers
+        ≡ s.serial.commands.answers
     same_answers None = refl
     same_answers (Some i) = refl
 
-pub told_settled : (p : Setup) (told : Option Log) (s t : State) → t ≡ settled s → Tracks p s told [] Idle
+pub told_settled : (p : Setup) (told : Option Log) (s t : State) → t ≡ settled s
+    → Tracks p s told [] Idle
     → Tracks p t told [] Timed
 told_settled p None s t is h = tt
-told_settled p (Some log) s t is a = subst (λ x. Agrees p x log [] Timed) (sym is) (now_settled p s log a)
+told_settled p (Some log) s t is a = subst (λ x. Agrees p x log [] Timed) (sym is)
+    (now_settled p s log a)
 
 -- and each gap stays told
 pub still_told : (s t : State) → t ≡ settled s → s.serial.gap ≡ None → t.serial.gap ≡ None
@@ -415,7 +473,8 @@ one_more : (b : Bool) (xs : List ℕ) (session : ℕ) → (if b then xs ++ sessi
 one_more true xs session = refl
 one_more false xs session = sym (append-nil xs)
 
-module _ (p : Setup) (s : State) (log : Log) (a : Agrees p s log [] Idle) (gap : Gap) (some : s.serial.gap
+module _ (p : Setup) (s : State) (log : Log) (a : Agrees p s log [] Idle) (gap : Gap)
+    (some : s.serial.gap
     ≡ Some gap) where
   abbrev gap_log : Log
   gap_log = Went s.moment (GapOut gap.station gap.session) ∷ log
@@ -436,7 +495,8 @@ module _ (p : Setup) (s : State) (log : Log) (a : Agrees p s log [] Idle) (gap :
   )
 
   gap_talk : Talks p s.centre.session gap_log after_gap
-  gap_talk = talk_on p s.centre.session s.centre.session log gap_log a.course after_gap a.talk refl refl gap_runs
+  gap_talk = talk_on p s.centre.session s.centre.session log gap_log a.course after_gap a.talk refl
+      refl gap_runs
 
   tells_gap : TellsGaps p gap_log
   tells_gap i = one_more (gap.station == i) (gaps_told i log) gap.session
@@ -471,12 +531,14 @@ module _ (p : Setup) (s : State) (log : Log) (a : Agrees p s log [] Idle) (gap :
       are = a.before.are;
       orders = a.before.orders;
       times = (kept_talk p _ _ _ gap_talk, a.before.times);
-      acts = (record { moment = a.clock; replaced = sym a.settled; may = tells_gap }, a.before.acts);
+      acts =
+          (record { moment = a.clock; replaced = sym a.settled; may = tells_gap }, a.before.acts);
       rests = a.before.rests;
     };
   }
 
-pub told_gap : (result : Bool) (p : Setup) (told after : Option Log) (s t : State) (gap : Gap) (now : ℕ)
+pub told_gap : (result : Bool) (p : Setup) (told after : Option Log) (s t : State) (gap : Gap)
+    (now : ℕ)
     → s.serial.gap ≡ Some gap → now ≡ s.moment → t ≡ with_serial (serial.without_gap s.serial) s
     → after ≡ (if result then tell told (Went now (GapOut gap.station gap.session) ∷ []) else told)
     → Tracks p s told [] Idle →
@@ -492,9 +554,11 @@ told_gap false p told after s t gap now some same is e h =
     subst (λ l. IfSome l (IsFaithful p)) (sym e) (told_faithful p told s [] Idle h)
 
 -- where there is none nothing changes
-pub no_gap_told : (s t : State) → s.serial.gap ≡ None → t ≡ with_serial (serial.without_gap s.serial) s → t ≡ s
+pub no_gap_told : (s t : State) → s.serial.gap ≡ None
+    → t ≡ with_serial (serial.without_gap s.serial) s → t ≡ s
 no_gap_told s t none is = is
-    ∙ ap (λ (g : Option Gap). let made : State = record s { serial = record s.serial { gap = g } } in made) (sym none)
+    ∙ ap (λ (g : Option Gap). let made : State =
+    record s { serial = record s.serial { gap = g } } in made) (sym none)
 
 -- An event comes
 
@@ -507,24 +571,30 @@ begins s a m t now event fits e hears times = record {
   times = times;
 }
 
-heard_in : (laws : LineLaws) (p : Setup) (s t : State) (now : ℕ) (event : Input) (fits : Bool) (log : Log)
+heard_in : (laws : LineLaws) (p : Setup) (s t : State) (now : ℕ) (event : Input) (fits : Bool)
+    (log : Log)
     → Begins s now event fits t → (h : HasCome p s now event log)
     → Heard p s t h.before now event (left_of p h.before h.agrees.course) fits
-heard_in laws p s t now event fits log b h = heard_event laws p s t h.before now event fits h.agrees b
+heard_in laws p s t now event fits log b h = heard_event laws p s t h.before now event fits h.agrees
+    b
 
-as_log : (p : Setup) (t : State) (now : ℕ) (event : Input) (log before : Log) (unjudged : List ℕ) (phase : Phase)
+as_log : (p : Setup) (t : State) (now : ℕ) (event : Input) (log before : Log) (unjudged : List ℕ)
+    (phase : Phase)
     → log ≡ Came now event ∷ before → Agrees p t (Came now event ∷ before) unjudged phase
     → Agrees p t log unjudged phase
-as_log p t now event log before unjudged phase is a = subst (λ l. Agrees p t l unjudged phase) (sym is) a
+as_log p t now event log before unjudged phase is a =
+    subst (λ l. Agrees p t l unjudged phase) (sym is) a
 
--- the line's octets are taken; their own answers found places, or there is no connection to count them
+-- the line's octets are taken; their own answers found places, or there is no connection to count
+-- them
 
 on_line : (log : Log) (now : ℕ) (octets : List ℕ) (p : Setup) (c : Course) (z : Works)
     → Worked p log (latest (Came now (LineIn octets) ∷ log)) (LineIn octets) c z
     → Comes p log (latest (Came now (LineIn octets) ∷ log)) (LineIn octets) c (with_works z c)
 on_line log now octets p c z w = (w.0, w.1, ap (λ x. with_works x c) w.2)
 
-pub told_line : (p : Setup) (told : Option Log) (s t : State) (now : ℕ) (octets : List ℕ) (fits : Bool) → LineLaws
+pub told_line : (p : Setup) (told : Option Log) (s t : State) (now : ℕ) (octets : List ℕ)
+    (fits : Bool) → LineLaws
     → (is_open t.centre.session ≡ true → fits ≡ true) → Begins s now (LineIn octets) fits t
     → IfSome told (HasCome p s now (LineIn octets)) → Tracks p t told [] Idle
 told_line p None s t now octets fits laws fit b h = tt
@@ -532,11 +602,13 @@ told_line p (Some log) s t now octets fits laws fit b h =
     let heard = heard_in laws p s t now (LineIn octets) fits log b h in
     as_log p t now (LineIn octets) log h.before [] Idle h.is
     (come_other p s t h.before now (LineIn octets) fits true t.wall (heard.wall
-    ∙ h.agrees.wall) (λ yes on. fit (ap (λ (c : Centre). is_open c.session) heard.centre ∙ h.agrees.here.link
+    ∙ h.agrees.wall) (λ yes on. fit (ap (λ (c : Centre). is_open c.session) heard.centre
+    ∙ h.agrees.here.link
     ∙ on)) (refl, refl, refl) (on_line h.before now octets) h.rested h.agrees heard)
 
 -- an own answer found no place
-pub told_overfull : (p : Setup) (told : Option Log) (s t : State) (now : ℕ) (octets : List ℕ) (fits : Bool) → LineLaws
+pub told_overfull : (p : Setup) (told : Option Log) (s t : State) (now : ℕ) (octets : List ℕ)
+    (fits : Bool) → LineLaws
     → fits ≡ false → is_open t.centre.session ≡ true → Begins s now (LineIn octets) fits t
     → IfSome told (HasCome p s now (LineIn octets)) → IfSome told (MayClose p t OwnAnswers Idle)
 told_overfull p None s t now octets fits laws off on b h = tt
@@ -544,7 +616,8 @@ told_overfull p (Some log) s t now octets fits laws off on b h =
     let heard = heard_in laws p s t now (LineIn octets) fits log b h in
     let none : Counts false fits h.before = λ no on. let never : false ≡ true = no in cc in
     let a = come_other p s t h.before now (LineIn octets) fits false t.wall (heard.wall
-    ∙ h.agrees.wall) none (refl, refl, refl) (on_line h.before now octets) h.rested h.agrees heard in
+    ∙ h.agrees.wall) none (refl, refl, refl) (on_line h.before now octets) h.rested h.agrees
+    heard in
     subst (MayClose p t OwnAnswers Idle) (sym h.is) (record {
       last = refl;
       state = t;
@@ -559,7 +632,8 @@ told_overfull p (Some log) s t now octets fits laws off on b h =
       stands = stands_overfull p t (Came now (LineIn octets) ∷ h.before) [] Crowded a;
       why = subst (λ (c : Course). has_lacked_place c.works.history ≡ true)
           (sym (come_course p s t h.before now (LineIn octets) fits false t.wall (heard.wall
-          ∙ h.agrees.wall) none (refl, refl, refl) (on_line h.before now octets) h.rested h.agrees heard))
+          ∙ h.agrees.wall) none (refl, refl, refl) (on_line h.before now octets) h.rested h.agrees
+          heard))
           (heard.full off);
     })
 
@@ -574,54 +648,69 @@ told_tick p (Some log) s t now fits laws b h =
     (λ p c z w. ap (λ x. with_works x c) w) h.rested h.agrees heard)
 
 -- what the wall clock shows
-pub told_wall : (p : Setup) (told : Option Log) (s t u : State) (now number : ℕ) (fits : Bool) → LineLaws
-    → Begins s now (WallIs number) fits t → u ≡ with_wall number t → IfSome told (HasCome p s now (WallIs number))
+pub told_wall : (p : Setup) (told : Option Log) (s t u : State) (now number : ℕ) (fits : Bool)
+    → LineLaws
+    → Begins s now (WallIs number) fits t → u ≡ with_wall number t
+    → IfSome told (HasCome p s now (WallIs number))
     → Tracks p u told [] Idle
 told_wall p None s t u now number fits laws b is h = tt
 told_wall p (Some log) s t u now number fits laws b is h =
     let heard = heard_in laws p s t now (WallIs number) fits log b h in
     let shown : Option Wall = Some (record { moment = t.moment; number = number }) in
-    subst (λ x. Agrees p x log [] Idle) (sym is) (as_log p (with_wall number t) now (WallIs number) log h.before
+    subst (λ x. Agrees p x log [] Idle) (sym is) (as_log p (with_wall number t) now (WallIs number)
+    log h.before
     [] Idle h.is
     (come_other p s t h.before now (WallIs number) fits true shown
-    (ap (λ m. let w : Wall = record { moment = m; number = number } in Some w) heard.clock) (λ yes on. b.hears.1)
+    (ap (λ m. let w : Wall = record { moment = m; number = number } in Some w) heard.clock)
+    (λ yes on. b.hears.1)
     (refl, refl, refl) (λ p c z w. ap (λ x. with_works x c) w) h.rested h.agrees heard))
 
 pub told_cut : (p : Setup) (told : Option Log) (s t u : State) (now : ℕ) (fits : Bool) → LineLaws
-    → Begins s now CutOff fits t → u ≡ disconnected t → IfSome told (HasCome p s now CutOff) → Tracks p u told [] Idle
+    → Begins s now CutOff fits t → u ≡ disconnected t → IfSome told (HasCome p s now CutOff)
+    → Tracks p u told [] Idle
 told_cut p None s t u now fits laws b is h = tt
 told_cut p (Some log) s t u now fits laws b is h = subst (λ x. Agrees p x log [] Idle) (sym is)
     (as_log p (disconnected t) now CutOff log h.before [] Idle h.is
-    (come_cut laws p s t h.before now fits h.rested h.agrees (heard_in laws p s t now CutOff fits log b h)))
+    (come_cut laws p s t h.before now fits h.rested h.agrees
+    (heard_in laws p s t now CutOff fits log b h)))
 
 pub told_open : (p : Setup) (told : Option Log) (s t u : State) (now : ℕ) (fits : Bool) → LineLaws
     → Begins s now Opened fits t → is_open t.centre.session ≡ false → u ≡ connected (disconnected t)
     → IfSome told (HasCome p s now Opened) → Tracks p u told [] Idle
 told_open p None s t u now fits laws b off is h = tt
 told_open p (Some log) s t u now fits laws b off is h =
-    subst (λ x. Agrees p x log [] Idle) (sym is) (as_log p (connected (disconnected t)) now Opened log h.before
+    subst (λ x. Agrees p x log [] Idle) (sym is) (as_log p (connected (disconnected t)) now Opened
+    log h.before
     [] Idle h.is (come_open laws p s t h.before now fits h.rested h.agrees
     (heard_in laws p s t now Opened fits log b h) off))
 
-pub told_replaced : (p : Setup) (told after : Option Log) (s t u : State) (now moment : ℕ) (fits : Bool) → LineLaws
+pub told_replaced : (p : Setup) (told after : Option Log) (s t u : State) (now moment : ℕ)
+    (fits : Bool) → LineLaws
     → Begins s now Opened fits t → is_open t.centre.session ≡ true → u ≡ connected (disconnected t)
-    → after ≡ tell told (Went moment (Closed Replaced) ∷ []) → moment ≡ t.moment → IfSome told (HasCome p s now Opened)
+    → after ≡ tell told (Went moment (Closed Replaced) ∷ []) → moment ≡ t.moment
+    → IfSome told (HasCome p s now Opened)
     → Tracks p u after [] Idle
-told_replaced p told after s t u now moment fits laws b on is e same h = rw (e, same, is) (by_log told h)
+told_replaced p told after s t u now moment fits laws b on is e same h =
+    rw (e, same, is) (by_log told h)
   where
     by_log : (told : Option Log) → IfSome told (HasCome p s now Opened)
-        → Tracks p (connected (disconnected t)) (tell told (Went t.moment (Closed Replaced) ∷ [])) [] Idle
+        → Tracks p (connected (disconnected t)) (tell told (Went t.moment (Closed Replaced) ∷ []))
+        [] Idle
     by_log None h = tt
     by_log (Some log) h =
-        subst (λ l. Agrees p (connected (disconnected t)) (Went t.moment (Closed Replaced) ∷ l) [] Idle) (sym h.is)
-        (come_replaced laws p s t h.before now fits h.rested h.agrees (heard_in laws p s t now Opened fits log b h) on)
+        subst (λ l. Agrees p (connected (disconnected t)) (Went t.moment (Closed Replaced) ∷ l) []
+        Idle) (sym h.is)
+        (come_replaced laws p s t h.before now fits h.rested h.agrees
+        (heard_in laws p s t now Opened fits log b h) on)
 
 -- where the close couldn't be put out
-pub told_unreplaced : (p : Setup) (told : Option Log) (s t : State) (now : ℕ) (fits : Bool) → LineLaws
+pub told_unreplaced : (p : Setup) (told : Option Log) (s t : State) (now : ℕ) (fits : Bool)
+    → LineLaws
     → Begins s now Opened fits t → IfSome told (HasCome p s now Opened) → IfSome told (IsFaithful p)
 told_unreplaced p None s t now fits laws b h = tt
 told_unreplaced p (Some log) s t now fits laws b h = subst (IsFaithful p) (sym h.is)
-    (opened_faithful laws p s t h.before now fits h.rested h.agrees (heard_in laws p s t now Opened fits log b h))
+    (opened_faithful laws p s t h.before now fits h.rested h.agrees
+    (heard_in laws p s t now Opened fits log b h))
 
 -- how many octets have been received once more came
 received_by : (b : Bool) (c : Channel) (octets : List ℕ) → c.is_open ≡ b
@@ -643,7 +732,8 @@ received_by false c octets e =
       lacked_place = c.lacked_place;
     } else c).received) e ∙ omega arith
 
-pub told_bytes : (b : Bool) (p : Setup) (told : Option Log) (s t : State) (now : ℕ) (octets : List ℕ) (fits : Bool)
+pub told_bytes : (b : Bool) (p : Setup) (told : Option Log) (s t : State) (now : ℕ)
+    (octets : List ℕ) (fits : Bool)
     → LineLaws → Begins s now (TcpIn octets) fits t → is_open t.centre.session ≡ b
     → IfSome told (HasCome p s now (TcpIn octets)) → Awaits p t told (if b then octets else [])
 told_bytes b p None s t now octets fits laws begun is h = tt
@@ -655,9 +745,11 @@ told_bytes b p (Some log) s t now octets fits laws begun is h =
     let open_is : (present h.before).is_open ≡ b = sym h.agrees.here.link
     ∙ sym (ap (λ (x : State). is_open x.centre.session) same) ∙ is in
     let total : length (present (Came now (TcpIn octets) ∷ h.before)).received
-    ≡ length (present h.before).received + length more = received_by b (present h.before) octets open_is in (
+    ≡ length (present h.before).received + length more =
+    received_by b (present h.before) octets open_is in (
       subst (λ b. Agrees p t log (if b then octets else []) Taking) is
-          (as_log p t now (TcpIn octets) log h.before (if is_open t.centre.session then octets else []) Taking h.is
+          (as_log p t now (TcpIn octets) log h.before (if is_open t.centre.session then octets
+          else []) Taking h.is
           agrees),
       subst IsClear (sym same) (record { confirmed = h.clear.confirmed; spent = h.clear.spent }),
       subst (λ l. IsUndue t l more) (sym h.is)
@@ -666,58 +758,7 @@ told_bytes b p (Some log) s t now octets fits laws begun is h =
           (omega (arith, total)),
     )
 
-pub told_idle : (p : Setup) (told : Option Log) (s : State) → Awaits p s told [] → Tracks p s told [] Idle
+pub told_idle : (p : Setup) (told : Option Log) (s : State) → Awaits p s told []
+    → Tracks p s told [] Idle
 told_idle p None s h = tt
 told_idle p (Some log) s h = now_idle p s log h.0
-
--- Runs
-
--- after a step some event has come, so a log without entries has works that nothing is due of
-started : (p : Setup) (s : State) → Agrees p s [] [] Asked → Agrees p s [] [] Fresh
-started p s a =
-    let first : a.course ≡ first_course p = a.talk.course_runs in
-    let none : a.course.works.is_due ≡ false = ap (λ (c : Course). c.works.is_due) first in
-    absurd (subst (λ (c : Course). IsOut c.works.serial.line.outstanding) first (a.stands.asks.1 none))
-
-pub follows : (laws : LineLaws) (p : Setup) (told : Option Log) (s : State) → IsClear s → Tracks p s told [] Asked
-    → Follows p s told
-follows laws p None s last h = tt
-follows laws p (Some []) s last a = (started p s a, last)
-follows laws p (Some (entry ∷ log)) s last a = (a, last)
-
-pub step_follows : (laws : LineLaws) (p : Setup) (result : Bool) (told : Option Log) (s : State)
-    → OnTrue result (IsConfirmed s.centre.session) → OnTrue result (IsSpent s) → Leaves result p s told [] Asked
-    → OnTrue result (Follows p s told)
-step_follows laws p true told s last spent h = follows laws p told s (record { confirmed = last; spent = spent }) h
-step_follows laws p false told s last spent h = tt
-
--- an event that a port told has come
-pub come : (p : Setup) (told after : Option Log) (s : State) (now : ℕ) (event : Input) (news : List LogEntry)
-    → after ≡ tell told news → news ≡ Came now event ∷ [] → Follows p s told → Rests p told
-    → IfSome after (HasCome p s now event)
-come p None after s now event news e is h rest = subst (λ l. IfSome l (HasCome p s now event)) (sym e) tt
-come p (Some log) after s now event news e is h rest =
-    subst (λ l. IfSome l (HasCome p s now event)) (sym (e ∙ ap (λ n. tell (Some log) n) is))
-    (record { before = log; is = refl; agrees = h.0; clear = h.1; rested = rest })
-
--- and is one event more
-pub more_events : (n now : ℕ) (event : Input) (news : List LogEntry) (first told after last : Option Log)
-    → MoreEvents n first told → after ≡ tell told news → news ≡ Came now event ∷ []
-    → events_told last ≡ events_told after → MoreEvents (n + 1) first last
-more_events n now event news first told after last h e is same =
-    ap (option_map length) (same ∙ ap events_told (e ∙ ap (tell told) is)) ∙ by_logs first told h
-  where
-    by_logs : (first told : Option Log) → MoreEvents n first told
-        → option_map length (events_told (tell told (Came now event ∷ [])))
-        ≡ option_map (λ (events : List LogEntry). length events + (n + 1)) (events_told first)
-    by_logs None None h = refl
-    by_logs None (Some log) h = cc
-    by_logs (Some log) None h = cc
-    by_logs (Some first) (Some log) h =
-        let count : ℕ = length (events_of log) in
-        let was : count ≡ length (events_of first) + n = ap value h in
-        ap Some (omega (arith, length-append (events_of log) (Came now event ∷ []), was))
-      where
-        value : Option ℕ → ℕ
-        value None = 0
-        value (Some k) = k

@@ -17,4 +17,5 @@ pub hears_rest : (s : State) (line : Serial) (octets : List ℕ) (n : ℕ) (fits
     → Hears (with_serial line s) (drop n octets) fits t → Hears s octets fits t
 hears_rest s line octets n fits t is same h =
     subst (λ o. Learns (with_serial (heard octets s.serial) s) o fits t) same
-    (subst (λ (x : Serial). Learns (with_serial x s) (heard_outcome (drop n octets) line) fits t) is h)
+    (subst (λ (x : Serial). Learns (with_serial x s) (heard_outcome (drop n octets) line) fits t) is
+    h)

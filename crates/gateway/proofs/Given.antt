@@ -1,5 +1,6 @@
 -- What is due is given.
-use Rattle.std.proofs.Common.{◌≡◌, ℕ, Bool, true, false, List, [], ◌∷◌, Option, Some, None, refl, ap, sym, ◌∙◌, subst, inl, inr}
+use Rattle.std.proofs.Common.{◌≡◌, ℕ, Bool, true, false, List, [], ◌∷◌, Option, Some, None, refl}
+use Rattle.std.proofs.Common.{ap, sym, ◌∙◌, subst, inl, inr}
 use Rattle.std.specs.Prelude.{◌&&◌, if◌then◌else◌, option_map}
 use Rattle.asdu.specs.Asdu.{AsduValue}
 use Rattle.apci.specs.declared.apdu.Apdu.{Apdu}
@@ -8,24 +9,32 @@ use Rattle.link.specs.Exchanges.{Sending}
 use Rattle.link.specs.declared.outcome.Outcome.{Outcome}
 use Rattle.link.specs.declared.outcome.Outcome.TheVariants as outcome
 use Rattle.session.specs.declared.kinds.Close.{Close}
-use Rattle.session.specs.declared.kinds.Close.TheVariants.{Grammar, SendNumber, ReceiveNumber, Stopped, Timeout, OwnAnswers, Replaced}
+use Rattle.session.specs.declared.kinds.Close.TheVariants.{Grammar, SendNumber, ReceiveNumber}
+use Rattle.session.specs.declared.kinds.Close.TheVariants.{Stopped, Timeout, OwnAnswers, Replaced}
 use Rattle.command.specs.declared.waiting.Waiting.{Waiting}
 use Rattle.command.specs.State as tasks
-use Rattle.command.specs.State.{has_answer_place, first_answer, oldest_for, is_used, line_of, refusal_of}
+use Rattle.command.specs.State.{has_answer_place, first_answer, oldest_for, is_used, line_of}
+use Rattle.command.specs.State.{refusal_of}
 use Rattle.command.specs.Judging.{judged}
 use Rattle.command.specs.Mirrors as mirrors
 use Rattle.command.specs.History.{History, Judged, Refused, Mirrored, Offered, mirror_tag}
 use Rattle.command.specs.Calls.{Run, after_answer, after_sending}
 use Rattle.command.specs.CommandLaws.{CommandLaws}
 use Rattle.gateway.specs.Objects.{has_objects}
-use Rattle.gateway.specs.Log.{Log, LineIn, Opened, TcpIn, CutOff, Ticked, WallIs, Came, Went, LineOut, TcpOut, Closed, GapOut, latest}
+use Rattle.gateway.specs.Log.{Log, LineIn, Opened, TcpIn, CutOff, Ticked, WallIs, Came, Went}
+use Rattle.gateway.specs.Log.{LineOut, TcpOut, Closed, GapOut, latest}
 use Rattle.gateway.specs.Connections.{present}
 use Rattle.gateway.specs.Reports.{Setup}
 use Rattle.gateway.specs.Serial.{listed, is_first_command, heard_outcome}
-use Rattle.gateway.specs.Works.{Works, octets_works, tasks_of, told_kept, is_command_report, LearnsReport, LearnsOf, heard_works, sent_works, answered_works, told_silent, settled_works, ready_works, unasked_works, done_works, told_put, asked_works}
-use Rattle.gateway.specs.Course.{Course, came_frames, with_frames, closed_course, IsLeft, room_in, Runs}
+use Rattle.gateway.specs.Works.{Works, octets_works, tasks_of, told_kept, is_command_report}
+use Rattle.gateway.specs.Works.{LearnsReport, LearnsOf, heard_works, sent_works, answered_works}
+use Rattle.gateway.specs.Works.{told_silent, settled_works, ready_works, unasked_works, done_works}
+use Rattle.gateway.specs.Works.{told_put, asked_works}
+use Rattle.gateway.specs.Course.{Course, came_frames, with_frames, closed_course, IsLeft, room_in}
+use Rattle.gateway.specs.Course.{Runs}
 use Rattle.gateway.specs.Frames.{transfers}
-use Rattle.gateway.specs.Given.{due_in, is_passing_on, IsOwed, GivesWhatIsDue, AreHandedOver, IsGivenOn, GivesAnswer}
+use Rattle.gateway.specs.Given.{due_in, is_passing_on, IsOwed, GivesWhatIsDue, AreHandedOver}
+use Rattle.gateway.specs.Given.{IsGivenOn, GivesAnswer}
 use Rattle.gateway.proofs.Reached.{IsReached, left_reached}
 
 -- nothing is left due
@@ -43,12 +52,14 @@ one_kept (Some x) s h g e = by_room (has_answer_place s)
     owed : IsOwed (due_in h) h x
     owed = subst (λ (o : Option (List ℕ)). IsOwed o h x) (sym e) refl
 
-    by_room : (b : Bool) → AreGiven (if b then Offered x (has_answer_place s) ∷ h else Offered x (has_answer_place s) ∷ h)
+    by_room : (b : Bool) → AreGiven (if b then Offered x (has_answer_place s) ∷ h
+        else Offered x (has_answer_place s) ∷ h)
     by_room true = ((owed, g), refl)
     by_room false = ((owed, g), refl)
 
 -- so are the pieces of a station's answer
-pieces_kept : (xs : List (List ℕ)) (s : tasks.State) (h : History) → AreGiven h → is_passing_on h ≡ true
+pieces_kept : (xs : List (List ℕ)) (s : tasks.State) (h : History) → AreGiven h → is_passing_on h
+    ≡ true
     → AreGiven (told_kept xs s h)
 pieces_kept [] s h g on = g
 pieces_kept (x ∷ xs) s h g on =
@@ -60,24 +71,31 @@ pieces_kept (x ∷ xs) s h g on =
     owed = subst (λ (o : Option (List ℕ)). IsOwed o h x) (sym g.1) on
 
     by_room : (b : Bool) → has_answer_place s ≡ b
-        → (has_answer_place s ≡ true → AreGiven (told_kept xs (tasks.offered x s) (Offered x (has_answer_place s) ∷ h)))
-        → AreGiven (if b then told_kept xs (tasks.offered x s) (Offered x (has_answer_place s) ∷ h) else Offered x
+        → (has_answer_place s ≡ true
+        → AreGiven (told_kept xs (tasks.offered x s) (Offered x (has_answer_place s) ∷ h)))
+        → AreGiven (if b then told_kept xs (tasks.offered x s) (Offered x (has_answer_place s) ∷ h)
+        else Offered x
         (has_answer_place s) ∷ h)
     by_room true all more = more all
     by_room false all more = ((owed, g.0), refl)
 
 -- and they are handed over one after another
-pub handed_over : (xs : List (List ℕ)) (s : tasks.State) (h : History) → AreHandedOver xs h (told_kept xs s h)
+pub handed_over : (xs : List (List ℕ)) (s : tasks.State) (h : History)
+    → AreHandedOver xs h (told_kept xs s h)
 handed_over [] s h = refl
 handed_over (x ∷ xs) s h =
     by_room (has_answer_place s) refl (handed_over xs (tasks.offered x s) (Offered x true ∷ h))
   where
     by_room : (b : Bool) → has_answer_place s ≡ b
-        → AreHandedOver xs (Offered x true ∷ h) (told_kept xs (tasks.offered x s) (Offered x true ∷ h))
-        → AreHandedOver (x ∷ xs) h (if b then told_kept xs (tasks.offered x s) (Offered x (has_answer_place s)
+        → AreHandedOver xs (Offered x true ∷ h)
+        (told_kept xs (tasks.offered x s) (Offered x true ∷ h))
+        → AreHandedOver (x ∷ xs) h (if b
+        then told_kept xs (tasks.offered x s) (Offered x (has_answer_place s)
         ∷ h) else Offered x (has_answer_place s) ∷ h)
     by_room true all more =
-        inr (subst (λ (b : Bool). AreHandedOver xs (Offered x true ∷ h) (told_kept xs (tasks.offered x s) (Offered x b
+        inr
+        (subst (λ (b : Bool). AreHandedOver xs (Offered x true ∷ h)
+        (told_kept xs (tasks.offered x s) (Offered x b
         ∷ h))) (sym all) more)
     by_room false none more = inl (ap (λ (b : Bool). Offered x b ∷ h) none)
 
@@ -88,12 +106,15 @@ learnt_report : (p : Setup) (at : ℕ) (transferring b : Bool) (report : List �
 learnt_report p at true true report w z learns g =
     let v : AsduValue = learns.0 in
     subst (λ (w : Works). AreGiven w.history) (sym learns.5)
-    (pieces_kept learns.2 (mirrors.mirrored v at w.serial.commands) (Mirrored at v ∷ w.history) ((g.1, g.0), refl) refl)
+    (pieces_kept learns.2 (mirrors.mirrored v at w.serial.commands) (Mirrored at v ∷ w.history)
+    ((g.1, g.0), refl) refl)
 learnt_report p at false true report w z learns g =
     subst (λ (w : Works). AreGiven w.history) (sym learns.5) ((g.1, g.0), refl)
-learnt_report p at transferring false report w z learns g = subst (λ (w : Works). AreGiven w.history) (sym learns) g
+learnt_report p at transferring false report w z learns g =
+    subst (λ (w : Works). AreGiven w.history) (sym learns) g
 
-learnt : (p : Setup) (at : ℕ) (transferring : Bool) (o : Outcome) (w z : Works) → LearnsOf p at transferring o w z
+learnt : (p : Setup) (at : ℕ) (transferring : Bool) (o : Outcome) (w z : Works)
+    → LearnsOf p at transferring o w z
     → AreGiven w.history → AreGiven z.history
 learnt p at transferring (outcome.Report station asdu) w z learns g =
     learnt_report p at transferring (is_command_report p.sizes asdu.items) asdu.items w z learns g
@@ -102,10 +123,12 @@ learnt p at transferring (outcome.Accepted station) w z learns g =
 learnt p at transferring (outcome.Busy station) w z learns g =
     let o : Option (List ℕ) = refusal_of (line_of station w.serial.commands) in
     subst (λ (w : Works). AreGiven w.history) (sym learns)
-    (one_kept o (tasks.given_up station w.serial.commands) (Refused station o ∷ w.history) (g.1, g.0) refl)
+    (one_kept o (tasks.given_up station w.serial.commands) (Refused station o ∷ w.history)
+    (g.1, g.0) refl)
 learnt p at transferring (outcome.Down station) w z learns g =
     subst (λ (w : Works). AreGiven w.history) (sym learns) ((g.1, g.0), refl)
-learnt p at transferring outcome.None w z learns g = subst (λ (w : Works). AreGiven w.history) (sym learns) g
+learnt p at transferring outcome.None w z learns g =
+    subst (λ (w : Works). AreGiven w.history) (sym learns) g
 learnt p at transferring (outcome.Started station) w z learns g =
     subst (λ (w : Works). AreGiven w.history) (sym learns) g
 learnt p at transferring (outcome.StartedGap station session) w z learns g =
@@ -119,14 +142,17 @@ heard : (f : Apdu) (now : ℕ) (wall : Option ℕ) (w : Works) → AreGiven w.hi
     → AreGiven (heard_works f now wall w).history
 heard (I ns nr asdu) now wall w g =
     let judgement = judged asdu.items now wall w.serial.commands in
-    one_kept judgement.0 judgement.1 (Judged now wall asdu.items judgement.0 ∷ w.history) (g.1, g.0) refl
+    one_kept judgement.0 judgement.1 (Judged now wall asdu.items judgement.0 ∷ w.history) (g.1, g.0)
+    refl
 heard (S nr) now wall w g = g
 heard (U u) now wall w g = g
 
-frames : (p : Setup) (fs : List Apdu) (now : ℕ) (wall : Option ℕ) (d : Course) → AreGiven d.works.history
+frames : (p : Setup) (fs : List Apdu) (now : ℕ) (wall : Option ℕ) (d : Course)
+    → AreGiven d.works.history
     → AreGiven (with_frames p fs now wall d).works.history
 frames p [] now wall d g = g
-frames p (f ∷ fs) now wall d g = heard f now wall (with_frames p fs now wall d).works (frames p fs now wall d g)
+frames p (f ∷ fs) now wall d g = heard f now wall (with_frames p fs now wall d).works
+    (frames p fs now wall d g)
 
 answered : (w : Works) → AreGiven w.history → AreGiven (answered_works w).history
 answered w g = by_first (first_answer w.serial.commands.answers)
@@ -153,10 +179,12 @@ settled at w g = by_silent w.serial.silent
     by_silent None = g
     by_silent (Some k) = ((g.1, g.0), refl)
 
-done : (at : ℕ) (room : Bool) (w : Works) → AreGiven w.history → AreGiven (done_works at room w).history
+done : (at : ℕ) (room : Bool) (w : Works) → AreGiven w.history
+    → AreGiven (done_works at room w).history
 done at room w g = by_due w.is_due
   where
-    by_due : (b : Bool) → AreGiven (if b then unasked_works at room (ready_works at w) else w).history
+    by_due : (b : Bool) → AreGiven (if b then unasked_works at room (ready_works at w)
+        else w).history
     by_due true = settled at w g
     by_due false = g
 
@@ -172,7 +200,8 @@ asked : (at : ℕ) (room : Bool) (x : Sending) (w : Works) → AreGiven w.histor
     → AreGiven (asked_works at room x w).history
 asked at room x w g = put (is_first_command w.serial.line x) x.station w g
 
-closed : (p : Setup) (cause : Close) (is_open : Bool) (at : ℕ) (d : Course) → AreGiven d.works.history
+closed : (p : Setup) (cause : Close) (is_open : Bool) (at : ℕ) (d : Course)
+    → AreGiven d.works.history
     → AreGiven (closed_course p cause is_open at d).works.history
 closed p Grammar is_open at d g = ((g.1, g.0), refl)
 closed p SendNumber is_open at d g = ((g.1, g.0), refl)
@@ -182,7 +211,8 @@ closed p Timeout is_open at d g = let s = settled at d.works g in ((s.1, s.0), r
 closed p OwnAnswers is_open at d g = ((g.1, g.0), refl)
 closed p Replaced is_open at d g = g
 
-left : (p : Setup) (log : Log) (before after : Course) → IsLeft p log before after → AreGiven before.works.history
+left : (p : Setup) (log : Log) (before after : Course) → IsLeft p log before after
+    → AreGiven before.works.history
     → AreGiven after.works.history
 left p log before after l g = subst (λ (d : Course). AreGiven d.works.history) (sym l.is)
     (done (latest log) (room_in p log before) before.works g)
@@ -197,7 +227,8 @@ so_far p (Came now (TcpIn octets) ∷ log) d r =
     (frames p r.5.frames _ _ _ (left p log r.0 r.1 r.4 (so_far p log r.0 r.2)))
 so_far p (Came now Ticked ∷ log) d r = subst (λ (e : Course). AreGiven e.works.history) (sym r.5)
     (left p log r.0 r.1 r.4 (so_far p log r.0 r.2))
-so_far p (Came now (WallIs number) ∷ log) d r = subst (λ (e : Course). AreGiven e.works.history) (sym r.5)
+so_far p (Came now (WallIs number) ∷ log) d r = subst (λ (e : Course). AreGiven e.works.history)
+    (sym r.5)
     (left p log r.0 r.1 r.4 (so_far p log r.0 r.2))
 so_far p (Came now Opened ∷ log) d r =
     let g = left p log r.0 r.1 r.4 (so_far p log r.0 r.2) in
@@ -223,19 +254,22 @@ so_far p (Went now (Closed cause) ∷ log) d r =
 
 -- the tag that a station's answer gets is that of the newest command that it may answer
 abbrev HasNewestTags : Setup → Works → Type 0
-HasNewestTags p w = (v : AsduValue) → option_map (λ tag. tag.0) (mirrors.tag_for v v.infos w.serial.commands)
+HasNewestTags p w = (v : AsduValue)
+    → option_map (λ tag. tag.0) (mirrors.tag_for v v.infos w.serial.commands)
     ≡ mirror_tag p.sizes p.stations p.select_ms p.max_age_ms v v.infos w.history
 
 left_tags : (p : Setup) → CommandLaws → (log : Log) (before after : Course) → Runs p log before
     → IsLeft p log before after → HasNewestTags p after.works
 left_tags p laws log before after r l =
     let calls : IsReached p after.works = left_reached p log before after r l in
-    let P : Run → Type 0 = λ r. (v : AsduValue) → option_map (λ tag. tag.0) (mirrors.tag_for v v.infos r.state)
+    let P : Run → Type 0 = λ r. (v : AsduValue)
+    → option_map (λ tag. tag.0) (mirrors.tag_for v v.infos r.state)
     ≡ mirror_tag p.sizes p.stations p.select_ms p.max_age_ms v v.infos r.history in
     subst P calls.1 (laws.tags p.stations p.sizes p.select_ms p.max_age_ms calls.0)
 
 report_given : (p : Setup) (at : ℕ) (b : Bool) (report : List ℕ) (w z : Works) → b ≡ true
-    → LearnsReport p at true b report w z → HasNewestTags p w → IsGivenOn p at report w.history z.history
+    → LearnsReport p at true b report w z → HasNewestTags p w
+    → IsGivenOn p at report w.history z.history
 report_given p at false report w z of learns tags = cc
 report_given p at true report w z of learns tags =
     let v : AsduValue = learns.0 in
@@ -248,11 +282,14 @@ report_given p at true report w z of learns tags =
       newest = tags v;
       pieces = pieces;
       tagged = learns.4;
-      given = subst (λ (u : Works). AreHandedOver pieces (Mirrored at v ∷ w.history) u.history) (sym learns.5)
-          (handed_over pieces (mirrors.mirrored v at w.serial.commands) (Mirrored at v ∷ w.history));
+      given = subst (λ (u : Works). AreHandedOver pieces (Mirrored at v ∷ w.history) u.history)
+          (sym learns.5)
+          (handed_over pieces (mirrors.mirrored v at w.serial.commands)
+          (Mirrored at v ∷ w.history));
     }
 
-answer_given : (p : Setup) (at : ℕ) (o : Outcome) (w z : Works) → LearnsOf p at true o w z → HasNewestTags p w
+answer_given : (p : Setup) (at : ℕ) (o : Outcome) (w z : Works) → LearnsOf p at true o w z
+    → HasNewestTags p w
     → GivesAnswer p at o w.history z.history
 answer_given p at (outcome.Report station asdu) w z learns tags = λ of.
     report_given p at (is_command_report p.sizes asdu.items) asdu.items w z of learns tags
@@ -268,7 +305,8 @@ pub stations_given : CommandLaws → (p : Setup) (log : Log) (at : ℕ) (octets 
     → Runs p (Came at (LineIn octets) ∷ log) d
     → (before : Course) × (left : Course) × Runs p log before × IsLeft p log before left
     × (transfers (came_frames left.talk) ≡ true
-    → GivesAnswer p (latest (Came at (LineIn octets) ∷ log)) (heard_outcome octets left.works.serial)
+    → GivesAnswer p (latest (Came at (LineIn octets) ∷ log))
+    (heard_outcome octets left.works.serial)
     left.works.history d.works.history)
 stations_given laws p log at octets d r =
     let now : ℕ = latest (Came at (LineIn octets) ∷ log) in

@@ -1,5 +1,7 @@
 -- What a frame that was judged leaves to be done.
-use Rattle.std.proofs.Common.{Bool, ◌≡◌, ℕ, zero, suc, ◌+◌, ◌<◌, ◌≤◌, true, false, List, [], ◌++◌, length, take, drop, arith, refl, ap, sym, ◌∙◌, subst, inl, inr, Option, Some, None}
+use Rattle.std.proofs.Common.{Bool, ◌≡◌, ℕ, zero, suc, ◌+◌, ◌<◌, ◌≤◌, true, false, List, [], ◌++◌}
+use Rattle.std.proofs.Common.{length, take, drop, arith, refl, ap, sym, ◌∙◌, subst, inl, inr}
+use Rattle.std.proofs.Common.{Option, Some, None}
 use Rattle.std.specs.Prelude.{IfSome, is_some}
 use Rattle.std.proofs.lemmas.List.{drop_at, drop-drop, take-append-drop, length-drop}
 use Rattle.std.proofs.lemmas.Bool.{cond-true}
@@ -22,7 +24,8 @@ use Rattle.gateway.specs.Streams.{spelled, IsRefused}
 use Rattle.gateway.specs.Reports.{Setup}
 use Rattle.gateway.specs.Serial.{Serial, has_place}
 use Rattle.gateway.specs.Walls.{wall_of, wall_on}
-use Rattle.gateway.specs.State.{State, wall_now, with_centre, with_octets, disconnected, received, framed}
+use Rattle.gateway.specs.State.{State, wall_now, with_centre, with_octets, disconnected, received}
+use Rattle.gateway.specs.State.{framed}
 use Rattle.gateway.specs.Works.{has_lacked_place}
 use Rattle.gateway.specs.Course.{Course, here_of, came_frames, with_frame, StandsNext, IsCause}
 use Rattle.gateway.specs.Phases as phases
@@ -37,9 +40,11 @@ use Rattle.gateway.proofs.Working.{heard_overfull}
 use Rattle.gateway.proofs.Talking.{confirmed_by}
 use Rattle.gateway.proofs.Agreement.{flushed_by}
 use Rattle.gateway.proofs.Hearing.{after_heard, heard_course, after_more, with_so_far, now_idle}
-use Rattle.gateway.proofs.Closing.{stands_garbled, stands_faulty, stands_overfull, fault_ends, fault_closes_so}
+use Rattle.gateway.proofs.Closing.{stands_garbled, stands_faulty, stands_overfull, fault_ends}
+use Rattle.gateway.proofs.Closing.{fault_closes_so}
 
-unfolded : (s : State) (so_far other : List ℕ) → s.centre.so_far ≡ Some so_far → s.centre.so_far ≡ Some other
+unfolded : (s : State) (so_far other : List ℕ) → s.centre.so_far ≡ Some so_far → s.centre.so_far
+    ≡ Some other
     → so_far ≡ other
 unfolded s so_far other e f = ap val (sym e ∙ f)
   where
@@ -47,17 +52,21 @@ unfolded s so_far other e f = ap val (sym e ∙ f)
     val None = []
     val (Some x) = x
 
-nothing_so_far : (p : Setup) (s : State) (log : Log) (unjudged : List ℕ) (a : Agrees p s log unjudged Taking)
+nothing_so_far : (p : Setup) (s : State) (log : Log) (unjudged : List ℕ)
+    (a : Agrees p s log unjudged Taking)
     → s.centre.so_far ≡ Some [] → a.here.so_far ≡ []
 nothing_so_far p s log unjudged a e = unfolded s a.here.so_far [] a.here.assembler e
 
 -- The frame is taken.
 module _ (p : Setup) (s : State) (log : Log) (rest : List ℕ) (f : Apdu)
-    (a : Agrees p s log (spelling f ++ rest) Taking) (on : session.is_open s.centre.session ≡ true) (ready : IsClear s)
+    (a : Agrees p s log (spelling f ++ rest) Taking) (on : session.is_open s.centre.session ≡ true)
+    (ready : IsClear s)
     (undue : IsUndue s log (spelling f ++ rest)) (past : IsPast log (length rest)) (fits : Fits f)
-    (so : s.centre.so_far ≡ Some []) (goes : is_close (outcome_of s.centre.session f) ≡ false) (kept : Bool)
+    (so : s.centre.so_far ≡ Some []) (goes : is_close (outcome_of s.centre.session f) ≡ false)
+    (kept : Bool)
     (place : has_place f s.moment (wall_now s) s.serial.commands ≡ kept) where
-  both : (refuses s.centre.session f ≡ false) × (fault_of (length a.course.sent) (came_frames a.course.talk) f ≡ None)
+  both : (refuses s.centre.session f ≡ false)
+      × (fault_of (length a.course.sent) (came_frames a.course.talk) f ≡ None)
   both = no_close f (here_of a.course) s.centre.session s.centre.queue.sent
       (outcome_of s.centre.session f) goes a.here.tied refl
 
@@ -65,27 +74,33 @@ module _ (p : Setup) (s : State) (log : Log) (rest : List ℕ) (f : Apdu)
   whole = ap (λ x. x ++ (spelling f ++ rest)) (nothing_so_far p s log _ a so)
 
   abbrev frame_taken : Agrees p (framed f s) log rest (after_frame kept)
-  frame_taken = after_heard p s log (spelling f ++ rest) rest f a on ready undue past so fits whole both.0 both.1 kept
+  frame_taken = after_heard p s log (spelling f ++ rest) rest f a on ready undue past so fits whole
+      both.0 both.1 kept
       place
 
   taken_course : frame_taken.course ≡ with_frame p f s.moment (wall_on log s.moment) a.course
-  taken_course = heard_course p s log (spelling f ++ rest) rest f a on ready undue past so fits whole both.0 both.1
+  taken_course = heard_course p s log (spelling f ++ rest) rest f a on ready undue past so fits
+      whole both.0 both.1
       kept place
 
 pub judged_on : (p : Setup) (told : Option Log) (s t : State) (f : Apdu) (rest : List ℕ)
-    → session.is_open s.centre.session ≡ true → Fits f → s.centre.so_far ≡ Some [] → Judged s f None t
+    → session.is_open s.centre.session ≡ true → Fits f → s.centre.so_far ≡ Some []
+    → Judged s f None t
     → Meets p s told (spelling f ++ rest) rest → Tracks p t told rest phases.Judged
 judged_on p None s t f rest on fits so j a = tt
-judged_on p (Some log) s t f rest on fits so j a = subst (λ x. Agrees p x log rest phases.Judged) (sym j.after)
+judged_on p (Some log) s t f rest on fits so j a = subst (λ x. Agrees p x log rest phases.Judged)
+    (sym j.after)
     (frame_taken p s log rest f a.0 on a.1 a.2 a.3 fits so j.passes true j.place)
 
-pub judged_open : (s t : State) (f : Apdu) → session.is_open s.centre.session ≡ true → Judged s f None t
+pub judged_open : (s t : State) (f : Apdu) → session.is_open s.centre.session ≡ true
+    → Judged s f None t
     → session.is_open t.centre.session ≡ true
 judged_open s t f on j = ap (λ (x : State). session.is_open x.centre.session) j.after
     ∙ (taken_stays f s.moment s.centre.session).connected ∙ on
 
 -- a frame with a fault leaves nothing but what the close drops
-fault_dropped : (s : State) (f : Apdu) (cause : Close) → Closes cause ≡ outcome_of s.centre.session f
+fault_dropped : (s : State) (f : Apdu) (cause : Close) → Closes cause
+    ≡ outcome_of s.centre.session f
     → disconnected (received f s) ≡ disconnected s
 fault_dropped s f cause e =
     let refused : refuses s.centre.session f ≡ true = sym (ap is_close e) in
@@ -99,7 +114,8 @@ fault_dropped s f cause e =
     }) s)) is
 
 -- a frame's fault is the cause
-frame_cause : (p : Setup) (log : Log) (c : Course) (sent : ℕ) (older : List Apdu) (f : Apdu) (cause : Close)
+frame_cause : (p : Setup) (log : Log) (c : Course) (sent : ℕ) (older : List Apdu) (f : Apdu)
+    (cause : Close)
     → fault_of sent older f ≡ Some cause → StandsNext p log cause c → IsCause p log cause c
 frame_cause p log c sent older f cause fault stands =
     fault_cases (λ cause. StandsNext p log cause c → IsCause p log cause c) (λ st. st) (λ st. st)
@@ -117,11 +133,14 @@ next_closes p s log unjudged cause on ready a stands = record {
 }
 
 faulty_closes : (p : Setup) (log : Log) (s t : State) (f : Apdu) (cause : Close) (rest : List ℕ)
-    → session.is_open s.centre.session ≡ true → Fits f → s.centre.so_far ≡ Some [] → IsFaulty s f cause t → IsClear s
+    → session.is_open s.centre.session ≡ true → Fits f → s.centre.so_far ≡ Some []
+    → IsFaulty s f cause t → IsClear s
     → Agrees p s log (spelling f ++ rest) Taking → MayClose p t cause Idle log
 faulty_closes p log s t f cause rest on fits so j ready a =
-    let fault = fault_closes f (here_of a.course) s.centre.session s.centre.queue.sent cause a.here.tied j.fault in
-    let closes = fault_closes_so (length a.course.sent) (came_frames a.course.talk) f cause (present log) fault in
+    let fault = fault_closes f (here_of a.course) s.centre.session s.centre.queue.sent cause
+    a.here.tied j.fault in
+    let closes = fault_closes_so (length a.course.sent) (came_frames a.course.talk) f cause
+    (present log) fault in
     let stands = stands_faulty p s log (spelling f ++ rest) rest f cause Taking a fits
     (ap (λ x. x ++ (spelling f ++ rest)) (nothing_so_far p s log _ a so)) fault in
     record {
@@ -136,14 +155,17 @@ faulty_closes p log s t f cause rest on fits so j ready a =
       agrees = a;
       fault = Some cause;
       stands = subst (λ o. IsConnection o (here_of a.course) (Some cause)) (sym closes.0) stands;
-      why = frame_cause p log a.course (length a.course.sent) (came_frames a.course.talk) f cause fault
+      why = frame_cause p log a.course (length a.course.sent) (came_frames a.course.talk) f cause
+          fault
           (next_closes p s log (spelling f ++ rest) cause on ready a stands);
     }
 
 -- its own answer found no place
 overfull_closes : (p : Setup) (log : Log) (s t : State) (f : Apdu) (rest : List ℕ)
-    → session.is_open s.centre.session ≡ true → Fits f → s.centre.so_far ≡ Some [] → IsTaken s f false t → IsClear s
-    → IsUndue s log (spelling f ++ rest) → IsPast log (length rest) → Agrees p s log (spelling f ++ rest) Taking
+    → session.is_open s.centre.session ≡ true → Fits f → s.centre.so_far ≡ Some []
+    → IsTaken s f false t → IsClear s
+    → IsUndue s log (spelling f ++ rest) → IsPast log (length rest)
+    → Agrees p s log (spelling f ++ rest) Taking
     → MayClose p t OwnAnswers Idle log
 overfull_closes p log s t f rest on fits so j ready undue past a =
     let b = frame_taken p s log rest f a on ready undue past fits so j.passes false j.place in
@@ -164,22 +186,29 @@ overfull_closes p log s t f rest on fits so j ready undue past a =
       why = subst (λ (c : Course). has_lacked_place c.works.history ≡ true)
           (sym (taken_course p s log rest f a on ready undue past fits so j.passes false j.place))
           (heard_overfull f s.moment (wall_on log s.moment) a.course.works
-          (ap (λ w. has_place f s.moment (wall_of w s.moment) a.course.works.serial.commands) (sym a.wall)
-          ∙ ap (λ (z : Serial). has_place f s.moment (wall_now s) z.commands) (sym a.stands.does) ∙ j.place));
+          (ap (λ w. has_place f s.moment (wall_of w s.moment) a.course.works.serial.commands)
+          (sym a.wall)
+          ∙ ap (λ (z : Serial). has_place f s.moment (wall_now s) z.commands) (sym a.stands.does)
+          ∙ j.place));
     }
 
-pub judged_closes : (p : Setup) (told : Option Log) (s t : State) (f : Apdu) (cause : Close) (rest : List ℕ)
-    → session.is_open s.centre.session ≡ true → Fits f → s.centre.so_far ≡ Some [] → Judged s f (Some cause) t
+pub judged_closes : (p : Setup) (told : Option Log) (s t : State) (f : Apdu) (cause : Close)
+    (rest : List ℕ)
+    → session.is_open s.centre.session ≡ true → Fits f → s.centre.so_far ≡ Some []
+    → Judged s f (Some cause) t
     → Meets p s told (spelling f ++ rest) rest → IfSome told (MayClose p t cause Idle)
 judged_closes p None s t f cause rest on fits so j a = tt
 judged_closes p (Some log) s t f cause rest on fits so (inl j) a =
     faulty_closes p log s t f cause rest on fits so j a.1 a.0
 judged_closes p (Some log) s t f cause rest on fits so (inr j) a =
-    subst (λ x. MayClose p t x Idle log) (sym j.0) (overfull_closes p log s t f rest on fits so j.1 a.1 a.2 a.3 a.0)
+    subst (λ x. MayClose p t x Idle log) (sym j.0) (overfull_closes p log s t f rest on fits so j.1
+    a.1 a.2 a.3 a.0)
 
 -- the octets of the frame so far count as not judged
-fed : (p : Setup) (s : State) (log : Log) (piece unjudged so_far : List ℕ) → s.centre.so_far ≡ Some so_far
-    → so_far ++ piece ≡ unjudged → Agrees p s log piece Taking → Agrees p (with_octets (Some []) s) log unjudged Taking
+fed : (p : Setup) (s : State) (log : Log) (piece unjudged so_far : List ℕ) → s.centre.so_far
+    ≡ Some so_far
+    → so_far ++ piece ≡ unjudged → Agrees p s log piece Taking
+    → Agrees p (with_octets (Some []) s) log unjudged Taking
 fed p s log piece unjudged so_far so e a =
     with_so_far p s log piece unjudged [] Taking a nothing_waits
     (a.here.joined ∙ ap (λ x. spelled (came_frames a.course.talk) ++ x)
@@ -187,12 +216,14 @@ fed p s log piece unjudged so_far so e a =
 
 -- where it is fed, what was due stays so
 fed_undue : (s : State) (log : Log) (piece unjudged so_far : List ℕ) → s.centre.so_far ≡ Some so_far
-    → so_far ++ piece ≡ unjudged → IsUndue s log piece → IsUndue (with_octets (Some []) s) log unjudged
+    → so_far ++ piece ≡ unjudged → IsUndue s log piece
+    → IsUndue (with_octets (Some []) s) log unjudged
 fed_undue s log piece unjudged so_far so e (inl h) = inl
     (omega (arith, h, ap (λ x. length (pending x ++ piece)) so, ap length e))
 fed_undue s log piece unjudged so_far so e (inr h) = inr h
 
-pub told_fed : (p : Setup) (told : Option Log) (s t : State) (piece unjudged so_far : List ℕ) (n : ℕ)
+pub told_fed : (p : Setup) (told : Option Log) (s t : State) (piece unjudged so_far : List ℕ)
+    (n : ℕ)
     → s.centre.so_far ≡ Some so_far → so_far ++ piece ≡ unjudged → 0 < n → n ≤ length piece
     → t ≡ with_octets (Some []) s → Awaits p s told piece → Meets p t told unjudged (drop n piece)
 told_fed p None s t piece unjudged so_far n so e some within is h = tt
@@ -205,24 +236,29 @@ told_fed p (Some log) s t piece unjudged so_far n so e some within is a =
       omega (arith, a.3, some, within, length-drop n piece),
     )
 
-pub told_more : (p : Setup) (told : Option Log) (s t : State) (piece so_far : List ℕ) → s.centre.so_far ≡ Some so_far
+pub told_more : (p : Setup) (told : Option Log) (s t : State) (piece so_far : List ℕ)
+    → s.centre.so_far ≡ Some so_far
     → IsMore (so_far ++ piece) → t ≡ with_octets (Some (so_far ++ piece)) s → Awaits p s told piece
     → Tracks p t told [] Idle
 told_more p None s t piece so_far so more is h = tt
 told_more p (Some log) s t piece so_far so more is both =
     let a = both.0 in
     let same : a.here.so_far ≡ so_far = unfolded s a.here.so_far so_far a.here.assembler so in
-    now_idle p t log (after_more p s t log piece a (subst (λ x. IsMore (x ++ piece)) (sym same) more) (is
+    now_idle p t log
+    (after_more p s t log piece a (subst (λ x. IsMore (x ++ piece)) (sym same) more) (is
     ∙ ap (λ x. with_octets (Some (x ++ piece)) s) (sym same)))
 
 pub garbled_closes : (p : Setup) (told : Option Log) (s t : State) (piece so_far : List ℕ)
-    → session.is_open s.centre.session ≡ true → s.centre.so_far ≡ Some so_far → IsRefused (so_far ++ piece)
+    → session.is_open s.centre.session ≡ true → s.centre.so_far ≡ Some so_far
+    → IsRefused (so_far ++ piece)
     → t ≡ with_octets (Some []) s → Awaits p s told piece → IfSome told (MayClose p t Grammar Idle)
 garbled_closes p None s t piece so_far on so refused is h = tt
 garbled_closes p (Some log) s t piece so_far on so refused is both =
     let a = both.0 in
     let same : a.here.so_far ≡ so_far = unfolded s a.here.so_far so_far a.here.assembler so in
-    let stands = stands_garbled p s log piece Taking a (subst (λ x. IsRefused (x ++ piece)) (sym same) refused) in
+    let stands =
+    stands_garbled p s log piece Taking a (subst (λ x. IsRefused (x ++ piece)) (sym same)
+    refused) in
     record {
       last = refl;
       state = s;
@@ -238,13 +274,15 @@ garbled_closes p (Some log) s t piece so_far on so refused is both =
       why = next_closes p s log piece Grammar on both.1 a stands;
     }
 
-pub found_apdu : (o : Option (List ℕ)) (piece : List ℕ) (n : ℕ) (after : Assembly) → is_some o ≡ true
+pub found_apdu : (o : Option (List ℕ)) (piece : List ℕ) (n : ℕ) (after : Assembly) → is_some o
+    ≡ true
     → IfSome o (λ x. Hears x piece n hears.Whole after) → (x : List ℕ) × (o ≡ Some x)
     × ((f : Apdu) × Fits f × (x ++ piece ≡ spelling f ++ drop n piece) × (after.so_far ≡ Some [])
     × (after.whole ≡ Some f))
 found_apdu None piece n after is h = cc
 found_apdu (Some x) piece n after is h =
-    let behind : drop (length x + n) (x ++ piece) ≡ drop n piece = sym (drop-drop n (length x) (x ++ piece))
+    let behind : drop (length x + n) (x ++ piece) ≡ drop n piece =
+    sym (drop-drop n (length x) (x ++ piece))
     ∙ ap (drop n) (drop_at x piece (length x) refl) in (
       x,
       refl,
@@ -252,20 +290,23 @@ found_apdu (Some x) piece n after is h =
         h.0,
         h.1.0.fits,
         sym (take-append-drop (length x + n) (x ++ piece))
-            ∙ ap (λ y. y ++ drop (length x + n) (x ++ piece)) h.1.0.spelled ∙ ap (λ y. spelling h.0 ++ y) behind,
+            ∙ ap (λ y. y ++ drop (length x + n) (x ++ piece)) h.1.0.spelled
+            ∙ ap (λ y. spelling h.0 ++ y) behind,
         h.2,
         h.3,
       ),
     )
 
-pub found_never : (o : Option (List ℕ)) (piece : List ℕ) (n place : ℕ) (why : Why) (after : Assembly)
+pub found_never : (o : Option (List ℕ)) (piece : List ℕ) (n place : ℕ) (why : Why)
+    (after : Assembly)
     → is_some o ≡ true → IfSome o (λ x. Hears x piece n (hears.Never place why) after)
     → (x : List ℕ) × (o ≡ Some x) × IsRefused (x ++ piece)
 found_never None piece n place why after is h = cc
 found_never (Some x) piece n place why after is h = (x, refl, (place, why, h.0))
 
 -- a whole frame at the front of a piece
-pub found_whole : (piece : List ℕ) (n : ℕ) (f : Apdu) → IsFront piece (front.Whole f n) → StandsFirst [] piece f n
+pub found_whole : (piece : List ℕ) (n : ℕ) (f : Apdu) → IsFront piece (front.Whole f n)
+    → StandsFirst [] piece f n
 found_whole piece n f h = (
   h.0.fits,
   sym (take-append-drop n piece)
@@ -279,19 +320,26 @@ found_whole piece n f h = (
     some (suc n) e = omega arith
 
 -- where nothing is left of a frame, there are no octets of one
-pub nothing_left : (s : State) → s.centre.so_far ≡ Some [] → s.centre.heard ≡ None → s ≡ with_octets (Some []) s
+pub nothing_left : (s : State) → s.centre.so_far ≡ Some [] → s.centre.heard ≡ None
+    → s ≡ with_octets (Some []) s
 nothing_left s so none =
-    ap (λ (o : Option (List ℕ)). let made : State = record s { centre = record s.centre { so_far = o } } in made) so
-    ∙ ap (λ (h : Option Apdu). let made : State = record s { centre = record s.centre { so_far = Some []; heard = h } }
+    ap (λ (o : Option (List ℕ)). let made : State =
+    record s { centre = record s.centre { so_far = o } } in made) so
+    ∙ ap (λ (h : Option Apdu). let made : State =
+    record s { centre = record s.centre { so_far = Some []; heard = h } }
     in
     made) none
 
 -- the frame that was whole is taken
-pub told_taken : (p : Setup) (told : Option Log) (s t : State) (f g : Apdu) (rest : List ℕ) → s.centre.heard ≡ Some f
-    → s.centre.heard ≡ Some g → s.centre.so_far ≡ Some [] → t ≡ with_centre (record s.centre { heard = None }) s
-    → Meets p (with_octets (Some []) s) told (spelling f ++ rest) rest → Meets p t told (spelling g ++ rest) rest
+pub told_taken : (p : Setup) (told : Option Log) (s t : State) (f g : Apdu) (rest : List ℕ)
+    → s.centre.heard ≡ Some f
+    → s.centre.heard ≡ Some g → s.centre.so_far ≡ Some []
+    → t ≡ with_centre (record s.centre { heard = None }) s
+    → Meets p (with_octets (Some []) s) told (spelling f ++ rest) rest
+    → Meets p t told (spelling g ++ rest) rest
 told_taken p told s t f g rest heard taken so is h =
     let same : f ≡ g = cc in
-    let state : with_octets (Some []) s ≡ t = ap (λ (o : Option (List ℕ)). with_octets o s) (sym so) ∙ sym is in
+    let state : with_octets (Some []) s ≡ t = ap (λ (o : Option (List ℕ)). with_octets o s) (sym so)
+    ∙ sym is in
     subst (λ (x : Apdu). Meets p t told (spelling x ++ rest) rest) same
     (subst (λ (x : State). Meets p x told (spelling f ++ rest) rest) state h)

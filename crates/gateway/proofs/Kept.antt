@@ -1,5 +1,6 @@
 -- The pieces of a report in the queue.
-use Rattle.std.proofs.Common.{◌≡◌, ℕ, ◌≤◌, ◌==◌, Bool, true, false, not, List, [], ◌∷◌, ◌++◌, length, map, refl, ap, sym, subst, ◌∙◌, arith}
+use Rattle.std.proofs.Common.{◌≡◌, ℕ, ◌≤◌, ◌==◌, Bool, true, false, not, List, [], ◌∷◌, ◌++◌}
+use Rattle.std.proofs.Common.{length, map, refl, ap, sym, subst, ◌∙◌, arith}
 use Rattle.std.specs.Prelude.{if◌then◌else◌, ◌&&◌, slice_index, Option, Some, None}
 use Rattle.elements.specs.declared.types.TypeId.{TypeId}
 use Rattle.elements.specs.Types.{type_of}
@@ -10,10 +11,13 @@ use Rattle.std.proofs.lemmas.List.{append-nil}
 use Rattle.arrayvec.specs.ArrayVec.{ArrayVec}
 use Rattle.asdu.specs.declared.sizes.Sizes.{Sizes}
 use Rattle.asdu.specs.Sizes.{tcp}
-use Rattle.asdu.specs.InformationObjects.{InformationObject, object_in, value_objects, typed_objects, objects_of, monitor_objects_of, is_passed_on}
+use Rattle.asdu.specs.InformationObjects.{InformationObject, object_in, value_objects}
+use Rattle.asdu.specs.InformationObjects.{typed_objects, objects_of, monitor_objects_of}
+use Rattle.asdu.specs.InformationObjects.{is_passed_on}
 use Rattle.asdu.specs.Translation.{parts, report_pieces, IsPiece, IsLargest, AllButLast}
 use Rattle.events.specs.Queue.{octets_of}
-use Rattle.gateway.specs.Objects.{objects, has_objects, monitor_objects, parts_of, typed_pieces, pieces_of_report}
+use Rattle.gateway.specs.Objects.{objects, has_objects, monitor_objects, parts_of, typed_pieces}
+use Rattle.gateway.specs.Objects.{pieces_of_report}
 use Rattle.asdu.specs.Asdu.{AsduValue, Info, IsAsdu}
 use Rattle.gateway.specs.declared.counts.Tally.{Tally}
 use Rattle.gateway.specs.Counting.{is_answer_type, counted, counted_by, one_skipped}
@@ -33,7 +37,8 @@ some n h = grind (arith, Rattle.std.proofs.lemmas.Bool.Decides.nat_tests)
 all_whole : (ps : List (List ℕ)) → AllByRecursion (λ p. 1 ≤ length (objects p)) ps
     → list_all has_objects ps ≡ true
 all_whole [] h = refl
-all_whole (p ∷ ps) h = ap (λ b. b && list_all has_objects ps) (some (length (objects p)) h.0) ∙ all_whole ps h.1
+all_whole (p ∷ ps) h = ap (λ b. b && list_all has_objects ps) (some (length (objects p)) h.0)
+    ∙ all_whole ps h.1
 
 length_map : (ps : List (ArrayVec ℕ)) → length (octets_of ps) ≡ length ps
 length_map [] = refl
@@ -50,7 +55,8 @@ parts_some sizes report h = ap (λ b. if b then 0 else parts sizes report)
 -- The pieces of a report that is read
 
 -- its type is that of the ASDU that it is
-type_read : (sizes : Sizes) (report : List ℕ) (u : AsduValue) (infos : List Info) → u.infos ≡ infos → 1 ≤ length infos
+type_read : (sizes : Sizes) (report : List ℕ) (u : AsduValue) (infos : List Info) → u.infos ≡ infos
+    → 1 ≤ length infos
     → objects_of sizes report ≡ value_objects u → type_of (slice_index report 0) ≡ Some u.kind
 unfolding objects_of
 type_read sizes report u [] is some e = absurd (omega (arith, some))
@@ -65,13 +71,16 @@ type_read sizes report u (i ∷ infos) is some e =
         ap (λ (t : TypeId). Some t) (sym of ∙ ap (λ (o : InformationObject). o.kind) first)
 
     by_type : (b : Bool) (o : Option TypeId)
-        → (if b then typed_objects sizes o report else []) ≡ map (object_in u) (i ∷ infos) → o ≡ Some u.kind
+        → (if b then typed_objects sizes o report else []) ≡ map (object_in u) (i ∷ infos)
+        → o ≡ Some u.kind
     by_type false o e = cc
     by_type true None e = cc
-    by_type true (Some t) e = same_type t (value_at sizes t report) (value_at sizes t report).infos refl e
+    by_type true (Some t) e = same_type t (value_at sizes t report) (value_at sizes t report).infos
+        refl e
 
 -- so its pieces are those of that ASDU
-pub pieces_read : (s : State) (report octets : List ℕ) (sizes : Sizes) (kind : TypeId) → sizes ≡ s.sizes
+pub pieces_read : (s : State) (report octets : List ℕ) (sizes : Sizes) (kind : TypeId)
+    → sizes ≡ s.sizes
     → octets ≡ report → objects_of s.sizes report ≡ value_objects (value_at sizes kind octets)
     → 1 ≤ length (value_at sizes kind octets).infos → 1 ≤ length (monitor_objects s.sizes report)
     → report_pieces (value_at sizes kind octets) ≡ pieces_of_report s.sizes report
@@ -90,9 +99,11 @@ pieces_read s report octets sizes kind same is objects some passed =
 
 -- a report that is passed on
 pub keeps_report : (s t : State) (report : List ℕ) (ps : List (List ℕ))
-    → flat_map objects ps ≡ monitor_objects s.sizes report → AllByRecursion (λ p. 1 ≤ length (objects p)) ps
+    → flat_map objects ps ≡ monitor_objects s.sizes report
+    → AllByRecursion (λ p. 1 ≤ length (objects p)) ps
     → length ps ≡ parts s.sizes report → ps ≡ pieces_of_report s.sizes report
-    → 1 ≤ length (monitor_objects s.sizes report) → counted s.sizes report s.serial.counts ≡ s.serial.counts → t ≡ with_centre (pushed ps s.centre) s
+    → 1 ≤ length (monitor_objects s.sizes report) → counted s.sizes report s.serial.counts
+    ≡ s.serial.counts → t ≡ with_centre (pushed ps s.centre) s
     → Keeps s report t
 keeps_report s t report ps joined each number spelled passed counts after = record {
   pieces = ps;
@@ -110,8 +121,10 @@ keeps_report s t report ps joined each number spelled passed counts after = reco
 }
 
 -- one that isn't
-pub keeps_none : (s t : State) (report octets : List ℕ) (sizes : Sizes) → sizes ≡ s.sizes → octets ≡ report
-    → monitor_objects_of sizes octets ≡ [] → t ≡ with_serial (reported s.sizes report s.serial) s → Keeps s report t
+pub keeps_none : (s t : State) (report octets : List ℕ) (sizes : Sizes) → sizes ≡ s.sizes
+    → octets ≡ report
+    → monitor_objects_of sizes octets ≡ [] → t ≡ with_serial (reported s.sizes report s.serial) s
+    → Keeps s report t
 keeps_none s t report octets sizes same is none after =
     let nothing : monitor_objects s.sizes report ≡ [] =
     sym (ap (λ z. monitor_objects z octets) same ∙ ap (λ x. monitor_objects s.sizes x) is) ∙ none in
@@ -119,8 +132,12 @@ keeps_none s t report octets sizes same is none after =
       pieces = [];
       objects_are = sym nothing;
       whole = refl;
-      number = sym (ap (λ (os : List InformationObject). if length os == 0 then 0 else parts s.sizes report) nothing);
-      spelled = sym (ap (λ (os : List InformationObject). if length os == 0 then [] else typed_pieces s.sizes
+      number =
+          sym (ap (λ (os : List InformationObject). if length os == 0 then 0
+          else parts s.sizes report) nothing);
+      spelled =
+          sym (ap (λ (os : List InformationObject). if length os == 0 then []
+          else typed_pieces s.sizes
           (type_of (slice_index report 0)) report) nothing);
       after = after ∙ ap
           (λ (u : List (List ℕ)).
@@ -142,17 +159,20 @@ keeps_none s t report octets sizes same is none after =
 
 read_counts : (infos : List Info) (u : AsduValue) (c : Tally) → u.infos ≡ infos → 1 ≤ length infos
     → counted_by (value_objects u) c
-    ≡ (if is_answer_type u.kind then c else (if is_passed_on u.kind u.cause then c else one_skipped c))
+    ≡ (if is_answer_type u.kind then c else (if is_passed_on u.kind u.cause then c
+    else one_skipped c))
 read_counts [] u c is some = absurd (omega (arith, some))
 read_counts (i ∷ infos) u c is some = ap (λ is. counted_by (map (object_in u) is) c) is
 
 -- in the sizes and octets as the gateway has them
-pub counted_as : (s : State) (report octets : List ℕ) (sizes : Sizes) (u : AsduValue) → sizes ≡ s.sizes
+pub counted_as : (s : State) (report octets : List ℕ) (sizes : Sizes) (u : AsduValue)
+    → sizes ≡ s.sizes
     → octets ≡ report → objects_of s.sizes report ≡ value_objects u → 1 ≤ length u.infos →
     counted s.sizes report s.serial.counts
     ≡ (if is_answer_type u.kind then s.serial.counts else
     (if is_passed_on u.kind u.cause then s.serial.counts else one_skipped s.serial.counts))
-counted_as s report octets sizes u same is objects some = ap (λ os. counted_by os s.serial.counts) objects
+counted_as s report octets sizes u same is objects some =
+    ap (λ os. counted_by os s.serial.counts) objects
     ∙ read_counts u.infos u s.serial.counts refl some
 
 pub passed_counts : (answer passed : Bool) (c : Tally) → passed ≡ true
@@ -162,7 +182,8 @@ passed_counts false passed c on = ap (λ b. if b then c else one_skipped c) on
 
 pub skipped_counts : (answer passed : Bool) (c : Tally) → answer ≡ false → passed ≡ false
     → (if answer then c else (if passed then c else one_skipped c)) ≡ one_skipped c
-skipped_counts answer passed c on off = ap (λ b. if b then c else (if passed then c else one_skipped c)) on
+skipped_counts answer passed c on off =
+    ap (λ b. if b then c else (if passed then c else one_skipped c)) on
     ∙ ap (λ b. if b then c else one_skipped c) off
 
 -- Whether a report is an answer to a command
@@ -172,16 +193,19 @@ read_command : (infos : List Info) (u : AsduValue) → u.infos ≡ infos → 1 �
 read_command [] u is some = absurd (omega (arith, some))
 read_command (i ∷ infos) u is some = ap (λ is. is_command_by (map (object_in u) is)) is
 
-pub command_as : (sizes : Sizes) (report : List ℕ) (u : AsduValue) → objects_of sizes report ≡ value_objects u
+pub command_as : (sizes : Sizes) (report : List ℕ) (u : AsduValue) → objects_of sizes report
+    ≡ value_objects u
     → 1 ≤ length u.infos → is_command_report sizes report ≡ is_answer_type u.kind
 command_as sizes report u objects some = ap is_command_by objects ∙ read_command u.infos u refl some
 
-pub passed_monitor : (monitor tagged passed a b : Bool) → (monitor && a && b) ≡ passed → passed ≡ true
+pub passed_monitor : (monitor tagged passed a b : Bool) → (monitor && a && b) ≡ passed
+    → passed ≡ true
     → (not monitor && not tagged) ≡ false
 passed_monitor true tagged passed a b is on = refl
 passed_monitor false tagged passed a b is on = let no : false ≡ true = is ∙ on in cc
 
-pub learns_kept : (of_command : Bool) (s t : State) (report : List ℕ) (fits : Bool) → of_command ≡ false
+pub learns_kept : (of_command : Bool) (s t : State) (report : List ℕ) (fits : Bool) → of_command
+    ≡ false
     → Keeps s report t → fits ≡ true → LearnsReport of_command s report fits t
 learns_kept false s t report fits is kept all = (kept, all)
 learns_kept true s t report fits is kept all = cc
@@ -204,8 +228,10 @@ full_map v [] h = tt
 full_map v (p ∷ []) h = tt
 full_map v (p ∷ q ∷ ps) h = (h.0, full_map v (q ∷ ps) h.1)
 
-pub passed_on : (sizes : Sizes) (v : AsduValue) (report : List ℕ) (ps : List (ArrayVec ℕ)) → IsAsdu sizes v report
-    → flat_map (λ p. objects_of tcp p.items) ps ≡ objects_of sizes report → AllByRecursion (λ p. IsPiece v p.items) ps
+pub passed_on : (sizes : Sizes) (v : AsduValue) (report : List ℕ) (ps : List (ArrayVec ℕ))
+    → IsAsdu sizes v report
+    → flat_map (λ p. objects_of tcp p.items) ps ≡ objects_of sizes report
+    → AllByRecursion (λ p. IsPiece v p.items) ps
     → AllButLast (λ p. IsLargest v p.items) ps →
     length ps ≡ parts sizes report → IsPassedOn sizes v report (octets_of ps)
 passed_on sizes v report ps found joined each full number = record {
@@ -231,39 +257,47 @@ plain_map : (ps : List (ArrayVec ℕ)) → flat_map (λ p. monitor_objects_of tc
 plain_map [] none = tt
 plain_map (p ∷ ps) none =
     let others : List InformationObject = flat_map (λ p. monitor_objects_of tcp p.items) ps in (
-      ap (λ (os : List InformationObject). not (length os == 0)) (first_none (objects p.items) others none),
+      ap (λ (os : List InformationObject). not (length os == 0))
+          (first_none (objects p.items) others none),
       plain_map ps (rest_none (objects p.items) others none),
     )
 
-pub mirrors : (s t : Serial) (at : ℕ) (transferring : Bool) (sizes : Sizes) (v : AsduValue) (report : List ℕ)
+pub mirrors : (s t : Serial) (at : ℕ) (transferring : Bool) (sizes : Sizes) (v : AsduValue)
+    (report : List ℕ)
     (ps : List (ArrayVec ℕ)) (pieces : List (List ℕ)) (fits : Bool) → MonitorLaw
-    → IsPassedOn sizes v report (octets_of ps) → AreTagged (tag_for v v.infos s.commands) (octets_of ps) pieces →
+    → IsPassedOn sizes v report (octets_of ps)
+    → AreTagged (tag_for v v.infos s.commands) (octets_of ps) pieces →
     flat_map (λ p. monitor_objects_of tcp p.items) ps ≡ monitor_objects_of sizes report
     → monitor_objects_of sizes report ≡ [] → t ≡ mirrored at transferring v pieces s
     → fits ≡ mirror_fits at transferring v pieces s → Mirrors sizes at transferring s report fits t
-mirrors s t at transferring sizes v report ps pieces fits law passed tagged monitored none after all = record {
-  v = v;
-  plain = octets_of ps;
-  pieces = pieces;
-  passed = passed;
-  tagged = tagged;
-  none = none;
-  unmonitored = tagged_unmonitored law (tag_for v v.infos s.commands) (octets_of ps) pieces tagged
-      (plain_map ps (monitored ∙ none));
-  after = after;
-  all = all;
-}
+mirrors s t at transferring sizes v report ps pieces fits law passed tagged monitored none after
+    all = record {
+      v = v;
+      plain = octets_of ps;
+      pieces = pieces;
+      passed = passed;
+      tagged = tagged;
+      none = none;
+      unmonitored = tagged_unmonitored law (tag_for v v.infos s.commands) (octets_of ps) pieces
+          tagged
+          (plain_map ps (monitored ∙ none));
+      after = after;
+      all = all;
+    }
 
 -- the same of the whole gateway, in its own sizes
-pub learns_mirrored : (s t : State) (transferring : Bool) (sizes : Sizes) (report octets : List ℕ) (fits : Bool)
+pub learns_mirrored : (s t : State) (transferring : Bool) (sizes : Sizes) (report octets : List ℕ)
+    (fits : Bool)
     → is_command_report s.sizes report ≡ true → sizes ≡ s.sizes → octets ≡ report
     → transferring ≡ is_transferring s.centre.session
     → Mirrors sizes s.moment transferring s.serial octets fits t.serial → t ≡ with_serial t.serial s
     → LearnsReport (is_command_report s.sizes report) s report fits t
 learns_mirrored s t transferring sizes report octets fits of same is same_transfer m only =
     subst (λ b. LearnsReport b s report fits t) (sym of) (
-      subst (λ z. Mirrors z s.moment (is_transferring s.centre.session) s.serial report fits t.serial) same
-          (subst (λ x. Mirrors sizes s.moment (is_transferring s.centre.session) s.serial x fits t.serial) is
+      subst (λ z. Mirrors z s.moment (is_transferring s.centre.session) s.serial report fits
+          t.serial) same
+          (subst (λ x. Mirrors sizes s.moment (is_transferring s.centre.session) s.serial x fits
+          t.serial) is
           (subst (λ r. Mirrors sizes s.moment r s.serial octets fits t.serial) same_transfer m)),
       only,
     )

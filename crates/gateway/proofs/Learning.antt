@@ -1,5 +1,6 @@
 -- What the works and the course learn of an exchange.
-use Rattle.std.proofs.Common.{◌≡◌, ℕ, Bool, true, false, List, [], ◌∷◌, ◌++◌, Option, Some, None, refl, sym, ap, subst, ◌∙◌}
+use Rattle.std.proofs.Common.{◌≡◌, ℕ, Bool, true, false, List, [], ◌∷◌, ◌++◌, Option, Some, None}
+use Rattle.std.proofs.Common.{refl, sym, ap, subst, ◌∙◌}
 use Rattle.std.specs.Prelude.{if◌then◌else◌}
 use Rattle.std.proofs.lemmas.List.{append-nil}
 use Rattle.arrayvec.specs.ArrayVec.{ArrayVec}
@@ -20,7 +21,9 @@ use Rattle.gateway.specs.Reports.{Setup}
 use Rattle.gateway.specs.Serial as serial
 use Rattle.gateway.specs.Serial.{Serial, refusals, mirrored}
 use Rattle.gateway.specs.State.{State, with_serial}
-use Rattle.gateway.specs.Works.{Works, has_lacked_place, told, is_command_report, mirrored_works, LearnsReport, accepted_works, given_up_works, refused_works, LearnsOf, ready_works, unasked_works, done_works}
+use Rattle.gateway.specs.Works.{Works, has_lacked_place, told, is_command_report, mirrored_works}
+use Rattle.gateway.specs.Works.{LearnsReport, accepted_works, given_up_works, refused_works}
+use Rattle.gateway.specs.Works.{LearnsOf, ready_works, unasked_works, done_works}
 use Rattle.gateway.specs.Course.{Course, room_in, IsLeft}
 use Rattle.gateway.specs.Phases.{Asked, resting}
 use Rattle.command.specs.CommandLaws.{CommandLaws}
@@ -59,7 +62,8 @@ is_left p s [] a = record {
 is_left p s (entry ∷ log) a = record { told = a.stands.asks.2; none = a.stands.asks.0; is = refl }
 
 -- no gap is left of the step before, and each is told
-pub none_left : (p : Setup) (s : State) (log : Log) (a : Agrees p s log [] (resting log)) → s.serial.gap ≡ None
+pub none_left : (p : Setup) (s : State) (log : Log) (a : Agrees p s log [] (resting log))
+    → s.serial.gap ≡ None
 none_left p s log a = ap (λ (z : Serial). z.gap) (at_rest_works p s log a)
     ∙ gap_in Asked (latest log) (room_in p log a.course) a.course.works ∙ (is_left p s log a).told
 
@@ -74,7 +78,8 @@ all_told p s log a i = sym (append-nil (gaps_told i log))
 abbrev pub beside : State → History → (is_due : Bool) → Works
 beside s h due = record { serial = s.serial; history = h; is_due = due }
 
-pub record Learnt (p : Setup) (at : ℕ) (is_transferring : Bool) (o : Outcome) (s t : State) (fits : Bool) (h : History)
+pub record Learnt (p : Setup) (at : ℕ) (is_transferring : Bool) (o : Outcome) (s t : State)
+    (fits : Bool) (h : History)
     (is_due : Bool) : Type 0 where
   pub z : Works
   pub learns : LearnsOf p at is_transferring o (beside s h is_due) z
@@ -86,8 +91,10 @@ pub record Learnt (p : Setup) (at : ℕ) (is_transferring : Bool) (o : Outcome) 
   pub waiting : t.serial.commands.waiting ≡ s.serial.commands.waiting
   pub plain : ArePlain t.serial.commands.answers
 
-module _ (p : Setup) (at : ℕ) (s : State) (h : History) (is_due : Bool) (laws : CommandLaws) (clock : s.moment ≡ at)
-    (sizes : s.sizes ≡ p.sizes) (reached : IsReached p (beside s h is_due)) (no_gap : s.serial.gap ≡ None)
+module _ (p : Setup) (at : ℕ) (s : State) (h : History) (is_due : Bool) (laws : CommandLaws)
+    (clock : s.moment ≡ at)
+    (sizes : s.sizes ≡ p.sizes) (reached : IsReached p (beside s h is_due)) (no_gap : s.serial.gap
+    ≡ None)
     (plain : ArePlain s.serial.commands.answers) where
   abbrev w : Works
   w = beside s h is_due
@@ -98,8 +105,10 @@ module _ (p : Setup) (at : ℕ) (s : State) (h : History) (is_due : Bool) (laws 
   -- where all own answers, if any, found places
   learnt_all : (is_transferring : Bool) (o : Outcome) (t : State) (fits : Bool) (z : Works)
       → LearnsOf p at is_transferring o w z
-      → t ≡ with_serial z.serial s → fits ≡ true → z.is_due ≡ is_due → has_lacked_place z.history ≡ has_lacked_place h →
-      z.serial.commands.waiting ≡ s.serial.commands.waiting → z.serial.commands.answers ≡ s.serial.commands.answers
+      → t ≡ with_serial z.serial s → fits ≡ true → z.is_due ≡ is_due → has_lacked_place z.history
+      ≡ has_lacked_place h →
+      z.serial.commands.waiting ≡ s.serial.commands.waiting → z.serial.commands.answers
+      ≡ s.serial.commands.answers
       → ((i : ℕ) → gap_for i z.serial.gap ≡ gap_in_outcome i o) → IsLearnt is_transferring o t fits
   learnt_all is_transferring o t fits z learns is all due placed waiting answers gap = record {
     z = z;
@@ -138,10 +147,12 @@ module _ (p : Setup) (at : ℕ) (s : State) (h : History) (is_due : Bool) (laws 
         gap = λ i. ap (λ (x : State). gap_for i x.serial.gap) e.0 ∙ ap (gap_for i) no_gap;
         waiting = ap (λ (x : State). x.serial.commands.waiting) e.0 ∙ kept_waiting own c;
         plain = subst ArePlain (sym (ap (λ (x : State). x.serial.commands.answers) e.0))
-            (kept_plain own c (refusal_plain i (refusal_of (line_of i s.serial.commands)) refl) plain);
+            (kept_plain own c (refusal_plain i (refusal_of (line_of i s.serial.commands)) refl)
+            plain);
       }
 
-  learnt_mirror : (is_transferring : Bool) (station : ℕ) (report : ArrayVec ℕ) (t : State) (fits : Bool)
+  learnt_mirror : (is_transferring : Bool) (station : ℕ) (report : ArrayVec ℕ) (t : State)
+      (fits : Bool)
       → is_command_report p.sizes report.items ≡ true
       → Mirrors p.sizes at is_transferring s.serial report.items fits t.serial
       → IsLearnt is_transferring (outcome.Report station report) t fits
@@ -149,7 +160,9 @@ module _ (p : Setup) (at : ℕ) (s : State) (h : History) (is_due : Bool) (laws 
       let c : tasks.State = mirrors.mirrored m.v at s.serial.commands in
       record {
         z = mirrored_works at true m.v m.pieces w;
-        learns = subst (λ b. LearnsReport p at true b report.items w (mirrored_works at true m.v m.pieces w)) (sym of)
+        learns =
+            subst (λ b. LearnsReport p at true b report.items w
+            (mirrored_works at true m.v m.pieces w)) (sym of)
             (m.v, m.plain, m.pieces, m.passed, m.tagged, refl);
         serial = m.after;
         due = refl;
@@ -164,19 +177,23 @@ module _ (p : Setup) (at : ℕ) (s : State) (h : History) (is_due : Bool) (laws 
       }
   learnt_mirror false station report t fits of m = record {
     z = mirrored_works at false m.v m.pieces w;
-    learns = subst (λ b. LearnsReport p at false b report.items w (mirrored_works at false m.v m.pieces w)) (sym of)
+    learns =
+        subst (λ b. LearnsReport p at false b report.items w
+        (mirrored_works at false m.v m.pieces w)) (sym of)
         (m.v, m.plain, m.pieces, m.passed, m.tagged, refl);
     serial = m.after;
     due = refl;
     full = λ off. let no : false ≡ true = sym off ∙ m.all in cc;
     placed = λ on. refl;
     gap = λ i. ap (λ (x : Serial). gap_for i x.gap) m.after ∙ ap (gap_for i) no_gap;
-    waiting = ap (λ (x : Serial). x.commands.waiting) m.after ∙ laws.mirrored_waits m.v at s.serial.commands;
+    waiting = ap (λ (x : Serial). x.commands.waiting) m.after
+        ∙ laws.mirrored_waits m.v at s.serial.commands;
     plain = subst ArePlain (sym (ap (λ (x : Serial). x.commands.answers) m.after))
         (subst ArePlain (sym (laws.mirrored_answers m.v at s.serial.commands)) plain);
   }
 
-  learnt_report : (is_transferring : Bool) (station : ℕ) (report : ArrayVec ℕ) (t : State) (fits : Bool)
+  learnt_report : (is_transferring : Bool) (station : ℕ) (report : ArrayVec ℕ) (t : State)
+      (fits : Bool)
       → is_command_report p.sizes report.items ≡ false → Keeps s report.items t × (fits ≡ true)
       → IsLearnt is_transferring (outcome.Report station report) t fits
   learnt_report is_transferring station report t fits of e =
@@ -195,36 +212,48 @@ module _ (p : Setup) (at : ℕ) (s : State) (h : History) (is_due : Bool) (laws 
         plain = subst ArePlain (sym (ap (λ (x : Serial). x.commands.answers) same)) plain;
       }
 
-  learnt_of : (is_transferring : Bool) (station : ℕ) (report : ArrayVec ℕ) (t : State) (fits b : Bool)
-      → is_transferring_of s.centre.session ≡ is_transferring → is_command_report p.sizes report.items ≡ b
-      → steps.LearnsReport b s report.items fits t → IsLearnt is_transferring (outcome.Report station report) t fits
+  learnt_of : (is_transferring : Bool) (station : ℕ) (report : ArrayVec ℕ) (t : State)
+      (fits b : Bool)
+      → is_transferring_of s.centre.session ≡ is_transferring
+      → is_command_report p.sizes report.items ≡ b
+      → steps.LearnsReport b s report.items fits t
+      → IsLearnt is_transferring (outcome.Report station report) t fits
   learnt_of is_transferring station report t fits true runs of e =
       learnt_mirror is_transferring station report t fits of
       (subst (λ r. Mirrors p.sizes at r s.serial report.items fits t.serial) runs
-      (subst (λ m. Mirrors p.sizes m (is_transferring_of s.centre.session) s.serial report.items fits t.serial) clock
-      (subst (λ z. Mirrors z s.moment (is_transferring_of s.centre.session) s.serial report.items fits t.serial) sizes
+      (subst (λ m. Mirrors p.sizes m (is_transferring_of s.centre.session) s.serial report.items
+      fits t.serial) clock
+      (subst (λ z. Mirrors z s.moment (is_transferring_of s.centre.session) s.serial report.items
+      fits t.serial) sizes
       e.0)))
   learnt_of is_transferring station report t fits false runs of e =
       learnt_report is_transferring station report t fits of e
 
   pub learnt : (is_transferring : Bool) (o : Outcome) (t : State) (fits : Bool)
-      → is_transferring_of s.centre.session ≡ is_transferring → Learns s o fits t → IsLearnt is_transferring o t fits
+      → is_transferring_of s.centre.session ≡ is_transferring → Learns s o fits t
+      → IsLearnt is_transferring o t fits
   learnt is_transferring (outcome.Report station report) t fits runs e =
-      learnt_of is_transferring station report t fits (is_command_report p.sizes report.items) runs refl
-      (subst (λ z. steps.LearnsReport (is_command_report z report.items) s report.items fits t) sizes e)
+      learnt_of is_transferring station report t fits (is_command_report p.sizes report.items) runs
+      refl
+      (subst (λ z. steps.LearnsReport (is_command_report z report.items) s report.items fits t)
+      sizes e)
   learnt is_transferring (outcome.Accepted i) t fits runs e =
-      learnt_all is_transferring (outcome.Accepted i) t fits (accepted_works i w) refl e.0 e.1 refl refl refl refl
+      learnt_all is_transferring (outcome.Accepted i) t fits (accepted_works i w) refl e.0 e.1 refl
+      refl refl refl
       (λ k. ap (gap_for k) no_gap)
   learnt is_transferring (outcome.Busy i) t fits runs e = learnt_busy is_transferring i t fits e
-  learnt is_transferring (outcome.Down i) t fits runs e = learnt_all is_transferring (outcome.Down i) t fits
+  learnt is_transferring (outcome.Down i) t fits runs e =
+      learnt_all is_transferring (outcome.Down i) t fits
       (given_up_works i w) refl e.0 e.1 refl refl refl refl (λ k. ap (gap_for k) no_gap)
   learnt is_transferring outcome.None t fits runs e =
-      learnt_all is_transferring outcome.None t fits w refl e.0 e.1 refl refl refl refl (λ k. ap (gap_for k) no_gap)
+      learnt_all is_transferring outcome.None t fits w refl e.0 e.1 refl refl refl refl
+      (λ k. ap (gap_for k) no_gap)
   learnt is_transferring (outcome.Started i) t fits runs e =
       learnt_all is_transferring (outcome.Started i) t fits w refl e.0 e.1 refl refl refl refl
       (λ k. ap (gap_for k) no_gap)
   learnt is_transferring (outcome.StartedGap i k) t fits runs e =
       learnt_all is_transferring (outcome.StartedGap i k) t fits
-      (record w { serial = serial.with_gap i k w.serial }) refl e.0 e.1 refl refl refl refl (λ j. refl)
+      (record w { serial = serial.with_gap i k w.serial }) refl e.0 e.1 refl refl refl refl
+      (λ j. refl)
   learnt is_transferring (outcome.Empty i) t fits runs e = learnt_all is_transferring
       (outcome.Empty i) t fits w refl e.0 e.1 refl refl refl refl (λ k. ap (gap_for k) no_gap)

@@ -23,6 +23,7 @@ pub mod Onward
 pub mod Gathering
 pub mod Judgements
 pub mod Events
+pub mod Following
 pub mod Sound
 pub mod Tagged
 pub mod Taken
@@ -44,4 +45,5 @@ pub mod Carrying
 pub mod Reseating
 pub mod Given
 pub mod Going
+pub mod Unchanged
 pub mod LineTurns

@@ -1,5 +1,6 @@
 -- Turns on logs.
-use Rattle.std.proofs.Common.{ℕ, suc, ◌<◌, ◌≤◌, ◌*◌, ◌-◌, List, [], ◌∷◌, ◌++◌, All, length, sym, subst, arith}
+use Rattle.std.proofs.Common.{ℕ, suc, ◌<◌, ◌≤◌, ◌*◌, ◌-◌, List, [], ◌∷◌, ◌++◌, All, length, sym}
+use Rattle.std.proofs.Common.{subst, arith}
 use Rattle.std.proofs.lemmas.List.{length-map}
 use Rattle.ft12.specs.Fronts.{front_of}
 use Rattle.link.specs.Exchanges.{Exchanges, no_exchanges, all_of, views}
@@ -24,7 +25,8 @@ use Rattle.gateway.proofs.Starting.{first_fits}
 -- what `link` says of turns
 abbrev pub TurnsEnd : Type 0
 TurnsEnd = (settings : LinkSettings) (addresses : List ℕ) (calls : List Call) → 0 < length addresses
-    → All (FitsAddress settings.size) addresses → 0 < settings.burst → MayCallAll (start settings addresses) calls
+    → All (FitsAddress settings.size) addresses → 0 < settings.burst
+    → MayCallAll (start settings addresses) calls
     → AreInVisits settings addresses (views (front_of settings.size)
     (all_of (exchanged_all (start settings addresses) calls no_exchanges)))
 
@@ -60,7 +62,9 @@ turns ends starves first c s log rules burst a =
     first_fits c.line.link c.line.sizes.ca c.stations rules.each in
     let more : 0 < p.link.burst = omega (arith, burst) in
     record {
-      visits = subst (λ (e : Exchanges). AreInVisits p.link p.addresses (views (front_of p.link.size) (all_of e)))
+      visits =
+          subst (λ (e : Exchanges). AreInVisits p.link p.addresses
+          (views (front_of p.link.size) (all_of e)))
           called.exchanges (ends p.link p.addresses called.calls some fit more called.may);
       calls = called.calls;
       exchanges = called.exchanges;

@@ -1,8 +1,10 @@
 -- The moment of a step is the greatest that was told.
-use Rattle.std.proofs.Common.{◌≡◌, ℕ, ◌≤◌, ◌<◌, nat_le, true, false, [], ◌∷◌, max, min, refl, sym, subst, inl, inr, le_trans, le_refl, le_of_lt, zero-le}
+use Rattle.std.proofs.Common.{◌≡◌, ℕ, ◌≤◌, ◌<◌, nat_le, true, false, [], ◌∷◌, max, min, refl, sym}
+use Rattle.std.proofs.Common.{subst, inl, inr, le_trans, le_refl, le_of_lt, zero-le}
 use Rattle.std.specs.Prelude.{◌⊎◌}
 use Rattle.std.specs.List.{AllByRecursion}
-use Rattle.std.proofs.Math.Nat.{le-max_left, le-max_right, max-le, min-le_right, max-eq_left, max-eq_right}
+use Rattle.std.proofs.Math.Nat.{le-max_left, le-max_right, max-le, min-le_right, max-eq_left}
+use Rattle.std.proofs.Math.Nat.{max-eq_right}
 use Rattle.std.proofs.lemmas.Bool.Decides.{leb_tells}
 use Rattle.gateway.specs.Log.{Log, Input, Output, Came, Went, latest, last_moment}
 use Rattle.gateway.specs.Reports.{Setup}
@@ -21,8 +23,10 @@ came_told : (now : ℕ) (event : Input) (log : Log) → IsOneOf (latest log) log
     IsOneOf (max (latest log) (min now last_moment)) (Came now event ∷ log)
 came_told now event log old = by_order (leb_tells (latest log) (min now last_moment))
   where
-    by_order : ((nat_le (latest log) (min now last_moment) ≡ true) × (latest log ≤ min now last_moment))
-        ⊎ ((nat_le (latest log) (min now last_moment) ≡ false) × (min now last_moment < latest log)) →
+    by_order : ((nat_le (latest log) (min now last_moment) ≡ true)
+        × (latest log ≤ min now last_moment))
+        ⊎ ((nat_le (latest log) (min now last_moment) ≡ false) × (min now last_moment < latest log))
+        →
         IsOneOf (max (latest log) (min now last_moment)) (Came now event ∷ log)
     by_order (inl h) = inl (max-eq_right h.1)
     by_order (inr h) = inr (subst (λ m. IsOneOf m log) (sym (max-eq_left (le_of_lt h.1))) old)
@@ -50,11 +54,15 @@ went now action log e old = record {
 
 pub latest_is_greatest : (p : Setup) (log : Log) → ActsRightly p log → IsGreatest log (latest log)
 latest_is_greatest p [] acts = record { counts = zero-le; none_later = tt; told = refl }
-latest_is_greatest p (Came now event ∷ log) acts = came now event log (latest_is_greatest p log acts)
-latest_is_greatest p (Went now action ∷ log) acts = went now action log acts.0.moment (latest_is_greatest p log acts.1)
+latest_is_greatest p (Came now event ∷ log) acts =
+    came now event log (latest_is_greatest p log acts)
+latest_is_greatest p (Went now action ∷ log) acts =
+    went now action log acts.0.moment (latest_is_greatest p log acts.1)
 
 pub bear_greatest : (p : Setup) (log : Log) → ActsRightly p log → BearGreatest log
 bear_greatest p [] acts = acts
 bear_greatest p (Came now event ∷ log) acts = bear_greatest p log acts
-bear_greatest p (Went now action ∷ log) acts =
-    (subst (λ m. IsGreatest log m) (sym acts.0.moment) (latest_is_greatest p log acts.1), bear_greatest p log acts.1)
+bear_greatest p (Went now action ∷ log) acts = (
+  subst (λ m. IsGreatest log m) (sym acts.0.moment) (latest_is_greatest p log acts.1),
+  bear_greatest p log acts.1,
+)

@@ -1,5 +1,7 @@
 -- What is offered to a station is the oldest command that waits for it.
-use Rattle.std.proofs.Common.{◌≡◌, ℕ, zero, suc, ◌<◌, ◌≤◌, ◌&&◌, ◌==◌, Bool, true, false, not, All, List, [], length, Option, Some, None, refl, ap, sym, ◌∙◌, subst, arith}
+use Rattle.std.proofs.Common.{◌≡◌, ℕ, zero, suc, ◌<◌, ◌≤◌, ◌&&◌, ◌==◌, Bool, true, false, not, All}
+use Rattle.std.proofs.Common.{List, [], length, Option, Some, None, refl, ap, sym, ◌∙◌, subst}
+use Rattle.std.proofs.Common.{arith}
 use Rattle.std.specs.Prelude.{if◌then◌else◌, option_map, slice_index}
 use Rattle.std.proofs.lemmas.List.Elements.{All-get_or}
 use Rattle.asdu.specs.Sizes.{tcp}
@@ -16,7 +18,8 @@ use Rattle.command.specs.declared.waiting.Waiting.{Waiting}
 use Rattle.command.specs.State as tasks
 use Rattle.command.specs.State.{octets_waiting, oldest}
 use Rattle.command.specs.Judging.{judged}
-use Rattle.gateway.specs.Serial.{listed, heard_commands, offered_by, offered_upto, is_first_command, put_on_line}
+use Rattle.gateway.specs.Serial.{listed, heard_commands, offered_by, offered_upto, is_first_command}
+use Rattle.gateway.specs.Serial.{put_on_line}
 use Rattle.link.specs.LineLaws.{LineLaws}
 use Rattle.command.specs.CommandLaws.{CommandLaws}
 use Rattle.gateway.specs.Objects.{has_objects}
@@ -24,12 +27,14 @@ use Rattle.gateway.specs.Agrees.{OffersWait, ArePlain}
 use Rattle.gateway.proofs.Working.{kept_waiting, kept_plain}
 
 pub offers_keep : (q r : Primary) (s t : tasks.State) → ((k : ℕ) → offered_at r k ≡ offered_at q k)
-    → ((k : ℕ) (x : List ℕ) → octets_waiting k s ≡ Some x → octets_waiting k t ≡ Some x) → OffersWait q s
+    → ((k : ℕ) (x : List ℕ) → octets_waiting k s ≡ Some x → octets_waiting k t ≡ Some x)
+    → OffersWait q s
     → OffersWait r t
 offers_keep q r s t same waits h = λ k x e. waits k x (h k x (sym (same k) ∙ e))
 
 -- where nothing of what waits changes
-pub same_waits : (s t : tasks.State) → t.waiting ≡ s.waiting → (k : ℕ) (x : List ℕ) → octets_waiting k s ≡ Some x
+pub same_waits : (s t : tasks.State) → t.waiting ≡ s.waiting → (k : ℕ) (x : List ℕ)
+    → octets_waiting k s ≡ Some x
     → octets_waiting k t ≡ Some x
 same_waits s t same k x h = ap (λ ws. option_map (λ (w : Waiting). w.octets) (oldest k ws)) same ∙ h
 
@@ -38,7 +43,8 @@ pub offers_stay : (q r : Primary) (s t : tasks.State) → ((k : ℕ) → offered
 offers_stay q r s t same waiting h = offers_keep q r s t same (same_waits s t waiting) h
 
 -- a frame is heard
-heard_waits : (laws : CommandLaws) (f : Apdu) (now : ℕ) (wall : Option ℕ) (s : tasks.State) (k : ℕ) (x : List ℕ)
+heard_waits : (laws : CommandLaws) (f : Apdu) (now : ℕ) (wall : Option ℕ) (s : tasks.State) (k : ℕ)
+    (x : List ℕ)
     → octets_waiting k s ≡ Some x → octets_waiting k (heard_commands f now wall s) ≡ Some x
 heard_waits laws (I ns nr asdu) now wall s k x h =
     same_waits (judged asdu.items now wall s).1 (heard_commands (I ns nr asdu) now wall s)
@@ -47,7 +53,8 @@ heard_waits laws (I ns nr asdu) now wall s k x h =
 heard_waits laws (S nr) now wall s k x h = h
 heard_waits laws (U u) now wall s k x h = h
 
-pub offers_heard : (laws : CommandLaws) (q r : Primary) (s t : tasks.State) (f : Apdu) (now : ℕ) (wall : Option ℕ)
+pub offers_heard : (laws : CommandLaws) (q r : Primary) (s t : tasks.State) (f : Apdu) (now : ℕ)
+    (wall : Option ℕ)
     → r ≡ q → t ≡ heard_commands f now wall s → OffersWait q s → OffersWait r t
 offers_heard laws q r s t f now wall same is h =
     subst (λ c. OffersWait r c) (sym is) (offers_keep q r s (heard_commands f now wall s)
@@ -69,7 +76,8 @@ count_upto laws (suc k) ws q = by_oldest (count_upto laws k ws q) (oldest k ws)
     by_oldest h None = h
     by_oldest h (Some w) = laws.count (offered_upto k ws q) k w.octets ∙ h
 
-one_offer : (laws : LineLaws) (q : Primary) (s : tasks.State) (i : ℕ) (o : Option Waiting) → i < length q.stations
+one_offer : (laws : LineLaws) (q : Primary) (s : tasks.State) (i : ℕ) (o : Option Waiting)
+    → i < length q.stations
     → oldest i s.waiting ≡ o → OffersWait q s → OffersWait (offered_by o i q) s
 one_offer laws q s i None within is h = h
 one_offer laws q s i (Some w) within is h = λ k x e. by_test k x ((k == i) && may_offer q i) refl
@@ -79,19 +87,25 @@ one_offer laws q s i (Some w) within is h = λ k x e. by_test k x ((k == i) && m
     same_place k e = grind (arith, nat_tests)
 
     by_test : (k : ℕ) (x : List ℕ) (b : Bool) → ((k == i) && may_offer q i) ≡ b
-        → (if (k == i) && may_offer q i then Some w.octets else offered_at q k) ≡ Some x → octets_waiting k s ≡ Some x
+        → (if (k == i) && may_offer q i then Some w.octets else offered_at q k) ≡ Some x
+        → octets_waiting k s ≡ Some x
     by_test k x true t e =
-        let given : Some w.octets ≡ Some x = sym (ap (λ b. if b then Some w.octets else offered_at q k) t) ∙ e in
+        let given : Some w.octets ≡ Some x =
+        sym (ap (λ b. if b then Some w.octets else offered_at q k) t) ∙ e in
         let place : k ≡ i = same_place k (and_parts (k == i) (may_offer q i) t).0 in
-        subst (λ j. octets_waiting j s ≡ Some x) (sym place) (ap (option_map (λ (z : Waiting). z.octets)) is ∙ given)
-    by_test k x false t e = h k x (sym (ap (λ b. if b then Some w.octets else offered_at q k) t) ∙ e)
+        subst (λ j. octets_waiting j s ≡ Some x) (sym place)
+        (ap (option_map (λ (z : Waiting). z.octets)) is ∙ given)
+    by_test k x false t e = h k x (sym (ap (λ b. if b then Some w.octets else offered_at q k) t)
+        ∙ e)
 
-upto : (laws : LineLaws) (n : ℕ) (q : Primary) (s : tasks.State) → n ≤ length q.stations → OffersWait q s
+upto : (laws : LineLaws) (n : ℕ) (q : Primary) (s : tasks.State) → n ≤ length q.stations
+    → OffersWait q s
     → OffersWait (offered_upto n s.waiting q) s
 upto laws zero q s within h = h
 upto laws (suc k) q s within h =
     one_offer laws (offered_upto k s.waiting q) s k (oldest k s.waiting)
-    (omega (arith, within, count_upto laws k s.waiting q)) refl (upto laws k q s (omega (arith, within)) h)
+    (omega (arith, within, count_upto laws k s.waiting q)) refl
+    (upto laws k q s (omega (arith, within)) h)
 
 pub offers_made : (laws : LineLaws) (q : Primary) (s : tasks.State) → OffersWait q s
     → OffersWait (offered_upto (length q.stations) s.waiting q) s
@@ -99,11 +113,14 @@ offers_made laws q s h = upto laws (length q.stations) q s (omega arith) h
 
 -- A request goes out
 
-pub offers_unasked : (laws : LineLaws) (q : Primary) (s : tasks.State) (now : ℕ) (may : Bool) → sending q may ≡ None
+pub offers_unasked : (laws : LineLaws) (q : Primary) (s : tasks.State) (now : ℕ) (may : Bool)
+    → sending q may ≡ None
     → OffersWait q s → OffersWait (asked q now may) s
-offers_unasked laws q s now may none h = λ k x e. h k x (sym (laws.unasked_offers q now may k none) ∙ e)
+offers_unasked laws q s now may none h = λ k x e. h k x (sym (laws.unasked_offers q now may k none)
+    ∙ e)
 
-pub offers_asked : (laws : LineLaws) (commands : CommandLaws) (q : Primary) (s : tasks.State) (now : ℕ) (may : Bool)
+pub offers_asked : (laws : LineLaws) (commands : CommandLaws) (q : Primary) (s : tasks.State)
+    (now : ℕ) (may : Bool)
     (r : Sending) → sending q may ≡ Some r → r.station < length q.stations → OffersWait q s
     → OffersWait (asked q now may) (put_on_line (is_first_command q r) r.station s)
 offers_asked laws commands q s now may r is within h =
@@ -115,7 +132,8 @@ offers_asked laws commands q s now may r is within h =
         → octets_waiting k (put_on_line b r.station s) ≡ Some x
     other_waits k x true first t w =
         let command : is_command r.request ≡ true = (and_parts (is_command r.request) _ first).0 in
-        let apart : (k == r.station) ≡ false = last (k == r.station) (is_command r.request) command t in
+        let apart : (k == r.station) ≡ false = last (k == r.station) (is_command r.request) command
+        t in
         commands.sent_waits r.station k s apart ∙ w
       where
         last : (a b : Bool) → b ≡ true → (a && b) ≡ false → a ≡ false
@@ -127,7 +145,8 @@ offers_asked laws commands q s now may r is within h =
     by_test : (k : ℕ) (x : List ℕ) (b : Bool) → ((k == r.station) && is_command r.request) ≡ b
         → (if (k == r.station) && is_command r.request then None else offered_at q k) ≡ Some x
         → octets_waiting k (put_on_line (is_first_command q r) r.station s) ≡ Some x
-    by_test k x true t e = let no : None ≡ Some x = sym (ap (λ b. if b then None else offered_at q k) t) ∙ e in cc
+    by_test k x true t e = let no : None ≡ Some x =
+        sym (ap (λ b. if b then None else offered_at q k) t) ∙ e in cc
     by_test k x false t e = other_waits k x (is_first_command q r) refl t
         (h k x (sym (ap (λ b. if b then None else offered_at q k) t) ∙ e))
 
@@ -136,14 +155,16 @@ offers_asked laws commands q s now may r is within h =
 octet_at : (asdu : List ℕ) → 9 ≤ length asdu → All IsOctet asdu → slice_index asdu 2 < 256
 octet_at asdu long octets = All-get_or IsOctet asdu 2 0 (omega (arith, long)) octets
 
-listed_plain : (o : Option (List ℕ)) → ((a : List ℕ) → o ≡ Some a → has_objects a ≡ false) → ArePlain (listed o)
+listed_plain : (o : Option (List ℕ)) → ((a : List ℕ) → o ≡ Some a → has_objects a ≡ false)
+    → ArePlain (listed o)
 listed_plain None h = tt
 listed_plain (Some a) h = (h a refl, tt)
 
 pub no_monitor : (a : List ℕ) → monitor_objects_of tcp a ≡ [] → has_objects a ≡ false
 no_monitor a e = ap (λ (os : List InformationObject). not (length os == 0)) e
 
-pub heard_plain : (laws : CommandLaws) (f : Apdu) (now : ℕ) (wall : Option ℕ) (s : tasks.State) → Fits f
+pub heard_plain : (laws : CommandLaws) (f : Apdu) (now : ℕ) (wall : Option ℕ) (s : tasks.State)
+    → Fits f
     → ArePlain s.answers → ArePlain (heard_commands f now wall s).answers
 heard_plain laws (I ns nr asdu) now wall s fits h =
     kept_plain (listed (judged asdu.items now wall s).0) (judged asdu.items now wall s).1

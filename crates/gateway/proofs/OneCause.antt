@@ -1,30 +1,38 @@
 -- Of a log one cause stands.
-use Rattle.std.proofs.Common.{◌≡◌, ℕ, ◌%◌, ◌==◌, Bool, true, false, not, cond, nat_lt, nat_le, List, [], ◌∷◌, ◌++◌, length, refl, ap, sym, ◌∙◌, subst, arith, length-append, inl, inr, Option, Some, None}
+use Rattle.std.proofs.Common.{◌≡◌, ℕ, ◌%◌, ◌==◌, Bool, true, false, not, cond, nat_lt, nat_le, List}
+use Rattle.std.proofs.Common.{[], ◌∷◌, ◌++◌, length, refl, ap, sym, ◌∙◌, subst, arith}
+use Rattle.std.proofs.Common.{length-append, inl, inr, Option, Some, None}
 use Rattle.std.specs.Prelude.{◌⊎◌}
 use Rattle.std.proofs.lemmas.Bool.{cases_lt, lt-ltb, le-ltb, lt-leb, le-leb}
 use Rattle.apci.specs.declared.apdu.Apdu.{Apdu}
 use Rattle.apci.specs.declared.apdu.Apdu.TheVariants.{I, S, U}
-use Rattle.apci.specs.declared.apdu.Uf.TheVariants.{StartAct, StartCon, StopAct, StopCon, TestAct, TestCon}
+use Rattle.apci.specs.declared.apdu.Uf.TheVariants.{StartAct, StartCon, StopAct, StopCon, TestAct}
+use Rattle.apci.specs.declared.apdu.Uf.TheVariants.{TestCon}
 use Rattle.apci.specs.Spelling.{spelling}
 use Rattle.session.specs.declared.kinds.Close.{Close}
-use Rattle.session.specs.declared.kinds.Close.TheVariants.{Grammar, SendNumber, ReceiveNumber, Stopped, Timeout, OwnAnswers, Replaced}
+use Rattle.session.specs.declared.kinds.Close.TheVariants.{Grammar, SendNumber, ReceiveNumber}
+use Rattle.session.specs.declared.kinds.Close.TheVariants.{Stopped, Timeout, OwnAnswers, Replaced}
 use Rattle.session.specs.declared.kinds.Taken.{Taken}
 use Rattle.session.specs.declared.kinds.Taken.TheVariants.{Nothing, Asdu, Close as Closes}
 use Rattle.session.specs.Session.{is_close}
 use Rattle.session.specs.History as talk
-use Rattle.session.specs.History.{History, reached, sent_frames, received_count, is_started, is_valid_receive_number, verdict_on}
-use Rattle.gateway.specs.Log.{Log, Input, LineIn, Opened, TcpIn, CutOff, Ticked, WallIs, Came, Went, LineOut, TcpOut, Closed, GapOut, latest}
+use Rattle.session.specs.History.{History, reached, sent_frames, received_count, is_started}
+use Rattle.session.specs.History.{is_valid_receive_number, verdict_on}
+use Rattle.gateway.specs.Log.{Log, Input, LineIn, Opened, TcpIn, CutOff, Ticked, WallIs, Came, Went}
+use Rattle.gateway.specs.Log.{LineOut, TcpOut, Closed, GapOut, latest}
 use Rattle.gateway.specs.Frames.{transfers, i_frames, acknowledged_count, fault_of}
 use Rattle.gateway.specs.Streams.{spelled, IsRefused}
 use Rattle.gateway.specs.Connections.{present, ends, IsConnection, BeginsWithFault}
 use Rattle.gateway.specs.Reports.{Setup}
 use Rattle.gateway.specs.Works.{has_lacked_place}
-use Rattle.gateway.specs.Course.{Course, here_of, came_frames, with_frames, kind_of, with_sent, closed_course, MayTake, StandsNext, IsLate, IsCause, Comes, Runs}
+use Rattle.gateway.specs.Course.{Course, here_of, came_frames, with_frames, kind_of, with_sent}
+use Rattle.gateway.specs.Course.{closed_course, MayTake, StandsNext, IsLate, IsCause, Comes, Runs}
 use Rattle.gateway.specs.One.{AreOne}
 use Rattle.gateway.specs.Traffic.{HasCause}
 use Rattle.gateway.proofs.Tied.{fault_in, three_faults, one_fault}
 use Rattle.gateway.proofs.Unique.{AreUnique, whole_front, never_refused, one_reading}
-use Rattle.gateway.proofs.OneCourse.{Laws, may_front, none_whole, replaced_none, present_plain, stays, one_course}
+use Rattle.gateway.proofs.OneCourse.{Laws, may_front, none_whole, replaced_none, present_plain}
+use Rattle.gateway.proofs.OneCourse.{stays, one_course}
 
 -- The frames that came say what the history says.
 
@@ -92,10 +100,12 @@ counted_closed p Timeout is_open at c h = refl
 counted_closed p OwnAnswers is_open at c h = refl
 counted_closed p Replaced is_open at c h = h
 
-counted_come : (p : Setup) (log : Log) (at : ℕ) (event : Input) (l c : Course) → Comes p log at event l c → IsCounted l
+counted_come : (p : Setup) (log : Log) (at : ℕ) (event : Input) (l c : Course)
+    → Comes p log at event l c → IsCounted l
     → IsCounted c
 counted_come p log at (LineIn octets) l c k h = subst IsCounted (sym k.2) h
-counted_come p log at (TcpIn octets) l c k h = subst IsCounted (sym k.taken) (counted_frames p k.frames at _ _ h)
+counted_come p log at (TcpIn octets) l c k h =
+    subst IsCounted (sym k.taken) (counted_frames p k.frames at _ _ h)
 counted_come p log at Ticked l c k h = subst IsCounted (sym k) h
 counted_come p log at (WallIs number) l c k h = subst IsCounted (sym k) h
 counted_come p log at Opened l c k h = subst IsCounted (sym k) refl
@@ -105,11 +115,14 @@ counted : (p : Setup) (log : Log) (c : Course) → Runs p log c → IsCounted c
 counted p [] c r = subst IsCounted (sym r) refl
 counted p (Came now event ∷ log) c r = counted_come p log _ event r.1 c r.5
     (subst IsCounted (sym r.4.is) (counted p log r.0 r.2))
-counted p (Went now (LineOut octets) ∷ log) c r = subst IsCounted (sym r.2.is) (counted p log r.0 r.1)
-counted p (Went now (GapOut station session) ∷ log) c r = subst IsCounted (sym r.2.is) (counted p log r.0 r.1)
+counted p (Went now (LineOut octets) ∷ log) c r =
+    subst IsCounted (sym r.2.is) (counted p log r.0 r.1)
+counted p (Went now (GapOut station session) ∷ log) c r =
+    subst IsCounted (sym r.2.is) (counted p log r.0 r.1)
 counted p (Went now (TcpOut octets) ∷ log) c r =
     subst IsCounted (sym r.4.taken) (counted_frames p r.4.frames (latest log) _ r.1
-    (subst IsCounted (sym r.3.put) (counted_sent r.3.frame (latest log) r.0 (counted p log r.0 r.2))))
+    (subst IsCounted (sym r.3.put)
+    (counted_sent r.3.frame (latest log) r.0 (counted p log r.0 r.2))))
 counted p (Went now (Closed cause) ∷ log) c r = subst IsCounted (sym r.2)
     (counted_closed p cause (present log).is_open (latest log) r.0 (counted p log r.0 r.1))
 
@@ -122,7 +135,8 @@ more_than a b = elim (cases_lt b a) [
 ]
 
 valid_as : (n nr : ℕ) (h : History) → n ≡ length (sent_frames h)
-    → nat_lt n (reached (acknowledged_count (came_frames h)) nr) ≡ not (is_valid_receive_number nr h)
+    → nat_lt n (reached (acknowledged_count (came_frames h)) nr)
+    ≡ not (is_valid_receive_number nr h)
 valid_as n nr h e =
     ap (λ m. nat_lt m (reached (acknowledged_count (came_frames h)) nr)) e
     ∙ ap (λ a. nat_lt (length (sent_frames h)) (reached a nr)) (came_acknowledged h)
@@ -131,14 +145,17 @@ valid_as n nr h e =
 same_fault : (n : ℕ) (f : Apdu) (h : History) → n ≡ length (sent_frames h)
     → fault_of n (came_frames h) f ≡ fault_in (verdict_on f h)
 same_fault n (I ns nr asdu) h e = sym (
-    three_faults (not (is_started h)) (not (ns == received_count h % 32768)) (not (is_valid_receive_number nr h))
-    ∙ ap (λ r. cond (not r) (Some Stopped) (cond (not (ns == received_count h % 32768)) (Some SendNumber)
+    three_faults (not (is_started h)) (not (ns == received_count h % 32768))
+    (not (is_valid_receive_number nr h))
+    ∙ ap
+    (λ r. cond (not r) (Some Stopped) (cond (not (ns == received_count h % 32768)) (Some SendNumber)
     (cond (not (is_valid_receive_number nr h)) (Some ReceiveNumber) None))) (sym (came_transfers h))
     ∙ ap (λ m. cond (not (transfers (came_frames h))) (Some Stopped)
     (cond (not (ns == m % 32768)) (Some SendNumber)
     (cond (not (is_valid_receive_number nr h)) (Some ReceiveNumber) None))) (sym (came_count h))
     ∙ ap (λ v. cond (not (transfers (came_frames h))) (Some Stopped)
-    (cond (not (ns == i_frames (came_frames h) % 32768)) (Some SendNumber) (cond v (Some ReceiveNumber) None)))
+    (cond (not (ns == i_frames (came_frames h) % 32768)) (Some SendNumber)
+    (cond v (Some ReceiveNumber) None)))
     (sym (valid_as n nr h e)))
 same_fault n (S nr) h e = ap (λ v. cond v (Some ReceiveNumber) None) (valid_as n nr h e)
     ∙ sym (one_fault (not (is_valid_receive_number nr h)))
@@ -151,28 +168,36 @@ no_fault (Closes cause) e = cc
 
 -- Where a cause stands no frame may be taken.
 
-faulty_none : AreUnique → (p : Setup) (log : Log) (f : Apdu) (c : Course) (cause : Close) (rest : List ℕ) → IsCounted c
+faulty_none : AreUnique → (p : Setup) (log : Log) (f : Apdu) (c : Course) (cause : Close)
+    (rest : List ℕ) → IsCounted c
     → (present log).received ≡ spelled (came_frames c.talk) ++ rest
-    → BeginsWithFault (length c.sent) (came_frames c.talk) cause rest → MayTake p log (latest log) f c → ⊥
+    → BeginsWithFault (length c.sent) (came_frames c.talk) cause rest
+    → MayTake p log (latest log) f c → ⊥
 faulty_none u p log f c cause rest count joined b may =
     let same : f ≡ b.frame =
-    (u.cancel f b.frame may.rest b.more (sym (may_front p log (latest log) f c rest joined may) ∙ b.joined)).0
+    (u.cancel f b.frame may.rest b.more (sym (may_front p log (latest log) f c rest joined may)
+    ∙ b.joined)).0
     in
-    let none : fault_of (length c.sent) (came_frames c.talk) f ≡ None = same_fault (length c.sent) f c.talk count
+    let none : fault_of (length c.sent) (came_frames c.talk) f ≡ None =
+    same_fault (length c.sent) f c.talk count
     ∙ no_fault (verdict_on f c.talk) may.rules.0.1 in
-    let no : None ≡ Some cause = sym none ∙ ap (λ g. fault_of (length c.sent) (came_frames c.talk) g) same ∙ b.fault in
+    let no : None ≡ Some cause = sym none
+    ∙ ap (λ g. fault_of (length c.sent) (came_frames c.talk) g) same ∙ b.fault in
     cc
 
 garbled_none : AreUnique → (p : Setup) (log : Log) (f : Apdu) (c : Course) (rest : List ℕ)
-    → (present log).received ≡ spelled (came_frames c.talk) ++ rest → IsRefused rest → MayTake p log (latest log) f c
+    → (present log).received ≡ spelled (came_frames c.talk) ++ rest → IsRefused rest
+    → MayTake p log (latest log) f c
     → ⊥
 garbled_none u p log f c rest joined refused may =
     never_refused u rest f (length (spelling f)) (whole_front f may.rest rest may.fits
     (may_front p log (latest log) f c rest joined may)) refused
 
-cause_none : AreUnique → (p : Setup) (log : Log) (cause : Close) (c : Course) → Runs p log c → IsCause p log cause c
+cause_none : AreUnique → (p : Setup) (log : Log) (cause : Close) (c : Course) → Runs p log c
+    → IsCause p log cause c
     → (f : Apdu) → MayTake p log (latest log) f c → ⊥
-cause_none u p log Grammar c r h f may = garbled_none u p log f c h.next.rest h.next.joined h.next.behind may
+cause_none u p log Grammar c r h f may = garbled_none u p log f c h.next.rest h.next.joined
+    h.next.behind may
 cause_none u p log SendNumber c r h f may = faulty_none u p log f c SendNumber h.next.rest
     (counted p log c r) h.next.joined h.next.behind may
 cause_none u p log ReceiveNumber c r h f may = faulty_none u p log f c ReceiveNumber h.next.rest
@@ -183,7 +208,8 @@ cause_none u p log Timeout c r h f may = none_whole u p log (latest log) f c h.a
 cause_none u p log OwnAnswers c r h f may = let no : true ≡ false = sym h ∙ may.placed in cc
 cause_none u p log Replaced c r h f may = replaced_none p log (latest log) f c h may
 
-both_at : AreUnique → (p : Setup) (log : Log) (a b : Close) (c d : Course) → Runs p log c → Runs p log d
+both_at : AreUnique → (p : Setup) (log : Log) (a b : Close) (c d : Course) → Runs p log c
+    → Runs p log d
     → IsCause p log a c → IsCause p log b d → AreOne p log c d → c ≡ d
 both_at u p log a b c d r s h k (inl g) = sym (stays p log c d g (cause_none u p log a c r h))
 both_at u p log a b c d r s h k (inr g) = stays p log d c g (cause_none u p log b d s k)
@@ -195,7 +221,8 @@ abbrev Kinds : Setup → Log → Close → Course → Type 0
 Kinds p log a c = ((a ≡ OwnAnswers) × (has_lacked_place c.works.history ≡ true))
     ⊎ (((a ≡ Timeout) × IsLate p log c) ⊎ StandsNext p log a c)
 
-kinds : (p : Setup) (log : Log) (a : Close) (c : Course) → ends a ≡ true → IsCause p log a c → Kinds p log a c
+kinds : (p : Setup) (log : Log) (a : Close) (c : Course) → ends a ≡ true → IsCause p log a c
+    → Kinds p log a c
 kinds p log Grammar c e h = inr (inr h)
 kinds p log SendNumber c e h = inr (inr h)
 kinds p log ReceiveNumber c e h = inr (inr h)
@@ -208,7 +235,8 @@ placed_so : (p : Setup) (c : Course) → has_lacked_place c.works.history ≡ tr
     → has_lacked_place c.works.history ≡ false → ⊥
 placed_so p c full placed = let no : true ≡ false = sym full ∙ placed in cc
 
-late_and_next : AreUnique → (p : Setup) (log : Log) (b : Close) (c : Course) → IsLate p log c → StandsNext p log b c → ⊥
+late_and_next : AreUnique → (p : Setup) (log : Log) (b : Close) (c : Course) → IsLate p log c
+    → StandsNext p log b c → ⊥
 late_and_next u p log b c late next =
     let k = next.next in
     let none : IsConnection (present log) (here_of c) None =
@@ -224,10 +252,12 @@ late_and_next u p log b c late next =
       behind = late.all.more;
     } in
     let no : None ≡ Some b =
-    (one_reading u (present log) (here_of c) (here_of c) None (Some b) (present_plain log) none k).1 in
+    (one_reading u (present log) (here_of c) (here_of c) None (Some b) (present_plain log) none
+    k).1 in
     cc
 
-same_kind : AreUnique → (p : Setup) (log : Log) (a b : Close) (c : Course) → Kinds p log a c → Kinds p log b c → a ≡ b
+same_kind : AreUnique → (p : Setup) (log : Log) (a b : Close) (c : Course) → Kinds p log a c
+    → Kinds p log b c → a ≡ b
 same_kind u p log a b c (inl h) (inl k) = h.0 ∙ sym k.0
 same_kind u p log a b c (inl h) (inr (inl k)) = absurd (placed_so p c h.1 k.1.placed)
 same_kind u p log a b c (inl h) (inr (inr k)) = absurd (placed_so p c h.1 k.placed)
@@ -238,12 +268,14 @@ same_kind u p log a b c (inr (inr h)) (inl k) = absurd (placed_so p c k.1 h.plac
 same_kind u p log a b c (inr (inr h)) (inr (inl k)) = absurd (late_and_next u p log a c k.1 h)
 same_kind u p log a b c (inr (inr h)) (inr (inr k)) =
     let same : Some a ≡ Some b =
-    (one_reading u (present log) (here_of c) (here_of c) (Some a) (Some b) (present_plain log) h.next k.next).1
+    (one_reading u (present log) (here_of c) (here_of c) (Some a) (Some b) (present_plain log)
+    h.next k.next).1
     in
     cc
 
 -- Of a log one cause stands.
-pub one_cause : Laws → (p : Setup) (log : Log) (a b : Close) → ends a ≡ true → ends b ≡ true → HasCause p a log
+pub one_cause : Laws → (p : Setup) (log : Log) (a b : Close) → ends a ≡ true → ends b ≡ true
+    → HasCause p a log
     → HasCause p b log → a ≡ b
 one_cause laws p log a b first second h k =
     let x = (h first).1 in

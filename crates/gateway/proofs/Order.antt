@@ -1,7 +1,10 @@
--- The order of actions within a step. After a request none is due in the step. After a close for the causes 1
--- to 6 no connection is open. After the close of a connection that was replaced the new one has only just
+-- The order of actions within a step. After a request none is due in the step. After a close for
+-- the causes 1
+-- to 6 no connection is open. After the close of a connection that was replaced the new one has
+-- only just
 -- been opened, so that nothing is due on it.
-use Rattle.std.proofs.Common.{◌≡◌, ℕ, ◌<◌, ◌-◌, ◌||◌, nat_le, Bool, true, false, List, [], ◌∷◌, ◌++◌, Option, Some, None, refl, sym, ap, subst, ◌∙◌, arith, inl, inr}
+use Rattle.std.proofs.Common.{◌≡◌, ℕ, ◌<◌, ◌-◌, ◌||◌, nat_le, Bool, true, false, List, [], ◌∷◌}
+use Rattle.std.proofs.Common.{◌++◌, Option, Some, None, refl, sym, ap, subst, ◌∙◌, arith, inl, inr}
 use Rattle.std.specs.Prelude.{◌⊎◌, if◌then◌else◌}
 use Rattle.std.specs.List.{list_any}
 use Rattle.std.proofs.lemmas.Bool.{lt-leb}
@@ -10,20 +13,25 @@ use Rattle.apci.specs.declared.apdu.Apdu.TheVariants.{I, S, U}
 use Rattle.apci.specs.declared.apdu.Uf.TheVariants.{TestAct}
 use Rattle.apci.specs.Spelling.{spelling}
 use Rattle.session.specs.History as talk
-use Rattle.session.specs.History.{History, confirmation_of, frame_due, has_timed_out, acknowledgement_of}
+use Rattle.session.specs.History.{History, confirmation_of, frame_due, has_timed_out}
+use Rattle.session.specs.History.{acknowledgement_of}
 use Rattle.session.specs.Rules.{KeepsRules}
 use Rattle.session.specs.Runs as session
 use Rattle.session.specs.declared.kinds.Close.{Close}
-use Rattle.session.specs.declared.kinds.Close.TheVariants.{Grammar, SendNumber, ReceiveNumber, Stopped, Timeout, OwnAnswers, Replaced}
+use Rattle.session.specs.declared.kinds.Close.TheVariants.{Grammar, SendNumber, ReceiveNumber}
+use Rattle.session.specs.declared.kinds.Close.TheVariants.{Stopped, Timeout, OwnAnswers, Replaced}
 use Rattle.gateway.specs.Objects.{has_objects}
-use Rattle.gateway.specs.Log.{Log, LineIn, Opened, TcpIn, CutOff, Ticked, WallIs, Output, LineOut, TcpOut, Closed, GapOut, Came, Went, latest}
+use Rattle.gateway.specs.Log.{Log, LineIn, Opened, TcpIn, CutOff, Ticked, WallIs, Output, LineOut}
+use Rattle.gateway.specs.Log.{TcpOut, Closed, GapOut, Came, Went, latest}
 use Rattle.gateway.specs.Streams.{spelled, IsRefused}
 use Rattle.gateway.specs.Frames.{Connection}
-use Rattle.gateway.specs.Connections.{is_replaced, Channel, new_channel, present, BeginsWithFault, IsConnection}
+use Rattle.gateway.specs.Connections.{is_replaced, Channel, new_channel, present, BeginsWithFault}
+use Rattle.gateway.specs.Connections.{IsConnection}
 use Rattle.gateway.specs.Reports.{Setup}
 use Rattle.gateway.specs.Works.{Works, has_lacked_place, answered_works, sent_works, ready_works}
 use Rattle.gateway.specs.Serial.{Serial, is_first_command}
-use Rattle.gateway.specs.Course.{Course, came_frames, with_frames, told_sent, closed_course, IsCause, Runs}
+use Rattle.gateway.specs.Course.{Course, came_frames, with_frames, told_sent, closed_course}
+use Rattle.gateway.specs.Course.{IsCause, Runs}
 use Rattle.gateway.specs.Conversation.{KeepsRulesSoFar, KeepsRulesThroughout}
 use Rattle.gateway.specs.Traffic.{HasCause, replaces, GoesOut, ActsRightly}
 use Rattle.gateway.specs.Order.{step_actions, is_request, is_close, is_late, MayFollow, KeepsOrder}
@@ -56,18 +64,22 @@ closed_due p OwnAnswers is_open at c = refl
 closed_due p Replaced is_open at c = refl
 
 -- once a request is out, the step has none that is due
-none_due : (p : Setup) (log : Log) (c : Course) → Runs p log c → list_any is_request (step_actions log) ≡ true
+none_due : (p : Setup) (log : Log) (c : Course) → Runs p log c
+    → list_any is_request (step_actions log) ≡ true
     → c.works.is_due ≡ false
 none_due p [] c r h = cc
 none_due p (Came now event ∷ log) c r h = cc
 none_due p (Went now (LineOut octets) ∷ log) c r h = ap (λ (d : Course). d.works.is_due) r.2.is
-none_due p (Went now (GapOut station session) ∷ log) c r h = ap (λ (d : Course). d.works.is_due) r.2.is
+none_due p (Went now (GapOut station session) ∷ log) c r h =
+    ap (λ (d : Course). d.works.is_due) r.2.is
     ∙ none_due p log r.0 r.1 h
 none_due p (Went now (TcpOut octets) ∷ log) c r h =
     ap (λ (d : Course). d.works.is_due) r.4.taken ∙ frames_due p r.4.frames (latest log) _ r.1
-    ∙ ap (λ (d : Course). d.works.is_due) r.3.put ∙ sent_due r.3.frame r.0.works ∙ none_due p log r.0 r.2 h
+    ∙ ap (λ (d : Course). d.works.is_due) r.3.put ∙ sent_due r.3.frame r.0.works
+    ∙ none_due p log r.0 r.2 h
 none_due p (Went now (Closed cause) ∷ log) c r h =
-    ap (λ (d : Course). d.works.is_due) r.2 ∙ closed_due p cause (present log).is_open (latest log) r.0
+    ap (λ (d : Course). d.works.is_due) r.2
+    ∙ closed_due p cause (present log).is_open (latest log) r.0
     ∙ none_due p log r.0 r.1 h
 
 -- The gap of an event goes out before the timers
@@ -93,7 +105,8 @@ sent_others (I ns nr asdu) w = by_objects (has_objects asdu.items)
 sent_others (S nr) w = refl
 sent_others (U u) w = refl
 
-closed_gap : (p : Setup) (cause : Close) (is_open : Bool) (at : ℕ) (c : Course) → c.works.serial.gap ≡ None
+closed_gap : (p : Setup) (cause : Close) (is_open : Bool) (at : ℕ) (c : Course) → c.works.serial.gap
+    ≡ None
     → (closed_course p cause is_open at c).works.serial.gap ≡ None
 closed_gap p Grammar is_open at c h = h
 closed_gap p SendNumber is_open at c h = h
@@ -115,13 +128,15 @@ told_before p log OwnAnswers c why told h = told h
 told_before p log Replaced c why told h = told h
 
 -- once the timers have closed a connection, the step has no gap left to tell
-late_told : (p : Setup) (log : Log) (c : Course) → Runs p log c → list_any is_late (step_actions log) ≡ true
+late_told : (p : Setup) (log : Log) (c : Course) → Runs p log c
+    → list_any is_late (step_actions log) ≡ true
     → c.works.serial.gap ≡ None
 late_told p [] c r h = cc
 late_told p (Came now event ∷ log) c r h = cc
 late_told p (Went now (LineOut octets) ∷ log) c r h = ap (λ (d : Course). d.works.serial.gap) r.2.is
     ∙ settled_gap (latest log) r.0.works.serial ∙ r.2.told
-late_told p (Went now (GapOut station session) ∷ log) c r h = ap (λ (d : Course). d.works.serial.gap) r.2.is
+late_told p (Went now (GapOut station session) ∷ log) c r h =
+    ap (λ (d : Course). d.works.serial.gap) r.2.is
 late_told p (Went now (TcpOut octets) ∷ log) c r h =
     ap (λ (d : Course). d.works.serial.gap) r.4.taken
     ∙ ap (λ (s : Serial). s.gap) (frames_others p r.4.frames (latest log) _ r.1)
@@ -164,7 +179,8 @@ request_after p log now octets h = record {
   settled = refl;
   said = λ c r. ap (λ (d : Course). d.talk) r.2.is ∙ h.said r.0 r.1;
   placed = λ c r. ap (λ (d : Course). has_lacked_place d.works.history) r.2.is
-      ∙ put_placed (is_first_command (ready_works (latest log) r.0.works).serial.line r.2.request) r.2.request.station
+      ∙ put_placed (is_first_command (ready_works (latest log) r.0.works).serial.line r.2.request)
+      r.2.request.station
       (ready_works (latest log) r.0.works)
       ∙ settled_placed (latest log) r.0.works
       ∙ h.placed r.0 r.1;
@@ -200,7 +216,8 @@ none_taken : (p : Setup) (frames : List Apdu) (at : ℕ) (wall : Option ℕ) (be
     → after ≡ with_frames p frames at wall before → came_frames after.talk ≡ [] → after ≡ before
 none_taken p [] at wall b a e none = e
 none_taken p (f ∷ fs) at wall b a e none =
-    let some : f ∷ came_frames (with_frames p fs at wall b).talk ≡ [] = ap (λ (d : Course). came_frames d.talk) (sym e)
+    let some : f ∷ came_frames (with_frames p fs at wall b).talk ≡ [] =
+    ap (λ (d : Course). came_frames d.talk) (sym e)
     ∙ none in
     cc
 
@@ -215,7 +232,8 @@ idle w t2 t3 at some long =
     ∙ ap (λ b. if b then Some (U TestAct) else None) untested
 
 undue : (p : session.Settings) (at : ℕ) (f : Apdu) → 0 < p.w → 0 < p.t3
-    → (confirmation_of (talk.Opened at ∷ []) ≡ Some f) ⊎ (frame_due p.w p.t2 p.t3 at (talk.Opened at ∷ []) ≡ Some f) → ⊥
+    → (confirmation_of (talk.Opened at ∷ []) ≡ Some f)
+    ⊎ (frame_due p.w p.t2 p.t3 at (talk.Opened at ∷ []) ≡ Some f) → ⊥
 undue p at f some long (inl e) = cc
 undue p at f some long (inr e) =
     let no : ◌≡◌ {A = Option Apdu} None (Some f) = sym (idle p.w p.t2 p.t3 at some long) ∙ e in cc
@@ -227,7 +245,8 @@ unruly p at (S nr) some long r = undue p at (S nr) some long r.0
 unruly p at (U u) some long r = undue p at (U u) some long r.0
 
 -- so nothing goes to TCP
-unsaid : (p : Setup) (log : Log) (now : ℕ) (octets : List ℕ) → 0 < p.session.w → 0 < p.session.t3 → OnlyOpened p log
+unsaid : (p : Setup) (log : Log) (now : ℕ) (octets : List ℕ) → 0 < p.session.w → 0 < p.session.t3
+    → OnlyOpened p log
     → KeepsRulesSoFar p (Went now (TcpOut octets) ∷ log) → ⊥
 unsaid p log now octets some long h k =
     let r = k.runs in
@@ -235,7 +254,8 @@ unsaid p log now octets some long h k =
     (ap (λ (c : Channel). c.received) (sym h.channel) ∙ r.4.joined) in
     let is : k.course ≡ r.1 = none_taken p r.4.frames (latest log) _ r.1 k.course r.4.taken none in
     let said : k.course.talk ≡ told_sent r.3.frame (latest log) (talk.Opened (latest log) ∷ []) =
-    ap (λ (d : Course). d.talk) (is ∙ r.3.put) ∙ ap (told_sent r.3.frame (latest log)) (h.said r.0 r.2) in
+    ap (λ (d : Course). d.talk) (is ∙ r.3.put)
+    ∙ ap (told_sent r.3.frame (latest log)) (h.said r.0 r.2) in
     unruly p.session (latest log) r.3.frame some long (subst (KeepsRules p.session) said k.rules)
 
 -- and nothing closes it
@@ -256,7 +276,8 @@ nothing_behind : (p : Setup) (log : Log) (c : Connection) (fault : Option Close)
 nothing_behind p log c fault h k = no_rest (spelled c.received_frames) k.rest
     (ap (λ (d : Channel). d.received) (sym h.channel) ∙ k.joined)
 
-unclosed : (p : Setup) (log : Log) (cause : Close) → OnlyOpened p log → replaces (Closed cause) ≡ is_replaced log
+unclosed : (p : Setup) (log : Log) (cause : Close) → OnlyOpened p log → replaces (Closed cause)
+    ≡ is_replaced log
     → HasCause p cause log → ⊥
 unclosed p log Grammar h replaced why =
     let k = (why refl).1.2.next in
@@ -272,7 +293,8 @@ unclosed p log Stopped h replaced why =
     faultless _ _ Stopped k.rest (nothing_behind p log _ (Some Stopped) h k) k.behind
 unclosed p log Timeout h replaced why =
     let k = (why refl).1 in
-    let no : false ≡ true = ap (has_timed_out p.session.t1 (latest log)) (sym (h.said k.0 k.1)) ∙ k.2.late in
+    let no : false ≡ true = ap (has_timed_out p.session.t1 (latest log)) (sym (h.said k.0 k.1))
+    ∙ k.2.late in
     cc
 unclosed p log OwnAnswers h replaced why =
     let k = (why refl).1 in
@@ -288,7 +310,8 @@ unclosed p log Replaced h replaced why =
 abbrev IsUnsaid : Setup → Log → Type 0
 IsUnsaid p log = ((present log).is_open ≡ false) ⊎ OnlyOpened p log
 
-closed_now : (p : Setup) (log : Log) (now : ℕ) (cause : Close) → replaces (Closed cause) ≡ is_replaced log
+closed_now : (p : Setup) (log : Log) (now : ℕ) (cause : Close) → replaces (Closed cause)
+    ≡ is_replaced log
     → IsUnsaid p (Went now (Closed cause) ∷ log)
 closed_now p log now Grammar e = inl refl
 closed_now p log now SendNumber e = inl refl
@@ -316,8 +339,10 @@ after_close p (Went now (LineOut octets) ∷ log) acts order h =
     still_unsaid p log now octets (after_close p log acts.1 order.1 h)
 after_close p (Went now (GapOut station session) ∷ log) acts order h =
     still_after_gap p log now station session (after_close p log acts.1 order.1 h)
-after_close p (Went now (TcpOut octets) ∷ log) acts order h = let no : false ≡ true = sym order.0 ∙ h in absurd (cc)
-after_close p (Went now (Closed cause) ∷ log) acts order h = closed_now p log now cause acts.0.replaced
+after_close p (Went now (TcpOut octets) ∷ log) acts order h = let no : false ≡ true = sym order.0
+    ∙ h in absurd (cc)
+after_close p (Went now (Closed cause) ∷ log) acts order h =
+    closed_now p log now cause acts.0.replaced
 
 -- a step's close is no event
 settled_after : (log : Log) → list_any is_close (step_actions log) ≡ true → is_replaced log ≡ false
@@ -325,22 +350,28 @@ settled_after [] h = refl
 settled_after (Came now event ∷ log) h = absurd (cc)
 settled_after (Went now action ∷ log) h = refl
 
-no_octets : (p : Setup) (log : Log) (now : ℕ) (octets : List ℕ) → 0 < p.session.w → 0 < p.session.t3 → IsUnsaid p log
+no_octets : (p : Setup) (log : Log) (now : ℕ) (octets : List ℕ) → 0 < p.session.w → 0 < p.session.t3
+    → IsUnsaid p log
     → KeepsRulesSoFar p (Went now (TcpOut octets) ∷ log) → GoesOut p log now (TcpOut octets) → ⊥
 no_octets p log now octets some long (inl off) k g = let no : false ≡ true = sym off ∙ g.may.0 in cc
 no_octets p log now octets some long (inr h) k g = unsaid p log now octets some long h k
 
-shut : (p : Setup) (log : Log) (cause : Close) → (present log).is_open ≡ false → is_replaced log ≡ false
+shut : (p : Setup) (log : Log) (cause : Close) → (present log).is_open ≡ false → is_replaced log
+    ≡ false
     → replaces (Closed cause) ≡ is_replaced log → HasCause p cause log → ⊥
 shut p log Grammar off settled replaced why = let no : false ≡ true = sym off ∙ (why refl).0 in cc
-shut p log SendNumber off settled replaced why = let no : false ≡ true = sym off ∙ (why refl).0 in cc
-shut p log ReceiveNumber off settled replaced why = let no : false ≡ true = sym off ∙ (why refl).0 in cc
+shut p log SendNumber off settled replaced why = let no : false ≡ true = sym off ∙ (why refl).0 in
+    cc
+shut p log ReceiveNumber off settled replaced why = let no : false ≡ true = sym off
+    ∙ (why refl).0 in cc
 shut p log Stopped off settled replaced why = let no : false ≡ true = sym off ∙ (why refl).0 in cc
 shut p log Timeout off settled replaced why = let no : false ≡ true = sym off ∙ (why refl).0 in cc
-shut p log OwnAnswers off settled replaced why = let no : false ≡ true = sym off ∙ (why refl).0 in cc
+shut p log OwnAnswers off settled replaced why = let no : false ≡ true = sym off ∙ (why refl).0 in
+    cc
 shut p log Replaced off settled replaced why = let no : true ≡ false = replaced ∙ settled in cc
 
-no_close : (p : Setup) (log : Log) (now : ℕ) (cause : Close) → is_replaced log ≡ false → IsUnsaid p log
+no_close : (p : Setup) (log : Log) (now : ℕ) (cause : Close) → is_replaced log ≡ false
+    → IsUnsaid p log
     → GoesOut p log now (Closed cause) → ⊥
 no_close p log now cause settled (inl off) g = shut p log cause off settled g.replaced g.may
 no_close p log now cause settled (inr h) g = unclosed p log cause h g.replaced g.may
@@ -354,8 +385,10 @@ not_true : (b : Bool) → (b ≡ true → ⊥) → b ≡ false
 not_true true h = absurd (h refl)
 not_true false h = refl
 
-may_follow : (p : Setup) (log : Log) (now : ℕ) (action : Output) → 0 < p.session.w → 0 < p.session.t3
-    → KeepsRulesSoFar p (Went now action ∷ log) → GoesOut p log now action → ActsRightly p log → KeepsOrder log
+may_follow : (p : Setup) (log : Log) (now : ℕ) (action : Output) → 0 < p.session.w
+    → 0 < p.session.t3
+    → KeepsRulesSoFar p (Went now action ∷ log) → GoesOut p log now action → ActsRightly p log
+    → KeepsOrder log
     → MayFollow (step_actions log) action
 may_follow p log now (LineOut octets) some long k g acts order =
     not_true (list_any is_request (step_actions log)) (λ h.
@@ -364,19 +397,22 @@ may_follow p log now (GapOut station session) some long k g acts order = (
   not_true (list_any is_late (step_actions log)) (λ h.
       none_and_some (sym (late_told p log k.runs.0 k.runs.1 h) ∙ k.runs.2.gap)),
   not_true (list_any is_request (step_actions log)) (λ h.
-      let no : false ≡ true = sym (none_due p log k.runs.0 k.runs.1 h) ∙ k.runs.2.due in absurd (cc)),
+      let no : false ≡ true = sym (none_due p log k.runs.0 k.runs.1 h) ∙ k.runs.2.due in
+      absurd (cc)),
 )
 may_follow p log now (TcpOut octets) some long k g acts order =
     not_true (list_any is_close (step_actions log)) (λ h. no_octets p log now octets some long
     (after_close p log acts order h) k g)
 may_follow p log now (Closed cause) some long k g acts order = (
-  not_true (list_any is_close (step_actions log)) (λ h. no_close p log now cause (settled_after log h)
+  not_true (list_any is_close (step_actions log))
+      (λ h. no_close p log now cause (settled_after log h)
       (after_close p log acts order h) g),
   not_true (list_any is_request (step_actions log)) (λ h.
       let no : false ≡ true = sym (none_due p log k.runs.0 k.runs.1 h) ∙ k.runs.4 in absurd (cc)),
 )
 
-pub keeps_order : (p : Setup) → 0 < p.session.w → 0 < p.session.t3 → (log : Log) → KeepsRulesThroughout p log
+pub keeps_order : (p : Setup) → 0 < p.session.w → 0 < p.session.t3 → (log : Log)
+    → KeepsRulesThroughout p log
     → ActsRightly p log → KeepsOrder log
 keeps_order p some long [] times acts = tt
 keeps_order p some long (Came now event ∷ log) times acts = keeps_order p some long log times.1 acts

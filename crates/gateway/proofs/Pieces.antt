@@ -1,5 +1,6 @@
 -- The pieces among sent frames, and what the frames say.
-use Rattle.std.proofs.Common.{◌≡◌, ℕ, ◌==◌, ◌+◌, Bool, true, false, not, cond, List, [], ◌∷◌, ◌++◌, length, take, drop, map, refl, ap, sym, subst, ◌∙◌, arith, suc, zero}
+use Rattle.std.proofs.Common.{◌≡◌, ℕ, ◌==◌, ◌+◌, Bool, true, false, not, cond, List, [], ◌∷◌, ◌++◌}
+use Rattle.std.proofs.Common.{length, take, drop, map, refl, ap, sym, subst, ◌∙◌, arith, suc, zero}
 use Rattle.std.specs.List.{flat_map, list_all}
 use Rattle.std.proofs.lemmas.List.{nil_from_length}
 use Rattle.std.proofs.lemmas.Bool.{eqb-true}
@@ -33,18 +34,22 @@ pieces_of-append (x ∷ xs) ys =
     [ true ↦ ap (λ t. x.asdu ∷ t) (pieces_of-append xs ys) | false ↦ pieces_of-append xs ys ]
 
 -- what the pieces say is what the frames say
-objects_by : (x : Sent) (rest : List (List ℕ)) (said : List InformationObject) (b : Bool) → has_objects x.asdu ≡ b
-    → flat_map objects rest ≡ said → flat_map objects (cond b (x.asdu ∷ rest) rest) ≡ objects x.asdu ++ said
+objects_by : (x : Sent) (rest : List (List ℕ)) (said : List InformationObject) (b : Bool)
+    → has_objects x.asdu ≡ b
+    → flat_map objects rest ≡ said → flat_map objects (cond b (x.asdu ∷ rest) rest)
+    ≡ objects x.asdu ++ said
 objects_by x rest said true e h = ap (λ t. objects x.asdu ++ t) h
 objects_by x rest said false e h = h ∙ sym (ap (λ t. t ++ said) (no_objects x.asdu e))
 
 pub objects-pieces_of : (fs : List Sent) → flat_map objects (pieces_of fs) ≡ objects_of_frames fs
 objects-pieces_of [] = refl
-objects-pieces_of (f ∷ fs) = objects_by f (pieces_of fs) (objects_of_frames fs) (has_objects f.asdu) refl
+objects-pieces_of (f ∷ fs) = objects_by f (pieces_of fs) (objects_of_frames fs) (has_objects f.asdu)
+    refl
     (objects-pieces_of fs)
 
 -- each of them has monitor objects
-whole_by : (x : Sent) (rest : List (List ℕ)) (b : Bool) → has_objects x.asdu ≡ b → list_all (has_objects) rest ≡ true
+whole_by : (x : Sent) (rest : List (List ℕ)) (b : Bool) → has_objects x.asdu ≡ b
+    → list_all (has_objects) rest ≡ true
     → list_all (has_objects) (cond b (x.asdu ∷ rest) rest) ≡ true
 whole_by x rest true e h = rw e h
 whole_by x rest false e h = h
@@ -54,7 +59,8 @@ all-pieces_of [] = refl
 all-pieces_of (f ∷ fs) = whole_by f (pieces_of fs) (has_objects f.asdu) refl (all-pieces_of fs)
 
 -- The frames that so many acknowledge, and their pieces
-taken_by : (x : Sent) (n count : ℕ) (rest fewer : List (List ℕ)) (b : Bool) → fewer ≡ drop count rest
+taken_by : (x : Sent) (n count : ℕ) (rest fewer : List (List ℕ)) (b : Bool)
+    → fewer ≡ drop count rest
     → fewer ≡ drop (cond b (suc count) count) (cond b (x.asdu ∷ rest) rest)
 taken_by x n count rest fewer true h = h
 taken_by x n count rest fewer false h = h
@@ -63,7 +69,8 @@ from_queue-cons : (u : Unacknowledged) (us : List Unacknowledged)
     → from_queue (u ∷ us) ≡ cond (is_from_queue u.kind) (suc (from_queue us)) (from_queue us)
 from_queue-cons u us =
     sum_by-cons (λ (x : Unacknowledged). cond (is_from_queue x.kind) 1 0) u us
-    ∙ (elim (is_from_queue u.kind) as (λ b. cond b 1 0 + from_queue us ≡ cond b (suc (from_queue us)) (from_queue us))
+    ∙ (elim (is_from_queue u.kind) as (λ b. cond b 1 0 + from_queue us
+    ≡ cond b (suc (from_queue us)) (from_queue us))
     [ true ↦ omega arith | false ↦ omega arith ])
 
 -- dropping frames drops as many pieces as there are queue entries among the kinds
@@ -76,9 +83,12 @@ pieces_of-drop (suc n) (f ∷ fs) [] h = cc
 pieces_of-drop (suc n) (f ∷ fs) (u ∷ us) h =
     let same : is_from_queue u.kind ≡ has_objects f.asdu = cc in
     let rest : kinds_of us ≡ flags_of fs = cc in
-    let counted : from_queue (take (suc n) (u ∷ us)) ≡ cond (has_objects f.asdu) (suc (from_queue (take n us)))
+    let counted : from_queue (take (suc n) (u ∷ us))
+    ≡ cond (has_objects f.asdu) (suc (from_queue (take n us)))
     (from_queue (take n us)) =
-    from_queue-cons u (take n us) ∙ ap (λ b. cond b (suc (from_queue (take n us))) (from_queue (take n us))) same in
+    from_queue-cons u (take n us)
+    ∙ ap (λ b. cond b (suc (from_queue (take n us))) (from_queue (take n us))) same in
     subst (λ k. pieces_of (drop (suc n) (f ∷ fs)) ≡ drop k (pieces_of (f ∷ fs))) (sym counted)
-    (taken_by f n (from_queue (take n us)) (pieces_of fs) (pieces_of (drop n fs)) (has_objects f.asdu)
+    (taken_by f n (from_queue (take n us)) (pieces_of fs) (pieces_of (drop n fs))
+    (has_objects f.asdu)
     (pieces_of-drop n fs us rest))

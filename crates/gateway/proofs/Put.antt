@@ -1,5 +1,7 @@
 -- The lemmas of Agreement where a port may tell no log, in the form that answers cite.
-use Rattle.std.proofs.Common.{◌≡◌, ℕ, ◌<◌, ◌&&◌, ◌||◌, Bool, true, false, not, cond, List, [], ◌∷◌, length, arith, length-append, refl, ap, sym, ◌∙◌, subst, Option, Some, None, inl, inr}
+use Rattle.std.proofs.Common.{◌≡◌, ℕ, ◌<◌, ◌&&◌, ◌||◌, Bool, true, false, not, cond, List, [], ◌∷◌}
+use Rattle.std.proofs.Common.{length, arith, length-append, refl, ap, sym, ◌∙◌, subst, Option, Some}
+use Rattle.std.proofs.Common.{None, inl, inr}
 use Rattle.std.specs.Prelude.{IfSome, IfNone, nat_lt, if◌then◌else◌, ◌==◌, ◌⊎◌}
 use Rattle.std.specs.Bool.{OnTrue}
 use Rattle.std.proofs.lemmas.Bool.{and_parts, not-false}
@@ -24,14 +26,17 @@ use Rattle.session.specs.History.{confirmation_of, has_timed_out}
 use Rattle.session.specs.Runs.{Confirm, Pull}
 use Rattle.session.specs.Ends.{after_confirm, after_pull, IsConfirmed, IsInTime}
 use Rattle.session.proofs.States.{transferring_opens, stopping_transfers_not}
-use Rattle.gateway.specs.Agrees.{IsClear, Agrees, Tracks, Awaits, Leaves, Rests, IsSpent, IsQuiet, StaysInTime, pending}
+use Rattle.gateway.specs.Agrees.{IsClear, Agrees, Tracks, Awaits, Leaves, Rests, IsSpent, IsQuiet}
+use Rattle.gateway.specs.Agrees.{StaysInTime, pending}
 use Rattle.gateway.specs.Steps.{SendsPiece, SendsOwn, SendsData, MayClose}
 use Rattle.gateway.proofs.Tied.{SameWindow}
-use Rattle.gateway.proofs.Talking.{HasNoData, confirms, pulls, patient, all_taken, confirmed_by, late_by, confirm_t1, pull_t1}
+use Rattle.gateway.proofs.Talking.{HasNoData, confirms, pulls, patient, all_taken, confirmed_by}
+use Rattle.gateway.proofs.Talking.{late_by, confirm_t1, pull_t1}
 use Rattle.gateway.specs.Course.{room_in, IsFlushed, HasBegun}
 use Rattle.gateway.specs.Serial.{Serial}
 use Rattle.gateway.proofs.Working.{gap_in}
-use Rattle.gateway.proofs.Agreement.{flushed_by, begun_by, GoesOut, faithful, after_piece, after_own, after_due}
+use Rattle.gateway.proofs.Agreement.{flushed_by, begun_by, GoesOut, faithful, after_piece}
+use Rattle.gateway.proofs.Agreement.{after_own, after_due}
 use Rattle.gateway.proofs.Hearing.{now_taking}
 use Rattle.gateway.proofs.Closing.{stands_now, after_close, rested}
 
@@ -42,7 +47,8 @@ events_went None now action = refl
 events_went (Some log) now action = refl
 
 pub events_put : (b : Bool) (told after : Option Log) (now : ℕ) (action : Output)
-    → after ≡ (if b then tell told (Went now action ∷ []) else told) → events_told after ≡ events_told told
+    → after ≡ (if b then tell told (Went now action ∷ []) else told) → events_told after
+    ≡ events_told told
 events_put true told after now action e = ap events_told e ∙ events_went told now action
 events_put false told after now action e = ap events_told e
 
@@ -61,9 +67,11 @@ abbrev pub SendsIn : Setup → List ℕ → Phase → State → Apdu → State �
 SendsIn p unjudged phase s f t = (log : Log) → Agrees p s log unjudged phase
     → Agrees p t (Went s.moment (TcpOut (spelling f)) ∷ log) unjudged phase
 
-pub told_sent : (p : Setup) (told after : Option Log) (s t : State) (f : Apdu) (now : ℕ) (unjudged : List ℕ)
+pub told_sent : (p : Setup) (told after : Option Log) (s t : State) (f : Apdu) (now : ℕ)
+    (unjudged : List ℕ)
     (phase : Phase) → after ≡ tell told (Went now (TcpOut (spelling f)) ∷ []) → now ≡ s.moment
-    → SendsIn p unjudged phase s f t → Tracks p s told unjudged phase → Tracks p t after unjudged phase
+    → SendsIn p unjudged phase s f t → Tracks p s told unjudged phase
+    → Tracks p t after unjudged phase
 told_sent p told after s t f now unjudged phase e same sends h = rw (e, same) (by_log told h)
   where
     by_log : (told : Option Log) → Tracks p s told unjudged phase
@@ -73,24 +81,32 @@ told_sent p told after s t f now unjudged phase e same sends h = rw (e, same) (b
 
 pub open_of : (s : Session) → may_send s ≡ true → session.is_open s ≡ true
 open_of s may =
-    transferring_opens s.transfer (and_parts (is_transferring s) (nat_lt (length s.unacknowledged) s.k) may).0
+    transferring_opens s.transfer
+    (and_parts (is_transferring s) (nat_lt (length s.unacknowledged) s.k) may).0
 
 pub sends_piece : (s : State) (f : Apdu) (t : State) → s.serial.commands.answers ≡ []
-    → SendsPiece s.moment s.centre f t.centre → t ≡ with_centre t.centre s → IsConfirmed s.centre.session
-    → (p : Setup) (unjudged : List ℕ) (phase : Phase) → IsFlushing phase → SendsIn p unjudged phase s f t
+    → SendsPiece s.moment s.centre f t.centre → t ≡ with_centre t.centre s
+    → IsConfirmed s.centre.session
+    → (p : Setup) (unjudged : List ℕ) (phase : Phase) → IsFlushing phase
+    → SendsIn p unjudged phase s f t
 sends_piece s f t none h only ready p unjudged phase flushing log a =
-    rw (only, h.after, h.frame) (after_piece p s log unjudged h.asdu h.rest phase a flushing ready h.may
+    rw (only, h.after, h.frame) (after_piece p s log unjudged h.asdu h.rest phase a flushing ready
+    h.may
     (open_of s.centre.session h.may) none h.first (subst Fits h.frame h.fits))
 
-pub sends_own : (s : State) (f : Apdu) (t : State) → SendsOwn s.moment s.serial s.centre f t.serial t.centre
+pub sends_own : (s : State) (f : Apdu) (t : State)
+    → SendsOwn s.moment s.serial s.centre f t.serial t.centre
     → t ≡ with_sides t.serial t.centre s → IsConfirmed s.centre.session
-    → (p : Setup) (unjudged : List ℕ) (phase : Phase) → IsFlushing phase → SendsIn p unjudged phase s f t
+    → (p : Setup) (unjudged : List ℕ) (phase : Phase) → IsFlushing phase
+    → SendsIn p unjudged phase s f t
 sends_own s f t h only ready p unjudged phase flushing log a =
-    rw (only, h.fewer, h.sent, h.frame) (after_own p s log unjudged h.asdu phase a flushing ready h.may
+    rw (only, h.fewer, h.sent, h.frame) (after_own p s log unjudged h.asdu phase a flushing ready
+    h.may
     (open_of s.centre.session h.may) h.first (subst Fits h.frame h.fits))
 
 pub sends_data : (s : State) (f : Apdu) (t : State) → SendsData s f t → IsConfirmed s.centre.session
-    → (p : Setup) (unjudged : List ℕ) (phase : Phase) → IsFlushing phase → SendsIn p unjudged phase s f t
+    → (p : Setup) (unjudged : List ℕ) (phase : Phase) → IsFlushing phase
+    → SendsIn p unjudged phase s f t
 sends_data s f t (inl h) = sends_own s f t h.0 h.1
 sends_data s f t (inr h) = sends_piece s f t h.0 h.1 h.2
 
@@ -100,7 +116,8 @@ pub record IsData (s t : State) (kind : Kind) : Type 0 where
   pub session : t.centre.session ≡ session.sent kind s.moment s.centre.session
   pub moment : t.moment ≡ s.moment
 
-pub data_sent : (s : State) (f : Apdu) (t : State) → SendsData s f t → (kind : Kind) × IsData s t kind
+pub data_sent : (s : State) (f : Apdu) (t : State) → SendsData s f t → (kind : Kind)
+    × IsData s t kind
 data_sent s f t (inl h) = (
   Own,
   record {
@@ -140,7 +157,8 @@ unchanged s = record {
 nothing_leaves : (s : Session) → LeavesWindow s (session.nothing_due s)
 nothing_leaves s = record { same = unchanged s; sends = tt; none = refl }
 
-acknowledgement_leaves : (s : Session) → session.is_open s ≡ true → LeavesWindow s (session.acknowledgement s)
+acknowledgement_leaves : (s : Session) → session.is_open s ≡ true
+    → LeavesWindow s (session.acknowledgement s)
 acknowledgement_leaves s on =
     record {
       same = record {
@@ -156,12 +174,14 @@ acknowledgement_leaves s on =
       none = tt;
     }
 
-both : (b : Bool) (x y : Option Apdu × Session) (P : (Option Apdu × Session) → Type 0) → (b ≡ true → P x)
+both : (b : Bool) (x y : Option Apdu × Session) (P : (Option Apdu × Session) → Type 0)
+    → (b ≡ true → P x)
     → (b ≡ false → P y) → P (cond b x y)
 both true x y P f g = f refl
 both false x y P f g = g refl
 
-replied_leaves : (r : Option Uf) (s : Session) → session.is_open s ≡ true → LeavesWindow s (session.replied r s)
+replied_leaves : (r : Option Uf) (s : Session) → session.is_open s ≡ true
+    → LeavesWindow s (session.replied r s)
 replied_leaves None s on =
     both (session.is_stopping s && length s.unacknowledged == 0) _ _ (LeavesWindow s)
     (λ h. record {
@@ -203,7 +223,8 @@ confirmed_leaves s =
 pulled_leaves : (now : ℕ) (s : Session) → LeavesWindow s (session.pulled now s)
 pulled_leaves now s =
     both (not (session.is_open s)) _ _ (LeavesWindow s) (λ h. nothing_leaves s) (λ h.
-    both (session.is_s_due now s) _ _ (LeavesWindow s) (λ g. acknowledgement_leaves s (not-false _ h)) (λ g.
+    both (session.is_s_due now s) _ _ (LeavesWindow s)
+    (λ g. acknowledgement_leaves s (not-false _ h)) (λ g.
     both (session.is_test_due now s) _ _ (LeavesWindow s)
     (λ k. record {
       same = record {
@@ -223,18 +244,23 @@ pulled_leaves now s =
 -- a confirmation, or nothing else can be sent
 abbrev IsNextDue : Setup → List ℕ → Phase → State → Apdu → Type 0
 IsNextDue p unjudged phase s f = (log : Log) (a : Agrees p s log unjudged phase)
-    → (confirmation_of a.course.talk ≡ Some f) ⊎ ((confirmation_of a.course.talk ≡ None) × IsFlushed p log a.course
+    → (confirmation_of a.course.talk ≡ Some f)
+    ⊎ ((confirmation_of a.course.talk ≡ None) × IsFlushed p log a.course
     × HasBegun log a.course)
 
-sends_due : (p : Setup) (unjudged : List ℕ) (phase : Phase) (s : State) (f : Apdu) (t : Session) → IsFlushing phase
+sends_due : (p : Setup) (unjudged : List ℕ) (phase : Phase) (s : State) (f : Apdu) (t : Session)
+    → IsFlushing phase
     → Fits f → IsNextDue p unjudged phase s f → GoesOut s.centre.session t s.moment f
     → LeavesWindow s.centre.session (Some f, t) → SendsIn p unjudged phase s f (with_session t s)
 sends_due p unjudged phase s f t flushing fits next goes h log a =
-    after_due p s t log unjudged f phase a flushing (next log a) h.sends.0 fits h.sends.1 goes h.same
+    after_due p s t log unjudged f phase a flushing (next log a) h.sends.0 fits h.sends.1 goes
+    h.same
 
 pub sends_confirmation : (s t : State) (f : Apdu) → Fits f
-    → ◌≡◌ {A = Option Apdu × Session} (Some f, t.centre.session) (session.confirmed s.centre.session)
-    → t ≡ with_session t.centre.session s → (p : Setup) (unjudged : List ℕ) (phase : Phase) → IsFlushing phase
+    → ◌≡◌ {A = Option Apdu × Session} (Some f, t.centre.session)
+    (session.confirmed s.centre.session)
+    → t ≡ with_session t.centre.session s → (p : Setup) (unjudged : List ℕ) (phase : Phase)
+    → IsFlushing phase
     → SendsIn p unjudged phase s f t
 sends_confirmation s t f fits e rest p unjudged phase flushing log a =
     rw rest (sends_due p unjudged phase s f t.centre.session flushing fits
@@ -243,13 +269,16 @@ sends_confirmation s t f fits e rest p unjudged phase flushing log a =
     (record {
       call = Confirm s.moment;
       made = λ h. confirms s.centre.session t.centre.session h f s.moment
-          (subst (LeavesWindow s.centre.session) (sym e) (confirmed_leaves s.centre.session)).sends.1 e;
+          (subst (LeavesWindow s.centre.session) (sym e)
+          (confirmed_leaves s.centre.session)).sends.1 e;
     })
     (subst (LeavesWindow s.centre.session) (sym e) (confirmed_leaves s.centre.session)) log a)
 
 pub sends_pulled : (s t : State) (f : Apdu) → IsClear s → Fits f
-    → ◌≡◌ {A = Option Apdu × Session} (Some f, t.centre.session) (session.pulled s.moment s.centre.session)
-    → t ≡ with_session t.centre.session s → (p : Setup) (unjudged : List ℕ) (phase : Phase) → IsFlushing phase
+    → ◌≡◌ {A = Option Apdu × Session} (Some f, t.centre.session)
+    (session.pulled s.moment s.centre.session)
+    → t ≡ with_session t.centre.session s → (p : Setup) (unjudged : List ℕ) (phase : Phase)
+    → IsFlushing phase
     → SendsIn p unjudged phase s f t
 sends_pulled s t f clear fits e rest p unjudged phase flushing log a =
     rw rest (sends_due p unjudged phase s f t.centre.session flushing fits
@@ -262,7 +291,8 @@ sends_pulled s t f clear fits e rest p unjudged phase flushing log a =
     (record {
       call = Pull s.moment;
       made = λ h. pulls s.centre.session t.centre.session h f s.moment
-          (subst (LeavesWindow s.centre.session) (sym e) (pulled_leaves s.moment s.centre.session)).sends.1 e;
+          (subst (LeavesWindow s.centre.session) (sym e)
+          (pulled_leaves s.moment s.centre.session)).sends.1 e;
     })
     (subst (LeavesWindow s.centre.session) (sym e) (pulled_leaves s.moment s.centre.session)) log a)
 
@@ -285,26 +315,34 @@ pub none_left : (s t : State) → ◌≡◌ {A = Option Apdu × Session} (None, 
     (session.pulled s.moment s.centre.session) → t ≡ with_session t.centre.session s
     → (session.pulled t.moment t.centre.session).0 ≡ None
 none_left s t e rest =
-    subst (λ (x : State). (session.pulled x.moment x.centre.session).0 ≡ None) (sym (none_pulled s t e rest))
+    subst (λ (x : State). (session.pulled x.moment x.centre.session).0 ≡ None)
+    (sym (none_pulled s t e rest))
     (sym (ap (λ (d : Option Apdu × Session). d.0) e))
 
-pub confirmed_open : (r : Option Apdu) (s t : Session) → ◌≡◌ {A = Option Apdu × Session} (r, t) (session.confirmed s)
+pub confirmed_open : (r : Option Apdu) (s t : Session)
+    → ◌≡◌ {A = Option Apdu × Session} (r, t) (session.confirmed s)
     → session.is_open t ≡ session.is_open s
 confirmed_open r s t e = (subst (LeavesWindow s) (sym e) (confirmed_leaves s)).same.same_connected
 
 pub pulled_open : (now : ℕ) (r : Option Apdu) (s t : Session)
-    → ◌≡◌ {A = Option Apdu × Session} (r, t) (session.pulled now s) → session.is_open t ≡ session.is_open s
+    → ◌≡◌ {A = Option Apdu × Session} (r, t) (session.pulled now s) → session.is_open t
+    ≡ session.is_open s
 pulled_open now r s t e = (subst (LeavesWindow s) (sym e) (pulled_leaves now s)).same.same_connected
 
 pub pulled_spent : (r : Option Apdu) (s t : State) → ◌≡◌ {A =
     Option Apdu × Session} (r, t.centre.session) (session.pulled s.moment s.centre.session)
     → t ≡ with_session t.centre.session s → IsSpent s → IsSpent t
 pulled_spent r s t e rest spent may =
-    let same = (subst (LeavesWindow s.centre.session) (sym e) (pulled_leaves s.moment s.centre.session)).same in
+    let same =
+    (subst (LeavesWindow s.centre.session) (sym e)
+    (pulled_leaves s.moment s.centre.session)).same in
     let before : may_send s.centre.session ≡ true = sym
-    (ap (λ b. b && nat_lt (length t.centre.session.unacknowledged) t.centre.session.k) same.same_transferring
-    ∙ ap (λ us. is_transferring s.centre.session && nat_lt (length us) t.centre.session.k) same.same_frames
-    ∙ ap (λ k. is_transferring s.centre.session && nat_lt (length s.centre.session.unacknowledged) k) same.same_k)
+    (ap (λ b. b && nat_lt (length t.centre.session.unacknowledged) t.centre.session.k)
+    same.same_transferring
+    ∙ ap (λ us. is_transferring s.centre.session && nat_lt (length us) t.centre.session.k)
+    same.same_frames
+    ∙ ap (λ k. is_transferring s.centre.session && nat_lt (length s.centre.session.unacknowledged)
+    k) same.same_k)
     ∙ may in
     let both = spent before in (
       ap (λ (x : State). x.centre.queue.unsent) rest ∙ both.0,
@@ -312,8 +350,10 @@ pulled_spent r s t e rest spent may =
           ∙ both.1,
     )
 
-pub told_closed : (laws : LineLaws) (p : Setup) (told after : Option Log) (s t : State) (cause : Close) (now : ℕ)
-    (phase : Phase) → after ≡ tell told (Went now (Closed cause) ∷ []) → now ≡ s.moment → t ≡ disconnected s
+pub told_closed : (laws : LineLaws) (p : Setup) (told after : Option Log) (s t : State)
+    (cause : Close) (now : ℕ)
+    (phase : Phase) → after ≡ tell told (Went now (Closed cause) ∷ []) → now ≡ s.moment
+    → t ≡ disconnected s
     → IfSome told (MayClose p s cause phase) → Tracks p t after [] phase
 told_closed laws p told after s t cause now phase e same is h = rw (e, same, is) (by_log told h)
   where
@@ -322,7 +362,8 @@ told_closed laws p told after s t cause now phase e same is h = rw (e, same, is)
     by_log None h = tt
     by_log (Some log) h =
         let moment : s.moment ≡ h.state.moment = ap (λ (x : State). x.moment) h.same in
-        rw (h.same, moment, ← h.leads) (after_close laws p h.state log h.unjudged cause h.phase h.fault h.agrees
+        rw (h.same, moment, ← h.leads) (after_close laws p h.state log h.unjudged cause h.phase
+        h.fault h.agrees
         h.open_is h.last h.timely h.stands h.why)
 
 pub may_close_faithful : (p : Setup) (told : Option Log) (s : State) (cause : Close) (phase : Phase)
@@ -332,22 +373,28 @@ may_close_faithful p (Some log) s cause phase h = faithful p h.state log h.unjud
 
 -- A step is done
 
-pub told_rested : (laws : LineLaws) (p : Setup) (told : Option Log) (s : State) → IsSpent s → IsQuiet s
+pub told_rested : (laws : LineLaws) (p : Setup) (told : Option Log) (s : State) → IsSpent s
+    → IsQuiet s
     → Tracks p s told [] Asked → Rests p told
 told_rested laws p None s spent quiet h = tt
 told_rested laws p (Some []) s spent quiet a = tt
 told_rested laws p (Some (t ∷ log)) s spent quiet a = rested laws p s (t ∷ log) a spent quiet
 
 -- t1 is some time
-told_patient : (p : Setup) (told after : Option Log) (log : Log) (s : State) → events_told after ≡ events_told told
+told_patient : (p : Setup) (told after : Option Log) (log : Log) (s : State) → events_told after
+    ≡ events_told told
     → after ≡ Some log → Tracks p s told [] Asked → 0 < s.centre.session.t1
-told_patient p None after log s same is a = let e : Some (events_of log) ≡ None = sym (ap events_told is) ∙ same in cc
+told_patient p None after log s same is a = let e : Some (events_of log) ≡ None =
+    sym (ap events_told is) ∙ same in cc
 told_patient p (Some first) after log s same is a = patient p s.centre.session first a.course a.talk
 
-pub told_done : (laws : LineLaws) (p : Setup) (result : Bool) (told after : Option Log) (s t : State)
-    → events_told after ≡ events_told told → IsInTime s.moment s.centre.session → Tracks p s told [] Asked →
+pub told_done : (laws : LineLaws) (p : Setup) (result : Bool) (told after : Option Log)
+    (s t : State)
+    → events_told after ≡ events_told told → IsInTime s.moment s.centre.session
+    → Tracks p s told [] Asked →
     OnTrue result (IsSpent t) → OnTrue result (IsConfirmed t.centre.session)
-    → OnTrue result ((session.pulled t.moment t.centre.session).0 ≡ None) → OnTrue result (StaysInTime s t)
+    → OnTrue result ((session.pulled t.moment t.centre.session).0 ≡ None)
+    → OnTrue result (StaysInTime s t)
     → Leaves result p t after [] Asked → OnTrue result (Rests p after)
 told_done laws p true told None s t same early a spent confirmed pulled stays h = tt
 told_done laws p true told (Some log) s t same early a spent confirmed pulled stays h =
@@ -401,7 +448,8 @@ late_closes p s log told late a =
     }
 
 pub told_late : (p : Setup) (told : Option Log) (s : State) (cause : Close)
-    → Some cause ≡ (if session.timed_out s.moment s.centre.session then Some Timeout else None) → s.serial.gap ≡ None
+    → Some cause ≡ (if session.timed_out s.moment s.centre.session then Some Timeout else None)
+    → s.serial.gap ≡ None
     → Tracks p s told [] Timed → IfSome told (MayClose p s cause Timed)
 told_late p None s cause e none h = tt
 told_late p (Some log) s cause e none a =
@@ -410,8 +458,10 @@ told_late p (Some log) s cause e none a =
 
 -- Confirmations
 
-pub awaits : (p : Setup) (told : Option Log) (s : State) (unjudged : List ℕ) → IsConfirmed s.centre.session → IsSpent s
-    → (session.pulled s.moment s.centre.session).0 ≡ None → Tracks p s told unjudged Judged → Awaits p s told unjudged
+pub awaits : (p : Setup) (told : Option Log) (s : State) (unjudged : List ℕ)
+    → IsConfirmed s.centre.session → IsSpent s
+    → (session.pulled s.moment s.centre.session).0 ≡ None → Tracks p s told unjudged Judged
+    → Awaits p s told unjudged
 awaits p None s unjudged ready spent pulled h = tt
 awaits p (Some log) s unjudged ready spent pulled a = (
   now_taking p s log unjudged a,
@@ -424,22 +474,26 @@ awaits p (Some log) s unjudged ready spent pulled a = (
 
 pub in_time_same : (s t : State) → t.centre.session ≡ s.centre.session → t.moment ≡ s.moment
     → IsInTime s.moment s.centre.session → IsInTime t.moment t.centre.session
-in_time_same s t same moment h = subst (λ (x : Session). session.timed_out t.moment x ≡ false) (sym same)
+in_time_same s t same moment h = subst (λ (x : Session). session.timed_out t.moment x ≡ false)
+    (sym same)
     (subst (λ m. session.timed_out m s.centre.session ≡ false) (sym moment) h)
 
 pub stays_after : (s t u : State) → StaysInTime s t → StaysInTime t u → StaysInTime s u
 stays_after s t u first second some h = let k = first some h in second k.1 k.0
 
 pub stays_by : (s : State) (t : Session) (u : State) → u ≡ with_session t s
-    → (0 < s.centre.session.t1 → IsInTime s.moment s.centre.session → IsInTime s.moment t) → t.t1 ≡ s.centre.session.t1
+    → (0 < s.centre.session.t1 → IsInTime s.moment s.centre.session → IsInTime s.moment t)
+    → t.t1 ≡ s.centre.session.t1
     → StaysInTime s u
 stays_by s t u is early same some h = subst (λ (x : State). IsInTime x.moment x.centre.session
     × (0 < x.centre.session.t1)) (sym is) (early some h, subst (λ n. 0 < n) (sym same) some)
 
 -- where the frame goes out, and where the device fails
-pub told_put : (result : Bool) (p : Setup) (told after : Option Log) (s t : State) (f : Apdu) (now : ℕ)
+pub told_put : (result : Bool) (p : Setup) (told after : Option Log) (s t : State) (f : Apdu)
+    (now : ℕ)
     (unjudged : List ℕ) (phase : Phase)
-    → after ≡ (if result then tell told (Went now (TcpOut (spelling f)) ∷ []) else told) → now ≡ s.moment
+    → after ≡ (if result then tell told (Went now (TcpOut (spelling f)) ∷ []) else told)
+    → now ≡ s.moment
     → SendsIn p unjudged phase s f t → Tracks p s told unjudged phase →
     Leaves result p t after unjudged phase
 told_put true p told after s t f now unjudged phase e same sends h =
@@ -447,7 +501,8 @@ told_put true p told after s t f now unjudged phase e same sends h =
 told_put false p told after s t f now unjudged phase e same sends h =
     subst (λ l. IfSome l (IsFaithful p)) (sym e) (told_faithful p told s unjudged phase h)
 
-pub unsent_faithful : (p : Setup) (told after : Option Log) (s : State) (unjudged : List ℕ) (phase : Phase)
+pub unsent_faithful : (p : Setup) (told after : Option Log) (s : State) (unjudged : List ℕ)
+    (phase : Phase)
     → after ≡ told → Tracks p s told unjudged phase → IfSome after (IsFaithful p)
 unsent_faithful p told after s unjudged phase e h = subst (λ l. IfSome l (IsFaithful p)) (sym e)
     (told_faithful p told s unjudged phase h)
@@ -463,42 +518,52 @@ on_map false P Q f h = tt
 pub confirmed_next : (s t : State) (r : Option Apdu) → ◌≡◌ {A =
     Option Apdu × Session} (r, t.centre.session) (session.confirmed s.centre.session)
     → t ≡ with_session t.centre.session s → t ≡ with_session (after_confirm s.centre.session) s
-confirmed_next s t r e rest = rest ∙ ap (λ (x : Session). with_session x s) (ap (λ (d : Option Apdu × Session). d.1) e)
+confirmed_next s t r e rest = rest
+    ∙ ap (λ (x : Session). with_session x s) (ap (λ (d : Option Apdu × Session). d.1) e)
 
 pub pulled_next : (s t : State) (r : Option Apdu) → ◌≡◌ {A =
     Option Apdu × Session} (r, t.centre.session) (session.pulled s.moment s.centre.session)
-    → t ≡ with_session t.centre.session s → t ≡ with_session (after_pull s.moment s.centre.session) s
-pulled_next s t r e rest = rest ∙ ap (λ (x : Session). with_session x s) (ap (λ (d : Option Apdu × Session). d.1) e)
+    → t ≡ with_session t.centre.session s → t ≡ with_session (after_pull s.moment s.centre.session)
+    s
+pulled_next s t r e rest = rest
+    ∙ ap (λ (x : Session). with_session x s) (ap (λ (d : Option Apdu × Session). d.1) e)
 
 -- what the laws of calls say of two and three of them
-pub three_confirm : ((s : Session) → IsConfirmed (after_confirm (after_confirm (after_confirm s)))) → (s t u v : State)
-    → t ≡ with_session (after_confirm s.centre.session) s → u ≡ with_session (after_confirm t.centre.session) t
+pub three_confirm : ((s : Session) → IsConfirmed (after_confirm (after_confirm (after_confirm s))))
+    → (s t u v : State)
+    → t ≡ with_session (after_confirm s.centre.session) s
+    → u ≡ with_session (after_confirm t.centre.session) t
     → v ≡ with_session (after_confirm u.centre.session) u → IsConfirmed v.centre.session
 three_confirm law s t u v a b c =
     subst IsConfirmed (sym (ap (λ (x : State). x.centre.session) c
     ∙ ap (λ (x : State). after_confirm x.centre.session) b
     ∙ ap (λ (x : State). after_confirm (after_confirm x.centre.session)) a)) (law s.centre.session)
 
-pub two_pulls : ((now : ℕ) (s : Session) → (session.pulled now (after_pull now (after_pull now s))).0 ≡ None)
+pub two_pulls : ((now : ℕ) (s : Session)
+    → (session.pulled now (after_pull now (after_pull now s))).0 ≡ None)
     → (s t u : State) → t ≡ with_session (after_pull s.moment s.centre.session) s
-    → u ≡ with_session (after_pull t.moment t.centre.session) t → (session.pulled u.moment u.centre.session).0 ≡ None
+    → u ≡ with_session (after_pull t.moment t.centre.session) t
+    → (session.pulled u.moment u.centre.session).0 ≡ None
 two_pulls law s t u a b =
     let same : u ≡ with_session (after_pull s.moment (after_pull s.moment s.centre.session)) s = b
     ∙ ap (λ (x : State). with_session (after_pull x.moment x.centre.session) x) a in
     subst (λ (x : State). (session.pulled x.moment x.centre.session).0 ≡ None) (sym same)
     (law s.moment s.centre.session)
 
-pub confirm_in_time : ((now : ℕ) (s : Session) → IsInTime now s → IsInTime now (after_confirm s)) → (s t : State)
+pub confirm_in_time : ((now : ℕ) (s : Session) → IsInTime now s → IsInTime now (after_confirm s))
+    → (s t : State)
     → t ≡ with_session (after_confirm s.centre.session) s → StaysInTime s t
 confirm_in_time law s t is = stays_by s (after_confirm s.centre.session) t is
     (λ some h. law s.moment s.centre.session h) (confirm_t1 s.centre.session)
 
-pub pull_in_time : ((now : ℕ) (s : Session) → 0 < s.t1 → IsInTime now s → IsInTime now (after_pull now s))
+pub pull_in_time : ((now : ℕ) (s : Session) → 0 < s.t1 → IsInTime now s
+    → IsInTime now (after_pull now s))
     → (s t : State) → t ≡ with_session (after_pull s.moment s.centre.session) s → StaysInTime s t
 pull_in_time law s t is = stays_by s (after_pull s.moment s.centre.session) t is
     (λ some h. law s.moment s.centre.session some h) (pull_t1 s.moment s.centre.session)
 
-pub pull_confirmed : ((now : ℕ) (s : Session) → IsConfirmed s → IsConfirmed (after_pull now s)) → (s t : State)
+pub pull_confirmed : ((now : ℕ) (s : Session) → IsConfirmed s → IsConfirmed (after_pull now s))
+    → (s t : State)
     → t ≡ with_session (after_pull s.moment s.centre.session) s → IsConfirmed s.centre.session
     → IsConfirmed t.centre.session
 pull_confirmed law s t is h = subst (λ (x : State). IsConfirmed x.centre.session) (sym is)
@@ -507,7 +572,8 @@ pull_confirmed law s t is h = subst (λ (x : State). IsConfirmed x.centre.sessio
 -- three calls of confirm are the most that answer a frame
 pub confirms_end : ((s : Session) → IsConfirmed (after_confirm (after_confirm (after_confirm s))))
     → (s t u v : State) → t ≡ with_session (after_confirm s.centre.session) s
-    → u ≡ with_session (after_confirm t.centre.session) t → v ≡ with_session (after_confirm u.centre.session) u
+    → u ≡ with_session (after_confirm t.centre.session) t
+    → v ≡ with_session (after_confirm u.centre.session) u
     → IsConfirmed v.centre.session
 confirms_end law s t u v first second third =
     subst (λ (x : State). IsConfirmed x.centre.session) (sym third)
@@ -516,20 +582,25 @@ confirms_end law s t u v first second third =
     (law s.centre.session)))
 
 -- two calls of pull are the most that answer a frame
-pub pull_ends : ((now : ℕ) (s : Session) → (session.pulled now (after_pull now (after_pull now s))).0 ≡ None)
+pub pull_ends : ((now : ℕ) (s : Session)
+    → (session.pulled now (after_pull now (after_pull now s))).0 ≡ None)
     → (s t u : State) → t ≡ with_session (after_pull s.moment s.centre.session) s
-    → u ≡ with_session (after_pull t.moment t.centre.session) t → (session.pulled u.moment u.centre.session).0 ≡ None
+    → u ≡ with_session (after_pull t.moment t.centre.session) t
+    → (session.pulled u.moment u.centre.session).0 ≡ None
 pull_ends law s t u first last =
     subst (λ (x : State). (session.pulled x.moment x.centre.session).0 ≡ None) (sym last)
-    (subst (λ (x : State). (session.pulled x.moment (after_pull x.moment x.centre.session)).0 ≡ None) (sym first)
+    (subst (λ (x : State). (session.pulled x.moment (after_pull x.moment x.centre.session)).0
+    ≡ None) (sym first)
     (law s.moment s.centre.session))
 
-pub pull_spent : (s t : State) → t ≡ with_session (after_pull s.moment s.centre.session) s → IsSpent s → IsSpent t
+pub pull_spent : (s t : State) → t ≡ with_session (after_pull s.moment s.centre.session) s
+    → IsSpent s → IsSpent t
 pull_spent s t is spent =
     subst IsSpent (sym is) (pulled_spent (session.pulled s.moment s.centre.session).0 s
     (with_session (after_pull s.moment s.centre.session) s) refl refl spent)
 
-pub pull_clear : ((now : ℕ) (s : Session) → IsConfirmed s → IsConfirmed (after_pull now s)) → (s t : State)
+pub pull_clear : ((now : ℕ) (s : Session) → IsConfirmed s → IsConfirmed (after_pull now s))
+    → (s t : State)
     → t ≡ with_session (after_pull s.moment s.centre.session) s → IsClear s → IsClear t
 pull_clear law s t is clear = record {
   confirmed = pull_confirmed law s t is clear.confirmed;
@@ -540,10 +611,12 @@ pull_clear law s t is clear = record {
 pub data_confirmed : ((kind : Kind) (now : ℕ) (s : Session) → may_send s ≡ true → IsConfirmed s
     → IsConfirmed (session.sent kind now s)) → (s t : State) (kind : Kind) → IsData s t kind
     → IsConfirmed s.centre.session → IsConfirmed t.centre.session
-data_confirmed law s t kind d h = subst IsConfirmed (sym d.session) (law kind s.moment s.centre.session d.may h)
+data_confirmed law s t kind d h =
+    subst IsConfirmed (sym d.session) (law kind s.moment s.centre.session d.may h)
 
 pub data_in_time : ((kind : Kind) (now : ℕ) (s : Session) → 0 < s.t1 → IsInTime now s
-    → IsInTime now (session.sent kind now s)) → (s t : State) (kind : Kind) → IsData s t kind → StaysInTime s t
+    → IsInTime now (session.sent kind now s)) → (s t : State) (kind : Kind) → IsData s t kind
+    → StaysInTime s t
 data_in_time law s t kind d some h = (
   subst (λ m. IsInTime m t.centre.session) (sym d.moment)
       (subst (IsInTime s.moment) (sym d.session) (law kind s.moment s.centre.session some h)),

@@ -7,7 +7,8 @@ pub puts_none : {S F : Type 0} {log : S → Option Log} {fixed : S → F} {faile
     → Puts log fixed failed a a 0
 puts_none = record { events = refl; script = refl; cause = omega arith }
 
-pub puts_then : {S F : Type 0} {log : S → Option Log} {fixed : S → F} {failed : S → ℕ} {a b c : S} {n : ℕ}
+pub puts_then : {S F : Type 0} {log : S → Option Log} {fixed : S → F} {failed : S → ℕ} {a b c : S}
+    {n : ℕ}
     → Puts log fixed failed a b 0 → Puts log fixed failed b c n → Puts log fixed failed a c n
 puts_then first second = record {
   events = second.events ∙ first.events;
@@ -16,6 +17,7 @@ puts_then first second = record {
 }
 
 -- the device that a part leaves whole can be asked again
-pub puts_ready : {S F : Type 0} {log : S → Option Log} {fixed : S → F} {failed : S → ℕ} {a b : S} {m : ℕ}
+pub puts_ready : {S F : Type 0} {log : S → Option Log} {fixed : S → F} {failed : S → ℕ} {a b : S}
+    {m : ℕ}
     → Puts log fixed failed a b 0 → failed a < m → failed b < m
 puts_ready first ready = omega (arith, first.cause, ready)

@@ -1,5 +1,6 @@
 -- Commands of a course are what calls of `command` made them, one after another.
-use Rattle.std.proofs.Common.{◌≡◌, ℕ, Bool, true, false, List, [], ◌∷◌, Option, Some, None, refl, ap, sym, ◌∙◌, subst}
+use Rattle.std.proofs.Common.{◌≡◌, ℕ, Bool, true, false, List, [], ◌∷◌, Option, Some, None, refl}
+use Rattle.std.proofs.Common.{ap, sym, ◌∙◌, subst}
 use Rattle.std.specs.Prelude.{if◌then◌else◌}
 use Rattle.asdu.specs.Asdu.{AsduValue}
 use Rattle.apci.specs.declared.apdu.Apdu.{Apdu}
@@ -8,23 +9,31 @@ use Rattle.link.specs.Exchanges.{Sending}
 use Rattle.link.specs.declared.outcome.Outcome.{Outcome}
 use Rattle.link.specs.declared.outcome.Outcome.TheVariants as outcome
 use Rattle.session.specs.declared.kinds.Close.{Close}
-use Rattle.session.specs.declared.kinds.Close.TheVariants.{Grammar, SendNumber, ReceiveNumber, Stopped, Timeout, OwnAnswers, Replaced}
+use Rattle.session.specs.declared.kinds.Close.TheVariants.{Grammar, SendNumber, ReceiveNumber}
+use Rattle.session.specs.declared.kinds.Close.TheVariants.{Stopped, Timeout, OwnAnswers, Replaced}
 use Rattle.command.specs.declared.waiting.Waiting.{Waiting}
 use Rattle.command.specs.State as tasks
 use Rattle.command.specs.State.{has_answer_place, first_answer, oldest_for}
 use Rattle.command.specs.Judging.{judged}
 use Rattle.command.specs.History.{Offered, History}
-use Rattle.command.specs.Calls.{Call, Judge, PutOnLine, Accept, Busy, Lose, Mirror, Own, SendOwn, Cut, Due, Run, after_call, after_answer, after_sending}
+use Rattle.command.specs.Calls.{Call, Judge, PutOnLine, Accept, Busy, Lose, Mirror, Own, SendOwn}
+use Rattle.command.specs.Calls.{Cut, Due, Run, after_call, after_answer, after_sending}
 use Rattle.command.specs.Laws.{IsRun}
 use Rattle.command.specs.CommandLaws.{CommandLaws}
 use Rattle.gateway.specs.Objects.{has_objects}
-use Rattle.gateway.specs.Log.{Log, LineIn, Opened, TcpIn, CutOff, Ticked, WallIs, Came, Went, LineOut, TcpOut, Closed, GapOut, latest}
+use Rattle.gateway.specs.Log.{Log, LineIn, Opened, TcpIn, CutOff, Ticked, WallIs, Came, Went}
+use Rattle.gateway.specs.Log.{LineOut, TcpOut, Closed, GapOut, latest}
 use Rattle.gateway.specs.Connections.{present}
 use Rattle.gateway.specs.Reports.{Setup}
-use Rattle.gateway.specs.Serial.{kept_until, listed, refusals, is_first_command, put_on_line, unless_silent}
-use Rattle.gateway.specs.Works.{Works, tasks_of, told_kept, is_command_report, mirrored_works, LearnsReport, LearnsOf, heard_works, answered_works, told_silent, settled_works, ready_works, unasked_works, done_works, told_put, asked_works}
+use Rattle.gateway.specs.Serial.{kept_until, listed, refusals, is_first_command, put_on_line}
+use Rattle.gateway.specs.Serial.{unless_silent}
+use Rattle.gateway.specs.Works.{Works, tasks_of, told_kept, is_command_report, mirrored_works}
+use Rattle.gateway.specs.Works.{LearnsReport, LearnsOf, heard_works, answered_works, told_silent}
+use Rattle.gateway.specs.Works.{settled_works, ready_works, unasked_works, done_works, told_put}
+use Rattle.gateway.specs.Works.{asked_works}
 use Rattle.gateway.specs.Conversation.{KeepsCommands}
-use Rattle.gateway.specs.Course.{Course, with_frames, with_sent, IsNext, closed_course, IsLeft, room_in, Runs}
+use Rattle.gateway.specs.Course.{Course, with_frames, with_sent, IsNext, closed_course, IsLeft}
+use Rattle.gateway.specs.Course.{room_in, Runs}
 
 abbrev pub IsCalled : Setup → Run → Type 0
 IsCalled p r = IsRun p.stations p.sizes p.select_ms p.max_age_ms r
@@ -37,16 +46,26 @@ module _ (p : Setup) where
   one call r h = (call ∷ h.0, ap (after_call call) h.1)
 
   -- own answers are kept
-  kept : (xs : List (List ℕ)) (s : tasks.State) (h : History) → IsCalled p (record { state = s; history = h })
+  kept : (xs : List (List ℕ)) (s : tasks.State) (h : History)
+      → IsCalled p (record { state = s; history = h })
       → IsCalled p (record { state = kept_until xs s; history = told_kept xs s h })
   kept [] s h called = called
   kept (x ∷ xs) s h called =
-      let next : IsCalled p (record { state = tasks.offered x s; history = Offered x (has_answer_place s) ∷ h }) =
+      let next : IsCalled p (record {
+        state = tasks.offered x s;
+        history =
+            Offered x (has_answer_place s) ∷ h;
+      }) =
       one (Own x) (record { state = s; history = h }) called in
-      by_room (has_answer_place s) next (kept xs (tasks.offered x s) (Offered x (has_answer_place s) ∷ h) next)
+      by_room (has_answer_place s) next
+      (kept xs (tasks.offered x s) (Offered x (has_answer_place s) ∷ h) next)
     where
       by_room : (b : Bool)
-          → IsCalled p (record { state = tasks.offered x s; history = Offered x (has_answer_place s) ∷ h }) →
+          → IsCalled p (record {
+            state = tasks.offered x s;
+            history = Offered x (has_answer_place s)
+                ∷ h;
+          }) →
           IsCalled p (record {
             state = kept_until xs (tasks.offered x s);
             history =
@@ -55,7 +74,8 @@ module _ (p : Setup) where
           IsCalled p (record {
             state = if b then kept_until xs (tasks.offered x s) else tasks.offered x s;
             history =
-                if b then told_kept xs (tasks.offered x s) (Offered x (has_answer_place s) ∷ h) else Offered x
+                if b then told_kept xs (tasks.offered x s) (Offered x (has_answer_place s) ∷ h)
+                else Offered x
                 (has_answer_place s) ∷ h;
           })
       by_room true next all = all
@@ -63,7 +83,8 @@ module _ (p : Setup) where
 
   -- What came of an exchange
 
-  mirrored : (at : ℕ) (transferring : Bool) (v : AsduValue) (pieces : List (List ℕ)) (w : Works) → IsReached p w
+  mirrored : (at : ℕ) (transferring : Bool) (v : AsduValue) (pieces : List (List ℕ)) (w : Works)
+      → IsReached p w
       → IsReached p (mirrored_works at transferring v pieces w)
   mirrored at true v pieces w h =
       let r : Run = after_call (Mirror v at) (tasks_of w) in
@@ -77,7 +98,8 @@ module _ (p : Setup) where
       (mirrored at transferring learns.0 learns.2 w h)
   reported at transferring false report w z learns h = subst (IsReached p) (sym learns) h
 
-  learnt : (at : ℕ) (transferring : Bool) (o : Outcome) (w z : Works) → LearnsOf p at transferring o w z → IsReached p w
+  learnt : (at : ℕ) (transferring : Bool) (o : Outcome) (w z : Works)
+      → LearnsOf p at transferring o w z → IsReached p w
       → IsReached p z
   learnt at transferring (outcome.Report station asdu) w z learns h =
       reported at transferring (is_command_report p.sizes asdu.items) asdu.items w z learns h
@@ -91,12 +113,14 @@ module _ (p : Setup) where
       subst (IsReached p) (sym learns) (one (Lose station) (tasks_of w) h)
   learnt at transferring outcome.None w z learns h = subst (IsReached p) (sym learns) h
   learnt at transferring (outcome.Started station) w z learns h = subst (IsReached p) (sym learns) h
-  learnt at transferring (outcome.StartedGap station session) w z learns h = subst (IsReached p) (sym learns) h
+  learnt at transferring (outcome.StartedGap station session) w z learns h =
+      subst (IsReached p) (sym learns) h
   learnt at transferring (outcome.Empty station) w z learns h = subst (IsReached p) (sym learns) h
 
   -- Frames
 
-  heard : (f : Apdu) (now : ℕ) (wall : Option ℕ) (w : Works) → IsReached p w → IsReached p (heard_works f now wall w)
+  heard : (f : Apdu) (now : ℕ) (wall : Option ℕ) (w : Works) → IsReached p w
+      → IsReached p (heard_works f now wall w)
   heard (I ns nr asdu) now wall w h =
       let r : Run = after_call (Judge asdu.items now wall) (tasks_of w) in
       kept (listed (judged asdu.items now wall w.serial.commands).0) r.state r.history
@@ -107,14 +131,17 @@ module _ (p : Setup) where
   frames : (fs : List Apdu) (now : ℕ) (wall : Option ℕ) (c : Course) → IsReached p c.works
       → IsReached p (with_frames p fs now wall c).works
   frames [] now wall c h = h
-  frames (f ∷ fs) now wall c h = heard f now wall (with_frames p fs now wall c).works (frames fs now wall c h)
+  frames (f ∷ fs) now wall c h = heard f now wall (with_frames p fs now wall c).works
+      (frames fs now wall c h)
 
-  answered : (w : Works) (x : List ℕ) → first_answer w.serial.commands.answers ≡ Some x → IsReached p w
+  answered : (w : Works) (x : List ℕ) → first_answer w.serial.commands.answers ≡ Some x
+      → IsReached p w
       → IsReached p (answered_works w)
   answered w x first h =
       let same : after_call SendOwn (tasks_of w) ≡ tasks_of (answered_works w) =
       ap (λ (o : Option (List ℕ)). after_answer o (tasks_of w)) first
-      ∙ ap (λ (l : History). let r : Run = record { state = tasks.answered w.serial.commands; history = l } in
+      ∙ ap (λ (l : History). let r : Run =
+      record { state = tasks.answered w.serial.commands; history = l } in
       r) (sym (ap (λ (o : Option (List ℕ)). (after_answer o (tasks_of w)).history) first)) in
       subst (IsCalled p) same (one SendOwn (tasks_of w) h)
 
@@ -122,7 +149,8 @@ module _ (p : Setup) where
       → IsReached p (with_sent f now c).works
   sent log (I ns nr asdu) now c next h = by_objects (has_objects asdu.items) next.own
     where
-      by_objects : (b : Bool) → (b ≡ false → first_answer c.works.serial.commands.answers ≡ Some asdu.items)
+      by_objects : (b : Bool) → (b ≡ false → first_answer c.works.serial.commands.answers
+          ≡ Some asdu.items)
           → IsReached p (if b then c.works else answered_works c.works)
       by_objects true own = h
       by_objects false own = answered c.works asdu.items (own refl) h
@@ -172,7 +200,8 @@ module _ (p : Setup) where
           } in r) e
   put false i w h = h
 
-  asked : (at : ℕ) (room : Bool) (x : Sending) (w : Works) → IsReached p w → IsReached p (asked_works at room x w)
+  asked : (at : ℕ) (room : Bool) (x : Sending) (w : Works) → IsReached p w
+      → IsReached p (asked_works at room x w)
   asked at room x w h = put (is_first_command w.serial.line x) x.station w h
 
   cut : (w : Works) → IsReached p w → IsCalled p (after_call Cut (tasks_of w))
@@ -203,7 +232,8 @@ module _ (p : Setup) where
       (frames r.5.frames _ _ _ (left log r.0 r.1 r.4 (reached log r.0 r.2)))
   reached (Came now Ticked ∷ log) c r = subst (λ (d : Course). IsReached p d.works) (sym r.5)
       (left log r.0 r.1 r.4 (reached log r.0 r.2))
-  reached (Came now (WallIs number) ∷ log) c r = subst (λ (d : Course). IsReached p d.works) (sym r.5)
+  reached (Came now (WallIs number) ∷ log) c r =
+      subst (λ (d : Course). IsReached p d.works) (sym r.5)
       (left log r.0 r.1 r.4 (reached log r.0 r.2))
   reached (Came now Opened ∷ log) c r = subst (λ (d : Course). IsReached p d.works) (sym r.5)
       (cut r.1.works (left log r.0 r.1 r.4 (reached log r.0 r.2)))
@@ -219,16 +249,19 @@ module _ (p : Setup) where
       subst (λ (d : Course). IsReached p d.works) (sym r.4.taken)
       (frames r.4.frames _ _ r.1 (subst (λ (d : Course). IsReached p d.works) (sym r.3.put)
       (sent log r.3.frame (latest log) r.0 r.3.next (reached log r.0 r.2))))
-  reached (Went now (Closed cause) ∷ log) c r = subst (λ (d : Course). IsReached p d.works) (sym r.2)
+  reached (Went now (Closed cause) ∷ log) c r = subst (λ (d : Course). IsReached p d.works)
+      (sym r.2)
       (closed cause (present log).is_open (latest log) r.0 (reached log r.0 r.1))
 
   -- and once the step before an event is done
-  pub left_reached : (log : Log) (before after : Course) → Runs p log before → IsLeft p log before after
+  pub left_reached : (log : Log) (before after : Course) → Runs p log before
+      → IsLeft p log before after
       → IsReached p after.works
   left_reached log before after r l = left log before after l (reached log before r)
 
   -- so they keep the rules
-  pub kept_commands : CommandLaws → (log : Log) (c : Course) → Runs p log c → KeepsCommands p (tasks_of c.works)
+  pub kept_commands : CommandLaws → (log : Log) (c : Course) → Runs p log c
+      → KeepsCommands p (tasks_of c.works)
   kept_commands laws log c r =
       let calls : IsReached p c.works = reached log c r in
       subst (KeepsCommands p) calls.1 (record {

@@ -1,5 +1,6 @@
 -- The lines of a state read back.
-use Rattle.std.proofs.Common.{◌≡◌, ℕ, List, ◌∷◌, Option, Some, None, Result, Ok, Err, refl, sym, ap, subst, ◌∙◌}
+use Rattle.std.proofs.Common.{◌≡◌, ℕ, List, ◌∷◌, Option, Some, None, Result, Ok, Err, refl, sym, ap}
+use Rattle.std.proofs.Common.{subst, ◌∙◌}
 use Rattle.std.specs.Prelude.{length, IfSome, IfOk, is_some, true, MatchResult}
 use Rattle.asdu.specs.declared.sizes.Sizes.{Sizes}
 use Rattle.apci.specs.Assembly.{Assembly}
@@ -15,7 +16,8 @@ use Rattle.gateway.specs.declared.walls.Wall.{Wall}
 use Rattle.gateway.specs.declared.engine.restoring.Clock.{Clock}
 use Rattle.gateway.specs.Serial.{Serial}
 use Rattle.gateway.specs.State.{State, HasPlaces, IsBetweenSteps}
-use Rattle.gateway.specs.Restored.{wall_numbers, clock_line, clock_of, clock_from, tally_line, tally_from, IsSavableCentre}
+use Rattle.gateway.specs.Restored.{wall_numbers, clock_line, clock_of, clock_from, tally_line}
+use Rattle.gateway.specs.Restored.{tally_from, IsSavableCentre}
 
 by_wall : (moment : ℕ) (wall : Option Wall)
     → clock_from (moment ∷ wall_numbers wall) ≡ Some (record { moment = moment; wall = wall })
@@ -26,12 +28,14 @@ pub clock_is : (s : State) (ns : List ℕ) (r : Option Clock) → ns ≡ clock_l
     → r ≡ Some (clock_of s)
 clock_is s ns r is e = e ∙ ap clock_from is ∙ by_wall s.moment s.wall
 
-pub tally_is : (t : Tally) (ns : List ℕ) (r : Option Tally) → ns ≡ tally_line t → r ≡ tally_from ns → r ≡ Some t
+pub tally_is : (t : Tally) (ns : List ℕ) (r : Option Tally) → ns ≡ tally_line t → r ≡ tally_from ns
+    → r ≡ Some t
 tally_is t ns r is e = e ∙ ap tally_from is
 
 -- ---- a line that comes
 
-pub next_line : (x y : List ℕ) (xs ys all : List (List ℕ)) → all ≡ x ∷ xs → all ≡ y ∷ ys → (y ≡ x) × (ys ≡ xs)
+pub next_line : (x y : List ℕ) (xs ys all : List (List ℕ)) → all ≡ x ∷ xs → all ≡ y ∷ ys
+    → (y ≡ x) × (ys ≡ xs)
 next_line x y xs ys all e f = let g : y ∷ ys ≡ x ∷ xs = sym f ∙ e in (cc, cc)
 
 pub same_clock : (a b : Clock) (r : Option Clock) → r ≡ Some a → r ≡ Some b → a ≡ b
@@ -55,7 +59,8 @@ holds_of P s left (Err fault) h k = h
 
 -- ---- the octets of an APDU
 
-pub octets_in : (s : Centre) → IsSavableCentre s → (xs : List ℕ) × (s.so_far ≡ Some xs) × IsResumable xs
+pub octets_in : (s : Centre) → IsSavableCentre s → (xs : List ℕ) × (s.so_far ≡ Some xs)
+    × IsResumable xs
 octets_in s sav = by_octets s.so_far sav.whole.listens sav.octets
   where
     by_octets : (o : Option (List ℕ)) → is_some o ≡ true → IfSome o IsResumable
@@ -68,7 +73,8 @@ octets_in s sav = by_octets s.so_far sav.whole.listens sav.octets
 abbrev centre_of : Session → Option (List ℕ) → Option Apdu → Queue → Centre
 centre_of c so_far heard q = record { session = c; so_far = so_far; heard = heard; queue = q }
 
-pub centre_back : (r : Result Centre StateFault) (c : Session) (a : Assembly) (q : Queue) (s : Centre) (left : Type 0)
+pub centre_back : (r : Result Centre StateFault) (c : Session) (a : Assembly) (q : Queue)
+    (s : Centre) (left : Type 0)
     → MatchResult r (λ d. d ≡ centre_of c a.so_far a.whole q)
     (λ fault. from_queue c.unacknowledged ≡ length q.sent → ⊥)
     → c ≡ s.session → a.so_far ≡ s.so_far → a.whole ≡ None → q ≡ s.queue → s.heard ≡ None
@@ -76,21 +82,32 @@ pub centre_back : (r : Result Centre StateFault) (c : Session) (a : Assembly) (q
     → MatchResult r (λ d. (d ≡ s) × left) (λ fault. fault ≡ Wrong → ⊥)
 centre_back (Ok d) c a q s left h e f g k none whole rest = (
   h ∙ ap (λ x. centre_of x a.so_far a.whole q) e ∙ ap (λ x. centre_of s.session x a.whole q) f
-      ∙ ap (λ x. centre_of s.session s.so_far x q) (g ∙ sym none) ∙ ap (centre_of s.session s.so_far s.heard) k,
+      ∙ ap (λ x. centre_of s.session s.so_far x q) (g ∙ sym none)
+      ∙ ap (centre_of s.session s.so_far s.heard) k,
   rest,
 )
 centre_back (Err fault) c a q s left h e f g k none whole rest = λ wrong.
-    absurd (h (ap (λ (x : Session). from_queue x.unacknowledged) e ∙ whole ∙ ap (λ (x : Queue). length x.sent) (sym k)))
+    absurd (h (ap (λ (x : Session). from_queue x.unacknowledged) e ∙ whole
+    ∙ ap (λ (x : Queue). length x.sent) (sym k)))
 
 abbrev state_of : Serial → Centre → Sizes → Clock → State
 state_of serial centre sizes clock =
-    record { serial = serial; centre = centre; sizes = sizes; moment = clock.moment; wall = clock.wall }
+    record {
+      serial = serial;
+      centre = centre;
+      sizes = sizes;
+      moment = clock.moment;
+      wall =
+          clock.wall;
+    }
 
-pub state_back : (r : Result State StateFault) (sizes : Sizes) (clock : Clock) (serial : Serial) (centre : Centre)
+pub state_back : (r : Result State StateFault) (sizes : Sizes) (clock : Clock) (serial : Serial)
+    (centre : Centre)
     (s : State) (left : Type 0) → MatchResult r (λ g. g ≡ state_of serial centre sizes clock)
     (λ fault. HasPlaces serial.line centre.queue → ⊥)
     → serial ≡ s.serial → centre ≡ s.centre → clock ≡ clock_of s → sizes ≡ s.sizes
-    → HasPlaces s.serial.line s.centre.queue → left → MatchResult r (λ g. (g ≡ s) × left) (λ fault. fault ≡ Wrong → ⊥)
+    → HasPlaces s.serial.line s.centre.queue → left
+    → MatchResult r (λ g. (g ≡ s) × left) (λ fault. fault ≡ Wrong → ⊥)
 state_back (Ok g) sizes clock serial centre s left h e f k z places rest = (
   h ∙ ap (λ x. state_of x centre sizes clock) e ∙ ap (λ x. state_of s.serial x sizes clock) f
       ∙ ap (λ x. state_of s.serial s.centre x clock) z ∙ ap (state_of s.serial s.centre s.sizes) k,
@@ -101,8 +118,10 @@ state_back (Err fault) sizes clock serial centre s left h e f k z places rest = 
     (subst (λ (x : Centre). HasPlaces s.serial.line x.queue) (sym f) places)))
 
 -- and it is between two steps
-pub joined_between : (r : Result State StateFault) (sizes : Sizes) (clock : Clock) (serial : Serial) (centre : Centre)
-    → MatchResult r (λ g. g ≡ state_of serial centre sizes clock) (λ fault. HasPlaces serial.line centre.queue → ⊥)
+pub joined_between : (r : Result State StateFault) (sizes : Sizes) (clock : Clock) (serial : Serial)
+    (centre : Centre)
+    → MatchResult r (λ g. g ≡ state_of serial centre sizes clock)
+    (λ fault. HasPlaces serial.line centre.queue → ⊥)
     → (serial.silent ≡ None) × (serial.gap ≡ None) → centre.heard ≡ None → IfOk r IsBetweenSteps
 joined_between (Ok g) sizes clock serial centre h told taken = record {
   silent = ap (λ (x : State). x.serial.silent) h ∙ told.0;
@@ -112,7 +131,8 @@ joined_between (Ok g) sizes clock serial centre h told taken = record {
 joined_between (Err fault) sizes clock serial centre h told taken = tt
 
 pub centre_taken : (r : Result Centre StateFault) (c : Session) (a : Assembly) (q : Queue)
-    → MatchResult r (λ d. d ≡ centre_of c a.so_far a.whole q) (λ fault. from_queue c.unacknowledged ≡ length q.sent → ⊥)
+    → MatchResult r (λ d. d ≡ centre_of c a.so_far a.whole q) (λ fault. from_queue c.unacknowledged
+    ≡ length q.sent → ⊥)
     → a.whole ≡ None → IfOk r (λ d. d.heard ≡ None)
 centre_taken (Ok d) c a q h none = ap (λ (x : Centre). x.heard) h ∙ none
 centre_taken (Err fault) c a q h none = tt

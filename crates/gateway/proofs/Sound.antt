@@ -1,5 +1,7 @@
 -- What holds of the gateway's parts together.
-use Rattle.std.proofs.Common.{◌≡◌, ℕ, ◌<◌, ◌≤◌, Bool, true, false, not, ◌++◌, length, drop, inl, inr, refl, ap, sym, ◌∙◌, subst, arith, length-append, length-drop, Some}
+use Rattle.std.proofs.Common.{◌≡◌, ℕ, ◌<◌, ◌≤◌, Bool, true, false, not, ◌++◌, length, drop, inl}
+use Rattle.std.proofs.Common.{inr, refl, ap, sym, ◌∙◌, subst, arith, length-append, length-drop}
+use Rattle.std.proofs.Common.{Some}
 use Rattle.std.specs.Prelude.{IsTrue, ◌↔◌, ◌⊎◌}
 use Rattle.std.proofs.lemmas.Bool.{cases_lt, lt-ltb, le-ltb, false≢true}
 use Rattle.link.specs.Exchanges.{Sending}
@@ -38,13 +40,15 @@ no_room_means q h =
     ]
 
 -- what the queue answers
-pub room_of : (full : Bool) (q : Queue) → (IsTrue full ↔ (free_places q < 3)) → not full ≡ has_room q
+pub room_of : (full : Bool) (q : Queue) → (IsTrue full ↔ (free_places q < 3))
+    → not full ≡ has_room q
 room_of full q is = go full is (cases_lt (free_places q) 3)
   where
     never : IsTrue false → ⊥
     never h = cc
 
-    go : (full : Bool) → (IsTrue full ↔ (free_places q < 3)) → (free_places q < 3) ⊎ (3 ≤ free_places q)
+    go : (full : Bool) → (IsTrue full ↔ (free_places q < 3)) → (free_places q < 3)
+        ⊎ (3 ≤ free_places q)
         → not full ≡ has_room q
     go true is (inl lt) = sym (ap not (lt-ltb (free_places q) 3 lt))
     go true is (inr le) = absurd (omega (arith, is.0 (at refl), le))
@@ -60,8 +64,10 @@ asked_sound l m q may is polls h = λ out. elim (polls out)
     [ inl was ↦ h was | inr leave ↦ room_means q (sym is ∙ leave) ]
 
 -- a poll goes out only where there is room
-pub poll_room : ((p : Primary) (s : Sending) → sending p false ≡ Some s → is_poll_request s.request ≡ true
-    → is_polling p ≡ true) → (l : Primary) (q : Queue) (x : Sending) → HasPlaces l q → sending l (has_room q) ≡ Some x
+pub poll_room : ((p : Primary) (s : Sending) → sending p false ≡ Some s → is_poll_request s.request
+    ≡ true
+    → is_polling p ≡ true) → (l : Primary) (q : Queue) (x : Sending) → HasPlaces l q
+    → sending l (has_room q) ≡ Some x
     → is_poll_request x.request ≡ true → 3 ≤ free_places q
 poll_room repeats l q x h is poll = go (has_room q) refl
   where

@@ -1,5 +1,6 @@
 -- The start of a run.
-use Rattle.std.proofs.Common.{◌≡◌, ◌≢◌, ℕ, zero, suc, ◌<◌, All, List, [], ◌∷◌, length, map, Option, Some, None, refl, ap, sym, ◌∙◌, subst, arith, eq-eqb}
+use Rattle.std.proofs.Common.{◌≡◌, ◌≢◌, ℕ, zero, suc, ◌<◌, All, List, [], ◌∷◌, length, map, Option}
+use Rattle.std.proofs.Common.{Some, None, refl, ap, sym, ◌∙◌, subst, arith, eq-eqb}
 use Rattle.std.specs.Prelude.{if◌then◌else◌, option_map, IfSome}
 use Rattle.std.specs.List.{AllByRecursion}
 use Rattle.std.proofs.lemmas.List.{length-map}
@@ -33,7 +34,8 @@ use Rattle.gateway.proofs.Talking.{talk_first}
 use Rattle.gateway.proofs.Closing.{fresh}
 
 -- a station's address is none of the others'
-not_before : (a : ℕ) (stations : List Station) (i : ℕ) → AllByRecursion (λ (t : Station). a ≢ t.address) stations
+not_before : (a : ℕ) (stations : List Station) (i : ℕ)
+    → AllByRecursion (λ (t : Station). a ≢ t.address) stations
     → i < length stations → a ≢ address_at (map (λ (s : Station). s.address) stations) i
 not_before a [] i h less = absurd (omega (arith, less))
 not_before a (t ∷ stations) zero h less = h.0
@@ -44,29 +46,36 @@ addresses_differ : (s : Station) (stations : List Station) → AllByRecursion (A
 addresses_differ s [] h = tt
 addresses_differ s (t ∷ stations) h = (h.0.0, addresses_differ s stations h.1)
 
-first_found : (stations : List Station) → AreDistinct stations → AreFound (map (λ (s : Station). s.address) stations)
+first_found : (stations : List Station) → AreDistinct stations
+    → AreFound (map (λ (s : Station). s.address) stations)
 first_found [] h i less = absurd (omega (arith, less))
 first_found (s ∷ stations) h zero less =
-    ap (λ b. if b then Some 0 else option_map suc (index_of s.address (map (λ (t : Station). t.address) stations)))
+    ap (λ b. if b then Some 0
+    else option_map suc (index_of s.address (map (λ (t : Station). t.address) stations)))
     (eq-eqb s.address s.address refl)
 first_found (s ∷ stations) h (suc i) less =
     let a : ℕ = address_at (map (λ (t : Station). t.address) stations) i in
-    let within : i < length stations = omega (arith, less, length-map stations (λ (t : Station). t.address)) in
-    ap (λ b. if b then Some 0 else option_map suc (index_of a (map (λ (t : Station). t.address) stations)))
+    let within : i < length stations =
+    omega (arith, less, length-map stations (λ (t : Station). t.address)) in
+    ap (λ b. if b then Some 0
+    else option_map suc (index_of a (map (λ (t : Station). t.address) stations)))
     (ne_eqb s.address a (not_before s.address stations i (addresses_differ s stations h.0) within))
     ∙ ap (option_map suc) (first_found stations h.1 i (omega (arith, less)))
 
 -- the addresses fit the line
 pub first_fits : (link : LinkSize) (ca : CaSize) (stations : List Station)
-    → AllByRecursion (IsStation link ca) stations → All (FitsAddress link) (map (λ (s : Station). s.address) stations)
+    → AllByRecursion (IsStation link ca) stations
+    → All (FitsAddress link) (map (λ (s : Station). s.address) stations)
 first_fits link ca [] h = All-nil (FitsAddress link)
-first_fits link ca (s ∷ stations) h = All-cons (FitsAddress link) s.address (map (λ (t : Station). t.address) stations)
+first_fits link ca (s ∷ stations) h =
+    All-cons (FitsAddress link) s.address (map (λ (t : Station). t.address) stations)
     (omega (arith, h.0.address.1)) (first_fits link ca stations h.1)
 
 -- what `link` says of the start
 abbrev pub StartTells : Type 0
 StartTells = (settings : LinkSettings) (addresses : List ℕ) → 0 < length addresses
-    → All (FitsAddress settings.size) addresses → Tells settings addresses (start settings addresses) no_exchanges
+    → All (FitsAddress settings.size) addresses
+    → Tells settings addresses (start settings addresses) no_exchanges
 
 -- nothing has been told yet
 pub at_first : (c : Settings) → StartTells → SessionLaws → CommandLaws → LineLaws
@@ -105,15 +114,18 @@ at_first c starts laws commands line_laws rules timely = record {
   before = record { are = tt; orders = tt; times = tt; acts = tt; rests = tt };
 }
   where
-    none_offered : (stations : List ℕ) (k : ℕ) → (station_at (map station_down stations) k).offered ≡ None
+    none_offered : (stations : List ℕ) (k : ℕ) → (station_at (map station_down stations) k).offered
+        ≡ None
     none_offered [] k = refl
     none_offered (a ∷ stations) zero = refl
     none_offered (a ∷ stations) (suc k) = none_offered stations k
 
     no_offer : (k : ℕ) (octets : List ℕ)
-        → offered_at (start (link_of c.line) (map (λ (s : Station). s.address) c.stations)) k ≡ Some octets → ⊥
+        → offered_at (start (link_of c.line) (map (λ (s : Station). s.address) c.stations)) k
+        ≡ Some octets → ⊥
     no_offer k octets e =
-        let no : None ≡ Some octets = sym (none_offered (map (λ (s : Station). s.address) c.stations) k) ∙ e in cc
+        let no : None ≡ Some octets =
+        sym (none_offered (map (λ (s : Station). s.address) c.stations) k) ∙ e in cc
 
 -- the settings' ranges
 pub timely : (t : TcpSettings) → IsTimely (session_of t)
@@ -128,8 +140,10 @@ timely t = record {
 
 -- at the start, of a port that tells an empty log
 
-pub first_follows : (c : Settings) (s : State) (told : Option Log) → StartTells → SessionLaws → CommandLaws → LineLaws
-    → AreStations c.line.link c.line.sizes.ca c.stations → IsTimely (session_of c.tcp) → s ≡ first_state c
+pub first_follows : (c : Settings) (s : State) (told : Option Log) → StartTells → SessionLaws
+    → CommandLaws → LineLaws
+    → AreStations c.line.link c.line.sizes.ca c.stations → IsTimely (session_of c.tcp)
+    → s ≡ first_state c
     → told ≡ Some [] → Follows (setup_of c) s told
 first_follows c s told starts laws commands line_laws rules timely is e =
     subst (λ o. Follows (setup_of c) s o) (sym e)
@@ -138,7 +152,8 @@ first_follows c s told starts laws commands line_laws rules timely is e =
       record { confirmed = refl; spent = λ may. (refl, refl) },
     ))
 
-pub told_follows : (p : Setup) (s : State) (told : Option Log) → Follows p s (Some []) → told ≡ Some []
+pub told_follows : (p : Setup) (s : State) (told : Option Log) → Follows p s (Some [])
+    → told ≡ Some []
     → Follows p s told
 told_follows p s told h e = subst (λ o. Follows p s o) (sym e) h
 
@@ -146,6 +161,7 @@ pub nothing_rests : (p : Setup) (told : Option Log) → told ≡ Some [] → Res
 nothing_rests p told e = subst (Rests p) (sym e) tt
 
 -- what follows of each log that is told
-pub of_told : (P Q : Log → Type 0) (told : Option Log) → IfSome told P → ((log : Log) → P log → Q log) → IfSome told Q
+pub of_told : (P Q : Log → Type 0) (told : Option Log) → IfSome told P
+    → ((log : Log) → P log → Q log) → IfSome told Q
 of_told P Q None h q = tt
 of_told P Q (Some log) h q = q log h

@@ -1,5 +1,6 @@
 -- The history of the open connection, as the log goes on and the session is called.
-use Rattle.std.proofs.Common.{◌≡◌, ℕ, ◌<◌, ◌&&◌, Bool, true, false, List, [], ◌∷◌, ◌++◌, length, refl, ap, sym, ◌∙◌, subst, Option, Some, None, cond}
+use Rattle.std.proofs.Common.{◌≡◌, ℕ, ◌<◌, ◌&&◌, Bool, true, false, List, [], ◌∷◌, ◌++◌, length}
+use Rattle.std.proofs.Common.{refl, ap, sym, ◌∙◌, subst, Option, Some, None, cond}
 use Rattle.std.specs.Prelude.{is_none, not, nat_lt, ◌==◌, ◌⊎◌}
 use Rattle.std.specs.List.{flat_map}
 use Rattle.std.proofs.lemmas.List.{append-nil}
@@ -7,20 +8,24 @@ use Rattle.std.proofs.lemmas.Bool.{cond-true, and_from}
 use Rattle.apci.specs.declared.apdu.Apdu.{Apdu}
 use Rattle.apci.specs.declared.apdu.Apdu.TheVariants.{I, S, U}
 use Rattle.apci.specs.declared.apdu.Uf.{Uf}
-use Rattle.apci.specs.declared.apdu.Uf.TheVariants.{StartAct, StartCon, StopAct, StopCon, TestAct, TestCon}
+use Rattle.apci.specs.declared.apdu.Uf.TheVariants.{StartAct, StartCon, StopAct, StopCon, TestAct}
+use Rattle.apci.specs.declared.apdu.Uf.TheVariants.{TestCon}
 use Rattle.apci.specs.Spelling.{spelling, Fits}
 use Rattle.apci.specs.Reading.{IsMore}
 use Rattle.session.specs.declared.kinds.Kind.{Kind}
 use Rattle.session.specs.declared.kinds.Taken.{Taken}
 use Rattle.session.specs.declared.kinds.Taken.TheVariants.{Nothing, Asdu, Close as Closes}
 use Rattle.session.specs.Session as session
-use Rattle.session.specs.Session.{Session, Due, is_close, outcome_of, may_send, confirmed, pulled, timed_out, refuses}
+use Rattle.session.specs.Session.{Session, Due, is_close, outcome_of, may_send, confirmed, pulled}
+use Rattle.session.specs.Session.{timed_out, refuses}
 use Rattle.session.specs.History as talk
 use Rattle.session.specs.History.{History, confirmation_of, frame_due, has_timed_out}
-use Rattle.session.specs.Runs.{Settings, Call, Take, Send, Confirm, Pull, Open, Cut, Run, run, told, gone, may_take, after_call}
+use Rattle.session.specs.Runs.{Settings, Call, Take, Send, Confirm, Pull, Open, Cut, Run, run, told}
+use Rattle.session.specs.Runs.{gone, may_take, after_call}
 use Rattle.session.specs.Rules.{KeepsRules}
 use Rattle.session.specs.Ends.{IsConfirmed, after_confirm, after_pull}
-use Rattle.gateway.specs.Log.{Log, LineIn, Opened, TcpIn, CutOff, Ticked, WallIs, Came, Went, LineOut, TcpOut, Closed, GapOut, latest}
+use Rattle.gateway.specs.Log.{Log, LineIn, Opened, TcpIn, CutOff, Ticked, WallIs, Came, Went}
+use Rattle.gateway.specs.Log.{LineOut, TcpOut, Closed, GapOut, latest}
 use Rattle.gateway.specs.Walls.{wall_on}
 use Rattle.gateway.specs.Streams.{spelled}
 use Rattle.gateway.specs.Frames.{data_frames}
@@ -29,7 +34,9 @@ use Rattle.gateway.specs.Objects.{monitor_objects}
 use Rattle.link.specs.LineLaws.{LineLaws}
 use Rattle.gateway.specs.Reports.{Setup, address_at, exchanges_of, taken_objects}
 use Rattle.gateway.specs.Works.{has_lacked_place}
-use Rattle.gateway.specs.Course.{Course, first_course, came_frames, kind_of, told_sent, with_frame, with_sent, IsFlushed, IsUntouched, HasBegun, MayTake, TakesFrames, HasTakenAll, IsNext, Runs}
+use Rattle.gateway.specs.Course.{Course, first_course, came_frames, kind_of, told_sent, with_frame}
+use Rattle.gateway.specs.Course.{with_sent, IsFlushed, IsUntouched, HasBegun, MayTake, TakesFrames}
+use Rattle.gateway.specs.Course.{HasTakenAll, IsNext, Runs}
 use Rattle.gateway.specs.Conversation.{KeepsRulesSoFar}
 use Rattle.gateway.proofs.Reached.{kept_commands}
 use Rattle.gateway.specs.Phases.{IsTaking}
@@ -39,8 +46,10 @@ use Rattle.gateway.specs.Agrees.{Talks, IsTimely}
 
 -- A frame more is taken
 
-taken_more : (p : Setup) (log : Log) (now : ℕ) (before c : Course) (f : Apdu) → MayTake p log now f c
-    → TakesFrames p log now before c → TakesFrames p log now before (with_frame p f now (wall_on log now) c)
+taken_more : (p : Setup) (log : Log) (now : ℕ) (before c : Course) (f : Apdu)
+    → MayTake p log now f c
+    → TakesFrames p log now before c
+    → TakesFrames p log now before (with_frame p f now (wall_on log now) c)
 taken_more p log now before c f may k = record {
   frames = f ∷ k.frames;
   taken =
@@ -55,12 +64,16 @@ taken_more p log now before c f may k = record {
 bytes_taken : LineLaws → (p : Setup) (log : Log) (now : ℕ) (octets : List ℕ)
     → taken_objects p (Came now (TcpIn octets) ∷ log) ≡ taken_objects p log
 bytes_taken laws p log now octets =
-    ap (λ (reports : List (ℕ × List ℕ)). flat_map (λ report. monitor_objects p.sizes report.1) reports)
-    (laws.due_reports p.link.size (address_at p.addresses) p.link.answer_ms (latest (Came now (TcpIn octets) ∷ log))
+    ap (λ (reports : List (ℕ × List ℕ)). flat_map (λ report. monitor_objects p.sizes report.1)
+    reports)
+    (laws.due_reports p.link.size (address_at p.addresses) p.link.answer_ms
+    (latest (Came now (TcpIn octets) ∷ log))
     (exchanges_of p log))
 
-pub may_at : LineLaws → (p : Setup) (log : Log) (now other moment : ℕ) (octets : List ℕ) (f : Apdu) (c : Course)
-    → MayTake p (Came now (TcpIn octets) ∷ log) moment f c → MayTake p (Came other (TcpIn octets) ∷ log) moment f c
+pub may_at : LineLaws → (p : Setup) (log : Log) (now other moment : ℕ) (octets : List ℕ) (f : Apdu)
+    (c : Course)
+    → MayTake p (Came now (TcpIn octets) ∷ log) moment f c
+    → MayTake p (Came other (TcpIn octets) ∷ log) moment f c
 may_at laws p log now other moment octets f c may = record {
   fits = may.fits;
   rest = may.rest;
@@ -78,7 +91,8 @@ may_at laws p log now other moment octets f c may = record {
 }
 
 -- frames are taken only of octets
-runs_more : LineLaws → (p : Setup) (log : Log) (c : Course) (f : Apdu) → IsTaking log → MayTake p log (latest log) f c
+runs_more : LineLaws → (p : Setup) (log : Log) (c : Course) (f : Apdu) → IsTaking log
+    → MayTake p log (latest log) f c
     → Runs p log c → Runs p log (with_frame p f (latest log) (wall_on log (latest log)) c)
 runs_more laws p [] c f takes may k = absurd takes
 runs_more laws p (Came now (LineIn octets) ∷ log) c f takes may k = absurd takes
@@ -122,36 +136,46 @@ takes s h f now on ready goes =
 
 pub sends : (s : Session) (h : History) (asdu : List ℕ) (kind : Kind) (now : ℕ) → may_send s ≡ true
     → kind_of asdu ≡ kind → after_call (Send kind now) (at s h)
-    ≡ at (session.sent kind now s) (told_sent (I s.next_sent s.next_received (record { items = asdu })) now h)
+    ≡ at (session.sent kind now s)
+    (told_sent (I s.next_sent s.next_received (record { items = asdu })) now h)
 sends s h asdu kind now may is =
-    cond-true (may_send s) (at (session.sent kind now s) (talk.Sent s.next_sent s.next_received kind now ∷ h))
+    cond-true (may_send s)
+    (at (session.sent kind now s) (talk.Sent s.next_sent s.next_received kind now ∷ h))
     (at s h) may
-    ∙ ap (λ k. at (session.sent kind now s) (talk.Sent s.next_sent s.next_received k now ∷ h)) (sym is)
+    ∙ ap (λ k. at (session.sent kind now s) (talk.Sent s.next_sent s.next_received k now ∷ h))
+    (sym is)
 
 -- a frame that bears no ASDU
 abbrev pub HasNoData : Apdu → Type 0
 HasNoData f = (put : List Apdu) → data_frames (f ∷ put) ≡ data_frames put
 
-pub plain : (f : Apdu) (now : ℕ) (h : History) → HasNoData f → told_sent f now h ≡ talk.Went f now ∷ h
+pub plain : (f : Apdu) (now : ℕ) (h : History) → HasNoData f → told_sent f now h ≡ talk.Went f now
+    ∷ h
 plain (I ns nr asdu) now h none = let no : data_frames (I ns nr asdu ∷ []) ≡ [] = none [] in cc
 plain (S nr) now h none = refl
 plain (U u) now h none = refl
 
 -- and it is next where it is a confirmation, or all has gone out
 pub next_plain : (p : Setup) (log : Log) (c : Course) (f : Apdu) → HasNoData f
-    → (confirmation_of c.talk ≡ Some f) ⊎ ((confirmation_of c.talk ≡ None) × IsFlushed p log c × HasBegun log c)
+    → (confirmation_of c.talk ≡ Some f) ⊎ ((confirmation_of c.talk ≡ None) × IsFlushed p log c
+    × HasBegun log c)
     → IsNext p log f c
-next_plain p log c (I ns nr asdu) none h = let no : data_frames (I ns nr asdu ∷ []) ≡ [] = none [] in cc
+next_plain p log c (I ns nr asdu) none h = let no : data_frames (I ns nr asdu ∷ []) ≡ [] =
+    none [] in cc
 next_plain p log c (S nr) none h = h
 next_plain p log c (U u) none h = h
 
 pub confirms : (s t : Session) (h : History) (f : Apdu) (now : ℕ) → HasNoData f
-    → ◌≡◌ {A = Due} (Some f, t) (confirmed s) → after_call (Confirm now) (at s h) ≡ at t (told_sent f now h)
-confirms s t h f now none e = ap (λ (d : Due). gone d now (at s h)) (sym e) ∙ ap (at t) (sym (plain f now h none))
+    → ◌≡◌ {A = Due} (Some f, t) (confirmed s) → after_call (Confirm now) (at s h)
+    ≡ at t (told_sent f now h)
+confirms s t h f now none e = ap (λ (d : Due). gone d now (at s h)) (sym e)
+    ∙ ap (at t) (sym (plain f now h none))
 
-pub pulls : (s t : Session) (h : History) (f : Apdu) (now : ℕ) → HasNoData f → ◌≡◌ {A = Due} (Some f, t) (pulled now s)
+pub pulls : (s t : Session) (h : History) (f : Apdu) (now : ℕ) → HasNoData f
+    → ◌≡◌ {A = Due} (Some f, t) (pulled now s)
     → after_call (Pull now) (at s h) ≡ at t (told_sent f now h)
-pulls s t h f now none e = ap (λ (d : Due). gone d now (at s h)) (sym e) ∙ ap (at t) (sym (plain f now h none))
+pulls s t h f now none e = ap (λ (d : Due). gone d now (at s h)) (sym e)
+    ∙ ap (at t) (sym (plain f now h none))
 
 -- The session and the log
 
@@ -160,11 +184,13 @@ same_came (I ns nr asdu) now h = refl
 same_came (S nr) now h = refl
 same_came (U u) now h = refl
 
-pub kept_talk : (p : Setup) (s : Session) (log : Log) (c : Course) → Talks p s log c → KeepsRulesSoFar p log
+pub kept_talk : (p : Setup) (s : Session) (log : Log) (c : Course) → Talks p s log c
+    → KeepsRulesSoFar p log
 kept_talk p s log c k = record {
   course = c;
   runs = k.course_runs;
-  rules = subst (λ (r : Run). KeepsRules p.session r.history) k.called (k.laws.rules p.session k.calls k.timely.range);
+  rules = subst (λ (r : Run). KeepsRules p.session r.history) k.called
+      (k.laws.rules p.session k.calls k.timely.range);
   commands = kept_commands p k.command_laws log c k.course_runs;
 }
 
@@ -173,8 +199,10 @@ abbrev pub Begins : Channel → Course → Type 0
 Begins octets c = (rest : List ℕ) × (octets.received ≡ spelled (came_frames c.talk) ++ rest)
 
 -- what is said once one call more is made keeps the rules
-ruled : (p : Setup) (s t : Session) (log : Log) (c : Course) (call : Call) (now moment : ℕ) (said : ℕ
-    → History) (k : Talks p s log c) → moment ≡ now → after_call call (at s c.talk) ≡ at t (said moment)
+ruled : (p : Setup) (s t : Session) (log : Log) (c : Course) (call : Call) (now moment : ℕ)
+    (said : ℕ
+    → History) (k : Talks p s log c) → moment ≡ now → after_call call (at s c.talk)
+    ≡ at t (said moment)
     → KeepsRules p.session (said now)
 ruled p s t log c call now moment said k clock made =
     subst (λ m. KeepsRules p.session (said m)) clock
@@ -182,8 +210,10 @@ ruled p s t log c call now moment said k clock made =
     ∙ made) (k.laws.rules p.session (call ∷ k.calls) k.timely.range))
 
 -- a frame goes out
-pub talk_out : (p : Setup) (s t : Session) (log : Log) (c : Course) (now moment : ℕ) (f : Apdu) (call : Call)
-    (k : Talks p s log c) → Fits f → moment ≡ latest log → IsNext p log f c → has_lacked_place c.works.history ≡ false
+pub talk_out : (p : Setup) (s t : Session) (log : Log) (c : Course) (now moment : ℕ) (f : Apdu)
+    (call : Call)
+    (k : Talks p s log c) → Fits f → moment ≡ latest log → IsNext p log f c
+    → has_lacked_place c.works.history ≡ false
     → after_call call (at s c.talk) ≡ at t (told_sent f moment c.talk) → Begins (present log) c →
     Talks p t (Went now (TcpOut (spelling f)) ∷ log) (with_sent f moment c)
 talk_out p s t log c now moment f call k fits clock next placed made b = record {
@@ -220,34 +250,40 @@ talk_out p s t log c now moment f call k fits clock next placed made b = record 
 }
 
 -- a frame is taken
-pub talk_heard : (p : Setup) (s : Session) (log : Log) (c : Course) (moment : ℕ) (f : Apdu) (rest : List ℕ)
-    (k : Talks p s log c) → IsTaking log → moment ≡ latest log → session.is_open s ≡ true → IsConfirmed s → Fits f
+pub talk_heard : (p : Setup) (s : Session) (log : Log) (c : Course) (moment : ℕ) (f : Apdu)
+    (rest : List ℕ)
+    (k : Talks p s log c) → IsTaking log → moment ≡ latest log → session.is_open s ≡ true
+    → IsConfirmed s → Fits f
     → refuses s f ≡ false → has_lacked_place c.works.history ≡ false → IsFlushed p log c
-    → IsUntouched log c ⊎ (frame_due p.session.w p.session.t2 p.session.t3 (latest log) c.talk ≡ None)
+    → IsUntouched log c ⊎ (frame_due p.session.w p.session.t2 p.session.t3 (latest log) c.talk
+    ≡ None)
     → (present log).received ≡ spelled (f ∷ came_frames c.talk) ++ rest →
     Talks p (session.taken f moment s) log (with_frame p f moment (wall_on log moment) c)
-talk_heard p s log c moment f rest k taking clock on ready fits goes placed flushed undue joined = record {
-  timely = k.timely;
-  laws = k.laws;
-  command_laws = k.command_laws;
-  line_laws = k.line_laws;
-  calls = Take f moment ∷ k.calls;
-  called = ap (after_call (Take f moment)) k.called ∙ takes s c.talk f moment on ready goes;
-  course_runs = subst (λ m. Runs p log (with_frame p f m (wall_on log m) c)) (sym clock)
-      (runs_more k.line_laws p log c f taking (record {
-        fits = fits;
-        rest = rest;
-        joined = joined;
-        rules = ruled p s (session.taken f moment s) log c (Take f moment) (latest log) moment (λ m. talk.Came f m
-            ∷ c.talk) k clock (takes s c.talk f moment on ready goes);
-        placed = placed;
-        flushed = flushed;
-        undue = undue;
-      }) k.course_runs);
-}
+talk_heard p s log c moment f rest k taking clock on ready fits goes placed flushed undue joined =
+    record {
+      timely = k.timely;
+      laws = k.laws;
+      command_laws = k.command_laws;
+      line_laws = k.line_laws;
+      calls = Take f moment ∷ k.calls;
+      called = ap (after_call (Take f moment)) k.called ∙ takes s c.talk f moment on ready goes;
+      course_runs = subst (λ m. Runs p log (with_frame p f m (wall_on log m) c)) (sym clock)
+          (runs_more k.line_laws p log c f taking (record {
+            fits = fits;
+            rest = rest;
+            joined = joined;
+            rules = ruled p s (session.taken f moment s) log c (Take f moment) (latest log) moment
+                (λ m. talk.Came f m
+                ∷ c.talk) k clock (takes s c.talk f moment on ready goes);
+            placed = placed;
+            flushed = flushed;
+            undue = undue;
+          }) k.course_runs);
+    }
 
 -- the same of another log, where nothing was said
-pub talk_on : (p : Setup) (s t : Session) (old new : Log) (c d : Course) (k : Talks p s old c) → t ≡ s
+pub talk_on : (p : Setup) (s t : Session) (old new : Log) (c d : Course) (k : Talks p s old c)
+    → t ≡ s
     → d.talk ≡ c.talk → Runs p new d → Talks p t new d
 talk_on p s t old new c d k same said is = record {
   timely = k.timely;
@@ -271,7 +307,8 @@ all_taken log c so_far joined waits = record {
 }
 
 -- the connection ends
-pub talk_cut : (p : Setup) (s t : Session) (old new : Log) (c d : Course) → Talks p s old c → t ≡ s → d.talk ≡ []
+pub talk_cut : (p : Setup) (s t : Session) (old new : Log) (c d : Course) → Talks p s old c → t ≡ s
+    → d.talk ≡ []
     → Runs p new d → Talks p (session.closed t) new d
 talk_cut p s t old new c d k same said is = record {
   timely = k.timely;
@@ -285,8 +322,10 @@ talk_cut p s t old new c d k same said is = record {
 }
 
 -- a connection begins
-pub talk_open : (p : Setup) (s t : Session) (old new : Log) (c d : Course) (moment : ℕ) → Talks p s old c → t ≡ s
-    → d.talk ≡ talk.Opened moment ∷ [] → Runs p new d → Talks p (session.opened moment (session.closed t)) new d
+pub talk_open : (p : Setup) (s t : Session) (old new : Log) (c d : Course) (moment : ℕ)
+    → Talks p s old c → t ≡ s
+    → d.talk ≡ talk.Opened moment ∷ [] → Runs p new d
+    → Talks p (session.opened moment (session.closed t)) new d
 talk_open p s t old new c d moment k same said is = record {
   timely = k.timely;
   laws = k.laws;
@@ -301,7 +340,8 @@ talk_open p s t old new c d moment k same said is = record {
 
 -- at the start
 pub talk_first : (p : Setup) → IsTimely p.session → SessionLaws → CommandLaws → LineLaws
-    → Talks p (session.new_session p.session.k p.session.w p.session.t1 p.session.t2 p.session.t3) [] (first_course p)
+    → Talks p (session.new_session p.session.k p.session.w p.session.t1 p.session.t2 p.session.t3)
+    [] (first_course p)
 talk_first p timely laws command_laws line_laws = record {
   timely = timely;
   laws = laws;
@@ -317,7 +357,8 @@ talk_first p timely laws command_laws line_laws = record {
 
 pub confirmed_by : (p : Setup) (s : Session) (log : Log) (c : Course) (k : Talks p s log c)
     → (confirmed s).0 ≡ confirmation_of c.talk
-confirmed_by p s log c k = subst (λ (r : Run). (confirmed r.session).0 ≡ confirmation_of r.history) k.called
+confirmed_by p s log c k = subst (λ (r : Run). (confirmed r.session).0 ≡ confirmation_of r.history)
+    k.called
     (k.laws.confirm p.session k.calls k.timely.range)
 
 pub due_by : (p : Setup) (s : Session) (log : Log) (c : Course) (k : Talks p s log c) (now : ℕ)
@@ -327,15 +368,18 @@ due_by p s log c k now = subst (λ (r : Run). (pulled now r.session).0
     (k.laws.dues p.session k.calls k.timely.range now)
 
 pub may_by : (p : Setup) (s : Session) (log : Log) (c : Course) (k : Talks p s log c)
-    → may_send s ≡ (talk.is_started c.talk && nat_lt (length (talk.still_unacknowledged c.talk)) p.session.k)
+    → may_send s
+    ≡ (talk.is_started c.talk && nat_lt (length (talk.still_unacknowledged c.talk)) p.session.k)
 may_by p s log c k = subst (λ (r : Run). may_send r.session
-    ≡ (talk.is_started r.history && nat_lt (length (talk.still_unacknowledged r.history)) p.session.k)) k.called
+    ≡ (talk.is_started r.history && nat_lt (length (talk.still_unacknowledged r.history))
+    p.session.k)) k.called
     (k.laws.may_send p.session k.calls k.timely.range)
 
 pub late_by : (p : Setup) (s : Session) (log : Log) (c : Course) (k : Talks p s log c) (now : ℕ)
     → timed_out now s ≡ has_timed_out p.session.t1 now c.talk
 late_by p s log c k now = subst (λ (r : Run). timed_out now r.session
-    ≡ has_timed_out p.session.t1 now r.history) k.called (k.laws.t1 p.session k.calls k.timely.range now)
+    ≡ has_timed_out p.session.t1 now r.history) k.called
+    (k.laws.t1 p.session k.calls k.timely.range now)
 
 -- t1 stays
 
@@ -348,13 +392,15 @@ either_session true x y n h k = h
 either_session false x y n h k = k
 
 replied_t1 : (r : Option Uf) (s : Session) → (session.replied r s).1.t1 ≡ s.t1
-replied_t1 None s = either_way (session.is_stopping s && length s.unacknowledged == 0) _ _ (λ d. d.1.t1
+replied_t1 None s = either_way (session.is_stopping s && length s.unacknowledged == 0) _ _
+    (λ d. d.1.t1
     ≡ s.t1) refl refl
 replied_t1 (Some u) s = refl
 
 pub confirm_t1 : (s : Session) → (after_confirm s).t1 ≡ s.t1
 confirm_t1 s = either_way (not (session.is_open s)) _ _ (λ d. d.1.t1 ≡ s.t1) refl
-    (either_way (session.is_stopping s && nat_lt 0 s.unconfirmed) _ _ (λ d. d.1.t1 ≡ s.t1) refl (replied_t1 s.reply s))
+    (either_way (session.is_stopping s && nat_lt 0 s.unconfirmed) _ _ (λ d. d.1.t1 ≡ s.t1) refl
+    (replied_t1 s.reply s))
 
 pub pull_t1 : (now : ℕ) (s : Session) → (after_pull now s).t1 ≡ s.t1
 pull_t1 now s = either_way (not (session.is_open s)) _ _ (λ d. d.1.t1 ≡ s.t1) refl
@@ -371,7 +417,8 @@ after_frame_t1 (U StopCon) now s = refl
 after_frame_t1 (U TestAct) now s = refl
 after_frame_t1 (U TestCon) now s = refl
 
-either_run : (b : Bool) (x y : Run) (n : ℕ) → x.session.t1 ≡ n → y.session.t1 ≡ n → (cond b x y).session.t1 ≡ n
+either_run : (b : Bool) (x y : Run) (n : ℕ) → x.session.t1 ≡ n → y.session.t1 ≡ n
+    → (cond b x y).session.t1 ≡ n
 either_run true x y n h k = h
 either_run false x y n h k = k
 
@@ -379,11 +426,13 @@ call_t1 : (call : Call) (r : Run) → (after_call call r).session.t1 ≡ r.sessi
 call_t1 (Open now) r = refl
 call_t1 Cut r = refl
 call_t1 (Take f now) r =
-    either_run (may_take r.session) (at (session.taken f now r.session) (told (outcome_of r.session f) f now
+    either_run (may_take r.session)
+    (at (session.taken f now r.session) (told (outcome_of r.session f) f now
     ∷ r.history)) r r.session.t1
     (either_session (refuses r.session f) _ _ r.session.t1 refl (after_frame_t1 f now _)) refl
 call_t1 (Send kind now) r = either_run (may_send r.session)
-    (at (session.sent kind now r.session) (talk.Sent r.session.next_sent r.session.next_received kind now ∷ r.history))
+    (at (session.sent kind now r.session) (talk.Sent r.session.next_sent r.session.next_received
+    kind now ∷ r.history))
     r r.session.t1 refl refl
 call_t1 (Confirm now) r = confirm_t1 r.session
 call_t1 (Pull now) r = pull_t1 now r.session
@@ -394,4 +443,5 @@ run_t1 p (call ∷ calls) = call_t1 call (run p calls) ∙ run_t1 p calls
 
 pub patient : (p : Setup) (s : Session) (log : Log) (c : Course) → Talks p s log c → 0 < s.t1
 patient p s log c k =
-    subst (λ n. 0 < n) (sym (ap (λ (r : Run). r.session.t1) (sym k.called) ∙ run_t1 p.session k.calls)) k.timely.patient
+    subst (λ n. 0 < n) (sym (ap (λ (r : Run). r.session.t1) (sym k.called)
+    ∙ run_t1 p.session k.calls)) k.timely.patient

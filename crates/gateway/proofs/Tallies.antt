@@ -1,5 +1,6 @@
 -- What a course counts of commands is what became of them.
-use Rattle.std.proofs.Common.{◌≡◌, ℕ, ◌+◌, Bool, true, false, List, [], ◌∷◌, Option, Some, None, refl, ap, sym, ◌∙◌, subst, arith}
+use Rattle.std.proofs.Common.{◌≡◌, ℕ, ◌+◌, Bool, true, false, List, [], ◌∷◌, Option, Some, None}
+use Rattle.std.proofs.Common.{refl, ap, sym, ◌∙◌, subst, arith}
 use Rattle.std.specs.Prelude.{if◌then◌else◌}
 use Rattle.asdu.specs.Asdu.{AsduValue}
 use Rattle.asdu.specs.InformationObjects.{InformationObject, objects_of, is_passed_on}
@@ -11,10 +12,12 @@ use Rattle.link.specs.Exchanges.{Sending}
 use Rattle.link.specs.declared.outcome.Outcome.{Outcome}
 use Rattle.link.specs.declared.outcome.Outcome.TheVariants as outcome
 use Rattle.session.specs.declared.kinds.Close.{Close}
-use Rattle.session.specs.declared.kinds.Close.TheVariants.{Grammar, SendNumber, ReceiveNumber, Stopped, Timeout, OwnAnswers, Replaced}
+use Rattle.session.specs.declared.kinds.Close.TheVariants.{Grammar, SendNumber, ReceiveNumber}
+use Rattle.session.specs.declared.kinds.Close.TheVariants.{Stopped, Timeout, OwnAnswers, Replaced}
 use Rattle.command.specs.declared.waiting.Waiting.{Waiting}
 use Rattle.command.specs.State as tasks
-use Rattle.command.specs.State.{has_answer_place, first_answer, oldest_for, is_used, line_of, refusal_of}
+use Rattle.command.specs.State.{has_answer_place, first_answer, oldest_for, is_used, line_of}
+use Rattle.command.specs.State.{refusal_of}
 use Rattle.command.specs.Judging.{judged}
 use Rattle.command.specs.Mirrors as mirrors
 use Rattle.command.specs.History.{History, Judged, Refused, GivenUp, Mirrored, Offered}
@@ -22,18 +25,23 @@ use Rattle.command.specs.Calls.{after_answer, after_sending}
 use Rattle.gateway.specs.declared.counts.Tally.{Tally}
 use Rattle.gateway.specs.Objects.{has_objects}
 use Rattle.gateway.specs.Counting.{one_more, one_lost, one_skipped, is_answer_type, counted_by}
-use Rattle.gateway.specs.Log.{Log, LineIn, Opened, TcpIn, CutOff, Ticked, WallIs, Came, Went, LineOut, TcpOut, Closed, GapOut, latest}
+use Rattle.gateway.specs.Log.{Log, LineIn, Opened, TcpIn, CutOff, Ticked, WallIs, Came, Went}
+use Rattle.gateway.specs.Log.{LineOut, TcpOut, Closed, GapOut, latest}
 use Rattle.gateway.specs.Connections.{present}
 use Rattle.gateway.specs.Reports.{Setup}
 use Rattle.gateway.specs.Tags.{AreTagged}
 use Rattle.gateway.specs.Serial.{listed, refusals, is_first_command, unless_silent}
-use Rattle.gateway.specs.Works.{Works, tasks_of, told_kept, is_command_by, is_command_report, IsPassedOn, mirrored_works, LearnsReport, LearnsOf, heard_works, sent_works, answered_works, told_silent, settled_works, ready_works, unasked_works, done_works, told_put, asked_works}
+use Rattle.gateway.specs.Works.{Works, tasks_of, told_kept, is_command_by, is_command_report}
+use Rattle.gateway.specs.Works.{IsPassedOn, mirrored_works, LearnsReport, LearnsOf, heard_works}
+use Rattle.gateway.specs.Works.{sent_works, answered_works, told_silent, settled_works, ready_works}
+use Rattle.gateway.specs.Works.{unasked_works, done_works, told_put, asked_works}
 use Rattle.gateway.specs.Course.{Course, with_frames, closed_course, IsLeft, room_in, Runs}
 use Rattle.gateway.specs.Line.{done_in}
 use Rattle.gateway.specs.Tallies.{given_up_in, unpassed_in}
 
 abbrev AreCounted : History → Tally → Type 0
-AreCounted h t = (t.lost ≡ saturated (given_up_in h)) × (t.mirrors ≡ saturated (unpassed_in false h))
+AreCounted h t = (t.lost ≡ saturated (given_up_in h))
+    × (t.mirrors ≡ saturated (unpassed_in false h))
 
 abbrev IsCounted : Works → Type 0
 IsCounted w = AreCounted w.history w.serial.counts
@@ -43,14 +51,18 @@ one_saturated n m e = ap one_more e ∙ omega arith
 
 -- Own answers
 
-lost_kept : (xs : List (List ℕ)) (s : tasks.State) (h : History) → given_up_in (told_kept xs s h) ≡ given_up_in h
+lost_kept : (xs : List (List ℕ)) (s : tasks.State) (h : History) → given_up_in (told_kept xs s h)
+    ≡ given_up_in h
 lost_kept [] s h = refl
 lost_kept (x ∷ xs) s h =
-    by_room (has_answer_place s) (lost_kept xs (tasks.offered x s) (Offered x (has_answer_place s) ∷ h))
+    by_room (has_answer_place s) (lost_kept xs (tasks.offered x s) (Offered x (has_answer_place s)
+    ∷ h))
   where
-    by_room : (b : Bool) → given_up_in (told_kept xs (tasks.offered x s) (Offered x (has_answer_place s) ∷ h))
+    by_room : (b : Bool)
+        → given_up_in (told_kept xs (tasks.offered x s) (Offered x (has_answer_place s) ∷ h))
         ≡ given_up_in h →
-        given_up_in (if b then told_kept xs (tasks.offered x s) (Offered x (has_answer_place s) ∷ h) else Offered x
+        given_up_in (if b then told_kept xs (tasks.offered x s) (Offered x (has_answer_place s) ∷ h)
+        else Offered x
         (has_answer_place s) ∷ h) ≡ given_up_in h
     by_room true e = e
     by_room false e = refl
@@ -68,22 +80,31 @@ handed x [] s h b = by_room (has_answer_place s)
 handed x (y ∷ ys) s h b = by_room (has_answer_place s)
     (handed y ys (tasks.offered x s) (Offered x (has_answer_place s) ∷ h) b)
   where
-    by_room : (c : Bool) → unpassed_in b (told_kept (y ∷ ys) (tasks.offered x s) (Offered x (has_answer_place s) ∷ h))
+    by_room : (c : Bool)
+        → unpassed_in b (told_kept (y ∷ ys) (tasks.offered x s) (Offered x (has_answer_place s)
+        ∷ h))
         ≡ unpassed_in true h →
-        unpassed_in b (if c then told_kept (y ∷ ys) (tasks.offered x s) (Offered x (has_answer_place s)
+        unpassed_in b (if c then told_kept (y ∷ ys) (tasks.offered x s)
+        (Offered x (has_answer_place s)
         ∷ h) else Offered x
         (has_answer_place s) ∷ h) ≡ unpassed_in true h
     by_room true e = e
     by_room false e = refl
 
-unpassed_kept : (xs : List (List ℕ)) (s : tasks.State) (h : History) → unpassed_in true h ≡ unpassed_in false h
+unpassed_kept : (xs : List (List ℕ)) (s : tasks.State) (h : History) → unpassed_in true h
+    ≡ unpassed_in false h
     → unpassed_in false (told_kept xs s h) ≡ unpassed_in false h
 unpassed_kept [] s h e = refl
 unpassed_kept (x ∷ xs) s h e = handed x xs s h false ∙ e
 
-kept : (xs : List (List ℕ)) (s : tasks.State) (h : History) (t : Tally) → unpassed_in true h ≡ unpassed_in false h
+kept : (xs : List (List ℕ)) (s : tasks.State) (h : History) (t : Tally) → unpassed_in true h
+    ≡ unpassed_in false h
     → AreCounted h t → AreCounted (told_kept xs s h) t
-kept xs s h t e c = (c.0 ∙ ap saturated (sym (lost_kept xs s h)), c.1 ∙ ap saturated (sym (unpassed_kept xs s h e)))
+kept xs s h t e c = (
+  c.0 ∙ ap saturated (sym (lost_kept xs s h)),
+  c.1
+      ∙ ap saturated (sym (unpassed_kept xs s h e)),
+)
 
 -- What came of an exchange
 
@@ -96,17 +117,22 @@ passed : (v : AsduValue) (at : ℕ) (x : List ℕ) (xs : List (List ℕ)) (w : W
     → IsCounted (mirrored_works at true v (x ∷ xs) w)
 passed v at x xs w c =
     let s : tasks.State = mirrors.mirrored v at w.serial.commands in
-    let h : History = Mirrored at v ∷ w.history in
-    (c.0 ∙ ap saturated (sym (lost_kept (x ∷ xs) s h)), c.1 ∙ ap saturated (sym (handed x xs s h false)))
+    let h : History = Mirrored at v ∷ w.history in (
+      c.0 ∙ ap saturated (sym (lost_kept (x ∷ xs) s h)),
+      c.1
+          ∙ ap saturated (sym (handed x xs s h false)),
+    )
 
 -- an answer to a command has an object, so it has a piece, with a tag or without
-tagged_some : (o : Option Cp56) (x : List ℕ) (xs pieces : List (List ℕ)) → AreTagged o (x ∷ xs) pieces
+tagged_some : (o : Option Cp56) (x : List ℕ) (xs pieces : List (List ℕ))
+    → AreTagged o (x ∷ xs) pieces
     → (y : List ℕ) × (ys : List (List ℕ)) × (pieces ≡ y ∷ ys)
 tagged_some None x xs pieces e = (x, xs, e)
 tagged_some (Some tag) x [] pieces e = (e.0, [], e.1)
 tagged_some (Some tag) x (y ∷ ys) pieces e = (x, y ∷ ys, e)
 
-some_pieces : (p : Setup) (o : Option Cp56) (v : AsduValue) (report : List ℕ) (plain pieces : List (List ℕ))
+some_pieces : (p : Setup) (o : Option Cp56) (v : AsduValue) (report : List ℕ)
+    (plain pieces : List (List ℕ))
     → is_command_report p.sizes report ≡ true →
     IsPassedOn p.sizes v report plain → AreTagged o plain pieces
     → (y : List ℕ) × (ys : List (List ℕ)) × (pieces ≡ y ∷ ys)
@@ -116,10 +142,12 @@ some_pieces p o v report [] pieces is i t = absurd (ap is_command_by i.joined �
     absurd e = cc
 some_pieces p o v report (x ∷ xs) pieces is i t = tagged_some o x xs pieces t
 
-mirrored : (at : ℕ) (transferring : Bool) (v : AsduValue) (y : List ℕ) (ys : List (List ℕ)) (w : Works) → IsCounted w
+mirrored : (at : ℕ) (transferring : Bool) (v : AsduValue) (y : List ℕ) (ys : List (List ℕ))
+    (w : Works) → IsCounted w
     → IsCounted (mirrored_works at transferring v (y ∷ ys) w)
 mirrored at true v y ys w c = passed v at y ys w c
-mirrored at false v y ys w c = (c.0, one_saturated w.serial.counts.mirrors (unpassed_in false w.history) c.1)
+mirrored at false v y ys w c =
+    (c.0, one_saturated w.serial.counts.mirrors (unpassed_in false w.history) c.1)
 
 others_same : (objects : List InformationObject) (h : History) (t : Tally) → AreCounted h t
     → AreCounted h (counted_by objects t)
@@ -132,37 +160,45 @@ others_same (o ∷ objects) h t c = by_type (is_answer_type o.kind) (is_passed_o
     by_type false false = c
 
 reported : (p : Setup) (at : ℕ) (transferring b : Bool) (report : List ℕ) (w z : Works)
-    → is_command_report p.sizes report ≡ b → LearnsReport p at transferring b report w z → IsCounted w → IsCounted z
+    → is_command_report p.sizes report ≡ b → LearnsReport p at transferring b report w z
+    → IsCounted w → IsCounted z
 reported p at transferring true report w z is learns c =
     let some : (y : List ℕ) × (ys : List (List ℕ)) × (learns.2 ≡ y ∷ ys) =
-    some_pieces p (mirrors.tag_for learns.0 learns.0.infos w.serial.commands) learns.0 report learns.1 learns.2
+    some_pieces p (mirrors.tag_for learns.0 learns.0.infos w.serial.commands) learns.0 report
+    learns.1 learns.2
     is learns.3 learns.4 in
-    subst IsCounted (sym (learns.5 ∙ ap (λ pieces. mirrored_works at transferring learns.0 pieces w) some.2))
+    subst IsCounted
+    (sym (learns.5 ∙ ap (λ pieces. mirrored_works at transferring learns.0 pieces w) some.2))
     (mirrored at transferring learns.0 some.0 some.1 w c)
 reported p at transferring false report w z is learns c = subst IsCounted (sym learns)
     (others_same (objects_of p.sizes report) w.history w.serial.counts c)
 
-learnt : (p : Setup) (at : ℕ) (transferring : Bool) (o : Outcome) (w z : Works) → LearnsOf p at transferring o w z
+learnt : (p : Setup) (at : ℕ) (transferring : Bool) (o : Outcome) (w z : Works)
+    → LearnsOf p at transferring o w z
     → IsCounted w
     → IsCounted z
 learnt p at transferring (outcome.Report station asdu) w z learns c =
     reported p at transferring (is_command_report p.sizes asdu.items) asdu.items w z refl learns c
 learnt p at transferring (outcome.Accepted station) w z learns c = subst IsCounted (sym learns) c
 learnt p at transferring (outcome.Busy station) w z learns c =
-    let h : History = Refused station (refusal_of (line_of station w.serial.commands)) ∷ w.history in
+    let h : History = Refused station (refusal_of (line_of station w.serial.commands))
+    ∷ w.history in
     subst IsCounted (sym learns) (kept (refusals station w.serial)
     (tasks.given_up station w.serial.commands) h w.serial.counts refl c)
 learnt p at transferring (outcome.Down station) w z learns c =
-    subst IsCounted (sym learns) (given_up (is_used (line_of station w.serial.commands)) station w.history
+    subst IsCounted (sym learns) (given_up (is_used (line_of station w.serial.commands)) station
+    w.history
     w.serial.counts c)
 learnt p at transferring outcome.None w z learns c = subst IsCounted (sym learns) c
 learnt p at transferring (outcome.Started station) w z learns c = subst IsCounted (sym learns) c
-learnt p at transferring (outcome.StartedGap station session) w z learns c = subst IsCounted (sym learns) c
+learnt p at transferring (outcome.StartedGap station session) w z learns c =
+    subst IsCounted (sym learns) c
 learnt p at transferring (outcome.Empty station) w z learns c = subst IsCounted (sym learns) c
 
 -- Frames
 
-heard : (f : Apdu) (now : ℕ) (wall : Option ℕ) (w : Works) → IsCounted w → IsCounted (heard_works f now wall w)
+heard : (f : Apdu) (now : ℕ) (wall : Option ℕ) (w : Works) → IsCounted w
+    → IsCounted (heard_works f now wall w)
 heard (I ns nr asdu) now wall w c =
     let judgement = judged asdu.items now wall w.serial.commands in
     let h : History = Judged now wall asdu.items judgement.0 ∷ w.history in
@@ -173,12 +209,14 @@ heard (U u) now wall w c = c
 frames : (p : Setup) (fs : List Apdu) (now : ℕ) (wall : Option ℕ) (d : Course) → IsCounted d.works
     → IsCounted (with_frames p fs now wall d).works
 frames p [] now wall d c = c
-frames p (f ∷ fs) now wall d c = heard f now wall (with_frames p fs now wall d).works (frames p fs now wall d c)
+frames p (f ∷ fs) now wall d c = heard f now wall (with_frames p fs now wall d).works
+    (frames p fs now wall d c)
 
 answered : (w : Works) → IsCounted w → IsCounted (answered_works w)
 answered w c = by_first (first_answer w.serial.commands.answers)
   where
-    by_first : (o : Option (List ℕ)) → AreCounted (after_answer o (tasks_of w)).history w.serial.counts
+    by_first : (o : Option (List ℕ))
+        → AreCounted (after_answer o (tasks_of w)).history w.serial.counts
     by_first None = c
     by_first (Some x) = c
 
@@ -198,7 +236,8 @@ settled at w c = by_silent w.serial.silent
   where
     by_silent : (o : Option ℕ) → AreCounted (told_silent o w) (unless_silent o w.serial).counts
     by_silent None = c
-    by_silent (Some k) = given_up (is_used (line_of k w.serial.commands)) k w.history w.serial.counts c
+    by_silent (Some k) = given_up (is_used (line_of k w.serial.commands)) k w.history
+        w.serial.counts c
 
 done : (at : ℕ) (room : Bool) (w : Works) → IsCounted w → IsCounted (done_works at room w)
 done at room w c = by_due w.is_due
@@ -211,11 +250,13 @@ put : (b : Bool) (k : ℕ) (w : Works) → IsCounted w → AreCounted (told_put 
 put false k w c = c
 put true k w c = by_oldest (oldest_for k w.serial.commands)
   where
-    by_oldest : (o : Option Waiting) → AreCounted (after_sending o k (tasks_of w)).history w.serial.counts
+    by_oldest : (o : Option Waiting)
+        → AreCounted (after_sending o k (tasks_of w)).history w.serial.counts
     by_oldest None = c
     by_oldest (Some x) = c
 
-asked : (at : ℕ) (room : Bool) (x : Sending) (w : Works) → IsCounted w → IsCounted (asked_works at room x w)
+asked : (at : ℕ) (room : Bool) (x : Sending) (w : Works) → IsCounted w
+    → IsCounted (asked_works at room x w)
 asked at room x w c = put (is_first_command w.serial.line x) x.station w c
 
 closed : (p : Setup) (cause : Close) (is_open : Bool) (at : ℕ) (d : Course) → IsCounted d.works
@@ -228,7 +269,8 @@ closed p Timeout is_open at d c = settled at d.works c
 closed p OwnAnswers is_open at d c = c
 closed p Replaced is_open at d c = c
 
-left : (p : Setup) (log : Log) (before after : Course) → IsLeft p log before after → IsCounted before.works
+left : (p : Setup) (log : Log) (before after : Course) → IsLeft p log before after
+    → IsCounted before.works
     → IsCounted after.works
 left p log before after l c = subst (λ (d : Course). IsCounted d.works) (sym l.is)
     (done (latest log) (room_in p log before) before.works c)

@@ -1,10 +1,14 @@
 -- An open connection of the log, and the session and the queue.
-use Rattle.std.proofs.Common.{◌≡◌, ℕ, ◌+◌, ◌-◌, ◌%◌, ◌<◌, ◌≤◌, ◌==◌, ◌||◌, Bool, true, false, not, cond, nat_le, nat_lt, List, [], ◌∷◌, ◌++◌, length, take, drop, refl, ap, sym, subst, ◌∙◌, arith, inl, inr, Option, Some, None}
+use Rattle.std.proofs.Common.{◌≡◌, ℕ, ◌+◌, ◌-◌, ◌%◌, ◌<◌, ◌≤◌, ◌==◌, ◌||◌, Bool, true, false, not}
+use Rattle.std.proofs.Common.{cond, nat_le, nat_lt, List, [], ◌∷◌, ◌++◌, length, take, drop, refl}
+use Rattle.std.proofs.Common.{ap, sym, subst, ◌∙◌, arith, inl, inr, Option, Some, None}
 use Rattle.std.proofs.lemmas.List.{length-drop, length-append}
-use Rattle.std.proofs.lemmas.Bool.{cases_lt, lt-leb, le-leb, lt-ltb, le-ltb, cond-false, leb-true, or_parts, and_parts, not-false, ltb-true}
+use Rattle.std.proofs.lemmas.Bool.{cases_lt, lt-leb, le-leb, lt-ltb, le-ltb, cond-false, leb-true}
+use Rattle.std.proofs.lemmas.Bool.{or_parts, and_parts, not-false, ltb-true}
 use Rattle.apci.specs.declared.apdu.Apdu.{Apdu}
 use Rattle.apci.specs.declared.apdu.Apdu.TheVariants.{I, S, U}
-use Rattle.apci.specs.declared.apdu.Uf.TheVariants.{StartAct, StartCon, StopAct, StopCon, TestAct, TestCon}
+use Rattle.apci.specs.declared.apdu.Uf.TheVariants.{StartAct, StartCon, StopAct, StopCon, TestAct}
+use Rattle.apci.specs.declared.apdu.Uf.TheVariants.{TestCon}
 use Rattle.session.specs.declared.kinds.Unacknowledged.{Unacknowledged}
 use Rattle.session.specs.declared.kinds.Taken.TheVariants.{Nothing, Asdu, Close as Closes}
 use Rattle.session.specs.declared.kinds.Close.{Close}
@@ -12,9 +16,12 @@ use Rattle.session.specs.declared.kinds.Taken.{Taken}
 use Rattle.session.specs.declared.kinds.Close.TheVariants.{SendNumber, ReceiveNumber, Stopped}
 use Rattle.session.specs.declared.kinds.Kind.TheVariants.{Queue as FromQueue, Own}
 use Rattle.session.specs.Session as session
-use Rattle.session.specs.Session.{Session, is_close, outcome_of, after_frame, from_queue, is_transferring, may_send, is_valid, newly, newly_by, left_by, refuses, taken}
+use Rattle.session.specs.Session.{Session, is_close, outcome_of, after_frame, from_queue}
+use Rattle.session.specs.Session.{is_transferring, may_send, is_valid, newly, newly_by, left_by}
+use Rattle.session.specs.Session.{refuses, taken}
 use Rattle.session.specs.History.{reached}
-use Rattle.gateway.specs.Frames.{Connection, Sent, transfers, i_frames, acknowledged_count, fault_of}
+use Rattle.gateway.specs.Frames.{Connection, Sent, transfers, i_frames, acknowledged_count}
+use Rattle.gateway.specs.Frames.{fault_of}
 use Rattle.gateway.specs.Objects.{has_objects}
 use Rattle.gateway.specs.Agrees.{Unconfirmed, Tied}
 use Rattle.gateway.proofs.Counters.{reached-valid, reached-invalid}
@@ -38,7 +45,8 @@ reached_newly a u nr next sent small count counter valid =
     omega (arith, reached-valid a u nr small, leb-true _ _ valid)
 
 three_tests : (a b c : Bool)
-    → is_close (cond a (Closes Stopped) (cond b (Closes SendNumber) (cond c (Closes ReceiveNumber) Asdu)))
+    → is_close
+    (cond a (Closes Stopped) (cond b (Closes SendNumber) (cond c (Closes ReceiveNumber) Asdu)))
     ≡ ((a || b) || c)
 three_tests true b c = refl
 three_tests false true c = refl
@@ -50,8 +58,10 @@ one_test true = refl
 one_test false = refl
 
 valid_in : (nr : ℕ) (c : Connection) (s : Session) (ps : List (List ℕ)) → Tied c s ps
-    → not (is_valid nr s) ≡ nat_lt (length c.sent_frames) (reached (acknowledged_count c.received_frames) nr)
-valid_in nr c s ps h = valid_agrees (acknowledged_count c.received_frames) (length s.unacknowledged) nr s.next_sent
+    → not (is_valid nr s)
+    ≡ nat_lt (length c.sent_frames) (reached (acknowledged_count c.received_frames) nr)
+valid_in nr c s ps h = valid_agrees (acknowledged_count c.received_frames) (length s.unacknowledged)
+    nr s.next_sent
     (length c.sent_frames) (omega (arith, h.small, h.bound)) h.unconfirmed.count h.next
 
 abbrev pub fault_in : Taken → Option Close
@@ -60,14 +70,16 @@ fault_in Asdu = None
 fault_in Nothing = None
 
 pub three_faults : (a b c : Bool)
-    → fault_in (cond a (Closes Stopped) (cond b (Closes SendNumber) (cond c (Closes ReceiveNumber) Asdu)))
+    → fault_in
+    (cond a (Closes Stopped) (cond b (Closes SendNumber) (cond c (Closes ReceiveNumber) Asdu)))
     ≡ cond a (Some Stopped) (cond b (Some SendNumber) (cond c (Some ReceiveNumber) None))
 three_faults true b c = refl
 three_faults false true c = refl
 three_faults false false true = refl
 three_faults false false false = refl
 
-pub one_fault : (a : Bool) → fault_in (cond a (Closes ReceiveNumber) Nothing) ≡ cond a (Some ReceiveNumber) None
+pub one_fault : (a : Bool) → fault_in (cond a (Closes ReceiveNumber) Nothing)
+    ≡ cond a (Some ReceiveNumber) None
 one_fault true = refl
 one_fault false = refl
 
@@ -81,16 +93,20 @@ fault_agrees (I ns nr asdu) c s ps h =
     ap (λ r. cond (not r) (Some Stopped) (cond (not (ns == s.next_received)) (Some SendNumber)
     (cond (not (is_valid nr s)) (Some ReceiveNumber) None))) h.transferring
     ∙ ap (λ n. cond (not (transfers c.received_frames)) (Some Stopped)
-    (cond (not (ns == n)) (Some SendNumber) (cond (not (is_valid nr s)) (Some ReceiveNumber) None))) h.received
+    (cond (not (ns == n)) (Some SendNumber) (cond (not (is_valid nr s)) (Some ReceiveNumber) None)))
+    h.received
     ∙ ap (λ v. cond (not (transfers c.received_frames)) (Some Stopped)
-    (cond (not (ns == i_frames c.received_frames % 32768)) (Some SendNumber) (cond v (Some ReceiveNumber) None)))
+    (cond (not (ns == i_frames c.received_frames % 32768)) (Some SendNumber)
+    (cond v (Some ReceiveNumber) None)))
     valid)
 fault_agrees (S nr) c s ps h = one_fault (not (is_valid nr s))
     ∙ ap (λ v. cond v (Some ReceiveNumber) None) (valid_in nr c s ps h)
 fault_agrees (U u) c s ps h = refl
 
-pub fault_closes : (f : Apdu) (c : Connection) (s : Session) (ps : List (List ℕ)) (cause : Close) → Tied c s ps
-    → Closes cause ≡ outcome_of s f → fault_of (length c.sent_frames) c.received_frames f ≡ Some cause
+pub fault_closes : (f : Apdu) (c : Connection) (s : Session) (ps : List (List ℕ)) (cause : Close)
+    → Tied c s ps
+    → Closes cause ≡ outcome_of s f → fault_of (length c.sent_frames) c.received_frames f
+    ≡ Some cause
 fault_closes f c s ps cause h e = sym (fault_agrees f c s ps h) ∙ sym (ap fault_in e)
 
 -- what an outcome other than a close says
@@ -110,18 +126,21 @@ no_close f c s ps outcome goes h e = (
 
 -- which faults frames have
 pub fault_cases : (P : Close → Type 0) → P Stopped → P SendNumber → P ReceiveNumber
-    → (sent : ℕ) (older : List Apdu) (f : Apdu) (cause : Close) → fault_of sent older f ≡ Some cause → P cause
+    → (sent : ℕ) (older : List Apdu) (f : Apdu) (cause : Close) → fault_of sent older f ≡ Some cause
+    → P cause
 fault_cases P p2 p3 p4 sent older (I ns nr asdu) cause e =
     three (not (transfers older)) (not (ns == i_frames older % 32768))
     (nat_lt sent (reached (acknowledged_count older) nr)) e
   where
-    three : (a b c : Bool) → cond a (Some Stopped) (cond b (Some SendNumber) (cond c (Some ReceiveNumber) None))
+    three : (a b c : Bool)
+        → cond a (Some Stopped) (cond b (Some SendNumber) (cond c (Some ReceiveNumber) None))
         ≡ Some cause → P cause
     three true b c e = let same : Stopped ≡ cause = cc in subst P same p2
     three false true c e = let same : SendNumber ≡ cause = cc in subst P same p3
     three false false true e = let same : ReceiveNumber ≡ cause = cc in subst P same p4
     three false false false e = cc
-fault_cases P p2 p3 p4 sent older (S nr) cause e = one (nat_lt sent (reached (acknowledged_count older) nr)) e
+fault_cases P p2 p3 p4 sent older (S nr) cause e =
+    one (nat_lt sent (reached (acknowledged_count older) nr)) e
   where
     one : (c : Bool) → cond c (Some ReceiveNumber) None ≡ Some cause → P cause
     one true e = let same : ReceiveNumber ≡ cause = cc in subst P same p4
@@ -139,28 +158,38 @@ newly_within : (nr : ℕ) (s : Session) → newly nr s ≤ length s.unacknowledg
 newly_within nr s = omega arith
 
 -- what a valid N(R) makes of the window
-window_of : (nr : ℕ) (c : Connection) (s : Session) (ps : List (List ℕ)) → Tied c s ps → not (is_valid nr s) ≡ false →
-    Unconfirmed (reached (acknowledged_count c.received_frames) nr) c.sent_frames (drop (newly nr s) s.unacknowledged)
+window_of : (nr : ℕ) (c : Connection) (s : Session) (ps : List (List ℕ)) → Tied c s ps
+    → not (is_valid nr s) ≡ false →
+    Unconfirmed (reached (acknowledged_count c.received_frames) nr) c.sent_frames
+    (drop (newly nr s) s.unacknowledged)
     (drop (from_queue (take (newly nr s) s.unacknowledged)) ps)
 window_of nr c s ps h valid =
     let a : ℕ = acknowledged_count c.received_frames in
-    let there : reached a nr ≡ a + newly nr s = reached_newly a (length s.unacknowledged) nr s.next_sent
-    (length c.sent_frames) (omega (arith, h.small, h.bound)) h.unconfirmed.count h.next (not-false _ valid) in
+    let there : reached a nr ≡ a + newly nr s = reached_newly a (length s.unacknowledged) nr
+    s.next_sent
+    (length c.sent_frames) (omega (arith, h.small, h.bound)) h.unconfirmed.count h.next
+    (not-false _ valid) in
     subst (λ n. Unconfirmed n c.sent_frames (drop (newly nr s) s.unacknowledged)
     (drop (from_queue (take (newly nr s) s.unacknowledged)) ps)) (sym there)
-    (unconfirmed_more a (newly nr s) c.sent_frames s.unacknowledged ps (newly_within nr s) h.unconfirmed)
+    (unconfirmed_more a (newly nr s) c.sent_frames s.unacknowledged ps (newly_within nr s)
+    h.unconfirmed)
 
-bound_of : (nr : ℕ) (s : Session) → length s.unacknowledged ≤ s.k → length (drop (newly nr s) s.unacknowledged) ≤ s.k
+bound_of : (nr : ℕ) (s : Session) → length s.unacknowledged ≤ s.k
+    → length (drop (newly nr s) s.unacknowledged) ≤ s.k
 bound_of nr s h = omega (arith, length-drop (newly nr s) s.unacknowledged)
 
 abbrev after : Apdu → ℕ → Session → Session
-after f now s = after_frame f now (session.acknowledged (newly_by f s) (record s { last_frame = now }))
+after f now s =
+    after_frame f now (session.acknowledged (newly_by f s) (record s { last_frame = now }))
 
-tied_after : (f : Apdu) (now : ℕ) (c : Connection) (s : Session) (ps : List (List ℕ)) → session.is_open s ≡ true
+tied_after : (f : Apdu) (now : ℕ) (c : Connection) (s : Session) (ps : List (List ℕ))
+    → session.is_open s ≡ true
     → Tied c s ps → refuses s f ≡ false → Tied (heard_more f c) (after f now s) (less f s ps)
 tied_after (I ns nr asdu) now c s ps on h passes =
-    let tests = or_parts (not (is_transferring s) || not (ns == s.next_received)) (not (is_valid nr s))
-    (sym (three_tests (not (is_transferring s)) (not (ns == s.next_received)) (not (is_valid nr s))) ∙ passes) in
+    let tests = or_parts (not (is_transferring s) || not (ns == s.next_received))
+    (not (is_valid nr s))
+    (sym (three_tests (not (is_transferring s)) (not (ns == s.next_received)) (not (is_valid nr s)))
+    ∙ passes) in
     record {
       transferring = h.transferring;
       received = omega (arith, h.received);
@@ -247,8 +276,10 @@ acked_after (U TestAct) now s = refl
 acked_after (U TestCon) now s = refl
 
 -- a frame that passes
-pub tied_taken : (f : Apdu) (now : ℕ) (c : Connection) (s : Session) (ps : List (List ℕ)) → session.is_open s ≡ true
-    → Tied c s ps → refuses s f ≡ false → Tied (heard_more f c) (taken f now s) (drop (taken f now s).acked_queue ps)
+pub tied_taken : (f : Apdu) (now : ℕ) (c : Connection) (s : Session) (ps : List (List ℕ))
+    → session.is_open s ≡ true
+    → Tied c s ps → refuses s f ≡ false
+    → Tied (heard_more f c) (taken f now s) (drop (taken f now s).acked_queue ps)
 tied_taken f now c s ps on h passes =
     let is : taken f now s ≡ after f now s = cond-false (refuses s f) _ (after f now s) passes in
     subst (λ (x : Session). Tied (heard_more f c) x (drop x.acked_queue ps)) (sym is)
@@ -264,7 +295,8 @@ pub record SameWindow (s t : Session) : Type 0 where
   pub same_k : t.k ≡ s.k
   pub same_frames : t.unacknowledged ≡ s.unacknowledged
 
-pub tied_same : (c : Connection) (s t : Session) (ps : List (List ℕ)) → SameWindow s t → Tied c s ps → Tied c t ps
+pub tied_same : (c : Connection) (s t : Session) (ps : List (List ℕ)) → SameWindow s t → Tied c s ps
+    → Tied c t ps
 tied_same c s t ps e h = record {
   transferring = e.same_transferring ∙ h.transferring;
   received = e.same_received ∙ h.received;
@@ -277,19 +309,26 @@ tied_same c s t ps e h = record {
 
 -- the connection once a frame was handed to TCP
 abbrev pub sent_more : Sent → Connection → Connection
-sent_more f c = record { sent_frames = c.sent_frames ++ f ∷ []; received_frames = c.received_frames }
+sent_more f c = record {
+  sent_frames = c.sent_frames ++ f ∷ [];
+  received_frames =
+      c.received_frames;
+}
 
 counted : (xs : List Sent) (f : Sent) (next : ℕ) → next ≡ length xs % 32768
     → (next + 1) % 32768 ≡ length (xs ++ f ∷ []) % 32768
 counted xs f next h = omega (arith, length-append xs (f ∷ []))
 
-room_for : (s : Session) (u : Unacknowledged) → may_send s ≡ true → length (s.unacknowledged ++ u ∷ []) ≤ s.k
+room_for : (s : Session) (u : Unacknowledged) → may_send s ≡ true
+    → length (s.unacknowledged ++ u ∷ []) ≤ s.k
 room_for s u h =
     let tests = and_parts (is_transferring s) (nat_lt (length s.unacknowledged) s.k) h in
     omega (arith, ltb-true _ _ tests.1, length-append s.unacknowledged (u ∷ []))
 
-pub tied_piece : (f : Sent) (now : ℕ) (c : Connection) (s : Session) (ps : List (List ℕ)) → Tied c s ps
-    → may_send s ≡ true → has_objects f.asdu ≡ true → Tied (sent_more f c) (session.sent FromQueue now s) (ps ++ f.asdu
+pub tied_piece : (f : Sent) (now : ℕ) (c : Connection) (s : Session) (ps : List (List ℕ))
+    → Tied c s ps
+    → may_send s ≡ true → has_objects f.asdu ≡ true
+    → Tied (sent_more f c) (session.sent FromQueue now s) (ps ++ f.asdu
     ∷ [])
 tied_piece f now c s ps h may has = record {
   transferring = h.transferring;
@@ -297,19 +336,23 @@ tied_piece f now c s ps h may has = record {
   next = counted c.sent_frames f s.next_sent h.next;
   small = h.small;
   bound = room_for s _ may;
-  unconfirmed = unconfirmed_piece (acknowledged_count c.received_frames) c.sent_frames s.unacknowledged ps f _ refl has
+  unconfirmed = unconfirmed_piece (acknowledged_count c.received_frames) c.sent_frames
+      s.unacknowledged ps f _ refl has
       h.unconfirmed;
 }
 
 -- an own answer
-pub tied_own : (f : Sent) (now : ℕ) (c : Connection) (s : Session) (ps : List (List ℕ)) → Tied c s ps
-    → may_send s ≡ true → has_objects f.asdu ≡ false → Tied (sent_more f c) (session.sent Own now s) ps
+pub tied_own : (f : Sent) (now : ℕ) (c : Connection) (s : Session) (ps : List (List ℕ))
+    → Tied c s ps
+    → may_send s ≡ true → has_objects f.asdu ≡ false
+    → Tied (sent_more f c) (session.sent Own now s) ps
 tied_own f now c s ps h may none = record {
   transferring = h.transferring;
   received = h.received;
   next = counted c.sent_frames f s.next_sent h.next;
   small = h.small;
   bound = room_for s _ may;
-  unconfirmed = unconfirmed_own (acknowledged_count c.received_frames) c.sent_frames s.unacknowledged ps f _ refl none
+  unconfirmed = unconfirmed_own (acknowledged_count c.received_frames) c.sent_frames
+      s.unacknowledged ps f _ refl none
       h.unconfirmed;
 }

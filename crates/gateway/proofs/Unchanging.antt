@@ -35,23 +35,35 @@ session_set : (p : Setup) (s : Session) (log : Log) (c : Course) → Talks p s l
 session_set p s log c k =
     let set = (run_keeps p.session k.calls k.timely.range).set in
     let same : (run p.session k.calls).session ≡ s = ap (λ (r : SessionRun). r.session) k.called in
-    subst (λ (x : Session). HasSessionSettings x p.session.k p.session.w p.session.t1 p.session.t2 p.session.t3) same
+    subst (λ (x : Session). HasSessionSettings x p.session.k p.session.w p.session.t1 p.session.t2
+    p.session.t3) same
     (record { k_is = set.0; w_is = set.1; t1_is = set.2; t2_is = set.3; t3_is = set.4 })
 
 works_set : RunLaws → (p : Setup) (s : State) (log : Log) → Agrees p s log [] (resting log)
     → HaveCommandSettings p.stations p.sizes p.select_ms p.max_age_ms s.serial.commands
 works_set laws p s [] a =
-    subst (λ (x : Serial). HaveCommandSettings p.stations p.sizes p.select_ms p.max_age_ms x.commands)
-    (sym a.stands.does) (commands_set laws p a.course.works (reached p [] a.course a.talk.course_runs))
+    subst (λ (x : Serial). HaveCommandSettings p.stations p.sizes p.select_ms p.max_age_ms
+    x.commands)
+    (sym a.stands.does)
+    (commands_set laws p a.course.works (reached p [] a.course a.talk.course_runs))
 works_set laws p s (entry ∷ log) a =
     let all : Log = entry ∷ log in
     let done : Works = done_works (latest all) (room_in p all a.course) a.course.works in
-    let left : Course = record { talk = a.course.talk; sent = a.course.sent; earlier = a.course.earlier; works = done } in
-    subst (λ (x : Serial). HaveCommandSettings p.stations p.sizes p.select_ms p.max_age_ms x.commands)
-    (sym a.stands.does) (commands_set laws p done (left_reached p all a.course left a.talk.course_runs
+    let left : Course = record {
+      talk = a.course.talk;
+      sent = a.course.sent;
+      earlier =
+          a.course.earlier;
+      works = done;
+    } in
+    subst (λ (x : Serial). HaveCommandSettings p.stations p.sizes p.select_ms p.max_age_ms
+    x.commands)
+    (sym a.stands.does)
+    (commands_set laws p done (left_reached p all a.course left a.talk.course_runs
     (record { told = a.stands.asks.2; none = a.stands.asks.0; is = refl })))
 
-pub settings_kept : RunLaws → (c : Settings) (s : State) (log : Log) → Agrees (setup_of c) s log [] (resting log)
+pub settings_kept : RunLaws → (c : Settings) (s : State) (log : Log)
+    → Agrees (setup_of c) s log [] (resting log)
     → HasSettings c s
 settings_kept laws c s log a = record {
   serial = record {

@@ -1,5 +1,7 @@
 -- The octets of a connection have one reading.
-use Rattle.std.proofs.Common.{false, ◌≡◌, ℕ, List, [], ◌∷◌, ◌++◌, length, take, refl, ap, sym, ◌∙◌, subst, arith, Option, Some, None, inl, inr, append_assoc, length-append}
+use Rattle.std.proofs.Common.{false, ◌≡◌, ℕ, List, [], ◌∷◌, ◌++◌, length, take, refl, ap, sym, ◌∙◌}
+use Rattle.std.proofs.Common.{subst, arith, Option, Some, None, inl, inr, append_assoc}
+use Rattle.std.proofs.Common.{length-append}
 use Rattle.std.specs.Prelude.{◌⊎◌}
 use Rattle.std.proofs.lemmas.List.{append-nil, take_at}
 use Rattle.apci.specs.declared.apdu.Apdu.{Apdu}
@@ -8,7 +10,8 @@ use Rattle.apci.specs.declared.apdu.Front.TheVariants.{Whole, More, Never}
 use Rattle.apci.specs.Spelling.{spelling, Fits}
 use Rattle.apci.specs.Reading.{IsFront}
 use Rattle.session.specs.declared.kinds.Close.{Close}
-use Rattle.session.specs.declared.kinds.Close.TheVariants.{Grammar, SendNumber, ReceiveNumber, Stopped, Timeout, OwnAnswers, Replaced}
+use Rattle.session.specs.declared.kinds.Close.TheVariants.{Grammar, SendNumber, ReceiveNumber}
+use Rattle.session.specs.declared.kinds.Close.TheVariants.{Stopped, Timeout, OwnAnswers, Replaced}
 use Rattle.gateway.specs.Streams.{spelled, AllFit, IsRefused}
 use Rattle.gateway.specs.Frames.{Connection, data_frames, fault_of}
 use Rattle.gateway.specs.Connections.{Channel, Passes, IsBehind, BeginsWithFault, IsConnection}
@@ -37,7 +40,8 @@ grown-turned (f ∷ older) fs = grown-turned older (f ∷ fs)
 
 spelled-grown : (acc fs : List Apdu) → spelled (grown acc fs) ≡ spelled acc ++ joined fs
 spelled-grown acc [] = sym (append-nil (spelled acc))
-spelled-grown acc (f ∷ fs) = spelled-grown (f ∷ acc) fs ∙ append_assoc (spelled acc) (spelling f) (joined fs)
+spelled-grown acc (f ∷ fs) = spelled-grown (f ∷ acc) fs
+    ∙ append_assoc (spelled acc) (spelling f) (joined fs)
 
 pass_older : (n : ℕ) (acc fs : List Apdu) → Passes n (grown acc fs) → Passes n acc
 pass_older n acc [] h = h
@@ -54,7 +58,8 @@ Stands n received fault r =
     ⊎ (((fault ≡ Some Grammar) × IsRefused r)
     ⊎ ((cause : Close) × (fault ≡ Some cause) × BeginsWithFault n received cause r))
 
-stands : (n : ℕ) (received : List Apdu) (fault : Option Close) (r : List ℕ) → IsBehind false n received fault r
+stands : (n : ℕ) (received : List Apdu) (fault : Option Close) (r : List ℕ)
+    → IsBehind false n received fault r
     → Stands n received fault r
 stands n received None r h = inl (refl, h)
 stands n received (Some Grammar) r h = inr (inl (refl, h))
@@ -76,23 +81,29 @@ whole_front f more r fits e = (
   omega (arith, ap length e, length-append (spelling f) more),
 )
 
-pub never_more : AreUnique → (r : List ℕ) (f : Apdu) (n : ℕ) → IsFront r (Whole f n) → IsFront r More → ⊥
+pub never_more : AreUnique → (r : List ℕ) (f : Apdu) (n : ℕ) → IsFront r (Whole f n)
+    → IsFront r More → ⊥
 never_more u r f n h k = let e : More ≡ Whole f n = u.front r More (Whole f n) k h in cc
 
-pub never_refused : AreUnique → (r : List ℕ) (f : Apdu) (n : ℕ) → IsFront r (Whole f n) → IsRefused r → ⊥
-never_refused u r f n h k = let e : Never k.0 k.1 ≡ Whole f n = u.front r (Never k.0 k.1) (Whole f n) k.2 h in cc
+pub never_refused : AreUnique → (r : List ℕ) (f : Apdu) (n : ℕ) → IsFront r (Whole f n)
+    → IsRefused r → ⊥
+never_refused u r f n h k = let e : Never k.0 k.1 ≡ Whole f n =
+    u.front r (Never k.0 k.1) (Whole f n) k.2 h in cc
 
 not_both : AreUnique → (r : List ℕ) → IsFront r More → IsRefused r → ⊥
 not_both u r h k = let e : Never k.0 k.1 ≡ More = u.front r (Never k.0 k.1) More k.2 h in cc
 
-faulty_front : (n : ℕ) (received : List Apdu) (cause : Close) (r : List ℕ) (b : BeginsWithFault n received cause r)
+faulty_front : (n : ℕ) (received : List Apdu) (cause : Close) (r : List ℕ)
+    (b : BeginsWithFault n received cause r)
     → IsFront r (Whole b.frame (length (spelling b.frame)))
 faulty_front n received cause r b = whole_front b.frame b.more r b.fits b.joined
 
 -- a frame that passes stands behind nothing
-not_behind : AreUnique → (n : ℕ) (received : List Apdu) (fault : Option Close) (r more : List ℕ) (g : Apdu) → Fits g
+not_behind : AreUnique → (n : ℕ) (received : List Apdu) (fault : Option Close) (r more : List ℕ)
+    (g : Apdu) → Fits g
     → r ≡ spelling g ++ more → fault_of n received g ≡ None → Stands n received fault r → ⊥
-not_behind u n received fault r more g fits e none (inl h) = never_more u r g _ (whole_front g more r fits e) h.1
+not_behind u n received fault r more g fits e none (inl h) =
+    never_more u r g _ (whole_front g more r fits e) h.1
 not_behind u n received fault r more g fits e none (inr (inl h)) =
     never_refused u r g _ (whole_front g more r fits e) h.1
 not_behind u n received fault r more g fits e none (inr (inr h)) =
@@ -121,8 +132,10 @@ same_fault u n received fault other r (inr (inr h)) (inr (inr k)) =
     h.1 ∙ (sym h.2.fault ∙ ap (λ x. fault_of n received x) same ∙ k.2.fault) ∙ sym k.1
 
 -- frames found one after another
-same_frames : AreUnique → (n : ℕ) (acc fs gs : List Apdu) (r q : List ℕ) (fault other : Option Close)
-    → joined fs ++ r ≡ joined gs ++ q → AllFit (grown acc fs) → AllFit (grown acc gs) → Passes n (grown acc fs)
+same_frames : AreUnique
+    → (n : ℕ) (acc fs gs : List Apdu) (r q : List ℕ) (fault other : Option Close)
+    → joined fs ++ r ≡ joined gs ++ q → AllFit (grown acc fs) → AllFit (grown acc gs)
+    → Passes n (grown acc fs)
     → Passes n (grown acc gs) →
     Stands n (grown acc fs) fault r → Stands n (grown acc gs) other q → (fs ≡ gs) × (fault ≡ other)
 same_frames u n acc [] [] r q fault other e fit fitting pass passing h k =
@@ -134,7 +147,8 @@ same_frames u n acc (f ∷ fs) [] r q fault other e fit fitting pass passing h k
     absurd (not_behind u n acc other q (joined fs ++ r) f (fit_older (f ∷ acc) fs fit).0 (sym e
     ∙ append_assoc (spelling f) (joined fs) r) (pass_older n (f ∷ acc) fs pass).0 k)
 same_frames u n acc (f ∷ fs) (g ∷ gs) r q fault other e fit fitting pass passing h k =
-    let parts = u.cancel f g (joined fs ++ r) (joined gs ++ q) (sym (append_assoc (spelling f) (joined fs) r) ∙ e
+    let parts = u.cancel f g (joined fs ++ r) (joined gs ++ q)
+    (sym (append_assoc (spelling f) (joined fs) r) ∙ e
     ∙ append_assoc (spelling g) (joined gs) q) in
     let same : f ≡ g = parts.0 in
     let rest = same_frames u n (f ∷ acc) fs gs r q fault other parts.1 fit
@@ -169,21 +183,27 @@ one_reading u octets c d fault other within h k =
     ∙ k.handed.joined ∙ spelled-oldest k.put)) ∙ back k.put in
     let sent : c.sent_frames ≡ d.sent_frames = h.sent ∙ ap data_frames put ∙ sym k.sent in
     let n = length d.sent_frames in
-    let pass : Passes n c.received_frames = subst (λ x. Passes (length x) c.received_frames) sent h.pass in
+    let pass : Passes n c.received_frames = subst (λ x. Passes (length x) c.received_frames) sent
+    h.pass in
     let behind : IsBehind false n c.received_frames fault h.rest =
     subst (λ b. IsBehind b n c.received_frames fault h.rest) within
-    (subst (λ x. IsBehind octets.lacked_place (length x) c.received_frames fault h.rest) sent h.behind) in
-    let both = same_frames u n [] (oldest c.received_frames) (oldest d.received_frames) h.rest k.rest fault other
+    (subst (λ x. IsBehind octets.lacked_place (length x) c.received_frames fault h.rest) sent
+    h.behind) in
+    let both = same_frames u n [] (oldest c.received_frames) (oldest d.received_frames) h.rest
+    k.rest fault other
     (ap (λ x. x ++ h.rest) (sym (spelled-oldest c.received_frames)) ∙ sym h.joined ∙ k.joined
     ∙ ap (λ x. x ++ k.rest) (spelled-oldest d.received_frames))
-    (subst AllFit (sym (back c.received_frames)) h.fit) (subst AllFit (sym (back d.received_frames)) k.fit)
-    (subst (Passes n) (sym (back c.received_frames)) pass) (subst (Passes n) (sym (back d.received_frames)) k.pass)
+    (subst AllFit (sym (back c.received_frames)) h.fit) (subst AllFit (sym (back d.received_frames))
+    k.fit)
+    (subst (Passes n) (sym (back c.received_frames)) pass)
+    (subst (Passes n) (sym (back d.received_frames)) k.pass)
     (subst (λ x. Stands n x fault h.rest) (sym (back c.received_frames))
     (stands n c.received_frames fault h.rest behind))
     (subst (λ x. Stands n x other k.rest) (sym (back d.received_frames))
     (stands n d.received_frames other k.rest (subst
     (λ b. IsBehind b n d.received_frames other k.rest) within k.behind))) in
-    let received : c.received_frames ≡ d.received_frames = sym (back c.received_frames) ∙ ap (grown []) both.0
+    let received : c.received_frames ≡ d.received_frames = sym (back c.received_frames)
+    ∙ ap (grown []) both.0
     ∙ back d.received_frames in (
       ap (λ x. record { sent_frames = x; received_frames = c.received_frames }) sent
           ∙ ap (λ x. record { sent_frames = d.sent_frames; received_frames = x }) received,

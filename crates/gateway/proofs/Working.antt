@@ -1,5 +1,7 @@
--- The works of the course, as the log goes on: what is kept of own answers, what a frame and the timers leave.
-use Rattle.std.proofs.Common.{◌≡◌, ℕ, ◌&&◌, Bool, true, false, List, [], ◌∷◌, ◌++◌, Option, Some, None, refl, ap, sym, ◌∙◌, subst}
+-- The works of the course, as the log goes on: what is kept of own answers, what a frame and the
+-- timers leave.
+use Rattle.std.proofs.Common.{◌≡◌, ℕ, ◌&&◌, Bool, true, false, List, [], ◌∷◌, ◌++◌, Option, Some}
+use Rattle.std.proofs.Common.{None, refl, ap, sym, ◌∙◌, subst}
 use Rattle.std.specs.Prelude.{if◌then◌else◌}
 use Rattle.std.proofs.lemmas.Bool.{and_parts}
 use Rattle.apci.specs.declared.apdu.Apdu.{Apdu}
@@ -12,9 +14,13 @@ use Rattle.command.specs.Judging.{judged}
 use Rattle.command.specs.History.{Offered, History}
 use Rattle.command.specs.Calls.{Judge, after_answer, after_sending}
 use Rattle.gateway.specs.Serial as serial
-use Rattle.gateway.specs.Serial.{Serial, kept_until, all_kept, listed, has_place, unless_silent, settled, answered, without_gap}
-use Rattle.gateway.specs.Works.{Works, tasks_of, told, told_kept, has_lacked_place, heard_works, answered_works, told_silent, settled_works, ready_works, unasked_works, done_works, told_put}
-use Rattle.gateway.specs.Phases.{Phase, Fresh, Taking, Judged, Idle, Crowded, Timed, Asked, works_in, IsAsked}
+use Rattle.gateway.specs.Serial.{Serial, kept_until, all_kept, listed, has_place, unless_silent}
+use Rattle.gateway.specs.Serial.{settled, answered, without_gap}
+use Rattle.gateway.specs.Works.{Works, tasks_of, told, told_kept, has_lacked_place, heard_works}
+use Rattle.gateway.specs.Works.{answered_works, told_silent, settled_works, ready_works}
+use Rattle.gateway.specs.Works.{unasked_works, done_works, told_put}
+use Rattle.gateway.specs.Phases.{Phase, Fresh, Taking, Judged, Idle, Crowded, Timed, Asked}
+use Rattle.gateway.specs.Phases.{works_in, IsAsked}
 use Rattle.gateway.specs.Agrees.{ArePlain}
 
 -- Own answers are kept
@@ -27,15 +33,18 @@ kept_overfull (x ∷ xs) s h none = by_room (has_answer_place s) refl
     (kept_overfull xs (tasks.offered x s) (Offered x (has_answer_place s) ∷ h))
   where
     at_room : Bool → Type 0
-    at_room b = has_lacked_place (if b then told_kept xs (tasks.offered x s) (Offered x (has_answer_place s)
+    at_room b =
+        has_lacked_place (if b then told_kept xs (tasks.offered x s) (Offered x (has_answer_place s)
         ∷ h) else Offered x
         (has_answer_place s) ∷ h) ≡ true
 
     by_room : (b : Bool) → has_answer_place s ≡ b → (all_kept xs (tasks.offered x s) ≡ false
-        → has_lacked_place (told_kept xs (tasks.offered x s) (Offered x (has_answer_place s) ∷ h)) ≡ true)
+        → has_lacked_place (told_kept xs (tasks.offered x s) (Offered x (has_answer_place s) ∷ h))
+        ≡ true)
         → at_room (has_answer_place s)
     by_room true e others =
-        subst at_room (sym e) (others (sym (ap (λ b. b && all_kept xs (tasks.offered x s)) e) ∙ none))
+        subst at_room (sym e) (others (sym (ap (λ b. b && all_kept xs (tasks.offered x s)) e)
+        ∙ none))
     by_room false e others = subst at_room (sym e) (ap (λ b. has_lacked_place (Offered x b ∷ h)) e)
 
 -- and where each finds one
@@ -44,14 +53,17 @@ pub kept_placed : (xs : List (List ℕ)) (s : tasks.State) (h : History) → all
 kept_placed [] s h all = refl
 kept_placed (x ∷ xs) s h all =
     let both = and_parts (has_answer_place s) (all_kept xs (tasks.offered x s)) all in
-    ap (λ b. has_lacked_place (if b then told_kept xs (tasks.offered x s) (Offered x (has_answer_place s)
+    ap
+    (λ b. has_lacked_place (if b
+    then told_kept xs (tasks.offered x s) (Offered x (has_answer_place s)
     ∷ h) else Offered x
     (has_answer_place s) ∷ h)) both.0
     ∙ kept_placed xs (tasks.offered x s) (Offered x (has_answer_place s) ∷ h) both.1
     ∙ ap (λ b. has_lacked_place (Offered x b ∷ h)) both.0
 
 -- nothing else of what is kept changes
-either_same : {A : Type 0} (b : Bool) (s t : tasks.State) (f : tasks.State → A) (x : A) → f s ≡ x → f t ≡ x
+either_same : {A : Type 0} (b : Bool) (s t : tasks.State) (f : tasks.State → A) (x : A) → f s ≡ x
+    → f t ≡ x
     → f (if b then s else t) ≡ x
 either_same true s t f x h k = h
 either_same false s t f x h k = k
@@ -61,7 +73,8 @@ kept_waiting [] s = refl
 kept_waiting (x ∷ xs) s =
     let one : (tasks.offered x s).waiting ≡ s.waiting =
     either_same (has_answer_place s) (tasks.kept x s) s (λ t. t.waiting) s.waiting refl refl in
-    either_same (has_answer_place s) (kept_until xs (tasks.offered x s)) (tasks.offered x s) (λ t. t.waiting) s.waiting
+    either_same (has_answer_place s) (kept_until xs (tasks.offered x s)) (tasks.offered x s)
+    (λ t. t.waiting) s.waiting
     (kept_waiting xs (tasks.offered x s) ∙ one) one
 
 pub more_plain : (xs ys : List (List ℕ)) → ArePlain xs → ArePlain ys → ArePlain (xs ++ ys)
@@ -77,7 +90,8 @@ pub kept_plain : (xs : List (List ℕ)) (s : tasks.State) → ArePlain xs → Ar
     → ArePlain (kept_until xs s).answers
 kept_plain [] s h k = k
 kept_plain (x ∷ xs) s h k =
-    let one : ArePlain (tasks.offered x s).answers = either_plain (has_answer_place s) (tasks.kept x s) s
+    let one : ArePlain (tasks.offered x s).answers =
+    either_plain (has_answer_place s) (tasks.kept x s) s
     (more_plain s.answers (x ∷ []) k (h.0, tt)) k in
     either_plain (has_answer_place s) (kept_until xs (tasks.offered x s)) (tasks.offered x s)
     (kept_plain xs (tasks.offered x s) h.1 one) one
@@ -85,33 +99,40 @@ kept_plain (x ∷ xs) s h k =
 -- A frame is heard
 
 pub heard_overfull : (f : Apdu) (now : ℕ) (wall : Option ℕ) (w : Works)
-    → has_place f now wall w.serial.commands ≡ false → has_lacked_place (heard_works f now wall w).history ≡ true
-heard_overfull (I ns nr asdu) now wall w h = kept_overfull (listed (judged asdu.items now wall w.serial.commands).0)
+    → has_place f now wall w.serial.commands ≡ false
+    → has_lacked_place (heard_works f now wall w).history ≡ true
+heard_overfull (I ns nr asdu) now wall w h =
+    kept_overfull (listed (judged asdu.items now wall w.serial.commands).0)
     (judged asdu.items now wall w.serial.commands).1 (told (Judge asdu.items now wall) w) h
 heard_overfull (S nr) now wall w h = cc
 heard_overfull (U u) now wall w h = cc
 
-pub heard_placed : (f : Apdu) (now : ℕ) (wall : Option ℕ) (w : Works) → has_place f now wall w.serial.commands ≡ true
+pub heard_placed : (f : Apdu) (now : ℕ) (wall : Option ℕ) (w : Works)
+    → has_place f now wall w.serial.commands ≡ true
     → has_lacked_place (heard_works f now wall w).history ≡ has_lacked_place w.history
-heard_placed (I ns nr asdu) now wall w h = kept_placed (listed (judged asdu.items now wall w.serial.commands).0)
+heard_placed (I ns nr asdu) now wall w h =
+    kept_placed (listed (judged asdu.items now wall w.serial.commands).0)
     (judged asdu.items now wall w.serial.commands).1 (told (Judge asdu.items now wall) w) h
 heard_placed (S nr) now wall w h = refl
 heard_placed (U u) now wall w h = refl
 
 -- The timers
 
-pub settled_placed : (at : ℕ) (w : Works) → has_lacked_place (settled_works at w).history ≡ has_lacked_place w.history
+pub settled_placed : (at : ℕ) (w : Works) → has_lacked_place (settled_works at w).history
+    ≡ has_lacked_place w.history
 settled_placed at w = by_silent w.serial.silent
   where
     by_silent : (o : Option ℕ) → has_lacked_place (told_silent o w) ≡ has_lacked_place w.history
     by_silent None = refl
     by_silent (Some i) = refl
 
-pub done_placed : (at : ℕ) (room : Bool) (w : Works) → has_lacked_place (done_works at room w).history
+pub done_placed : (at : ℕ) (room : Bool) (w : Works)
+    → has_lacked_place (done_works at room w).history
     ≡ has_lacked_place w.history
 done_placed at room w = by_due w.is_due
   where
-    by_due : (b : Bool) → has_lacked_place (if b then unasked_works at room (ready_works at w) else w).history
+    by_due : (b : Bool) → has_lacked_place (if b then unasked_works at room (ready_works at w)
+        else w).history
         ≡ has_lacked_place w.history
     by_due true = settled_placed at w
     by_due false = refl
@@ -124,16 +145,19 @@ settled_own at s = by_silent s.silent
     after : Serial → Serial
     after t = record t { commands = tasks.timed at t.commands; silent = None }
 
-    by_silent : (o : Option ℕ) → after (unless_silent o (answered s)) ≡ answered (after (unless_silent o s))
+    by_silent : (o : Option ℕ) → after (unless_silent o (answered s))
+        ≡ answered (after (unless_silent o s))
     by_silent None = refl
     by_silent (Some i) = refl
 
 module _ (w : Works) (x : List ℕ) (first : first_answer w.serial.commands.answers ≡ Some x) where
   pub own_placed : has_lacked_place (answered_works w).history ≡ has_lacked_place w.history
-  own_placed = ap (λ (o : Option (List ℕ)). has_lacked_place (after_answer o (tasks_of w)).history) first
+  own_placed = ap (λ (o : Option (List ℕ)). has_lacked_place (after_answer o (tasks_of w)).history)
+      first
 
   pub own_serial : (phase : Phase) (at : ℕ) (room : Bool)
-      → (works_in phase at room (answered_works w)).serial ≡ answered (works_in phase at room w).serial
+      → (works_in phase at room (answered_works w)).serial
+      ≡ answered (works_in phase at room w).serial
   own_serial Fresh at room = refl
   own_serial Taking at room = refl
   own_serial Idle at room = refl
@@ -143,9 +167,11 @@ module _ (w : Works) (x : List ℕ) (first : first_answer w.serial.commands.answ
   own_serial Asked at room = by_due w.is_due
     where
       by_due : (b : Bool)
-          → (if b then unasked_works at room (ready_works at (answered_works w)) else answered_works w).serial
+          → (if b then unasked_works at room (ready_works at (answered_works w))
+          else answered_works w).serial
           ≡ answered (if b then unasked_works at room (ready_works at w) else w).serial
-      by_due true = ap (λ (s : Serial). serial.asked at room None (serial.offered s)) (settled_own at w.serial)
+      by_due true = ap (λ (s : Serial). serial.asked at room None (serial.offered s))
+          (settled_own at w.serial)
       by_due false = refl
 
   pub asked_own : (phase : Phase) (at : ℕ) (room : Bool) → IsAsked phase at room w
@@ -156,8 +182,12 @@ module _ (w : Works) (x : List ℕ) (first : first_answer w.serial.commands.answ
   asked_own Judged at room h = h
   asked_own Crowded at room h = h
   asked_own Timed at room h = h
-  asked_own Asked at room h =
-      (λ due. ap (λ (s : Serial). sending (serial.offered s).line room) (settled_own at w.serial) ∙ h.0 due, h.1, h.2)
+  asked_own Asked at room h = (
+    λ due. ap (λ (s : Serial). sending (serial.offered s).line room) (settled_own at w.serial)
+        ∙ h.0 due,
+    h.1,
+    h.2,
+  )
 
 -- commands in a phase have the answers of the log's
 pub answers_in : (phase : Phase) (at : ℕ) (room : Bool) (w : Works)
@@ -169,16 +199,19 @@ answers_in Judged at room w = refl
 answers_in Crowded at room w = refl
 answers_in Timed at room w = by_silent w.serial.silent
   where
-    by_silent : (o : Option ℕ) → (unless_silent o w.serial).commands.answers ≡ w.serial.commands.answers
+    by_silent : (o : Option ℕ) → (unless_silent o w.serial).commands.answers
+        ≡ w.serial.commands.answers
     by_silent None = refl
     by_silent (Some i) = refl
 answers_in Asked at room w = by_due w.is_due
   where
-    by_silent : (o : Option ℕ) → (unless_silent o w.serial).commands.answers ≡ w.serial.commands.answers
+    by_silent : (o : Option ℕ) → (unless_silent o w.serial).commands.answers
+        ≡ w.serial.commands.answers
     by_silent None = refl
     by_silent (Some i) = refl
 
-    by_due : (b : Bool) → (if b then unasked_works at room (ready_works at w) else w).serial.commands.answers
+    by_due : (b : Bool) → (if b then unasked_works at room (ready_works at w)
+        else w).serial.commands.answers
         ≡ w.serial.commands.answers
     by_due true = by_silent w.serial.silent
     by_due false = refl
@@ -192,7 +225,8 @@ settled_gap at s = by_silent s.silent
     by_silent None = refl
     by_silent (Some i) = refl
 
-pub gap_in : (phase : Phase) (at : ℕ) (room : Bool) (w : Works) → (works_in phase at room w).serial.gap ≡ w.serial.gap
+pub gap_in : (phase : Phase) (at : ℕ) (room : Bool) (w : Works)
+    → (works_in phase at room w).serial.gap ≡ w.serial.gap
 gap_in Fresh at room w = refl
 gap_in Taking at room w = refl
 gap_in Idle at room w = refl
@@ -201,13 +235,15 @@ gap_in Crowded at room w = refl
 gap_in Timed at room w = settled_gap at w.serial
 gap_in Asked at room w = by_due w.is_due
   where
-    by_due : (b : Bool) → (if b then unasked_works at room (ready_works at w) else w).serial.gap ≡ w.serial.gap
+    by_due : (b : Bool) → (if b then unasked_works at room (ready_works at w) else w).serial.gap
+        ≡ w.serial.gap
     by_due true = settled_gap at w.serial
     by_due false = refl
 
 -- A request goes out
 
-pub put_placed : (b : Bool) (i : ℕ) (w : Works) → has_lacked_place (told_put b i w) ≡ has_lacked_place w.history
+pub put_placed : (b : Bool) (i : ℕ) (w : Works) → has_lacked_place (told_put b i w)
+    ≡ has_lacked_place w.history
 put_placed true i w = by_oldest (oldest_for i w.serial.commands)
   where
     by_oldest : (o : Option Waiting) → has_lacked_place (after_sending o i (tasks_of w)).history

@@ -1,5 +1,6 @@
 -- What a gateway's state says of the log so far.
-use Rattle.std.specs.Prelude.{◌≡◌, ℕ, ◌+◌, ◌%◌, ◌<◌, ◌≤◌, ◌⊎◌, Bool, true, false, cond, List, [], ◌∷◌, ◌++◌, length, drop, map, Option, Some, None, IfSome}
+use Rattle.std.specs.Prelude.{◌≡◌, ℕ, ◌+◌, ◌%◌, ◌<◌, ◌≤◌, ◌⊎◌, Bool, true, false, cond, List, []}
+use Rattle.std.specs.Prelude.{◌∷◌, ◌++◌, length, drop, map, Option, Some, None, IfSome}
 use Rattle.std.specs.List.{flat_map, list_all, AllByRecursion}
 use Rattle.asdu.specs.InformationObjects.{InformationObject}
 use Rattle.apci.specs.declared.apdu.Apdu.{Apdu}
@@ -9,7 +10,8 @@ use Rattle.link.specs.Offers.{offered_at}
 use Rattle.command.specs.State as tasks
 use Rattle.command.specs.State.{octets_waiting}
 use Rattle.link.specs.Telling.{Tells}
-use Rattle.session.specs.Session.{Session, is_open, is_transferring, is_from_queue, may_send, pulled}
+use Rattle.session.specs.Session.{Session, is_open, is_transferring, is_from_queue, may_send}
+use Rattle.session.specs.Session.{pulled}
 use Rattle.session.specs.Runs.{Settings, IsInRange, Call, run}
 use Rattle.session.specs.Ends.{IsConfirmed, IsInTime}
 use Rattle.session.specs.declared.kinds.Unacknowledged.{Unacknowledged}
@@ -19,13 +21,18 @@ use Rattle.gateway.specs.Objects.{objects, has_objects}
 use Rattle.gateway.specs.Log.{Log, Input, Came, latest}
 use Rattle.gateway.specs.Walls.{wall_told}
 use Rattle.gateway.specs.Streams.{spelled, AllFit, AreFrames}
-use Rattle.gateway.specs.Frames.{Sent, Connection, new_connection, data_frames, transfers, i_frames, acknowledged_count, objects_of_frames, first_unacknowledged, reports_among, acknowledged_reports, IsNumberedFrom, AreInOrder}
-use Rattle.gateway.specs.Connections.{Channel, no_channel, present, past, received_before, is_replaced, Passes, AreConnections}
-use Rattle.gateway.specs.Reports.{Setup, AreFound, exchanges_of, taken_objects, taken_pieces, reports_in, parts_of_all}
+use Rattle.gateway.specs.Frames.{Sent, Connection, new_connection, data_frames, transfers, i_frames}
+use Rattle.gateway.specs.Frames.{acknowledged_count, objects_of_frames, first_unacknowledged}
+use Rattle.gateway.specs.Frames.{reports_among, acknowledged_reports, IsNumberedFrom, AreInOrder}
+use Rattle.gateway.specs.Connections.{Channel, no_channel, present, past, received_before}
+use Rattle.gateway.specs.Connections.{is_replaced, Passes, AreConnections}
+use Rattle.gateway.specs.Reports.{Setup, AreFound, exchanges_of, taken_objects, taken_pieces}
+use Rattle.gateway.specs.Reports.{reports_in, parts_of_all}
 use Rattle.gateway.specs.Traffic.{ActsRightly, RestsBetweenSteps, HasRested, IsFaithful}
 use Rattle.gateway.specs.Course.{Course, here_of, room_in, Runs}
 use Rattle.gateway.specs.Conversation.{KeepsRulesThroughout}
-use Rattle.gateway.specs.Phases.{Phase, Taking, resting, IsPhase, works_in, IsAsked, IsPlaced, IsPast, IsLeftIn}
+use Rattle.gateway.specs.Phases.{Phase, Taking, resting, IsPhase, works_in, IsAsked, IsPlaced}
+use Rattle.gateway.specs.Phases.{IsPast, IsLeftIn}
 use Rattle.command.specs.CommandLaws.{CommandLaws}
 use Rattle.link.specs.LineLaws.{LineLaws}
 use Rattle.session.specs.SessionLaws.{SessionLaws}

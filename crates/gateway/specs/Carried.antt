@@ -1,5 +1,6 @@
 -- What a restart makes of a gateway (this gateway's own profile).
-use Rattle.std.specs.Prelude.{ℕ, zero, suc, ◌==◌, Bool, List, length, map, slice_get, position, Option, None, option_and_then, if◌then◌else◌}
+use Rattle.std.specs.Prelude.{ℕ, zero, suc, ◌==◌, Bool, List, length, map, slice_get, position}
+use Rattle.std.specs.Prelude.{Option, None, option_and_then, if◌then◌else◌}
 use Rattle.link.specs.Carried as line
 use Rattle.link.specs.Carried.{awaits_command}
 use Rattle.link.specs.declared.seat.Seat.{Seat}

@@ -1,6 +1,7 @@
 -- The connections of a log (IEC 60870-5-104, 5; which event begins and ends one is this gateway's
 -- profile).
-use Rattle.std.specs.Prelude.{◌≡◌, ℕ, Bool, true, false, if◌then◌else◌, List, [], ◌∷◌, ◌++◌, length, Option, Some, None}
+use Rattle.std.specs.Prelude.{◌≡◌, ℕ, Bool, true, false, if◌then◌else◌, List, [], ◌∷◌, ◌++◌, length}
+use Rattle.std.specs.Prelude.{Option, Some, None}
 use Rattle.apci.specs.declared.apdu.Apdu.{Apdu}
 use Rattle.apci.specs.Spelling.{spelling, Fits}
 use Rattle.apci.specs.Reading.{IsMore}

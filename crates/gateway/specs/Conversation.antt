@@ -4,7 +4,8 @@ use Rattle.std.specs.Prelude.{◌≡◌, false, [], ◌∷◌, ◌++◌, None, o
 use Rattle.asdu.specs.Asdu.{AsduValue}
 use Rattle.session.specs.History.{confirmation_of, frame_due, has_timed_out}
 use Rattle.session.specs.Rules.{KeepsRules}
-use Rattle.command.specs.History.{ForwardsCommands, ExecutesAreSelected, SendsFreshCommands, mirror_tag, GivesOwnAnswers, KeepsOwnAnswers, own_kept, own_sent}
+use Rattle.command.specs.History.{ForwardsCommands, ExecutesAreSelected, SendsFreshCommands}
+use Rattle.command.specs.History.{mirror_tag, GivesOwnAnswers, KeepsOwnAnswers, own_kept, own_sent}
 use Rattle.command.specs.Mirrors.{tag_for}
 use Rattle.command.specs.Calls.{Run}
 use Rattle.gateway.specs.Log.{Log, latest}

@@ -2,7 +2,9 @@
 -- connections before it were, the line's primary station and what became of commands (IEC
 -- 60870-5-104, 5; IEC 60870-5-2, unbalanced transmission procedures; when a step takes a frame and
 -- whose turn it is, is this gateway's own profile).
-use Rattle.std.specs.Prelude.{◌≡◌, ℕ, ◌+◌, ◌<◌, ◌≤◌, ◌⊎◌, Bool, true, false, not, nat_lt, if◌then◌else◌, List, [], ◌∷◌, ◌++◌, length, take, drop, Some, None, Option}
+use Rattle.std.specs.Prelude.{◌≡◌, ℕ, ◌+◌, ◌<◌, ◌≤◌, ◌⊎◌, Bool, true, false, not, nat_lt}
+use Rattle.std.specs.Prelude.{if◌then◌else◌, List, [], ◌∷◌, ◌++◌, length, take, drop, Some, None}
+use Rattle.std.specs.Prelude.{Option}
 use Rattle.ft12.specs.Spelling as line
 use Rattle.apci.specs.declared.apdu.Apdu.{Apdu}
 use Rattle.apci.specs.declared.apdu.Apdu.TheVariants.{I}
@@ -18,18 +20,24 @@ use Rattle.session.specs.declared.kinds.Close.TheVariants.{Timeout, OwnAnswers, 
 use Rattle.session.specs.declared.kinds.Kind.{Kind}
 use Rattle.session.specs.declared.kinds.Kind.TheVariants.{Queue, Own}
 use Rattle.session.specs.History as talk
-use Rattle.session.specs.History.{History, is_started, still_unacknowledged, confirmation_of, frame_due, has_timed_out}
+use Rattle.session.specs.History.{History, is_started, still_unacknowledged, confirmation_of}
+use Rattle.session.specs.History.{frame_due, has_timed_out}
 use Rattle.session.specs.Rules.{KeepsRules}
 use Rattle.command.specs.State.{octets_waiting, first_answer}
 use Rattle.gateway.specs.Objects.{objects, has_objects}
-use Rattle.gateway.specs.Log.{Log, Input, LineIn, Opened, TcpIn, CutOff, Ticked, WallIs, Came, Went, LineOut, TcpOut, Closed, GapOut, latest}
+use Rattle.gateway.specs.Log.{Log, Input, LineIn, Opened, TcpIn, CutOff, Ticked, WallIs, Came, Went}
+use Rattle.gateway.specs.Log.{LineOut, TcpOut, Closed, GapOut, latest}
 use Rattle.gateway.specs.Walls.{wall_on}
 use Rattle.gateway.specs.Streams.{spelled}
-use Rattle.gateway.specs.Frames.{Sent, Connection, transfers, first_unacknowledged, monitor_objects_sent, acknowledged_reports, reports_among}
+use Rattle.gateway.specs.Frames.{Sent, Connection, transfers, first_unacknowledged}
+use Rattle.gateway.specs.Frames.{monitor_objects_sent, acknowledged_reports, reports_among}
 use Rattle.gateway.specs.Connections.{Channel, present, received_before, is_replaced, IsConnection}
-use Rattle.gateway.specs.Reports.{Setup, address_at, reports_in, parts_of_all, taken_objects, taken_pieces}
+use Rattle.gateway.specs.Reports.{Setup, address_at, reports_in, parts_of_all, taken_objects}
+use Rattle.gateway.specs.Reports.{taken_pieces}
 use Rattle.gateway.specs.Serial.{is_first_command, heard_outcome}
-use Rattle.gateway.specs.Works.{Works, first_works, has_lacked_place, LearnsOf, heard_works, sent_works, cut_works, octets_works, begun_works, settled_works, ready_works, gapless_works, asked_works, done_works}
+use Rattle.gateway.specs.Works.{Works, first_works, has_lacked_place, LearnsOf, heard_works}
+use Rattle.gateway.specs.Works.{sent_works, cut_works, octets_works, begun_works, settled_works}
+use Rattle.gateway.specs.Works.{ready_works, gapless_works, asked_works, done_works}
 
 pub record Course : Type 0 where
   -- what was said on the open connection: frames that came and frames that went out, each with its

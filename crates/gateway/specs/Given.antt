@@ -1,7 +1,8 @@
 -- What is due to the control centre is given: by what became of commands, an answer of the
 -- gateway's own is handed over as soon as it is due, and a station's answer by all pieces that
 -- carry it (IEC 60870-5-101, 7.2.3; that a full list of answers ends the connection is profile).
-use Rattle.std.specs.Prelude.{◌≡◌, ◌⊎◌, ℕ, Bool, true, false, ◌&&◌, List, [], ◌∷◌, Option, Some, None, option_map}
+use Rattle.std.specs.Prelude.{◌≡◌, ◌⊎◌, ℕ, Bool, true, false, ◌&&◌, List, [], ◌∷◌, Option, Some}
+use Rattle.std.specs.Prelude.{None, option_map}
 use Rattle.asdu.specs.Asdu.{AsduValue}
 use Rattle.elements.specs.declared.tag.Cp56.{Cp56}
 use Rattle.link.specs.declared.outcome.Outcome.{Outcome}

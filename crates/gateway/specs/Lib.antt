@@ -37,5 +37,6 @@ pub mod Runs
 pub mod Restored
 pub mod Starts
 pub mod Carried
+pub mod Unchanged
 pub mod Given
 pub mod Turning

@@ -1,5 +1,6 @@
 -- Monitor objects in ASDUs of the line and of the connection, and the pieces that a report needs.
-use Rattle.std.specs.Prelude.{ℕ, ◌==◌, not, Bool, List, [], length, slice_index, Option, Some, None, if◌then◌else◌}
+use Rattle.std.specs.Prelude.{ℕ, ◌==◌, not, Bool, List, [], length, slice_index, Option, Some, None}
+use Rattle.std.specs.Prelude.{if◌then◌else◌}
 use Rattle.elements.specs.declared.types.TypeId.{TypeId}
 use Rattle.elements.specs.Types.{type_of}
 use Rattle.asdu.specs.declared.sizes.Sizes.{Sizes}

@@ -1,5 +1,6 @@
 -- How far a step is.
-use Rattle.std.specs.Prelude.{◌≡◌, ℕ, ◌+◌, ◌<◌, Bool, true, false, List, [], ◌∷◌, ◌++◌, length, Option, Some, None}
+use Rattle.std.specs.Prelude.{◌≡◌, ℕ, ◌+◌, ◌<◌, Bool, true, false, List, [], ◌∷◌, ◌++◌, length}
+use Rattle.std.specs.Prelude.{Option, Some, None}
 use Rattle.link.specs.Primary.{Outstanding, sending}
 use Rattle.gateway.specs.Log.{Log, TcpIn, Came, Went, TcpOut}
 use Rattle.command.specs.History.{History}

@@ -1,6 +1,7 @@
 -- What a port's answers and an action's octets mean in a log.
 use Rattle.std.specs.Prelude.{ℕ, List, [], ◌∷◌, take, ◌≤◌}
-use Rattle.gateway.specs.Log.{Input, LineIn, Opened, TcpIn, CutOff, Ticked, WallIs, Output, LineOut, TcpOut, Closed, GapOut, LogEntry, Came}
+use Rattle.gateway.specs.Log.{Input, LineIn, Opened, TcpIn, CutOff, Ticked, WallIs, Output, LineOut}
+use Rattle.gateway.specs.Log.{TcpOut, Closed, GapOut, LogEntry, Came}
 use Rattle.gateway.specs.declared.ports.Event.{Event}
 use Rattle.gateway.specs.declared.ports.Event.TheVariants as events
 use Rattle.gateway.specs.declared.ports.Action.{Action}

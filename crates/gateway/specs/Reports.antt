@@ -1,5 +1,6 @@
 -- What the line brought, as its log shows: exchanges, and the objects of the reports taken.
-use Rattle.std.specs.Prelude.{◌≡◌, ℕ, suc, ◌+◌, ◌<◌, ◌==◌, List, [], ◌∷◌, slice_index, length, Option, Some, None, option_and_then, option_map, if◌then◌else◌}
+use Rattle.std.specs.Prelude.{◌≡◌, ℕ, suc, ◌+◌, ◌<◌, ◌==◌, List, [], ◌∷◌, slice_index, length}
+use Rattle.std.specs.Prelude.{Option, Some, None, option_and_then, option_map, if◌then◌else◌}
 use Rattle.std.specs.List.{flat_map}
 use Rattle.ft12.specs.Fronts.{front_of}
 use Rattle.asdu.specs.declared.sizes.Sizes.{Sizes}
@@ -7,7 +8,9 @@ use Rattle.asdu.specs.InformationObjects.{InformationObject}
 use Rattle.link.specs.declared.service.Asked.{Asked}
 use Rattle.link.specs.declared.procedure.Link.TheVariants.{Down}
 use Rattle.link.specs.declared.settings.LinkSettings.{LinkSettings}
-use Rattle.link.specs.Exchanges.{Exchange, Exchanges, Sending, no_exchanges, heard_current, timed_current, begun_by, views, all_of, with_station, reports_of_exchanges}
+use Rattle.link.specs.Exchanges.{Exchange, Exchanges, Sending, no_exchanges, heard_current}
+use Rattle.link.specs.Exchanges.{timed_current, begun_by, views, all_of, with_station}
+use Rattle.link.specs.Exchanges.{reports_of_exchanges}
 use Rattle.link.specs.Procedure.{KeepsFrameCountBit}
 use Rattle.link.specs.Requests.{request_in}
 use Rattle.session.specs.Runs.{Settings}

@@ -3,8 +3,10 @@
 use Rattle.std.specs.Prelude.{◌≡◌, ℕ, List, [], ◌∷◌, ◌++◌, length, map, Option, Some, None, IfSome}
 use Rattle.apci.specs.Assembly.{so_far_numbers, IsResumable}
 use Rattle.link.specs.Restored.{primary_lines, IsSavable as IsSavableLine}
-use Rattle.session.specs.Restored.{session_lines, IsSavable as IsSavableSession, HasSettings as HasSessionSettings}
-use Rattle.command.specs.Restored.{commands_lines, IsSavable as AreSavableCommands, HasSettings as HaveCommandSettings}
+use Rattle.session.specs.Restored.{session_lines, IsSavable as IsSavableSession}
+use Rattle.session.specs.Restored.{HasSettings as HasSessionSettings}
+use Rattle.command.specs.Restored.{commands_lines, IsSavable as AreSavableCommands}
+use Rattle.command.specs.Restored.{HasSettings as HaveCommandSettings}
 use Rattle.events.specs.Restored.{queue_lines, IsSavable as IsSavableQueue}
 use Rattle.gateway.specs.declared.counts.Tally.{Tally}
 use Rattle.gateway.specs.declared.walls.Wall.{Wall}

@@ -1,7 +1,8 @@
 -- The line's side of a gateway: its primary station, commands, and what is counted; and what each
 -- thing that happens makes of them (IEC 60870-5-101, 7.2.3; when own answers are kept, and when a
 -- command is offered to the line, is this gateway's own profile).
-use Rattle.std.specs.Prelude.{ℕ, zero, suc, Bool, true, false, not, ◌&&◌, if◌then◌else◌, List, [], ◌∷◌, length, Option, Some, None}
+use Rattle.std.specs.Prelude.{ℕ, zero, suc, Bool, true, false, not, ◌&&◌, if◌then◌else◌, List, []}
+use Rattle.std.specs.Prelude.{◌∷◌, length, Option, Some, None}
 use Rattle.ft12.specs.Fronts.{front_of}
 use Rattle.asdu.specs.declared.sizes.Sizes.{Sizes}
 use Rattle.asdu.specs.Asdu.{AsduValue}
@@ -13,7 +14,8 @@ use Rattle.link.specs.Exchanges.{Sending}
 use Rattle.link.specs.declared.outcome.Outcome.{Outcome}
 use Rattle.link.specs.declared.outcome.Outcome.TheVariants as outcome
 use Rattle.link.specs.Primary as primary
-use Rattle.link.specs.Primary.{Primary, received, received_outcome, timed_out, due_outcome, is_command, offered_to, withdrawn}
+use Rattle.link.specs.Primary.{Primary, received, received_outcome, timed_out, due_outcome}
+use Rattle.link.specs.Primary.{is_command, offered_to, withdrawn}
 use Rattle.command.specs.declared.waiting.Waiting.{Waiting}
 use Rattle.command.specs.State as tasks
 use Rattle.command.specs.State.{has_answer_place, line_of, refusal_of, is_used, oldest}

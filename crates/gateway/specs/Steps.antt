@@ -1,5 +1,6 @@
 -- What the parts of a step make of a gateway.
-use Rattle.std.specs.Prelude.{◌≡◌, ℕ, ◌⊎◌, Bool, true, false, List, [], ◌∷◌, length, Option, Some, None}
+use Rattle.std.specs.Prelude.{◌≡◌, ℕ, ◌⊎◌, Bool, true, false, List, [], ◌∷◌, length, Option, Some}
+use Rattle.std.specs.Prelude.{None}
 use Rattle.std.specs.List.{flat_map, list_all, AllByRecursion}
 use Rattle.asdu.specs.declared.sizes.Sizes.{Sizes}
 use Rattle.asdu.specs.Asdu.{AsduValue}
@@ -19,10 +20,13 @@ use Rattle.gateway.specs.Log.{Log, Input, LineIn}
 use Rattle.gateway.specs.Connections.{ends, present, closed_by, IsConnection}
 use Rattle.gateway.specs.Course.{here_of, IsCause}
 use Rattle.gateway.specs.Reports.{Setup}
-use Rattle.gateway.specs.Serial.{Serial, accepted, given_up, refused, refusal_fits, mirrored, mirror_fits, with_gap, reported, answered, has_place, heard, heard_outcome}
+use Rattle.gateway.specs.Serial.{Serial, accepted, given_up, refused, refusal_fits, mirrored}
+use Rattle.gateway.specs.Serial.{mirror_fits, with_gap, reported, answered, has_place, heard}
+use Rattle.gateway.specs.Serial.{heard_outcome}
 use Rattle.gateway.specs.Centre.{Centre, pushed, next_frame, piece_sent, own_sent}
 use Rattle.gateway.specs.Works.{is_command_report, IsPassedOn}
-use Rattle.gateway.specs.State.{State, with_serial, with_centre, with_sides, wall_now, at_moment, line_timed, received as frame_received, framed, disconnected}
+use Rattle.gateway.specs.State.{State, with_serial, with_centre, with_sides, wall_now, at_moment}
+use Rattle.gateway.specs.State.{line_timed, received as frame_received, framed, disconnected}
 use Rattle.gateway.specs.Agrees.{Agrees}
 use Rattle.gateway.specs.Phases.{Phase, Taking, Idle, Crowded, Timed}
 

@@ -1,6 +1,7 @@
 -- The time tag of a station's answer to a command: that of the command, where it came with one (IEC
 -- 60870-5-104, 8: types 58 to 62).
-use Rattle.std.specs.Prelude.{◌≡◌, Bool, true, false, ◌&&◌, ◌==◌, ℕ, List, [], ◌∷◌, length, Option, Some}
+use Rattle.std.specs.Prelude.{◌≡◌, Bool, true, false, ◌&&◌, ◌==◌, ℕ, List, [], ◌∷◌, length, Option}
+use Rattle.std.specs.Prelude.{Some}
 use Rattle.elements.specs.declared.tag.Cp56.{Cp56}
 use Rattle.asdu.specs.Sizes.{tcp}
 use Rattle.asdu.specs.Asdu.{AsduValue, IsAsdu}

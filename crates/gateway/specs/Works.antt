@@ -1,7 +1,8 @@
 -- What the gateway keeps beside the connection: the line's side, and what became of commands. Each
 -- entry of the log changes it (IEC 60870-5-101, 7.2.3). What happens to the line's side is said in
 -- `Serial`; here it is told to the history of commands.
-use Rattle.std.specs.Prelude.{◌≡◌, ℕ, Bool, true, false, if◌then◌else◌, List, [], ◌∷◌, length, Option, Some, None}
+use Rattle.std.specs.Prelude.{◌≡◌, ℕ, Bool, true, false, if◌then◌else◌, List, [], ◌∷◌, length}
+use Rattle.std.specs.Prelude.{Option, Some, None}
 use Rattle.std.specs.List.{flat_map, AllByRecursion}
 use Rattle.asdu.specs.declared.sizes.Sizes.{Sizes}
 use Rattle.asdu.specs.Sizes.{tcp}
@@ -18,7 +19,8 @@ use Rattle.command.specs.State.{has_answer_place}
 use Rattle.command.specs.Judging.{judged}
 use Rattle.command.specs.Mirrors as mirrors
 use Rattle.command.specs.History.{Offered, Ended, History}
-use Rattle.command.specs.Calls.{Call, Judge, PutOnLine, Accept, Busy, Lose, Mirror, SendOwn, Cut, Run, after_call}
+use Rattle.command.specs.Calls.{Call, Judge, PutOnLine, Accept, Busy, Lose, Mirror, SendOwn, Cut}
+use Rattle.command.specs.Calls.{Run, after_call}
 use Rattle.gateway.specs.Objects.{has_objects}
 use Rattle.gateway.specs.Counting.{is_answer_type}
 use Rattle.gateway.specs.Reports.{Setup}

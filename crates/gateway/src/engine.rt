@@ -14,6 +14,7 @@ ghost use Rattle.gateway.specs.State.{counts_of, first_state, at_moment, with_wa
 mod carrying;
 mod centre;
 mod giving_up;
+mod refusing;
 mod restoring;
 mod saving;
 mod serial;

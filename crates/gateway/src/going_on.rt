@@ -1,5 +1,6 @@
 //! What becomes of each station where a gateway goes on with other settings.
-ghost use Rattle.std.specs.Prelude.{◌≡◌, ◌<◌, ℕ, Bool, Some, None, length, slice_get};
+ghost use Rattle.std.specs.Prelude.{◌≡◌, ◌<◌, ℕ, Bool, true, Some, None, length, slice_get};
+ghost use Rattle.link.specs.Procedure.{is_up};
 ghost use Rattle.link.specs.Turns.{station_at};
 ghost use Rattle.link.specs.Primary.{station_down};
 ghost use Rattle.link.specs.Carried.{released, station_carried};
@@ -7,6 +8,7 @@ ghost use Rattle.gateway.specs.declared.settings.Station.{Station};
 ghost use Rattle.gateway.specs.Config.{Settings};
 ghost use Rattle.gateway.specs.State.{State};
 ghost use Rattle.gateway.specs.Carried.{place_of, start_of, station_started, carried};
+ghost use Rattle.gateway.specs.Unchanged.{MayGoOn};
 
 use link::{frame_count_bits_go_on, giving_up_is_for_one_station};
 
@@ -33,4 +35,19 @@ pub fn stations_go_on_by_their_addresses()
 {
     giving_up_is_for_one_station();
     frame_count_bits_go_on();
+}
+
+/// No link is up where a gateway goes on with other settings, but that of a station which is set as
+/// it was, in a state that is trusted. Each other link is reset before its next service: that of a
+/// new station, that of one whose common address or guard has changed, each where numbers have
+/// other sizes, and each where a state is stale. So no frame count bit is carried into a link whose
+/// station may have taken another one, and no held service into another station.
+pub fn no_link_goes_on_but_of_a_station_as_it_was()
+    ensures { (goes_on : Bool) (before now : Settings) (s : State) (i : ℕ) (station : Station) →
+        length s.serial.line.stations ≡ length before.stations →
+        slice_get now.stations i ≡ Some station →
+        is_up (station_at (carried goes_on before now s).serial.line.stations i).link ≡ true →
+        MayGoOn goes_on before now station.address }
+{
+    stations_go_on_by_their_addresses();
 }

@@ -1,5 +1,6 @@
 //! What holds of the definitions.
-ghost use Rattle.std.specs.Prelude.{◌≡◌, ◌↔◌, ℕ, List, ◌∷◌, IsTrue, Option, Some, None, true, false, map};
+ghost use Rattle.std.specs.Prelude.{◌≡◌, ◌↔◌, ℕ, List, ◌∷◌, IsTrue, Option, Some, None, true};
+ghost use Rattle.std.specs.Prelude.{false, map};
 ghost use Rattle.session.specs.declared.kinds.Close.{Close};
 ghost use Rattle.command.specs.declared.station.StationInfo.{StationInfo};
 ghost use Rattle.gateway.specs.declared.settings.Silence.TheVariants.{Hold};

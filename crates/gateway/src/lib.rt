@@ -25,7 +25,8 @@
 //!
 //! At a restart a gateway is read from the lines of its state ([`Gateway::read_state`]), gives up
 //! the commands without an answer ([`Gateway::give_up_commands`]), and goes on with other settings
-//! where these were changed ([`Gateway::carried`], [`stations_go_on_by_their_addresses`]).
+//! where these were changed ([`Gateway::carried`], [`stations_go_on_by_their_addresses`]): no link
+//! is up then but of a station as it was ([`no_link_goes_on_but_of_a_station_as_it_was`]).
 #![tactic(auto)]
 
 mod config;
@@ -49,7 +50,7 @@ pub use config::Config;
 pub use counts::Counts;
 pub use engine::{Gateway, LAST_MOMENT, NoMemory};
 pub use entries::{Entry, Told, announce, cause_number, keep};
-pub use going_on::stations_go_on_by_their_addresses;
+pub use going_on::{no_link_goes_on_but_of_a_station_as_it_was, stations_go_on_by_their_addresses};
 pub use history::History;
 pub use laws::{
     counts_tell_commands, courses_keep_commands, one_cause, one_course, one_reading,

@@ -1,5 +1,6 @@
 //! One event, and what goes out at it.
-ghost use Rattle.std.specs.Prelude.{◌≡◌, ℕ, ◌+◌, ◌<◌, ◌≤◌, Bool, true, false, List, [], ◌∷◌, ◌++◌, length, drop, IfSome, Some, None, Option, if◌then◌else◌};
+ghost use Rattle.std.specs.Prelude.{◌≡◌, ℕ, ◌+◌, ◌<◌, ◌≤◌, Bool, true, false, List, [], ◌∷◌, ◌++◌};
+ghost use Rattle.std.specs.Prelude.{length, drop, IfSome, Some, None, Option, if◌then◌else◌};
 ghost use Rattle.std.specs.Bool.{OnTrue};
 ghost use Rattle.apci.specs.declared.apdu.Apdu.{Apdu};
 ghost use Rattle.apci.specs.Spelling.{Fits, spelling};
@@ -13,7 +14,8 @@ ghost use Rattle.gateway.specs.Reports.{Setup};
 ghost use Rattle.gateway.specs.Traffic.{IsFaithful};
 ghost use Rattle.gateway.specs.Accounts.{IsAccounted};
 ghost use Rattle.gateway.specs.State.{State, disconnected, connected, with_session, with_octets};
-ghost use Rattle.gateway.specs.Agrees.{IsClear, Tracks, Awaits, Meets, Leaves, Follows, HasCome, Rests, IsSpent, StaysInTime};
+ghost use Rattle.gateway.specs.Agrees.{IsClear, Tracks, Awaits, Meets, Leaves, Follows, HasCome};
+ghost use Rattle.gateway.specs.Agrees.{Rests, IsSpent, StaysInTime};
 ghost use Rattle.gateway.specs.Steps.{MayClose, HearsEvent, Begins};
 ghost use Rattle.gateway.specs.Phases.{Phase, Idle, Timed, Asked, IsFlushing};
 ghost use Rattle.gateway.specs.Judging.{Goes, IsOnward, faults_in};
@@ -96,6 +98,10 @@ impl Gateway {
         }
         if !self.send_confirmation(port) {
             return false;
+        }
+        // Most often that was all.
+        if self.is_confirmed() {
+            return true;
         }
         if !self.send_confirmation(port) {
             return false;
@@ -219,6 +225,7 @@ impl Gateway {
     }
 
     /// Takes an APDU, and sends what it makes room for, or closes the connection.
+    #[inline(always)]
     fn take_apdu<P: Port>(&mut self, apdu: ApduRef<'_>, port: &mut P) -> Outcome
         requires ready { P.failed port.old < u64.MAX }
         requires fits { Fits (owned apdu) }

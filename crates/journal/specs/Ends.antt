@@ -1,7 +1,10 @@
 -- What is told of the line, of the door and of the connection (this gateway's own profile).
-use Rattle.std.specs.Prelude.{ℕ, ◌-◌, nat_le, bytes_eq, Bool, true, false, List, [], ◌∷◌, Option, Some, None, if◌then◌else◌}
+use Rattle.std.specs.Prelude.{ℕ, ◌-◌, nat_le, bytes_eq, Bool, true, false, List, [], ◌∷◌, Option}
+use Rattle.std.specs.Prelude.{Some, None, if◌then◌else◌}
 use Rattle.std.specs.declared.net.ip_addr.IpAddr.{IpAddr}
+use Rattle.std.specs.Bool.{beq}
 use Rattle.session.specs.declared.kinds.Close.{Close}
+use Rattle.session.specs.declared.kinds.Close.TheVariants as close
 use Rattle.live.specs.declared.wires.CutCause.{CutCause}
 use Rattle.live.specs.declared.wires.SentAway.{SentAway}
 use Rattle.live.specs.declared.wires.Presence.{Presence}
@@ -17,6 +20,7 @@ use Rattle.journal.specs.declared.ends.LineTold.TheVariants.{Nothing, NotThere, 
 use Rattle.journal.specs.declared.ends.LineWatch.{LineWatch}
 use Rattle.journal.specs.declared.ends.DoorWatch.{DoorWatch}
 use Rattle.journal.specs.declared.ends.ConnectionWatch.{ConnectionWatch}
+use Rattle.journal.specs.declared.ends.Opening.{Opening}
 
 abbrev pub new_limit : Limit
 new_limit = record { told = None; left_out = 0 }
@@ -36,7 +40,14 @@ changed what limit now = if is_free limit now then happened what limit now else 
 -- The line
 
 abbrev pub new_line : LineWatch
-new_line = record { told = Nothing; there = new_limit; away = new_limit; is_heard = false }
+new_line = record {
+  told = Nothing;
+  there = new_limit;
+  away = new_limit;
+  is_heard = false;
+  presence = Untried;
+  since = 0;
+}
 
 -- A line is told once it was tried, and that it isn't there again each minute. One that was lost is
 -- there again once it has given octets, or is there for a minute.
@@ -84,10 +95,23 @@ abbrev pub is_heard : Presence → Bool
 is_heard presence.Heard = true
 is_heard presence = false
 
+abbrev pub is_there : Presence → Bool
+is_there presence.There = true
+is_there presence.Heard = true
+is_there presence = false
+
+-- how it is seen, and since when it is there or not
+abbrev pub presence_noted : Presence → ℕ → LineWatch → LineWatch
+presence_noted presence now w = record w {
+  is_heard = is_heard presence;
+  presence = presence;
+  since = if beq (is_there presence) (is_there w.presence) then w.since else now;
+}
+
 abbrev pub line_seen_so : Presence → ℕ → LineWatch → LineWatch × Option Line
 line_seen_so presence now w =
     line_changed (line_change w.told presence (is_minute_after w.away.told now)) (is_away presence)
-    now (record w { is_heard = is_heard presence })
+    now (presence_noted presence now w)
 
 abbrev pub line_seen : Presence → ℕ → LineWatch → LineWatch × Option Line
 line_seen presence now w = line_seen_so (seen_as w.is_heard presence) now w
@@ -115,6 +139,8 @@ door_seen s now w = if nat_le s.count w.told then (w, None) else door_tried s no
 abbrev pub new_connection : ConnectionWatch
 new_connection = record {
   count = 0;
+  peer = None;
+  opening = None;
   opened = new_limit;
   started = new_limit;
   stopped = new_limit;
@@ -124,16 +150,28 @@ new_connection = record {
 
 abbrev pub connection_opened : Option IpAddr → ℕ → ConnectionWatch → ConnectionWatch × Option Line
 connection_opened peer now w =
-    let told = happened (note.Opened peer) w.opened now in
-    (record w { count = one_more w.count; opened = told.0 }, told.1)
+    let told = happened (note.Opened peer) w.opened now in (
+      record w {
+        count = one_more w.count;
+        peer = peer;
+        opening = Some (record { since = now; is_started = false });
+        opened = told.0;
+      },
+      told.1,
+    )
 
 abbrev pub connection_cut : CutCause → ℕ → ConnectionWatch → ConnectionWatch × Option Line
 connection_cut cause now w = let told = happened (note.Cut cause) w.cut now in
-    (record w { cut = told.0 }, told.1)
+    (record w { opening = None; cut = told.0 }, told.1)
+
+-- the one in whose place another comes is closed after that is opened
+abbrev pub open_after : Close → Option Opening → Option Opening
+open_after close.Replaced opening = opening
+open_after cause opening = None
 
 abbrev pub connection_closed : Close → ℕ → ConnectionWatch → ConnectionWatch × Option Line
 connection_closed cause now w = let told = happened (note.Closed cause) w.closed now in
-    (record w { closed = told.0 }, told.1)
+    (record w { opening = open_after cause w.opening; closed = told.0 }, told.1)
 
 -- STARTDT con and STOPDT con, as they go out (IEC 60870-5-104, 5.1)
 abbrev pub start_confirmed : List ℕ
@@ -142,13 +180,22 @@ start_confirmed = 104 ∷ 4 ∷ 11 ∷ 0 ∷ 0 ∷ 0 ∷ []
 abbrev pub stop_confirmed : List ℕ
 stop_confirmed = 104 ∷ 4 ∷ 35 ∷ 0 ∷ 0 ∷ 0 ∷ []
 
+abbrev pub started_so : (is_started : Bool) → Option Opening → Option Opening
+started_so is_started None = None
+started_so is_started (Some opening) =
+    Some (record { since = opening.since; is_started = is_started })
+
+-- data transfer is started, or stopped, where one is open
+abbrev pub transfer_noted : (is_started : Bool) → ConnectionWatch → ConnectionWatch
+transfer_noted is_started w = record w { opening = started_so is_started w.opening }
+
 abbrev pub connection_started : ℕ → ConnectionWatch → ConnectionWatch × Option Line
 connection_started now w = let told = happened note.Started w.started now in
-    (record w { started = told.0 }, told.1)
+    (record (transfer_noted true w) { started = told.0 }, told.1)
 
 abbrev pub connection_stopped : ℕ → ConnectionWatch → ConnectionWatch × Option Line
 connection_stopped now w = let told = happened note.Stopped w.stopped now in
-    (record w { stopped = told.0 }, told.1)
+    (record (transfer_noted false w) { stopped = told.0 }, told.1)
 
 abbrev pub connection_sent : List ℕ → ℕ → ConnectionWatch → ConnectionWatch × Option Line
 connection_sent octets now w =

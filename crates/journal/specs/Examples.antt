@@ -3,7 +3,13 @@ use Rattle.std.specs.Prelude.{ℕ, List, [], ◌∷◌, ◌++◌, option_to_list
 use Rattle.ft12.specs.declared.frame.LinkSize.{LinkSize}
 use Rattle.live.specs.declared.wires.Presence.{Presence}
 use Rattle.journal.specs.Ends.{line_seen}
-use Rattle.journal.specs.Stations.{asked}
+use Rattle.journal.specs.Gathering.{Call, Add, Look, nothing, added, line_of}
+use Rattle.journal.specs.Stations.{asked, asking_of, station_asked, standing_of}
+use Rattle.journal.specs.declared.gathered.Gathered.{Gathered}
+use Rattle.journal.specs.declared.order.Act.{Act}
+use Rattle.journal.specs.declared.order.Value.{Value}
+use Rattle.journal.specs.declared.order.Order.{Order}
+use Rattle.journal.specs.declared.stations.Standing.{Standing}
 use Rattle.journal.specs.declared.ends.LineWatch.{LineWatch}
 use Rattle.journal.specs.declared.note.Line.{Line}
 use Rattle.journal.specs.declared.note.Note.{Note}
@@ -23,3 +29,24 @@ abbrev pub lines_of_looks : List (ℕ × Presence) → LineWatch → List Line
 lines_of_looks [] w = []
 lines_of_looks (x ∷ xs) w =
     option_to_list (line_seen x.1 x.0 w).1 ++ lines_of_looks xs (line_seen x.1 x.0 w).0
+
+abbrev pub order : (kind : ℕ) → Act → (ca object : ℕ) → Value → Order
+order kind act ca object value =
+    record { kind = kind; act = act; ca = ca; object = object; value = value }
+
+-- the lines of what is gathered
+abbrev pub lines_after : Gathered → List Call → List Line
+lines_after g [] = []
+lines_after g (Add what ∷ calls) = lines_after (added what g) calls
+lines_after g (Look now ∷ calls) =
+    option_to_list (line_of now g).1 ++ lines_after (line_of now g).0 calls
+
+abbrev pub lines_of_calls : List Call → List Line
+lines_of_calls calls = lines_after nothing calls
+
+-- how a station stands after each request to it, and since when
+abbrev pub standings_of : LinkSize → List (ℕ × List ℕ) → StationWatch → List (Standing × ℕ)
+standings_of size [] w = []
+standings_of size (x ∷ xs) w =
+    let v = (station_asked (asking_of x.1) x.0 w).0 in
+    (standing_of v, v.since) ∷ standings_of size xs v

@@ -1,7 +1,16 @@
 pub mod Limits
+pub mod Orders
+pub mod OrderWords
+pub mod Wordings
 pub mod Notes
+pub mod Severities
 pub mod Ends
+pub mod Gathering
+pub mod Inbox
 pub mod Stations
+pub mod Traffic
+pub mod Exchange
 pub mod Watching
 pub mod Telling
 pub mod Examples
+pub mod Names

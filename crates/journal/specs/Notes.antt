@@ -9,6 +9,9 @@ use Rattle.live.specs.declared.wires.CutCause.{CutCause}
 use Rattle.live.specs.declared.wires.CutCause.TheVariants as cut
 use Rattle.live.specs.declared.watched.Notice.{Notice}
 use Rattle.live.specs.declared.watched.Notice.TheVariants as notices
+use Rattle.journal.specs.OrderWords.{order_words, reason_words, fate_words, type_name}
+use Rattle.journal.specs.declared.content.Skip.{Skip}
+use Rattle.journal.specs.declared.content.Skip.TheVariants as skip
 use Rattle.journal.specs.declared.note.Line.{Line}
 use Rattle.journal.specs.declared.note.Tally.{Tally}
 use Rattle.journal.specs.declared.note.Trouble.{Trouble}
@@ -44,6 +47,7 @@ trouble_words trouble.PortForbidden = codes "port not allowed"
 trouble_words trouble.PortUnusable = codes "port can't be listened at"
 trouble_words trouble.StateInUse = codes "state in use by another process"
 trouble_words trouble.StateUnusable = codes "state can't be kept there"
+trouble_words trouble.StatusUnusable = codes "status port can't be used"
 
 abbrev pub notice_words : Notice → List ℕ
 notice_words notices.NotKept =
@@ -64,6 +68,20 @@ last_words (Some address) = codes ", the last at " ++ ip_text address
 
 abbrev pub sent_away_words : ℕ → Option IpAddr → List ℕ
 sent_away_words count last = (decimal count ++ codes " sent away") ++ last_words last
+
+-- why a report isn't passed on
+abbrev pub skip_words : Skip → List ℕ
+skip_words skip.TooShort = codes "too short"
+skip_words skip.TypeUnknown = codes "type not known"
+skip_words skip.NoObjects = codes "no objects"
+skip_words skip.OtherLength = codes "length doesn't fit, look at line.ioa"
+skip_words skip.PastSize = codes "object address past its size"
+skip_words skip.Negative = codes "it says that a type is unknown"
+
+abbrev pub skipped_words : (station kind : ℕ) → Skip → List ℕ
+skipped_words station kind why =
+    (codes "station " ++ decimal station ++ codes " report skipped, type " ++ decimal kind)
+    ++ type_name kind ++ codes ": " ++ skip_words why
 
 abbrev pub words : Note → List ℕ
 words note.LineReached = codes "line reached"
@@ -94,6 +112,11 @@ words note.StateStale = codes "state is stale: each link is reset"
 words note.StatePutAside = codes "state can't be read: put aside"
 words (note.State notice) = notice_words notice
 words (note.Trouble why) = trouble_words why
+words (note.Ordered order peer) = order_words order ++ peer_words peer
+words (note.Refused order peer why) =
+    order_words order ++ peer_words peer ++ codes " refused: " ++ reason_words why
+words (note.Fate order station fate) = order_words order ++ fate_words fate station
+words (note.Skipped station kind why) = skipped_words station kind why
 
 abbrev pub left_out_words : ℕ → List ℕ
 left_out_words n = if n == 0 then [] else codes " (" ++ decimal n ++ codes " left out)"

@@ -1,6 +1,7 @@
 -- What is told of the stations, by the requests that go out to them (IEC 60870-5-2; the lines are
 -- this gateway's own profile).
-use Rattle.std.specs.Prelude.{ℕ, ◌+◌, ◌*◌, ◌==◌, nat_lt, Bool, true, false, not, List, [], ◌∷◌, length, map, slice_get, slice_index, Option, Some, None, is_none, if◌then◌else◌}
+use Rattle.std.specs.Prelude.{ℕ, ◌+◌, ◌*◌, ◌==◌, nat_lt, Bool, true, false, not, List, [], ◌∷◌, map}
+use Rattle.std.specs.Prelude.{slice_get, Option, Some, None, is_none, is_some, if◌then◌else◌}
 use Rattle.std.specs.Bool.{beq}
 use Rattle.ft12.specs.declared.frame.LinkSize.{LinkSize}
 use Rattle.ft12.specs.declared.frame.LinkSize.TheVariants.{One, Two}
@@ -8,17 +9,17 @@ use Rattle.link.specs.Control.{is_primary, fcb_bit, fcv_bit, function_code, prim
 use Rattle.link.specs.declared.control.PrimaryFunction.TheVariants.{LinkStatus}
 use Rattle.journal.specs.Ends.{changed, happened, new_limit}
 use Rattle.journal.specs.Limits.{one_more, is_minute_after}
+use Rattle.journal.specs.Orders.{octet}
 use Rattle.journal.specs.declared.note.Line.{Line}
 use Rattle.journal.specs.declared.note.Note.TheVariants as note
 use Rattle.journal.specs.declared.stations.Asking.{Asking}
 use Rattle.journal.specs.declared.stations.Asking.TheVariants.{Status, Counted, Other, Missed}
+use Rattle.journal.specs.declared.stations.Standing.{Standing}
+use Rattle.journal.specs.declared.stations.Standing.TheVariants as standing
 use Rattle.journal.specs.declared.stations.StationTold.{StationTold}
-use Rattle.journal.specs.declared.stations.StationTold.TheVariants.{Nothing, Asked, Up, Silent, Down, Unheard}
+use Rattle.journal.specs.declared.stations.StationTold.TheVariants.{Nothing, Asked, Up, Silent}
+use Rattle.journal.specs.declared.stations.StationTold.TheVariants.{Down, Unheard}
 use Rattle.journal.specs.declared.stations.StationWatch.{StationWatch}
-
--- the octet at this place, or 0 where there is none
-abbrev pub octet : List ℕ → ℕ → ℕ
-octet octets place = if nat_lt place (length octets) then slice_index octets place else 0
 
 -- A request begins with 10, and its control octet follows, or with 68, two lengths and 68 (IEC
 -- 60870-5-1, FT1.2). The link address stands behind the control octet, its low octet first.
@@ -47,6 +48,9 @@ new_station tries address = record {
   tries = tries;
   bit = None;
   sent = 0;
+  was_up = false;
+  since = 0;
+  gaps = 0;
   told = Nothing;
   asked = new_limit;
   up = new_limit;
@@ -89,20 +93,53 @@ abbrev pub is_again : Option Bool → Bool → Bool
 is_again None bit = false
 is_again (Some before) bit = beq before bit
 
+-- it has gone out already: it is counted, with the bit of the one before
+abbrev pub is_repeat : Asking → StationWatch → Bool
+is_repeat (Counted bit) w = is_again w.bit bit
+is_repeat asking w = false
+
 -- A counted request with the bit of the one before is that request again (IEC 60870-5-2, 5.1.2).
 -- Requests for the status are counted from the last counted request on: a station that answers them
 -- has its link reset, and then gets counted requests.
 abbrev pub counting : Asking → StationWatch → StationWatch
 counting (Counted bit) w =
-    record w { bit = Some bit; sent = if is_again w.bit bit then one_more w.sent else 1 }
+    record w {
+      bit = Some bit;
+      sent = if is_again w.bit bit then one_more w.sent else 1;
+      was_up = true;
+    }
 counting Status w =
     record w { bit = None; sent = if is_none w.bit then one_more w.sent else 1 }
 counting Other w = w
-counting Missed w = w
+counting Missed w = record w { gaps = one_more w.gaps }
 
 -- a request went out more often than a station that is there lets it
 abbrev pub is_unanswered : StationWatch → Bool
 is_unanswered w = nat_lt w.tries w.sent
+
+-- How a station stands. One whose status is asked is down where its link was reset before.
+abbrev pub standing_of : StationWatch → Standing
+standing_of w =
+    if w.sent == 0 then standing.NotAsked
+    else if is_unanswered w then standing.Silent
+    else if is_some w.bit then standing.Up
+    else if w.was_up then standing.Down else standing.Asked
+
+abbrev pub is_same : Standing → Standing → Bool
+is_same standing.NotAsked standing.NotAsked = true
+is_same standing.Asked standing.Asked = true
+is_same standing.Up standing.Up = true
+is_same standing.Silent standing.Silent = true
+is_same standing.Down standing.Down = true
+is_same before after = false
+
+-- since when it stands so
+abbrev pub since_noted : ℕ → StationWatch → StationWatch → StationWatch
+since_noted now old w =
+    record w { since = if is_same (standing_of old) (standing_of w) then w.since else now }
+
+abbrev pub counted : Asking → ℕ → StationWatch → StationWatch
+counted asking now w = since_noted now w (counting asking w)
 
 -- that it doesn't answer is told
 abbrev pub silent_by : (is_unanswered : Bool) → StationTold → ℕ → StationWatch
@@ -142,7 +179,7 @@ station_by told Missed now w = told_missed now w
 station_by told asking now w = (w, None)
 
 abbrev pub station_asked : Asking → ℕ → StationWatch → StationWatch × Option Line
-station_asked asking now w = station_by w.told asking now (counting asking w)
+station_asked asking now w = station_by w.told asking now (counted asking now w)
 
 -- the station after a request to this link address, if it is its own
 abbrev pub after_request : ℕ → Asking → ℕ → StationWatch → StationWatch

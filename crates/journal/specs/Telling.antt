@@ -1,12 +1,14 @@
 -- The lines of a run, and what they are a function of (this gateway's own profile).
-use Rattle.std.specs.Prelude.{◌≡◌, ℕ, ◌-◌, ◌^◌, min, not, Bool, true, false, List, ◌∷◌, length, Option, Some, None, if◌then◌else◌}
+use Rattle.std.specs.Prelude.{◌≡◌, ℕ, ◌-◌, ◌^◌, min, not, ◌&&◌, Bool, true, false, List, ◌∷◌}
+use Rattle.std.specs.Prelude.{length, Option, Some, None, if◌then◌else◌}
 use Rattle.events.specs.Queue.{kept as pieces_kept}
 use Rattle.gateway.specs.Log.{Output}
 use Rattle.gateway.specs.State.{State, counts_of}
 use Rattle.gateway.specs.declared.ports.Next.{Next}
 use Rattle.live.specs.declared.watched.Notice.{Notice}
 use Rattle.live.specs.declared.watched.Sight.{Sight}
-use Rattle.journal.specs.Watching.{Watching, heard, put, is_look_due, looked_at, line_of, sum_line}
+use Rattle.journal.specs.Watching.{Watching, heard, put, is_look_due, looked_at, judged}
+use Rattle.journal.specs.Watching.{unless_line, line_of, sum_line}
 use Rattle.journal.specs.declared.note.Line.{Line}
 use Rattle.journal.specs.declared.note.Note.{Note}
 use Rattle.journal.specs.declared.note.Note.TheVariants as note
@@ -21,33 +23,38 @@ kept false line lines = lines
 kept true line None = None
 kept true line (Some before) = Some (line ∷ before)
 
--- what was told, where to, and whether that took no line any more, which ends the telling
+-- what was told, where to, whether that took no line any more, which ends the telling, and whether
+-- the run is watched all the same
 pub record Book : Type 0 where
   pub watching : Watching
   pub lines : Lines
   pub is_over : Bool
+  pub is_watching : Bool
 
--- a line is told, taken or not
+-- a line is told, taken or not, where the telling isn't over
 abbrev pub told : Option Line → (taken : Bool) → Book → Book
 told None taken b = b
-told (Some line) taken b = record b { lines = kept taken line b.lines; is_over = not taken }
+told (Some line) taken b =
+    if b.is_over then b
+    else record b { lines = kept taken line b.lines; is_over = not taken }
 
 abbrev pub after : Watching × Option Line → (taken : Bool) → Book → Book
 after w taken b = told w.1 taken (record b { watching = w.0 })
 
--- nothing is told any more once the telling is over
+-- nothing is done any more once the telling is over, where the run isn't watched
 abbrev pub unless_over : Book → Book → Book
-unless_over old new = if old.is_over then old else new
+unless_over old new = if old.is_over && not old.is_watching then old else new
 
--- an event came, and the ends were seen so
-pub record HearsSeeing (sight : Sight) (old : Book) (event : Next) (new : Book) : Type 0 where
+-- an event came, whose octets are the front of the buffer, and the ends were seen so
+pub record HearsSeeing (sight : Sight) (old : Book) (event : Next) (buf : List ℕ) (new : Book) :
+    Type 0 where
   pub taken : Bool
-  pub done : new ≡ unless_over old (after (heard event sight old.watching) taken old)
+  pub done : new ≡ unless_over old (after (heard event buf sight old.watching) taken old)
 
 -- an event came, and the ends were seen in some way
-pub record Hears (old : Book) (event : Next) (new : Book) : Type 0 where
+pub record Hears (old : Book) (event : Next) (buf : List ℕ) (new : Book) : Type 0 where
   pub sight : Sight
-  pub hears : HearsSeeing sight old event new
+  pub hears : HearsSeeing sight old event buf new
 
 -- an action went out
 pub record Puts (old : Book) (now : ℕ) (action : Output) (new : Book) : Type 0 where
@@ -61,16 +68,19 @@ counted n = min n (2 ^ 64 - 1)
 abbrev pub taken_in : State → ℕ
 taken_in gateway = counted (length (pieces_kept gateway.centre.queue))
 
--- the gateway was looked at, if that was due
-abbrev pub looked : State → (taken : Bool) → Book → Book
-looked s taken b =
-    if is_look_due b.watching
-    then after (looked_at (counts_of s) (taken_in s) b.watching) taken b
-    else b
+-- the queue and the counts were looked at, if that was due
+abbrev pub looked_if_due : State → Watching → Watching × Option Line
+looked_if_due s w =
+    if is_look_due w then looked_at (counts_of s) (taken_in s) w else (w, None)
+
+-- Between two steps: what became of the commands of the latest one; and a line of the queue or the
+-- counts, or else of what was gathered.
+abbrev pub looked : State → Watching → Watching × Option Line
+looked s w = unless_line (looked_if_due s (judged s w))
 
 pub record Looks (old : Book) (gateway : State) (new : Book) : Type 0 where
   pub taken : Bool
-  pub done : new ≡ unless_over old (looked gateway taken old)
+  pub done : new ≡ unless_over old (after (looked gateway old.watching) taken old)
 
 -- the run is over: the counts are told once more
 pub record Closes (old : Book) (gateway : State) (new : Book) : Type 0 where
@@ -97,12 +107,10 @@ pub record Tells (notice : Option Notice) (old new : Book) : Type 0 where
   pub taken : Bool
   pub done : new ≡ unless_over old (told (line_of_notice notice old.watching) taken old)
 
--- between two steps: what the port had to tell of the state on the disk was told, and then the
--- gateway was looked at
-pub record Tends (tends : Option Notice → Type 0) (old : Book) (gateway : State) (new : Book) :
-    Type 0 where
-  pub notice : Option Notice
-  pub tended : tends notice
-  pub between : Book
-  pub tells : Tells notice old between
-  pub looks : Looks between gateway new
+-- between two steps: this was told of the state on the disk, if anything, and then the gateway was
+-- looked at
+pub record Tends (notice : Option Notice) (old : Book) (gateway : State) (new : Book) : Type 0
+  where
+    pub between : Book
+    pub tells : Tells notice old between
+    pub looks : Looks between gateway new

@@ -1,7 +1,12 @@
 -- Which line follows from what passes the port (this gateway's own profile).
-use Rattle.std.specs.Prelude.{ℕ, ◌+◌, ◌-◌, nat_le, nat_lt, Bool, true, false, List, map, Option, Some, None, if◌then◌else◌}
+use Rattle.std.specs.Prelude.{ℕ, ◌+◌, ◌-◌, ◌^◌, ◌==◌, min, nat_le, nat_lt, Bool, true, false, List}
+use Rattle.std.specs.Prelude.{map, take, slice_get, slice_set, Option, Some, None, is_some}
+use Rattle.std.specs.Prelude.{option_map, if◌then◌else◌}
 use Rattle.ft12.specs.declared.frame.LinkSize.{LinkSize}
+use Rattle.session.specs.declared.kinds.Close.{Close}
+use Rattle.session.specs.declared.kinds.Close.TheVariants as close
 use Rattle.gateway.specs.Config.{Settings}
+use Rattle.gateway.specs.State.{State, counts_of}
 use Rattle.gateway.specs.Log.{Output, LineOut, TcpOut, Closed, GapOut}
 use Rattle.gateway.specs.declared.counts.Counts.{Counts}
 use Rattle.gateway.specs.declared.ports.Next.{Next}
@@ -9,7 +14,25 @@ use Rattle.gateway.specs.declared.ports.Next.TheVariants as next
 use Rattle.gateway.specs.declared.settings.Station.{Station}
 use Rattle.live.specs.declared.watched.Sight.{Sight}
 use Rattle.live.specs.declared.wires.Presence.TheVariants.{Away}
-use Rattle.journal.specs.Ends.{new_limit, changed, new_line, new_door, new_connection, line_seen, door_seen, connection_opened, connection_cut, connection_sent, connection_closed}
+use Rattle.journal.specs.Ends.{new_limit, changed, new_line, new_door, new_connection, line_seen}
+use Rattle.journal.specs.Ends.{door_seen, connection_opened, connection_cut, connection_sent}
+use Rattle.journal.specs.Ends.{connection_closed}
+use Rattle.journal.specs.Inbox as inbox
+use Rattle.journal.specs.Inbox.{Inbox, new_inbox}
+use Rattle.asdu.specs.declared.sizes.Sizes.{Sizes}
+use Rattle.link.specs.declared.answer.Answer.{Answer}
+use Rattle.journal.specs.Exchange as exchange
+use Rattle.journal.specs.Exchange.{Exchange, new_exchange, begun, over, awaited_of, place_of}
+use Rattle.journal.specs.Exchange.{user_data, answer_in, traffic_after}
+use Rattle.journal.specs.Orders.{order_of}
+use Rattle.journal.specs.Traffic as traffic
+use Rattle.journal.specs.Traffic.{new_traffics, first_line}
+use Rattle.journal.specs.declared.exchange.Awaited.{Awaited}
+use Rattle.journal.specs.declared.exchange.Awaited.TheVariants as awaited
+use Rattle.journal.specs.declared.fate.Fate.TheVariants as fate
+use Rattle.journal.specs.declared.order.Order.{Order}
+use Rattle.journal.specs.declared.traffic.Traffic.{Traffic}
+use Rattle.journal.specs.declared.watch.WallShown.{WallShown}
 use Rattle.journal.specs.Stations as stations
 use Rattle.journal.specs.Stations.{new_station}
 use Rattle.journal.specs.declared.ends.LineWatch.{LineWatch}
@@ -59,7 +82,18 @@ pub record Watching : Type 0 where
   pub door : DoorWatch
   pub connection : ConnectionWatch
   pub queue : QueueWatch
+  pub inbox : Inbox
+  -- the sizes of the line's ASDUs
+  pub sizes : Sizes
+  pub exchange : Exchange
+  -- how many commands were given up, as far as that was seen
+  pub lost : ℕ
+  -- when a line was sought among what is gathered
+  pub sought : ℕ
+  -- what the wall clock showed last
+  pub wall : Option WallShown
   pub stations : List StationWatch
+  pub traffic : List Traffic
 
 abbrev pub new_stations : (tries : ℕ) → List Station → List StationWatch
 new_stations tries settings = map (λ (s : Station). new_station tries s.address) settings
@@ -75,6 +109,13 @@ new_watching c = record {
   door = new_door;
   connection = new_connection;
   queue = new_queue;
+  inbox = new_inbox;
+  sizes = c.line.sizes;
+  exchange = new_exchange;
+  lost = 0;
+  sought = 0;
+  wall = None;
+  traffic = new_traffics c.stations;
   stations = new_stations (c.line.retries + 1) c.stations;
 }
 
@@ -98,26 +139,139 @@ unless_told s (w, None) = with_door (door_seen s.sent_away w.moment w.door) w
 abbrev pub seen : Sight → Watching → Watching × Option Line
 seen s w = unless_told s (with_line (line_seen s.line w.moment w.line) w)
 
+-- an event begins
 abbrev pub at : ℕ → Watching → Watching
-at now w = record w { moment = now }
+at now w = record w { moment = now; exchange = begun w.exchange }
 
--- An event: a connection that is opened or cut, the line's end; after any other the ends are seen.
-abbrev pub heard : Next → Sight → Watching → Watching × Option Line
-heard (next.Open now) s w = with_connection (connection_opened s.peer now w.connection) (at now w)
-heard (next.Cut now) s w = with_connection (connection_cut s.why_cut now w.connection) (at now w)
-heard (next.Line now len) s w = seen s (at now w)
-heard (next.Bytes now len) s w = seen s (at now w)
-heard (next.Tick now) s w = seen s (at now w)
-heard (next.Wall now number) s w = seen s (at now w)
-heard next.Fault s w = with_line (line_seen Away w.moment w.line) w
-heard next.Done s w = (w, None)
+-- octets came on the connection, if one is open
+abbrev pub received : List ℕ → Watching → Watching
+received octets w =
+    if is_some w.connection.opening then record w { inbox = inbox.received octets w.inbox } else w
+
+-- nothing has come on a connection that begins or is cut
+abbrev pub at_end : ℕ → Watching → Watching
+at_end now w = record (at now w) { inbox = inbox.emptied w.inbox }
+
+-- ---- The line
+
+abbrev pub answered_by : Option (Option Answer) → Traffic → (place : ℕ) → Watching → Watching
+answered_by None t place w = w
+answered_by (Some answer) t place w = record w {
+  exchange = over w.exchange;
+  traffic = slice_set w.traffic place (traffic_after answer w.sizes w.moment t);
+}
+
+abbrev pub station_heard_by : Option Traffic → (place : ℕ) → Watching → Watching
+station_heard_by None place w = w
+station_heard_by (Some t) place w =
+    answered_by (answer_in w.link t.address w.exchange) t place w
+
+-- the station at this place may have answered
+abbrev pub station_heard : (place : ℕ) → Watching → Watching
+station_heard place w = station_heard_by (slice_get w.traffic place) place w
+
+abbrev pub heard_at : Option ℕ → Watching → Watching
+heard_at None w = w
+heard_at (Some place) w = station_heard place w
+
+-- octets came from the line
+abbrev pub line_heard : List ℕ → Watching → Watching
+line_heard octets w =
+    heard_at w.exchange.place (record w { exchange = exchange.received octets w.exchange })
+
+abbrev pub is_repeat_by : Option StationWatch → List ℕ → Bool
+is_repeat_by None octets = false
+is_repeat_by (Some station) octets = stations.is_repeat (stations.asking_of octets) station
+
+abbrev pub is_repeat : (place : ℕ) → List ℕ → Watching → Bool
+is_repeat place octets w = is_repeat_by (slice_get w.stations place) octets
+
+abbrev pub order_at : List ℕ → Watching → Option Order
+order_at octets w = order_of w.sizes (user_data w.link octets)
+
+abbrev pub sent_by : Option Traffic → (place : ℕ) → List ℕ → Watching → Watching
+sent_by None place octets w = w
+sent_by (Some t) place octets w =
+    if is_repeat place octets w then w
+    else record w { traffic = slice_set w.traffic place (traffic.sent (order_at octets w) t) }
+
+-- a command goes out, for the first time or again
+abbrev pub command_sent : (place : ℕ) → List ℕ → Watching → Watching
+command_sent place octets w = sent_by (slice_get w.traffic place) place octets w
+
+abbrev pub sent_at : Option ℕ → Awaited → List ℕ → Watching → Watching
+sent_at (Some place) awaited.Command octets w = command_sent place octets w
+sent_at place what octets w = w
+
+abbrev pub exchanged : Option ℕ → Awaited → List ℕ → Watching → Watching
+exchanged place what octets w =
+    sent_at place what octets (record w { exchange = exchange.asked place what w.exchange })
+
+-- a request goes out
+abbrev pub asked : List ℕ → (now : ℕ) → Watching → Watching × Option Line
+asked octets now w =
+    let v = exchanged (place_of (stations.address_of w.link octets) w.traffic)
+    (awaited_of octets) octets w in
+    with_stations (stations.asked v.link octets now v.stations) v
+
+abbrev pub given_up_by : Option Traffic → (place : ℕ) → Watching → Watching
+given_up_by None place w = w
+given_up_by (Some t) place w =
+    record w { traffic = slice_set w.traffic place (traffic.ended fate.GivenUp t) }
+
+abbrev pub given_up : (place : ℕ) → Watching → Watching
+given_up place w = given_up_by (slice_get w.traffic place) place w
+
+abbrev pub given_up_at : Option ℕ → Watching → Watching
+given_up_at None w = w
+given_up_at (Some place) w = given_up place w
+
+-- So many commands were given up: one more is that of the station that was asked last before the
+-- latest event.
+abbrev pub lost_noted : (lost : ℕ) → Watching → Watching
+lost_noted lost w =
+    if nat_le lost w.lost then w else given_up_at w.exchange.before (record w { lost = lost })
+
+-- the wall clock shows this at that moment
+abbrev pub walled : (now shown : ℕ) → Watching → Watching
+walled now shown w = record w { wall = Some (record { moment = now; shown = shown }) }
+
+-- what it shows at the moment of the latest event, as the run's clock has gone on since
+abbrev pub wall_at : (now : ℕ) → WallShown → ℕ
+wall_at now wall = min (wall.shown + (now - wall.moment)) (2 ^ 64 - 1)
+
+abbrev pub wall_of : Watching → Option ℕ
+wall_of w = option_map (wall_at w.moment) w.wall
+
+-- An event, whose octets are the front of the buffer: a connection that is opened or cut, the
+-- line's end; after any other the ends are seen.
+abbrev pub heard : Next → List ℕ → Sight → Watching → Watching × Option Line
+heard (next.Open now) buf s w =
+    with_connection (connection_opened s.peer now w.connection) (at_end now w)
+heard (next.Cut now) buf s w =
+    with_connection (connection_cut s.why_cut now w.connection) (at_end now w)
+heard (next.Line now len) buf s w = seen s (line_heard (take len buf) (at now w))
+heard (next.Bytes now len) buf s w = seen s (received (take len buf) (at now w))
+heard (next.Tick now) buf s w = seen s (at now w)
+heard (next.Wall now number) buf s w = seen s (walled now number (at now w))
+heard next.Fault buf s w = with_line (line_seen Away w.moment w.line) w
+heard next.Done buf s w = (w, None)
+
+abbrev pub inbox_after : Close → Inbox → Inbox
+inbox_after close.Replaced b = b
+inbox_after cause b = inbox.closed b
+
+-- the gateway closes the connection
+abbrev pub closed : Close → (now : ℕ) → Watching → Watching × Option Line
+closed cause now w = with_connection (connection_closed cause now w.connection)
+    (record w { inbox = inbox_after cause w.inbox })
 
 -- An action: a request to a station, an APDU, the close of the connection, or a gap in what a
 -- station reported.
 abbrev pub put : (now : ℕ) → Output → Watching → Watching × Option Line
-put now (LineOut octets) w = with_stations (stations.asked w.link octets now w.stations) w
+put now (LineOut octets) w = asked octets now w
 put now (TcpOut octets) w = with_connection (connection_sent octets now w.connection) w
-put now (Closed cause) w = with_connection (connection_closed cause now w.connection) w
+put now (Closed cause) w = closed cause now w
 put now (GapOut station session) w = with_stations (stations.gap station now w.stations) w
 
 -- Once a second the queue is looked at, and once a minute the counts are told.
@@ -154,3 +308,28 @@ abbrev pub looked_at : Counts → (taken : ℕ) → Watching → Watching × Opt
 looked_at counts taken w =
     unless_queue counts taken (queue_seen taken w.places w.moment w.queue)
     (record w { looked = w.moment })
+
+-- Between two steps
+
+-- what became of the commands that came in the latest step
+abbrev pub judged : State → Watching → Watching
+judged s w = lost_noted (counts_of s).lost
+    (record w { inbox = inbox.judged s w.connection.peer w.inbox })
+
+abbrev pub traffic_told : Watching → Watching × Option Line
+traffic_told w =
+    let told = first_line w.moment w.traffic in (record w { traffic = told.0 }, told.1)
+
+abbrev pub unless_inbox : Inbox × Option Line → Watching → Watching × Option Line
+unless_inbox (b, Some line) w = (record w { inbox = b }, Some line)
+unless_inbox (b, None) w = traffic_told (record w { inbox = b })
+
+-- the next line of what was gathered, which is sought once a ms
+abbrev pub gathered : Watching → Watching × Option Line
+gathered w =
+    if w.sought == w.moment then (w, None)
+    else unless_inbox (inbox.line_of w.moment w.inbox) (record w { sought = w.moment })
+
+abbrev pub unless_line : Watching × Option Line → Watching × Option Line
+unless_line (w, Some line) = (w, Some line)
+unless_line (w, None) = gathered w

@@ -53,6 +53,9 @@ pub(crate) struct LineWatch {
     away: Limit,
     /// Octets had come from it when it was seen last.
     is_heard: bool,
+    /// How it was seen last, and since when it is there or not, in ms.
+    presence: Presence,
+    since: u64,
 }
 
 impl LineWatch {
@@ -64,7 +67,34 @@ impl LineWatch {
             there: Limit::new(),
             away: Limit::new(),
             is_heard: false,
+            presence: Presence::Untried,
+            since: 0,
         }
+    }
+
+    /// How it was seen last.
+    pub(crate) fn presence(&self) -> Presence
+        ensures { result ≡ self.now.presence }
+    {
+        self.presence
+    }
+
+    /// Since when it is there, or isn't, in ms.
+    pub(crate) fn since(&self) -> u64
+        ensures { result ≡ self.now.since }
+    {
+        self.since
+    }
+
+    /// How it is seen.
+    fn note(&mut self, presence: Presence, now: u64)
+        ensures { self.new ≡ spec.presence_noted presence now self.old }
+    {
+        if is_there(presence) != is_there(self.presence) {
+            self.since = now;
+        }
+        self.presence = presence;
+        self.is_heard = matches!(presence, Presence::Heard);
     }
 
     /// The line is seen so.
@@ -73,7 +103,7 @@ impl LineWatch {
     {
         // It may go and come back between two events: then nothing has come from it any more.
         let presence = seen_as(self.is_heard, presence);
-        self.is_heard = matches!(presence, Presence::Heard);
+        self.note(presence, now);
         let is_minute = self.away.is_minute_after(now);
         let (told, note) = line_change(self.told, presence, is_minute)?;
         let line = if matches!(presence, Presence::Away) {
@@ -83,6 +113,16 @@ impl LineWatch {
         };
         self.told = told;
         Some(line)
+    }
+}
+
+/// Whether a line that is seen so is there.
+fn is_there(presence: Presence) -> bool
+    ensures { result ≡ spec.is_there presence }
+{
+    match presence {
+        Presence::There | Presence::Heard => true,
+        Presence::Untried | Presence::Away => false,
     }
 }
 
@@ -149,11 +189,24 @@ impl DoorWatch {
     }
 }
 
+/// The connection that is open.
+#[derive(Clone, Copy, Debug, PartialEq, Eq)]
+pub struct Opening {
+    /// When it was opened, in ms.
+    pub since: u64,
+    /// STARTDT con has gone out on it, and no STOPDT con after that.
+    pub is_started: bool,
+}
+
 /// What is told of the connection.
 #[derive(Clone, Copy, Debug, PartialEq, Eq)]
 pub(crate) struct ConnectionWatch {
     /// How many were opened.
     count: u64,
+    /// The address of the latest one's other end, if that is known.
+    peer: Option<IpAddr>,
+    /// The one that is open.
+    opening: Option<Opening>,
     opened: Limit,
     started: Limit,
     stopped: Limit,
@@ -167,6 +220,8 @@ impl ConnectionWatch {
     {
         ConnectionWatch {
             count: 0,
+            peer: None,
+            opening: None,
             opened: Limit::new(),
             started: Limit::new(),
             stopped: Limit::new(),
@@ -182,11 +237,30 @@ impl ConnectionWatch {
         self.count
     }
 
+    /// The address of the latest one's other end, if that is known.
+    pub(crate) fn peer(&self) -> Option<IpAddr>
+        ensures { result ≡ self.now.peer }
+    {
+        self.peer
+    }
+
+    /// The one that is open.
+    pub(crate) fn opening(&self) -> Option<Opening>
+        ensures { result ≡ self.now.opening }
+    {
+        self.opening
+    }
+
     /// One was opened.
     pub(crate) fn open(&mut self, peer: Option<IpAddr>, now: u64) -> Option<Line>
         ensures { (self.new, result) ≡ spec.connection_opened peer now self.old }
     {
         self.count = self.count.saturating_add(1);
+        self.peer = peer;
+        self.opening = Some(Opening {
+            since: now,
+            is_started: false,
+        });
         happened(Note::Opened(peer), &mut self.opened, now)
     }
 
@@ -194,6 +268,7 @@ impl ConnectionWatch {
     pub(crate) fn cut(&mut self, cause: CutCause, now: u64) -> Option<Line>
         ensures { (self.new, result) ≡ spec.connection_cut cause now self.old }
     {
+        self.opening = None;
         happened(Note::Cut(cause), &mut self.cut, now)
     }
 
@@ -202,11 +277,22 @@ impl ConnectionWatch {
         ensures { (self.new, result) ≡ spec.connection_sent octets.now now self.old }
     {
         if octets == START_CONFIRMED.as_slice() {
+            self.start(true);
             happened(Note::Started, &mut self.started, now)
         } else if octets == STOP_CONFIRMED.as_slice() {
+            self.start(false);
             happened(Note::Stopped, &mut self.stopped, now)
         } else {
             None
+        }
+    }
+
+    /// Data transfer is started, or stopped, where one is open.
+    fn start(&mut self, is_started: bool)
+        ensures { self.new ≡ spec.transfer_noted is_started self.old }
+    {
+        if let Some(Opening { since, .. }) = self.opening {
+            self.opening = Some(Opening { since, is_started });
         }
     }
 
@@ -214,6 +300,10 @@ impl ConnectionWatch {
     pub(crate) fn close(&mut self, cause: Close, now: u64) -> Option<Line>
         ensures { (self.new, result) ≡ spec.connection_closed cause now self.old }
     {
+        // The one in whose place another comes is closed after that is opened.
+        if !matches!(cause, Close::Replaced) {
+            self.opening = None;
+        }
         happened(Note::Closed(cause), &mut self.closed, now)
     }
 }

@@ -5,10 +5,24 @@ ghost use Rattle.gateway.specs.declared.counts.Counts.{Counts};
 ghost use Rattle.live.specs.declared.wires.CutCause.TheVariants as cut;
 ghost use Rattle.live.specs.declared.wires.Presence.TheVariants.{Untried, Away, There, Heard};
 ghost use Rattle.session.specs.declared.kinds.Close.TheVariants as close;
-ghost use Rattle.journal.specs.Ends.{new_line, new_door, new_connection, door_seen, connection_sent};
-ghost use Rattle.journal.specs.Examples.{at, lines_of_looks, lines_of_requests};
+ghost use Rattle.journal.specs.Ends.{new_line, new_door, new_connection, door_seen};
+ghost use Rattle.journal.specs.Ends.{connection_sent};
+ghost use Rattle.asdu.specs.Sizes.{tcp};
+ghost use Rattle.command.specs.declared.refusal.Refusal.TheVariants as refusal;
+ghost use Rattle.journal.specs.Examples.{at, lines_of_calls, lines_of_looks, lines_of_requests};
+ghost use Rattle.journal.specs.Examples.{order, standings_of};
+ghost use Rattle.journal.specs.Gathering.{Add, Look};
+ghost use Rattle.journal.specs.Orders.{order_of};
+ghost use Rattle.journal.specs.Traffic.{reply_of};
+ghost use Rattle.journal.specs.declared.content.Skip.TheVariants as skip;
+ghost use Rattle.journal.specs.declared.fate.Fate.TheVariants as fate;
+ghost use Rattle.journal.specs.declared.fate.Reason.TheVariants as reason;
+ghost use Rattle.journal.specs.declared.order.Act.TheVariants as act;
+ghost use Rattle.journal.specs.declared.order.Value.TheVariants as value;
+ghost use Rattle.journal.specs.declared.stations.Standing.TheVariants as standing;
 ghost use Rattle.journal.specs.Notes.{line_text, words};
 ghost use Rattle.journal.specs.Stations.{address_of, asking_of, new_station, asked, gap};
+ghost use Rattle.journal.specs.Stations.{standing_of};
 ghost use Rattle.journal.specs.Watching.{Watching, counted, is_full, is_look_due};
 ghost use Rattle.journal.specs.declared.note.Note.TheVariants as note;
 ghost use Rattle.journal.specs.declared.note.Trouble.TheVariants as trouble;
@@ -147,4 +161,64 @@ pub fn log_lines_by_example()
       places = 6;
       connections = 7;
     })) ≡ codes "counts skipped 1 mirrors 2 lost 3 spoilt 4 taken 5 of 6 connections 7" }
+{}
+
+/// What lines tell of commands: by the octets of an ASDU (IEC 60870-5-101, 7.2.6 and 7.3.2), and in
+/// words; what a station answers a command by its cause octet (7.2.3); and what is gathered within
+/// a second.
+pub fn commands_by_example()
+    ensures orders { (order_of tcp (0x2D ∷ 0x01 ∷ 0x06 ∷ 0x00 ∷ 0xE9 ∷ 0x03 ∷ 0x64 ∷ 0x00 ∷ 0x00
+        ∷ 0x81 ∷ []) ≡ Some (order 45 act.Select 1001 100 value.On))
+        × (order_of tcp (0x2E ∷ 0x01 ∷ 0x06 ∷ 0x00 ∷ 0x02 ∷ 0x00 ∷ 0x64 ∷ 0x00 ∷ 0x00 ∷ 0x01 ∷ [])
+        ≡ Some (order 46 act.Execute 2 100 value.Off))
+        × (order_of tcp (0x3C ∷ 0x01 ∷ 0x06 ∷ 0x00 ∷ 0x02 ∷ 0x00 ∷ 0x64 ∷ 0x00 ∷ 0x00 ∷ 0x02 ∷ [])
+        ≡ Some (order 60 act.Execute 2 100 value.Higher))
+        × (order_of tcp (0x31 ∷ 0x01 ∷ 0x06 ∷ 0x00 ∷ 0x02 ∷ 0x00 ∷ 0x64 ∷ 0x00 ∷ 0x00 ∷ 0xFF ∷ 0xFF
+        ∷ 0x80 ∷ []) ≡ Some (order 49 act.Select 2 100 (value.Below 1)))
+        × (order_of tcp (0x64 ∷ 0x01 ∷ 0x08 ∷ 0x00 ∷ 0xFF ∷ 0xFF ∷ 0x00 ∷ 0x00 ∷ 0x00 ∷ 0x14 ∷ [])
+        ≡ Some (order 100 act.Deactivate 65535 0 (value.Number 20)))
+        × (order_of tcp (0x67 ∷ 0x01 ∷ 0x06 ∷ 0x00 ∷ 0x02 ∷ 0x00 ∷ 0x00 ∷ 0x00 ∷ 0x00 ∷ [])
+        ≡ Some (order 103 act.Other 2 0 value.Unknown))
+        × (order_of tcp (0x2D ∷ 0x01 ∷ 0x06 ∷ 0x00 ∷ 0xE9 ∷ 0x03 ∷ 0x64 ∷ 0x00 ∷ []) ≡ None) }
+    ensures replies { (reply_of 0x07 ≡ Some fate.Confirmed) × (reply_of 0x47 ≡ Some fate.Denied)
+        × (reply_of 0x87 ≡ Some fate.Confirmed) × (reply_of 0x09 ≡ Some fate.Confirmed)
+        × (reply_of 0x0A ≡ Some fate.Terminated) × (reply_of 0x2F ≡ Some fate.Denied)
+        × (reply_of 0x14 ≡ None) }
+    ensures words { (words (note.Ordered (order 45 act.Select 1001 100 value.On) None)
+        ≡ codes "command C_SC_NA_1 select 1001/100 on")
+        × (words (note.Refused (order 45 act.Execute 1001 100 value.Off) None
+        (reason.Rule refusal.NotSelected))
+        ≡ codes "command C_SC_NA_1 execute 1001/100 off refused: not selected")
+        × (words (note.Refused (order 103 act.Other 2 0 value.Unknown) None
+        (reason.Rule refusal.TypeUnknown))
+        ≡ codes "command type 103 2/0 refused: type not known")
+        × (words (note.Refused (order 58 act.Execute 1 7 value.On) None
+        (reason.Rule (refusal.TagOld 3600500)))
+        ≡ codes "command C_SC_TA_1 execute 1/7 on refused: time tag 3600 s old")
+        × (words (note.Fate (order 49 act.Execute 1 7 (value.Below 12)) 5 fate.GivenUp)
+        ≡ codes "command C_SE_NB_1 execute 1/7 -12 given up: station 5 doesn't answer")
+        × (words (note.Fate (order 100 act.Activate 1 0 (value.Number 20)) 5 fate.Confirmed)
+        ≡ codes "command C_IC_NA_1 activate 1/0 20 confirmed by station 5")
+        × (words (note.Skipped 7 2 skip.TypeUnknown)
+        ≡ codes "station 7 report skipped, type 2: type not known")
+        × (words (note.Skipped 7 1 skip.OtherLength)
+        ≡ codes
+        "station 7 report skipped, type 1 M_SP_NA_1: length doesn't fit, look at line.ioa") }
+    // The first at once; of three more within the second the last, once that is over.
+    ensures gathered { lines_of_calls (Add (note.Up 1) ∷ Look 5 ∷ Add (note.Up 2) ∷ Look 6
+        ∷ Add (note.Up 3) ∷ Add (note.Up 4) ∷ Look 1004 ∷ Look 1005 ∷ Look 3000 ∷ [])
+        ≡ at 5 (note.Up 1) ∷ record { moment = 1005; note = note.Up 4; left_out = 2 } ∷ [] }
+{}
+
+/// How a station stands, by the requests to it, each with its moment; since when; and how many
+/// reports of it may have been lost.
+pub fn standings_by_example()
+    ensures standings { standings_of One ((0, 0x10 ∷ 0x49 ∷ 0x07 ∷ [])
+        ∷ (1000, 0x10 ∷ 0x7B ∷ 0x07 ∷ []) ∷ (2000, 0x10 ∷ 0x5B ∷ 0x07 ∷ [])
+        ∷ (3000, 0x10 ∷ 0x5B ∷ 0x07 ∷ []) ∷ (4000, 0x10 ∷ 0x5B ∷ 0x07 ∷ [])
+        ∷ (5000, 0x10 ∷ 0x7B ∷ 0x07 ∷ []) ∷ (6000, 0x10 ∷ 0x49 ∷ 0x07 ∷ []) ∷ [])
+        (new_station 2 7)
+        ≡ (standing.Asked, 0) ∷ (standing.Up, 1000) ∷ (standing.Up, 1000) ∷ (standing.Up, 1000)
+        ∷ (standing.Silent, 4000) ∷ (standing.Up, 5000) ∷ (standing.Down, 6000) ∷ [] }
+    ensures unasked { standing_of (new_station 2 7) ≡ standing.NotAsked }
 {}

@@ -1,6 +1,6 @@
 //! A line a second.
 ghost use Rattle.std.specs.Prelude.{◌≡◌, None};
-ghost use Rattle.journal.specs.Limits.{asked, is_free, is_minute_after};
+ghost use Rattle.journal.specs.Limits.{asked, is_free, is_minute_after, one_more};
 
 /// How long after a line the next one of its kind may follow, in ms.
 const APART_MS: u64 = 1000;
@@ -46,13 +46,20 @@ impl Limit {
         }
     }
 
+    /// One more is left out.
+    pub fn leave_out(&mut self)
+        ensures { self.new ≡ record self.old { left_out = one_more self.old.left_out } }
+    {
+        self.left_out = self.left_out.saturating_add(1);
+    }
+
     /// Asks for a line at this moment. The answer is how many were left out before it, or none
     /// where it is left out too.
     pub fn ask(&mut self, now: u64) -> Option<u64>
         ensures { (self.new, result) ≡ asked self.old now }
     {
         if !self.is_free(now) {
-            self.left_out = self.left_out.saturating_add(1);
+            self.leave_out();
             return None;
         }
         let left_out = self.left_out;

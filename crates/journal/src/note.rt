@@ -1,8 +1,14 @@
 //! What the lines tell, and their words.
 ghost use Rattle.std.specs.Prelude.{◌≡◌, Some};
 ghost use Rattle.std.specs.Fmt.{WritesOnOk};
-ghost use Rattle.journal.specs.Notes.{close_words, counts_words, cut_words, left_out_words, line_text, notice_words, peer_words, sent_away_words, trouble_words, words};
+ghost use Rattle.journal.specs.Notes.{close_words, counts_words, cut_words, left_out_words};
+ghost use Rattle.journal.specs.Notes.{line_text, notice_words, peer_words, sent_away_words};
+ghost use Rattle.journal.specs.Notes.{skip_words, skipped_words, trouble_words, words};
 
+use crate::content::Skip;
+use crate::fate::{Fate, Reason};
+use crate::order::Order;
+use crate::order_words::{write_fate, write_order, write_reason, write_type_name};
 use gateway::Counts;
 use live::{CutCause, Notice};
 use session::Close;
@@ -41,6 +47,8 @@ pub enum Trouble {
     StateInUse,
     /// The state can't be kept there.
     StateUnusable,
+    /// Who wants to look at the run can't come in there.
+    StatusUnusable,
 }
 
 /// What a line tells.
@@ -95,6 +103,14 @@ pub enum Note {
     State(Notice),
     /// The run can't begin.
     Trouble(Trouble),
+    /// This command of the control centre, whose address may be known, goes on to its station.
+    Ordered(Order, Option<IpAddr>),
+    /// It doesn't go on.
+    Refused(Order, Option<IpAddr>, Reason),
+    /// What became of it at the station with this link address.
+    Fate(Order, u16, Fate),
+    /// A report of the station with this link address, with this type octet, isn't passed on.
+    Skipped(u16, u8, Skip),
 }
 
 /// A line of the log.
@@ -152,6 +168,7 @@ fn trouble_words(trouble: Trouble) -> &'static str
         Trouble::PortUnusable => "port can't be listened at",
         Trouble::StateInUse => "state in use by another process",
         Trouble::StateUnusable => "state can't be kept there",
+        Trouble::StatusUnusable => "status port can't be used",
     }
 }
 
@@ -200,6 +217,33 @@ fn write_counts<W: fmt::Write>(tally: &Tally, f: &mut fmt::Formatter<W>) -> fmt:
     write!(f, " taken {taken} of {places} connections {connections}")
 }
 
+fn skip_words(why: Skip) -> &'static str
+    ensures { result.now ≡ skip_words why }
+{
+    match why {
+        Skip::TooShort => "too short",
+        Skip::TypeUnknown => "type not known",
+        Skip::NoObjects => "no objects",
+        Skip::OtherLength => "length doesn't fit, look at line.ioa",
+        Skip::PastSize => "object address past its size",
+        Skip::Negative => "it says that a type is unknown",
+    }
+}
+
+fn write_skipped<W: fmt::Write>(
+    station: u16,
+    kind: u8,
+    why: Skip,
+    f: &mut fmt::Formatter<W>,
+) -> fmt::Result
+    ensures { WritesOnOk W.write_str_gives f.old result (skipped_words station kind why) f.new }
+{
+    write!(f, "station {station} report skipped, type {kind}")?;
+    write_type_name(kind, f)?;
+    f.write_str(": ")?;
+    f.write_str(skip_words(why))
+}
+
 impl fmt::Display for Note {
     ghost output = { λ note. Some (words note) };
 
@@ -241,6 +285,21 @@ impl fmt::Display for Note {
             Note::StatePutAside => f.write_str("state can't be read: put aside"),
             Note::State(notice) => f.write_str(notice_words(*notice)),
             Note::Trouble(trouble) => f.write_str(trouble_words(*trouble)),
+            Note::Ordered(order, peer) => {
+                write_order(order, f)?;
+                peer_words(*peer, f)
+            }
+            Note::Refused(order, peer, reason) => {
+                write_order(order, f)?;
+                peer_words(*peer, f)?;
+                f.write_str(" refused: ")?;
+                write_reason(*reason, f)
+            }
+            Note::Fate(order, station, fate) => {
+                write_order(order, f)?;
+                write_fate(*fate, *station, f)
+            }
+            Note::Skipped(station, kind, why) => write_skipped(*station, *kind, *why, f),
         }
     }
 }

@@ -8,7 +8,7 @@ ghost use Rattle.journal.specs.Telling.{Hears, Puts, Tends, Closes};
 use crate::sink::Sink;
 use crate::teller::Teller;
 use gateway::{Action, Gateway, Next, Port};
-use live::Watched;
+use live::{Notice, Watched};
 
 /// A port that passes each event and each action of another one on unchanged, and tells of them.
 #[derive(Drop)]
@@ -32,19 +32,28 @@ impl<P: Watched + Drop, S: Sink + Drop> Journal<P, S> {
         &self.port
     }
 
+    /// Who tells, and watches.
+    pub fn teller(&self) -> &Teller<S>
+        ensures { result.now ≡ self.now.teller }
+    {
+        &self.teller
+    }
+
     /// Lets the port look at the gateway between two steps, and tells what it has to tell of the
-    /// state on the disk, and then of the gateway's queue and of what it counted.
-    pub fn look(&mut self, gateway: &Gateway)
+    /// state on the disk, and then of the gateway's queue, of what it counted, and of commands.
+    /// Answers what was told of the state on the disk, if anything.
+    pub fn look(&mut self, gateway: &Gateway) -> Option<Notice>
         ensures log { P.log self.new.port ≡ P.log self.old.port }
         ensures failed { P.failed self.new.port ≡ P.failed self.old.port }
         ensures ended { P.ended self.new.port ≡ P.ended self.old.port }
         ensures script { P.script self.new.port ≡ P.script self.old.port }
-        ensures tends { Tends (P.tends self.old.port gateway.now self.new.port)
-            self.old.teller gateway.now self.new.teller }
+        ensures tends { P.tends self.old.port gateway.now self.new.port result }
+        ensures tells { Tends result self.old.teller gateway.now self.new.teller }
     {
         let notice = self.port.tend(gateway);
         self.teller.tend(notice);
         self.teller.look(gateway);
+        notice
     }
 
     /// The run is over: tells what the gateway counted.
@@ -74,11 +83,11 @@ impl<P: Watched + Drop, S: Sink + Drop> Port for Journal<P, S> {
         ensures done { result ≡ Done → P.ended self.new.port ≡ true }
         ensures script { P.script self.new.port ≡ P.script self.old.port }
         ensures cause { P.failed self.new.port ≡ P.failed self.old.port + faults_of result }
-        ensures hears { Hears self.old.teller result self.new.teller }
+        ensures hears { Hears self.old.teller result buf.new self.new.teller }
     {
         let next = self.port.next(buf);
         let sight = self.port.sight();
-        self.teller.hear(next, &sight);
+        self.teller.hear(next, buf, &sight);
         next
     }
 

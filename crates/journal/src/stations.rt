@@ -6,6 +6,7 @@ ghost use Rattle.journal.specs.Stations as spec;
 use crate::ends::{changed, happened};
 use crate::limit::Limit;
 use crate::note::{Line, Note};
+use crate::order::octet;
 use ft12::LinkSize;
 use link::{Control, PrimaryFunction};
 
@@ -34,9 +35,24 @@ pub(crate) enum StationTold {
     Unheard,
 }
 
+/// How a station stands, by the requests that have gone out to it.
+#[derive(Clone, Copy, Debug, PartialEq, Eq)]
+pub enum Standing {
+    /// None has gone out yet.
+    NotAsked,
+    /// Its status is asked, and its link was never reset.
+    Asked,
+    /// It gets requests that are counted, and answers them.
+    Up,
+    /// The same request has gone out more often than a station that is there lets it.
+    Silent,
+    /// Its link was reset, and its status is asked again.
+    Down,
+}
+
 /// What is told of a station.
 #[derive(Clone, Copy, Debug, PartialEq, Eq)]
-pub(crate) struct StationWatch {
+pub struct StationWatch {
     /// Its link address.
     address: u16,
     /// How often a request goes out before one that isn't answered counts as unanswered.
@@ -45,6 +61,12 @@ pub(crate) struct StationWatch {
     bit: Option<bool>,
     /// How often that request went out, or its status was asked since.
     sent: u64,
+    /// Its link was reset before.
+    was_up: bool,
+    /// Since when it stands so, in ms.
+    since: u64,
+    /// How often reports of it may have been lost.
+    gaps: u64,
     told: StationTold,
     asked: Limit,
     up: Limit,
@@ -54,18 +76,8 @@ pub(crate) struct StationWatch {
     gap: Limit,
 }
 
-/// The octet at this place, or 0 where there is none.
-fn octet(octets: &[u8], place: usize) -> u8
-    ensures { result ≡ spec.octet octets.now place }
-{
-    match octets.get(place) {
-        Some(octet) => *octet,
-        None => 0,
-    }
-}
-
 /// Where the control octet of a frame stands.
-fn control_place(octets: &[u8]) -> usize
+pub(crate) fn control_place(octets: &[u8]) -> usize
     ensures value { result ≡ spec.control_place octets.now }
     ensures few { result ≤ 4 }
 {
@@ -73,7 +85,7 @@ fn control_place(octets: &[u8]) -> usize
 }
 
 /// The link address of a request.
-fn address_of(size: LinkSize, octets: &[u8]) -> u16
+pub(crate) fn address_of(size: LinkSize, octets: &[u8]) -> u16
     ensures { result ≡ spec.address_of size octets.now }
 {
     let place = control_place(octets);
@@ -85,7 +97,7 @@ fn address_of(size: LinkSize, octets: &[u8]) -> u16
 }
 
 /// What a request asks of its station.
-fn asking_of(octets: &[u8]) -> Asking
+pub(crate) fn asking_of(octets: &[u8]) -> Asking
     ensures { result ≡ spec.asking_of octets.now }
 {
     match Control::from_octet(octet(octets, control_place(octets))) {
@@ -95,6 +107,19 @@ fn asking_of(octets: &[u8]) -> Asking
             ..
         } => Asking::Status,
         _ => Asking::Other,
+    }
+}
+
+fn is_same(before: Standing, after: Standing) -> bool
+    ensures { result ≡ spec.is_same before after }
+{
+    match (before, after) {
+        (Standing::NotAsked, Standing::NotAsked) => true,
+        (Standing::Asked, Standing::Asked) => true,
+        (Standing::Up, Standing::Up) => true,
+        (Standing::Silent, Standing::Silent) => true,
+        (Standing::Down, Standing::Down) => true,
+        _ => false,
     }
 }
 
@@ -108,6 +133,9 @@ impl StationWatch {
             tries,
             bit: None,
             sent: 0,
+            was_up: false,
+            since: 0,
+            gaps: 0,
             told: StationTold::Nothing,
             asked: Limit::new(),
             up: Limit::new(),
@@ -118,12 +146,60 @@ impl StationWatch {
         }
     }
 
+    /// Its link address.
+    pub fn address(&self) -> u16
+        ensures { result ≡ self.now.address }
+    {
+        self.address
+    }
+
+    /// How it stands.
+    pub fn standing(&self) -> Standing
+        ensures { result ≡ spec.standing_of self.now }
+    {
+        if self.sent == 0 {
+            Standing::NotAsked
+        } else if self.is_unanswered() {
+            Standing::Silent
+        } else if self.bit.is_some() {
+            Standing::Up
+        } else if self.was_up {
+            Standing::Down
+        } else {
+            Standing::Asked
+        }
+    }
+
+    /// Since when it stands so, in ms.
+    pub fn since(&self) -> u64
+        ensures { result ≡ self.now.since }
+    {
+        self.since
+    }
+
+    /// How often reports of it may have been lost.
+    pub fn gaps(&self) -> u64
+        ensures { result ≡ self.now.gaps }
+    {
+        self.gaps
+    }
+
     /// A request goes out to the station with this link address.
     fn hear(&mut self, address: u16, asking: Asking, now: u64)
         ensures { self.new ≡ spec.after_request address asking now self.old }
     {
         if self.address == address {
             let _line = self.ask(asking, now);
+        }
+    }
+
+    /// Whether the request has gone out already.
+    pub(crate) fn is_repeat(&self, asking: Asking) -> bool
+        ensures { result ≡ spec.is_repeat asking self.now }
+    {
+        match (asking, self.bit) {
+            (Asking::Counted(bit), Some(before)) => before == bit,
+            _ => false,
         }
     }
 
@@ -139,12 +215,25 @@ impl StationWatch {
                 };
                 self.sent = self.sent_once_more(is_again);
                 self.bit = Some(bit);
+                self.was_up = true;
             }
             Asking::Status => {
                 self.sent = self.sent_once_more(self.bit.is_none());
                 self.bit = None;
             }
-            Asking::Other | Asking::Missed => {}
+            Asking::Missed => self.gaps = self.gaps.saturating_add(1),
+            Asking::Other => {}
+        }
+    }
+
+    /// The same, and since when it stands so.
+    fn count_at(&mut self, asking: Asking, now: u64)
+        ensures { self.new ≡ spec.counted asking now self.old }
+    {
+        let before = self.standing();
+        self.count(asking);
+        if !is_same(before, self.standing()) {
+            self.since = now;
         }
     }
 
@@ -206,7 +295,7 @@ impl StationWatch {
     fn ask(&mut self, asking: Asking, now: u64) -> Option<Line>
         ensures { (self.new, result) ≡ spec.station_asked asking now self.old }
     {
-        self.count(asking);
+        self.count_at(asking, now);
         let address = self.address;
         match (self.told, asking) {
             (StationTold::Nothing, Asking::Status) => {

@@ -1,8 +1,9 @@
 //! Lines told.
-ghost use Rattle.std.specs.Prelude.{◌≡◌, length, not};
+ghost use Rattle.std.specs.Prelude.{◌≡◌, ◌&&◌, false, true, length, not};
 ghost use Rattle.events.specs.Queue.{kept};
-ghost use Rattle.gateway.specs.Ports.{output_of};
-ghost use Rattle.journal.specs.Telling.{counted, HearsSeeing, Puts, Looks, Closes, Notes, Tells, IsTold};
+ghost use Rattle.gateway.specs.Ports.{FitsBuffer, output_of};
+ghost use Rattle.journal.specs.Telling.{counted, looked_if_due, HearsSeeing, Puts, Looks, Closes};
+ghost use Rattle.journal.specs.Telling.{Notes, Tells, IsTold};
 
 use crate::note::{Line, Note};
 use crate::sink::Sink;
@@ -17,6 +18,7 @@ pub struct Teller<S: Sink + Drop> {
     watch: Watch,
     sink: S,
     is_over: bool,
+    is_watching: bool,
 }
 
 impl<S: Sink + Drop> Model for Teller<S> {
@@ -28,6 +30,7 @@ impl<S: Sink + Drop> Model for Teller<S> {
       watching = t.watch;
       lines = S.lines t.sink;
       is_over = t.is_over;
+      is_watching = t.is_watching;
     } };
 }
 
@@ -50,20 +53,48 @@ impl<S: Sink + Drop> Teller<S> {
           watching = watch;
           lines = S.lines sink;
           is_over = not is_telling;
+          is_watching = false;
         } }
     {
         Teller {
             watch,
             sink,
             is_over: !is_telling,
+            is_watching: false,
         }
+    }
+
+    /// The same, where the run is watched even if nothing is told.
+    pub fn watching(self) -> Teller<S>
+        ensures { result ≡ record self { is_watching = true } }
+    {
+        Teller {
+            watch: self.watch,
+            sink: self.sink,
+            is_over: self.is_over,
+            is_watching: true,
+        }
+    }
+
+    /// What is known of the run: how it was watched so far.
+    pub fn watch(&self) -> &Watch
+        ensures { result.now ≡ self.now.watching }
+    {
+        &self.watch
+    }
+
+    /// Nothing is told any more, and the run isn't watched.
+    fn is_idle(&self) -> bool
+        ensures { result ≡ (self.now.is_over && not self.now.is_watching) }
+    {
+        self.is_over && !self.is_watching
     }
 
     /// Tells something that no event says, at the moment of the latest event.
     pub fn note(&mut self, note: Note)
         ensures { Notes self.old note self.new }
     {
-        if self.is_over {
+        if self.is_idle() {
             return;
         }
         let line = self.watch.line(note);
@@ -73,19 +104,23 @@ impl<S: Sink + Drop> Teller<S> {
     fn tell(&mut self, line: Option<Line>)
         ensures { IsTold line self.old self.new }
     {
+        if self.is_over {
+            return;
+        }
         if let Some(line) = line {
             self.is_over = !self.sink.tell(&line);
         }
     }
 
-    /// An event came, and the ends are seen so.
-    pub(crate) fn hear(&mut self, event: Next, sight: &Sight)
-        ensures { HearsSeeing sight.now self.old event self.new }
+    /// An event came, whose octets are the front of the buffer, and the ends are seen so.
+    pub(crate) fn hear(&mut self, event: Next, buf: &[u8; 1024], sight: &Sight)
+        requires { FitsBuffer event }
+        ensures { HearsSeeing sight.now self.old event buf.now self.new }
     {
-        if self.is_over {
+        if self.is_idle() {
             return;
         }
-        let line = self.watch.hear(event, sight);
+        let line = self.watch.hear(event, buf, sight);
         self.tell(line);
     }
 
@@ -93,7 +128,7 @@ impl<S: Sink + Drop> Teller<S> {
     pub fn put(&mut self, now: u64, action: &Action<'_>)
         ensures { Puts self.old now (output_of action.now) self.new }
     {
-        if self.is_over {
+        if self.is_idle() {
             return;
         }
         let line = self.watch.put(now, action);
@@ -109,22 +144,39 @@ impl<S: Sink + Drop> Teller<S> {
         }
     }
 
-    /// Looks at the gateway between two events, if that is due.
+    /// Looks at the gateway between two steps.
     pub(crate) fn look(&mut self, gateway: &Gateway)
         ensures { Looks self.old gateway.now self.new }
     {
-        if self.is_over || !self.watch.is_look_due() {
+        if self.is_idle() {
             return;
         }
-        let line = self.watch.look(gateway.counts(), taken_places(gateway));
+        self.watch.judge(gateway);
+        let line = self.look_if_due(gateway);
+        let line = match line {
+            Some(line) => Some(line),
+            None => self.watch.gathered(),
+        };
         self.tell(line);
+    }
+
+    /// Looks at the queue and the counts, if that is due.
+    fn look_if_due(&mut self, gateway: &Gateway) -> Option<Line>
+        ensures watching { (self.new.watching, result)
+            ≡ looked_if_due gateway.now self.old.watching }
+        ensures rest { self.new ≡ record self.old { watching = self.new.watching } }
+    {
+        if !self.watch.is_look_due() {
+            return None;
+        }
+        self.watch.look(gateway.counts(), taken_places(gateway))
     }
 
     /// The run is over.
     pub(crate) fn close(&mut self, gateway: &Gateway)
         ensures { Closes self.old gateway.now self.new }
     {
-        if self.is_over {
+        if self.is_idle() {
             return;
         }
         let line = self.watch.sum(gateway.counts(), taken_places(gateway));

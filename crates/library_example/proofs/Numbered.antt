@@ -19,7 +19,8 @@ numbered n (p ∷ ps) = I n 0 (record { items = p }) ∷ numbered ((n + 1) % 2 ^
 
 pub numbered-AreNumbered : (v : AsduValue)
     → ((s : Sizes) (u : AsduValue) (xs : List ℕ) → IsAsdu s u xs → is_read s xs ≡ true)
-    → (n : ℕ) (ps : List (List ℕ)) → AllByRecursion (λ p. IsPiece v p) ps → AreNumbered n (numbered n ps)
+    → (n : ℕ) (ps : List (List ℕ)) → AllByRecursion (λ p. IsPiece v p) ps
+    → AreNumbered n (numbered n ps)
 numbered-AreNumbered v read n [] pieces = tt
 numbered-AreNumbered v read n (p ∷ ps) pieces = (
   (refl, refl, read tcp (with_infos v pieces.0.infos) p pieces.0.spells),
@@ -30,4 +31,5 @@ numbered-AreNumbered v read n (p ∷ ps) pieces = (
 pub objects-numbered : (n : ℕ) (ps : List (List ℕ))
     → flat_map objects_in (numbered n ps) ≡ flat_map (λ p. objects_of tcp p) ps
 objects-numbered n [] = refl
-objects-numbered n (p ∷ ps) = ap (λ os. objects_of tcp p ++ os) (objects-numbered ((n + 1) % 2 ^ 15) ps)
+objects-numbered n (p ∷ ps) =
+    ap (λ os. objects_of tcp p ++ os) (objects-numbered ((n + 1) % 2 ^ 15) ps)

@@ -1,12 +1,21 @@
--- A link is reset in the turn in which its status was answered: no turn begins with a link whose status is known.
+-- A link is reset in the turn in which its status was answered: no turn begins with a link whose
+-- status is known.
 use Rattle.std.specs.Prelude.{◌==◌}
-use Rattle.std.proofs.Common.{◌≡◌, ℕ, zero, suc, ◌<◌, ◌&&◌, ◌||◌, ◌⊎◌, inl, inr, nat_lt, Bool, true, false, List, [], ◌∷◌, length, slice_set, map, Option, Some, None, refl, sym, ap, subst, ◌∙◌, if◌then◌else◌}
+use Rattle.std.proofs.Common.{◌≡◌, ℕ, zero, suc, ◌<◌, ◌&&◌, ◌||◌, ◌⊎◌, inl, inr, nat_lt, Bool, true}
+use Rattle.std.proofs.Common.{false, List, [], ◌∷◌, length, slice_set, map, Option, Some, None}
+use Rattle.std.proofs.Common.{refl, sym, ap, subst, ◌∙◌, if◌then◌else◌}
 use Rattle.std.proofs.lemmas.List.{get_or-set_same}
-use Rattle.link.specs.Answers.{Frame, Single, Fixed, Data, Asked, Status, Reset, Counted, Answer, Ready, Confirmed, Busy, Report, NoData, Unable, answer_of, comes_from}
+use Rattle.link.specs.Answers.{Frame, Single, Fixed, Data, Asked, Status, Reset, Counted, Answer}
+use Rattle.link.specs.Answers.{Ready, Confirmed, Busy, Report, NoData, Unable, answer_of}
+use Rattle.link.specs.Answers.{comes_from}
 use Rattle.link.specs.Control.{function_code}
-use Rattle.link.specs.Procedure.{LinkSettings, Link, Down, Available, Next, Held, MaySend, after_answer, after_silence, missed_so_far}
-use Rattle.link.specs.Turns.{StationState, no_station, station_at, Phase, Starting, Commanding, Polling, Class1Polling, Over, Wanted, wants, wanted_by, Chosen}
-use Rattle.link.specs.Primary.{Outstanding, Primary, start, station_down, station_asked, after_choice, phase_after, with_octets, awaits, station_answered, answered, station_unanswered, unanswered, without_offer}
+use Rattle.link.specs.Procedure.{LinkSettings, Link, Down, Available, Next, Held, MaySend}
+use Rattle.link.specs.Procedure.{after_answer, after_silence, missed_so_far}
+use Rattle.link.specs.Turns.{StationState, no_station, station_at, Phase, Starting, Commanding}
+use Rattle.link.specs.Turns.{Polling, Class1Polling, Over, Wanted, wants, wanted_by, Chosen}
+use Rattle.link.specs.Primary.{Outstanding, Primary, start, station_down, station_asked}
+use Rattle.link.specs.Primary.{after_choice, phase_after, with_octets, awaits, station_answered}
+use Rattle.link.specs.Primary.{answered, station_unanswered, unanswered, without_offer}
 use Rattle.link.proofs.FirstSendings.{set_at}
 use Rattle.link.proofs.Links.{set_view}
 use Rattle.link.proofs.Turning.{present}
@@ -14,7 +23,8 @@ use Rattle.link.proofs.Turning.{present}
 -- the link of the station whose turn it is, by what is outstanding and what the turn goes on with
 abbrev pub IsAlong : Option Outstanding → Phase → Link → Type 0
 IsAlong None phase link = link ≡ Available → phase ≡ Starting
-IsAlong (Some o) phase link = (o.request ≡ Status → phase ≡ Starting) × (link ≡ Available → o.request ≡ Reset)
+IsAlong (Some o) phase link = (o.request ≡ Status → phase ≡ Starting)
+    × (link ≡ Available → o.request ≡ Reset)
 
 -- Where the status of a link is known, its station's turn goes on with the reset.
 pub record IsBegun (p : Primary) : Type 0 where
@@ -23,7 +33,8 @@ pub record IsBegun (p : Primary) : Type 0 where
 
 -- ---- `next`
 
-goes_on_with : (burst : ℕ) (may_poll again : Bool) (s : StationState) (link : Link) (phase : Phase) → link ≡ Available
+goes_on_with : (burst : ℕ) (may_poll again : Bool) (s : StationState) (link : Link) (phase : Phase)
+    → link ≡ Available
     → phase ≡ Starting →
     wanted_by burst may_poll again s link phase ≡ wants Reset Over
 goes_on_with burst may_poll again s link phase is starts =
@@ -31,20 +42,24 @@ goes_on_with burst may_poll again s link phase is starts =
     ∙ ap (λ (f : Phase). wanted_by burst may_poll again s Available f) starts
 
 -- where the present turn is over, no link is so
-pub none_known : (p : Primary) (may_poll : Bool) → p.outstanding ≡ None → present p may_poll ≡ None → IsBegun p →
+pub none_known : (p : Primary) (may_poll : Bool) → p.outstanding ≡ None → present p may_poll ≡ None
+    → IsBegun p →
     (i : ℕ) → (station_at p.stations i).link ≡ Available → ⊥
 none_known p may_poll free is b i known =
     let here : (station_at p.stations p.turn).link ≡ Available =
     subst (λ (n : ℕ). (station_at p.stations n).link ≡ Available) (b.away i known) known in
     let along : IsAlong None p.phase (station_at p.stations p.turn).link =
-    subst (λ (o : Option Outstanding). IsAlong o p.phase (station_at p.stations p.turn).link) free b.here in
+    subst (λ (o : Option Outstanding). IsAlong o p.phase (station_at p.stations p.turn).link) free
+    b.here in
     let goes : present p may_poll ≡ wants Reset Over =
-    goes_on_with p.settings.burst may_poll p.again (station_at p.stations p.turn) _ p.phase here (along here) in
+    goes_on_with p.settings.burst may_poll p.again (station_at p.stations p.turn) _ p.phase here
+    (along here) in
     let bad : wants Reset Over ≡ None = sym goes ∙ is in
     cc
 
 -- what is wanted of a link
-wanted_along : (burst : ℕ) (may_poll again : Bool) (s : StationState) (link : Link) (phase : Phase) (w : Wanted) →
+wanted_along : (burst : ℕ) (may_poll again : Bool) (s : StationState) (link : Link) (phase : Phase)
+    (w : Wanted) →
     wanted_by burst may_poll again s link phase ≡ Some w → MaySend link w.request →
     (w.request ≡ Status → w.following ≡ Starting) × (link ≡ Available → w.request ≡ Reset)
 wanted_along burst may_poll again s Down Starting w is may =
@@ -74,7 +89,8 @@ pub begun_choice : (p : Primary) (now : ℕ) (may_poll again : Bool) (phase : Ph
     wanted_by p.settings.burst may_poll again (station_at p.stations c.station)
     (station_at p.stations c.station).link phase ≡ Some c.wanted →
     MaySend (station_at p.stations c.station).link c.wanted.request →
-    ((i : ℕ) → (station_at p.stations i).link ≡ Available → i ≡ c.station) → IsBegun (after_choice p now (Some c))
+    ((i : ℕ) → (station_at p.stations i).link ≡ Available → i ≡ c.station)
+    → IsBegun (after_choice p now (Some c))
 begun_choice p now may_poll again phase c is may away =
     let s : StationState = station_asked (station_at p.stations c.station) c.wanted.request in
     let link = set_view (λ (r : StationState). r.link) p.stations c.station s refl in
@@ -89,7 +105,8 @@ pub begun_none : (p : Primary) (now : ℕ) → p.outstanding ≡ None
     → ((i : ℕ) → (station_at p.stations i).link ≡ Available → ⊥) →
     IsBegun (after_choice p now None)
 begun_none p now free none = record {
-  here = subst (λ (o : Option Outstanding). IsAlong o Over (station_at p.stations p.turn).link) (sym free)
+  here = subst (λ (o : Option Outstanding). IsAlong o Over (station_at p.stations p.turn).link)
+      (sym free)
       (λ known. absurd (none p.turn known));
   away = λ i known. absurd (none i known);
 }
@@ -97,11 +114,14 @@ begun_none p now free none = record {
 -- ---- what comes of a request
 
 -- to a reset nothing is said but that it is confirmed
-reset_confirmed : (a : ℕ) (frame : Frame) (answer : Answer) → answer_of a Reset frame ≡ Some answer → answer ≡ Confirmed
+reset_confirmed : (a : ℕ) (frame : Frame) (answer : Answer) → answer_of a Reset frame ≡ Some answer
+    → answer ≡ Confirmed
 reset_confirmed a Single answer is = cc
-reset_confirmed a (Fixed control address) answer is = go (comes_from a control address) (function_code control == 0) is
+reset_confirmed a (Fixed control address) answer is =
+    go (comes_from a control address) (function_code control == 0) is
   where
-    go : (b c : Bool) → (if b then (if c then Some Confirmed else None) else None) ≡ Some answer → answer ≡ Confirmed
+    go : (b c : Bool) → (if b then (if c then Some Confirmed else None) else None) ≡ Some answer
+        → answer ≡ Confirmed
     go true true e = cc
     go true false e = cc
     go false c e = cc
@@ -120,7 +140,8 @@ status_answers a (Fixed control address) answer is =
     go (comes_from a control address) (function_code control == 11) ((function_code control == 14)
     || (function_code control == 15)) is
   where
-    go : (b c d : Bool) → (if b then (if c then Some Ready else (if d then Some Unable else None)) else None)
+    go : (b c d : Bool) → (if b then (if c then Some Ready else (if d then Some Unable else None))
+        else None)
         ≡ Some answer →
         (answer ≡ Ready) ⊎ (answer ≡ Unable)
     go true true d e = inl cc
@@ -130,7 +151,8 @@ status_answers a (Fixed control address) answer is =
 status_answers a (Data control address body) answer is =
     go (comes_from a control address && (function_code control == 8)) is
   where
-    go : (b : Bool) → (if b then None else None) ≡ Some answer → (answer ≡ Ready) ⊎ (answer ≡ Unable)
+    go : (b : Bool) → (if b then None else None) ≡ Some answer → (answer ≡ Ready)
+        ⊎ (answer ≡ Unable)
     go true e = cc
     go false e = cc
 
@@ -142,11 +164,13 @@ known_after a Status frame answer link is known = go (status_answers a frame ans
   where
     go : (answer ≡ Ready) ⊎ (answer ≡ Unable) → (Status ≡ Status) × (answer ≡ Ready)
     go (inl ready) = (refl, ready)
-    go (inr unable) = let bad : Down ≡ Available = sym (ap (λ (m : Answer). after_answer Status m link) unable) ∙ known
+    go (inr unable) = let bad : Down ≡ Available =
+        sym (ap (λ (m : Answer). after_answer Status m link) unable) ∙ known
         in cc
 known_after a Reset frame answer link is known =
     let bad : Next true ≡ Available =
-    sym (ap (λ (m : Answer). after_answer Reset m link) (reset_confirmed a frame answer is)) ∙ known in cc
+    sym (ap (λ (m : Answer). after_answer Reset m link) (reset_confirmed a frame answer is))
+    ∙ known in cc
 known_after a (Counted fcb service) frame Ready link is known = cc
 known_after a (Counted fcb service) frame Confirmed link is known = cc
 known_after a (Counted fcb service) frame Busy link is known = cc
@@ -164,22 +188,26 @@ unknown_after settings (Counted fcb service) true link known =
     go (nat_lt settings.retries (suc (missed_so_far link))) settings.hold known
   where
     go : (b hold : Bool) →
-        (if b then (if hold then Held fcb service (suc settings.retries) else Down) else Held fcb service
+        (if b then (if hold then Held fcb service (suc settings.retries) else Down)
+        else Held fcb service
         (suc (missed_so_far link))) ≡ Available → ⊥
     go true true e = cc
     go true false e = cc
     go false hold e = cc
 
-pub begun_awaits : (p : Primary) (q : Outstanding) (octets : List ℕ) (heard : Option (List ℕ)) → p.outstanding ≡ Some q
+pub begun_awaits : (p : Primary) (q : Outstanding) (octets : List ℕ) (heard : Option (List ℕ))
+    → p.outstanding ≡ Some q
     → IsBegun p →
     IsBegun (awaits p (with_octets octets q) heard)
 begun_awaits p q octets heard is b = record {
-  here = subst (λ (o : Option Outstanding). IsAlong o p.phase (station_at p.stations p.turn).link) is b.here;
+  here = subst (λ (o : Option Outstanding). IsAlong o p.phase (station_at p.stations p.turn).link)
+      is b.here;
   away = b.away;
 }
 
 -- the station whose turn it is has another link, and the turn goes on where its status is known
-moved : (p : Primary) (s : StationState) (phase : Phase) (again : Bool) (spoilt : ℕ) → p.turn < length p.stations
+moved : (p : Primary) (s : StationState) (phase : Phase) (again : Bool) (spoilt : ℕ)
+    → p.turn < length p.stations
     → IsBegun p →
     (s.link ≡ Available → phase ≡ Starting) →
     IsBegun (record p {
@@ -204,20 +232,25 @@ moved p s phase again spoilt within b along = record {
 
 pub begun_answered : (p : Primary) (q : Outstanding) (a : ℕ) (frame : Frame) (answer : Answer)
     → p.turn < length p.stations → p.outstanding ≡ Some q →
-    answer_of a q.request frame ≡ Some answer → IsBegun p → IsBegun (answered p q.request frame answer)
+    answer_of a q.request frame ≡ Some answer → IsBegun p
+    → IsBegun (answered p q.request frame answer)
 begun_answered p q a frame answer within is says b =
     moved p (station_answered (station_at p.stations p.turn) q.request frame answer)
     (phase_after answer p.phase) p.again p.spoilt within b
     (λ known.
-    let told = known_after a q.request frame answer (station_at p.stations p.turn).link says known in
-    let along = subst (λ (o : Option Outstanding). IsAlong o p.phase (station_at p.stations p.turn).link) is b.here in
+    let told = known_after a q.request frame answer (station_at p.stations p.turn).link says
+    known in
+    let along =
+    subst (λ (o : Option Outstanding). IsAlong o p.phase (station_at p.stations p.turn).link) is
+    b.here in
     ap (λ (m : Answer). phase_after m p.phase) told.1 ∙ along.0 told.0)
 
 pub begun_unanswered : (p : Primary) (q : Outstanding) → p.turn < length p.stations → IsBegun p
     → IsBegun (unanswered p q)
 begun_unanswered p q within b =
     moved p (station_unanswered p.settings (station_at p.stations p.turn) q.request) _ _ _ within b
-    (λ known. absurd (unknown_after p.settings q.request true (station_at p.stations p.turn).link known))
+    (λ known. absurd (unknown_after p.settings q.request true (station_at p.stations p.turn).link
+    known))
 
 -- ---- the other calls
 
@@ -236,8 +269,10 @@ withdrawn_link [] i = refl
 withdrawn_link (s ∷ ss) zero = refl
 withdrawn_link (s ∷ ss) (suc i) = withdrawn_link ss i
 
-pub begun_start : (settings : LinkSettings) (addresses : List ℕ) → IsBegun (start settings addresses)
-begun_start settings addresses = record { here = λ known. refl; away = λ i known. absurd (down addresses i known) }
+pub begun_start : (settings : LinkSettings) (addresses : List ℕ)
+    → IsBegun (start settings addresses)
+begun_start settings addresses =
+    record { here = λ known. refl; away = λ i known. absurd (down addresses i known) }
   where
     down : (list : List ℕ) (i : ℕ) → (station_at (map station_down list) i).link ≡ Available → ⊥
     down [] zero known = cc

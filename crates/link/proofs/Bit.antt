@@ -1,9 +1,15 @@
 -- The frame count bit: what the primary's link to a station says of the outstation.
-use Rattle.std.proofs.Common.{◌≡◌, ◌≢◌, ℕ, suc, ◌⊎◌, Bool, true, false, not, List, [], ◌∷◌, ◌++◌, Option, Some, None, option_and_then, refl, sym, ap, subst, ◌∙◌, inl, inr, nat_lt, if◌then◌else◌}
-use Rattle.link.specs.Answers.{Frame, Service, Class1, Class2, Command, Asked, Status, Reset, Counted, Answer, Ready, Confirmed, Busy, Report, NoData, Unable, Says, answer_of}
+use Rattle.std.proofs.Common.{◌≡◌, ◌≢◌, ℕ, suc, ◌⊎◌, Bool, true, false, not, List, [], ◌∷◌, ◌++◌}
+use Rattle.std.proofs.Common.{Option, Some, None, option_and_then, refl, sym, ap, subst, ◌∙◌, inl}
+use Rattle.std.proofs.Common.{inr, nat_lt, if◌then◌else◌}
+use Rattle.link.specs.Answers.{Frame, Service, Class1, Class2, Command, Asked, Status, Reset}
+use Rattle.link.specs.Answers.{Counted, Answer, Ready, Confirmed, Busy, Report, NoData, Unable}
+use Rattle.link.specs.Answers.{Says, answer_of}
 use Rattle.link.specs.Exchanges.{Exchange, answer_to}
-use Rattle.link.specs.Procedure.{LinkSettings, Link, Down, Available, Next, Held, missed_so_far, after_answer, after_silence, after_outcome, MaySend, is_up}
-use Rattle.link.specs.Outstation.{Effect, effects_of, Outstation, reset_link, Turn, Serves, OutstationStep, unheard, unable, heard}
+use Rattle.link.specs.Procedure.{LinkSettings, Link, Down, Available, Next, Held, missed_so_far}
+use Rattle.link.specs.Procedure.{after_answer, after_silence, after_outcome, MaySend, is_up}
+use Rattle.link.specs.Outstation.{Effect, effects_of, Outstation, reset_link, Turn, Serves}
+use Rattle.link.specs.Outstation.{OutstationStep, unheard, unable, heard}
 use Rattle.link.specs.Delivery.{learnt_by, IsTrueFront, pending_by, MayOwe, is_reset}
 use Rattle.link.proofs.Refusals.{refused_service, refused_reset}
 
@@ -33,10 +39,12 @@ Agrees station (Held fcb service missed) pending state owed =
     (pending ≡ Some service) × (AwaitsBit fcb state owed ⊎ HasServed station fcb service state owed)
 
 -- An exchange with this answer leaves the outstation and the link so.
-pub record Leaves (settings : LinkSettings) (station : ℕ) (link : Link) (pending : Option Service) (x : Exchange)
+pub record Leaves (settings : LinkSettings) (station : ℕ) (link : Link) (pending : Option Service)
+    (x : Exchange)
     (m : Option Answer) (owed done : List Effect) (new : Outstation) : Type 0 where
   pub owed' : List Effect
-  pub agrees : Agrees station (after_outcome settings m x link) (pending_by x.request m pending) new owed'
+  pub agrees : Agrees station (after_outcome settings m x link) (pending_by x.request m pending) new
+      owed'
   pub sum : owed ++ done ≡ learnt_by x.request m ++ owed'
 
 not-self : (b : Bool) → b ≡ not b → ⊥
@@ -53,7 +61,8 @@ owes_nothing (Some Class1) = inl refl
 owes_nothing (Some Class2) = inl refl
 owes_nothing (Some (Command c)) = inl refl
 
-owes_effects : (service : Service) (answer : Answer) → MayOwe (Some service) (effects_of service answer)
+owes_effects : (service : Service) (answer : Answer)
+    → MayOwe (Some service) (effects_of service answer)
 owes_effects Class1 Ready = inl refl
 owes_effects Class1 Confirmed = inl refl
 owes_effects Class1 Busy = inl refl
@@ -74,22 +83,27 @@ owes_effects (Command c) NoData = inl refl
 owes_effects (Command c) Unable = inl refl
 
 -- what is owed for a service that was sent
-owes_service : (station : ℕ) (fcb : Bool) (service : Service) (state : Outstation) (owed : List Effect) →
+owes_service : (station : ℕ) (fcb : Bool) (service : Service) (state : Outstation)
+    (owed : List Effect) →
     AwaitsBit fcb state owed ⊎ HasServed station fcb service state owed → MayOwe (Some service) owed
-owes_service station fcb service state owed (inl a) = subst (λ (o : List Effect). MayOwe (Some service) o) (sym a.owes)
+owes_service station fcb service state owed (inl a) =
+    subst (λ (o : List Effect). MayOwe (Some service) o) (sym a.owes)
     (owes_nothing (Some service))
-owes_service station fcb service state owed (inr h) = subst (λ (o : List Effect). MayOwe (Some service) o) (sym h.owes)
+owes_service station fcb service state owed (inr h) =
+    subst (λ (o : List Effect). MayOwe (Some service) o) (sym h.owes)
     (owes_effects service h.answer)
 
 -- what is owed, whatever the link
-pub owes_of : (station : ℕ) (link : Link) (pending : Option Service) (state : Outstation) (owed : List Effect)
+pub owes_of : (station : ℕ) (link : Link) (pending : Option Service) (state : Outstation)
+    (owed : List Effect)
     → Agrees station link pending state owed → MayOwe pending owed
 owes_of station Down pending state owed a = a
 owes_of station Available pending state owed a = a
 owes_of station (Next fcb) pending state owed a =
     subst (λ (o : List Effect). MayOwe pending o) (sym a.1.owes) (owes_nothing pending)
 owes_of station (Held fcb service missed) pending state owed a =
-    subst (λ (p : Option Service). MayOwe p owed) (sym a.0) (owes_service station fcb service state owed a.1)
+    subst (λ (p : Option Service). MayOwe p owed) (sym a.0)
+    (owes_service station fcb service state owed a.1)
 
 -- a service that isn't answered, or is answered by another answer than Unable
 answered_next : (fcb : Bool) (service : Service) (answer : Answer) (link : Link) → answer ≢ Unable
@@ -101,7 +115,8 @@ answered_next fcb service (Report asdu) link h = refl
 answered_next fcb service NoData link h = refl
 answered_next fcb service Unable link h = absurd (h refl)
 
-answered_pending : (fcb : Bool) (service : Service) (answer : Answer) (pending : Option Service) → answer ≢ Unable
+answered_pending : (fcb : Bool) (service : Service) (answer : Answer) (pending : Option Service)
+    → answer ≢ Unable
     → pending_by (Counted fcb service) (Some answer) pending ≡ None
 answered_pending fcb service Ready pending h = refl
 answered_pending fcb service Confirmed pending h = refl
@@ -115,16 +130,19 @@ append-nil [] = refl
 append-nil (x ∷ xs) = ap (λ (ys : List Effect). x ∷ ys) (append-nil xs)
 
 -- an unanswered service, of which the outstation is known to have heard it or not
-silence_agrees : (settings : LinkSettings) (station : ℕ) (fcb : Bool) (service : Service) (closed : Bool) (link : Link)
+silence_agrees : (settings : LinkSettings) (station : ℕ) (fcb : Bool) (service : Service)
+    (closed : Bool) (link : Link)
     (state : Outstation) (owed : List Effect) →
     AwaitsBit fcb state owed ⊎ HasServed station fcb service state owed →
-    Agrees station (after_silence settings (Counted fcb service) closed link) (Some service) state owed
+    Agrees station (after_silence settings (Counted fcb service) closed link) (Some service) state
+    owed
 silence_agrees settings station fcb service false link state owed a = (refl, a)
 silence_agrees settings station fcb service true link state owed a =
     go (nat_lt settings.retries (suc (missed_so_far link))) settings.hold
   where
     go : (b hold : Bool) → Agrees station
-        (if b then (if hold then Held fcb service (suc settings.retries) else Down) else Held fcb service
+        (if b then (if hold then Held fcb service (suc settings.retries) else Down)
+        else Held fcb service
         (suc (missed_so_far link))) (Some service) state owed
     go true true = (refl, a)
     go true false = owes_service station fcb service state owed a
@@ -136,25 +154,31 @@ unable_effects Class2 = refl
 unable_effects (Command c) = refl
 
 -- One sending of a service that is new to the outstation, or that it has served already.
-module _ (settings : LinkSettings) (station : ℕ) (fcb : Bool) (service : Service) (closed : Bool) (link : Link)
+module _ (settings : LinkSettings) (station : ℕ) (fcb : Bool) (service : Service) (closed : Bool)
+    (link : Link)
     (pending : Option Service)
     (old new : Outstation) (turn : Turn) (owed : List Effect) where
   sending : Option Frame → Exchange
   sending front = record { request = Counted fcb service; front = front; closed = closed }
 
   -- it was answered by what the outstation keeps now
-  when_answered : (f frame : Frame) (answer : Answer) → frame ≡ f → Says station (Counted fcb service) answer frame
+  when_answered : (f frame : Frame) (answer : Answer) → frame ≡ f
+      → Says station (Counted fcb service) answer frame
       → answer ≢ Unable →
       new.bit ≡ Some fcb → owed ++ turn.done ≡ effects_of service answer →
       Leaves settings station link pending (sending (Some f))
       (answer_of station (Counted fcb service) f) owed turn.done new
   unfolding sending
   when_answered f frame answer same says able bit sum =
-      subst (λ (m : Option Answer). Leaves settings station link pending (sending (Some f)) m owed turn.done new)
+      subst (λ (m : Option Answer). Leaves settings station link pending (sending (Some f)) m owed
+      turn.done new)
       (sym says ∙ ap (λ (g : Frame). answer_of station (Counted fcb service) g) same)
       (record {
         owed' = [];
-        agrees = subst (λ (l : Link). Agrees station l (pending_by (Counted fcb service) (Some answer) pending) new [])
+        agrees =
+            subst
+            (λ (l : Link). Agrees station l (pending_by (Counted fcb service) (Some answer) pending)
+            new [])
             (sym (answered_next fcb service answer link able)) (
               answered_pending fcb service answer pending able,
               record { bit = bit ∙ ap (λ (b : Bool). Some b) (not-not fcb); owes = refl },
@@ -163,7 +187,8 @@ module _ (settings : LinkSettings) (station : ℕ) (fcb : Bool) (service : Servi
       })
 
   -- it wasn't answered, and what the outstation has is known
-  when_silent : AwaitsBit fcb new (owed ++ turn.done) ⊎ HasServed station fcb service new (owed ++ turn.done) →
+  when_silent : AwaitsBit fcb new (owed ++ turn.done)
+      ⊎ HasServed station fcb service new (owed ++ turn.done) →
       Leaves settings station link pending (sending None) None owed turn.done new
   unfolding sending
   when_silent a = record {
@@ -179,7 +204,8 @@ module _ (settings : LinkSettings) (station : ℕ) (fcb : Bool) (service : Servi
       (answer_of station (Counted fcb service) f) owed turn.done new
   unfolding sending
   when_unable f frame same says owes idle =
-      subst (λ (m : Option Answer). Leaves settings station link pending (sending (Some f)) m owed turn.done new)
+      subst (λ (m : Option Answer). Leaves settings station link pending (sending (Some f)) m owed
+      turn.done new)
       (sym says ∙ ap (λ (g : Frame). answer_of station (Counted fcb service) g) same)
       (record {
         owed' = owed;
@@ -188,30 +214,42 @@ module _ (settings : LinkSettings) (station : ℕ) (fcb : Bool) (service : Servi
             ∙ ap (λ (d : List Effect). d ++ owed) (sym (unable_effects service));
       })
 
--- whether the outstation still awaits the service, or has served it, it does so after a turn that changes nothing
-stays : (station : ℕ) (fcb : Bool) (service : Service) (old new : Outstation) (owed done : List Effect) → new ≡ old
+-- whether the outstation still awaits the service, or has served it, it does so after a turn that
+-- changes nothing
+stays : (station : ℕ) (fcb : Bool) (service : Service) (old new : Outstation)
+    (owed done : List Effect) → new ≡ old
     → done ≡ [] →
     AwaitsBit fcb old owed ⊎ HasServed station fcb service old owed →
     AwaitsBit fcb new (owed ++ done) ⊎ HasServed station fcb service new (owed ++ done)
 stays station fcb service old new owed done same idle a =
-    subst (λ (s : Outstation). AwaitsBit fcb s (owed ++ done) ⊎ HasServed station fcb service s (owed ++ done))
+    subst (λ (s : Outstation). AwaitsBit fcb s (owed ++ done)
+    ⊎ HasServed station fcb service s (owed ++ done))
     (sym same)
     (subst (λ (d : List Effect). AwaitsBit fcb old d ⊎ HasServed station fcb service old d)
     (sym (append-nil owed) ∙ ap (λ (d : List Effect). owed ++ d) (sym idle)) a)
 
 -- One exchange of a service, whatever is lost.
-pub service_step : (settings : LinkSettings) (station : ℕ) (fcb : Bool) (service : Service) (closed : Bool)
+pub service_step : (settings : LinkSettings) (station : ℕ) (fcb : Bool) (service : Service)
+    (closed : Bool)
     (link : Link) (pending : Option Service)
     (old new : Outstation) (turn : Turn) (owed : List Effect) (front : Option Frame) →
     AwaitsBit fcb old owed ⊎ HasServed station fcb service old owed →
     OutstationStep station old (Counted fcb service) turn new → IsTrueFront front turn →
-    Leaves settings station link pending (record { request = Counted fcb service; front = front; closed = closed })
-    (answer_to station (record { request = Counted fcb service; front = front; closed = closed })) owed turn.done new
+    Leaves settings station link pending (record {
+      request = Counted fcb service;
+      front =
+          front;
+      closed = closed;
+    })
+    (answer_to station (record { request = Counted fcb service; front = front; closed = closed }))
+    owed turn.done new
 unfolding sending
-service_step settings station fcb service closed link pending old new turn owed None a (unheard quiet same) front =
+service_step settings station fcb service closed link pending old new turn owed None a
+    (unheard quiet same) front =
     when_silent settings station fcb service closed link pending old new turn owed
     (stays station fcb service old new owed turn.done same (ap (λ (t : Turn). t.done) quiet) a)
-service_step settings station fcb service closed link pending old new turn owed (Some f) a (unheard quiet same) front =
+service_step settings station fcb service closed link pending old new turn owed (Some f) a
+    (unheard quiet same) front =
     let none : turn.answer ≡ None = ap (λ (t : Turn). t.answer) quiet in
     cc
 service_step settings station fcb service closed link pending old new turn owed None a
@@ -225,12 +263,25 @@ service_step settings station fcb service closed link pending old new turn owed 
     when_unable settings station fcb service closed link pending old new turn owed f frame eq
     (refused_service station fcb service frame refuses)
     (owes_service station fcb service old owed a) (ap (λ (t : Turn). t.done) quiet)
-service_step settings station fcb service closed link pending old new turn owed front (inl a) (heard h) true_front =
-    go front true_front (subst (λ (b : Option Bool). Serves station b old fcb service turn new) a.bit h)
+service_step settings station fcb service closed link pending old new turn owed front (inl a)
+    (heard h) true_front =
+    go front true_front (subst (λ (b : Option Bool). Serves station b old fcb service turn new)
+    a.bit h)
   where
-    go : (front : Option Frame) → IsTrueFront front turn → Serves station (Some (not fcb)) old fcb service turn new →
-        Leaves settings station link pending (record { request = Counted fcb service; front = front; closed = closed })
-        (answer_to station (record { request = Counted fcb service; front = front; closed = closed })) owed turn.done
+    go : (front : Option Frame) → IsTrueFront front turn
+        → Serves station (Some (not fcb)) old fcb service turn new →
+        Leaves settings station link pending (record {
+          request = Counted fcb service;
+          front =
+              front;
+          closed = closed;
+        })
+        (answer_to station (record {
+          request = Counted fcb service;
+          front = front;
+          closed =
+              closed;
+        })) owed turn.done
         new
     go front true_front (inl same) = absurd (not-self fcb same.0)
     go None true_front (inr s) =
@@ -245,36 +296,55 @@ service_step settings station fcb service closed link pending old new turn owed 
           owes = ap (λ (o : List Effect). o ++ turn.done) a.owes ∙ ap (λ (t : Turn). t.done) s.1.4;
         }))
     go (Some f) true_front (inr s) =
-        when_answered settings station fcb service closed link pending old new turn owed f s.1.0 s.1.1
+        when_answered settings station fcb service closed link pending old new turn owed f s.1.0
+        s.1.1
         (let some : turn.answer ≡ Some s.1.0 = ap (λ (t : Turn). t.answer) s.1.4 in cc) s.1.2 s.1.3
         (ap (λ (o : Outstation). o.bit) s.1.5)
         (ap (λ (o : List Effect). o ++ turn.done) a.owes ∙ ap (λ (t : Turn). t.done) s.1.4)
-service_step settings station fcb service closed link pending old new turn owed front (inr a) (heard h) true_front =
-    go front true_front (subst (λ (b : Option Bool). Serves station b old fcb service turn new) a.bit h)
+service_step settings station fcb service closed link pending old new turn owed front (inr a)
+    (heard h) true_front =
+    go front true_front (subst (λ (b : Option Bool). Serves station b old fcb service turn new)
+    a.bit h)
   where
-    go : (front : Option Frame) → IsTrueFront front turn → Serves station (Some fcb) old fcb service turn new →
-        Leaves settings station link pending (record { request = Counted fcb service; front = front; closed = closed })
-        (answer_to station (record { request = Counted fcb service; front = front; closed = closed })) owed turn.done
+    go : (front : Option Frame) → IsTrueFront front turn
+        → Serves station (Some fcb) old fcb service turn new →
+        Leaves settings station link pending (record {
+          request = Counted fcb service;
+          front =
+              front;
+          closed = closed;
+        })
+        (answer_to station (record {
+          request = Counted fcb service;
+          front = front;
+          closed =
+              closed;
+        })) owed turn.done
         new
     go front true_front (inr s) = absurd (s.0 refl)
     go None true_front (inl s) =
         when_silent settings station fcb service closed link pending old new turn owed
-        (stays station fcb service old new owed turn.done s.2 (ap (λ (t : Turn). t.done) s.1) (inr a))
+        (stays station fcb service old new owed turn.done s.2 (ap (λ (t : Turn). t.done) s.1)
+        (inr a))
     go (Some f) true_front (inl s) =
-        when_answered settings station fcb service closed link pending old new turn owed f a.frame a.answer
+        when_answered settings station fcb service closed link pending old new turn owed f a.frame
+        a.answer
         (let some : turn.answer ≡ old.last = ap (λ (t : Turn). t.answer) s.1 in
         let kept : old.last ≡ Some a.frame = a.last in cc) a.says a.able
         (ap (λ (o : Outstation). o.bit) s.2 ∙ a.bit)
-        (ap (λ (d : List Effect). owed ++ d) (ap (λ (t : Turn). t.done) s.1) ∙ append-nil owed ∙ a.owes)
+        (ap (λ (d : List Effect). owed ++ d) (ap (λ (t : Turn). t.done) s.1) ∙ append-nil owed
+        ∙ a.owes)
 
 -- A status or reset request does no service.
-pub idle_status : (station : ℕ) (old new : Outstation) (turn : Turn) → OutstationStep station old Status turn new
+pub idle_status : (station : ℕ) (old new : Outstation) (turn : Turn)
+    → OutstationStep station old Status turn new
     → turn.done ≡ []
 idle_status station old new turn (unheard quiet same) = ap (λ (t : Turn). t.done) quiet
 idle_status station old new turn (unable frame refuses quiet same) = ap (λ (t : Turn). t.done) quiet
 idle_status station old new turn (heard h) = ap (λ (t : Turn). t.done) h.2
 
-pub idle_reset : (station : ℕ) (old new : Outstation) (turn : Turn) → OutstationStep station old Reset turn new
+pub idle_reset : (station : ℕ) (old new : Outstation) (turn : Turn)
+    → OutstationStep station old Reset turn new
     → turn.done ≡ []
 idle_reset station old new turn (unheard quiet same) = ap (λ (t : Turn). t.done) quiet
 idle_reset station old new turn (unable frame refuses quiet same) = ap (λ (t : Turn). t.done) quiet
@@ -283,14 +353,16 @@ idle_reset station old new turn (heard h) = ap (λ (t : Turn). t.done) h.2
 -- An outstation whose reset was confirmed is reset.
 pub reset_taken : (station : ℕ) (front : Option Frame) (old new : Outstation) (turn : Turn)
     → OutstationStep station old Reset turn new →
-    IsTrueFront front turn → option_and_then (answer_of station Reset) front ≡ Some Confirmed → new ≡ reset_link
+    IsTrueFront front turn → option_and_then (answer_of station Reset) front ≡ Some Confirmed
+    → new ≡ reset_link
 reset_taken station None old new turn step true_front confirmed = cc
 reset_taken station (Some f) old new turn (unheard quiet same) true_front confirmed =
     let none : turn.answer ≡ None = ap (λ (t : Turn). t.answer) quiet in cc
 reset_taken station (Some f) old new turn (unable frame refuses quiet same) true_front confirmed =
     let some : turn.answer ≡ Some frame = ap (λ (t : Turn). t.answer) quiet in
     let eq : frame ≡ f = cc in
-    let two : answer_of station Reset f ≡ None = ap (λ (g : Frame). answer_of station Reset g) (sym eq)
+    let two : answer_of station Reset f ≡ None = ap (λ (g : Frame). answer_of station Reset g)
+    (sym eq)
     ∙ refused_reset station frame refuses in
     cc
 reset_taken station (Some f) old new turn (heard h) true_front confirmed = h.3
@@ -299,67 +371,100 @@ pub no_more : (owed done : List Effect) → done ≡ [] → owed ++ done ≡ owe
 no_more owed done idle = ap (λ (d : List Effect). owed ++ d) idle ∙ append-nil owed
 
 -- what a status request leaves
-status_leaves : (settings : LinkSettings) (station : ℕ) (link : Link) (pending : Option Service) (front : Option Frame)
+status_leaves : (settings : LinkSettings) (station : ℕ) (link : Link) (pending : Option Service)
+    (front : Option Frame)
     (closed : Bool)
-    (m : Option Answer) (owed done : List Effect) (new : Outstation) → is_up link ≡ false → MayOwe pending owed
+    (m : Option Answer) (owed done : List Effect) (new : Outstation) → is_up link ≡ false
+    → MayOwe pending owed
     → done ≡ [] →
-    Leaves settings station link pending (record { request = Status; front = front; closed = closed }) m owed done new
+    Leaves settings station link pending (record {
+      request = Status;
+      front = front;
+      closed =
+          closed;
+    }) m owed done new
 status_leaves settings station link pending front closed None owed done new down owes idle =
     record { owed' = owed; agrees = owes; sum = no_more owed done idle }
 status_leaves settings station link pending front closed (Some Ready) owed done new down owes idle =
     record { owed' = owed; agrees = owes; sum = no_more owed done idle }
-status_leaves settings station link pending front closed (Some Unable) owed done new down owes idle =
+status_leaves settings station link pending front closed (Some Unable) owed done new down owes
+    idle =
     record { owed' = owed; agrees = owes; sum = no_more owed done idle }
-status_leaves settings station Down pending front closed (Some answer) owed done new down owes idle =
+status_leaves settings station Down pending front closed (Some answer) owed done new down owes
+    idle =
     record { owed' = owed; agrees = owes; sum = no_more owed done idle }
-status_leaves settings station Available pending front closed (Some answer) owed done new down owes idle =
+status_leaves settings station Available pending front closed (Some answer) owed done new down owes
+    idle =
     record { owed' = owed; agrees = owes; sum = no_more owed done idle }
-status_leaves settings station (Next fcb) pending front closed (Some answer) owed done new down owes idle = cc
+status_leaves settings station (Next fcb) pending front closed (Some answer) owed done new down owes
+    idle = cc
 status_leaves settings station (Held fcb service missed) pending front closed
     (Some answer) owed done new down owes idle = cc
 
 -- what a reset request leaves that isn't confirmed
-reset_leaves : (settings : LinkSettings) (station : ℕ) (pending : Option Service) (front : Option Frame) (closed : Bool)
-    (m : Option Answer) (owed done : List Effect) (new : Outstation) → is_reset Reset m ≡ false → MayOwe pending owed
+reset_leaves : (settings : LinkSettings) (station : ℕ) (pending : Option Service)
+    (front : Option Frame) (closed : Bool)
+    (m : Option Answer) (owed done : List Effect) (new : Outstation) → is_reset Reset m ≡ false
+    → MayOwe pending owed
     → done ≡ [] →
-    Leaves settings station Available pending (record { request = Reset; front = front; closed = closed }) m owed done
+    Leaves settings station Available pending (record {
+      request = Reset;
+      front = front;
+      closed =
+          closed;
+    }) m owed done
     new
 reset_leaves settings station pending front closed None owed done new other owes idle =
     record { owed' = owed; agrees = owes; sum = no_more owed done idle }
-reset_leaves settings station pending front closed (Some Confirmed) owed done new other owes idle = cc
+reset_leaves settings station pending front closed (Some Confirmed) owed done new other owes idle =
+    cc
 reset_leaves settings station pending front closed (Some answer) owed done new other owes idle =
     record { owed' = owed; agrees = owes; sum = no_more owed done idle }
 
 -- One exchange that is no confirmed reset.
-pub exchange_step : (settings : LinkSettings) (station : ℕ) (link : Link) (pending : Option Service) (request : Asked)
+pub exchange_step : (settings : LinkSettings) (station : ℕ) (link : Link) (pending : Option Service)
+    (request : Asked)
     (front : Option Frame) (closed : Bool)
     (old new : Outstation) (turn : Turn) (owed : List Effect) →
-    Agrees station link pending old owed → MaySend link request → OutstationStep station old request turn new
+    Agrees station link pending old owed → MaySend link request
+    → OutstationStep station old request turn new
     → IsTrueFront front turn →
     is_reset request (option_and_then (answer_of station request) front) ≡ false →
-    Leaves settings station link pending (record { request = request; front = front; closed = closed })
+    Leaves settings station link pending (record {
+      request = request;
+      front = front;
+      closed =
+          closed;
+    })
     (option_and_then (answer_of station request) front) owed turn.done new
-exchange_step settings station Down pending Status front closed old new turn owed agrees may step true_front other =
+exchange_step settings station Down pending Status front closed old new turn owed agrees may step
+    true_front other =
     status_leaves settings station Down pending front closed _ owed turn.done new refl agrees
     (idle_status station old new turn step)
-exchange_step settings station Available pending Status front closed old new turn owed agrees may step true_front
+exchange_step settings station Available pending Status front closed old new turn owed agrees may
+    step true_front
     other =
     status_leaves settings station Available pending front closed _ owed turn.done new refl agrees
     (idle_status station old new turn step)
-exchange_step settings station Available pending Reset front closed old new turn owed agrees may step true_front other =
+exchange_step settings station Available pending Reset front closed old new turn owed agrees may
+    step true_front other =
     reset_leaves settings station pending front closed _ owed turn.done new other agrees
     (idle_reset station old new turn step)
-exchange_step settings station (Next fcb) pending (Counted sent service) front closed old new turn owed agrees may step
+exchange_step settings station (Next fcb) pending (Counted sent service) front closed old new turn
+    owed agrees may step
     true_front other =
     service_step settings station sent service closed (Next fcb) pending old new turn owed front
     (inl (subst (λ (b : Bool). AwaitsBit b old owed) (sym may) agrees.1)) step true_front
 exchange_step settings station (Held fcb service missed) pending
     (Counted sent again) front closed old new turn owed agrees may step true_front other =
-    service_step settings station sent again closed (Held fcb service missed) pending old new turn owed front
+    service_step settings station sent again closed (Held fcb service missed) pending old new turn
+    owed front
     (subst (λ (b : Bool). AwaitsBit b old owed ⊎ HasServed station b again old owed) (sym may.0)
-    (subst (λ (s : Service). AwaitsBit fcb old owed ⊎ HasServed station fcb s old owed) (sym may.1) agrees.1)) step
+    (subst (λ (s : Service). AwaitsBit fcb old owed ⊎ HasServed station fcb s old owed) (sym may.1)
+    agrees.1)) step
     true_front
-exchange_step settings station link pending request front closed old new turn owed agrees may step true_front other =
+exchange_step settings station link pending request front closed old new turn owed agrees may step
+    true_front other =
     absurd may
 
 -- a confirmed reset

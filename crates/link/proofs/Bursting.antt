@@ -1,18 +1,31 @@
 -- Polls of class 1 go on while ACD is set, up to burst.
 use Rattle.std.specs.Prelude.{◌==◌}
-use Rattle.std.proofs.Common.{◌≡◌, ℕ, suc, ◌<◌, ◌≤◌, ◌&&◌, nat_lt, Bool, true, false, List, [], ◌∷◌, ◌++◌, length, slice_set, map, Option, Some, None, refl, sym, ap, subst, ◌∙◌, ◌⊎◌, inl, inr, arith, if◌then◌else◌}
+use Rattle.std.proofs.Common.{◌≡◌, ℕ, suc, ◌<◌, ◌≤◌, ◌&&◌, nat_lt, Bool, true, false, List, [], ◌∷◌}
+use Rattle.std.proofs.Common.{◌++◌, length, slice_set, map, Option, Some, None, refl, sym, ap}
+use Rattle.std.proofs.Common.{subst, ◌∙◌, ◌⊎◌, inl, inr, arith, if◌then◌else◌}
 use Rattle.std.proofs.lemmas.Bool.{lt-ltb, eqb-true, eqb-false}
 use Rattle.ft12.specs.declared.frame.Front.{Front}
 use Rattle.ft12.specs.Fronts.{front_of}
-use Rattle.link.specs.Answers.{Frame, Service, Class1, Class2, Asked, Status, Reset, Counted, Answer, Ready, Confirmed, Busy, Report, NoData, Unable}
+use Rattle.link.specs.Answers.{Frame, Service, Class1, Class2, Asked, Status, Reset, Counted}
+use Rattle.link.specs.Answers.{Answer, Ready, Confirmed, Busy, Report, NoData, Unable}
 use Rattle.link.specs.Exchanges.{Sending, whole_of}
-use Rattle.link.specs.Procedure.{LinkSettings, Link, Down, Available, Next, Held, is_held, has_repeats, after_answer, after_silence, missed_so_far}
-use Rattle.link.specs.Turns.{StationState, Phase, Starting, Commanding, Polling, Class1Polling, Over, Wanted, Chosen, station_at, is_poll, wants, wanted_poll, polls_from, wanted_command, commands_from, next_of, wanted_by, wanted, chosen_or, first_after}
-use Rattle.link.specs.Primary.{Outstanding, Primary, start, choice, after_choice, asked_from, asked, sending_by, sending_from, phase_after, answer_at, answered, station_answered, said_by, open_octets, took, with_octets, received_after, received_from, received, station_unanswered, unanswered, is_late, due_from, timed_out, may_offer, with_offer, without_offer, offered_to}
+use Rattle.link.specs.Procedure.{LinkSettings, Link, Down, Available, Next, Held, is_held}
+use Rattle.link.specs.Procedure.{has_repeats, after_answer, after_silence, missed_so_far}
+use Rattle.link.specs.Turns.{StationState, Phase, Starting, Commanding, Polling, Class1Polling}
+use Rattle.link.specs.Turns.{Over, Wanted, Chosen, station_at, is_poll, wants, wanted_poll}
+use Rattle.link.specs.Turns.{polls_from, wanted_command, commands_from, next_of, wanted_by, wanted}
+use Rattle.link.specs.Turns.{chosen_or, first_after}
+use Rattle.link.specs.Primary.{Outstanding, Primary, start, choice, after_choice, asked_from, asked}
+use Rattle.link.specs.Primary.{sending_by, sending_from, phase_after, answer_at, answered}
+use Rattle.link.specs.Primary.{station_answered, said_by, open_octets, took, with_octets}
+use Rattle.link.specs.Primary.{received_after, received_from, received, station_unanswered}
+use Rattle.link.specs.Primary.{unanswered, is_late, due_from, timed_out, may_offer, with_offer}
+use Rattle.link.specs.Primary.{without_offer, offered_to}
 use Rattle.link.specs.Leave.{is_poll_request}
 use Rattle.link.specs.Runs.{Call, Octets, Due, Offer, Withdraw, called}
 use Rattle.link.specs.Runs as runs
-use Rattle.link.specs.Bursts.{Row, Polls, Repeat, Other, one_more, row_by_request, row_by, row_out, row_after, is_answered, PollsGoOn, BurstsGoOn}
+use Rattle.link.specs.Bursts.{Row, Polls, Repeat, Other, one_more, row_by_request, row_by, row_out}
+use Rattle.link.specs.Bursts.{row_after, is_answered, PollsGoOn, BurstsGoOn}
 use Rattle.link.proofs.Leaving.{set_none, without_links}
 use Rattle.link.proofs.Preceding.{IsChosen, here, there, is_chosen}
 use Rattle.link.proofs.Links.{set_view}
@@ -30,12 +43,15 @@ OneMore phase many = many ≡ 1
 
 pub data Goes (link : Link) (phase : Phase) (request : Asked) (following : Phase) : Type 0 where
   repeated : is_held link ≡ true → Goes link phase request following
-  first_class : (fcb : Bool) (many : ℕ) → is_held link ≡ false → is_answered link ≡ true → request ≡ Counted fcb Class1
+  first_class : (fcb : Bool) (many : ℕ) → is_held link ≡ false → is_answered link ≡ true
+      → request ≡ Counted fcb Class1
       → following ≡ Class1Polling many → OneMore phase many → Goes link phase request following
-  second_class : (fcb : Bool) → is_held link ≡ false → request ≡ Counted fcb Class2 → following ≡ Class1Polling 0
+  second_class : (fcb : Bool) → is_held link ≡ false → request ≡ Counted fcb Class2 → following
+      ≡ Class1Polling 0
       → Goes link phase request following
   starts : is_held link ≡ false → IsNotBegun following →
-      ((station : ℕ) (row : Row) → row_by_request false station request row ≡ Other) → Goes link phase request following
+      ((station : ℕ) (row : Row) → row_by_request false station request row ≡ Other)
+      → Goes link phase request following
 
 abbrev pub GoesIt : Link → Phase → Option Wanted → Type 0
 GoesIt link phase None = Unit {0}
@@ -46,7 +62,8 @@ poll_goes : (burst : ℕ) (fcb : Bool) (s : StationState) (phase : Phase)
 poll_goes burst fcb s Polling = go s.acd
   where
     go : (b : Bool) → GoesIt (Next fcb) Polling
-        (if b then wants (Counted fcb Class1) (Class1Polling 1) else wants (Counted fcb Class2) (Class1Polling 0))
+        (if b then wants (Counted fcb Class1) (Class1Polling 1)
+        else wants (Counted fcb Class2) (Class1Polling 0))
     go true = first_class fcb 1 refl refl refl refl refl
     go false = second_class fcb refl refl refl
 poll_goes burst fcb s (Class1Polling sent) = go (s.acd && nat_lt sent burst)
@@ -66,11 +83,13 @@ first_goes burst false fcb s phase one = tt
 first_goes burst true fcb s phase one = go s.acd
   where
     go : (b : Bool) → GoesIt (Next fcb) phase
-        (if b then wants (Counted fcb Class1) (Class1Polling 1) else wants (Counted fcb Class2) (Class1Polling 0))
+        (if b then wants (Counted fcb Class1) (Class1Polling 1)
+        else wants (Counted fcb Class2) (Class1Polling 0))
     go true = first_class fcb 1 refl refl refl refl one
     go false = second_class fcb refl refl refl
 
-commands_go : (burst : ℕ) (may_poll fcb : Bool) (s : StationState) (phase : Phase) (offered : Option (List ℕ))
+commands_go : (burst : ℕ) (may_poll fcb : Bool) (s : StationState) (phase : Phase)
+    (offered : Option (List ℕ))
     → OneMore phase 1 → GoesIt (Next fcb) phase (commands_from burst may_poll fcb s offered)
 commands_go burst may_poll fcb s phase None one = first_goes burst may_poll fcb s phase one
 commands_go burst may_poll fcb s phase (Some asdu) one = go s.dfc
@@ -88,12 +107,15 @@ polls_go burst false fcb s phase = tt
 next_goes : (burst : ℕ) (may_poll fcb : Bool) (s : StationState) (phase : Phase)
     → GoesIt (Next fcb) phase (next_of burst may_poll fcb s phase)
 next_goes burst may_poll fcb s Starting = commands_go burst may_poll fcb s Starting s.offered refl
-next_goes burst may_poll fcb s Commanding = commands_go burst may_poll fcb s Commanding s.offered refl
+next_goes burst may_poll fcb s Commanding = commands_go burst may_poll fcb s Commanding s.offered
+    refl
 next_goes burst may_poll fcb s Polling = polls_go burst may_poll fcb s Polling
-next_goes burst may_poll fcb s (Class1Polling sent) = polls_go burst may_poll fcb s (Class1Polling sent)
+next_goes burst may_poll fcb s (Class1Polling sent) =
+    polls_go burst may_poll fcb s (Class1Polling sent)
 next_goes burst may_poll fcb s Over = tt
 
-held_goes : (link : Link) (phase : Phase) → is_held link ≡ true → (w : Option Wanted) → GoesIt link phase w
+held_goes : (link : Link) (phase : Phase) → is_held link ≡ true → (w : Option Wanted)
+    → GoesIt link phase w
 held_goes link phase is None = tt
 held_goes link phase is (Some w) = repeated is
 
@@ -101,7 +123,8 @@ wanted_goes : (burst : ℕ) (may_poll again : Bool) (s : StationState) (link : L
     → GoesIt link phase (wanted_by burst may_poll again s link phase)
 wanted_goes burst may_poll again s (Next fcb) phase = next_goes burst may_poll fcb s phase
 wanted_goes burst may_poll again s (Held fcb service missed) phase =
-    held_goes (Held fcb service missed) phase refl (wanted_by burst may_poll again s (Held fcb service missed) phase)
+    held_goes (Held fcb service missed) phase refl
+    (wanted_by burst may_poll again s (Held fcb service missed) phase)
 wanted_goes burst may_poll again s Down Starting = starts refl tt (λ station row. refl)
 wanted_goes burst may_poll again s Available Starting = starts refl tt (λ station row. refl)
 wanted_goes burst may_poll again s Down Commanding = tt
@@ -123,7 +146,8 @@ PollIsOut (Some o) = is_poll_request o.request ≡ true
 pub data IsPolling (p : Primary) (station many : ℕ) : Type 0 where
   going : (so_far : ℕ) → so_far ≤ many → p.phase ≡ Class1Polling so_far → PollIsOut p.outstanding
       → IsPolling p station many
-  lost : p.outstanding ≡ None → is_answered (station_at p.stations station).link ≡ false → IsPolling p station many
+  lost : p.outstanding ≡ None → is_answered (station_at p.stations station).link ≡ false
+      → IsPolling p station many
 
 abbrev pub Tells : Primary → Row → Type 0
 Tells p (Polls station many) = (p.turn ≡ station) × IsPolling p station many
@@ -135,13 +159,16 @@ Tells p Other = IsNotBegun p.phase
 not_both : (b : Bool) → b ≡ true → b ≡ false → ⊥
 not_both b e f = cc
 
-same_phase : (p q : Phase) (sent so_far : ℕ) → p ≡ Class1Polling so_far → q ≡ p → q ≡ Class1Polling sent → sent ≡ so_far
+same_phase : (p q : Phase) (sent so_far : ℕ) → p ≡ Class1Polling so_far → q ≡ p
+    → q ≡ Class1Polling sent → sent ≡ so_far
 same_phase p q sent so_far e f g = cc
 
 -- so many of class 1, by the phase
-most : (phase : Phase) (many so_far n : ℕ) → OneMore phase many → phase ≡ Class1Polling so_far → so_far ≤ n
+most : (phase : Phase) (many so_far n : ℕ) → OneMore phase many → phase ≡ Class1Polling so_far
+    → so_far ≤ n
     → many ≤ suc n
-most (Class1Polling sent) many so_far n one e le = let same : sent ≡ so_far = cc in omega (arith, one, same, le)
+most (Class1Polling sent) many so_far n one e le = let same : sent ≡ so_far = cc in
+    omega (arith, one, same, le)
 most Starting many so_far n one e le = let bad : ⊥ = cc in absurd bad
 most Commanding many so_far n one e le = let bad : ⊥ = cc in absurd bad
 most Polling many so_far n one e le = let bad : ⊥ = cc in absurd bad
@@ -158,34 +185,57 @@ one_only Over many one none = one
 one_tells : (p p' : Primary) (station many : ℕ) (phase : Phase) (row : Row) → Tells p row
     → is_answered (station_at p.stations station).link ≡ true → OneMore phase many
     → ((station ≡ p.turn) × (phase ≡ p.phase)) ⊎ (phase ≡ Starting)
-    → p'.turn ≡ station → p'.phase ≡ Class1Polling many → PollIsOut p'.outstanding → Tells p' (one_more station row)
-one_tells p p' station many phase Other tells up one (inl at) turn follows out =
-    (turn, going many (let is = one_only phase many one (subst IsNotBegun (sym at.1) tells) in omega (arith, is)) follows out)
-one_tells p p' station many phase Other tells up one (inr e) turn follows out =
-    (turn, going many (let is = one_only phase many one (subst IsNotBegun (sym e) tt) in omega (arith, is)) follows out)
-one_tells p p' station many phase (Repeat k) tells up one at turn follows out = go (k == station) refl at
+    → p'.turn ≡ station → p'.phase ≡ Class1Polling many → PollIsOut p'.outstanding
+    → Tells p' (one_more station row)
+one_tells p p' station many phase Other tells up one (inl at) turn follows out = (
+  turn,
+  going many (let is = one_only phase many one (subst IsNotBegun (sym at.1) tells) in
+      omega (arith, is)) follows out,
+)
+one_tells p p' station many phase Other tells up one (inr e) turn follows out = (
+  turn,
+  going many (let is = one_only phase many one (subst IsNotBegun (sym e) tt) in
+      omega (arith, is)) follows out,
+)
+one_tells p p' station many phase (Repeat k) tells up one at turn follows out =
+    go (k == station) refl at
   where
-    go : (b : Bool) → (k == station) ≡ b → ((station ≡ p.turn) × (phase ≡ p.phase)) ⊎ (phase ≡ Starting)
+    go : (b : Bool) → (k == station) ≡ b → ((station ≡ p.turn) × (phase ≡ p.phase))
+        ⊎ (phase ≡ Starting)
         → Tells p' (if b then Repeat station else Polls station 1)
     go true e at = turn
     go false e (inl at) = absurd (eqb-false k station e (sym tells ∙ sym at.0))
-    go false e (inr is) =
-        (turn, going many (let n = one_only phase many one (subst IsNotBegun (sym is) tt) in omega (arith, n)) follows out)
-one_tells p p' station many phase (Polls k n) tells up one at turn follows out = go (k == station) refl at tells.1
+    go false e (inr is) = (
+      turn,
+      going many (let n = one_only phase many one (subst IsNotBegun (sym is) tt) in
+          omega (arith, n)) follows out,
+    )
+one_tells p p' station many phase (Polls k n) tells up one at turn follows out =
+    go (k == station) refl at tells.1
   where
-    go : (b : Bool) → (k == station) ≡ b → ((station ≡ p.turn) × (phase ≡ p.phase)) ⊎ (phase ≡ Starting) → IsPolling p k n
+    go : (b : Bool) → (k == station) ≡ b → ((station ≡ p.turn) × (phase ≡ p.phase))
+        ⊎ (phase ≡ Starting) → IsPolling p k n
         → Tells p' (if b then Polls station (suc n) else Polls station 1)
     go true e (inl at) (going so_far le is poll) =
         (turn, going many (most phase many so_far n one (at.1 ∙ is) le) follows out)
-    go true e (inr is) polls =
-        (turn, going many (let m = one_only phase many one (subst IsNotBegun (sym is) tt) in omega (arith, m)) follows out)
-    go true e (inl at) (lost free down) = absurd (not_both (is_answered (station_at p.stations station).link) up
-        (ap (λ (i : ℕ). is_answered (station_at p.stations i).link) (sym (eqb-true k station e)) ∙ down))
+    go true e (inr is) polls = (
+      turn,
+      going many (let m = one_only phase many one (subst IsNotBegun (sym is) tt) in
+          omega (arith, m)) follows out,
+    )
+    go true e (inl at) (lost free down) =
+        absurd (not_both (is_answered (station_at p.stations station).link) up
+        (ap (λ (i : ℕ). is_answered (station_at p.stations i).link) (sym (eqb-true k station e))
+        ∙ down))
     go false e (inl at) polls = absurd (eqb-false k station e (sym tells.0 ∙ sym at.0))
-    go false e (inr is) polls =
-        (turn, going many (let m = one_only phase many one (subst IsNotBegun (sym is) tt) in omega (arith, m)) follows out)
+    go false e (inr is) polls = (
+      turn,
+      going many (let m = one_only phase many one (subst IsNotBegun (sym is) tt) in
+          omega (arith, m)) follows out,
+    )
 
-poll_out : (request : Asked) (fcb : Bool) (service : Service) → is_poll service ≡ true → request ≡ Counted fcb service
+poll_out : (request : Asked) (fcb : Bool) (service : Service) → is_poll service ≡ true
+    → request ≡ Counted fcb service
     → is_poll_request request ≡ true
 poll_out request fcb service is e = ap is_poll_request e ∙ is
 
@@ -194,7 +244,8 @@ goes_tells : (p p' : Primary) (c : Chosen) (row : Row) (phase : Phase) → Tells
     → p'.turn ≡ c.station → p'.phase ≡ c.wanted.following
     → ((is_poll_request c.wanted.request ≡ true) → PollIsOut p'.outstanding)
     → Goes (station_at p.stations c.station).link phase c.wanted.request c.wanted.following
-    → Tells p' (row_by_request (is_held (station_at p.stations c.station).link) c.station c.wanted.request row)
+    → Tells p' (row_by_request (is_held (station_at p.stations c.station).link) c.station
+    c.wanted.request row)
 goes_tells p p' c row phase tells at turn follows out (repeated held) =
     subst (λ (b : Bool). Tells p' (row_by_request b c.station c.wanted.request row)) (sym held) turn
 goes_tells p p' c row phase tells at turn follows out (first_class fcb many new up is next one) =
@@ -204,17 +255,22 @@ goes_tells p p' c row phase tells at turn follows out (first_class fcb many new 
     (out (poll_out c.wanted.request fcb Class1 refl is))))
 goes_tells p p' c row phase tells at turn follows out (second_class fcb new is next) =
     subst (λ (b : Bool). Tells p' (row_by_request b c.station c.wanted.request row)) (sym new)
-    (subst (λ (r : Asked). Tells p' (row_by_request false c.station r row)) (sym is)
-    (turn, going 0 (omega arith) (follows ∙ next) (out (poll_out c.wanted.request fcb Class2 refl is))))
+    (subst (λ (r : Asked). Tells p' (row_by_request false c.station r row)) (sym is) (
+      turn,
+      going 0 (omega arith) (follows
+          ∙ next) (out (poll_out c.wanted.request fcb Class2 refl is)),
+    ))
 goes_tells p p' c row phase tells at turn follows out (starts new none is) =
     subst (λ (b : Bool). Tells p' (row_by_request b c.station c.wanted.request row)) (sym new)
     (subst (λ (r : Row). Tells p' r) (sym (is c.station row)) (subst IsNotBegun (sym follows) none))
 
-chosen_tells : (p : Primary) (c : Chosen) (row : Row) (now : ℕ) (may_poll : Bool) → Tells p row → IsChosen p may_poll c
+chosen_tells : (p : Primary) (c : Chosen) (row : Row) (now : ℕ) (may_poll : Bool) → Tells p row
+    → IsChosen p may_poll c
     → Tells (after_choice p now (Some c))
     (row_by_request (is_held (station_at p.stations c.station).link) c.station c.wanted.request row)
 chosen_tells p c row now may_poll tells (here at is) =
-    goes_tells p (after_choice p now (Some c)) c row p.phase tells (inl (at, refl)) refl refl (λ h. h)
+    goes_tells p (after_choice p now (Some c)) c row p.phase tells (inl (at, refl)) refl refl
+    (λ h. h)
     (subst (λ (v : Option Wanted). GoesIt (station_at p.stations c.station).link p.phase v) is
     (wanted_goes p.settings.burst may_poll p.again (station_at p.stations c.station)
     (station_at p.stations c.station).link p.phase))
@@ -228,18 +284,24 @@ asked_tells : (p : Primary) (row : Row) (now : ℕ) (may_poll : Bool) → Tells 
     → Tells (asked p now may_poll) (row_out p p.outstanding may_poll row)
 asked_tells p row now may_poll tells = go p.outstanding refl
   where
-    by : (c : Option Chosen) → choice p may_poll ≡ c → Tells (after_choice p now c) (row_by p (sending_by c) row)
+    by : (c : Option Chosen) → choice p may_poll ≡ c
+        → Tells (after_choice p now c) (row_by p (sending_by c) row)
     by None e = tt
     by (Some c) e = chosen_tells p c row now may_poll tells (is_chosen p may_poll c e)
 
-    go : (o : Option Outstanding) → p.outstanding ≡ o → Tells (asked_from p o now may_poll) (row_out p o may_poll row)
+    go : (o : Option Outstanding) → p.outstanding ≡ o
+        → Tells (asked_from p o now may_poll) (row_out p o may_poll row)
     go (Some o) e = tells
-    go None e = subst (λ (s : Option Sending). Tells (after_choice p now (choice p may_poll)) (row_by p s row))
-        (sym (ap (λ (o : Option Outstanding). sending_from p o may_poll) e)) (by (choice p may_poll) refl)
+    go None e =
+        subst (λ (s : Option Sending). Tells (after_choice p now (choice p may_poll))
+        (row_by p s row))
+        (sym (ap (λ (o : Option Outstanding). sending_from p o may_poll) e))
+        (by (choice p may_poll) refl)
 
 -- ---- the other calls
 
-no_poll_left : (answer : Answer) (phase : Phase) → IsNotBegun phase → IsNotBegun (phase_after answer phase)
+no_poll_left : (answer : Answer) (phase : Phase) → IsNotBegun phase
+    → IsNotBegun (phase_after answer phase)
 no_poll_left Unable phase none = tt
 no_poll_left Ready phase none = none
 no_poll_left Confirmed phase none = none
@@ -257,15 +319,18 @@ silent_down : (settings : LinkSettings) (request : Asked) (link : Link)
     → is_answered (after_silence settings request true link) ≡ false
 silent_down settings Status link = refl
 silent_down settings Reset link = refl
-silent_down settings (Counted fcb service) link = go (nat_lt settings.retries (suc (missed_so_far link))) settings.hold
+silent_down settings (Counted fcb service) link =
+    go (nat_lt settings.retries (suc (missed_so_far link))) settings.hold
   where
-    go : (b hold : Bool) → is_answered (if b then (if hold then Held fcb service (suc settings.retries) else Down)
+    go : (b hold : Bool)
+        → is_answered (if b then (if hold then Held fcb service (suc settings.retries) else Down)
         else Held fcb service (suc (missed_so_far link))) ≡ false
     go true true = refl
     go true false = refl
     go false hold = refl
 
-answer_tells : (p : Primary) (row : Row) (o : Outstanding) (frame : Frame) (answer : Answer) → p.outstanding ≡ Some o
+answer_tells : (p : Primary) (row : Row) (o : Outstanding) (frame : Frame) (answer : Answer)
+    → p.outstanding ≡ Some o
     → Tells p row → Tells (answered p o.request frame answer) row
 answer_tells p Other o frame answer e tells = no_poll_left answer p.phase tells
 answer_tells p (Repeat k) o frame answer e tells = tells
@@ -275,7 +340,8 @@ answer_tells p (Polls k n) o frame answer e (turn, going so_far le is poll) = (t
   where
     go : (answer : Answer) → IsPolling (answered p o.request frame answer) k n
     go Unable = lost refl (subst (λ (i : ℕ). is_answered (station_at (slice_set p.stations p.turn
-        (station_answered (station_at p.stations p.turn) o.request frame Unable)) i).link ≡ false) turn
+        (station_answered (station_at p.stations p.turn) o.request frame Unable)) i).link ≡ false)
+        turn
         (set_none (λ (s : StationState). is_answered s.link) p.stations p.turn
         (station_answered (station_at p.stations p.turn) o.request frame Unable)
         (unable_down o.request (station_at p.stations p.turn).link
@@ -287,8 +353,10 @@ answer_tells p (Polls k n) o frame answer e (turn, going so_far le is poll) = (t
     go NoData = going so_far le is tt
 
 -- The request that is out is the same.
-waits_tells : (p p' : Primary) (row : Row) (o : Outstanding) → p.outstanding ≡ Some o → p'.turn ≡ p.turn
-    → p'.phase ≡ p.phase → (is_poll_request o.request ≡ true → PollIsOut p'.outstanding) → Tells p row → Tells p' row
+waits_tells : (p p' : Primary) (row : Row) (o : Outstanding) → p.outstanding ≡ Some o
+    → p'.turn ≡ p.turn
+    → p'.phase ≡ p.phase → (is_poll_request o.request ≡ true → PollIsOut p'.outstanding)
+    → Tells p row → Tells p' row
 waits_tells p p' Other o e turn phase out tells = subst IsNotBegun (sym phase) tells
 waits_tells p p' (Repeat k) o e turn phase out tells = turn ∙ tells
 waits_tells p p' (Polls k n) o e turn phase out (at, lost free down) =
@@ -302,17 +370,21 @@ octets_tell front p came row tells = go p.outstanding refl
   where
     say : (o : Outstanding) → p.outstanding ≡ Some o → (frame : Frame) (m : Option Answer)
         → Tells (said_by p (with_octets came o) frame m) row
-    say o e frame None = waits_tells p (said_by p (with_octets came o) frame None) row o e refl refl (λ h. h) tells
+    say o e frame None = waits_tells p (said_by p (with_octets came o) frame None) row o e refl refl
+        (λ h. h) tells
     say o e frame (Some answer) = answer_tells p row o frame answer e tells
 
-    take_it : (o : Outstanding) → p.outstanding ≡ Some o → (heard : Option (List ℕ)) (f : Option Frame)
+    take_it : (o : Outstanding) → p.outstanding ≡ Some o
+        → (heard : Option (List ℕ)) (f : Option Frame)
         → Tells (took p (with_octets came o) heard f) row
-    take_it o e heard None = waits_tells p (took p (with_octets came o) heard None) row o e refl refl (λ h. h) tells
+    take_it o e heard None = waits_tells p (took p (with_octets came o) heard None) row o e refl
+        refl (λ h. h) tells
     take_it o e heard (Some frame) = say o e frame (answer_at p o frame)
 
     listen : (o : Outstanding) → p.outstanding ≡ Some o → (h : Option (List ℕ))
         → Tells (received_after front p (with_octets came o) h came) row
-    listen o e None = waits_tells p (received_after front p (with_octets came o) None came) row o e refl refl (λ h. h) tells
+    listen o e None = waits_tells p (received_after front p (with_octets came o) None came) row o e
+        refl refl (λ h. h) tells
     listen o e (Some before) = take_it o e (open_octets (before ++ came) (front (before ++ came)))
         (whole_of (front (before ++ came)))
 
@@ -320,8 +392,10 @@ octets_tell front p came row tells = go p.outstanding refl
     go None e = tells
     go (Some o) e = listen o e o.heard
 
-missed_tells : (p : Primary) (row : Row) (o : Outstanding) → Tells p row → Tells (unanswered p o) row
-missed_tells p Other o tells = go (has_repeats p.settings (station_unanswered p.settings (station_at p.stations p.turn)
+missed_tells : (p : Primary) (row : Row) (o : Outstanding) → Tells p row
+    → Tells (unanswered p o) row
+missed_tells p Other o tells =
+    go (has_repeats p.settings (station_unanswered p.settings (station_at p.stations p.turn)
     o.request).link)
   where
     go : (b : Bool) → IsNotBegun (if b then p.phase else Over)
@@ -331,7 +405,8 @@ missed_tells p (Repeat k) o tells = tells
 missed_tells p (Polls k n) o (turn, polls) = (
   turn,
   lost refl (subst (λ (i : ℕ). is_answered (station_at (slice_set p.stations p.turn
-      (station_unanswered p.settings (station_at p.stations p.turn) o.request)) i).link ≡ false) turn
+      (station_unanswered p.settings (station_at p.stations p.turn) o.request)) i).link ≡ false)
+      turn
       (set_none (λ (s : StationState). is_answered s.link) p.stations p.turn
       (station_unanswered p.settings (station_at p.stations p.turn) o.request)
       (silent_down p.settings o.request (station_at p.stations p.turn).link) refl)),
@@ -354,35 +429,45 @@ offers_tell : (p : Primary) (stations : List StationState) (row : Row)
     → Tells (record p { stations = stations }) row
 offers_tell p stations Other same tells = tells
 offers_tell p stations (Repeat k) same tells = tells
-offers_tell p stations (Polls k n) same (turn, going so_far le is poll) = (turn, going so_far le is poll)
-offers_tell p stations (Polls k n) same (turn, lost free down) = (turn, lost free (ap is_answered (same k) ∙ down))
+offers_tell p stations (Polls k n) same (turn, going so_far le is poll) =
+    (turn, going so_far le is poll)
+offers_tell p stations (Polls k n) same (turn, lost free down) =
+    (turn, lost free (ap is_answered (same k) ∙ down))
 
-offer_tells : (p : Primary) (i : ℕ) (asdu : List ℕ) (row : Row) → Tells p row → Tells (offered_to p i asdu) row
+offer_tells : (p : Primary) (i : ℕ) (asdu : List ℕ) (row : Row) → Tells p row
+    → Tells (offered_to p i asdu) row
 offer_tells p i asdu row tells = go (may_offer p i)
   where
     go : (b : Bool) → Tells (if b then record p {
       stations = slice_set p.stations i (with_offer (station_at p.stations i) (Some asdu));
     } else p) row
-    go true = offers_tell p (slice_set p.stations i (with_offer (station_at p.stations i) (Some asdu))) row
-        (λ k. set_view (λ (s : StationState). s.link) p.stations i (with_offer (station_at p.stations i) (Some asdu)) refl k)
+    go true =
+        offers_tell p (slice_set p.stations i (with_offer (station_at p.stations i) (Some asdu)))
+        row
+        (λ k. set_view (λ (s : StationState). s.link) p.stations i
+        (with_offer (station_at p.stations i) (Some asdu)) refl k)
         tells
     go false = tells
 
-call_tells : (p : Primary) (row : Row) (call : Call) → Tells p row → Tells (called p call) (row_after p call row)
+call_tells : (p : Primary) (row : Row) (call : Call) → Tells p row
+    → Tells (called p call) (row_after p call row)
 call_tells p row (runs.Next now may_poll) tells = asked_tells p row now may_poll tells
 call_tells p row (Octets octets) tells = octets_tell (front_of p.settings.size) p octets row tells
 call_tells p row (Due now) tells = due_tells p now row tells
 call_tells p row (Offer station asdu) tells = offer_tells p station asdu row tells
-call_tells p row Withdraw tells = offers_tell p (map without_offer p.stations) row (without_links p.stations) tells
+call_tells p row Withdraw tells = offers_tell p (map without_offer p.stations) row
+    (without_links p.stations) tells
 
 -- ---- one more
 
-one_wanted : (burst many : ℕ) (again : Bool) (s : StationState) (link : Link) → is_answered link ≡ true → s.acd ≡ true
+one_wanted : (burst many : ℕ) (again : Bool) (s : StationState) (link : Link) → is_answered link
+    ≡ true → s.acd ≡ true
     → many < burst → (fcb : Bool) × (wanted_by burst true again s link (Class1Polling many)
     ≡ wants (Counted fcb Class1) (Class1Polling (suc many)))
 one_wanted burst many again s (Next fcb) up acd less = (
   fcb,
-  ap (λ (b : Bool). if b && nat_lt many burst then wants (Counted fcb Class1) (Class1Polling (suc many)) else None) acd
+  ap (λ (b : Bool). if b && nat_lt many burst
+      then wants (Counted fcb Class1) (Class1Polling (suc many)) else None) acd
       ∙ ap (λ (b : Bool). if b then wants (Counted fcb Class1) (Class1Polling (suc many)) else None)
       (lt-ltb many burst less),
 )
@@ -394,12 +479,14 @@ goes_on : (p : Primary) (row : Row) (call : Call) → Tells p row → PollsGoOn 
 goes_on p (Polls k n) (runs.Next now true) (turn, lost free down) =
     λ out up acd less. absurd (not_both (is_answered (station_at p.stations k).link) up down)
 goes_on p (Polls k n) (runs.Next now true) (turn, going so_far le is poll) = λ out up acd less.
-    let one = one_wanted p.settings.burst so_far p.again (station_at p.stations k) (station_at p.stations k).link up acd
+    let one = one_wanted p.settings.burst so_far p.again (station_at p.stations k)
+    (station_at p.stations k).link up acd
     (omega (arith, le, less)) in
     let there_is : wanted p.settings.burst true p.again (station_at p.stations p.turn) p.phase
     ≡ wants (Counted one.0 Class1) (Class1Polling (suc so_far)) =
     ap (λ (i : ℕ). wanted p.settings.burst true p.again (station_at p.stations i) p.phase) turn
-    ∙ ap (λ (f : Phase). wanted p.settings.burst true p.again (station_at p.stations k) f) is ∙ one.1 in (
+    ∙ ap (λ (f : Phase). wanted p.settings.burst true p.again (station_at p.stations k) f) is
+    ∙ one.1 in (
       one.0,
       ap (λ (o : Option Outstanding). sending_from p o true) out
           ∙ ap (λ (w : Option Wanted). sending_by (chosen_or w p.turn
@@ -416,8 +503,11 @@ goes_on p Other call tells = tt
 
 pub go_on : (p : Primary) (row : Row) (calls : List Call) → Tells p row → BurstsGoOn p row calls
 go_on p row [] tells = tt
-go_on p row (call ∷ calls) tells =
-    (goes_on p row call tells, go_on (called p call) (row_after p call row) calls (call_tells p row call tells))
+go_on p row (call ∷ calls) tells = (
+  goes_on p row call tells,
+  go_on (called p call) (row_after p call row) calls
+      (call_tells p row call tells),
+)
 
 pub all_go_on : (settings : LinkSettings) (addresses : List ℕ) (calls : List Call)
     → BurstsGoOn (start settings addresses) Other calls

@@ -1,14 +1,20 @@
 -- What tells the exchanges of a line tells the calls that led to them, too.
-use Rattle.std.proofs.Common.{◌≡◌, ◌<◌, ℕ, Bool, List, [], ◌∷◌, ◌++◌, All, length, refl, sym, ap, subst, ◌∙◌, Option}
+use Rattle.std.proofs.Common.{◌≡◌, ◌<◌, ℕ, Bool, List, [], ◌∷◌, ◌++◌, All, length, refl, sym, ap}
+use Rattle.std.proofs.Common.{subst, ◌∙◌, Option}
 use Rattle.ft12.specs.declared.frame.Front.{Front}
 use Rattle.ft12.specs.Fronts.{front_of}
 use Rattle.link.specs.Exchanges.{Exchanges, no_exchanges, heard_current, timed_current, begun_by}
 use Rattle.link.specs.Procedure.{LinkSettings}
 use Rattle.link.specs.Requests.{IsUserData, FitsAddress}
-use Rattle.link.specs.Primary.{Outstanding, Primary, start, asked, sending, received, timed_out, offered_to, withdrawn}
-use Rattle.link.specs.Runs.{Call, Next, Octets, Due, Offer, Withdraw, called, exchanged, MayCall, MayCallAll, called_all, exchanged_all, AreCalled}
+use Rattle.link.specs.Primary.{Outstanding, Primary, start, asked, sending, received, timed_out}
+use Rattle.link.specs.Primary.{offered_to, withdrawn}
+use Rattle.link.specs.Runs.{Call, Next, Octets, Due, Offer, Withdraw, called, exchanged, MayCall}
+use Rattle.link.specs.Runs.{MayCallAll, called_all, exchanged_all, AreCalled}
 use Rattle.link.specs.Telling.{IsStable, AreLinks, past, TellsBy, Tells}
-use Rattle.link.proofs.Telling.{SaysBy, says, tells, links_said, start_says, hear_says, due_says, ask_says, offer_says, withdraw_says}
+use Rattle.link.proofs.Telling.{SaysBy, says, tells, links_said, hear_says, due_says}
+use Rattle.link.proofs.TellingOffers.{start_says}
+use Rattle.link.proofs.Telling.{ask_says}
+use Rattle.link.proofs.TellingOffers.{offer_says, withdraw_says}
 
 -- one call more
 
@@ -18,62 +24,77 @@ called-more p [] call = refl
 called-more p (first ∷ calls) call = called-more (called p first) calls call
 
 exchanged-more : (p : Primary) (calls : List Call) (call : Call) (e : Exchanges)
-    → exchanged_all p (calls ++ call ∷ []) e ≡ exchanged (called_all p calls) call (exchanged_all p calls e)
+    → exchanged_all p (calls ++ call ∷ []) e
+    ≡ exchanged (called_all p calls) call (exchanged_all p calls e)
 exchanged-more p [] call e = refl
-exchanged-more p (first ∷ calls) call e = exchanged-more (called p first) calls call (exchanged p first e)
+exchanged-more p (first ∷ calls) call e =
+    exchanged-more (called p first) calls call (exchanged p first e)
 
-may-more : (p : Primary) (calls : List Call) (call : Call) → MayCallAll p calls → MayCall (called_all p calls) call
+may-more : (p : Primary) (calls : List Call) (call : Call) → MayCallAll p calls
+    → MayCall (called_all p calls) call
     → MayCallAll p (calls ++ call ∷ [])
 may-more p [] call all one = (one, tt)
 may-more p (first ∷ calls) call all one = (all.0, may-more (called p first) calls call all.1 one)
 
-one_more : (settings : LinkSettings) (addresses : List ℕ) (p : Primary) (e : Exchanges) (call : Call) → MayCall p call
-    → AreCalled settings addresses p e → AreCalled settings addresses (called p call) (exchanged p call e)
+one_more : (settings : LinkSettings) (addresses : List ℕ) (p : Primary) (e : Exchanges)
+    (call : Call) → MayCall p call
+    → AreCalled settings addresses p e
+    → AreCalled settings addresses (called p call) (exchanged p call e)
 one_more settings addresses p e call one c =
     let first : Primary = start settings addresses in
     record {
       calls = c.calls ++ call ∷ [];
-      may = may-more first c.calls call c.may (subst (λ (q : Primary). MayCall q call) (sym c.primary) one);
+      may =
+          may-more first c.calls call c.may (subst (λ (q : Primary). MayCall q call) (sym c.primary)
+          one);
       primary = called-more first c.calls call ∙ ap (λ (q : Primary). called q call) c.primary;
       exchanges = exchanged-more first c.calls call no_exchanges
-          ∙ ap (λ (q : Primary). exchanged q call (exchanged_all first c.calls no_exchanges)) c.primary
+          ∙ ap (λ (q : Primary). exchanged q call (exchanged_all first c.calls no_exchanges))
+          c.primary
           ∙ ap (λ (x : Exchanges). exchanged p call x) c.exchanges;
     }
 
 pub start_tells : (settings : LinkSettings) (addresses : List ℕ) → 0 < length addresses
-    → All (FitsAddress settings.size) addresses → Tells settings addresses (start settings addresses) no_exchanges
+    → All (FitsAddress settings.size) addresses
+    → Tells settings addresses (start settings addresses) no_exchanges
 start_tells settings addresses some fit =
     tells (front_of settings.size) settings addresses (start settings addresses) no_exchanges
     (start_says (front_of settings.size) settings addresses some fit)
     (record { calls = []; may = tt; primary = refl; exchanges = refl })
 
-pub ask_tells : (settings : LinkSettings) (addresses : List ℕ) (p : Primary) (e : Exchanges) (now : ℕ)
+pub ask_tells : (settings : LinkSettings) (addresses : List ℕ) (p : Primary) (e : Exchanges)
+    (now : ℕ)
     (may_poll : Bool) → IsStable (front_of settings.size) → Tells settings addresses p e
     → Tells settings addresses (asked p now may_poll) (begun_by now (sending p may_poll) e)
 ask_tells settings addresses p e now may_poll stable t =
-    tells (front_of settings.size) settings addresses (asked p now may_poll) (begun_by now (sending p may_poll) e)
+    tells (front_of settings.size) settings addresses (asked p now may_poll)
+    (begun_by now (sending p may_poll) e)
     (ask_says (front_of settings.size) settings addresses p e now may_poll stable
     (says (front_of settings.size) settings addresses p e t))
     (one_more settings addresses p e (Next now may_poll) tt t.called)
 
-pub hear_tells : (settings : LinkSettings) (addresses : List ℕ) (p : Primary) (e : Exchanges) (octets : List ℕ)
+pub hear_tells : (settings : LinkSettings) (addresses : List ℕ) (p : Primary) (e : Exchanges)
+    (octets : List ℕ)
     → IsStable (front_of settings.size) → Tells settings addresses p e
     → Tells settings addresses (received (front_of p.settings.size) p octets)
     (record { ended = e.ended; current = heard_current octets e.current })
 hear_tells settings addresses p e octets stable t =
     let heard : Exchanges = record { ended = e.ended; current = heard_current octets e.current } in
-    tells (front_of settings.size) settings addresses (received (front_of p.settings.size) p octets) heard
+    tells (front_of settings.size) settings addresses (received (front_of p.settings.size) p octets)
+    heard
     (subst (λ (s : LinkSettings). SaysBy (front_of settings.size) settings addresses
     (received (front_of s.size) p octets) heard) (sym t.settings_are)
     (hear_says (front_of settings.size) settings addresses p e.ended e.current octets stable
     (says (front_of settings.size) settings addresses p e t)))
     (one_more settings addresses p e (Octets octets) tt t.called)
 
-pub due_tells : (settings : LinkSettings) (addresses : List ℕ) (p : Primary) (e : Exchanges) (at : ℕ)
+pub due_tells : (settings : LinkSettings) (addresses : List ℕ) (p : Primary) (e : Exchanges)
+    (at : ℕ)
     → Tells settings addresses p e → Tells settings addresses (timed_out p at)
     (record { ended = e.ended; current = timed_current settings.answer_ms at e.current })
 due_tells settings addresses p e at t =
-    let timed : Exchanges = record { ended = e.ended; current = timed_current settings.answer_ms at e.current } in
+    let timed : Exchanges =
+    record { ended = e.ended; current = timed_current settings.answer_ms at e.current } in
     tells (front_of settings.size) settings addresses (timed_out p at) timed
     (due_says (front_of settings.size) settings addresses p e.ended e.current at
     (says (front_of settings.size) settings addresses p e t))
@@ -81,8 +102,10 @@ due_tells settings addresses p e at t =
     (record { ended = e.ended; current = timed_current s.answer_ms at e.current })) t.settings_are
     (one_more settings addresses p e (Due at) tt t.called))
 
-pub offer_tells : (settings : LinkSettings) (addresses : List ℕ) (p : Primary) (e : Exchanges) (station : ℕ)
-    (asdu : List ℕ) → station < length p.stations → IsUserData p.settings.size asdu → Tells settings addresses p e
+pub offer_tells : (settings : LinkSettings) (addresses : List ℕ) (p : Primary) (e : Exchanges)
+    (station : ℕ)
+    (asdu : List ℕ) → station < length p.stations → IsUserData p.settings.size asdu
+    → Tells settings addresses p e
     → Tells settings addresses (offered_to p station asdu) e
 offer_tells settings addresses p e station asdu within carried t =
     tells (front_of settings.size) settings addresses (offered_to p station asdu) e
@@ -99,8 +122,10 @@ withdraw_tells settings addresses p e t =
     (one_more settings addresses p e Withdraw tt t.called)
 
 -- the links that are known while nothing, or something, is outstanding
-pub links_at : (front : List ℕ → Front) (settings : LinkSettings) (addresses : List ℕ) (p : Primary) (e : Exchanges)
+pub links_at : (front : List ℕ → Front) (settings : LinkSettings) (addresses : List ℕ) (p : Primary)
+    (e : Exchanges)
     (o : Option Outstanding) →
-    p.outstanding ≡ o → TellsBy front settings addresses p e → AreLinks front settings addresses p.stations (past o e)
+    p.outstanding ≡ o → TellsBy front settings addresses p e
+    → AreLinks front settings addresses p.stations (past o e)
 links_at front settings addresses p e o is t =
     links_said front settings addresses p e o is (says front settings addresses p e t)

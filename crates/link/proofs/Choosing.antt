@@ -1,10 +1,14 @@
 -- How the stations are looked at.
-use Rattle.std.proofs.Common.{◌≡◌, ℕ, suc, ◌-◌, ◌<◌, Bool, false, List, length, Option, option_map, sym, ap, ◌∙◌, arith, ◌+◌}
-use Rattle.link.specs.Turns.{StationState, Starting, station_at, Wanted, wanted, Wish, wished, place_after, chosen_or, first_after}
+use Rattle.std.proofs.Common.{◌≡◌, ℕ, suc, ◌-◌, ◌<◌, Bool, false, List, length, Option, option_map}
+use Rattle.std.proofs.Common.{sym, ap, ◌∙◌, arith, ◌+◌}
+use Rattle.link.specs.Turns.{StationState, Starting, station_at, Wanted, wanted, Wish, wished}
+use Rattle.link.specs.Turns.{place_after, chosen_or, first_after}
 
 -- one more station is looked at
-pub look_one : (burst : ℕ) (may_poll : Bool) (stations : List StationState) (many place next : ℕ) (w : Option Wanted) →
-    next ≡ place_after (length stations) place → w ≡ wanted burst may_poll false (station_at stations next) Starting →
+pub look_one : (burst : ℕ) (may_poll : Bool) (stations : List StationState) (many place next : ℕ)
+    (w : Option Wanted) →
+    next ≡ place_after (length stations) place
+    → w ≡ wanted burst may_poll false (station_at stations next) Starting →
     chosen_or w next (first_after burst may_poll stations many next)
     ≡ first_after burst may_poll stations (suc many) place
 look_one burst may_poll stations many place next w e is =
@@ -13,7 +17,8 @@ look_one burst may_poll stations many place next w e is =
     (first_after burst may_poll stations many n)) e
 
 -- a turn of the loop that looks at the stations, by what it found
-pub looked : (burst : ℕ) (may_poll : Bool) (stations : List StationState) (seen place next turn : ℕ) (s : StationState)
+pub looked : (burst : ℕ) (may_poll : Bool) (stations : List StationState) (seen place next turn : ℕ)
+    (s : StationState)
     (w found : Option Wanted) →
     seen < length stations →
     next ≡ place_after (length stations) place → s ≡ station_at stations next
@@ -31,7 +36,8 @@ looked burst may_poll stations seen place next turn s w found more at is wants s
     ∙ ap (λ (m : ℕ). first_after burst may_poll stations m place) count ∙ rest
 
 -- the same by a wish
-pub looked_wish : (burst : ℕ) (may_poll : Bool) (stations : List StationState) (seen place next turn : ℕ)
+pub looked_wish : (burst : ℕ) (may_poll : Bool) (stations : List StationState)
+    (seen place next turn : ℕ)
     (s : StationState) (w found : Option Wish) →
     seen < length stations →
     next ≡ place_after (length stations) place → s ≡ station_at stations next
@@ -42,7 +48,9 @@ pub looked_wish : (burst : ℕ) (may_poll : Bool) (stations : List StationState)
     (first_after burst may_poll stations (length stations - (seen + 1)) next)
     ≡ first_after burst may_poll stations (length stations) turn
 looked_wish burst may_poll stations seen place next turn s w found more at is wants same rest =
-    ap (λ (t : StationState). chosen_or (option_map (wished t) found) next (first_after burst may_poll stations
+    ap (λ (t : StationState). chosen_or (option_map (wished t) found) next
+    (first_after burst may_poll stations
     (length stations - (seen + 1)) next)) (sym is)
-    ∙ looked burst may_poll stations seen place next turn s (option_map (wished s) w) (option_map (wished s) found)
+    ∙ looked burst may_poll stations seen place next turn s (option_map (wished s) w)
+    (option_map (wished s) found)
     more at is wants (ap (λ (v : Option Wish). option_map (wished s) v) same) rest

@@ -5,7 +5,9 @@ use Rattle.std.proofs.lemmas.Bool.{eq-eqb, ne_eqb}
 use Rattle.link.specs.declared.control.PrimaryFunction.TheVariants as primary
 use Rattle.link.specs.declared.control.SecondaryFunction.TheVariants as secondary
 use Rattle.link.specs.declared.control.Control.TheVariants as control
-use Rattle.link.specs.Control.{PrimaryFunction, SecondaryFunction, Control, primary_code, secondary_code, HasFields, weight, primary_octet, secondary_octet, octet_of}
+use Rattle.link.specs.Control.{PrimaryFunction, SecondaryFunction, Control, primary_code}
+use Rattle.link.specs.Control.{secondary_code, HasFields, weight, primary_octet, secondary_octet}
+use Rattle.link.specs.Control.{octet_of}
 
 primary_small : (f : PrimaryFunction) → primary_code f < 16
 primary_small primary.ResetLink = omega arith
@@ -55,8 +57,10 @@ small : (b : Bool) → weight 1 b < 2
 small true = omega arith
 small false = omega arith
 
-primary_fields : (r fcb fcv : Bool) (code : ℕ) → code < 16 → (n : ℕ) → n ≡ primary_octet fcb fcv code + weight 128 r →
-    ((n / 128 % 2 == 1) ≡ r) × ((n / 64 % 2 == 1) ≡ true) × ((n / 32 % 2 == 1) ≡ fcb) × ((n / 16 % 2 == 1) ≡ fcv)
+primary_fields : (r fcb fcv : Bool) (code : ℕ) → code < 16 → (n : ℕ)
+    → n ≡ primary_octet fcb fcv code + weight 128 r →
+    ((n / 128 % 2 == 1) ≡ r) × ((n / 64 % 2 == 1) ≡ true) × ((n / 32 % 2 == 1) ≡ fcb)
+    × ((n / 16 % 2 == 1) ≡ fcv)
     × (n % 16 ≡ code)
 primary_fields r fcb fcv code lt n e =
     let is : n ≡ 64 + 32 * weight 1 fcb + 16 * weight 1 fcv + code + 128 * weight 1 r =
@@ -70,7 +74,8 @@ primary_fields r fcb fcv code lt n e =
 
 secondary_fields : (r acd dfc : Bool) (code : ℕ) → code < 16 → (n : ℕ)
     → n ≡ secondary_octet acd dfc code + weight 128 r →
-    ((n / 128 % 2 == 1) ≡ r) × ((n / 64 % 2 == 1) ≡ false) × ((n / 32 % 2 == 1) ≡ acd) × ((n / 16 % 2 == 1) ≡ dfc)
+    ((n / 128 % 2 == 1) ≡ r) × ((n / 64 % 2 == 1) ≡ false) × ((n / 32 % 2 == 1) ≡ acd)
+    × ((n / 16 % 2 == 1) ≡ dfc)
     × (n % 16 ≡ code)
 secondary_fields r acd dfc code lt n e =
     let is : n ≡ 32 * weight 1 acd + 16 * weight 1 dfc + code + 128 * weight 1 r =
@@ -83,5 +88,7 @@ secondary_fields r acd dfc code lt n e =
     )
 
 pub has_fields : (v : Control) → HasFields v (octet_of v)
-has_fields (control.Primary r fcb fcv f) = primary_fields r fcb fcv (primary_code f) (primary_small f) _ refl
-has_fields (control.Secondary r acd dfc f) = secondary_fields r acd dfc (secondary_code f) (secondary_small f) _ refl
+has_fields (control.Primary r fcb fcv f) =
+    primary_fields r fcb fcv (primary_code f) (primary_small f) _ refl
+has_fields (control.Secondary r acd dfc f) =
+    secondary_fields r acd dfc (secondary_code f) (secondary_small f) _ refl

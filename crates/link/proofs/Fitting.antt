@@ -1,15 +1,20 @@
 -- What is held fits the line, and stays so.
 use Rattle.std.specs.Prelude.{slice_index_or}
-use Rattle.std.proofs.Common.{◌≡◌, ℕ, suc, ◌<◌, ◌⊎◌, nat_lt, Bool, true, false, List, [], ◌∷◌, All, map, length, slice_set, Option, Some, refl, sym, ap, subst, inl, inr, if◌then◌else◌}
+use Rattle.std.proofs.Common.{◌≡◌, ℕ, suc, ◌<◌, ◌⊎◌, nat_lt, Bool, true, false, List, [], ◌∷◌, All}
+use Rattle.std.proofs.Common.{map, length, slice_set, Option, Some, refl, sym, ap, subst, inl, inr}
+use Rattle.std.proofs.Common.{if◌then◌else◌}
 use Rattle.std.proofs.lemmas.List.{get_or-set_same, get_or-set_other, length-set}
 use Rattle.std.proofs.lemmas.List.Elements.{All-head, All-tail, All-cons, All-nil}
 use Rattle.std.proofs.lemmas.Bool.{cases_eq}
 use Rattle.ft12.specs.declared.frame.LinkSize.{LinkSize}
-use Rattle.link.specs.Answers.{Frame, Class1, Class2, Command, Asked, Status, Reset, Counted, Answer, Ready, Confirmed, Busy, Report, NoData, Unable}
-use Rattle.link.specs.Procedure.{LinkSettings, Link, Down, Held, missed_so_far, after_answer, after_silence}
+use Rattle.link.specs.Answers.{Frame, Class1, Class2, Command, Asked, Status, Reset, Counted}
+use Rattle.link.specs.Answers.{Answer, Ready, Confirmed, Busy, Report, NoData, Unable}
+use Rattle.link.specs.Procedure.{LinkSettings, Link, Down, Held, missed_so_far, after_answer}
+use Rattle.link.specs.Procedure.{after_silence}
 use Rattle.link.specs.Requests.{IsUserData, FitsAddress, FitsAsked}
 use Rattle.link.specs.Turns.{StationState, station_at}
-use Rattle.link.specs.Primary.{station_down, station_asked, station_answered, station_unanswered, offer_left, without_offer, with_offer}
+use Rattle.link.specs.Primary.{station_down, station_asked, station_answered, station_unanswered}
+use Rattle.link.specs.Primary.{offer_left, without_offer, with_offer}
 use Rattle.link.specs.Holding.{FitsLink, FitsOffer, FitsStation}
 
 abbrev pub FitStations : LinkSize → List StationState → Type 0
@@ -20,7 +25,8 @@ pub station_fits : (size : LinkSize) (stations : List StationState) (i : ℕ) �
 station_fits size stations i within fits = fits i _ within
 
 -- one station is another
-pub set_fits : (size : LinkSize) (stations : List StationState) (k : ℕ) (s : StationState) → k < length stations
+pub set_fits : (size : LinkSize) (stations : List StationState) (k : ℕ) (s : StationState)
+    → k < length stations
     → FitStations size stations → FitsStation size s →
     FitStations size (slice_set stations k s)
 set_fits size stations k s within fits fits_s i d more = go (cases_eq i k)
@@ -28,9 +34,11 @@ set_fits size stations k s within fits fits_s i d more = go (cases_eq i k)
     go : (i ≡ k) ⊎ (i ≡ k → ⊥) → FitsStation size (slice_index_or (slice_set stations k s) i d)
     go (inl here) =
         subst (λ (j : ℕ). FitsStation size (slice_index_or (slice_set stations k s) j d)) (sym here)
-        (subst (λ (t : StationState). FitsStation size t) (sym (get_or-set_same stations k s d within)) fits_s)
+        (subst (λ (t : StationState). FitsStation size t)
+        (sym (get_or-set_same stations k s d within)) fits_s)
     go (inr other) =
-        subst (λ (t : StationState). FitsStation size t) (sym (get_or-set_other stations k i s d other))
+        subst (λ (t : StationState). FitsStation size t)
+        (sym (get_or-set_other stations k i s d other))
         (fits i d (subst (λ (n : ℕ). i < n) (length-set stations k s) more))
 
 -- all are down
@@ -52,7 +60,8 @@ withdrawn_fits size (s ∷ ss) fits =
     (record { address = first.address; link = first.link; offered = tt })
     (withdrawn_fits size ss (All-tail (FitsStation size) s ss fits))
 
-offer_left_fits : (size : LinkSize) (request : Asked) (offered : Option (List ℕ)) → FitsOffer size offered
+offer_left_fits : (size : LinkSize) (request : Asked) (offered : Option (List ℕ))
+    → FitsOffer size offered
     → FitsOffer size (offer_left request offered)
 offer_left_fits size Status offered fits = fits
 offer_left_fits size Reset offered fits = fits
@@ -69,11 +78,18 @@ asked_fits size s request fits = record {
       offer_left_fits size request s.offered fits.offered;
 }
 
-pub offered_fits : (size : LinkSize) (s : StationState) (asdu : List ℕ) → FitsStation size s → IsUserData size asdu
+pub offered_fits : (size : LinkSize) (s : StationState) (asdu : List ℕ) → FitsStation size s
+    → IsUserData size asdu
     → FitsStation size (with_offer s (Some asdu))
-offered_fits size s asdu fits carried = record { address = fits.address; link = fits.link; offered = carried }
+offered_fits size s asdu fits carried = record {
+  address = fits.address;
+  link = fits.link;
+  offered =
+      carried;
+}
 
-answer_fits : (size : LinkSize) (request : Asked) (answer : Answer) (link : Link) → FitsLink size link
+answer_fits : (size : LinkSize) (request : Asked) (answer : Answer) (link : Link)
+    → FitsLink size link
     → FitsLink size (after_answer request answer link)
 answer_fits size Status Ready link fits = tt
 answer_fits size Status Confirmed link fits = fits
@@ -94,13 +110,19 @@ answer_fits size (Counted fcb service) (Report asdu) link fits = tt
 answer_fits size (Counted fcb service) NoData link fits = tt
 answer_fits size (Counted fcb service) Unable link fits = tt
 
-pub answered_fits : (size : LinkSize) (s : StationState) (request : Asked) (frame : Frame) (answer : Answer)
+pub answered_fits : (size : LinkSize) (s : StationState) (request : Asked) (frame : Frame)
+    (answer : Answer)
     → FitsStation size s →
     FitsStation size (station_answered s request frame answer)
 answered_fits size s request frame answer fits =
-    record { address = fits.address; link = answer_fits size request answer s.link fits.link; offered = fits.offered }
+    record {
+      address = fits.address;
+      link = answer_fits size request answer s.link fits.link;
+      offered = fits.offered;
+    }
 
-silence_fits : (settings : LinkSettings) (size : LinkSize) (request : Asked) (link : Link) → FitsAsked size request
+silence_fits : (settings : LinkSettings) (size : LinkSize) (request : Asked) (link : Link)
+    → FitsAsked size request
     → FitsLink size (after_silence settings request true link)
 silence_fits settings size Status link fits = tt
 silence_fits settings size Reset link fits = tt
@@ -108,17 +130,23 @@ silence_fits settings size (Counted fcb service) link fits =
     go (nat_lt settings.retries (suc (missed_so_far link))) settings.hold
   where
     go : (b hold : Bool)
-        → FitsLink size (if b then (if hold then Held fcb service (suc settings.retries) else Down) else Held fcb
+        → FitsLink size (if b then (if hold then Held fcb service (suc settings.retries) else Down)
+        else Held fcb
         service (suc (missed_so_far link)))
     go true true = fits
     go true false = tt
     go false hold = fits
 
-pub unanswered_fits : (settings : LinkSettings) (size : LinkSize) (s : StationState) (request : Asked)
+pub unanswered_fits : (settings : LinkSettings) (size : LinkSize) (s : StationState)
+    (request : Asked)
     → FitsAsked size request → FitsStation size s →
     FitsStation size (station_unanswered settings s request)
 unanswered_fits settings size s request asked fits =
-    record { address = fits.address; link = silence_fits settings size request s.link asked; offered = fits.offered }
+    record {
+      address = fits.address;
+      link = silence_fits settings size request s.link asked;
+      offered = fits.offered;
+    }
 
 pub length-down : (addresses : List ℕ) → length (map station_down addresses) ≡ length addresses
 length-down [] = refl

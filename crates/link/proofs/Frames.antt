@@ -1,5 +1,6 @@
 -- What fits a frame, and what is no frame.
-use Rattle.std.proofs.Common.{◌≡◌, ℕ, ◌+◌, ◌<◌, ◌^◌, List, length, All, None, refl, sym, subst, arith, inr}
+use Rattle.std.proofs.Common.{◌≡◌, ℕ, ◌+◌, ◌<◌, ◌^◌, List, length, All, None, refl, sym, subst}
+use Rattle.std.proofs.Common.{arith, inr}
 use Rattle.std.proofs.lemmas.List.{take_all}
 use Rattle.ft12.specs.declared.frame.LinkSize.{LinkSize}
 use Rattle.ft12.specs.declared.frame.LinkSize.TheVariants.{One, Two}
@@ -16,25 +17,37 @@ length-user : (size : LinkSize) (c a : ℕ) (body : List ℕ)
 length-user One c a body = omega arith
 length-user Two c a body = omega arith
 
-pub data_fits : (size : LinkSize) (c a : ℕ) (body : List ℕ) → c < 256 → a < 256 ^ address_len size → All IsOctet body
+pub data_fits : (size : LinkSize) (c a : ℕ) (body : List ℕ) → c < 256 → a < 256 ^ address_len size
+    → All IsOctet body
     → FitsFrame size body →
     Fits size (data_frame c a body)
-data_fits size c a body control address octets short =
-    (record { control = control; address = address }, octets, omega (arith, length-user size c a body, short))
+data_fits size c a body control address octets short = (
+  record { control = control; address = address },
+  octets,
+  omega
+      (arith, length-user size c a body, short),
+)
 
 -- the front tells each whole frame
 pub told_whole : (size : LinkSize) (octets : List ℕ) (result : Front)
     → ((other : Front) → IsFront size octets other → other ≡ result) →
     (frame : Frame) → IsLineFrame size frame octets → Whole frame (length octets) ≡ result
-told_whole size octets result only frame line = only (Whole frame (length octets))
-    (subst (IsLineFrame size frame) (sym (take_all (length octets) octets (omega arith))) line, omega arith)
+told_whole size octets result only frame line = only (Whole frame (length octets)) (
+  subst (IsLineFrame size frame) (sym (take_all (length octets) octets (omega arith))) line,
+  omega arith,
+)
 
 pub not_heard : (s : Secondary) (octets : List ℕ) (result : Front)
     → ((other : Front) → IsFront s.size octets other → other ≡ result) →
     ((frame : Frame) → Whole frame (length octets) ≡ result → ⊥) → HearsOctets s octets None s
 not_heard s octets result only no_whole =
-    inr ((λ frame line. no_whole frame (told_whole s.size octets result only frame line)), refl, refl)
+    inr (
+      (λ frame line. no_whole frame (told_whole s.size octets result only frame line)),
+      refl,
+      refl,
+    )
 
 pub whole_all : (size : LinkSize) (octets : List ℕ) (frame : Frame) (n : ℕ) → n ≡ length octets
     → IsFront size octets (Whole frame n) → IsLineFrame size frame octets
-whole_all size octets frame n e front = subst (IsLineFrame size frame) (take_all n octets (omega arith)) front.0
+whole_all size octets frame n e front =
+    subst (IsLineFrame size frame) (take_all n octets (omega arith)) front.0

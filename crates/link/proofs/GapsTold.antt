@@ -1,16 +1,22 @@
 -- The gaps of a line's exchanges, call by call.
 use Rattle.std.specs.Prelude.{◌==◌}
-use Rattle.std.proofs.Common.{◌≡◌, ℕ, slice_index, Bool, true, false, List, [], ◌∷◌, ◌++◌, Option, Some, None, option_and_then, refl, sym, ap, subst, ◌∙◌, inl, inr, append_assoc, if◌then◌else◌}
+use Rattle.std.proofs.Common.{◌≡◌, ℕ, slice_index, Bool, true, false, List, [], ◌∷◌, ◌++◌, Option}
+use Rattle.std.proofs.Common.{Some, None, option_and_then, refl, sym, ap, subst, ◌∙◌, inl, inr}
+use Rattle.std.proofs.Common.{append_assoc, if◌then◌else◌}
 use Rattle.std.proofs.lemmas.Bool.{eqb-true, eqb-false}
 use Rattle.ft12.specs.declared.frame.Front.{Front}
 use Rattle.ft12.specs.declared.frame.Front.TheVariants.{Whole, More, Never}
-use Rattle.link.specs.Answers.{Asked, Status, Reset, Counted, Answer, Ready, Confirmed, Busy, Report, NoData, Unable, answer_of}
+use Rattle.link.specs.Answers.{Asked, Status, Reset, Counted, Answer, Ready, Confirmed, Busy}
+use Rattle.link.specs.Answers.{Report, NoData, Unable, answer_of}
 use Rattle.link.specs.Delivery.{is_reset}
-use Rattle.link.specs.Exchanges.{Exchange, OpenExchange, Exchanges, Sending, answer_to, as_list, whole_of, view, views, with_station, heard_octets, heard_current, timed_current, begun_by}
+use Rattle.link.specs.Exchanges.{Exchange, OpenExchange, Exchanges, Sending, answer_to, as_list}
+use Rattle.link.specs.Exchanges.{whole_of, view, views, with_station, heard_octets, heard_current}
+use Rattle.link.specs.Exchanges.{timed_current, begun_by}
 use Rattle.link.specs.Gaps.{gap_in, as_numbers, gap_by, gaps_from, gaps_in, gaps_at}
 use Rattle.link.specs.Procedure.{LinkSettings}
 use Rattle.link.specs.Turns.{SessionState}
-use Rattle.link.specs.Primary.{Outstanding, Primary, outcome_of, outcome_at, outcome_after, outcome_from, received_outcome, gap_of, turn_gap, started, with_gap}
+use Rattle.link.specs.Primary.{Outstanding, Primary, outcome_of, outcome_at, outcome_after}
+use Rattle.link.specs.Primary.{outcome_from, received_outcome, gap_of, turn_gap, started, with_gap}
 use Rattle.link.specs.Telling.{IsHeard, IsOver, IsCurrent, TellsBy, gap_in_outcome}
 use Rattle.link.proofs.Links.{with_one}
 use Rattle.link.proofs.Telling.{said_now, grown, heard_open, heard_closed, unheard}
@@ -24,30 +30,37 @@ none (x ∷ xs) = ap (λ (ys : List ℕ). x ∷ ys) (none xs)
 
 from_push : (a : ℕ) (before xs : List Exchange) (x : Exchange)
     → gaps_from a before (xs ++ x ∷ []) ≡ gaps_from a before xs ++ gap_by a (before ++ xs) x
-from_push a before [] x = none (gap_by a before x) ∙ ap (λ (ys : List Exchange). gap_by a ys x) (sym (nil before))
+from_push a before [] x = none (gap_by a before x)
+    ∙ ap (λ (ys : List Exchange). gap_by a ys x) (sym (nil before))
 from_push a before (y ∷ ys) x =
     ap (λ (l : List ℕ). gap_by a before y ++ l) (from_push a (before ++ y ∷ []) ys x)
-    ∙ ap (λ (es : List Exchange). gap_by a before y ++ (gaps_from a (before ++ y ∷ []) ys ++ gap_by a es x))
+    ∙ ap (λ (es : List Exchange). gap_by a before y
+    ++ (gaps_from a (before ++ y ∷ []) ys ++ gap_by a es x))
     (append_assoc before (y ∷ []) ys)
-    ∙ sym (append_assoc (gap_by a before y) (gaps_from a (before ++ y ∷ []) ys) (gap_by a (before ++ y ∷ ys) x))
+    ∙ sym (append_assoc (gap_by a before y) (gaps_from a (before ++ y ∷ []) ys)
+    (gap_by a (before ++ y ∷ ys) x))
 
 -- the gaps of a station by these exchanges of its line
 abbrev pub gaps_of : (front : List ℕ → Front) → (a i : ℕ) → List OpenExchange → List ℕ
 gaps_of front a i xs = gaps_in a (with_station i (views front xs))
 
 -- the gap that the latest one ends
-abbrev pub ends : (front : List ℕ → Front) → (a i : ℕ) → List OpenExchange → (request : Asked) → Option Answer → List ℕ
+abbrev pub ends : (front : List ℕ → Front) → (a i : ℕ) → List OpenExchange → (request : Asked)
+    → Option Answer → List ℕ
 ends front a i ended request m = if is_reset request m then as_numbers
     (gap_in a (with_station i (views front ended))) else []
 
 one_gap : (front : List ℕ → Front) (a i : ℕ) (ended : List OpenExchange) (x : OpenExchange) →
     gaps_of front a i (ended ++ x ∷ [])
     ≡ gaps_of front a i ended
-    ++ (if x.station == i then ends front a i ended x.request (answer_to a (view front x).exchange) else [])
-one_gap front a i ended x = ap (λ (es : List Exchange). gaps_in a es) (with_one front ended x i) ∙ go (x.station == i)
+    ++ (if x.station == i then ends front a i ended x.request (answer_to a (view front x).exchange)
+    else [])
+one_gap front a i ended x = ap (λ (es : List Exchange). gaps_in a es) (with_one front ended x i)
+    ∙ go (x.station == i)
   where
     go : (b : Bool) →
-        gaps_in a (with_station i (views front ended) ++ (if b then (view front x).exchange ∷ [] else []))
+        gaps_in a (with_station i (views front ended) ++ (if b then (view front x).exchange ∷ []
+        else []))
         ≡ gaps_of front a i ended
         ++ (if b then ends front a i ended x.request (answer_to a (view front x).exchange) else [])
     go true = from_push a [] (with_station i (views front ended)) (view front x).exchange
@@ -61,12 +74,15 @@ none_reset Reset = refl
 none_reset (Counted fcb service) = refl
 
 -- an exchange that isn't answered
-quiet_gaps : (front : List ℕ → Front) (addresses : List ℕ) (ended : List OpenExchange) (x : OpenExchange) →
+quiet_gaps : (front : List ℕ → Front) (addresses : List ℕ) (ended : List OpenExchange)
+    (x : OpenExchange) →
     answer_to (slice_index addresses x.station) (view front x).exchange ≡ None → (i : ℕ) →
-    gaps_of front (slice_index addresses i) i (ended ++ x ∷ []) ≡ gaps_of front (slice_index addresses i) i ended
+    gaps_of front (slice_index addresses i) i (ended ++ x ∷ [])
+    ≡ gaps_of front (slice_index addresses i) i ended
 quiet_gaps front addresses ended x unanswered i =
     one_gap front (slice_index addresses i) i ended x
-    ∙ ap (λ (l : List ℕ). gaps_of front (slice_index addresses i) i ended ++ l) (go (x.station == i) refl)
+    ∙ ap (λ (l : List ℕ). gaps_of front (slice_index addresses i) i ended ++ l)
+    (go (x.station == i) refl)
     ∙ none (gaps_of front (slice_index addresses i) i ended)
   where
     a : ℕ
@@ -80,11 +96,13 @@ quiet_gaps front addresses ended x unanswered i =
         ap (λ (m : Option Answer). ends front a i ended x.request m)
         (subst (λ (j : ℕ). answer_to (slice_index addresses j) (view front x).exchange ≡ None)
         (eqb-true x.station i e) unanswered)
-        ∙ ap (λ (b : Bool). if b then as_numbers (gap_in a (with_station i (views front ended))) else [])
+        ∙ ap (λ (b : Bool). if b then as_numbers (gap_in a (with_station i (views front ended)))
+        else [])
         (none_reset x.request)
 
 -- an exchange that is answered alike
-alike_gaps : (front : List ℕ → Front) (addresses : List ℕ) (ended : List OpenExchange) (x y : OpenExchange)
+alike_gaps : (front : List ℕ → Front) (addresses : List ℕ) (ended : List OpenExchange)
+    (x y : OpenExchange)
     → y.station ≡ x.station →
     y.request ≡ x.request →
     answer_to (slice_index addresses x.station) (view front y).exchange
@@ -96,7 +114,8 @@ alike_gaps front addresses ended x y station request says i =
     ∙ ap (λ (j : ℕ). gaps_of front (slice_index addresses i) i ended
     ++ (if j == i then ends front (slice_index addresses i) i ended y.request
     (answer_to (slice_index addresses i) (view front y).exchange) else [])) station
-    ∙ ap (λ (l : List ℕ). gaps_of front (slice_index addresses i) i ended ++ l) (go (x.station == i) refl)
+    ∙ ap (λ (l : List ℕ). gaps_of front (slice_index addresses i) i ended ++ l)
+    (go (x.station == i) refl)
     ∙ sym (one_gap front (slice_index addresses i) i ended x)
   where
     go : (b : Bool) → (x.station == i) ≡ b →
@@ -131,25 +150,30 @@ same_answer front a i ended x y station request octets =
     (option_and_then (answer_of a x.request) (whole_of (front o))) else [])) octets
     ∙ sym (one_gap front a i ended x)
 
-pub due_gaps : (front : List ℕ → Front) (addresses : List ℕ) (answer_ms at : ℕ) (e : Exchanges) (i : ℕ) →
-    gaps_at front addresses i (record { ended = e.ended; current = timed_current answer_ms at e.current })
+pub due_gaps : (front : List ℕ → Front) (addresses : List ℕ) (answer_ms at : ℕ) (e : Exchanges)
+    (i : ℕ) →
+    gaps_at front addresses i
+    (record { ended = e.ended; current = timed_current answer_ms at e.current })
     ≡ gaps_at front addresses i e
 due_gaps front addresses answer_ms at e i = go e.current
   where
     go : (c : Option OpenExchange) →
-        gaps_of front (slice_index addresses i) i (e.ended ++ as_list (timed_current answer_ms at c))
+        gaps_of front (slice_index addresses i) i
+        (e.ended ++ as_list (timed_current answer_ms at c))
         ≡ gaps_of front (slice_index addresses i) i (e.ended ++ as_list c)
     go None = refl
     go (Some x) = same_answer front (slice_index addresses i) i e.ended x _ refl refl refl
 
-pub next_gaps : (front : List ℕ → Front) (addresses : List ℕ) (now : ℕ) (s : Option Sending) (e : Exchanges) (i : ℕ)
+pub next_gaps : (front : List ℕ → Front) (addresses : List ℕ) (now : ℕ) (s : Option Sending)
+    (e : Exchanges) (i : ℕ)
     → front [] ≡ More →
     gaps_at front addresses i (begun_by now s e) ≡ gaps_at front addresses i e
 next_gaps front addresses now None e i nothing = refl
 next_gaps front addresses now (Some s) e i nothing =
     quiet_gaps front addresses (e.ended ++ as_list e.current)
     (record { station = s.station; request = s.request; since = now; octets = []; closed = false })
-    (ap (λ (f : Front). option_and_then (answer_of (slice_index addresses s.station) s.request) (whole_of f)) nothing) i
+    (ap (λ (f : Front). option_and_then (answer_of (slice_index addresses s.station) s.request)
+    (whole_of f)) nothing) i
 
 -- ---- `octets`
 
@@ -189,25 +213,31 @@ told_gap station i gap (Counted fcb service) (Some NoData) = nothing (station ==
 told_gap station i gap (Counted fcb service) (Some Unable) = nothing (station == i)
 
 -- While a reset is outstanding the session is the one before it.
-reset_gap : (front : List ℕ → Front) (a : ℕ) (ended : List OpenExchange) (x : OpenExchange) (m : Option Answer) →
+reset_gap : (front : List ℕ → Front) (a : ℕ) (ended : List OpenExchange) (x : OpenExchange)
+    (m : Option Answer) →
     answer_to a (view front x).exchange ≡ None →
-    (if is_reset x.request m then as_numbers (gap_in a (with_station x.station (views front (ended ++ x ∷ [])))) else
+    (if is_reset x.request m
+    then as_numbers (gap_in a (with_station x.station (views front (ended ++ x ∷ [])))) else
     [])
     ≡ ends front a x.station ended x.request m
 reset_gap front a ended x m unanswered = go x.request refl m
   where
-    by_none : session_of front a x.station (ended ++ x ∷ []) ≡ step x.request None (session_of front a x.station ended)
+    by_none : session_of front a x.station (ended ++ x ∷ [])
+        ≡ step x.request None (session_of front a x.station ended)
     by_none = one_session front a ended x x.station ∙ here (x.station == x.station) refl
       where
         here : (b : Bool) → (x.station == x.station) ≡ b →
             (if b then step x.request (answer_to a (view front x).exchange)
             (session_of front a x.station ended) else session_of front a x.station ended)
             ≡ step x.request None (session_of front a x.station ended)
-        here true e = ap (λ (m : Option Answer). step x.request m (session_of front a x.station ended)) unanswered
+        here true e =
+            ap (λ (m : Option Answer). step x.request m (session_of front a x.station ended))
+            unanswered
         here false e = absurd (eqb-false x.station x.station e refl)
 
     go : (r : Asked) → x.request ≡ r → (m : Option Answer) →
-        (if is_reset r m then as_numbers (gap_in a (with_station x.station (views front (ended ++ x ∷ [])))) else [])
+        (if is_reset r m
+        then as_numbers (gap_in a (with_station x.station (views front (ended ++ x ∷ [])))) else [])
         ≡ ends front a x.station ended r m
     go Status e m = refl
     go (Counted fcb service) e m = refl
@@ -215,7 +245,8 @@ reset_gap front a ended x m unanswered = go x.request refl m
         ap (λ (s : SessionState). if is_reset Reset m then as_numbers (gap_of s) else [])
         (by_none ∙ ap (λ (r : Asked). step r None (session_of front a x.station ended)) e)
 
-pub hear_gaps : (front : List ℕ → Front) (settings : LinkSettings) (addresses : List ℕ) (p : Primary)
+pub hear_gaps : (front : List ℕ → Front) (settings : LinkSettings) (addresses : List ℕ)
+    (p : Primary)
     (ended : List OpenExchange) (cur : Option OpenExchange) (octets : List ℕ) (i : ℕ) →
     TellsBy front settings addresses p (record { ended = ended; current = cur }) →
     gaps_of front (slice_index addresses i) i (ended ++ as_list (heard_current octets cur))
@@ -240,14 +271,16 @@ hear_gaps front settings addresses p ended cur octets i t = go p.outstanding cur
         by_closed : (b : Bool) → x.closed ≡ b → IsOver front (slice_index addresses x.station) x →
             gaps_of front (slice_index addresses i) i (ended ++ heard_octets octets x ∷ [])
             ≡ gaps_of front (slice_index addresses i) i (ended ++ x ∷ [])
-        by_closed true e so = ap (λ (z : OpenExchange). gaps_of front (slice_index addresses i) i (ended ++ z ∷ []))
+        by_closed true e so =
+            ap (λ (z : OpenExchange). gaps_of front (slice_index addresses i) i (ended ++ z ∷ []))
             (heard_closed octets x e)
         by_closed false e (inl closed) = cc
         by_closed false e (inr said) =
             ap (λ (z : OpenExchange). gaps_of front (slice_index addresses i) i (ended ++ z ∷ []))
             (heard_open octets x e)
             ∙ alike_gaps front addresses ended x (grown x octets) refl refl
-            (said.1 octets ∙ sym (said_now front (slice_index addresses x.station) x (Some said.0) said.1)) i
+            (said.1 octets
+            ∙ sym (said_now front (slice_index addresses x.station) x (Some said.0) said.1)) i
     go (Some q) (Some x) t w =
         ap (λ (z : OpenExchange). gaps_of front (slice_index addresses i) i (ended ++ z ∷ []))
         (heard_open octets x w.waits)
@@ -268,25 +301,33 @@ hear_gaps front settings addresses p ended cur octets i t = go p.outstanding cur
             (whole_of (front (x.octets ++ octets)))
 
         -- by the station whose turn it is
-        at_turn : (f : Front) → option_and_then (answer_of (slice_index addresses p.turn) x.request) (whole_of f)
+        at_turn : (f : Front) → option_and_then (answer_of (slice_index addresses p.turn) x.request)
+            (whole_of f)
             ≡ option_and_then (answer_of (slice_index addresses x.station) x.request) (whole_of f)
-        at_turn f = ap (λ (j : ℕ). option_and_then (answer_of (slice_index addresses j) x.request) (whole_of f))
+        at_turn f =
+            ap (λ (j : ℕ). option_and_then (answer_of (slice_index addresses j) x.request)
+            (whole_of f))
             (sym w.station)
 
         gap : turn_gap p ≡ gap_in (slice_index addresses x.station)
             (with_station x.station (views front (ended ++ x ∷ [])))
         gap =
             ap gap_of (sym (t.sessions p.turn))
-            ∙ ap (λ (j : ℕ). gap_in (slice_index addresses j) (with_station j (views front (ended ++ x ∷ []))))
+            ∙ ap (λ (j : ℕ). gap_in (slice_index addresses j)
+            (with_station j (views front (ended ++ x ∷ []))))
             (sym w.station)
 
-        tells : (m : Option Answer) → gap_in_outcome i (with_gap (turn_gap p) (outcome_of p.turn x.request m))
-            ≡ (if x.station == i then ends front (slice_index addresses x.station) x.station ended x.request m else [])
+        tells : (m : Option Answer)
+            → gap_in_outcome i (with_gap (turn_gap p) (outcome_of p.turn x.request m))
+            ≡ (if x.station == i then ends front (slice_index addresses x.station) x.station ended
+            x.request m else [])
         tells m =
             told_gap p.turn i (turn_gap p) x.request m
-            ∙ ap (λ (j : ℕ). if j == i then (if is_reset x.request m then as_numbers (turn_gap p) else []) else [])
+            ∙ ap (λ (j : ℕ). if j == i then (if is_reset x.request m then as_numbers (turn_gap p)
+            else []) else [])
             (sym w.station)
-            ∙ ap (λ (g : Option ℕ). if x.station == i then (if is_reset x.request m then as_numbers g else []) else [])
+            ∙ ap (λ (g : Option ℕ). if x.station == i
+            then (if is_reset x.request m then as_numbers g else []) else [])
             gap
             ∙ ap (λ (l : List ℕ). if x.station == i then l else [])
             (reset_gap front (slice_index addresses x.station) ended x m unanswered)
@@ -294,7 +335,8 @@ hear_gaps front settings addresses p ended cur octets i t = go p.outstanding cur
         by_front : (f : Front) →
             gap_in_outcome i (outcome_at p q (whole_of f))
             ≡ gap_in_outcome i (with_gap (turn_gap p)
-            (outcome_of p.turn x.request (option_and_then (answer_of (slice_index addresses p.turn) x.request)
+            (outcome_of p.turn x.request
+            (option_and_then (answer_of (slice_index addresses p.turn) x.request)
             (whole_of f))))
         by_front More = refl
         by_front (Never place why) = refl
@@ -302,11 +344,13 @@ hear_gaps front settings addresses p ended cur octets i t = go p.outstanding cur
             ap (λ (b : ℕ). gap_in_outcome i (with_gap (turn_gap p)
             (outcome_of p.turn q.request (answer_of b q.request frame)))) (t.address p.turn)
             ∙ ap (λ (r : Asked). gap_in_outcome i (with_gap (turn_gap p)
-            (outcome_of p.turn r (answer_of (slice_index addresses p.turn) r frame)))) (sym w.request)
+            (outcome_of p.turn r (answer_of (slice_index addresses p.turn) r frame))))
+            (sym w.request)
 
         by_heard : (h : Option (List ℕ)) → IsHeard front (slice_index addresses p.turn) x h →
             gap_in_outcome i (outcome_after front p q h octets)
-            ≡ (if x.station == i then ends front (slice_index addresses x.station) x.station ended x.request says else
+            ≡ (if x.station == i then ends front (slice_index addresses x.station) x.station ended
+            x.request says else
             [])
         by_heard None said =
             tells None
@@ -314,18 +358,22 @@ hear_gaps front settings addresses p ended cur octets i t = go p.outstanding cur
             (slice_index addresses x.station) x.station ended x.request m else [])
             (sym (said octets) ∙ at_turn (front (x.octets ++ octets)))
         by_heard (Some before) so =
-            ap (λ (b : List ℕ). gap_in_outcome i (outcome_at p q (whole_of (front (b ++ octets))))) so.0
+            ap (λ (b : List ℕ). gap_in_outcome i (outcome_at p q (whole_of (front (b ++ octets)))))
+            so.0
             ∙ by_front (front (x.octets ++ octets))
-            ∙ ap (λ (m : Option Answer). gap_in_outcome i (with_gap (turn_gap p) (outcome_of p.turn x.request m)))
+            ∙ ap (λ (m : Option Answer). gap_in_outcome i
+            (with_gap (turn_gap p) (outcome_of p.turn x.request m)))
             (at_turn (front (x.octets ++ octets)))
             ∙ tells says
 
         here : (b : Bool) → (x.station == i) ≡ b →
-            (if b then ends front (slice_index addresses x.station) x.station ended x.request says else [])
+            (if b then ends front (slice_index addresses x.station) x.station ended x.request says
+            else [])
             ≡ (if b then ends front (slice_index addresses i) i ended x.request
             (answer_to (slice_index addresses i) (view front (grown x octets)).exchange) else [])
         here false e = refl
         here true e =
             ap (λ (j : ℕ). ends front (slice_index addresses j) j ended x.request
-            (option_and_then (answer_of (slice_index addresses j) x.request) (whole_of (front (x.octets ++ octets)))))
+            (option_and_then (answer_of (slice_index addresses j) x.request)
+            (whole_of (front (x.octets ++ octets)))))
             (eqb-true x.station i e)

@@ -1,6 +1,9 @@
 -- The link to a station is given up: the others stay as they were.
-use Rattle.std.proofs.Common.{◌≡◌, ◌≢◌, ◌<◌, ◌==◌, ◌&&◌, ◌||◌, ℕ, Bool, true, false, length, slice_set, Option, Some, None, refl, sym, ap, ◌∙◌, if◌then◌else◌, ◌+◌, List, [], ◌∷◌, ◌++◌, map, take, get_or}
-use Rattle.std.proofs.lemmas.List.{get_or-set_same, get_or-set_other, length-set, map-append, take_more}
+use Rattle.std.proofs.Common.{◌≡◌, ◌≢◌, ◌<◌, ◌==◌, ◌&&◌, ◌||◌, ℕ, Bool, true, false, length}
+use Rattle.std.proofs.Common.{slice_set, Option, Some, None, refl, sym, ap, ◌∙◌, if◌then◌else◌, ◌+◌}
+use Rattle.std.proofs.Common.{List, [], ◌∷◌, ◌++◌, map, take, get_or}
+use Rattle.std.proofs.lemmas.List.{get_or-set_same, get_or-set_other, length-set, map-append}
+use Rattle.std.proofs.lemmas.List.{take_more}
 use Rattle.std.proofs.lemmas.Bool.{eqb-true, eqb-false}
 use Rattle.link.specs.Procedure.{holds_command}
 use Rattle.link.specs.Turns.{StationState, station_at, no_station, Over}
@@ -13,7 +16,8 @@ pub itself : (p : Primary) (k : ℕ) → k < length p.stations
 itself p k within =
     get_or-set_same p.stations k (station_given_up (station_at p.stations k)) no_station within
 
-pub others : (p : Primary) (k j : ℕ) → j ≢ k → station_at (given_up k p).stations j ≡ station_at p.stations j
+pub others : (p : Primary) (k j : ℕ) → j ≢ k → station_at (given_up k p).stations j
+    ≡ station_at p.stations j
 others p k j other =
     get_or-set_other p.stations k j (station_given_up (station_at p.stations k)) no_station other
 
@@ -28,7 +32,8 @@ sends false o = refl
 
 pub done : (p : Primary) (k : ℕ) → k < length p.stations → awaits_command (given_up k p) k ≡ false
 done p k within =
-    ap (λ (s : StationState). holds_command s.link || ((p.turn == k) && is_sending_command (given_up k p).outstanding))
+    ap (λ (s : StationState). holds_command s.link
+    || ((p.turn == k) && is_sending_command (given_up k p).outstanding))
     (itself p k within)
     ∙ sends (p.turn == k) p.outstanding
 
@@ -37,16 +42,19 @@ awaits_by there turn o = there || (turn && is_sending_command o)
 
 pub awaited : (p : Primary) (k j : ℕ) → j ≢ k → awaits_command (given_up k p) j ≡ awaits_command p j
 awaited p k j other =
-    ap (λ (s : StationState). awaits_by (holds_command s.link) (p.turn == j) (given_up k p).outstanding)
+    ap (λ (s : StationState). awaits_by (holds_command s.link) (p.turn == j)
+    (given_up k p).outstanding)
     (others p k j other)
     ∙ go (p.turn == k) (p.turn == j) refl refl
   where
     go : (b d : Bool) → (p.turn == k) ≡ b → (p.turn == j) ≡ d
-        → awaits_by (holds_command (station_at p.stations j).link) d (if b then None else p.outstanding)
+        → awaits_by (holds_command (station_at p.stations j).link) d (if b then None
+        else p.outstanding)
         ≡ awaits_by (holds_command (station_at p.stations j).link) d p.outstanding
     go false d here there = refl
     go true false here there = refl
-    go true true here there = absurd (other (sym (eqb-true p.turn j there) ∙ eqb-true p.turn k here))
+    go true true here there =
+        absurd (other (sym (eqb-true p.turn j there) ∙ eqb-true p.turn k here))
 
 pub polls : (p : Primary) (k : ℕ) → is_polling (given_up k p) ≡ true → is_polling p ≡ true
 polls p k = go (p.turn == k) p.outstanding refl
@@ -62,12 +70,15 @@ polls p k = go (p.turn == k) p.outstanding refl
     go true o here polling = cc
     go false (Some o) here polling = polling
     go false None here polling =
-        sym (ap (λ (s : StationState). p.again && holds_poll s.link) (others p k p.turn (eqb-false p.turn k here)))
+        sym (ap (λ (s : StationState). p.again && holds_poll s.link)
+        (others p k p.turn (eqb-false p.turn k here)))
         ∙ polling
 
 -- one more of a list that is mapped
-pub one_more : {X Y : Type 0} (f : X → Y) (xs : List X) (i : ℕ) (d : X) (ys : List Y) (y : Y) → i < length xs
+pub one_more : {X Y : Type 0} (f : X → Y) (xs : List X) (i : ℕ) (d : X) (ys : List Y) (y : Y)
+    → i < length xs
     → ys ≡ map f (take i xs) → y ≡ f (get_or xs i d) → ys ++ y ∷ [] ≡ map f (take (i + 1) xs)
 one_more f xs i d ys y within before is =
     ap (λ zs. zs ++ y ∷ []) before ∙ ap (λ z. map f (take i xs) ++ z ∷ []) is
-    ∙ sym (map-append f (take i xs) (get_or xs i d ∷ [])) ∙ ap (map f) (sym (take_more xs i d within))
+    ∙ sym (map-append f (take i xs) (get_or xs i d ∷ []))
+    ∙ ap (map f) (sym (take_more xs i d within))

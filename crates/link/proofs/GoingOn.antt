@@ -1,17 +1,20 @@
 -- A station that goes on keeps its frame count bit, and its seat.
-use Rattle.std.proofs.Common.{◌≡◌, ◌<◌, ℕ, List, map, length, Bool, false, Option, Some, None, refl, sym, ap, subst, ◌∙◌}
+use Rattle.std.proofs.Common.{◌≡◌, ◌<◌, ℕ, List, map, length, Bool, false, Option, Some, None, refl}
+use Rattle.std.proofs.Common.{sym, ap, subst, ◌∙◌}
 use Rattle.std.specs.Prelude.{◌⊎◌, slice_get, option_map}
 use Rattle.std.proofs.Common.{inl, inr}
 use Rattle.std.proofs.lemmas.List.{get_or-set_same, get_or-set_other, length-set}
 use Rattle.std.proofs.lemmas.Option.{slice_get-map, get_or_from_slice_get}
 use Rattle.std.proofs.lemmas.Bool.{cases_eq}
 use Rattle.link.specs.Answers.{Asked, Status, Reset, Counted}
-use Rattle.link.specs.Procedure.{LinkSettings, Link, Down, Available, Next, Held, MaySend, after_silence}
+use Rattle.link.specs.Procedure.{LinkSettings, Link, Down, Available, Next, Held, MaySend}
+use Rattle.link.specs.Procedure.{after_silence}
 use Rattle.link.specs.Turns.{StationState, no_station, station_at}
 use Rattle.link.specs.Primary.{Primary, Outstanding}
 use Rattle.link.specs.Telling.{IsAllowed}
 use Rattle.link.specs.declared.seat.Seat.{Seat}
-use Rattle.link.specs.Carried.{station_left, released_from, released, station_carried, seated, reseated, bit_of}
+use Rattle.link.specs.Carried.{station_left, released_from, released, station_carried, seated}
+use Rattle.link.specs.Carried.{reseated, bit_of}
 
 -- a request that may be sent leaves the bit as it is where it has no answer
 bit_left : (settings : LinkSettings) (request : Asked) (link : Link) → MaySend link request
@@ -27,14 +30,17 @@ bit_left settings Reset (Held fcb service missed) may = absurd may
 bit_left settings (Counted sent again) Down may = absurd may
 bit_left settings (Counted sent again) Available may = absurd may
 bit_left settings (Counted sent again) (Next fcb) may = ap (λ (b : Bool). Some b) may
-bit_left settings (Counted sent again) (Held fcb service missed) may = ap (λ (b : Bool). Some b) may.0
+bit_left settings (Counted sent again) (Held fcb service missed) may =
+    ap (λ (b : Bool). Some b) may.0
 
-pub bits_released : (p : Primary) (k : ℕ) → p.turn < length p.stations → IsAllowed p.stations p.turn p.outstanding
+pub bits_released : (p : Primary) (k : ℕ) → p.turn < length p.stations
+    → IsAllowed p.stations p.turn p.outstanding
     → bit_of (station_at (released p).stations k).link ≡ bit_of (station_at p.stations k).link
 bits_released p k within allowed = go p.outstanding allowed (cases_eq k p.turn)
   where
     go : (o : Option Outstanding) → IsAllowed p.stations p.turn o → (k ≡ p.turn) ⊎ (k ≡ p.turn → ⊥)
-        → bit_of (station_at (released_from p o).stations k).link ≡ bit_of (station_at p.stations k).link
+        → bit_of (station_at (released_from p o).stations k).link
+        ≡ bit_of (station_at p.stations k).link
     go None allowed place = refl
     go (Some o) allowed (inl here) =
         subst (λ (j : ℕ). bit_of (station_at (released_from p (Some o)).stations j).link
@@ -50,7 +56,8 @@ pub bits_carried : (retries address : ℕ) (s : StationState)
     → bit_of (station_carried retries address s).link ≡ bit_of s.link
 bits_carried retries address s = go s.link
   where
-    go : (link : Link) → bit_of (station_carried retries address (record s { link = link })).link ≡ bit_of link
+    go : (link : Link) → bit_of (station_carried retries address (record s { link = link })).link
+        ≡ bit_of link
     go Down = refl
     go Available = refl
     go (Next fcb) = refl
@@ -69,4 +76,6 @@ number p = go p.outstanding
   where
     go : (o : Option Outstanding) → length (released_from p o).stations ≡ length p.stations
     go None = refl
-    go (Some o) = length-set p.stations p.turn (station_left p.settings (station_at p.stations p.turn) o.request)
+    go (Some o) =
+        length-set p.stations p.turn (station_left p.settings (station_at p.stations p.turn)
+        o.request)

@@ -1,24 +1,31 @@
 -- A frame that stands in the first octets is heard as the machine hears the octets.
-use Rattle.std.proofs.Common.{◌≡◌, ℕ, ◌<◌, ◌==◌, ◌||◌, Bool, true, false, not, List, [], ◌∷◌, ◌++◌, length, take, drop, Option, Some, None, option_map, refl, sym, ap, ◌∙◌, append_assoc, ne_eqb, arith}
+use Rattle.std.proofs.Common.{◌≡◌, ℕ, ◌<◌, ◌==◌, ◌||◌, Bool, true, false, not, List, [], ◌∷◌, ◌++◌}
+use Rattle.std.proofs.Common.{length, take, drop, Option, Some, None, option_map, refl, sym, ap}
+use Rattle.std.proofs.Common.{◌∙◌, append_assoc, ne_eqb, arith}
 use Rattle.std.proofs.lemmas.List.{take-append-drop}
 use Rattle.ft12.specs.declared.frame.Frame.{Frame}
 use Rattle.ft12.specs.declared.frame.Front.{Front}
 use Rattle.link.specs.Answers.{Answer}
 use Rattle.link.specs.Exchanges.{whole_of}
 use Rattle.link.specs.Holding.{is_fresh, is_at_front_of, is_at_front, noted, gathered_in, gathered}
-use Rattle.link.specs.Primary.{Outstanding, Primary, answer_at, said_by, took, open_octets, with_octets, received_after, received_from, received, awaits, heard_from, heard_outcome, received_outcome, outcome_at, outcome_after, outcome_from}
+use Rattle.link.specs.Primary.{Outstanding, Primary, answer_at, said_by, took, open_octets}
+use Rattle.link.specs.Primary.{with_octets, received_after, received_from, received, awaits}
+use Rattle.link.specs.Primary.{heard_from, heard_outcome, received_outcome, outcome_at}
+use Rattle.link.specs.Primary.{outcome_after, outcome_from}
 
 -- a frame stands at the front of the first octets
 pub heard_at_front : (front : List ℕ → Front) (p : Primary) (octets : List ℕ) (frame : Frame) →
     is_at_front p ≡ true → whole_of (front octets) ≡ Some frame →
     (heard_from (noted octets p) (noted octets p).outstanding frame ≡ received front p octets)
-    × (heard_outcome (noted octets p) (noted octets p).outstanding frame ≡ received_outcome front p octets)
+    × (heard_outcome (noted octets p) (noted octets p).outstanding frame
+    ≡ received_outcome front p octets)
 heard_at_front front p octets frame free whole = from p.outstanding free
   where
     at : Option Outstanding → Primary
     at oo = record p { outstanding = oo }
 
-    said : (o : Outstanding) (m : Option Answer) → said_by (at (Some o)) o frame m ≡ said_by p o frame m
+    said : (o : Outstanding) (m : Option Answer) → said_by (at (Some o)) o frame m
+        ≡ said_by p o frame m
     said o None = refl
     said o (Some answer) = refl
 
@@ -30,22 +37,28 @@ heard_at_front front p octets frame free whole = from p.outstanding free
     after o None fresh = let bad : ⊥ = cc in absurd bad
     after o (Some []) fresh = (
       said (with_octets octets o) (answer_at p (with_octets octets o) frame)
-          ∙ sym (ap (λ (w : Option Frame). took p (with_octets octets o) (open_octets octets (front octets)) w) whole),
+          ∙ sym
+          (ap (λ (w : Option Frame). took p (with_octets octets o)
+          (open_octets octets (front octets))
+          w) whole),
       sym (ap (λ (w : Option Frame). outcome_at p o w) whole),
     )
     after o (Some (x ∷ xs)) fresh = let bad : ⊥ = cc in absurd bad
 
     from : (oo : Option Outstanding) → is_at_front_of oo ≡ true →
-        (heard_from (at (option_map (with_octets octets) oo)) (option_map (with_octets octets) oo) frame
+        (heard_from (at (option_map (with_octets octets) oo)) (option_map (with_octets octets) oo)
+        frame
         ≡ received_from front p oo octets)
-        × (heard_outcome (at (option_map (with_octets octets) oo)) (option_map (with_octets octets) oo) frame
+        × (heard_outcome (at (option_map (with_octets octets) oo))
+        (option_map (with_octets octets) oo) frame
         ≡ outcome_from front p oo octets)
     from None free = let bad : ⊥ = cc in absurd bad
     from (Some o) free = after o o.heard free
 
 -- octets that come after others were noted already
 noted_twice : (a : Bool) (n : ℕ) (octets : List ℕ) → n < length octets
-    → (a || not (length octets == 0)) || not (length (drop n octets) == 0) ≡ a || not (length octets == 0)
+    → (a || not (length octets == 0)) || not (length (drop n octets) == 0)
+    ≡ a || not (length octets == 0)
 noted_twice true n octets lt = refl
 noted_twice false n octets lt =
     let some : length octets ≡ 0 → ⊥ = λ e. omega arith in
@@ -54,7 +67,8 @@ noted_twice false n octets lt =
 -- Octets of which the first ones are gathered are heard by the others.
 pub rest_of : (front : List ℕ → Front) (p : Primary) (n : ℕ) (octets : List ℕ) → n < length octets →
     (received front (gathered n octets p) (drop n octets) ≡ received front p octets)
-    × (received_outcome front (gathered n octets p) (drop n octets) ≡ received_outcome front p octets)
+    × (received_outcome front (gathered n octets p) (drop n octets)
+    ≡ received_outcome front p octets)
 rest_of front p n octets lt = from p.outstanding
   where
     at : Option Outstanding → Primary
@@ -70,12 +84,15 @@ rest_of front p n octets lt = from p.outstanding
     both before = append_assoc before (take n octets) (drop n octets)
         ∙ ap (λ (l : List ℕ). before ++ l) (take-append-drop n octets)
 
-    said : (a b : Option Outstanding) (o : Outstanding) (h i : Option (List ℕ)) (has : Bool) (frame : Frame)
-        (m : Option Answer) → said_by (at a) (made o h has) frame m ≡ said_by (at b) (made o i has) frame m
+    said : (a b : Option Outstanding) (o : Outstanding) (h i : Option (List ℕ)) (has : Bool)
+        (frame : Frame)
+        (m : Option Answer) → said_by (at a) (made o h has) frame m
+        ≡ said_by (at b) (made o i has) frame m
     said a b o h i has frame None = refl
     said a b o h i has frame (Some answer) = refl
 
-    taken : (a b : Option Outstanding) (o : Outstanding) (h i : Option (List ℕ)) (has : Bool) (heard : Option (List ℕ))
+    taken : (a b : Option Outstanding) (o : Outstanding) (h i : Option (List ℕ)) (has : Bool)
+        (heard : Option (List ℕ))
         (w : Option Frame) → took (at a) (made o h has) heard w ≡ took (at b) (made o i has) heard w
     taken a b o h i has heard None = refl
     taken a b o h i has heard (Some frame) = said a b o h i has frame (answer_at p o frame)
@@ -100,22 +117,28 @@ rest_of front p n octets lt = from p.outstanding
     )
     after o h (Some before) = (
       ap (λ (l : List ℕ). took (at (Some (gathered_in n octets o)))
-          (made o h (some o || not (length (drop n octets) == 0))) (open_octets l (front l)) (whole_of (front l)))
+          (made o h (some o || not (length (drop n octets) == 0))) (open_octets l (front l))
+          (whole_of (front l)))
           (both before)
           ∙ ap (λ (b : Bool). took (at (Some (gathered_in n octets o))) (made o h b)
-          (open_octets (before ++ octets) (front (before ++ octets))) (whole_of (front (before ++ octets))))
+          (open_octets (before ++ octets) (front (before ++ octets)))
+          (whole_of (front (before ++ octets))))
           (noted_twice o.has_octets n octets lt)
           ∙ taken (Some (gathered_in n octets o)) (Some o) o h o.heard (some o)
-          (open_octets (before ++ octets) (front (before ++ octets))) (whole_of (front (before ++ octets))),
-      ap (λ (l : List ℕ). outcome_at (at (Some (gathered_in n octets o))) (gathered_in n octets o) (whole_of (front l)))
+          (open_octets (before ++ octets) (front (before ++ octets)))
+          (whole_of (front (before ++ octets))),
+      ap (λ (l : List ℕ). outcome_at (at (Some (gathered_in n octets o))) (gathered_in n octets o)
+          (whole_of (front l)))
           (both before)
           ∙ told (Some (gathered_in n octets o)) (Some o) o (whole_of (front (before ++ octets))),
     )
 
     from : (oo : Option Outstanding) →
-        (received_from front (at (option_map (gathered_in n octets) oo)) (option_map (gathered_in n octets) oo)
+        (received_from front (at (option_map (gathered_in n octets) oo))
+        (option_map (gathered_in n octets) oo)
         (drop n octets) ≡ received_from front (at oo) oo octets)
-        × (outcome_from front (at (option_map (gathered_in n octets) oo)) (option_map (gathered_in n octets) oo)
+        × (outcome_from front (at (option_map (gathered_in n octets) oo))
+        (option_map (gathered_in n octets) oo)
         (drop n octets) ≡ outcome_from front (at oo) oo octets)
     from None = (refl, refl)
     from (Some o) = after o (option_map (λ before. before ++ take n octets) o.heard) o.heard

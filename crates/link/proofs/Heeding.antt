@@ -1,11 +1,14 @@
 -- A new service heeds the flags of its station.
-use Rattle.std.proofs.Common.{◌≡◌, ℕ, suc, ◌&&◌, nat_lt, Bool, true, false, List, Option, Some, None, refl, sym, ap, subst, ◌∙◌, ◌⊎◌, inl, inr, if◌then◌else◌}
+use Rattle.std.proofs.Common.{◌≡◌, ℕ, suc, ◌&&◌, nat_lt, Bool, true, false, List, Option, Some}
+use Rattle.std.proofs.Common.{None, refl, sym, ap, subst, ◌∙◌, ◌⊎◌, inl, inr, if◌then◌else◌}
 use Rattle.ft12.specs.declared.frame.Front.{Front}
 use Rattle.link.specs.Answers.{Class1, Class2, Asked, Counted}
 use Rattle.link.specs.Exchanges.{Exchanges, Sending}
 use Rattle.link.specs.Flags.{Flags, Heeds, flags_at, link_at}
 use Rattle.link.specs.Procedure.{LinkSettings, Link, Down, Available, Next, Held, is_held}
-use Rattle.link.specs.Turns.{StationState, Phase, Starting, Commanding, Polling, Class1Polling, Over, Wanted, station_at, wants, wanted_poll, polls_from, wanted_command, commands_from, next_of, wanted_by}
+use Rattle.link.specs.Turns.{StationState, Phase, Starting, Commanding, Polling, Class1Polling}
+use Rattle.link.specs.Turns.{Over, Wanted, station_at, wants, wanted_poll, polls_from}
+use Rattle.link.specs.Turns.{wanted_command, commands_from, next_of, wanted_by}
 use Rattle.link.specs.Primary.{Primary, sending}
 use Rattle.link.specs.Telling.{TellsBy, flags_of}
 use Rattle.link.specs.Runs.{BeginsTurn}
@@ -21,7 +24,8 @@ poll_heeds : (burst : ℕ) (fcb : Bool) (s : StationState) (phase : Phase)
 poll_heeds burst fcb s Polling = go s.acd refl
   where
     go : (b : Bool) → s.acd ≡ b → HeedsIt (flags_of s)
-        (if b then wants (Counted fcb Class1) (Class1Polling 1) else wants (Counted fcb Class2) (Class1Polling 0))
+        (if b then wants (Counted fcb Class1) (Class1Polling 1)
+        else wants (Counted fcb Class2) (Class1Polling 0))
     go true e = e
     go false e = e
 poll_heeds burst fcb s (Class1Polling sent) = go s.acd (nat_lt sent burst) refl
@@ -55,7 +59,8 @@ next_heeds : (burst : ℕ) (may_poll fcb : Bool) (s : StationState) (phase : Pha
 next_heeds burst may_poll fcb s Starting = commands_heed burst may_poll fcb s s.offered
 next_heeds burst may_poll fcb s Commanding = commands_heed burst may_poll fcb s s.offered
 next_heeds burst may_poll fcb s Polling = polls_heed burst may_poll fcb s Polling
-next_heeds burst may_poll fcb s (Class1Polling sent) = polls_heed burst may_poll fcb s (Class1Polling sent)
+next_heeds burst may_poll fcb s (Class1Polling sent) =
+    polls_heed burst may_poll fcb s (Class1Polling sent)
 next_heeds burst may_poll fcb s Over = tt
 
 wanted_heeds : (burst : ℕ) (may_poll again : Bool) (s : StationState) (link : Link) (phase : Phase)
@@ -68,13 +73,15 @@ wanted_heeds burst may_poll again s Available Starting new = tt
 wanted_heeds burst may_poll again s Down phase new = tt
 wanted_heeds burst may_poll again s Available phase new = tt
 
-pub sending_heeds : (front : List ℕ → Front) (settings : LinkSettings) (addresses : List ℕ) (p : Primary)
+pub sending_heeds : (front : List ℕ → Front) (settings : LinkSettings) (addresses : List ℕ)
+    (p : Primary)
     (e : Exchanges) (may_poll : Bool) (s : Sending) →
     TellsBy front settings addresses p e → sending p may_poll ≡ Some s
     → is_held (link_at settings front addresses s.station e) ≡ false →
     Heeds (flags_at front addresses s.station e) s.request
 sending_heeds front settings addresses p e may_poll s t sent new =
-    subst (λ (f : Flags). Heeds f s.request) (sym (t.flags s.station)) (go (either_turn p may_poll s sent))
+    subst (λ (f : Flags). Heeds f s.request) (sym (t.flags s.station))
+    (go (either_turn p may_poll s sent))
   where
     free : p.outstanding ≡ None
     free = free_where p may_poll s sent

@@ -1,14 +1,30 @@
 -- Polls wait for leave: no call begins one, but `next` with leave.
 use Rattle.std.specs.Prelude.{◌==◌, ◌||◌}
-use Rattle.std.proofs.Common.{◌≡◌, ℕ, zero, suc, ◌<◌, ◌≤◌, ◌⊎◌, ◌&&◌, ◌%◌, nat_lt, Bool, true, false, not, List, [], ◌∷◌, ◌++◌, map, subst, length, slice_set, Option, Some, None, refl, sym, ap, subst, ◌∙◌, inl, inr, if◌then◌else◌}
+use Rattle.std.proofs.Common.{◌≡◌, ℕ, zero, suc, ◌<◌, ◌≤◌, ◌⊎◌, ◌&&◌, ◌%◌, nat_lt, Bool, true}
+use Rattle.std.proofs.Common.{false, not, List, [], ◌∷◌, ◌++◌, map, subst, length, slice_set}
+use Rattle.std.proofs.Common.{Option, Some, None, refl, sym, ap, subst, ◌∙◌, inl, inr}
+use Rattle.std.proofs.Common.{if◌then◌else◌}
 use Rattle.std.proofs.lemmas.Bool.{cases_lt}
 use Rattle.std.proofs.lemmas.List.{get_or-set_same, get_or_past, set_past}
 use Rattle.ft12.specs.declared.frame.Front.{Front}
-use Rattle.link.specs.Answers.{Service, Frame, Single, Fixed, Data, Class1, Class2, Command, Asked, Status, Reset, Counted, Answer, Ready, Confirmed, Busy, Report, NoData, Unable, unable_answer, code_answer, single_answer, data_answer, comes_from, answer_of}
+use Rattle.link.specs.Answers.{Service, Frame, Single, Fixed, Data, Class1, Class2, Command, Asked}
+use Rattle.link.specs.Answers.{Status, Reset, Counted, Answer, Ready, Confirmed, Busy, Report}
+use Rattle.link.specs.Answers.{NoData, Unable, unable_answer, code_answer, single_answer}
+use Rattle.link.specs.Answers.{data_answer, comes_from, answer_of}
 use Rattle.link.specs.Exchanges.{Sending, whole_of}
-use Rattle.link.specs.Procedure.{LinkSettings, Link, Down, Available, Next, Held, missed_so_far, after_answer, after_silence, has_repeats}
-use Rattle.link.specs.Turns.{StationState, Phase, Starting, Commanding, Polling, Class1Polling, Over, no_station, station_at, is_poll, wants, polls_from, wanted_command, commands_from, next_of, wanted_by, Wanted, Chosen}
-use Rattle.link.specs.Primary.{Outstanding, Primary, choice, after_choice, asked_from, asked, sending_by, sending_from, sending, station_answered, answered, answer_at, said_by, open_octets, took, with_octets, received_after, received_from, received, outcome_by, outcome_of, outcome_at, outcome_after, outcome_from, received_outcome, station_unanswered, unanswered, is_late, due_from, timed_out, may_offer, with_offer, offered_to, without_offer, withdrawn, Outcome, turn_gap, started, with_gap}
+use Rattle.link.specs.Procedure.{LinkSettings, Link, Down, Available, Next, Held, missed_so_far}
+use Rattle.link.specs.Procedure.{after_answer, after_silence, has_repeats}
+use Rattle.link.specs.Turns.{StationState, Phase, Starting, Commanding, Polling, Class1Polling}
+use Rattle.link.specs.Turns.{Over, no_station, station_at, is_poll, wants, polls_from}
+use Rattle.link.specs.Turns.{wanted_command, commands_from, next_of, wanted_by, Wanted, Chosen}
+use Rattle.link.specs.Primary.{Outstanding, Primary, choice, after_choice, asked_from, asked}
+use Rattle.link.specs.Primary.{sending_by, sending_from, sending, station_answered, answered}
+use Rattle.link.specs.Primary.{answer_at, said_by, open_octets, took, with_octets, received_after}
+use Rattle.link.specs.Primary.{received_from, received, outcome_by, outcome_of, outcome_at}
+use Rattle.link.specs.Primary.{outcome_after, outcome_from, received_outcome, station_unanswered}
+use Rattle.link.specs.Primary.{unanswered, is_late, due_from, timed_out, may_offer, with_offer}
+use Rattle.link.specs.Primary.{offered_to, without_offer, withdrawn, Outcome, turn_gap, started}
+use Rattle.link.specs.Primary.{with_gap}
 use Rattle.link.specs.declared.outcome.Outcome.TheVariants as outcome
 use Rattle.link.specs.Leave.{is_poll_request, holds_poll, is_polling_by, is_polling, is_report}
 use Rattle.link.proofs.Links.{set_view}
@@ -25,7 +41,8 @@ poll_is r following w is = (let same : record { request = r; following = followi
 no_poll : (w : Wanted) → is_poll_request w.request ≡ false → is_poll_request w.request ≡ true → ⊥
 no_poll w e poll = (let both : false ≡ true = sym e ∙ poll in cc)
 
-no_offered_poll : (burst : ℕ) (fcb : Bool) (s : StationState) (offered : Option (List ℕ)) (w : Wanted)
+no_offered_poll : (burst : ℕ) (fcb : Bool) (s : StationState) (offered : Option (List ℕ))
+    (w : Wanted)
     → commands_from burst false fcb s offered ≡ Some w →
     is_poll_request w.request ≡ true → ⊥
 no_offered_poll burst fcb s None w is poll = cc
@@ -46,34 +63,41 @@ no_next_poll burst fcb s (Class1Polling sent) w is poll = cc
 no_next_poll burst fcb s Over w is poll = cc
 
 -- Only an unanswered poll is wanted, and only at once.
-pub repeated : (burst : ℕ) (again : Bool) (s : StationState) (link : Link) (phase : Phase) (w : Wanted)
+pub repeated : (burst : ℕ) (again : Bool) (s : StationState) (link : Link) (phase : Phase)
+    (w : Wanted)
     → wanted_by burst false again s link phase ≡ Some w →
     is_poll_request w.request ≡ true → (again && holds_poll link) ≡ true
-repeated burst again s Down Starting w is poll = absurd (no_poll w (poll_is Status Starting w is) poll)
+repeated burst again s Down Starting w is poll =
+    absurd (no_poll w (poll_is Status Starting w is) poll)
 repeated burst again s Down Commanding w is poll = cc
 repeated burst again s Down Polling w is poll = cc
 repeated burst again s Down (Class1Polling sent) w is poll = cc
 repeated burst again s Down Over w is poll = cc
-repeated burst again s Available Starting w is poll = absurd (no_poll w (poll_is Reset Over w is) poll)
+repeated burst again s Available Starting w is poll =
+    absurd (no_poll w (poll_is Reset Over w is) poll)
 repeated burst again s Available Commanding w is poll = cc
 repeated burst again s Available Polling w is poll = cc
 repeated burst again s Available (Class1Polling sent) w is poll = cc
 repeated burst again s Available Over w is poll = cc
-repeated burst again s (Next fcb) phase w is poll = absurd (no_next_poll burst fcb s phase w is poll)
+repeated burst again s (Next fcb) phase w is poll =
+    absurd (no_next_poll burst fcb s phase w is poll)
 repeated burst again s (Held fcb service missed) Starting w is poll = go (is_poll service) refl is
   where
-    go : (b : Bool) → is_poll service ≡ b → (if false || not b then wants (Counted fcb service) Commanding else None)
+    go : (b : Bool) → is_poll service ≡ b
+        → (if false || not b then wants (Counted fcb service) Commanding else None)
         ≡ Some w →
         (again && is_poll service) ≡ true
     go true e none = cc
     go false e some = absurd (no_poll w (poll_is (Counted fcb service) Commanding w some ∙ e) poll)
 repeated burst true s (Held fcb service missed) Commanding w is poll =
     sym (poll_is (Counted fcb service) Commanding w is) ∙ poll
-repeated burst true s (Held fcb service missed) Polling w is poll = sym (poll_is (Counted fcb service) Polling w is)
+repeated burst true s (Held fcb service missed) Polling w is poll =
+    sym (poll_is (Counted fcb service) Polling w is)
     ∙ poll
 repeated burst true s (Held fcb service missed) (Class1Polling sent) w is poll =
     sym (poll_is (Counted fcb service) (Class1Polling sent) w is) ∙ poll
-repeated burst true s (Held fcb service missed) Over w is poll = sym (poll_is (Counted fcb service) Over w is) ∙ poll
+repeated burst true s (Held fcb service missed) Over w is poll =
+    sym (poll_is (Counted fcb service) Over w is) ∙ poll
 repeated burst false s (Held fcb service missed) Commanding w is poll = cc
 repeated burst false s (Held fcb service missed) Polling w is poll = cc
 repeated burst false s (Held fcb service missed) (Class1Polling sent) w is poll = cc
@@ -83,9 +107,11 @@ repeated burst false s (Held fcb service missed) Over w is poll = cc
 
 without_free : (p : Primary) (s : Sending) → p.outstanding ≡ None → sending p false ≡ Some s
     → is_poll_request s.request ≡ true → is_polling p ≡ true
-without_free p s free sent poll = ap (λ (o : Option Outstanding). is_polling_by p o) free ∙ go (present p false) refl
+without_free p s free sent poll = ap (λ (o : Option Outstanding). is_polling_by p o) free
+    ∙ go (present p false) refl
   where
-    go : (v : Option Wanted) → present p false ≡ v → (p.again && holds_poll (station_at p.stations p.turn).link) ≡ true
+    go : (v : Option Wanted) → present p false ≡ v
+        → (p.again && holds_poll (station_at p.stations p.turn).link) ≡ true
     go (Some w) is =
         let there = goes_on p false w free is in
         let same : record { station = p.turn; request = w.request } ≡ s = cc in
@@ -100,22 +126,27 @@ without_free p s free sent poll = ap (λ (o : Option Outstanding). is_polling_by
         (ap is_poll_request (sym b.request) ∙ poll) in
         cc
 
-pub without : (p : Primary) (s : Sending) → sending p false ≡ Some s → is_poll_request s.request ≡ true
+pub without : (p : Primary) (s : Sending) → sending p false ≡ Some s → is_poll_request s.request
+    ≡ true
     → is_polling p ≡ true
 without p s sent poll = go p.outstanding refl sent
   where
-    go : (o : Option Outstanding) → p.outstanding ≡ o → sending_from p o false ≡ Some s → is_polling p ≡ true
+    go : (o : Option Outstanding) → p.outstanding ≡ o → sending_from p o false ≡ Some s
+        → is_polling p ≡ true
     go (Some x) e none = cc
     go None e some = without_free p s e sent poll
 
-asked_without : (p : Primary) (now : ℕ) → is_polling (asked p now false) ≡ true → is_polling p ≡ true
+asked_without : (p : Primary) (now : ℕ) → is_polling (asked p now false) ≡ true → is_polling p
+    ≡ true
 asked_without p now poll = go p.outstanding refl poll
   where
-    by : p.outstanding ≡ None → (c : Option Chosen) → choice p false ≡ c → is_polling (after_choice p now c) ≡ true
+    by : p.outstanding ≡ None → (c : Option Chosen) → choice p false ≡ c
+        → is_polling (after_choice p now c) ≡ true
         → is_polling p ≡ true
     by free None is h =
         let none : false ≡ true =
-        ap (λ (o : Option Outstanding). is_polling_by (record p { phase = Over; again = false }) o) (sym free)
+        ap (λ (o : Option Outstanding). is_polling_by (record p { phase = Over; again = false }) o)
+        (sym free)
         ∙ h in cc
     by free (Some c) is h =
         without_free p (record { station = c.station; request = c.wanted.request }) free
@@ -134,12 +165,14 @@ next p now false poll = inl (asked_without p now poll)
 -- ---- `octets` and `due`
 
 -- the station whose turn it is holds no poll
-pub set_none : (f : StationState → Bool) (stations : List StationState) (k : ℕ) (s : StationState) → f s ≡ false
+pub set_none : (f : StationState → Bool) (stations : List StationState) (k : ℕ) (s : StationState)
+    → f s ≡ false
     → f no_station ≡ false →
     f (station_at (slice_set stations k s) k) ≡ false
 set_none f stations k s is none = go (cases_lt k (length stations))
   where
-    go : (k < length stations) ⊎ (length stations ≤ k) → f (station_at (slice_set stations k s) k) ≡ false
+    go : (k < length stations) ⊎ (length stations ≤ k) → f (station_at (slice_set stations k s) k)
+        ≡ false
     go (inl within) = ap f (get_or-set_same stations k s no_station within) ∙ is
     go (inr past) = ap (λ (l : List StationState). f (station_at l k)) (set_past stations k s past)
         ∙ ap f (get_or_past stations k no_station past) ∙ none
@@ -150,17 +183,20 @@ and_none false b e = refl
 
 -- no service is held after this answer, if it is one
 abbrev Ends : Asked → Link → Option Answer → Type 0
-Ends request link m = (answer : Answer) → m ≡ Some answer → holds_poll (after_answer request answer link) ≡ false
+Ends request link m = (answer : Answer) → m ≡ Some answer
+    → holds_poll (after_answer request answer link) ≡ false
 
 no_answer : (request : Asked) (link : Link) → Ends request link None
 no_answer request link answer e = cc
 
-one_answer : (request : Asked) (link : Link) (a : Answer) → holds_poll (after_answer request a link) ≡ false
+one_answer : (request : Asked) (link : Link) (a : Answer) → holds_poll (after_answer request a link)
+    ≡ false
     → Ends request link (Some a)
 one_answer request link a h answer e = (let same : a ≡ answer = cc in
     subst (λ (x : Answer). holds_poll (after_answer request x link) ≡ false) same h)
 
-either : (request : Asked) (link : Link) (b : Bool) (x y : Option Answer) → Ends request link x → Ends request link y
+either : (request : Asked) (link : Link) (b : Bool) (x y : Option Answer) → Ends request link x
+    → Ends request link y
     → Ends request link (if b then x else y)
 either request link true x y h k = h
 either request link false x y h k = k
@@ -180,20 +216,25 @@ answer_ends : (address : ℕ) (request : Asked) (link : Link) (frame : Frame)
 answer_ends address Status link Single = no_answer Status link
 answer_ends address Status link (Fixed c a) =
     either Status link (comes_from address c a) _ None
-    (either Status link (c % 16 == 11) (Some Ready) (unable_answer (c % 16)) (one_answer Status link Ready refl)
-    (either Status link ((c % 16 == 14) || (c % 16 == 15)) (Some Unable) None (one_answer Status link Unable refl)
+    (either Status link (c % 16 == 11) (Some Ready) (unable_answer (c % 16))
+    (one_answer Status link Ready refl)
+    (either Status link ((c % 16 == 14) || (c % 16 == 15)) (Some Unable) None
+    (one_answer Status link Unable refl)
     (no_answer Status link)))
     (no_answer Status link)
 answer_ends address Status link (Data c a body) = either Status link (comes_from address c a
     && (c % 16 == 8)) None None (no_answer Status link) (no_answer Status link)
 answer_ends address Reset link Single = one_answer Reset link Confirmed refl
 answer_ends address Reset link (Fixed c a) =
-    either Reset link (comes_from address c a) _ None (either Reset link (c % 16 == 0) (Some Confirmed) None
+    either Reset link (comes_from address c a) _ None
+    (either Reset link (c % 16 == 0) (Some Confirmed) None
     (one_answer Reset link Confirmed refl) (no_answer Reset link))
     (no_answer Reset link)
-answer_ends address Reset link (Data c a body) = either Reset link (comes_from address c a && (c % 16 == 8)) None None
+answer_ends address Reset link (Data c a body) =
+    either Reset link (comes_from address c a && (c % 16 == 8)) None None
     (no_answer Reset link) (no_answer Reset link)
-answer_ends address (Counted fcb service) link frame = λ answer e. service_ends fcb service link answer
+answer_ends address (Counted fcb service) link frame =
+    λ answer e. service_ends fcb service link answer
 
 answered_none : (p : Primary) (request : Asked) (frame : Frame) (answer : Answer) →
     holds_poll (after_answer request answer (station_at p.stations p.turn).link) ≡ false
@@ -202,35 +243,42 @@ answered_none p request frame answer e =
     and_none p.again _ (set_none (λ (s : StationState). holds_poll s.link) p.stations p.turn
     (station_answered (station_at p.stations p.turn) request frame answer) e refl)
 
-pub octets : (front : List ℕ → Front) (p : Primary) (octets : List ℕ) → is_polling (received front p octets) ≡ true
+pub octets : (front : List ℕ → Front) (p : Primary) (octets : List ℕ)
+    → is_polling (received front p octets) ≡ true
     → is_polling p ≡ true
 octets front p came poll = go p.outstanding refl poll
   where
-    back : (o : Outstanding) → p.outstanding ≡ Some o → is_poll_request o.request ≡ true → is_polling p ≡ true
+    back : (o : Outstanding) → p.outstanding ≡ Some o → is_poll_request o.request ≡ true
+        → is_polling p ≡ true
     back o e h = ap (λ (x : Option Outstanding). is_polling_by p x) e ∙ h
 
-    said : (o : Outstanding) → p.outstanding ≡ Some o → (frame : Frame) (m : Option Answer) → answer_at p o frame ≡ m
+    said : (o : Outstanding) → p.outstanding ≡ Some o → (frame : Frame) (m : Option Answer)
+        → answer_at p o frame ≡ m
         → is_polling (said_by p (with_octets came o) frame m) ≡ true →
         is_polling p ≡ true
     said o e frame None is h = back o e h
     said o e frame (Some answer) is h =
         let none : is_polling (answered p o.request frame answer) ≡ false =
-        answered_none p o.request frame answer (answer_ends (station_at p.stations p.turn).address o.request
+        answered_none p o.request frame answer (answer_ends (station_at p.stations p.turn).address
+        o.request
         (station_at p.stations p.turn).link frame answer is) in
         let both : false ≡ true = sym none ∙ h in cc
 
-    is_taken : (o : Outstanding) → p.outstanding ≡ Some o → (so_far : Option (List ℕ)) (m : Option Frame)
+    is_taken : (o : Outstanding) → p.outstanding ≡ Some o
+        → (so_far : Option (List ℕ)) (m : Option Frame)
         → is_polling (took p (with_octets came o) so_far m) ≡ true → is_polling p ≡ true
     is_taken o e so_far None h = back o e h
     is_taken o e so_far (Some frame) h = said o e frame (answer_at p o frame) refl h
 
     heard : (o : Outstanding) → p.outstanding ≡ Some o → (before : Option (List ℕ))
-        → is_polling (received_after front p (with_octets came o) before came) ≡ true → is_polling p ≡ true
+        → is_polling (received_after front p (with_octets came o) before came) ≡ true → is_polling p
+        ≡ true
     heard o e None h = back o e h
     heard o e (Some before) h = is_taken o e (open_octets (before ++ came) (front (before ++ came)))
         (whole_of (front (before ++ came))) h
 
-    go : (o : Option Outstanding) → p.outstanding ≡ o → is_polling (received_from front p o came) ≡ true
+    go : (o : Option Outstanding) → p.outstanding ≡ o → is_polling (received_from front p o came)
+        ≡ true
         → is_polling p ≡ true
     go None e h = h
     go (Some o) e h = heard o e o.heard h
@@ -240,10 +288,12 @@ silent : (settings : LinkSettings) (request : Asked) (link : Link) → is_poll_r
     → holds_poll (after_silence settings request true link) ≡ false
 silent settings Status link e = refl
 silent settings Reset link e = refl
-silent settings (Counted fcb service) link e = go (nat_lt settings.retries (suc (missed_so_far link))) settings.hold
+silent settings (Counted fcb service) link e =
+    go (nat_lt settings.retries (suc (missed_so_far link))) settings.hold
   where
     go : (b hold : Bool)
-        → holds_poll (if b then (if hold then Held fcb service (suc settings.retries) else Down) else Held fcb service
+        → holds_poll (if b then (if hold then Held fcb service (suc settings.retries) else Down)
+        else Held fcb service
         (suc (missed_so_far link))) ≡ false
     go true true = e
     go true false = refl
@@ -252,7 +302,8 @@ silent settings (Counted fcb service) link e = go (nat_lt settings.retries (suc 
 pub due : (p : Primary) (at : ℕ) → is_polling (timed_out p at) ≡ true → is_polling p ≡ true
 due p at poll = go p.outstanding refl poll
   where
-    by : (o : Outstanding) → p.outstanding ≡ Some o → is_polling (unanswered p o) ≡ true → (b : Bool)
+    by : (o : Outstanding) → p.outstanding ≡ Some o → is_polling (unanswered p o) ≡ true
+        → (b : Bool)
         → is_poll_request o.request ≡ b → is_polling p ≡ true
     by o e h true is = ap (λ (x : Option Outstanding). is_polling_by p x) e ∙ is
     by o e h false is =
@@ -268,7 +319,8 @@ due p at poll = go p.outstanding refl poll
     late o e true h = by o e h (is_poll_request o.request) refl
     late o e false h = h
 
-    go : (o : Option Outstanding) → p.outstanding ≡ o → is_polling (due_from p o at) ≡ true → is_polling p ≡ true
+    go : (o : Option Outstanding) → p.outstanding ≡ o → is_polling (due_from p o at) ≡ true
+        → is_polling p ≡ true
     go None e h = h
     go (Some o) e h = late o e (is_late p o at) h
 
@@ -277,11 +329,13 @@ due p at poll = go p.outstanding refl poll
 -- the links are the same
 same_polling : (p : Primary) (stations : List StationState)
     → (station_at stations p.turn).link ≡ (station_at p.stations p.turn).link →
-    (o : Option Outstanding) → is_polling_by (record p { stations = stations }) o ≡ is_polling_by p o
+    (o : Option Outstanding) → is_polling_by (record p { stations = stations }) o
+    ≡ is_polling_by p o
 same_polling p stations same (Some o) = refl
 same_polling p stations same None = ap (λ (l : Link). p.again && holds_poll l) same
 
-pub offer : (p : Primary) (station : ℕ) (asdu : List ℕ) → is_polling (offered_to p station asdu) ≡ is_polling p
+pub offer : (p : Primary) (station : ℕ) (asdu : List ℕ) → is_polling (offered_to p station asdu)
+    ≡ is_polling p
 offer p station asdu = go (may_offer p station)
   where
     go : (b : Bool) → is_polling (if b then record p {
@@ -289,18 +343,21 @@ offer p station asdu = go (may_offer p station)
           slice_set p.stations station (with_offer (station_at p.stations station) (Some asdu));
     } else p) ≡ is_polling p
     go true =
-        same_polling p (slice_set p.stations station (with_offer (station_at p.stations station) (Some asdu)))
+        same_polling p
+        (slice_set p.stations station (with_offer (station_at p.stations station) (Some asdu)))
         (set_view (λ (s : StationState). s.link) p.stations station
         (with_offer (station_at p.stations station) (Some asdu)) refl p.turn) p.outstanding
     go false = refl
 
-pub without_links : (ss : List StationState) (i : ℕ) → (station_at (map without_offer ss) i).link ≡ (station_at ss i).link
+pub without_links : (ss : List StationState) (i : ℕ) → (station_at (map without_offer ss) i).link
+    ≡ (station_at ss i).link
 without_links [] i = refl
 without_links (s ∷ ss) zero = refl
 without_links (s ∷ ss) (suc i) = without_links ss i
 
 pub withdraw : (p : Primary) → is_polling (withdrawn p) ≡ is_polling p
-withdraw p = same_polling p (map without_offer p.stations) (without_links p.stations p.turn) p.outstanding
+withdraw p = same_polling p (map without_offer p.stations) (without_links p.stations p.turn)
+    p.outstanding
 
 -- ---- reports
 
@@ -316,7 +373,8 @@ one_report : (b : Bool) (answer : Answer) (code : ℕ) (asdu : List ℕ) → (an
 one_report true answer code asdu other e = (let same : answer ≡ Report asdu = cc in other same)
 one_report false answer code asdu other e = unable_report code asdu e
 
-code_report : (request : Asked) (code : ℕ) (asdu : List ℕ) → code_answer request code ≡ Some (Report asdu) → ⊥
+code_report : (request : Asked) (code : ℕ) (asdu : List ℕ) → code_answer request code
+    ≡ Some (Report asdu) → ⊥
 code_report Status code asdu e = one_report (code == 11) Ready code asdu (λ h. cc) e
 code_report Reset code asdu e = go (code == 0) e
   where
@@ -327,7 +385,8 @@ code_report (Counted fcb Class1) code asdu e = one_report (code == 9) NoData cod
 code_report (Counted fcb Class2) code asdu e = one_report (code == 9) NoData code asdu (λ h. cc) e
 code_report (Counted fcb (Command body)) code asdu e = go (code == 0) e
   where
-    go : (b : Bool) → (if b then Some Confirmed else if code == 1 then Some Busy else unable_answer code)
+    go : (b : Bool) → (if b then Some Confirmed else if code == 1 then Some Busy
+        else unable_answer code)
         ≡ Some (Report asdu) → ⊥
     go true h = cc
     go false h = one_report (code == 1) Busy code asdu (λ g. cc) h
@@ -357,7 +416,8 @@ polled address request (Fixed control a) asdu e = go (comes_from address control
         → is_poll_request request ≡ true
     go true h = absurd (code_report request (control % 16) asdu h)
     go false h = cc
-polled address request (Data control a body) asdu e = go (comes_from address control a && (control % 16 == 8)) e
+polled address request (Data control a body) asdu e =
+    go (comes_from address control a && (control % 16 == 8)) e
   where
     go : (b : Bool) → (if b then data_answer request body.items else None) ≡ Some (Report asdu)
         → is_poll_request request ≡ true
@@ -365,7 +425,8 @@ polled address request (Data control a body) asdu e = go (comes_from address con
     go false h = cc
 
 -- the answer of an outcome that is a report
-reported : (station : ℕ) (request : Asked) (answer : Answer) → is_report (outcome_by station request answer) ≡ true
+reported : (station : ℕ) (request : Asked) (answer : Answer)
+    → is_report (outcome_by station request answer) ≡ true
     → (asdu : List ℕ) × (answer ≡ Report asdu)
 reported station request (Report asdu) h = (asdu, refl)
 reported station Status Ready h = cc
@@ -404,20 +465,24 @@ pub report : (front : List ℕ → Front) (p : Primary) (octets : List ℕ)
     (is_polling p ≡ true) × (is_polling (received front p octets) ≡ false)
 report front p octets is = go p.outstanding refl is
   where
-    said : (o : Outstanding) → p.outstanding ≡ Some o → (frame : Frame) (m : Option Answer) → answer_at p o frame ≡ m
+    said : (o : Outstanding) → p.outstanding ≡ Some o → (frame : Frame) (m : Option Answer)
+        → answer_at p o frame ≡ m
         → is_report (outcome_of p.turn o.request m) ≡ true →
         (is_polling p ≡ true) × (is_polling (said_by p (with_octets octets o) frame m) ≡ false)
     said o e frame None answers h = cc
     said o e frame (Some answer) answers h =
         let r = reported p.turn o.request answer h in
-        let poll : is_poll_request o.request ≡ true = polled (station_at p.stations p.turn).address o.request frame r.0
+        let poll : is_poll_request o.request ≡ true = polled (station_at p.stations p.turn).address
+        o.request frame r.0
         (answers ∙ ap (λ (a : Answer). Some a) r.1) in (
           ap (λ (x : Option Outstanding). is_polling_by p x) e ∙ poll,
-          answered_none p o.request frame answer (answer_ends (station_at p.stations p.turn).address o.request
+          answered_none p o.request frame answer (answer_ends (station_at p.stations p.turn).address
+              o.request
               (station_at p.stations p.turn).link frame answer answers),
         )
 
-    is_taken : (o : Outstanding) → p.outstanding ≡ Some o → (so_far : Option (List ℕ)) (m : Option Frame)
+    is_taken : (o : Outstanding) → p.outstanding ≡ Some o
+        → (so_far : Option (List ℕ)) (m : Option Frame)
         → is_report (outcome_at p o m) ≡ true →
         (is_polling p ≡ true) × (is_polling (took p (with_octets octets o) so_far m) ≡ false)
     is_taken o e so_far None h = cc
@@ -427,12 +492,15 @@ report front p octets is = go p.outstanding refl is
 
     heard : (o : Outstanding) → p.outstanding ≡ Some o → (before : Option (List ℕ))
         → is_report (outcome_after front p o before octets) ≡ true →
-        (is_polling p ≡ true) × (is_polling (received_after front p (with_octets octets o) before octets) ≡ false)
+        (is_polling p ≡ true)
+        × (is_polling (received_after front p (with_octets octets o) before octets) ≡ false)
     heard o e None h = cc
-    heard o e (Some before) h = is_taken o e (open_octets (before ++ octets) (front (before ++ octets)))
+    heard o e (Some before) h =
+        is_taken o e (open_octets (before ++ octets) (front (before ++ octets)))
         (whole_of (front (before ++ octets))) h
 
-    go : (o : Option Outstanding) → p.outstanding ≡ o → is_report (outcome_from front p o octets) ≡ true →
+    go : (o : Option Outstanding) → p.outstanding ≡ o → is_report (outcome_from front p o octets)
+        ≡ true →
         (is_polling p ≡ true) × (is_polling (received_from front p o octets) ≡ false)
     go None e h = cc
     go (Some o) e h = heard o e o.heard h

@@ -15,6 +15,7 @@ pub mod Resets
 pub mod Waiting
 pub mod Spoilt
 pub mod Telling
+pub mod TellingOffers
 pub mod Bit
 pub mod Commands
 pub mod Refusals
@@ -34,6 +35,7 @@ pub mod EndedGaps
 pub mod UnderWay
 pub mod Heeding
 pub mod Visiting
+pub mod Statuses
 pub mod VisitRuns
 pub mod Fairness
 pub mod Telltale
@@ -45,4 +47,5 @@ pub mod Tabled
 pub mod Bursting
 pub mod GivenUp
 pub mod GoingOn
+pub mod SessionsOn
 pub mod Called

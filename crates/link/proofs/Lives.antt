@@ -1,12 +1,18 @@
 -- A station's life is a run of an outstation.
-use Rattle.std.proofs.Common.{◌≡◌, ℕ, ◌+◌, ◌<◌, ◌^◌, Bool, true, false, List, [], ◌∷◌, ◌++◌, length, Option, Some, None, refl, sym, ap, subst, ◌∙◌, append_assoc, arith, if◌then◌else◌}
+use Rattle.std.proofs.Common.{◌≡◌, ℕ, ◌+◌, ◌<◌, ◌^◌, Bool, true, false, List, [], ◌∷◌, ◌++◌, length}
+use Rattle.std.proofs.Common.{Option, Some, None, refl, sym, ap, subst, ◌∙◌, append_assoc, arith}
+use Rattle.std.proofs.Common.{if◌then◌else◌}
 use Rattle.std.proofs.lemmas.List.{append-nil}
 use Rattle.ft12.specs.declared.frame.Frame.{Frame}
 use Rattle.link.specs.Answers.{Service, Class1, Class2, Command, Asked, Status, Reset, Counted}
 use Rattle.link.specs.Outstation.{Effect, Given, Accepted, Turn, OutstationRun, all_done}
 use Rattle.link.specs.Requests.{Reading, Foreign, Unknown, Asks, reading_of}
-use Rattle.link.specs.Secondary.{Secondary, Served, heard_reading, outstation_of, served, served_counted, served_new, served_class1, served_class2, unchanged, is_same}
-use Rattle.link.specs.Life.{Call, Report1, Report2, Hear, called, after, request_asked, requests_heard, turn_asked, turns_in, given1_at, given2_at, given1, given2, reported1, reported2, saturated}
+use Rattle.link.specs.Secondary.{Secondary, Served, heard_reading, outstation_of, served}
+use Rattle.link.specs.Secondary.{served_counted, served_new, served_class1, served_class2}
+use Rattle.link.specs.Secondary.{unchanged, is_same}
+use Rattle.link.specs.Life.{Call, Report1, Report2, Hear, called, after, request_asked}
+use Rattle.link.specs.Life.{requests_heard, turn_asked, turns_in, given1_at, given2_at, given1}
+use Rattle.link.specs.Life.{given2, reported1, reported2, saturated}
 use Rattle.link.specs.Delivery.{reports, commands}
 use Rattle.link.proofs.Serving.{served_step, kept_address, kept_size}
 
@@ -14,16 +20,21 @@ pub life_runs : (s : Secondary) (calls : List Call) →
     OutstationRun s.address (outstation_of s) (requests_heard s.address calls) (turns_in s calls)
     (outstation_of (after s calls))
 life_runs s [] = refl
-life_runs s (Report1 true report ∷ calls) = life_runs (record s { class1 = s.class1 ++ report ∷ [] }) calls
+life_runs s (Report1 true report ∷ calls) =
+    life_runs (record s { class1 = s.class1 ++ report ∷ [] }) calls
 life_runs s (Report1 false report ∷ calls) = life_runs s calls
-life_runs s (Report2 true report ∷ calls) = life_runs (record s { class2 = s.class2 ++ report ∷ [] }) calls
+life_runs s (Report2 true report ∷ calls) =
+    life_runs (record s { class2 = s.class2 ++ report ∷ [] }) calls
 life_runs s (Report2 false report ∷ calls) = life_runs s calls
 life_runs s (Hear granted None ∷ calls) = life_runs s calls
-life_runs s (Hear granted (Some frame) ∷ calls) = go (λ t. life_runs t calls) (reading_of s.address frame)
+life_runs s (Hear granted (Some frame) ∷ calls) =
+    go (λ t. life_runs t calls) (reading_of s.address frame)
   where
-    go : ((t : Secondary) → OutstationRun t.address (outstation_of t) (requests_heard t.address calls)
+    go : ((t : Secondary)
+        → OutstationRun t.address (outstation_of t) (requests_heard t.address calls)
         (turns_in t calls) (outstation_of (after t calls))) → (reading : Reading)
-        → OutstationRun s.address (outstation_of s) (request_asked reading ++ requests_heard s.address calls)
+        → OutstationRun s.address (outstation_of s) (request_asked reading
+        ++ requests_heard s.address calls)
         (turn_asked granted s reading ++ turns_in (heard_reading granted s reading).state calls)
         (outstation_of (after (heard_reading granted s reading).state calls))
     go rest Foreign = rest s
@@ -31,7 +42,8 @@ life_runs s (Hear granted (Some frame) ∷ calls) = go (λ t. life_runs t calls)
     go rest (Asks request) = (
       outstation_of (served granted s request).state,
       served_step granted s request,
-      subst (λ (a : ℕ). OutstationRun a (outstation_of (served granted s request).state) (requests_heard a calls)
+      subst (λ (a : ℕ). OutstationRun a (outstation_of (served granted s request).state)
+          (requests_heard a calls)
           (turns_in (served granted s request).state calls)
           (outstation_of (after (served granted s request).state calls)))
           (kept_address granted s request) (rest (served granted s request).state),
@@ -78,9 +90,16 @@ nothing_done s (Counted fcb Class2) answer lt = record {
   given = same_count s.given lt;
 }
 nothing_done s (Counted fcb (Command asdu)) answer lt =
-    record { class1 = refl; class2 = refl; accepted = append-nil s.accepted; given = same_count s.given lt }
+    record {
+      class1 = refl;
+      class2 = refl;
+      accepted = append-nil s.accepted;
+      given =
+          same_count s.given lt;
+    }
 
-account_class1 : (s : Secondary) (fcb : Bool) (waiting : List (List ℕ)) → s.class1 ≡ waiting → s.given < 2 ^ 64
+account_class1 : (s : Secondary) (fcb : Bool) (waiting : List (List ℕ)) → s.class1 ≡ waiting
+    → s.given < 2 ^ 64
     → Accounts s (Counted fcb Class1) (served_class1 s fcb waiting)
 account_class1 s fcb [] e lt = record {
   class1 = refl;
@@ -97,7 +116,8 @@ account_class1 s fcb (r ∷ rs) e lt = record {
       refl;
 }
 
-account_class2 : (s : Secondary) (fcb : Bool) (waiting : List (List ℕ)) → s.class2 ≡ waiting → s.given < 2 ^ 64
+account_class2 : (s : Secondary) (fcb : Bool) (waiting : List (List ℕ)) → s.class2 ≡ waiting
+    → s.given < 2 ^ 64
     → Accounts s (Counted fcb Class2) (served_class2 s fcb waiting)
 account_class2 s fcb [] e lt = record {
   class1 = refl;
@@ -133,7 +153,8 @@ account_new false s fcb (Command asdu) lt = record {
   given = same_count s.given lt;
 }
 
-account_counted : (granted : Bool) (s : Secondary) (bit : Option Bool) (fcb : Bool) (service : Service)
+account_counted : (granted : Bool) (s : Secondary) (bit : Option Bool) (fcb : Bool)
+    (service : Service)
     → s.given < 2 ^ 64 → Accounts s (Counted fcb service) (served_counted granted s bit fcb service)
 account_counted granted s None fcb service lt = nothing_done s (Counted fcb service) None lt
 account_counted granted s (Some bit) fcb service lt = go (is_same fcb bit)
@@ -163,36 +184,44 @@ accounts granted s (Counted fcb service) lt = account_counted granted s s.bit fc
 
 -- what its life does to them
 pub record Ledger (s : Secondary) (calls : List Call) : Type 0 where
-  pub class1 : given1 (requests_heard s.address calls) (turns_in s calls) ++ (after s calls).class1 ≡ s.class1
+  pub class1 : given1 (requests_heard s.address calls) (turns_in s calls) ++ (after s calls).class1
+      ≡ s.class1
       ++ reported1 calls
-  pub class2 : given2 (requests_heard s.address calls) (turns_in s calls) ++ (after s calls).class2 ≡ s.class2
+  pub class2 : given2 (requests_heard s.address calls) (turns_in s calls) ++ (after s calls).class2
+      ≡ s.class2
       ++ reported2 calls
   pub accepted : s.accepted ++ commands (all_done (turns_in s calls)) ≡ (after s calls).accepted
-  pub given : (after s calls).given ≡ saturated (s.given + length (reports (all_done (turns_in s calls))))
+  pub given : (after s calls).given
+      ≡ saturated (s.given + length (reports (all_done (turns_in s calls))))
 
 commands_more : (a b : List Effect) → commands (a ++ b) ≡ commands a ++ commands b
 commands_more [] b = refl
 commands_more (Given r ∷ a) b = commands_more a b
 commands_more (Accepted r ∷ a) b = ap (λ (l : List (List ℕ)). r ∷ l) (commands_more a b)
 
-reports_more : (a b : List Effect) → length (reports (a ++ b)) ≡ length (reports a) + length (reports b)
+reports_more : (a b : List Effect) → length (reports (a ++ b)) ≡ length (reports a)
+    + length (reports b)
 reports_more [] b = omega arith
 reports_more (Given r ∷ a) b = omega (arith, reports_more a b)
 reports_more (Accepted r ∷ a) b = reports_more a b
 
-count_twice : (g m n a b c : ℕ) → m ≡ saturated (g + a) → n ≡ saturated (m + b) → c ≡ a + b → n ≡ saturated (g + c)
+count_twice : (g m n a b c : ℕ) → m ≡ saturated (g + a) → n ≡ saturated (m + b) → c ≡ a + b
+    → n ≡ saturated (g + c)
 count_twice g m n a b c p q r = omega arith
 
 pub small_count : (n : ℕ) → saturated n < 2 ^ 64
 small_count n = omega arith
 
-after_request : (granted : Bool) (s : Secondary) (request : Asked) (calls : List Call) → s.given < 2 ^ 64 →
+after_request : (granted : Bool) (s : Secondary) (request : Asked) (calls : List Call)
+    → s.given < 2 ^ 64 →
     ((t : Secondary) → t.given < 2 ^ 64 → Ledger t calls) →
     (given1 (request ∷ requests_heard s.address calls) ((served granted s request).turn
-    ∷ turns_in (served granted s request).state calls) ++ (after (served granted s request).state calls).class1
+    ∷ turns_in (served granted s request).state calls)
+    ++ (after (served granted s request).state calls).class1
     ≡ s.class1 ++ reported1 calls)
     × (given2 (request ∷ requests_heard s.address calls) ((served granted s request).turn
-    ∷ turns_in (served granted s request).state calls) ++ (after (served granted s request).state calls).class2
+    ∷ turns_in (served granted s request).state calls)
+    ++ (after (served granted s request).state calls).class2
     ≡ s.class2 ++ reported2 calls)
     × (s.accepted ++ commands ((served granted s request).turn.done
     ++ all_done (turns_in (served granted s request).state calls))
@@ -209,13 +238,15 @@ after_request granted s request calls lt rest =
     let turns : List Turn = turns_in by.state calls in
     let end : Secondary = after by.state calls in
     let at : by.state.address ≡ s.address = kept_address granted s request in (
-      append_assoc (given1_at request by.turn) (given1 (requests_heard s.address calls) turns) end.class1
+      append_assoc (given1_at request by.turn) (given1 (requests_heard s.address calls) turns)
+          end.class1
           ∙ ap (λ (l : List (List ℕ)). given1_at request by.turn ++ l)
           (subst (λ (a : ℕ). given1 (requests_heard a calls) turns ++ end.class1 ≡ by.state.class1
           ++ reported1 calls) at later.class1)
           ∙ sym (append_assoc (given1_at request by.turn) by.state.class1 (reported1 calls))
           ∙ ap (λ (l : List (List ℕ)). l ++ reported1 calls) now.class1,
-      append_assoc (given2_at request by.turn) (given2 (requests_heard s.address calls) turns) end.class2
+      append_assoc (given2_at request by.turn) (given2 (requests_heard s.address calls) turns)
+          end.class2
           ∙ ap (λ (l : List (List ℕ)). given2_at request by.turn ++ l)
           (subst (λ (a : ℕ). given2 (requests_heard a calls) turns ++ end.class2 ≡ by.state.class2
           ++ reported2 calls) at later.class2)
@@ -223,8 +254,10 @@ after_request granted s request calls lt rest =
           ∙ ap (λ (l : List (List ℕ)). l ++ reported2 calls) now.class2,
       ap (λ (l : List (List ℕ)). s.accepted ++ l) (commands_more by.turn.done (all_done turns))
           ∙ sym (append_assoc s.accepted (commands by.turn.done) (commands (all_done turns)))
-          ∙ ap (λ (l : List (List ℕ)). l ++ commands (all_done turns)) now.accepted ∙ later.accepted,
-      count_twice s.given by.state.given end.given (length (reports by.turn.done)) (length (reports (all_done turns)))
+          ∙ ap (λ (l : List (List ℕ)). l ++ commands (all_done turns)) now.accepted
+          ∙ later.accepted,
+      count_twice s.given by.state.given end.given (length (reports by.turn.done))
+          (length (reports (all_done turns)))
           (length (reports (by.turn.done ++ all_done turns))) now.given later.given
           (reports_more by.turn.done (all_done turns)),
     )
@@ -284,12 +317,16 @@ ledger s (Hear granted (Some frame) ∷ calls) lt =
     record { class1 = all.0; class2 = all.1; accepted = all.2; given = all.3 }
   where
     go : ((t : Secondary) → t.given < 2 ^ 64 → Ledger t calls) → (reading : Reading) →
-        (given1 (request_asked reading ++ requests_heard s.address calls) (turn_asked granted s reading
+        (given1 (request_asked reading ++ requests_heard s.address calls)
+        (turn_asked granted s reading
         ++ turns_in (heard_reading granted s reading).state calls)
-        ++ (after (heard_reading granted s reading).state calls).class1 ≡ s.class1 ++ reported1 calls)
-        × (given2 (request_asked reading ++ requests_heard s.address calls) (turn_asked granted s reading
+        ++ (after (heard_reading granted s reading).state calls).class1
+        ≡ s.class1 ++ reported1 calls)
+        × (given2 (request_asked reading ++ requests_heard s.address calls)
+        (turn_asked granted s reading
         ++ turns_in (heard_reading granted s reading).state calls)
-        ++ (after (heard_reading granted s reading).state calls).class2 ≡ s.class2 ++ reported2 calls)
+        ++ (after (heard_reading granted s reading).state calls).class2
+        ≡ s.class2 ++ reported2 calls)
         × (s.accepted ++ commands (all_done (turn_asked granted s reading
         ++ turns_in (heard_reading granted s reading).state calls))
         ≡ (after (heard_reading granted s reading).state calls).accepted)
@@ -307,9 +344,11 @@ reading_stays : (granted : Bool) (s : Secondary) (reading : Reading) →
     × ((heard_reading granted s reading).state.size ≡ s.size)
 reading_stays granted s Foreign = (refl, refl)
 reading_stays granted s Unknown = (refl, refl)
-reading_stays granted s (Asks request) = (kept_address granted s request, kept_size granted s request)
+reading_stays granted s (Asks request) =
+    (kept_address granted s request, kept_size granted s request)
 
-call_stays : (s : Secondary) (call : Call) → ((called s call).address ≡ s.address) × ((called s call).size ≡ s.size)
+call_stays : (s : Secondary) (call : Call) → ((called s call).address ≡ s.address)
+    × ((called s call).size ≡ s.size)
 call_stays s (Report1 true report) = (refl, refl)
 call_stays s (Report1 false report) = (refl, refl)
 call_stays s (Report2 true report) = (refl, refl)

@@ -1,13 +1,20 @@
 -- What the caller is told is what the exchange shows.
-use Rattle.std.proofs.Common.{◌≡◌, ℕ, suc, ◌||◌, ◌&&◌, not, nat_le, nat_lt, ◌+◌, slice_index, Bool, true, false, List, ◌++◌, Option, Some, None, option_and_then, refl, sym, ap, subst, ◌∙◌, inl, inr, if◌then◌else◌}
+use Rattle.std.proofs.Common.{◌≡◌, ℕ, suc, ◌||◌, ◌&&◌, not, nat_le, nat_lt, ◌+◌, slice_index, Bool}
+use Rattle.std.proofs.Common.{true, false, List, ◌++◌, Option, Some, None, option_and_then, refl}
+use Rattle.std.proofs.Common.{sym, ap, subst, ◌∙◌, inl, inr, if◌then◌else◌}
 use Rattle.ft12.specs.declared.frame.Front.{Front}
 use Rattle.ft12.specs.declared.frame.Front.TheVariants.{Whole, More, Never}
 use Rattle.link.specs.Answers.{Service, Asked, Status, Reset, Counted, Answer, answer_of}
-use Rattle.link.specs.Exchanges.{OpenExchange, Exchanges, IsOutstanding, answer_to, whole_of, view, views, with_station, heard_octets, timed}
+use Rattle.link.specs.Exchanges.{OpenExchange, Exchanges, IsOutstanding, answer_to, whole_of, view}
+use Rattle.link.specs.Exchanges.{views, with_station, heard_octets, timed}
 use Rattle.link.specs.Gaps.{gap_at}
-use Rattle.link.specs.Procedure.{LinkSettings, Link, Down, Available, Next, Held, held, MaySend, is_up, goes_down, after_silence, link_after}
+use Rattle.link.specs.Procedure.{LinkSettings, Link, Down, Available, Next, Held, held, MaySend}
+use Rattle.link.specs.Procedure.{is_up, goes_down, after_silence, link_after}
 use Rattle.link.specs.Turns.{station_at}
-use Rattle.link.specs.Primary.{Outstanding, Primary, received_from, received, outcome_of, outcome_at, outcome_after, outcome_from, received_outcome, is_late, due_from, timed_out, due_outcome, due_outcome_from, miss_outcome, unanswered, gap_of, turn_gap, with_gap}
+use Rattle.link.specs.Primary.{Outstanding, Primary, received_from, received, outcome_of}
+use Rattle.link.specs.Primary.{outcome_at, outcome_after, outcome_from, received_outcome, is_late}
+use Rattle.link.specs.Primary.{due_from, timed_out, due_outcome, due_outcome_from, miss_outcome}
+use Rattle.link.specs.Primary.{unanswered, gap_of, turn_gap, with_gap}
 use Rattle.link.specs.declared.outcome.Outcome.TheVariants as outcome
 use Rattle.link.specs.Telling.{IsAllowed, IsHeard, IsAwaited, IsOver, IsCurrent, TellsBy}
 use Rattle.link.specs.Runs.{silence_outcome}
@@ -18,33 +25,41 @@ use Rattle.link.proofs.Called.{links_at}
 over_not : (front : List ℕ → Front) (address : ℕ) (x : OpenExchange) → IsOver front address x
     → IsOutstanding address (view front x).exchange → ⊥
 over_not front address x (inl closed) out = cc
-over_not front address x (inr a) out = let now = said_now front address x (Some a.0) a.1 in let none = out.0 in cc
+over_not front address x (inr a) out = let now = said_now front address x (Some a.0) a.1 in
+    let none = out.0 in cc
 
 -- nothing is heard yet
-none_yet : (front : List ℕ → Front) (address : ℕ) (x : OpenExchange) (h : Option (List ℕ)) → IsHeard front address x h →
+none_yet : (front : List ℕ → Front) (address : ℕ) (x : OpenExchange) (h : Option (List ℕ))
+    → IsHeard front address x h →
     option_and_then (answer_of address x.request) (whole_of (front x.octets)) ≡ None
 none_yet front address x (Some octets) m =
     ap (λ (f : Front). option_and_then (answer_of address x.request) (whole_of f)) m.1
 none_yet front address x None said = said_now front address x None said
 
-awaited_out : (front : List ℕ → Front) (addresses : List ℕ) (turn : ℕ) (o : Outstanding) (x : OpenExchange)
+awaited_out : (front : List ℕ → Front) (addresses : List ℕ) (turn : ℕ) (o : Outstanding)
+    (x : OpenExchange)
     → IsAwaited front (slice_index addresses turn) turn o x →
     IsOutstanding (slice_index addresses x.station) (view front x).exchange
 awaited_out front addresses turn o x w = (
-  ap (λ (i : ℕ). option_and_then (answer_of (slice_index addresses i) x.request) (whole_of (front x.octets))) w.station
+  ap (λ (i : ℕ). option_and_then (answer_of (slice_index addresses i) x.request)
+      (whole_of (front x.octets))) w.station
       ∙ none_yet front (slice_index addresses turn) x o.heard w.heard,
   w.waits,
 )
 
 -- the exchange that is awaited, where one is outstanding
-awaited_at : (front : List ℕ → Front) (addresses : List ℕ) (turn : ℕ) (o : Option Outstanding) (x : OpenExchange) →
-    IsCurrent front addresses turn o (Some x) → IsOutstanding (slice_index addresses x.station) (view front x).exchange
+awaited_at : (front : List ℕ → Front) (addresses : List ℕ) (turn : ℕ) (o : Option Outstanding)
+    (x : OpenExchange) →
+    IsCurrent front addresses turn o (Some x)
+    → IsOutstanding (slice_index addresses x.station) (view front x).exchange
     →
     (q : Outstanding) × (o ≡ Some q) × IsAwaited front (slice_index addresses turn) turn q x
-awaited_at front addresses turn None x over out = absurd (over_not front (slice_index addresses x.station) x over out)
+awaited_at front addresses turn None x over out =
+    absurd (over_not front (slice_index addresses x.station) x over out)
 awaited_at front addresses turn (Some q) x w out = (q, refl, w)
 
-pub told_octets : (front : List ℕ → Front) (settings : LinkSettings) (addresses : List ℕ) (p : Primary) (e : Exchanges)
+pub told_octets : (front : List ℕ → Front) (settings : LinkSettings) (addresses : List ℕ)
+    (p : Primary) (e : Exchanges)
     (octets : List ℕ) (x : OpenExchange) →
     TellsBy front settings addresses p e → e.current ≡ Some x
     → IsOutstanding (slice_index addresses x.station) (view front x).exchange →
@@ -54,7 +69,8 @@ pub told_octets : (front : List ℕ → Front) (settings : LinkSettings) (addres
     (view front (heard_octets octets x)).exchange))
 told_octets front settings addresses p e octets x t latest out =
     let a = awaited_at front addresses p.turn p.outstanding x
-    (subst (λ (c : Option OpenExchange). IsCurrent front addresses p.turn p.outstanding c) latest t.current)
+    (subst (λ (c : Option OpenExchange). IsCurrent front addresses p.turn p.outstanding c) latest
+    t.current)
     out in
     ap (λ (o : Option Outstanding). outcome_from front p o octets) a.1 ∙ go a.0 a.2
   where
@@ -72,7 +88,8 @@ told_octets front settings addresses p e octets x t latest out =
         (outcome_of i x.request (option_and_then (answer_of (slice_index addresses i) x.request)
         (whole_of (front (x.octets ++ octets)))))) (sym w.station)
         ∙ ap (λ (z : OpenExchange). with_gap (gap_at front addresses x.station e)
-        (outcome_of x.station x.request (answer_to (slice_index addresses x.station) (view front z).exchange)))
+        (outcome_of x.station x.request (answer_to (slice_index addresses x.station)
+        (view front z).exchange)))
         (sym (heard_open octets x w.waits))
       where
         gap : turn_gap p ≡ gap_at front addresses p.turn e
@@ -80,24 +97,30 @@ told_octets front settings addresses p e octets x t latest out =
 
         by_front : (f : Front) →
             outcome_at p q (whole_of f) ≡ with_gap (turn_gap p)
-            (outcome_of p.turn x.request (option_and_then (answer_of (slice_index addresses p.turn) x.request)
+            (outcome_of p.turn x.request
+            (option_and_then (answer_of (slice_index addresses p.turn) x.request)
             (whole_of f)))
         by_front More = refl
         by_front (Never place why) = refl
         by_front (Whole frame n) =
-            ap (λ (a : ℕ). with_gap (turn_gap p) (outcome_of p.turn q.request (answer_of a q.request frame)))
+            ap
+            (λ (a : ℕ). with_gap (turn_gap p)
+            (outcome_of p.turn q.request (answer_of a q.request frame)))
             (t.address p.turn)
             ∙ ap (λ (r : Asked). with_gap (turn_gap p)
-            (outcome_of p.turn r (answer_of (slice_index addresses p.turn) r frame))) (sym w.request)
+            (outcome_of p.turn r (answer_of (slice_index addresses p.turn) r frame)))
+            (sym w.request)
 
         by_heard : (h : Option (List ℕ)) → IsHeard front (slice_index addresses p.turn) x h →
             outcome_after front p q h octets
             ≡ with_gap (turn_gap p) (outcome_of p.turn x.request
             (option_and_then (answer_of (slice_index addresses p.turn) x.request)
             (whole_of (front (x.octets ++ octets)))))
-        by_heard None said = ap (λ (m : Option Answer). with_gap (turn_gap p) (outcome_of p.turn x.request m))
+        by_heard None said =
+            ap (λ (m : Option Answer). with_gap (turn_gap p) (outcome_of p.turn x.request m))
             (sym (said octets))
-        by_heard (Some before) so = ap (λ (b : List ℕ). outcome_at p q (whole_of (front (b ++ octets)))) so.0
+        by_heard (Some before) so =
+            ap (λ (b : List ℕ). outcome_at p q (whole_of (front (b ++ octets)))) so.0
             ∙ by_front (front (x.octets ++ octets))
 
 -- nothing is outstanding
@@ -105,18 +128,21 @@ abbrev pub NoneIsOutstanding : (front : List ℕ → Front) → (addresses : Lis
 NoneIsOutstanding front addresses e = (x : OpenExchange) → e.current ≡ Some x
     → IsOutstanding (slice_index addresses x.station) (view front x).exchange → ⊥
 
-free_then : (front : List ℕ → Front) (settings : LinkSettings) (addresses : List ℕ) (p : Primary) (e : Exchanges)
+free_then : (front : List ℕ → Front) (settings : LinkSettings) (addresses : List ℕ) (p : Primary)
+    (e : Exchanges)
     → TellsBy front settings addresses p e →
     NoneIsOutstanding front addresses e → p.outstanding ≡ None
 free_then front settings addresses p e t none = go p.outstanding e.current refl t.current
   where
-    go : (o : Option Outstanding) (c : Option OpenExchange) → e.current ≡ c → IsCurrent front addresses p.turn o c
+    go : (o : Option Outstanding) (c : Option OpenExchange) → e.current ≡ c
+        → IsCurrent front addresses p.turn o c
         → o ≡ None
     go None c is so = refl
     go (Some q) None is so = absurd so
     go (Some q) (Some x) is w = absurd (none x is (awaited_out front addresses p.turn q x w))
 
-pub quiet_octets : (front : List ℕ → Front) (settings : LinkSettings) (addresses : List ℕ) (p : Primary)
+pub quiet_octets : (front : List ℕ → Front) (settings : LinkSettings) (addresses : List ℕ)
+    (p : Primary)
     (e : Exchanges) (octets : List ℕ) →
     TellsBy front settings addresses p e → NoneIsOutstanding front addresses e
     → (received front p octets ≡ p) × (received_outcome front p octets ≡ outcome.None)
@@ -126,7 +152,8 @@ quiet_octets front settings addresses p e octets t none =
       ap (λ (o : Option Outstanding). outcome_from front p o octets) free,
     )
 
-pub quiet_due : (front : List ℕ → Front) (settings : LinkSettings) (addresses : List ℕ) (p : Primary) (e : Exchanges)
+pub quiet_due : (front : List ℕ → Front) (settings : LinkSettings) (addresses : List ℕ)
+    (p : Primary) (e : Exchanges)
     (at : ℕ) →
     TellsBy front settings addresses p e → NoneIsOutstanding front addresses e
     → (timed_out p at ≡ p) × (due_outcome p at ≡ outcome.None)
@@ -137,7 +164,8 @@ quiet_due front settings addresses p e at t none =
     )
 
 -- whether the moment closes it
-late_so : (front : List ℕ → Front) (settings : LinkSettings) (addresses : List ℕ) (p : Primary) (e : Exchanges)
+late_so : (front : List ℕ → Front) (settings : LinkSettings) (addresses : List ℕ) (p : Primary)
+    (e : Exchanges)
     (at : ℕ) (x : OpenExchange) (q : Outstanding) →
     TellsBy front settings addresses p e → IsAwaited front (slice_index addresses p.turn) p.turn q x
     → is_late p q at ≡ (timed settings.answer_ms at x).closed
@@ -146,30 +174,39 @@ late_so front settings addresses p e at x q t w =
     ∙ ap (λ (s : ℕ). nat_le (s + settings.answer_ms) at) (sym w.since)
     ∙ ap (λ (c : Bool). c || nat_le (x.since + settings.answer_ms) at) (sym w.waits)
 
-pub early_due : (front : List ℕ → Front) (settings : LinkSettings) (addresses : List ℕ) (p : Primary) (e : Exchanges)
+pub early_due : (front : List ℕ → Front) (settings : LinkSettings) (addresses : List ℕ)
+    (p : Primary) (e : Exchanges)
     (at : ℕ) (x : OpenExchange) →
     TellsBy front settings addresses p e → e.current ≡ Some x
     → IsOutstanding (slice_index addresses x.station) (view front x).exchange →
-    (timed settings.answer_ms at x).closed ≡ false → (timed_out p at ≡ p) × (due_outcome p at ≡ outcome.None)
+    (timed settings.answer_ms at x).closed ≡ false → (timed_out p at ≡ p)
+    × (due_outcome p at ≡ outcome.None)
 early_due front settings addresses p e at x t latest out early =
     let a = awaited_at front addresses p.turn p.outstanding x
-    (subst (λ (c : Option OpenExchange). IsCurrent front addresses p.turn p.outstanding c) latest t.current)
+    (subst (λ (c : Option OpenExchange). IsCurrent front addresses p.turn p.outstanding c) latest
+    t.current)
     out in
-    let late : is_late p a.0 at ≡ false = late_so front settings addresses p e at x a.0 t a.2 ∙ early in (
-      ap (λ (o : Option Outstanding). due_from p o at) a.1 ∙ ap (λ (b : Bool). if b then unanswered p a.0 else p) late,
+    let late : is_late p a.0 at ≡ false = late_so front settings addresses p e at x a.0 t a.2
+    ∙ early in (
+      ap (λ (o : Option Outstanding). due_from p o at) a.1
+          ∙ ap (λ (b : Bool). if b then unanswered p a.0 else p) late,
       ap (λ (o : Option Outstanding). due_outcome_from p o at) a.1
           ∙ ap (λ (b : Bool). if b then miss_outcome p a.0.request else outcome.None) late,
     )
 
 -- a service that isn't sent again any more takes the link down
 held_falls : (settings : LinkSettings) (sent fcb : Bool) (asked service : Service) (missed : ℕ) →
-    goes_down (Counted sent asked) (held settings fcb service missed) ≡ not (is_up (held settings fcb service missed))
-held_falls settings sent fcb asked service missed = go (nat_lt settings.retries missed) settings.hold
+    goes_down (Counted sent asked) (held settings fcb service missed)
+    ≡ not (is_up (held settings fcb service missed))
+held_falls settings sent fcb asked service missed =
+    go (nat_lt settings.retries missed) settings.hold
   where
     go : (b hold : Bool) →
-        goes_down (Counted sent asked) (if b then (if hold then Held fcb service (suc settings.retries) else Down) else
+        goes_down (Counted sent asked) (if b
+        then (if hold then Held fcb service (suc settings.retries) else Down) else
         Held fcb service missed)
-        ≡ not (is_up (if b then (if hold then Held fcb service (suc settings.retries) else Down) else Held fcb service
+        ≡ not (is_up (if b then (if hold then Held fcb service (suc settings.retries) else Down)
+        else Held fcb service
         missed))
     go true true = refl
     go true false = refl
@@ -192,7 +229,8 @@ falls settings (Counted sent asked) (Next fcb) may = held_falls settings sent se
 falls settings (Counted sent asked) (Held fcb service missed) may =
     held_falls settings sent sent asked asked (suc missed)
 
-pub told_due : (front : List ℕ → Front) (settings : LinkSettings) (addresses : List ℕ) (p : Primary) (e : Exchanges)
+pub told_due : (front : List ℕ → Front) (settings : LinkSettings) (addresses : List ℕ) (p : Primary)
+    (e : Exchanges)
     (at : ℕ) (x : OpenExchange) →
     TellsBy front settings addresses p e → e.current ≡ Some x
     → IsOutstanding (slice_index addresses x.station) (view front x).exchange →
@@ -200,13 +238,16 @@ pub told_due : (front : List ℕ → Front) (settings : LinkSettings) (addresses
     due_outcome p at
     ≡ silence_outcome x.station (link_after settings (slice_index addresses x.station) Down
     (with_station x.station (views front e.ended)))
-    (after_silence settings x.request true (link_after settings (slice_index addresses x.station) Down
+    (after_silence settings x.request true (link_after settings (slice_index addresses x.station)
+    Down
     (with_station x.station (views front e.ended))))
 told_due front settings addresses p e at x t latest out late =
     let a = awaited_at front addresses p.turn p.outstanding x
-    (subst (λ (c : Option OpenExchange). IsCurrent front addresses p.turn p.outstanding c) latest t.current)
+    (subst (λ (c : Option OpenExchange). IsCurrent front addresses p.turn p.outstanding c) latest
+    t.current)
     out in
-    let due : is_late p a.0 at ≡ true = late_so front settings addresses p e at x a.0 t a.2 ∙ late in
+    let due : is_late p a.0 at ≡ true = late_so front settings addresses p e at x a.0 t a.2
+    ∙ late in
     let links = links_at front settings addresses p e (Some a.0) a.1 t in
     let may : MaySend (station_at p.stations p.turn).link a.0.request =
     subst (λ (o : Option Outstanding). IsAllowed p.stations p.turn o) a.1 t.allowed in
@@ -218,7 +259,8 @@ told_due front settings addresses p e at x t latest out late =
     (after_silence s a.0.request true (station_at p.stations p.turn).link)) t.settings_are
     ∙ ap (λ (r : Asked). silence_outcome p.turn (station_at p.stations p.turn).link
     (after_silence settings r true (station_at p.stations p.turn).link)) (sym a.2.request)
-    ∙ ap (λ (l : Link). silence_outcome p.turn l (after_silence settings x.request true l)) (sym (links p.turn))
+    ∙ ap (λ (l : Link). silence_outcome p.turn l (after_silence settings x.request true l))
+    (sym (links p.turn))
     ∙ ap (λ (i : ℕ). silence_outcome i (link_after settings (slice_index addresses i) Down
     (with_station i (views front e.ended)))
     (after_silence settings x.request true (link_after settings (slice_index addresses i) Down

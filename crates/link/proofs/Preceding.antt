@@ -1,19 +1,32 @@
 -- A command that waits is passed by no polls but those that the visit had left.
 use Rattle.std.specs.Prelude.{◌==◌, is_some}
-use Rattle.std.proofs.Common.{◌≡◌, ℕ, zero, suc, ◌-◌, ◌<◌, ◌≤◌, ◌&&◌, ◌||◌, not, nat_lt, Bool, true, false, List, [], ◌∷◌, ◌++◌, length, slice_set, Option, Some, None, refl, sym, ap, subst, ◌∙◌, ◌⊎◌, inl, inr, arith, if◌then◌else◌}
+use Rattle.std.proofs.Common.{◌≡◌, ℕ, zero, suc, ◌-◌, ◌<◌, ◌≤◌, ◌&&◌, ◌||◌, not, nat_lt, Bool, true}
+use Rattle.std.proofs.Common.{false, List, [], ◌∷◌, ◌++◌, length, slice_set, Option, Some, None}
+use Rattle.std.proofs.Common.{refl, sym, ap, subst, ◌∙◌, ◌⊎◌, inl, inr, arith, if◌then◌else◌}
 use Rattle.std.proofs.lemmas.Bool.{ltb-true, eqb-true}
 use Rattle.std.proofs.lemmas.List.{get_or-set_same}
 use Rattle.ft12.specs.declared.frame.Front.{Front}
 use Rattle.ft12.specs.Fronts.{front_of}
-use Rattle.link.specs.Answers.{Frame, Service, Class1, Class2, Command, Asked, Status, Reset, Counted, Answer, Ready, Confirmed, Busy, Report, NoData, Unable}
+use Rattle.link.specs.Answers.{Frame, Service, Class1, Class2, Command, Asked, Status, Reset}
+use Rattle.link.specs.Answers.{Counted, Answer, Ready, Confirmed, Busy, Report, NoData, Unable}
 use Rattle.link.specs.Exchanges.{Sending, whole_of}
 use Rattle.link.specs.Procedure.{Link, Down, Available, Next, Held, is_held, has_repeats}
-use Rattle.link.specs.Turns.{StationState, no_station, Phase, Starting, Commanding, Polling, Class1Polling, Over, Wanted, Chosen, station_at, is_poll, wants, wanted_poll, polls_from, wanted_command, commands_from, next_of, wanted_by, wanted, chosen_or, first_after}
-use Rattle.link.specs.Primary.{Outstanding, Primary, choice, offer_left, station_asked, after_choice, asked_from, asked, sending_by, sending_from, sending, phase_after, answer_at, said_by, open_octets, took, with_octets, received_after, received_from, received, station_unanswered, unanswered, is_late, due_from, timed_out, is_command, may_offer, with_offer, offered_to}
+use Rattle.link.specs.Turns.{StationState, no_station, Phase, Starting, Commanding, Polling}
+use Rattle.link.specs.Turns.{Class1Polling, Over, Wanted, Chosen, station_at, is_poll, wants}
+use Rattle.link.specs.Turns.{wanted_poll, polls_from, wanted_command, commands_from, next_of}
+use Rattle.link.specs.Turns.{wanted_by, wanted, chosen_or, first_after}
+use Rattle.link.specs.Primary.{Outstanding, Primary, choice, offer_left, station_asked}
+use Rattle.link.specs.Primary.{after_choice, asked_from, asked, sending_by, sending_from, sending}
+use Rattle.link.specs.Primary.{phase_after, answer_at, said_by, open_octets, took, with_octets}
+use Rattle.link.specs.Primary.{received_after, received_from, received, station_unanswered}
+use Rattle.link.specs.Primary.{unanswered, is_late, due_from, timed_out, is_command, may_offer}
+use Rattle.link.specs.Primary.{with_offer, offered_to}
 use Rattle.link.specs.Leave.{is_poll_request}
 use Rattle.link.specs.Runs.{Call, Octets, Due, Offer, Withdraw, called}
 use Rattle.link.specs.Runs as runs
-use Rattle.link.specs.Precedence.{command_waits, command_waits_at, is_new_poll, is_new_poll_of, passes_command, left_after, left_by_request, polls_left, CommandsGoFirst}
+use Rattle.link.specs.Precedence.{command_waits, command_waits_at, is_new_poll, is_new_poll_of}
+use Rattle.link.specs.Precedence.{passes_command, left_after, left_by_request, polls_left}
+use Rattle.link.specs.Precedence.{CommandsGoFirst}
 use Rattle.link.proofs.Turning.{found, present}
 
 -- how many new polls a visit has from this phase on, without a command
@@ -43,7 +56,8 @@ at_small p k = go (p.turn == k)
 
 -- What goes out to a station for which a command waits: that command, or what is no new poll, or
 -- one of those that the visit had left.
-pub data Goes (burst : ℕ) (held : Bool) (phase : Phase) (request : Asked) (following : Phase) : Type 0 where
+pub data Goes (burst : ℕ) (held : Bool) (phase : Phase) (request : Asked) (following : Phase) : Type
+    0 where
   command : is_command request ≡ true → Goes burst held phase request following
   other : (is_poll_request request && not held) ≡ false → rest burst following ≤ rest burst phase
       → Goes burst held phase request following
@@ -58,7 +72,8 @@ poll_goes : (burst : ℕ) (fcb : Bool) (s : StationState) (phase : Phase)
 poll_goes burst fcb s Polling = go s.acd
   where
     go : (b : Bool) → GoesIt burst false Polling
-        (if b then wants (Counted fcb Class1) (Class1Polling 1) else wants (Counted fcb Class2) (Class1Polling 0))
+        (if b then wants (Counted fcb Class1) (Class1Polling 1)
+        else wants (Counted fcb Class2) (Class1Polling 0))
     go true = poll (omega arith)
     go false = poll (omega arith)
 poll_goes burst fcb s (Class1Polling sent) = go s.acd (nat_lt sent burst) refl
@@ -78,8 +93,10 @@ polls_go burst true fcb s phase = poll_goes burst fcb s phase
 polls_go burst false fcb s phase = tt
 
 -- A command that waits goes out.
-commands_go : (burst : ℕ) (may_poll fcb : Bool) (s : StationState) (phase : Phase) (offered : Option (List ℕ))
-    → (is_some offered && not s.dfc) ≡ true → GoesIt burst false phase (commands_from burst may_poll fcb s offered)
+commands_go : (burst : ℕ) (may_poll fcb : Bool) (s : StationState) (phase : Phase)
+    (offered : Option (List ℕ))
+    → (is_some offered && not s.dfc) ≡ true
+    → GoesIt burst false phase (commands_from burst may_poll fcb s offered)
 commands_go burst may_poll fcb s phase None waits = let no : ⊥ = cc in absurd no
 commands_go burst may_poll fcb s phase (Some asdu) waits = go s.dfc waits
   where
@@ -88,38 +105,50 @@ commands_go burst may_poll fcb s phase (Some asdu) waits = go s.dfc waits
     go true e = let no : ⊥ = cc in absurd no
     go false e = command refl
 
-next_goes : (burst : ℕ) (may_poll fcb : Bool) (s : StationState) (phase : Phase) → command_waits s ≡ true
+next_goes : (burst : ℕ) (may_poll fcb : Bool) (s : StationState) (phase : Phase) → command_waits s
+    ≡ true
     → GoesIt burst false phase (next_of burst may_poll fcb s phase)
-next_goes burst may_poll fcb s Starting waits = commands_go burst may_poll fcb s Starting s.offered waits
-next_goes burst may_poll fcb s Commanding waits = commands_go burst may_poll fcb s Commanding s.offered waits
+next_goes burst may_poll fcb s Starting waits = commands_go burst may_poll fcb s Starting s.offered
+    waits
+next_goes burst may_poll fcb s Commanding waits =
+    commands_go burst may_poll fcb s Commanding s.offered waits
 next_goes burst may_poll fcb s Polling waits = polls_go burst may_poll fcb s Polling
-next_goes burst may_poll fcb s (Class1Polling sent) waits = polls_go burst may_poll fcb s (Class1Polling sent)
+next_goes burst may_poll fcb s (Class1Polling sent) waits =
+    polls_go burst may_poll fcb s (Class1Polling sent)
 next_goes burst may_poll fcb s Over waits = tt
 
 no_more : (b : Bool) → (b && not true) ≡ false
 no_more true = refl
 no_more false = refl
 
-held_goes : (burst : ℕ) (may_poll again fcb : Bool) (s : StationState) (service : Service) (missed : ℕ) (phase : Phase)
+held_goes : (burst : ℕ) (may_poll again fcb : Bool) (s : StationState) (service : Service)
+    (missed : ℕ) (phase : Phase)
     → GoesIt burst true phase (wanted_by burst may_poll again s (Held fcb service missed) phase)
-held_goes burst may_poll again fcb s service missed Starting = go (may_poll || not (is_poll service))
+held_goes burst may_poll again fcb s service missed Starting =
+    go (may_poll || not (is_poll service))
   where
-    go : (b : Bool) → GoesIt burst true Starting (if b then wants (Counted fcb service) Commanding else None)
+    go : (b : Bool) → GoesIt burst true Starting (if b then wants (Counted fcb service) Commanding
+        else None)
     go true = other (no_more (is_poll service)) (omega arith)
     go false = tt
-held_goes burst may_poll true fcb s service missed Commanding = other (no_more (is_poll service)) (omega arith)
-held_goes burst may_poll true fcb s service missed Polling = other (no_more (is_poll service)) (omega arith)
+held_goes burst may_poll true fcb s service missed Commanding =
+    other (no_more (is_poll service)) (omega arith)
+held_goes burst may_poll true fcb s service missed Polling =
+    other (no_more (is_poll service)) (omega arith)
 held_goes burst may_poll true fcb s service missed (Class1Polling sent) =
     other (no_more (is_poll service)) (omega arith)
-held_goes burst may_poll true fcb s service missed Over = other (no_more (is_poll service)) (omega arith)
+held_goes burst may_poll true fcb s service missed Over =
+    other (no_more (is_poll service)) (omega arith)
 held_goes burst may_poll false fcb s service missed Commanding = tt
 held_goes burst may_poll false fcb s service missed Polling = tt
 held_goes burst may_poll false fcb s service missed (Class1Polling sent) = tt
 held_goes burst may_poll false fcb s service missed Over = tt
 
 wanted_goes : (burst : ℕ) (may_poll again : Bool) (s : StationState) (link : Link) (phase : Phase)
-    → command_waits s ≡ true → GoesIt burst (is_held link) phase (wanted_by burst may_poll again s link phase)
-wanted_goes burst may_poll again s (Next fcb) phase waits = next_goes burst may_poll fcb s phase waits
+    → command_waits s ≡ true
+    → GoesIt burst (is_held link) phase (wanted_by burst may_poll again s link phase)
+wanted_goes burst may_poll again s (Next fcb) phase waits =
+    next_goes burst may_poll fcb s phase waits
 wanted_goes burst may_poll again s (Held fcb service missed) phase waits =
     held_goes burst may_poll again fcb s service missed phase
 wanted_goes burst may_poll again s Down Starting waits = other refl (omega arith)
@@ -137,24 +166,31 @@ wanted_goes burst may_poll again s Available Over waits = tt
 
 -- What is chosen goes on with the present turn, or begins another.
 pub data IsChosen (p : Primary) (may_poll : Bool) (c : Chosen) : Type 0 where
-  here : c.station ≡ p.turn → wanted p.settings.burst may_poll p.again (station_at p.stations c.station) p.phase
+  here : c.station ≡ p.turn
+      → wanted p.settings.burst may_poll p.again (station_at p.stations c.station) p.phase
       ≡ Some c.wanted → IsChosen p may_poll c
-  there : wanted p.settings.burst may_poll false (station_at p.stations c.station) Starting ≡ Some c.wanted
+  there : wanted p.settings.burst may_poll false (station_at p.stations c.station) Starting
+      ≡ Some c.wanted
       → IsChosen p may_poll c
 
-pub is_chosen : (p : Primary) (may_poll : Bool) (c : Chosen) → choice p may_poll ≡ Some c → IsChosen p may_poll c
+pub is_chosen : (p : Primary) (may_poll : Bool) (c : Chosen) → choice p may_poll ≡ Some c
+    → IsChosen p may_poll c
 is_chosen p may_poll c is = go (present p may_poll) refl is
   where
     other_one : Option Chosen
     other_one = first_after p.settings.burst may_poll p.stations (length p.stations) p.turn
 
-    go : (v : Option Wanted) → present p may_poll ≡ v → chosen_or v p.turn other_one ≡ Some c → IsChosen p may_poll c
+    go : (v : Option Wanted) → present p may_poll ≡ v → chosen_or v p.turn other_one ≡ Some c
+        → IsChosen p may_poll c
     go (Some w) e same =
         let at : c.station ≡ p.turn = cc in
         let is_w : w ≡ c.wanted = cc in
-        here at (ap (λ (i : ℕ). wanted p.settings.burst may_poll p.again (station_at p.stations i) p.phase) at ∙ e
+        here at
+        (ap (λ (i : ℕ). wanted p.settings.burst may_poll p.again (station_at p.stations i) p.phase)
+        at ∙ e
         ∙ ap (λ (x : Wanted). Some x) is_w)
-    go None e same = there (found p.settings.burst may_poll p.stations (length p.stations) p.turn c same).first
+    go None e same =
+        there (found p.settings.burst may_poll p.stations (length p.stations) p.turn c same).first
 
 -- so many polls the visit has left, where a command waits
 abbrev pub Inv : Primary → (station left : ℕ) → Type 0
@@ -162,7 +198,8 @@ Inv p k left = command_waits_at p k ≡ true → rest_at p k ≤ left
 
 -- what a station's request leaves of its visit, where a command waits
 pub record Steps (p : Primary) (c : Chosen) (left : ℕ) : Type 0 where
-  pub passed : (is_poll_request c.wanted.request && not (is_held (station_at p.stations c.station).link)) ≡ true →
+  pub passed : (is_poll_request c.wanted.request
+      && not (is_held (station_at p.stations c.station).link)) ≡ true →
       0 < left
   pub next : (is_command c.wanted.request ≡ true) ⊎ (rest p.settings.burst c.wanted.following
       ≤ (if is_poll_request c.wanted.request && not (is_held (station_at p.stations c.station).link)
@@ -176,11 +213,15 @@ no_command (Counted fcb Class1) held e f = cc
 no_command (Counted fcb Class2) held e f = cc
 no_command (Counted fcb (Command asdu)) held e f = cc
 
-goes_steps : (p : Primary) (c : Chosen) (left : ℕ) (phase : Phase) → rest p.settings.burst phase ≤ left
-    → Goes p.settings.burst (is_held (station_at p.stations c.station).link) phase c.wanted.request c.wanted.following
+goes_steps : (p : Primary) (c : Chosen) (left : ℕ) (phase : Phase) → rest p.settings.burst phase
+    ≤ left
+    → Goes p.settings.burst (is_held (station_at p.stations c.station).link) phase c.wanted.request
+    c.wanted.following
     → Steps p c left
 goes_steps p c left phase le (command is) = record {
-  passed = λ e. absurd (no_command c.wanted.request (is_held (station_at p.stations c.station).link) is e);
+  passed =
+      λ e. absurd (no_command c.wanted.request (is_held (station_at p.stations c.station).link) is
+      e);
   next = inl is;
 }
 goes_steps p c left phase le (other none small) = record {
@@ -189,7 +230,10 @@ goes_steps p c left phase le (other none small) = record {
 }
 goes_steps p c left phase le (poll small) = record {
   passed = λ e. omega (arith, le, small);
-  next = inr (go (is_poll_request c.wanted.request && not (is_held (station_at p.stations c.station).link)));
+  next =
+      inr
+      (go (is_poll_request c.wanted.request
+      && not (is_held (station_at p.stations c.station).link)));
 }
   where
     go : (b : Bool) → rest p.settings.burst c.wanted.following ≤ (if b then left - 1 else left)
@@ -206,19 +250,22 @@ chosen_steps p may_poll c left (here at is) waits inv =
     (wanted_goes p.settings.burst may_poll p.again (station_at p.stations c.station)
     (station_at p.stations c.station).link p.phase waits))
 chosen_steps p may_poll c left (there is) waits inv =
-    goes_steps p c left Starting (omega arith) (subst (λ (v : Option Wanted). GoesIt p.settings.burst
+    goes_steps p c left Starting (omega arith)
+    (subst (λ (v : Option Wanted). GoesIt p.settings.burst
     (is_held (station_at p.stations c.station).link) Starting v) is
     (wanted_goes p.settings.burst may_poll false (station_at p.stations c.station)
     (station_at p.stations c.station).link Starting waits))
 
 -- ---- `next`
 
-waits_within : (ss : List StationState) (k : ℕ) → command_waits (station_at ss k) ≡ true → k < length ss
+waits_within : (ss : List StationState) (k : ℕ) → command_waits (station_at ss k) ≡ true
+    → k < length ss
 waits_within [] k waits = let no : ⊥ = cc in absurd no
 waits_within (s ∷ ss) zero waits = omega arith
 waits_within (s ∷ ss) (suc k) waits = let less = waits_within ss k waits in omega (arith, less)
 
-no_offer : (request : Asked) (offered : Option (List ℕ)) → is_command request ≡ true → offer_left request offered ≡ None
+no_offer : (request : Asked) (offered : Option (List ℕ)) → is_command request ≡ true
+    → offer_left request offered ≡ None
 no_offer Status offered e = cc
 no_offer Reset offered e = cc
 no_offer (Counted fcb Class1) offered e = cc
@@ -229,7 +276,8 @@ waits_no : (s : StationState) → s.offered ≡ None → command_waits s ≡ fal
 waits_no s e = ap (λ (o : Option (List ℕ)). is_some o && not s.dfc) e
 
 -- A command that goes out waits no more.
-command_gone : (p : Primary) (c : Chosen) → command_waits_at p c.station ≡ true → is_command c.wanted.request ≡ true →
+command_gone : (p : Primary) (c : Chosen) → command_waits_at p c.station ≡ true
+    → is_command c.wanted.request ≡ true →
     command_waits (station_at (slice_set p.stations c.station
     (station_asked (station_at p.stations c.station) c.wanted.request)) c.station) ≡ false
 command_gone p c waits is =
@@ -241,10 +289,13 @@ command_gone p c waits is =
 
 -- what is left after the request, with what waited before it
 abbrev pub left_now : Primary → (k left : ℕ) → (waits : Bool) → Option Chosen → ℕ
-left_now p k left waits c = if waits then left_after p k left (sending_by c) else suc p.settings.burst
+left_now p k left waits c = if waits then left_after p k left (sending_by c)
+    else suc p.settings.burst
 
-after_steps : (p : Primary) (k left now : ℕ) (may_poll waits : Bool) → command_waits_at p k ≡ waits → Inv p k left
-    → (c : Option Chosen) → choice p may_poll ≡ c → Inv (after_choice p now c) k (left_now p k left waits c)
+after_steps : (p : Primary) (k left now : ℕ) (may_poll waits : Bool) → command_waits_at p k ≡ waits
+    → Inv p k left
+    → (c : Option Chosen) → choice p may_poll ≡ c
+    → Inv (after_choice p now c) k (left_now p k left waits c)
 after_steps p k left now may_poll waits is inv None e = λ still. go (p.turn == k)
   where
     go : (b : Bool) → (if b then 0 else 0) ≤ (if waits then 0 else suc p.settings.burst)
@@ -258,23 +309,28 @@ after_steps p k left now may_poll waits is inv (Some c) e = go (c.station == k) 
     go : (b : Bool) → (c.station == k) ≡ b → (w : Bool) → command_waits_at p k ≡ w
         → command_waits_at (after_choice p now (Some c)) k ≡ true →
         (if b then rest p.settings.burst c.wanted.following else 0)
-        ≤ (if w then (if b then (if is_new_poll p (record { station = c.station; request = c.wanted.request })
+        ≤ (if w
+        then (if b
+        then (if is_new_poll p (record { station = c.station; request = c.wanted.request })
         then left - 1 else left) else 0) else suc p.settings.burst)
     go false at w was still = omega arith
     go true at false was still = rest_small p.settings.burst c.wanted.following
     go true at true was still =
         let same : c.station ≡ k = eqb-true c.station k at in
-        let here_too : command_waits_at p c.station ≡ true = ap (λ (i : ℕ). command_waits_at p i) same ∙ was in
+        let here_too : command_waits_at p c.station ≡ true =
+        ap (λ (i : ℕ). command_waits_at p i) same ∙ was in
         let inv_too : Inv p c.station left = subst (λ (i : ℕ). Inv p i left) (sym same) inv in
         let s = chosen_steps p may_poll c left (is_chosen p may_poll c e) here_too inv_too in
         by same here_too s.next
       where
         by : c.station ≡ k → command_waits_at p c.station ≡ true
             → (is_command c.wanted.request ≡ true) ⊎ (rest p.settings.burst c.wanted.following
-            ≤ (if is_poll_request c.wanted.request && not (is_held (station_at p.stations c.station).link)
+            ≤ (if is_poll_request c.wanted.request
+            && not (is_held (station_at p.stations c.station).link)
             then left - 1 else left))
             → rest p.settings.burst c.wanted.following
-            ≤ (if is_new_poll p (record { station = c.station; request = c.wanted.request }) then left - 1 else left)
+            ≤ (if is_new_poll p (record { station = c.station; request = c.wanted.request })
+            then left - 1 else left)
         by same here_too (inr le) = le
         by same here_too (inl sent) =
             let gone = command_gone p c here_too sent in
@@ -303,7 +359,8 @@ abbrev pub IsOther : Call → Type 0
 IsOther (runs.Next now may_poll) = ⊥
 IsOther call = Unit {0}
 
-answer_rest : (burst : ℕ) (answer : Answer) (phase : Phase) → rest burst (phase_after answer phase) ≤ rest burst phase
+answer_rest : (burst : ℕ) (answer : Answer) (phase : Phase) → rest burst (phase_after answer phase)
+    ≤ rest burst phase
 answer_rest burst Unable phase = omega arith
 answer_rest burst Ready phase = omega arith
 answer_rest burst Confirmed phase = omega arith
@@ -312,7 +369,8 @@ answer_rest burst (Report asdu) phase = omega arith
 answer_rest burst NoData phase = omega arith
 
 -- fewer polls are left, if any
-less_left : (b : Bool) (fewer more : ℕ) → fewer ≤ more → (if b then fewer else 0) ≤ (if b then more else 0)
+less_left : (b : Bool) (fewer more : ℕ) → fewer ≤ more → (if b then fewer else 0)
+    ≤ (if b then more else 0)
 less_left true fewer more le = le
 less_left false fewer more le = omega arith
 
@@ -320,16 +378,19 @@ octets_rest : (front : List ℕ → Front) (p : Primary) (octets : List ℕ) (k 
     → rest_at (received front p octets) k ≤ rest_at p k
 octets_rest front p octets k = go p.outstanding
   where
-    say : (o : Outstanding) (frame : Frame) (m : Option Answer) → rest_at (said_by p o frame m) k ≤ rest_at p k
+    say : (o : Outstanding) (frame : Frame) (m : Option Answer) → rest_at (said_by p o frame m) k
+        ≤ rest_at p k
     say o frame None = omega arith
-    say o frame (Some answer) = less_left (p.turn == k) _ _ (answer_rest p.settings.burst answer p.phase)
+    say o frame (Some answer) =
+        less_left (p.turn == k) _ _ (answer_rest p.settings.burst answer p.phase)
 
     take_it : (o : Outstanding) (heard : Option (List ℕ)) (f : Option Frame)
         → rest_at (took p o heard f) k ≤ rest_at p k
     take_it o heard None = omega arith
     take_it o heard (Some frame) = say o frame (answer_at p o frame)
 
-    listen : (o : Outstanding) (h : Option (List ℕ)) → rest_at (received_after front p o h octets) k ≤ rest_at p k
+    listen : (o : Outstanding) (h : Option (List ℕ)) → rest_at (received_after front p o h octets) k
+        ≤ rest_at p k
     listen o None = omega arith
     listen o (Some before) = take_it o (open_octets (before ++ octets) (front (before ++ octets)))
         (whole_of (front (before ++ octets)))
@@ -341,7 +402,8 @@ octets_rest front p octets k = go p.outstanding
 due_rest : (p : Primary) (at : ℕ) (k : ℕ) → rest_at (timed_out p at) k ≤ rest_at p k
 due_rest p at k = go p.outstanding
   where
-    missed : (b : Bool) → rest p.settings.burst (if b then p.phase else Over) ≤ rest p.settings.burst p.phase
+    missed : (b : Bool) → rest p.settings.burst (if b then p.phase else Over)
+        ≤ rest p.settings.burst p.phase
     missed true = omega arith
     missed false = omega arith
 
@@ -354,7 +416,8 @@ due_rest p at k = go p.outstanding
     go None = omega arith
     go (Some o) = late o (is_late p o at)
 
-offer_rest : (p : Primary) (i : ℕ) (asdu : List ℕ) (k : ℕ) → rest_at (offered_to p i asdu) k ≤ rest_at p k
+offer_rest : (p : Primary) (i : ℕ) (asdu : List ℕ) (k : ℕ) → rest_at (offered_to p i asdu) k
+    ≤ rest_at p k
 offer_rest p i asdu k = go (may_offer p i)
   where
     go : (b : Bool) → rest_at (if b then record p {
@@ -363,7 +426,8 @@ offer_rest p i asdu k = go (may_offer p i)
     go true = omega arith
     go false = omega arith
 
-other_rest : (p : Primary) (k : ℕ) (call : Call) → IsOther call → rest_at (called p call) k ≤ rest_at p k
+other_rest : (p : Primary) (k : ℕ) (call : Call) → IsOther call → rest_at (called p call) k
+    ≤ rest_at p k
 other_rest p k (runs.Next now may_poll) is = absurd is
 other_rest p k (Octets octets) is = octets_rest (front_of p.settings.size) p octets k
 other_rest p k (Due now) is = due_rest p now k
@@ -374,20 +438,27 @@ other_inv : (p p' : Primary) (k left : ℕ) → rest_at p' k ≤ rest_at p k →
     → Inv p' k (if command_waits_at p k then left else suc p.settings.burst)
 other_inv p p' k left le inv = λ still. go (command_waits_at p k) refl
   where
-    go : (w : Bool) → command_waits_at p k ≡ w → rest_at p' k ≤ (if w then left else suc p.settings.burst)
+    go : (w : Bool) → command_waits_at p k ≡ w → rest_at p' k
+        ≤ (if w then left else suc p.settings.burst)
     go true is = let h = inv is in omega (arith, le, h)
     go false is = let h = at_small p k in omega (arith, le, h)
 
-call_steps : (p : Primary) (k left : ℕ) (call : Call) → Inv p k left → Inv (called p call) k (polls_left p k left call)
+call_steps : (p : Primary) (k left : ℕ) (call : Call) → Inv p k left
+    → Inv (called p call) k (polls_left p k left call)
 call_steps p k left (runs.Next now may_poll) inv = asked_steps p k left now may_poll inv
-call_steps p k left (Octets octets) inv = other_inv p (called p (Octets octets)) k left (other_rest p k (Octets octets) tt) inv
-call_steps p k left (Due now) inv = other_inv p (called p (Due now)) k left (other_rest p k (Due now) tt) inv
-call_steps p k left (Offer station asdu) inv = other_inv p (called p (Offer station asdu)) k left (other_rest p k (Offer station asdu) tt) inv
-call_steps p k left Withdraw inv = other_inv p (called p Withdraw) k left (other_rest p k Withdraw tt) inv
+call_steps p k left (Octets octets) inv = other_inv p (called p (Octets octets)) k left
+    (other_rest p k (Octets octets) tt) inv
+call_steps p k left (Due now) inv =
+    other_inv p (called p (Due now)) k left (other_rest p k (Due now) tt) inv
+call_steps p k left (Offer station asdu) inv = other_inv p (called p (Offer station asdu)) k left
+    (other_rest p k (Offer station asdu) tt) inv
+call_steps p k left Withdraw inv =
+    other_inv p (called p Withdraw) k left (other_rest p k Withdraw tt) inv
 
 -- ---- a poll passes only where one is left
 
-passes_some : (p : Primary) (k left : ℕ) (call : Call) → Inv p k left → passes_command p k call ≡ true → 0 < left
+passes_some : (p : Primary) (k left : ℕ) (call : Call) → Inv p k left → passes_command p k call
+    ≡ true → 0 < left
 passes_some p k left (Octets octets) inv is = let no : ⊥ = cc in absurd no
 passes_some p k left (Due now) inv is = let no : ⊥ = cc in absurd no
 passes_some p k left (Offer station asdu) inv is = let no : ⊥ = cc in absurd no
@@ -400,7 +471,8 @@ passes_some p k left (runs.Next now may_poll) inv is = go (command_waits_at p k)
     by waits (Some c) e poll_is = at (c.station == k) refl poll_is
       where
         at : (b : Bool) → (c.station == k) ≡ b
-            → (b && is_new_poll p (record { station = c.station; request = c.wanted.request })) ≡ true → 0 < left
+            → (b && is_new_poll p (record { station = c.station; request = c.wanted.request }))
+            ≡ true → 0 < left
         at false f h = let no : ⊥ = cc in absurd no
         at true f h =
             let same : c.station ≡ k = eqb-true c.station k f in
@@ -413,16 +485,19 @@ passes_some p k left (runs.Next now may_poll) inv is = go (command_waits_at p k)
     out (Some o) waits h = let no : ⊥ = cc in absurd no
     out None waits h = by waits (choice p may_poll) refl h
 
-    go : (w : Bool) → command_waits_at p k ≡ w → (w && is_new_poll_of p k (sending p may_poll)) ≡ true → 0 < left
+    go : (w : Bool) → command_waits_at p k ≡ w → (w && is_new_poll_of p k (sending p may_poll))
+        ≡ true → 0 < left
     go false waits h = let no : ⊥ = cc in absurd no
     go true waits h = out p.outstanding waits h
 
-pub commands_first : (p : Primary) (k left : ℕ) (calls : List Call) → Inv p k left → CommandsGoFirst p k left calls
+pub commands_first : (p : Primary) (k left : ℕ) (calls : List Call) → Inv p k left
+    → CommandsGoFirst p k left calls
 commands_first p k left [] inv = tt
 commands_first p k left (call ∷ calls) inv = (
   passes_some p k left call inv,
   commands_first (called p call) k (polls_left p k left call) calls (call_steps p k left call inv),
 )
 
-pub all_first : (p : Primary) (k : ℕ) (calls : List Call) → CommandsGoFirst p k (suc p.settings.burst) calls
+pub all_first : (p : Primary) (k : ℕ) (calls : List Call)
+    → CommandsGoFirst p k (suc p.settings.burst) calls
 all_first p k calls = commands_first p k (suc p.settings.burst) calls (λ waits. at_small p k)

@@ -1,12 +1,19 @@
 -- The reports of a line's exchanges, call by call.
-use Rattle.std.proofs.Common.{◌≡◌, ℕ, slice_index, Bool, true, false, List, [], ◌∷◌, ◌++◌, Option, Some, None, option_and_then, refl, sym, ap, ◌∙◌, inl, inr, append_assoc}
+use Rattle.std.proofs.Common.{◌≡◌, ℕ, slice_index, Bool, true, false, List, [], ◌∷◌, ◌++◌, Option}
+use Rattle.std.proofs.Common.{Some, None, option_and_then, refl, sym, ap, ◌∙◌, inl, inr}
+use Rattle.std.proofs.Common.{append_assoc}
 use Rattle.ft12.specs.declared.frame.Front.{Front}
 use Rattle.ft12.specs.declared.frame.Front.TheVariants.{Whole, More, Never}
-use Rattle.link.specs.Answers.{Asked, Status, Reset, Counted, Answer, Ready, Confirmed, Busy, Report, NoData, Unable, answer_of}
-use Rattle.link.specs.Exchanges.{LineExchange, OpenExchange, Exchanges, Sending, answer_to, as_list, whole_of, view, views, heard_octets, heard_current, timed_current, begun_by, report_by, reports_of, reports_of_exchanges}
+use Rattle.link.specs.Answers.{Asked, Status, Reset, Counted, Answer, Ready, Confirmed, Busy}
+use Rattle.link.specs.Answers.{Report, NoData, Unable, answer_of}
+use Rattle.link.specs.Exchanges.{LineExchange, OpenExchange, Exchanges, Sending, answer_to, as_list}
+use Rattle.link.specs.Exchanges.{whole_of, view, views, heard_octets, heard_current, timed_current}
+use Rattle.link.specs.Exchanges.{begun_by, report_by, reports_of, reports_of_exchanges}
 use Rattle.link.specs.Procedure.{LinkSettings}
 use Rattle.link.specs.Turns.{station_at}
-use Rattle.link.specs.Primary.{Outstanding, Primary, answer_at, outcome_of, outcome_at, outcome_after, outcome_from, received_outcome, Outcome, turn_gap, started, with_gap}
+use Rattle.link.specs.Primary.{Outstanding, Primary, answer_at, outcome_of, outcome_at}
+use Rattle.link.specs.Primary.{outcome_after, outcome_from, received_outcome, Outcome, turn_gap}
+use Rattle.link.specs.Primary.{started, with_gap}
 use Rattle.link.specs.declared.outcome.Outcome.TheVariants as outcome
 use Rattle.link.specs.Telling.{IsHeard, IsOver, IsCurrent, TellsBy, report_in}
 use Rattle.link.proofs.Links.{views-append}
@@ -20,16 +27,19 @@ reports_of-append : (address : ℕ → ℕ) (es fs : List LineExchange)
     → reports_of address (es ++ fs) ≡ reports_of address es ++ reports_of address fs
 reports_of-append address [] fs = refl
 reports_of-append address (e ∷ es) fs =
-    ap (λ (rs : List (ℕ × List ℕ)). report_by e.station (answer_to (address e.station) e.exchange) ++ rs)
+    ap (λ (rs : List (ℕ × List ℕ)). report_by e.station (answer_to (address e.station) e.exchange)
+    ++ rs)
     (reports_of-append address es fs)
-    ∙ sym (append_assoc (report_by e.station (answer_to (address e.station) e.exchange)) (reports_of address es)
+    ∙ sym (append_assoc (report_by e.station (answer_to (address e.station) e.exchange))
+    (reports_of address es)
     (reports_of address fs))
 
 -- what the latest exchange says
 abbrev answer_in : (front : List ℕ → Front) → (address : ℕ → ℕ) → OpenExchange → Option Answer
 answer_in front address x = answer_to (address x.station) (view front x).exchange
 
-reports-push : (front : List ℕ → Front) (address : ℕ → ℕ) (xs : List OpenExchange) (x : OpenExchange) →
+reports-push : (front : List ℕ → Front) (address : ℕ → ℕ) (xs : List OpenExchange)
+    (x : OpenExchange) →
     reports_of address (views front (xs ++ x ∷ [])) ≡ reports_of address (views front xs)
     ++ report_by x.station (answer_in front address x)
 reports-push front address xs x =
@@ -77,18 +87,23 @@ gap_bears gap (outcome.Busy station) = refl
 gap_bears gap (outcome.Down station) = refl
 
 -- the latest exchange says more
-said_more : (front : List ℕ → Front) (address : ℕ → ℕ) (ended : List OpenExchange) (x y : OpenExchange)
+said_more : (front : List ℕ → Front) (address : ℕ → ℕ) (ended : List OpenExchange)
+    (x y : OpenExchange)
     (told : List (ℕ × List ℕ)) → y.station ≡ x.station →
-    report_by y.station (answer_in front address y) ≡ report_by x.station (answer_in front address x) ++ told →
-    reports_of address (views front (ended ++ y ∷ [])) ≡ reports_of address (views front (ended ++ x ∷ [])) ++ told
+    report_by y.station (answer_in front address y)
+    ≡ report_by x.station (answer_in front address x) ++ told →
+    reports_of address (views front (ended ++ y ∷ []))
+    ≡ reports_of address (views front (ended ++ x ∷ [])) ++ told
 said_more front address ended x y told station more =
     reports-push front address ended y
     ∙ ap (λ (rs : List (ℕ × List ℕ)). reports_of address (views front ended) ++ rs) more
-    ∙ sym (append_assoc (reports_of address (views front ended)) (report_by x.station (answer_in front address x)) told)
+    ∙ sym (append_assoc (reports_of address (views front ended))
+    (report_by x.station (answer_in front address x)) told)
     ∙ ap (λ (rs : List (ℕ × List ℕ)). rs ++ told) (sym (reports-push front address ended x))
 
 pub due_reports : (front : List ℕ → Front) (address : ℕ → ℕ) (answer_ms at : ℕ) (e : Exchanges) →
-    reports_of_exchanges front address (record { ended = e.ended; current = timed_current answer_ms at e.current })
+    reports_of_exchanges front address
+    (record { ended = e.ended; current = timed_current answer_ms at e.current })
     ≡ reports_of_exchanges front address e
 due_reports front address answer_ms at e = go e.current
   where
@@ -98,20 +113,24 @@ due_reports front address answer_ms at e = go e.current
     go None = refl
     go (Some x) = reports-push front address e.ended _ ∙ sym (reports-push front address e.ended x)
 
-pub next_reports : (front : List ℕ → Front) (address : ℕ → ℕ) (now : ℕ) (s : Option Sending) (e : Exchanges)
+pub next_reports : (front : List ℕ → Front) (address : ℕ → ℕ) (now : ℕ) (s : Option Sending)
+    (e : Exchanges)
     → front [] ≡ More →
     reports_of_exchanges front address (begun_by now s e) ≡ reports_of_exchanges front address e
 next_reports front address now None e nothing = refl
 next_reports front address now (Some s) e nothing =
     reports-push front address (e.ended ++ as_list e.current) _
     ∙ ap (λ (f : Front). reports_of address (views front (e.ended ++ as_list e.current))
-    ++ report_by s.station (option_and_then (answer_of (address s.station) s.request) (whole_of f))) nothing
+    ++ report_by s.station (option_and_then (answer_of (address s.station) s.request) (whole_of f)))
+    nothing
     ∙ nil (reports_of address (views front (e.ended ++ as_list e.current)))
 
-pub hear_reports : (front : List ℕ → Front) (settings : LinkSettings) (addresses : List ℕ) (p : Primary)
+pub hear_reports : (front : List ℕ → Front) (settings : LinkSettings) (addresses : List ℕ)
+    (p : Primary)
     (ended : List OpenExchange) (cur : Option OpenExchange) (octets : List ℕ) →
     TellsBy front settings addresses p (record { ended = ended; current = cur }) →
-    reports_of (λ i. slice_index addresses i) (views front (ended ++ as_list (heard_current octets cur)))
+    reports_of (λ i. slice_index addresses i)
+    (views front (ended ++ as_list (heard_current octets cur)))
     ≡ reports_of (λ i. slice_index addresses i) (views front (ended ++ as_list cur))
     ++ report_in (received_outcome front p octets)
 hear_reports front settings addresses p ended cur octets t = go p.outstanding cur t.current
@@ -120,39 +139,49 @@ hear_reports front settings addresses p ended cur octets t = go p.outstanding cu
     address = λ i. slice_index addresses i
 
     go : (o : Option Outstanding) (c : Option OpenExchange) → IsCurrent front addresses p.turn o c →
-        reports_of (λ i. slice_index addresses i) (views front (ended ++ as_list (heard_current octets c)))
+        reports_of (λ i. slice_index addresses i)
+        (views front (ended ++ as_list (heard_current octets c)))
         ≡ reports_of (λ i. slice_index addresses i) (views front (ended ++ as_list c))
         ++ report_in (outcome_from front p o octets)
-    go None None so = sym (nil (reports_of (λ i. slice_index addresses i) (views front (ended ++ []))))
+    go None None so =
+        sym (nil (reports_of (λ i. slice_index addresses i) (views front (ended ++ []))))
     go (Some o) None so = absurd so
     go None (Some x) over = by_closed x.closed refl over
         ∙ sym (nil (reports_of (λ i. slice_index addresses i) (views front (ended ++ x ∷ []))))
       where
         by_closed : (b : Bool) → x.closed ≡ b → IsOver front (slice_index addresses x.station) x →
-            reports_of (λ i. slice_index addresses i) (views front (ended ++ heard_octets octets x ∷ []))
+            reports_of (λ i. slice_index addresses i)
+            (views front (ended ++ heard_octets octets x ∷ []))
             ≡ reports_of (λ i. slice_index addresses i) (views front (ended ++ x ∷ []))
         by_closed true e so =
-            ap (λ (z : OpenExchange). reports_of (λ i. slice_index addresses i) (views front (ended ++ z ∷ [])))
+            ap (λ (z : OpenExchange). reports_of (λ i. slice_index addresses i)
+            (views front (ended ++ z ∷ [])))
             (heard_closed octets x e)
         by_closed false e (inl closed) = cc
         by_closed false e (inr a) =
-            ap (λ (z : OpenExchange). reports_of (λ i. slice_index addresses i) (views front (ended ++ z ∷ [])))
+            ap (λ (z : OpenExchange). reports_of (λ i. slice_index addresses i)
+            (views front (ended ++ z ∷ [])))
             (heard_open octets x e)
             ∙ reports-push front (λ i. slice_index addresses i) ended (grown x octets)
-            ∙ ap (λ (m : Option Answer). reports_of (λ i. slice_index addresses i) (views front ended)
+            ∙ ap (λ (m : Option Answer). reports_of (λ i. slice_index addresses i)
+            (views front ended)
             ++ report_by x.station m)
             (a.1 octets ∙ sym (said_now front (slice_index addresses x.station) x (Some a.0) a.1))
             ∙ sym (reports-push front (λ i. slice_index addresses i) ended x)
     go (Some q) (Some x) w =
-        ap (λ (z : OpenExchange). reports_of (λ i. slice_index addresses i) (views front (ended ++ z ∷ [])))
+        ap (λ (z : OpenExchange). reports_of (λ i. slice_index addresses i)
+        (views front (ended ++ z ∷ [])))
         (heard_open octets x w.waits)
         ∙ said_more front (λ i. slice_index addresses i) ended x (grown x octets)
         (report_in (outcome_after front p q q.heard octets)) refl (by_heard q.heard w.heard)
       where
         -- by the station whose turn it is
-        here : (f : Front) → option_and_then (answer_of (slice_index addresses x.station) x.request) (whole_of f)
+        here : (f : Front) → option_and_then (answer_of (slice_index addresses x.station) x.request)
+            (whole_of f)
             ≡ option_and_then (answer_of (slice_index addresses p.turn) x.request) (whole_of f)
-        here f = ap (λ (i : ℕ). option_and_then (answer_of (slice_index addresses i) x.request) (whole_of f)) w.station
+        here f =
+            ap (λ (i : ℕ). option_and_then (answer_of (slice_index addresses i) x.request)
+            (whole_of f)) w.station
 
         before : (f : Front) → front x.octets ≡ f → option_and_then
             (answer_of (slice_index addresses p.turn) x.request) (whole_of f) ≡ None →
@@ -175,8 +204,10 @@ hear_reports front settings addresses p ended cur octets t = go p.outstanding cu
             ap (λ (g : Front). report_by x.station (option_and_then
             (answer_of (slice_index addresses x.station) x.request) (whole_of g))) e
             ∙ ap (λ (m : Option Answer). report_by x.station m)
-            (here (Whole frame n) ∙ ap (λ (a : ℕ). answer_of a x.request frame) (sym (t.address p.turn))
-            ∙ ap (λ (r : Asked). answer_of (station_at p.stations p.turn).address r frame) w.request)
+            (here (Whole frame n)
+            ∙ ap (λ (a : ℕ). answer_of a x.request frame) (sym (t.address p.turn))
+            ∙ ap (λ (r : Asked). answer_of (station_at p.stations p.turn).address r frame)
+            w.request)
             ∙ ap (λ (i : ℕ). report_by i (answer_at p q frame)) w.station
             ∙ sym (gap_bears (turn_gap p) (outcome_of p.turn q.request (answer_at p q frame))
             ∙ told_report p.turn q.request (answer_at p q frame))
@@ -186,11 +217,15 @@ hear_reports front settings addresses p ended cur octets t = go p.outstanding cu
             ≡ report_by x.station (answer_in front (λ i. slice_index addresses i) x)
             ++ report_in (outcome_after front p q h octets)
         by_heard None said =
-            ap (λ (m : Option Answer). report_by x.station m) (here (front (x.octets ++ octets)) ∙ said octets)
+            ap (λ (m : Option Answer). report_by x.station m) (here (front (x.octets ++ octets))
+            ∙ said octets)
             ∙ ap (λ (rs : List (ℕ × List ℕ)). rs ++ [])
-            (sym (before (front x.octets) refl (said_now front (slice_index addresses p.turn) x None said)))
+            (sym (before (front x.octets) refl (said_now front (slice_index addresses p.turn) x None
+            said)))
         by_heard (Some octets') so =
             by_front (front (x.octets ++ octets)) refl
-            ∙ ap (λ (b : List ℕ). report_in (outcome_at p q (whole_of (front (b ++ octets))))) (sym so.0)
-            ∙ ap (λ (rs : List (ℕ × List ℕ)). rs ++ report_in (outcome_at p q (whole_of (front (octets' ++ octets)))))
+            ∙ ap (λ (b : List ℕ). report_in (outcome_at p q (whole_of (front (b ++ octets)))))
+            (sym so.0)
+            ∙ ap (λ (rs : List (ℕ × List ℕ)). rs
+            ++ report_in (outcome_at p q (whole_of (front (octets' ++ octets)))))
             (sym (before More so.1 refl))

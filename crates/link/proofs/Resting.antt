@@ -1,12 +1,18 @@
 -- What is left where nothing goes out.
 use Rattle.std.specs.Prelude.{◌||◌}
-use Rattle.std.proofs.Common.{◌≡◌, ℕ, zero, suc, ◌+◌, ◌-◌, ◌<◌, ◌≤◌, ◌⊎◌, Bool, true, false, not, List, [], ◌∷◌, length, Option, Some, None, refl, ap, sym, subst, ◌∙◌, inl, inr, arith, if◌then◌else◌}
+use Rattle.std.proofs.Common.{◌≡◌, ℕ, zero, suc, ◌+◌, ◌-◌, ◌<◌, ◌≤◌, ◌⊎◌, Bool, true, false, not}
+use Rattle.std.proofs.Common.{List, [], ◌∷◌, length, Option, Some, None, refl, ap, sym, subst, ◌∙◌}
+use Rattle.std.proofs.Common.{inl, inr, arith, if◌then◌else◌}
 use Rattle.std.proofs.lemmas.Bool.{cases_lt, lt-ltb, le-ltb}
 use Rattle.link.specs.Answers.{Class1, Class2, Command, Counted}
 use Rattle.link.specs.Exchanges.{Sending}
-use Rattle.link.specs.Procedure.{LinkSettings, Link, Down, Available, Next, Held, is_up, holds_command}
-use Rattle.link.specs.Turns.{StationState, Starting, Commanding, Polling, Class1Polling, station_at, is_poll, wants, polls_from, wanted_command, commands_from, wanted_by, place_after, Over, Wanted, Chosen, chosen_or, first_after}
-use Rattle.link.specs.Primary.{Outstanding, Primary, start, choice, after_choice, asked_from, asked, sending_by, sending_from, sending}
+use Rattle.link.specs.Procedure.{LinkSettings, Link, Down, Available, Next, Held, is_up}
+use Rattle.link.specs.Procedure.{holds_command}
+use Rattle.link.specs.Turns.{StationState, Starting, Commanding, Polling, Class1Polling, station_at}
+use Rattle.link.specs.Turns.{is_poll, wants, polls_from, wanted_command, commands_from, wanted_by}
+use Rattle.link.specs.Turns.{place_after, Over, Wanted, Chosen, chosen_or, first_after}
+use Rattle.link.specs.Primary.{Outstanding, Primary, start, choice, after_choice, asked_from, asked}
+use Rattle.link.specs.Primary.{sending_by, sending_from, sending}
 use Rattle.link.specs.Runs.{nth_after}
 use Rattle.link.specs.Leave.{IsLeftToPolls}
 use Rattle.link.proofs.Turning.{rests}
@@ -14,25 +20,32 @@ use Rattle.link.proofs.Turning.{rests}
 -- ---- round the stations
 
 -- so many after a place, round them
-reaches : (count place n i : ℕ) → place < count → i < count → (place + n ≡ i) ⊎ (place + n ≡ count + i)
+reaches : (count place n i : ℕ) → place < count → i < count → (place + n ≡ i)
+    ⊎ (place + n ≡ count + i)
     → nth_after count place n ≡ i
 reaches count place zero i within below (inl e) = omega arith
 reaches count place zero i within below (inr e) = absurd (omega arith)
-reaches count place (suc n) i within below e = go (λ next lt sum. reaches count next n i lt below sum)
+reaches count place (suc n) i within below e =
+    go (λ next lt sum. reaches count next n i lt below sum)
     (cases_lt (suc place) count) e
   where
-    go : ((next : ℕ) → next < count → (next + n ≡ i) ⊎ (next + n ≡ count + i) → nth_after count next n ≡ i) →
-        (suc place < count) ⊎ (count ≤ suc place) → (place + suc n ≡ i) ⊎ (place + suc n ≡ count + i)
+    go : ((next : ℕ) → next < count → (next + n ≡ i) ⊎ (next + n ≡ count + i)
+        → nth_after count next n ≡ i) →
+        (suc place < count) ⊎ (count ≤ suc place) → (place + suc n ≡ i)
+        ⊎ (place + suc n ≡ count + i)
         → nth_after count (place_after count place) n ≡ i
     go later (inl more) (inl here) =
-        ap (λ (b : Bool). nth_after count (if b then suc place else 0) n) (lt-ltb (suc place) count more)
+        ap (λ (b : Bool). nth_after count (if b then suc place else 0) n)
+        (lt-ltb (suc place) count more)
         ∙ later (suc place) more (inl (omega arith))
     go later (inl more) (inr round) =
-        ap (λ (b : Bool). nth_after count (if b then suc place else 0) n) (lt-ltb (suc place) count more)
+        ap (λ (b : Bool). nth_after count (if b then suc place else 0) n)
+        (lt-ltb (suc place) count more)
         ∙ later (suc place) more (inr (omega arith))
     go later (inr last) (inl here) = absurd (omega arith)
     go later (inr last) (inr round) =
-        ap (λ (b : Bool). nth_after count (if b then suc place else 0) n) (le-ltb (suc place) count last)
+        ap (λ (b : Bool). nth_after count (if b then suc place else 0) n)
+        (le-ltb (suc place) count last)
         ∙ later 0 (omega arith) (inl (omega arith))
 
 -- once round, each place is looked at
@@ -41,26 +54,31 @@ each_place : (count place : ℕ) (P : ℕ → Type 0) → place < count
 each_place count place P within round i below = go (cases_lt place i)
   where
     go : (place < i) ⊎ (i ≤ place) → P i
-    go (inl before) = subst P (reaches count place (suc (i - suc place)) i within below (inl (omega arith)))
+    go (inl before) =
+        subst P (reaches count place (suc (i - suc place)) i within below (inl (omega arith)))
         (round (i - suc place) (omega arith))
     go (inr after) =
-        subst P (reaches count place (suc ((count + i) - suc place)) i within below (inr (omega arith)))
+        subst P (reaches count place (suc ((count + i) - suc place)) i within below
+        (inr (omega arith)))
         (round ((count + i) - suc place) (omega arith))
 
 -- ---- a station that has no request
 
-polls_none : (burst : ℕ) (may_poll fcb : Bool) (s : StationState) → polls_from burst may_poll fcb s Polling ≡ None
+polls_none : (burst : ℕ) (may_poll fcb : Bool) (s : StationState)
+    → polls_from burst may_poll fcb s Polling ≡ None
     → may_poll ≡ false
 polls_none burst false fcb s none = refl
 polls_none burst true fcb s none = go s.acd none
   where
     go : (acd : Bool)
-        → (if acd then wants (Counted fcb Class1) (Class1Polling 1) else wants (Counted fcb Class2) (Class1Polling 0))
+        → (if acd then wants (Counted fcb Class1) (Class1Polling 1)
+        else wants (Counted fcb Class2) (Class1Polling 0))
         ≡ None → true ≡ false
     go true e = cc
     go false e = cc
 
-offered_none : (burst : ℕ) (may_poll fcb : Bool) (s : StationState) (offered : Option (List ℕ)) → s.offered ≡ offered
+offered_none : (burst : ℕ) (may_poll fcb : Bool) (s : StationState) (offered : Option (List ℕ))
+    → s.offered ≡ offered
     → commands_from burst may_poll fcb s offered ≡ None →
     (may_poll ≡ false) × ((s.offered ≡ None) ⊎ (s.dfc ≡ true))
 offered_none burst may_poll fcb s None e none = (polls_none burst may_poll fcb s none, inl e)
@@ -93,8 +111,10 @@ each_left : (p : Primary) (may_poll : Bool) → p.turn < length p.stations → p
 each_left p may_poll within free none =
     each_place (length p.stations) p.turn (λ i. (may_poll ≡ false)
     × IsLeftToPolls (station_at p.stations i) (station_at p.stations i).link) within
-    (λ n less. left p.settings.burst may_poll (station_at p.stations (nth_after (length p.stations) p.turn (suc n)))
-    (station_at p.stations (nth_after (length p.stations) p.turn (suc n))).link (rests p may_poll free none n less))
+    (λ n less. left p.settings.burst may_poll
+    (station_at p.stations (nth_after (length p.stations) p.turn (suc n)))
+    (station_at p.stations (nth_after (length p.stations) p.turn (suc n))).link
+    (rests p may_poll free none n less))
 
 pub leave : (p : Primary) (may_poll : Bool) → p.turn < length p.stations → p.outstanding ≡ None
     → sending p may_poll ≡ None → may_poll ≡ false
@@ -123,13 +143,15 @@ left_free s (Held fcb (Command asdu) missed) rest = cc
 pub up : (p : Primary) (may_poll : Bool) → p.turn < length p.stations → p.outstanding ≡ None
     → sending p may_poll ≡ None → (i : ℕ) → i < length p.stations →
     is_up (station_at p.stations i).link ≡ true
-up p may_poll within free none i below = left_up (station_at p.stations i) (station_at p.stations i).link
+up p may_poll within free none i below =
+    left_up (station_at p.stations i) (station_at p.stations i).link
     (stations p may_poll within free none i below)
 
 pub no_command : (p : Primary) (may_poll : Bool) → p.turn < length p.stations → p.outstanding ≡ None
     → sending p may_poll ≡ None → (i : ℕ) → i < length p.stations →
     holds_command (station_at p.stations i).link ≡ false
-no_command p may_poll within free none i below = left_free (station_at p.stations i) (station_at p.stations i).link
+no_command p may_poll within free none i below =
+    left_free (station_at p.stations i) (station_at p.stations i).link
     (stations p may_poll within free none i below)
 
 -- a primary that has just been made has a request
@@ -149,7 +171,8 @@ out_stays p o e now may_poll = (
 
 sent_stays : (p : Primary) (now : ℕ) (may_poll : Bool) (s : Sending) → sending p may_poll ≡ Some s
     → (at : ℕ) (later : Bool) →
-    (sending (asked p now may_poll) later ≡ None) × (asked (asked p now may_poll) at later ≡ asked p now may_poll)
+    (sending (asked p now may_poll) later ≡ None)
+    × (asked (asked p now may_poll) at later ≡ asked p now may_poll)
 sent_stays p now may_poll s sent at later = go p.outstanding sent
   where
     by : (c : Option Chosen) → sending_by c ≡ Some s → (sending (after_choice p now c) later ≡ None)
@@ -163,7 +186,8 @@ sent_stays p now may_poll s sent at later = go p.outstanding sent
     go (Some o) e = cc
     go None e = by (choice p may_poll) e
 
-pub out : (p : Primary) (now : ℕ) (may_poll : Bool) (s : Sending) → sending p may_poll ≡ Some s → (later : Bool)
+pub out : (p : Primary) (now : ℕ) (may_poll : Bool) (s : Sending) → sending p may_poll ≡ Some s
+    → (later : Bool)
     → sending (asked p now may_poll) later ≡ None
 out p now may_poll s sent later = (sent_stays p now may_poll s sent 0 later).0
 
@@ -180,7 +204,8 @@ over_none burst may_poll s Available = refl
 over_none burst may_poll s (Next fcb) = refl
 over_none burst may_poll s (Held fcb service missed) = refl
 
-others_none : (w : Option Wanted) (place : ℕ) (others : Option Chosen) → chosen_or w place others ≡ None → others ≡ None
+others_none : (w : Option Wanted) (place : ℕ) (others : Option Chosen) → chosen_or w place others
+    ≡ None → others ≡ None
 others_none None place others e = e
 others_none (Some w) place others e = cc
 
@@ -199,10 +224,14 @@ over p now may_poll none = go p.outstanding refl
         ∙ ap sending_by
         (ap (λ (w : Option Wanted). chosen_or w p.turn
         (first_after p.settings.burst may_poll p.stations (length p.stations) p.turn))
-        (over_none p.settings.burst may_poll (station_at p.stations p.turn) (station_at p.stations p.turn).link)
+        (over_none p.settings.burst may_poll (station_at p.stations p.turn)
+        (station_at p.stations p.turn).link)
         ∙ others_none _ p.turn _ is)
 
-    go : (o : Option Outstanding) → p.outstanding ≡ o → sending (asked_from p o now may_poll) may_poll ≡ None
+    go : (o : Option Outstanding) → p.outstanding ≡ o
+        → sending (asked_from p o now may_poll) may_poll ≡ None
     go (Some o) e = none
-    go None e = by (choice p may_poll) e refl (ap (λ (o : Option Outstanding). sending_from p o may_poll) (sym e)
+    go None e =
+        by (choice p may_poll) e refl (ap (λ (o : Option Outstanding). sending_from p o may_poll)
+        (sym e)
         ∙ none)

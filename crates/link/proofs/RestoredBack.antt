@@ -1,16 +1,22 @@
 -- The first lines of a state read back.
-use Rattle.std.proofs.Common.{◌≡◌, ℕ, nat_lt, Bool, true, List, [], ◌∷◌, Option, Some, None, refl, sym, ap, ◌∙◌, arith}
+use Rattle.std.proofs.Common.{◌≡◌, ℕ, nat_lt, Bool, true, List, [], ◌∷◌, Option, Some, None, refl}
+use Rattle.std.proofs.Common.{sym, ap, ◌∙◌, arith}
 use Rattle.std.specs.Prelude.{◌⊎◌}
 use Rattle.std.proofs.Common.{inl, inr}
 use Rattle.std.specs.Option.{IsSome}
 use Rattle.ft12.specs.Reading.{IsProperBeginning}
 use Rattle.link.specs.Answers.{Asked, Status, Reset, Counted}
-use Rattle.link.specs.Turns.{StationState, Phase, Starting, Commanding, Polling, Class1Polling, Over}
+use Rattle.link.specs.Turns.{StationState, Phase, Starting, Commanding, Polling, Class1Polling}
+use Rattle.link.specs.Turns.{Over}
 use Rattle.link.specs.Primary.{Primary, Outstanding}
 use Rattle.link.specs.Procedure.{LinkSettings}
 use Rattle.link.specs.Holding.{outstanding_from, Awaited}
 use Rattle.link.specs.declared.master.restoring.Head.{Head}
-use Rattle.link.specs.Restored.{phase_numbers, phase_from, asked_numbers, asked_from, head_numbers, head_from, awaited_numbers, awaited_from, awaited_of, octets_heard, FitsSavedPhase, FitsSavedAsked, FitsSavedOutstanding, is_deaf, heard_from, heard_numbers, HeardAreOctets, HeardIsResumable, primary_with}
+use Rattle.link.specs.Restored.{phase_numbers, phase_from, asked_numbers, asked_from, head_numbers}
+use Rattle.link.specs.Restored.{head_from, awaited_numbers, awaited_from, awaited_of, octets_heard}
+use Rattle.link.specs.Restored.{FitsSavedPhase, FitsSavedAsked, FitsSavedOutstanding, is_deaf}
+use Rattle.link.specs.Restored.{heard_from, heard_numbers, HeardAreOctets, HeardIsResumable}
+use Rattle.link.specs.Restored.{primary_with}
 use Rattle.link.proofs.Saved.{bit_back, service_back, all_octets}
 
 phase_back : (phase : Phase) → FitsSavedPhase phase → phase_from (phase_numbers phase) ≡ Some phase
@@ -18,10 +24,12 @@ phase_back Starting fits = refl
 phase_back Commanding fits = refl
 phase_back Polling fits = refl
 phase_back Over fits = refl
-phase_back (Class1Polling sent) fits = let on : nat_lt sent 256 ≡ true = grind (arith, fits) in rw on refl
+phase_back (Class1Polling sent) fits = let on : nat_lt sent 256 ≡ true = grind (arith, fits) in
+    rw on refl
 
 pub head_back : (p : Primary) → FitsSavedPhase p.phase
-    → head_from (head_numbers p) ≡ Some (record { turn = p.turn; again = p.again; spoilt = p.spoilt; phase = p.phase })
+    → head_from (head_numbers p)
+    ≡ Some (record { turn = p.turn; again = p.again; spoilt = p.spoilt; phase = p.phase })
 head_back p fits = rw (bit_back p.again, phase_back p.phase fits) refl
 
 asked_back : (asked : Asked) → FitsSavedAsked asked → asked_from (asked_numbers asked) ≡ Some asked
@@ -29,13 +37,15 @@ asked_back Status fits = refl
 asked_back Reset fits = refl
 asked_back (Counted fcb service) fits = rw (bit_back fcb, service_back service fits) refl
 
-pub awaited_back : (o : Option Outstanding) → FitsSavedOutstanding o → (deaf : Bool) → deaf ≡ is_deaf o
+pub awaited_back : (o : Option Outstanding) → FitsSavedOutstanding o → (deaf : Bool)
+    → deaf ≡ is_deaf o
     → awaited_from deaf (awaited_numbers o) ≡ Some (awaited_of o)
 awaited_back None fits deaf is = refl
 awaited_back (Some o) fits deaf is = rw (bit_back o.has_octets, asked_back o.request fits, is) refl
 
 -- what the program keeps of it is what was outstanding
-pub outstanding_back : (o : Option Outstanding) → outstanding_from (awaited_of o) (Some (octets_heard o)) ≡ o
+pub outstanding_back : (o : Option Outstanding)
+    → outstanding_from (awaited_of o) (Some (octets_heard o)) ≡ o
 outstanding_back None = refl
 outstanding_back (Some o) = by o o.heard refl
   where
@@ -54,7 +64,8 @@ heard_back (Some o) are = by o o.heard refl are
     by o None is are = rw is refl
     by o (Some octets) is are = let known = all_octets octets (rw is at are) in rw (is, known) refl
 
-pub next_line : (x y : List ℕ) (xs ys all : List (List ℕ)) → all ≡ x ∷ xs → all ≡ y ∷ ys → (y ≡ x) × (ys ≡ xs)
+pub next_line : (x y : List ℕ) (xs ys all : List (List ℕ)) → all ≡ x ∷ xs → all ≡ y ∷ ys
+    → (y ≡ x) × (ys ≡ xs)
 next_line x y xs ys all e f = let g : y ∷ ys ≡ x ∷ xs = sym f ∙ e in (cc, cc)
 
 -- what was found of the answer so far
@@ -70,12 +81,15 @@ pub found_is : (b : Bool) (v : List ℕ) (o : Option Outstanding) → HeardAreOc
     → Some (b, v) ≡ heard_from (heard_numbers o) → (b ≡ is_deaf o) × (v ≡ octets_heard o)
 unfolding deaf_in octets_in
 found_is b v o are e =
-    let g : Some (b, v) ≡ Some (is_deaf o, octets_heard o) = e ∙ heard_back o are in (ap deaf_in g, ap octets_in g)
+    let g : Some (b, v) ≡ Some (is_deaf o, octets_heard o) = e ∙ heard_back o are in
+    (ap deaf_in g, ap octets_in g)
 
 -- the primary that is made of what was read is the one that was written
-pub restored_same : (p : Primary) (settings : LinkSettings) (h : Head) (a : Option Awaited) (x : List ℕ)
+pub restored_same : (p : Primary) (settings : LinkSettings) (h : Head) (a : Option Awaited)
+    (x : List ℕ)
     (ss : List StationState) → p.settings ≡ settings
-    → h ≡ record { turn = p.turn; again = p.again; spoilt = p.spoilt; phase = p.phase } → a ≡ awaited_of p.outstanding
+    → h ≡ record { turn = p.turn; again = p.again; spoilt = p.spoilt; phase = p.phase }
+    → a ≡ awaited_of p.outstanding
     → x ≡ octets_heard p.outstanding → ss ≡ p.stations
     → primary_with settings h (outstanding_from a (Some x)) ss ≡ p
 restored_same p settings h a x ss set eh ea ex es =
@@ -113,4 +127,5 @@ none_is_none : (x : Bool × List ℕ) (r : Option (Bool × List ℕ)) → r ≡ 
 none_is_none x r e f = cc
 
 pub not_none : (o : Option Outstanding) → HeardAreOctets o → None ≡ heard_from (heard_numbers o) → ⊥
-not_none o are e = none_is_none (is_deaf o, octets_heard o) (heard_from (heard_numbers o)) (sym e) (heard_back o are)
+not_none o are e = none_is_none (is_deaf o, octets_heard o) (heard_from (heard_numbers o)) (sym e)
+    (heard_back o are)

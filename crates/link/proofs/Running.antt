@@ -1,24 +1,29 @@
 -- Over every list of calls the primary tells the exchanges of its line.
 use Rattle.std.proofs.Common.{ℕ, ◌<◌, List, [], ◌∷◌, All, length, slice_index, sym, subst}
 use Rattle.ft12.specs.Fronts.{front_of}
-use Rattle.link.specs.Exchanges.{Exchanges, no_exchanges, all_of, views, with_station, timed_current}
+use Rattle.link.specs.Exchanges.{Exchanges, no_exchanges, all_of, views, with_station}
+use Rattle.link.specs.Exchanges.{timed_current}
 use Rattle.link.specs.Procedure.{LinkSettings, Down, KeepsFrameCountBit}
 use Rattle.link.specs.Requests.{FitsAddress}
 use Rattle.link.specs.Primary.{Primary, start, timed_out}
 use Rattle.link.specs.Telling.{IsStable, AreSpoilt, Tells}
-use Rattle.link.specs.Runs.{Call, Next, Octets, Due, Offer, Withdraw, called, exchanged, MayCall, MayCallAll, called_all, exchanged_all}
-use Rattle.link.proofs.Called.{start_tells, hear_tells, due_tells, ask_tells, offer_tells, withdraw_tells}
+use Rattle.link.specs.Runs.{Call, Next, Octets, Due, Offer, Withdraw, called, exchanged, MayCall}
+use Rattle.link.specs.Runs.{MayCallAll, called_all, exchanged_all}
+use Rattle.link.proofs.Called.{start_tells, hear_tells, due_tells, ask_tells, offer_tells}
+use Rattle.link.proofs.Called.{withdraw_tells}
 
 pub call_tells : (settings : LinkSettings) (addresses : List ℕ) → IsStable (front_of settings.size)
     → (p : Primary) (e : Exchanges) (call : Call) →
-    MayCall p call → Tells settings addresses p e → Tells settings addresses (called p call) (exchanged p call e)
+    MayCall p call → Tells settings addresses p e
+    → Tells settings addresses (called p call) (exchanged p call e)
 call_tells settings addresses stable p e (Next now may_poll) may t =
     ask_tells settings addresses p e now may_poll stable t
 call_tells settings addresses stable p e (Octets octets) may t =
     hear_tells settings addresses p e octets stable t
 call_tells settings addresses stable p e (Due now) may t =
     subst (λ (s : LinkSettings). Tells settings addresses (timed_out p now)
-    (record { ended = e.ended; current = timed_current s.answer_ms now e.current })) (sym t.settings_are)
+    (record { ended = e.ended; current = timed_current s.answer_ms now e.current }))
+    (sym t.settings_are)
     (due_tells settings addresses p e now t)
 call_tells settings addresses stable p e (Offer station asdu) may t =
     offer_tells settings addresses p e station asdu may.0 may.1 t
@@ -27,15 +32,18 @@ call_tells settings addresses stable p e Withdraw may t =
 
 pub calls_tell : (settings : LinkSettings) (addresses : List ℕ) → IsStable (front_of settings.size)
     → (p : Primary) (e : Exchanges) (calls : List Call) →
-    MayCallAll p calls → Tells settings addresses p e → Tells settings addresses (called_all p calls)
+    MayCallAll p calls → Tells settings addresses p e
+    → Tells settings addresses (called_all p calls)
     (exchanged_all p calls e)
 calls_tell settings addresses stable p e [] may t = t
 calls_tell settings addresses stable p e (call ∷ calls) may t =
     calls_tell settings addresses stable (called p call) (exchanged p call e) calls may.1
     (call_tells settings addresses stable p e call may.0 t)
 
-run_tells : (settings : LinkSettings) (addresses : List ℕ) → IsStable (front_of settings.size) → (calls : List Call) →
-    0 < length addresses → All (FitsAddress settings.size) addresses → MayCallAll (start settings addresses) calls →
+run_tells : (settings : LinkSettings) (addresses : List ℕ) → IsStable (front_of settings.size)
+    → (calls : List Call) →
+    0 < length addresses → All (FitsAddress settings.size) addresses
+    → MayCallAll (start settings addresses) calls →
     Tells settings addresses (called_all (start settings addresses) calls)
     (exchanged_all (start settings addresses) calls no_exchanges)
 run_tells settings addresses stable calls some fit may =
@@ -44,7 +52,8 @@ run_tells settings addresses stable calls some fit may =
 
 pub run_keeps : (settings : LinkSettings) (addresses : List ℕ) → IsStable (front_of settings.size)
     → (calls : List Call) (station : ℕ) →
-    0 < length addresses → All (FitsAddress settings.size) addresses → MayCallAll (start settings addresses) calls →
+    0 < length addresses → All (FitsAddress settings.size) addresses
+    → MayCallAll (start settings addresses) calls →
     KeepsFrameCountBit settings (slice_index addresses station) Down
     (with_station station (views (front_of settings.size)
     (all_of (exchanged_all (start settings addresses) calls no_exchanges))))
@@ -53,8 +62,10 @@ run_keeps settings addresses stable calls station some fit may =
 
 pub run_counts : (settings : LinkSettings) (addresses : List ℕ) → IsStable (front_of settings.size)
     → (calls : List Call) →
-    0 < length addresses → All (FitsAddress settings.size) addresses → MayCallAll (start settings addresses) calls →
-    AreSpoilt (front_of settings.size) addresses (called_all (start settings addresses) calls).spoilt
+    0 < length addresses → All (FitsAddress settings.size) addresses
+    → MayCallAll (start settings addresses) calls →
+    AreSpoilt (front_of settings.size) addresses
+    (called_all (start settings addresses) calls).spoilt
     (all_of (exchanged_all (start settings addresses) calls no_exchanges))
 run_counts settings addresses stable calls some fit may =
     (run_tells settings addresses stable calls some fit may).spoilt

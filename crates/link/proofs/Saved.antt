@@ -1,5 +1,7 @@
 -- What is said of a link by numbers reads back.
-use Rattle.std.proofs.Common.{◌≡◌, ℕ, ◌<◌, ◌≤◌, ◌&&◌, nat_le, nat_lt, Bool, true, false, List, [], ◌∷◌, ◌++◌, take, drop, length, Option, Some, None, ◌+◌, append_assoc, refl, sym, ap, ◌∙◌, arith}
+use Rattle.std.proofs.Common.{◌≡◌, ℕ, ◌<◌, ◌≤◌, ◌&&◌, nat_le, nat_lt, Bool, true, false, List, []}
+use Rattle.std.proofs.Common.{◌∷◌, ◌++◌, take, drop, length, Option, Some, None, ◌+◌, append_assoc}
+use Rattle.std.proofs.Common.{refl, sym, ap, ◌∙◌, arith}
 use Rattle.std.specs.List.{All, list_all}
 use Rattle.std.proofs.lemmas.List.Elements.{All-head, All-tail}
 use Rattle.link.specs.Answers.{Service, Class1, Class2, Command}
@@ -8,7 +10,12 @@ use Rattle.std.proofs.Common.{zero, suc}
 use Rattle.std.specs.List.{AllByRecursion}
 use Rattle.std.proofs.lemmas.List.{take_more, drop_more, take_all, drop_all}
 use Rattle.link.specs.Turns.{StationState, station_at, no_station}
-use Rattle.link.specs.Saved.{bit_number, bit_from, service_numbers, link_numbers, command_from, command_service, service_from, held_with, held_missed, link_from, FitsSavedCommand, FitsSavedService, FitsSavedLink, LinkReadsBack, FitsSavedOffer, FitsSavedStation, flags_numbers, offered_numbers, flags_from, offered_from, some_offer, station_by, StationReadsBack, lines_of}
+use Rattle.link.specs.Saved.{bit_number, bit_from, service_numbers, link_numbers, command_from}
+use Rattle.link.specs.Saved.{command_service, service_from, held_with, held_missed, link_from}
+use Rattle.link.specs.Saved.{FitsSavedCommand, FitsSavedService, FitsSavedLink, LinkReadsBack}
+use Rattle.link.specs.Saved.{FitsSavedOffer, FitsSavedStation, flags_numbers, offered_numbers}
+use Rattle.link.specs.Saved.{flags_from, offered_from, some_offer, station_by, StationReadsBack}
+use Rattle.link.specs.Saved.{lines_of}
 
 pub bit_back : (b : Bool) → bit_from (bit_number b) ≡ Some b
 bit_back true = refl
@@ -25,15 +32,18 @@ pub command_back : (asdu : List ℕ) → FitsSavedCommand asdu → command_from 
 command_back asdu fits =
     let all = all_octets asdu fits.1 in
     let short : length asdu ≤ 12 = fits.0 in
-    let both : (nat_le (length asdu) 12 && list_all (λ n. nat_lt n 256) asdu) ≡ true = grind (arith, all, short) in
+    let both : (nat_le (length asdu) 12 && list_all (λ n. nat_lt n 256) asdu) ≡ true =
+    grind (arith, all, short) in
     rw both refl
 
-pub service_back : (service : Service) → FitsSavedService service → service_from (service_numbers service) ≡ Some service
+pub service_back : (service : Service) → FitsSavedService service
+    → service_from (service_numbers service) ≡ Some service
 service_back Class1 fits = refl
 service_back Class2 fits = refl
 service_back (Command asdu) fits = ap command_service (command_back asdu fits)
 
-held_back : (fcb : Bool) (service : Service) (missed : ℕ) → missed < 65536 → FitsSavedService service
+held_back : (fcb : Bool) (service : Service) (missed : ℕ) → missed < 65536
+    → FitsSavedService service
     → held_missed fcb (missed ∷ service_numbers service) ≡ Some (Held fcb service missed)
 held_back fcb service missed lt fits =
     let on : nat_lt missed 65536 ≡ true = grind arith in
@@ -49,20 +59,32 @@ link_back (Held false service missed) fits = held_back false service missed fits
 
 bare_back : (s : StationState) → s.address < 65536
     → flags_from (flags_numbers s)
-    ≡ Some (record { address = s.address; link = Down; acd = s.acd; dfc = s.dfc; offered = None; session = s.session })
+    ≡ Some (record {
+      address = s.address;
+      link = Down;
+      acd = s.acd;
+      dfc = s.dfc;
+      offered =
+          None;
+      session = s.session;
+    })
 bare_back s lt =
     let on : nat_lt s.address 65536 ≡ true = grind arith in
     rw (bit_back s.acd, bit_back s.dfc, bit_back s.session.has_gap, on) refl
 
-offered_back : (offered : Option (List ℕ)) → FitsSavedOffer offered → offered_from (offered_numbers offered) ≡ Some offered
+offered_back : (offered : Option (List ℕ)) → FitsSavedOffer offered
+    → offered_from (offered_numbers offered) ≡ Some offered
 offered_back None fits = refl
 offered_back (Some asdu) fits = ap some_offer (command_back asdu fits)
 
 pub station_back : (s : StationState) → FitsSavedStation s → StationReadsBack s
-station_back s fits = rw (bare_back s fits.address, link_back s.link fits.link, offered_back s.offered fits.offered) refl
+station_back s fits =
+    rw (bare_back s fits.address, link_back s.link fits.link, offered_back s.offered fits.offered)
+    refl
 
 pub first_line : (s : StationState) (rest all behind : List (List ℕ)) (flags : List ℕ)
-    → all ≡ flags_numbers s ∷ link_numbers s.link ∷ offered_numbers s.offered ∷ rest → all ≡ flags ∷ behind
+    → all ≡ flags_numbers s ∷ link_numbers s.link ∷ offered_numbers s.offered ∷ rest
+    → all ≡ flags ∷ behind
     → (flags ≡ flags_numbers s) × (behind ≡ link_numbers s.link ∷ offered_numbers s.offered ∷ rest)
 first_line s rest all behind flags e h = (cc, cc)
 
@@ -77,23 +99,43 @@ pub third_line : (s : StationState) (rest all behind : List (List ℕ)) (offered
 third_line s rest all behind offered e h = (cc, cc)
 
 -- a fault at one of them is none
-pub no_link : (s : StationState) (ns : List ℕ) (r : Option Link) → FitsSavedStation s → ns ≡ link_numbers s.link
+pub no_link : (s : StationState) (ns : List ℕ) (r : Option Link) → FitsSavedStation s
+    → ns ≡ link_numbers s.link
     → r ≡ link_from ns → r ≡ Some s.link
 no_link s ns r fits is e = e ∙ ap link_from is ∙ link_back s.link fits.link
 
-pub no_offered : (s : StationState) (ns : List ℕ) (r : Option (Option (List ℕ))) → FitsSavedStation s
+pub no_offered : (s : StationState) (ns : List ℕ) (r : Option (Option (List ℕ)))
+    → FitsSavedStation s
     → ns ≡ offered_numbers s.offered → r ≡ offered_from ns → r ≡ Some s.offered
 no_offered s ns r fits is e = e ∙ ap offered_from is ∙ offered_back s.offered fits.offered
 
-pub no_bare : (s : StationState) (ns : List ℕ) (r : Option StationState) → FitsSavedStation s → ns ≡ flags_numbers s
+pub no_bare : (s : StationState) (ns : List ℕ) (r : Option StationState) → FitsSavedStation s
+    → ns ≡ flags_numbers s
     → r ≡ flags_from ns
-    → r ≡ Some (record { address = s.address; link = Down; acd = s.acd; dfc = s.dfc; offered = None; session = s.session })
+    → r ≡ Some (record {
+      address = s.address;
+      link = Down;
+      acd = s.acd;
+      dfc = s.dfc;
+      offered =
+          None;
+      session = s.session;
+    })
 no_bare s ns r fits is e = e ∙ ap flags_from is ∙ bare_back s fits.address
 
 -- what was read is the station
-pub joined : (s bare : StationState) (link : Link) (offered : Option (List ℕ)) (a : Option StationState)
+pub joined : (s bare : StationState) (link : Link) (offered : Option (List ℕ))
+    (a : Option StationState)
     (b : Option Link) (o : Option (Option (List ℕ)))
-    → a ≡ Some (record { address = s.address; link = Down; acd = s.acd; dfc = s.dfc; offered = None; session = s.session })
+    → a ≡ Some (record {
+      address = s.address;
+      link = Down;
+      acd = s.acd;
+      dfc = s.dfc;
+      offered =
+          None;
+      session = s.session;
+    })
     → b ≡ Some s.link → o ≡ Some s.offered → a ≡ Some bare → b ≡ Some link → o ≡ Some offered
     → station_by (Some bare) (Some link) (Some offered) ≡ Some s
 joined s bare link offered a b o ea eb eo fa fb fo =
@@ -121,15 +163,19 @@ some_same t s e = cc
 pub lines_of-append : (ss ts : List StationState) → lines_of (ss ++ ts) ≡ lines_of ss ++ lines_of ts
 lines_of-append [] ts = refl
 lines_of-append (s ∷ ss) ts =
-    ap (λ (l : List (List ℕ)). flags_numbers s ∷ link_numbers s.link ∷ offered_numbers s.offered ∷ l)
+    ap (λ (l : List (List ℕ)). flags_numbers s ∷ link_numbers s.link ∷ offered_numbers s.offered
+    ∷ l)
     (lines_of-append ss ts)
 
 pub put_one_more : (old new : List (List ℕ)) (ss : List StationState) (i : ℕ) (s : StationState)
-    → (written : List (List ℕ)) → written ≡ old ++ lines_of (take i ss) → new ≡ written ++ lines_of (s ∷ [])
+    → (written : List (List ℕ)) → written ≡ old ++ lines_of (take i ss)
+    → new ≡ written ++ lines_of (s ∷ [])
     → take (i + 1) ss ≡ take i ss ++ s ∷ [] → new ≡ old ++ lines_of (take (i + 1) ss)
 put_one_more old new ss i s written e f g =
-    f ∙ ap (λ (l : List (List ℕ)). l ++ lines_of (s ∷ [])) e ∙ append_assoc old (lines_of (take i ss)) (lines_of (s ∷ []))
-    ∙ ap (λ (l : List (List ℕ)). old ++ l) (sym (lines_of-append (take i ss) (s ∷ [])) ∙ ap lines_of (sym g))
+    f ∙ ap (λ (l : List (List ℕ)). l ++ lines_of (s ∷ [])) e
+    ∙ append_assoc old (lines_of (take i ss)) (lines_of (s ∷ []))
+    ∙ ap (λ (l : List (List ℕ)). old ++ l) (sym (lines_of-append (take i ss) (s ∷ []))
+    ∙ ap lines_of (sym g))
 
 -- the station at a place, and the lines from it on
 pub fits_at : (ss : List StationState) (i : ℕ) → AllByRecursion FitsSavedStation ss → i < length ss
@@ -142,25 +188,34 @@ pub lines_at : (ss : List StationState) (i : ℕ) (rest : List (List ℕ)) → i
     → lines_of (drop i ss) ++ rest
     ≡ flags_numbers (station_at ss i) ∷ link_numbers (station_at ss i).link
     ∷ offered_numbers (station_at ss i).offered ∷ (lines_of (drop (i + 1) ss) ++ rest)
-lines_at ss i rest lt = ap (λ (ts : List StationState). lines_of ts ++ rest) (drop_more ss i no_station lt)
+lines_at ss i rest lt = ap (λ (ts : List StationState). lines_of ts ++ rest)
+    (drop_more ss i no_station lt)
 
 -- one more is read
-pub read_one_more : (ss : List StationState) (rest after : List (List ℕ)) (i : ℕ) (sofar : List StationState)
+pub read_one_more : (ss : List StationState) (rest after : List (List ℕ)) (i : ℕ)
+    (sofar : List StationState)
     (t : StationState) → i < length ss → sofar ≡ take i ss → t ≡ station_at ss i
     → after ≡ lines_of (drop (i + 1) ss) ++ rest
     → (sofar ++ t ∷ [] ≡ take (i + 1) ss) × (after ≡ lines_of (drop (i + 1) ss) ++ rest)
 read_one_more ss rest after i sofar t lt is same e = (
-  ap (λ (l : List StationState). l ++ t ∷ []) is ∙ ap (λ (x : StationState). take i ss ++ x ∷ []) same
+  ap (λ (l : List StationState). l ++ t ∷ []) is
+      ∙ ap (λ (x : StationState). take i ss ++ x ∷ []) same
       ∙ sym (take_more ss i no_station lt),
   e,
 )
 
-pub all_read : (ss : List StationState) (rest coming : List (List ℕ)) (sofar : List StationState) (i : ℕ)
-    → length ss ≤ i → sofar ≡ take i ss → coming ≡ lines_of (drop i ss) ++ rest → (sofar ≡ ss) × (coming ≡ rest)
-all_read ss rest coming sofar i le is e =
-    (is ∙ take_all i ss le, e ∙ ap (λ (ts : List StationState). lines_of ts ++ rest) (drop_all i ss le))
+pub all_read : (ss : List StationState) (rest coming : List (List ℕ)) (sofar : List StationState)
+    (i : ℕ)
+    → length ss ≤ i → sofar ≡ take i ss → coming ≡ lines_of (drop i ss) ++ rest → (sofar ≡ ss)
+    × (coming ≡ rest)
+all_read ss rest coming sofar i le is e = (
+  is ∙ take_all i ss le,
+  e
+      ∙ ap (λ (ts : List StationState). lines_of ts ++ rest) (drop_all i ss le),
+)
 
-pub all_push : (ss : List StationState) (s : StationState) → AllByRecursion FitsSavedStation ss → FitsSavedStation s
+pub all_push : (ss : List StationState) (s : StationState) → AllByRecursion FitsSavedStation ss
+    → FitsSavedStation s
     → AllByRecursion FitsSavedStation (ss ++ s ∷ [])
 all_push [] s all here = (here, all)
 all_push (t ∷ ts) s all here = (all.0, all_push ts s all.1 here)

@@ -1,21 +1,29 @@
 -- A secondary station's turn is one of the machine's.
 use Rattle.std.specs.Prelude.{◌==◌}
-use Rattle.std.proofs.Common.{◌≡◌, ◌≢◌, ℕ, ◌%◌, ◌&&◌, Bool, true, false, List, [], ◌∷◌, Option, Some, None, refl, ap, ◌∙◌, inl, inr, if◌then◌else◌}
+use Rattle.std.proofs.Common.{◌≡◌, ◌≢◌, ℕ, ◌%◌, ◌&&◌, Bool, true, false, List, [], ◌∷◌, Option}
+use Rattle.std.proofs.Common.{Some, None, refl, ap, ◌∙◌, inl, inr, if◌then◌else◌}
 use Rattle.std.proofs.lemmas.Bool.{eq-eqb}
-use Rattle.link.specs.Answers.{Frame, Fixed, Service, Class1, Class2, Command, Asked, Status, Reset, Counted, Answer, Ready, Confirmed, Busy, Report, NoData, Unable, Says, code_answer, data_answer}
+use Rattle.link.specs.Answers.{Frame, Fixed, Service, Class1, Class2, Command, Asked, Status, Reset}
+use Rattle.link.specs.Answers.{Counted, Answer, Ready, Confirmed, Busy, Report, NoData, Unable}
+use Rattle.link.specs.Answers.{Says, code_answer, data_answer}
 use Rattle.link.specs.Control.{is_secondary}
 use Rattle.link.specs.Outstation.{effects_of, Serves, OutstationStep, heard}
-use Rattle.link.specs.Secondary.{Secondary, outstation_of, control_of, short_of, data_frame, Served, unchanged, served_class1, served_class2, served_command, served_new, is_same, served_counted, served}
+use Rattle.link.specs.Secondary.{Secondary, outstation_of, control_of, short_of, data_frame, Served}
+use Rattle.link.specs.Secondary.{unchanged, served_class1, served_class2, served_command}
+use Rattle.link.specs.Secondary.{served_new, is_same, served_counted, served}
 
 fixed_says : (station control : ℕ) (request : Asked) (answer : Answer) → is_secondary control ≡ true
     → code_answer request (control % 16) ≡ Some answer →
     Says station request answer (Fixed control station)
 fixed_says station control request answer secondary code =
-    ap (λ (b : Bool). if (b && (station == station)) then code_answer request (control % 16) else None) secondary
-    ∙ ap (λ (b : Bool). if b then code_answer request (control % 16) else None) (eq-eqb station station refl)
+    ap (λ (b : Bool). if (b && (station == station)) then code_answer request (control % 16)
+    else None) secondary
+    ∙ ap (λ (b : Bool). if b then code_answer request (control % 16) else None)
+    (eq-eqb station station refl)
     ∙ code
 
-pub data_says : (station : ℕ) (request : Asked) (reports : List (List ℕ)) (asdu : List ℕ) (answer : Answer)
+pub data_says : (station : ℕ) (request : Asked) (reports : List (List ℕ)) (asdu : List ℕ)
+    (answer : Answer)
     → data_answer request asdu ≡ Some answer →
     Says station request answer (data_frame (control_of 8 reports) station asdu)
 data_says station request [] asdu answer e = ap (λ (b : Bool). if (true && b)
@@ -28,19 +36,22 @@ status_says : (station : ℕ) (reports : List (List ℕ)) → Says station Statu
 status_says station [] = fixed_says station 11 Status Ready refl refl
 status_says station (r ∷ rs) = fixed_says station 43 Status Ready refl refl
 
-reset_says : (station : ℕ) (reports : List (List ℕ)) → Says station Reset Confirmed (short_of 0 station reports)
+reset_says : (station : ℕ) (reports : List (List ℕ))
+    → Says station Reset Confirmed (short_of 0 station reports)
 reset_says station [] = refl
 reset_says station (r ∷ rs) = fixed_says station 32 Reset Confirmed refl refl
 
 command_says : (station : ℕ) (fcb : Bool) (asdu : List ℕ) (reports : List (List ℕ))
     → Says station (Counted fcb (Command asdu)) Confirmed (short_of 0 station reports)
 command_says station fcb asdu [] = refl
-command_says station fcb asdu (r ∷ rs) = fixed_says station 32 (Counted fcb (Command asdu)) Confirmed refl refl
+command_says station fcb asdu (r ∷ rs) = fixed_says station 32 (Counted fcb (Command asdu))
+    Confirmed refl refl
 
 busy_says : (station : ℕ) (fcb : Bool) (asdu : List ℕ) (reports : List (List ℕ))
     → Says station (Counted fcb (Command asdu)) Busy (Fixed (control_of 1 reports) station)
 busy_says station fcb asdu [] = fixed_says station 1 (Counted fcb (Command asdu)) Busy refl refl
-busy_says station fcb asdu (r ∷ rs) = fixed_says station 33 (Counted fcb (Command asdu)) Busy refl refl
+busy_says station fcb asdu (r ∷ rs) = fixed_says station 33 (Counted fcb (Command asdu)) Busy refl
+    refl
 
 pub none1_says : (station : ℕ) (fcb : Bool) (reports : List (List ℕ))
     → Says station (Counted fcb Class1) NoData (short_of 9 station reports)
@@ -55,7 +66,8 @@ none2_says station fcb (r ∷ rs) = fixed_says station 41 (Counted fcb Class2) N
 -- what a service with a new bit makes
 abbrev pub ServesNew : Secondary → (fcb : Bool) → Service → Served → Type 0
 ServesNew s fcb service served_so =
-    (frame : Frame) × (answer : Answer) × Says s.address (Counted fcb service) answer frame × (answer ≢ Unable)
+    (frame : Frame) × (answer : Answer) × Says s.address (Counted fcb service) answer frame
+    × (answer ≢ Unable)
     × (served_so.turn ≡ record { answer = Some frame; done = effects_of service answer })
     × (outstation_of served_so.state ≡ record { bit = Some fcb; last = Some frame })
 
@@ -64,7 +76,14 @@ serves_new : (granted : Bool) (s : Secondary) (fcb : Bool) (service : Service)
 serves_new granted s fcb Class1 = go s.class1
   where
     go : (reports : List (List ℕ)) → ServesNew s fcb Class1 (served_class1 s fcb reports)
-    go [] = (short_of 9 s.address s.class1, NoData, none1_says s.address fcb s.class1, (λ e. cc), refl, refl)
+    go [] = (
+      short_of 9 s.address s.class1,
+      NoData,
+      none1_says s.address fcb s.class1,
+      (λ e. cc),
+      refl,
+      refl,
+    )
     go (r ∷ rs) = (
       data_frame (control_of 8 rs) s.address r,
       Report r,
@@ -76,7 +95,14 @@ serves_new granted s fcb Class1 = go s.class1
 serves_new granted s fcb Class2 = go s.class2
   where
     go : (reports : List (List ℕ)) → ServesNew s fcb Class2 (served_class2 s fcb reports)
-    go [] = (short_of 9 s.address s.class1, NoData, none2_says s.address fcb s.class1, (λ e. cc), refl, refl)
+    go [] = (
+      short_of 9 s.address s.class1,
+      NoData,
+      none2_says s.address fcb s.class1,
+      (λ e. cc),
+      refl,
+      refl,
+    )
     go (r ∷ rs) = (
       data_frame (control_of 8 s.class1) s.address r,
       Report r,
@@ -115,7 +141,8 @@ other_is false true e = λ q. cc
 other_is false false e = cc
 
 serves : (granted : Bool) (s : Secondary) (bit : Option Bool) (fcb : Bool) (service : Service) →
-    Serves s.address bit (outstation_of s) fcb service (served_counted granted s bit fcb service).turn
+    Serves s.address bit (outstation_of s) fcb service
+    (served_counted granted s bit fcb service).turn
     (outstation_of (served_counted granted s bit fcb service).state)
 serves granted s None fcb service = (refl, refl)
 serves granted s (Some bit) fcb service = go (is_same fcb bit) refl
@@ -136,7 +163,8 @@ served_step granted s Status = heard (
   refl,
   refl,
 )
-served_step granted s Reset = heard (short_of 0 s.address s.class1, reset_says s.address s.class1, refl, refl)
+served_step granted s Reset =
+    heard (short_of 0 s.address s.class1, reset_says s.address s.class1, refl, refl)
 served_step granted s (Counted fcb service) = heard (serves granted s s.bit fcb service)
 
 pub kept_address : (granted : Bool) (s : Secondary) (request : Asked)
@@ -162,15 +190,19 @@ kept_address granted s (Counted fcb service) = counted s.bit
     new Class2 = class2 s.class2
     new (Command asdu) = command granted asdu
 
-    same : (b : Bool) → (if b then unchanged s s.last else served_new granted s fcb service).state.address ≡ s.address
+    same : (b : Bool)
+        → (if b then unchanged s s.last else served_new granted s fcb service).state.address
+        ≡ s.address
     same true = refl
     same false = new service
 
-    counted : (bit : Option Bool) → (served_counted granted s bit fcb service).state.address ≡ s.address
+    counted : (bit : Option Bool) → (served_counted granted s bit fcb service).state.address
+        ≡ s.address
     counted None = refl
     counted (Some bit) = same (is_same fcb bit)
 
-pub kept_size : (granted : Bool) (s : Secondary) (request : Asked) → (served granted s request).state.size ≡ s.size
+pub kept_size : (granted : Bool) (s : Secondary) (request : Asked)
+    → (served granted s request).state.size ≡ s.size
 kept_size granted s Status = refl
 kept_size granted s Reset = refl
 kept_size granted s (Counted fcb service) = counted s.bit
@@ -192,7 +224,8 @@ kept_size granted s (Counted fcb service) = counted s.bit
     new Class2 = class2 s.class2
     new (Command asdu) = command granted asdu
 
-    same : (b : Bool) → (if b then unchanged s s.last else served_new granted s fcb service).state.size ≡ s.size
+    same : (b : Bool)
+        → (if b then unchanged s s.last else served_new granted s fcb service).state.size ≡ s.size
     same true = refl
     same false = new service
 

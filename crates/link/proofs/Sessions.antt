@@ -1,26 +1,41 @@
 -- What the primary knows of an outstation, over whole runs.
-use Rattle.std.proofs.Common.{◌≡◌, ℕ, Bool, true, false, List, [], ◌∷◌, ◌++◌, flat_map, Option, Some, None, option_and_then, refl, sym, ap, subst, ◌∙◌, inl, inr, append_assoc, if◌then◌else◌, IsSome}
+use Rattle.std.proofs.Common.{◌≡◌, ℕ, Bool, true, false, List, [], ◌∷◌, ◌++◌, flat_map, Option}
+use Rattle.std.proofs.Common.{Some, None, option_and_then, refl, sym, ap, subst, ◌∙◌, inl, inr}
+use Rattle.std.proofs.Common.{append_assoc, if◌then◌else◌, IsSome}
 use Rattle.std.specs.List.{AllByRecursion}
-use Rattle.link.specs.Answers.{Frame, Service, Class1, Class2, Command, Asked, Status, Reset, Counted, Answer, Ready, Confirmed, Busy, Report, NoData, Unable, answer_of}
+use Rattle.link.specs.Answers.{Frame, Service, Class1, Class2, Command, Asked, Status, Reset}
+use Rattle.link.specs.Answers.{Counted, Answer, Ready, Confirmed, Busy, Report, NoData, Unable}
+use Rattle.link.specs.Answers.{answer_of}
 use Rattle.link.specs.Exchanges.{Exchange, answer_to}
-use Rattle.link.specs.Procedure.{LinkSettings, Link, Down, Available, Next, Held, after_outcome, after, MaySend, KeepsFrameCountBit, is_up, IsSteady}
-use Rattle.link.specs.Outstation.{Effect, Given, Outstation, unreset, reset_link, Turn, OutstationStep, OutstationRun, all_done}
-use Rattle.link.specs.Delivery.{learnt_by, learnt, requests_of, IsTrueFront, AreTrueFronts, IsHonest, pending_by, pending_after, MayOwe, IsKnown, is_reset, Session, with_first, before_reset, sessions, IsSessionKnown, IsAllOrButLast, IsLatestAnswered, given_by, reports, is_gap, HasReports}
-use Rattle.link.proofs.Bit.{Agrees, owes_of, exchange_step, reset_taken, idle_status, idle_reset, confirmed_reset, append-nil}
+use Rattle.link.specs.Procedure.{LinkSettings, Link, Down, Available, Next, Held, after_outcome}
+use Rattle.link.specs.Procedure.{after, MaySend, KeepsFrameCountBit, is_up, IsSteady}
+use Rattle.link.specs.Outstation.{Effect, Given, Outstation, unreset, reset_link, Turn}
+use Rattle.link.specs.Outstation.{OutstationStep, OutstationRun, all_done}
+use Rattle.link.specs.Delivery.{learnt_by, learnt, requests_of, IsTrueFront, AreTrueFronts}
+use Rattle.link.specs.Delivery.{IsHonest, pending_by, pending_after, MayOwe, IsKnown, is_reset}
+use Rattle.link.specs.Delivery.{Session, with_first, before_reset, sessions, IsSessionKnown}
+use Rattle.link.specs.Delivery.{IsAllOrButLast, IsLatestAnswered, given_by, reports, is_gap}
+use Rattle.link.specs.Delivery.{HasReports}
+use Rattle.link.proofs.Bit.{Agrees, owes_of, exchange_step, reset_taken, idle_status, idle_reset}
+use Rattle.link.proofs.Bit.{confirmed_reset, append-nil}
 
 -- From a place with this pending and owed: the rest of its session is known, and the later ones.
 pub record AreKnown (station : ℕ) (pending : Option Service) (owed : List Effect) (rest : Session)
     (later : List Session) : Type 0 where
-  pub present : IsKnown (learnt station rest.exchanges) (pending_after station pending rest.exchanges) (owed
+  pub present : IsKnown (learnt station rest.exchanges)
+      (pending_after station pending rest.exchanges) (owed
       ++ all_done rest.turns)
   pub each : AllByRecursion (λ (s : Session). IsSessionKnown station s) later
 
-abbrev pub IsKnownFrom : (station : ℕ) → Option Service → List Effect → List Exchange → List Turn → Type 0
-IsKnownFrom station pending owed xs turns = AreKnown station pending owed (before_reset station xs turns)
+abbrev pub IsKnownFrom : (station : ℕ) → Option Service → List Effect → List Exchange → List Turn
+    → Type 0
+IsKnownFrom station pending owed xs turns =
+    AreKnown station pending owed (before_reset station xs turns)
     (sessions station xs turns)
 
 -- nothing is learnt by a reset, and nothing is pending after it
-pub reset_learns : (request : Asked) (m : Option Answer) (pending : Option Service) → is_reset request m ≡ true →
+pub reset_learns : (request : Asked) (m : Option Answer) (pending : Option Service)
+    → is_reset request m ≡ true →
     (learnt_by request m ≡ []) × (pending_by request m pending ≡ None)
 reset_learns Reset (Some Confirmed) pending h = (refl, refl)
 reset_learns Reset None pending h = cc
@@ -33,7 +48,8 @@ reset_learns Status m pending h = cc
 reset_learns (Counted fcb service) m pending h = cc
 
 -- one more exchange before what is known
-one_more : (first : List Effect) (pending : Option Service) (owed done : List Effect) (some all : List Effect)
+one_more : (first : List Effect) (pending : Option Service) (owed done : List Effect)
+    (some all : List Effect)
     (owed' : List Effect) →
     owed ++ done ≡ first ++ owed' → IsKnown some pending (owed' ++ all)
     → IsKnown (first ++ some) pending (owed ++ (done ++ all))
@@ -46,7 +62,8 @@ one_more first pending owed done some all owed' sum k = record {
 }
 
 -- a confirmed reset, of which the outstation's turn is known
-after_reset : (settings : LinkSettings) (station : ℕ) (link : Link) (pending : Option Service) (x : Exchange)
+after_reset : (settings : LinkSettings) (station : ℕ) (link : Link) (pending : Option Service)
+    (x : Exchange)
     (old mid : Outstation) (turn : Turn) →
     is_reset x.request (answer_to station x) ≡ true → OutstationStep station old x.request turn mid
     → IsTrueFront x.front turn →
@@ -55,7 +72,8 @@ after_reset : (settings : LinkSettings) (station : ℕ) (link : Link) (pending :
 after_reset settings station link pending x old mid turn is step true_front =
     go x.request refl (confirmed_reset x.request (answer_to station x) is)
   where
-    go : (request : Asked) → x.request ≡ request → (x.request ≡ Reset) × (answer_to station x ≡ Some Confirmed) →
+    go : (request : Asked) → x.request ≡ request → (x.request ≡ Reset)
+        × (answer_to station x ≡ Some Confirmed) →
         (turn.done ≡ []) × Agrees station (after settings station x link)
         (pending_by x.request (answer_to station x) pending) mid []
     go request same c =
@@ -63,7 +81,8 @@ after_reset settings station link pending x old mid turn is step true_front =
         subst (λ (r : Asked). OutstationStep station old r turn mid) c.0 step in
         let confirmed : option_and_then (answer_of station Reset) x.front ≡ Some Confirmed =
         ap (λ (r : Asked). option_and_then (answer_of station r) x.front) (sym c.0) ∙ c.1 in
-        let reset : mid ≡ reset_link = reset_taken station x.front old mid turn taken true_front confirmed in
+        let reset : mid ≡ reset_link = reset_taken station x.front old mid turn taken true_front
+        confirmed in
         let up : after settings station x link ≡ Next true =
         ap (λ (m : Option Answer). after_outcome settings m x link) c.1
         ∙ ap (λ (r : Asked). after_outcome settings (Some Confirmed)
@@ -71,11 +90,13 @@ after_reset settings station link pending x old mid turn is step true_front =
         let clear : pending_by x.request (answer_to station x) pending ≡ None =
         (reset_learns x.request (answer_to station x) pending is).1 in (
           idle_reset station old mid turn taken,
-          subst (λ (l : Link). Agrees station l (pending_by x.request (answer_to station x) pending) mid []) (sym up)
+          subst (λ (l : Link). Agrees station l (pending_by x.request (answer_to station x) pending)
+              mid []) (sym up)
               (clear, record { bit = ap (λ (o : Outstation). o.bit) reset; owes = refl }),
         )
 
-pub known_from : (settings : LinkSettings) (station : ℕ) (link : Link) (pending : Option Service) (xs : List Exchange)
+pub known_from : (settings : LinkSettings) (station : ℕ) (link : Link) (pending : Option Service)
+    (xs : List Exchange)
     (turns : List Turn)
     (old end : Outstation) (owed : List Effect) →
     Agrees station link pending old owed → KeepsFrameCountBit settings station link xs
@@ -90,18 +111,25 @@ known_from settings station link pending [] [] old end owed agrees keeps run fro
   };
   each = tt;
 }
-known_from settings station link pending [] (turn ∷ turns) old end owed agrees keeps run fronts = absurd run
-known_from settings station link pending (x ∷ xs) [] old end owed agrees keeps run fronts = absurd run
-known_from settings station link pending (x ∷ xs) (turn ∷ turns) old end owed agrees keeps run fronts =
+known_from settings station link pending [] (turn ∷ turns) old end owed agrees keeps run fronts =
+    absurd run
+known_from settings station link pending (x ∷ xs) [] old end owed agrees keeps run fronts =
+    absurd run
+known_from settings station link pending (x ∷ xs) (turn ∷ turns) old end owed agrees keeps run
+    fronts =
     go (is_reset x.request (answer_to station x)) refl
-    (λ (p : Option Service) (o : List Effect) (a : Agrees station (after settings station x link) p run.0 o).
-    known_from settings station (after settings station x link) p xs turns run.0 end o a keeps.1 run.2 fronts.1)
+    (λ (p : Option Service) (o : List Effect) (a : Agrees station (after settings station x link) p
+    run.0 o).
+    known_from settings station (after settings station x link) p xs turns run.0 end o a keeps.1
+    run.2 fronts.1)
   where
     go : (b : Bool) → is_reset x.request (answer_to station x) ≡ b →
-        ((p : Option Service) (o : List Effect) → Agrees station (after settings station x link) p run.0 o
+        ((p : Option Service) (o : List Effect)
+        → Agrees station (after settings station x link) p run.0 o
         → IsKnownFrom station p o xs turns) →
         AreKnown station pending owed
-        (if b then record { exchanges = []; turns = [] } else with_first x turn (before_reset station xs turns))
+        (if b then record { exchanges = []; turns = [] }
+        else with_first x turn (before_reset station xs turns))
         (if b then with_first x turn (before_reset station xs turns)
         ∷ sessions station xs turns else sessions station xs turns)
     go true is ih =
@@ -121,33 +149,44 @@ known_from settings station link pending (x ∷ xs) (turn ∷ turns) old end owe
           each = (
             one_more (learnt_by x.request (answer_to station x)) _ [] turn.done _ _ []
                 (r.0 ∙ ap (λ (e : List Effect). e ++ []) (sym l.0))
-                (subst (λ (p : Option Service). IsKnown (learnt station (before_reset station xs turns).exchanges)
+                (subst
+                (λ (p : Option Service). IsKnown
+                (learnt station (before_reset station xs turns).exchanges)
                 (pending_after station p (before_reset station xs turns).exchanges) ([]
                 ++ all_done (before_reset station xs turns).turns)) clear next.present),
             next.each,
           );
         }
     go false is ih =
-        let step = exchange_step settings station link pending x.request x.front x.closed old run.0 turn owed agrees
+        let step = exchange_step settings station link pending x.request x.front x.closed old run.0
+        turn owed agrees
         keeps.0 run.1 fronts.0 is in
         let next = ih (pending_by x.request (answer_to station x) pending) step.owed' step.agrees in
         record {
-          present = one_more (learnt_by x.request (answer_to station x)) _ owed turn.done _ _ step.owed' step.sum
+          present = one_more (learnt_by x.request (answer_to station x)) _ owed turn.done _ _
+              step.owed' step.sum
               next.present;
           each = next.each;
         }
 
 -- While the link is down and isn't reset, it stays down, and nothing is learnt or pending by it.
-pub record IsIdle (settings : LinkSettings) (station : ℕ) (link : Link) (request : Asked) (m : Option Answer)
+pub record IsIdle (settings : LinkSettings) (station : ℕ) (link : Link) (request : Asked)
+    (m : Option Answer)
     (x : Exchange) : Type 0 where
   pub down : is_up (after_outcome settings m x link) ≡ false
   pub nothing : learnt_by request m ≡ []
   pub same : (pending : Option Service) → pending_by request m pending ≡ pending
 
-pub idle_down : (settings : LinkSettings) (station : ℕ) (link : Link) (request : Asked) (m : Option Answer)
+pub idle_down : (settings : LinkSettings) (station : ℕ) (link : Link) (request : Asked)
+    (m : Option Answer)
     (front : Option Frame) (closed : Bool) →
     is_up link ≡ false → MaySend link request → is_reset request m ≡ false →
-    IsIdle settings station link request m (record { request = request; front = front; closed = closed })
+    IsIdle settings station link request m (record {
+      request = request;
+      front = front;
+      closed =
+          closed;
+    })
 idle_down settings station Down Status None front closed down may other =
     record { down = refl; nothing = refl; same = λ p. refl }
 idle_down settings station Available Status None front closed down may other =
@@ -176,17 +215,20 @@ idle_down settings station (Held fcb service missed) request m front closed down
 idle_down settings station link request m front closed down may other = absurd may
 
 -- no service is done while the link is down
-idle_turn : (station : ℕ) (link : Link) (request : Asked) (old new : Outstation) (turn : Turn) → is_up link ≡ false
+idle_turn : (station : ℕ) (link : Link) (request : Asked) (old new : Outstation) (turn : Turn)
+    → is_up link ≡ false
     → MaySend link request →
     OutstationStep station old request turn new → turn.done ≡ []
 idle_turn station Down Status old new turn down may step = idle_status station old new turn step
-idle_turn station Available Status old new turn down may step = idle_status station old new turn step
+idle_turn station Available Status old new turn down may step =
+    idle_status station old new turn step
 idle_turn station Available Reset old new turn down may step = idle_reset station old new turn step
 idle_turn station (Next fcb) request old new turn down may step = cc
 idle_turn station (Held fcb service missed) request old new turn down may step = cc
 idle_turn station link request old new turn down may step = absurd may
 
-pub reset_from_down : (link : Link) (request : Asked) → MaySend link request → request ≡ Reset → is_up link ≡ false
+pub reset_from_down : (link : Link) (request : Asked) → MaySend link request → request ≡ Reset
+    → is_up link ≡ false
 reset_from_down Down request may is = refl
 reset_from_down Available request may is = refl
 reset_from_down (Next fcb) (Counted sent service) may is = cc
@@ -194,7 +236,8 @@ reset_from_down (Held fcb service missed) (Counted sent again) may is = cc
 reset_from_down link request may is = absurd may
 
 -- Before the first reset nothing is learnt, and nothing is pending.
-nothing_before : (settings : LinkSettings) (station : ℕ) (link : Link) (xs : List Exchange) (turns : List Turn)
+nothing_before : (settings : LinkSettings) (station : ℕ) (link : Link) (xs : List Exchange)
+    (turns : List Turn)
     → is_up link ≡ false →
     KeepsFrameCountBit settings station link xs →
     (learnt station (before_reset station xs turns).exchanges ≡ [])
@@ -222,31 +265,40 @@ nothing_before settings station link (x ∷ xs) (turn ∷ turns) down keeps =
         } else with_first x turn (before_reset station xs turns)).exchanges ≡ None)
     go true is ih = (refl, refl)
     go false is ih =
-        let idle = idle_down settings station link x.request (answer_to station x) x.front x.closed down keeps.0 is in
+        let idle = idle_down settings station link x.request (answer_to station x) x.front x.closed
+        down keeps.0 is in
         let rest = ih idle.down in (
-          ap (λ (e : List Effect). e ++ learnt station (before_reset station xs turns).exchanges) idle.nothing ∙ rest.0,
-          ap (λ (p : Option Service). pending_after station p (before_reset station xs turns).exchanges)
+          ap (λ (e : List Effect). e ++ learnt station (before_reset station xs turns).exchanges)
+              idle.nothing ∙ rest.0,
+          ap (λ (p : Option Service). pending_after station p
+              (before_reset station xs turns).exchanges)
               (idle.same None) ∙ rest.1,
         )
 
--- All that is learnt is learnt before the first reset, and then in the sessions; likewise what is done.
+-- All that is learnt is learnt before the first reset, and then in the sessions; likewise what is
+-- done.
 learnt_in_sessions : (station : ℕ) (xs : List Exchange) (turns : List Turn) (old end : Outstation)
     → OutstationRun station old (requests_of xs) turns end →
     (learnt station (before_reset station xs turns).exchanges
-    ++ flat_map (λ (s : Session). learnt station s.exchanges) (sessions station xs turns) ≡ learnt station xs)
-    × (all_done (before_reset station xs turns).turns ++ flat_map (λ (s : Session). all_done s.turns)
+    ++ flat_map (λ (s : Session). learnt station s.exchanges) (sessions station xs turns)
+    ≡ learnt station xs)
+    × (all_done (before_reset station xs turns).turns
+    ++ flat_map (λ (s : Session). all_done s.turns)
     (sessions station xs turns) ≡ all_done turns)
 learnt_in_sessions station [] [] old end run = (refl, refl)
 learnt_in_sessions station [] (turn ∷ turns) old end run = absurd run
 learnt_in_sessions station (x ∷ xs) [] old end run = absurd run
 learnt_in_sessions station (x ∷ xs) (turn ∷ turns) old end run =
-    go (is_reset x.request (answer_to station x)) (learnt_in_sessions station xs turns run.0 end run.2)
+    go (is_reset x.request (answer_to station x)) (learnt_in_sessions station xs turns run.0 end
+    run.2)
   where
     go : (b : Bool) →
         (learnt station (before_reset station xs turns).exchanges
-        ++ flat_map (λ (s : Session). learnt station s.exchanges) (sessions station xs turns) ≡ learnt station xs)
+        ++ flat_map (λ (s : Session). learnt station s.exchanges) (sessions station xs turns)
+        ≡ learnt station xs)
         × (all_done (before_reset station xs turns).turns
-        ++ flat_map (λ (s : Session). all_done s.turns) (sessions station xs turns) ≡ all_done turns) →
+        ++ flat_map (λ (s : Session). all_done s.turns) (sessions station xs turns)
+        ≡ all_done turns) →
         (learnt station (if b then record {
           exchanges = [];
           turns =
@@ -261,7 +313,8 @@ learnt_in_sessions station (x ∷ xs) (turn ∷ turns) old end run =
           turns =
               [];
         } else with_first x turn (before_reset station xs turns)).turns
-        ++ flat_map (λ (s : Session). all_done s.turns) (if b then with_first x turn (before_reset station xs turns)
+        ++ flat_map (λ (s : Session). all_done s.turns) (if b
+        then with_first x turn (before_reset station xs turns)
         ∷ sessions station xs turns else sessions station xs turns)
         ≡ all_done (turn ∷ turns))
     go true ih = (
@@ -276,7 +329,8 @@ learnt_in_sessions station (x ∷ xs) (turn ∷ turns) old end run =
     )
 
 -- Under a steady link one session holds all.
-pub steady_from : (settings : LinkSettings) (station : ℕ) (link : Link) (pending : Option Service) (xs : List Exchange)
+pub steady_from : (settings : LinkSettings) (station : ℕ) (link : Link) (pending : Option Service)
+    (xs : List Exchange)
     (turns : List Turn)
     (old end : Outstation) (owed : List Effect) →
     Agrees station link pending old owed → (is_up link ≡ false → (owed ≡ []) × (pending ≡ None)) →
@@ -284,44 +338,65 @@ pub steady_from : (settings : LinkSettings) (station : ℕ) (link : Link) (pendi
     → OutstationRun station old (requests_of xs) turns end → AreTrueFronts xs turns →
     IsKnown (learnt station xs) (pending_after station pending xs) (owed ++ all_done turns)
 steady_from settings station link pending [] [] old end owed agrees clear keeps steady run fronts =
-    record { owed = owed; may_owe = owes_of station link pending old owed agrees; whole = sym (append-nil owed) }
-steady_from settings station link pending [] (turn ∷ turns) old end owed agrees clear keeps steady run fronts =
+    record {
+      owed = owed;
+      may_owe = owes_of station link pending old owed agrees;
+      whole =
+          sym (append-nil owed);
+    }
+steady_from settings station link pending [] (turn ∷ turns) old end owed agrees clear keeps steady
+    run fronts =
     absurd run
-steady_from settings station link pending (x ∷ xs) [] old end owed agrees clear keeps steady run fronts = absurd run
-steady_from settings station link pending (x ∷ xs) (turn ∷ turns) old end owed agrees clear keeps steady run fronts =
+steady_from settings station link pending (x ∷ xs) [] old end owed agrees clear keeps steady run
+    fronts = absurd run
+steady_from settings station link pending (x ∷ xs) (turn ∷ turns) old end owed agrees clear keeps
+    steady run fronts =
     go (is_reset x.request (answer_to station x)) refl
-    (λ (p : Option Service) (o : List Effect) (a : Agrees station (after settings station x link) p run.0 o)
+    (λ (p : Option Service) (o : List Effect) (a : Agrees station (after settings station x link) p
+    run.0 o)
     (c : is_up (after settings station x link) ≡ false → (o ≡ []) × (p ≡ None)).
-    steady_from settings station (after settings station x link) p xs turns run.0 end o a c keeps.1 steady.1 run.2
+    steady_from settings station (after settings station x link) p xs turns run.0 end o a c keeps.1
+    steady.1 run.2
     fronts.1)
   where
     go : (b : Bool) → is_reset x.request (answer_to station x) ≡ b →
-        ((p : Option Service) (o : List Effect) → Agrees station (after settings station x link) p run.0 o →
+        ((p : Option Service) (o : List Effect)
+        → Agrees station (after settings station x link) p run.0 o →
         (is_up (after settings station x link) ≡ false → (o ≡ []) × (p ≡ None)) →
         IsKnown (learnt station xs) (pending_after station p xs) (o ++ all_done turns)) →
-        IsKnown (learnt station (x ∷ xs)) (pending_after station pending (x ∷ xs)) (owed ++ all_done (turn ∷ turns))
+        IsKnown (learnt station (x ∷ xs)) (pending_after station pending (x ∷ xs))
+        (owed ++ all_done (turn ∷ turns))
     go true is ih =
         let r = after_reset settings station link pending x old run.0 turn is run.1 fronts.0 in
         let l = reset_learns x.request (answer_to station x) pending is in
-        let c = clear (reset_from_down link x.request keeps.0 (confirmed_reset x.request (answer_to station x) is).0) in
+        let c =
+        clear
+        (reset_from_down link x.request keeps.0 (confirmed_reset x.request (answer_to station x)
+        is).0) in
         one_more (learnt_by x.request (answer_to station x)) _ owed turn.done _ _ []
-        (ap (λ (o : List Effect). o ++ turn.done) c.0 ∙ r.0 ∙ ap (λ (e : List Effect). e ++ []) (sym l.0))
+        (ap (λ (o : List Effect). o ++ turn.done) c.0 ∙ r.0
+        ∙ ap (λ (e : List Effect). e ++ []) (sym l.0))
         (ih (pending_by x.request (answer_to station x) pending) [] r.1 (λ d. (refl, l.1)))
     go false is ih =
-        let step = exchange_step settings station link pending x.request x.front x.closed old run.0 turn owed agrees
+        let step = exchange_step settings station link pending x.request x.front x.closed old run.0
+        turn owed agrees
         keeps.0 run.1 fronts.0 is in
-        one_more (learnt_by x.request (answer_to station x)) _ owed turn.done _ _ step.owed' step.sum
+        one_more (learnt_by x.request (answer_to station x)) _ owed turn.done _ _ step.owed'
+        step.sum
         (ih (pending_by x.request (answer_to station x) pending) step.owed' step.agrees
-        (λ (d : is_up (after settings station x link) ≡ false). down (is_up link) refl step.owed' step.sum d))
+        (λ (d : is_up (after settings station x link) ≡ false). down (is_up link) refl step.owed'
+        step.sum d))
       where
         down : (u : Bool) → is_up link ≡ u → (o : List Effect)
             → owed ++ turn.done ≡ learnt_by x.request (answer_to station x) ++ o →
             is_up (after settings station x link) ≡ false
             → (o ≡ []) × (pending_by x.request (answer_to station x) pending ≡ None)
-        down true up o sum d = let e : is_up (after settings station x link) ≡ true = steady.0 up in cc
+        down true up o sum d = let e : is_up (after settings station x link) ≡ true = steady.0 up in
+            cc
         down false up o sum d =
             let c = clear up in
-            let idle = idle_down settings station link x.request (answer_to station x) x.front x.closed up keeps.0 is in
+            let idle = idle_down settings station link x.request (answer_to station x) x.front
+            x.closed up keeps.0 is in
             let quiet = idle_turn station link x.request old run.0 turn up keeps.0 run.1 in (
               ap (λ (e : List Effect). e ++ o) (sym idle.nothing) ∙ sym sum
                   ∙ ap (λ (e : List Effect). e ++ turn.done) c.0 ∙ quiet,
@@ -329,7 +404,8 @@ steady_from settings station link pending (x ∷ xs) (turn ∷ turns) old end ow
             )
 
 -- Where the latest exchange was answered nothing is pending.
-answered_clears : (settings : LinkSettings) (link : Link) (request : Asked) (answer : Answer) (x : Exchange)
+answered_clears : (settings : LinkSettings) (link : Link) (request : Asked) (answer : Answer)
+    (x : Exchange)
     (pending : Option Service) →
     x.request ≡ request → MaySend link request → (is_up link ≡ false → pending ≡ None) →
     (is_up link ≡ true
@@ -347,11 +423,13 @@ answered_clears settings Available Reset answer x pending same may clear steady 
 answered_clears settings link (Counted fcb service) Ready x pending same may clear steady = refl
 answered_clears settings link (Counted fcb service) Confirmed x pending same may clear steady = refl
 answered_clears settings link (Counted fcb service) Busy x pending same may clear steady = refl
-answered_clears settings link (Counted fcb service) (Report asdu) x pending same may clear steady = refl
+answered_clears settings link (Counted fcb service) (Report asdu) x pending same may clear steady =
+    refl
 answered_clears settings link (Counted fcb service) NoData x pending same may clear steady = refl
 answered_clears settings (Next sent) (Counted fcb service) Unable x pending same may clear steady =
     let e = steady refl in cc
-answered_clears settings (Held sent again missed) (Counted fcb service) Unable x pending same may clear steady =
+answered_clears settings (Held sent again missed) (Counted fcb service) Unable x pending same may
+    clear steady =
     let e = steady refl in cc
 answered_clears settings link request answer x pending same may clear steady = absurd may
 
@@ -370,9 +448,11 @@ latest_known settings station link pending (x ∷ []) clear keeps steady latest 
     go (Some answer) e l =
         ap (λ (m : Option Answer). pending_by x.request m pending) e
         ∙ answered_clears settings link x.request answer x pending refl keeps.0 clear
-        (subst (λ (m : Option Answer). is_up link ≡ true → is_up (after_outcome settings m x link) ≡ true) e steady.0)
+        (subst (λ (m : Option Answer). is_up link ≡ true → is_up (after_outcome settings m x link)
+        ≡ true) e steady.0)
 latest_known settings station link pending (x ∷ (y ∷ ys)) clear keeps steady latest none =
-    latest_known settings station (after settings station x link) (pending_by x.request (answer_to station x) pending)
+    latest_known settings station (after settings station x link)
+    (pending_by x.request (answer_to station x) pending)
     (y ∷ ys)
     (λ d. go (is_up link) refl d) keeps.1 steady.1 latest (λ e. cc)
   where
@@ -385,14 +465,17 @@ latest_known settings station link pending (x ∷ (y ∷ ys)) clear keeps steady
             → pending_by x.request (answer_to station x) pending ≡ None
         go_down true is = (reset_learns x.request (answer_to station x) pending is).1
         go_down false is =
-            (idle_down settings station link x.request (answer_to station x) x.front x.closed up keeps.0 is).same
+            (idle_down settings station link x.request (answer_to station x) x.front x.closed up
+            keeps.0 is).same
             pending ∙ clear up
 
 -- what is known of a service that isn't pending
-pub known_all : (learnt done : List Effect) (pending : Option Service) → IsKnown learnt pending done → pending ≡ None
+pub known_all : (learnt done : List Effect) (pending : Option Service) → IsKnown learnt pending done
+    → pending ≡ None
     → learnt ≡ done
 known_all learnt done pending k none =
-    let owed : MayOwe None k.owed = subst (λ (p : Option Service). MayOwe p k.owed) none k.may_owe in
+    let owed : MayOwe None k.owed = subst (λ (p : Option Service). MayOwe p k.owed) none
+    k.may_owe in
     sym (append-nil learnt) ∙ ap (λ (o : List Effect). learnt ++ o) (sym owed) ∙ k.whole
 
 reports-append : (xs ys : List Effect) → reports (xs ++ ys) ≡ reports xs ++ reports ys
@@ -405,7 +488,8 @@ reports-nil [] = refl
 reports-nil (x ∷ xs) = ap (λ (ys : List (List ℕ)). x ∷ ys) (reports-nil xs)
 
 -- The reports that are known are the outstation's, or all of them but the last.
-pub reports_known : (learnt done : List Effect) (pending : Option Service) → IsKnown learnt pending done
+pub reports_known : (learnt done : List Effect) (pending : Option Service)
+    → IsKnown learnt pending done
     → IsAllOrButLast (reports done) (reports learnt)
 reports_known learnt done pending k = go pending k.may_owe
   where
@@ -413,10 +497,12 @@ reports_known learnt done pending k = go pending k.may_owe
     whole = sym (reports-append learnt k.owed) ∙ ap reports k.whole
 
     nothing : reports k.owed ≡ [] → IsAllOrButLast (reports done) (reports learnt)
-    nothing none = inl (sym (reports-nil (reports learnt)) ∙ ap (λ (r : List (List ℕ)). reports learnt ++ r) (sym none)
+    nothing none = inl (sym (reports-nil (reports learnt))
+        ∙ ap (λ (r : List (List ℕ)). reports learnt ++ r) (sym none)
         ∙ whole)
 
-    one : (asdu : List ℕ) → k.owed ≡ Given asdu ∷ [] → IsAllOrButLast (reports done) (reports learnt)
+    one : (asdu : List ℕ) → k.owed ≡ Given asdu ∷ []
+        → IsAllOrButLast (reports done) (reports learnt)
     one asdu e = inr (asdu, ap (λ (o : List Effect). reports learnt ++ reports o) (sym e) ∙ whole)
 
     go : (p : Option Service) → MayOwe p k.owed → IsAllOrButLast (reports done) (reports learnt)
@@ -429,20 +515,25 @@ reports_known learnt done pending k = go pending k.may_owe
     go (Some Class2) (inr owed) = one owed.0 owed.1
 
 -- From the beginning on, what is learnt and done is learnt and done in the sessions.
-pub all_in_sessions : (settings : LinkSettings) (station : ℕ) (xs : List Exchange) (turns : List Turn)
+pub all_in_sessions : (settings : LinkSettings) (station : ℕ) (xs : List Exchange)
+    (turns : List Turn)
     → KeepsFrameCountBit settings station Down xs → IsHonest station xs turns →
-    (flat_map (λ (s : Session). learnt station s.exchanges) (sessions station xs turns) ≡ learnt station xs)
+    (flat_map (λ (s : Session). learnt station s.exchanges) (sessions station xs turns)
+    ≡ learnt station xs)
     × (flat_map (λ (s : Session). all_done s.turns) (sessions station xs turns) ≡ all_done turns)
 all_in_sessions settings station xs turns keeps honest =
     let parts = learnt_in_sessions station xs turns unreset honest.end honest.run in
     let before = nothing_before settings station Down xs turns refl keeps in
     let known = known_from settings station Down None xs turns unreset honest.end
     [] refl keeps honest.run honest.fronts in
-    let idle : all_done (before_reset station xs turns).turns ≡ [] = sym (known_all _ _ _ known.present before.1)
+    let idle : all_done (before_reset station xs turns).turns ≡ [] =
+    sym (known_all _ _ _ known.present before.1)
     ∙ before.0 in (
-      ap (λ (e : List Effect). e ++ flat_map (λ (s : Session). learnt station s.exchanges) (sessions station xs turns))
+      ap (λ (e : List Effect). e ++ flat_map (λ (s : Session). learnt station s.exchanges)
+          (sessions station xs turns))
           (sym before.0) ∙ parts.0,
-      ap (λ (e : List Effect). e ++ flat_map (λ (s : Session). all_done s.turns) (sessions station xs turns))
+      ap (λ (e : List Effect). e ++ flat_map (λ (s : Session). all_done s.turns)
+          (sessions station xs turns))
           (sym idle) ∙ parts.1,
     )
 
@@ -455,7 +546,8 @@ all_reports learnt done pending k gap = go pending k.may_owe gap
     whole = sym (reports-append learnt k.owed) ∙ ap reports k.whole
 
     nothing : reports k.owed ≡ [] → reports learnt ≡ reports done
-    nothing none = sym (reports-nil (reports learnt)) ∙ ap (λ (r : List (List ℕ)). reports learnt ++ r) (sym none)
+    nothing none = sym (reports-nil (reports learnt))
+        ∙ ap (λ (r : List (List ℕ)). reports learnt ++ r) (sym none)
         ∙ whole
 
     go : (p : Option Service) → MayOwe p k.owed → is_gap p ≡ false → reports learnt ≡ reports done

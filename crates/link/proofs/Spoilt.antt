@@ -1,28 +1,35 @@
--- The spoilt exchanges of a line, call by call: the count grows where the latest exchange is closed, octets
+-- The spoilt exchanges of a line, call by call: the count grows where the latest exchange is
+-- closed, octets
 -- came in it, and it isn't answered.
 use Rattle.std.specs.Prelude.{◌==◌, ◌↔◌}
-use Rattle.std.proofs.Common.{◌≡◌, ◌≢◌, ℕ, ◌+◌, ◌&&◌, ◌||◌, not, cond, Bool, true, false, List, [], ◌∷◌, ◌++◌, length, Option, Some, None, is_none, refl, sym, ap, ◌∙◌, arith, if◌then◌else◌}
+use Rattle.std.proofs.Common.{◌≡◌, ◌≢◌, ℕ, ◌+◌, ◌&&◌, ◌||◌, not, cond, Bool, true, false, List, []}
+use Rattle.std.proofs.Common.{◌∷◌, ◌++◌, length, Option, Some, None, is_none, refl, sym, ap, ◌∙◌}
+use Rattle.std.proofs.Common.{arith, if◌then◌else◌}
 use Rattle.std.proofs.lemmas.List.Sums.{sum_by_push}
 use Rattle.ft12.specs.declared.frame.Front.{Front}
 use Rattle.link.specs.Counts.{saturated}
 use Rattle.link.specs.Answers.{Answer}
-use Rattle.link.specs.Exchanges.{OpenExchange, IsUnanswered, answer_to, view, is_spoilt, spoilt_count}
+use Rattle.link.specs.Exchanges.{OpenExchange, IsUnanswered, answer_to, view, is_spoilt}
+use Rattle.link.specs.Exchanges.{spoilt_count}
 
 -- one more exchange at the end
-spoilt_push : (front : List ℕ → Front) (address : ℕ → ℕ) (xs : List OpenExchange) (x : OpenExchange) →
+spoilt_push : (front : List ℕ → Front) (address : ℕ → ℕ) (xs : List OpenExchange) (x : OpenExchange)
+    →
     spoilt_count front address (xs ++ x ∷ []) ≡ spoilt_count front address xs + cond
     (is_spoilt front (address x.station) x) 1 0
 spoilt_push front address xs x =
     sum_by_push (λ (y : OpenExchange). cond (is_spoilt front (address y.station) y) 1 0) xs x
 
 -- one that isn't closed counts for nothing
-pub open_push : (front : List ℕ → Front) (address : ℕ → ℕ) (xs : List OpenExchange) (x : OpenExchange)
+pub open_push : (front : List ℕ → Front) (address : ℕ → ℕ) (xs : List OpenExchange)
+    (x : OpenExchange)
     → x.closed ≡ false →
     spoilt_count front address (xs ++ x ∷ []) ≡ spoilt_count front address xs
 open_push front address xs x waits =
     spoilt_push front address xs x
     ∙ ap (λ (c : Bool). spoilt_count front address xs + cond (c
-    && (not (length x.octets == 0) && is_none (answer_to (address x.station) (view front x).exchange))) 1 0) waits
+    && (not (length x.octets == 0)
+    && is_none (answer_to (address x.station) (view front x).exchange))) 1 0) waits
     ∙ omega arith
 
 none_answered : (closed has : Bool) → (closed && (has && false)) ≡ false
@@ -51,16 +58,20 @@ missed_count false spoilt n is = is ∙ omega arith
 -- One that is closed without an answer counts where octets came.
 pub missed_push : (front : List ℕ → Front) (address : ℕ
     → ℕ) (xs : List OpenExchange) (x : OpenExchange) (has : Bool) (spoilt : ℕ) →
-    x.closed ≡ true → has ≡ not (length x.octets == 0) → answer_to (address x.station) (view front x).exchange ≡ None
+    x.closed ≡ true → has ≡ not (length x.octets == 0)
+    → answer_to (address x.station) (view front x).exchange ≡ None
     → spoilt ≡ saturated (spoilt_count front address xs) →
-    (if has then saturated (spoilt + 1) else spoilt) ≡ saturated (spoilt_count front address (xs ++ x ∷ []))
+    (if has then saturated (spoilt + 1) else spoilt)
+    ≡ saturated (spoilt_count front address (xs ++ x ∷ []))
 missed_push front address xs x has spoilt closed octets none is =
     missed_count has spoilt (spoilt_count front address xs) is
     ∙ ap (λ (b : Bool). saturated (spoilt_count front address xs + cond (b && true) 1 0)) octets
-    ∙ ap (λ (m : Option Answer). saturated (spoilt_count front address xs + cond (not (length x.octets == 0)
+    ∙ ap (λ (m : Option Answer). saturated (spoilt_count front address xs
+    + cond (not (length x.octets == 0)
     && is_none m) 1 0)) (sym none)
     ∙ ap (λ (c : Bool). saturated (spoilt_count front address xs + cond (c
-    && (not (length x.octets == 0) && is_none (answer_to (address x.station) (view front x).exchange))) 1 0))
+    && (not (length x.octets == 0)
+    && is_none (answer_to (address x.station) (view front x).exchange))) 1 0))
     (sym closed)
     ∙ ap (λ (n : ℕ). saturated n) (sym (spoilt_push front address xs x))
 
@@ -91,14 +102,18 @@ are_some (x ∷ octets) some = ap (λ (b : Bool). b && true) (some_octets x octe
 
 -- what the test says of an exchange
 pub spoilt_means : (front : List ℕ → Front) (address : ℕ) (x : OpenExchange) →
-    (is_spoilt front address x ≡ true) ↔ ((x.octets ≢ []) × IsUnanswered address (view front x).exchange)
+    (is_spoilt front address x ≡ true)
+    ↔ ((x.octets ≢ []) × IsUnanswered address (view front x).exchange)
 spoilt_means front address x = (there, λ h. back h.0 h.1)
   where
-    there : is_spoilt front address x ≡ true → (x.octets ≢ []) × IsUnanswered address (view front x).exchange
+    there : is_spoilt front address x ≡ true → (x.octets ≢ [])
+        × IsUnanswered address (view front x).exchange
     there is = by_test x.closed x.octets (answer_to address (view front x).exchange) is
 
-    back : x.octets ≢ [] → IsUnanswered address (view front x).exchange → is_spoilt front address x ≡ true
+    back : x.octets ≢ [] → IsUnanswered address (view front x).exchange → is_spoilt front address x
+        ≡ true
     back some h =
-        ap (λ (c : Bool). c && (not (length x.octets == 0) && is_none (answer_to address (view front x).exchange))) h.1
+        ap (λ (c : Bool). c
+        && (not (length x.octets == 0) && is_none (answer_to address (view front x).exchange))) h.1
         ∙ ap (λ (m : Option Answer). not (length x.octets == 0) && is_none m) h.0
         ∙ are_some x.octets some

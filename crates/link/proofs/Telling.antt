@@ -1,20 +1,34 @@
 -- The primary's state is what the exchanges of its line make it: kept by each call.
-use Rattle.std.proofs.Common.{◌≡◌, ℕ, zero, suc, ◌+◌, ◌<◌, ◌||◌, nat_le, slice_index, Bool, true, false, List, [], ◌∷◌, ◌++◌, All, length, map, slice_set, Option, Some, None, option_and_then, refl, sym, ap, subst, ◌∙◌, inl, inr, append_assoc, if◌then◌else◌}
-use Rattle.std.proofs.lemmas.List.{length-set, length-map}
+use Rattle.std.proofs.Common.{◌≡◌, ℕ, ◌+◌, ◌<◌, ◌||◌, nat_le, slice_index, Bool, true}
+use Rattle.std.proofs.Common.{false, List, [], ◌∷◌, ◌++◌, length, Option, Some}
+use Rattle.std.proofs.Common.{None, option_and_then, refl, sym, ap, subst, ◌∙◌, inl, inr}
+use Rattle.std.proofs.Common.{append_assoc, if◌then◌else◌}
+use Rattle.std.proofs.lemmas.List.{length-set}
 use Rattle.ft12.specs.declared.frame.Front.{Front}
 use Rattle.ft12.specs.declared.frame.Front.TheVariants.{Whole, More, Never}
 use Rattle.link.specs.Answers.{Frame, Single, Fixed, Data, Asked, Answer, answer_of}
 use Rattle.link.specs.Counts.{saturated}
-use Rattle.link.specs.Exchanges.{OpenExchange, Exchanges, no_exchanges, all_of, as_list, whole_of, view, heard_octets, heard_current, timed, timed_current, begun_by, spoilt_count}
-use Rattle.link.specs.Flags.{clear, flags_in}
-use Rattle.link.specs.Procedure.{LinkSettings, Link, Down, MaySend, after_outcome, after_answer, after_silence}
-use Rattle.link.specs.Requests.{IsUserData, FitsAddress, FitsAsked}
-use Rattle.link.specs.Turns.{StationState, no_session, Chosen, station_at}
-use Rattle.link.specs.Primary.{Outstanding, Primary, start, station_down, choice, station_asked, after_choice, asked_from, asked, sending_from, sending_by, sending, acd_of, dfc_of, session_answered, station_answered, awaits, answer_at, said_by, open_octets, took, with_octets, received_after, received_from, received, station_unanswered, unanswered, is_late, due_from, timed_out, may_offer, with_offer, offered_to, without_offer, withdrawn}
+use Rattle.link.specs.Exchanges.{OpenExchange, Exchanges, all_of, as_list, whole_of}
+use Rattle.link.specs.Exchanges.{view, heard_octets, heard_current, timed, timed_current, begun_by}
+use Rattle.link.specs.Exchanges.{spoilt_count}
+use Rattle.link.specs.Flags.{flags_in}
+use Rattle.link.specs.Procedure.{LinkSettings, Link, MaySend, after_outcome, after_answer}
+use Rattle.link.specs.Procedure.{after_silence}
+use Rattle.link.specs.Requests.{FitsAsked}
+use Rattle.link.specs.Turns.{StationState, Chosen, station_at}
+use Rattle.link.specs.Primary.{Outstanding, Primary, choice, station_asked}
+use Rattle.link.specs.Primary.{after_choice, asked_from, asked, sending_from, sending_by, sending}
+use Rattle.link.specs.Primary.{acd_of, dfc_of, session_answered, station_answered, awaits}
+use Rattle.link.specs.Primary.{answer_at, said_by, open_octets, took, with_octets, received_after}
+use Rattle.link.specs.Primary.{received_from, received, station_unanswered, unanswered, is_late}
+use Rattle.link.specs.Primary.{due_from, timed_out}
 use Rattle.link.specs.Holding.{FitsOutstanding, IsFitting}
-use Rattle.link.specs.Telling.{IsStable, IsSaid, IsAllowed, IsHeard, IsOver, IsCurrent, past, AreKept, AreLinks, flags_of, AreFlags, AreSessions, AreSpoilt, TellsBy}
+use Rattle.link.specs.Telling.{IsStable, IsSaid, IsAllowed, IsHeard, IsOver, IsCurrent, past}
+use Rattle.link.specs.Telling.{AreKept, AreLinks, flags_of, AreFlags, AreSessions, AreSpoilt}
+use Rattle.link.specs.Telling.{TellsBy}
 use Rattle.link.specs.Runs.{AreCalled}
-use Rattle.link.proofs.Fitting.{FitStations, station_fits, set_fits, down_fits, withdrawn_fits, asked_fits, offered_fits, answered_fits, unanswered_fits, length-down}
+use Rattle.link.proofs.Fitting.{station_fits, set_fits}
+use Rattle.link.proofs.Fitting.{asked_fits, answered_fits, unanswered_fits}
 use Rattle.link.proofs.Choice.{MayChooseIt, choice_may}
 use Rattle.link.proofs.Links.{set_view, grown_keeps, begun_keeps, ended_links, alike_links}
 use Rattle.link.proofs.Flagging.{unanswered_flags, alike_flags, answered_flags}
@@ -36,7 +50,8 @@ pub record SaysBy (front : List ℕ → Front) (settings : LinkSettings) (addres
   pub sessions : AreSessions front addresses p.stations (all_of e)
   pub spoilt : AreSpoilt front addresses p.spoilt (all_of e)
 
-pub says : (front : List ℕ → Front) (settings : LinkSettings) (addresses : List ℕ) (p : Primary) (e : Exchanges)
+pub says : (front : List ℕ → Front) (settings : LinkSettings) (addresses : List ℕ) (p : Primary)
+    (e : Exchanges)
     → TellsBy front settings addresses p e → SaysBy front settings addresses p e
 says front settings addresses p e t = record {
   settings_are = t.settings_are;
@@ -52,8 +67,10 @@ says front settings addresses p e t = record {
   spoilt = t.spoilt;
 }
 
-pub tells : (front : List ℕ → Front) (settings : LinkSettings) (addresses : List ℕ) (p : Primary) (e : Exchanges)
-    → SaysBy front settings addresses p e → AreCalled settings addresses p e → TellsBy front settings addresses p e
+pub tells : (front : List ℕ → Front) (settings : LinkSettings) (addresses : List ℕ) (p : Primary)
+    (e : Exchanges)
+    → SaysBy front settings addresses p e → AreCalled settings addresses p e
+    → TellsBy front settings addresses p e
 tells front settings addresses p e t called = record {
   settings_are = t.settings_are;
   fits = t.fits;
@@ -74,11 +91,13 @@ nil [] = refl
 nil (x ∷ xs) = ap (λ (ys : List ℕ). x ∷ ys) (nil xs)
 
 -- what is said stays said
-pub said_now : (front : List ℕ → Front) (address : ℕ) (x : OpenExchange) (m : Option Answer) → IsSaid front address x m
+pub said_now : (front : List ℕ → Front) (address : ℕ) (x : OpenExchange) (m : Option Answer)
+    → IsSaid front address x m
     →
     option_and_then (answer_of address x.request) (whole_of (front x.octets)) ≡ m
 said_now front address x m said =
-    ap (λ (l : List ℕ). option_and_then (answer_of address x.request) (whole_of (front l))) (sym (nil x.octets))
+    ap (λ (l : List ℕ). option_and_then (answer_of address x.request) (whole_of (front l)))
+    (sym (nil x.octets))
     ∙ said []
 
 abbrev pub grown : OpenExchange → List ℕ → OpenExchange
@@ -91,7 +110,8 @@ grown x octets = record {
   closed = x.closed;
 }
 
-said_later : (front : List ℕ → Front) (address : ℕ) (x : OpenExchange) (octets : List ℕ) (m : Option Answer)
+said_later : (front : List ℕ → Front) (address : ℕ) (x : OpenExchange) (octets : List ℕ)
+    (m : Option Answer)
     → IsSaid front address x m →
     IsSaid front address (grown x octets) m
 said_later front address x octets m said more =
@@ -99,7 +119,8 @@ said_later front address x octets m said more =
     (append_assoc x.octets octets more) ∙ said (octets ++ more)
 
 -- octets that come to an exchange that isn't closed
-pub heard_open : (octets : List ℕ) (x : OpenExchange) → x.closed ≡ false → heard_octets octets x ≡ grown x octets
+pub heard_open : (octets : List ℕ) (x : OpenExchange) → x.closed ≡ false → heard_octets octets x
+    ≡ grown x octets
 heard_open octets x alive =
     ap (λ (b : Bool). record {
       station = x.station;
@@ -110,7 +131,8 @@ heard_open octets x alive =
       closed = x.closed;
     }) alive
 
-pub heard_closed : (octets : List ℕ) (x : OpenExchange) → x.closed ≡ true → heard_octets octets x ≡ x
+pub heard_closed : (octets : List ℕ) (x : OpenExchange) → x.closed ≡ true → heard_octets octets x
+    ≡ x
 heard_closed octets x closed =
     ap (λ (b : Bool). record {
       station = x.station;
@@ -124,50 +146,62 @@ heard_closed octets x closed =
 -- the primary is as it was, and the latest exchange another
 same_state : (front : List ℕ → Front) (settings : LinkSettings) (addresses : List ℕ) (p : Primary)
     (ended : List OpenExchange) (cur cur' : Option OpenExchange) (o : Option Outstanding) →
-    p.outstanding ≡ o → SaysBy front settings addresses p (record { ended = ended; current = cur }) →
-    IsCurrent front addresses p.turn o cur' → AreKept front settings addresses (ended ++ as_list cur') →
-    AreLinks front settings addresses p.stations (past o (record { ended = ended; current = cur' })) →
+    p.outstanding ≡ o → SaysBy front settings addresses p (record { ended = ended; current = cur })
+    →
+    IsCurrent front addresses p.turn o cur'
+    → AreKept front settings addresses (ended ++ as_list cur') →
+    AreLinks front settings addresses p.stations (past o (record { ended = ended; current = cur' }))
+    →
     AreFlags front addresses p.stations (ended ++ as_list cur') →
     AreSessions front addresses p.stations (ended ++ as_list cur') →
     spoilt_count front (λ i. slice_index addresses i) (ended ++ as_list cur')
     ≡ spoilt_count front (λ i. slice_index addresses i) (ended ++ as_list cur) →
     SaysBy front settings addresses p (record { ended = ended; current = cur' })
-same_state front settings addresses p ended cur cur' o is t current keeps links flags sessions count = record {
-  settings_are = t.settings_are;
-  fits = t.fits;
-  count = t.count;
-  address = t.address;
-  allowed = t.allowed;
-  current = subst (λ (q : Option Outstanding). IsCurrent front addresses p.turn q cur') (sym is) current;
-  keeps = keeps;
-  links = subst (λ (q : Option Outstanding). AreLinks front settings addresses p.stations
-      (past q (record { ended = ended; current = cur' }))) (sym is) links;
-  flags = flags;
-  sessions = sessions;
-  spoilt = t.spoilt ∙ ap saturated (sym count);
-}
+same_state front settings addresses p ended cur cur' o is t current keeps links flags sessions
+    count = record {
+      settings_are = t.settings_are;
+      fits = t.fits;
+      count = t.count;
+      address = t.address;
+      allowed = t.allowed;
+      current = subst (λ (q : Option Outstanding). IsCurrent front addresses p.turn q cur') (sym is)
+          current;
+      keeps = keeps;
+      links = subst (λ (q : Option Outstanding). AreLinks front settings addresses p.stations
+          (past q (record { ended = ended; current = cur' }))) (sym is) links;
+      flags = flags;
+      sessions = sessions;
+      spoilt = t.spoilt ∙ ap saturated (sym count);
+    }
 
 -- the links that are known while nothing, or something, is outstanding
-pub links_said : (front : List ℕ → Front) (settings : LinkSettings) (addresses : List ℕ) (p : Primary) (e : Exchanges)
+pub links_said : (front : List ℕ → Front) (settings : LinkSettings) (addresses : List ℕ)
+    (p : Primary) (e : Exchanges)
     (o : Option Outstanding) →
-    p.outstanding ≡ o → SaysBy front settings addresses p e → AreLinks front settings addresses p.stations (past o e)
+    p.outstanding ≡ o → SaysBy front settings addresses p e
+    → AreLinks front settings addresses p.stations (past o e)
 links_said front settings addresses p e o is t =
-    subst (λ (q : Option Outstanding). AreLinks front settings addresses p.stations (past q e)) is t.links
+    subst (λ (q : Option Outstanding). AreLinks front settings addresses p.stations (past q e)) is
+    t.links
 
 -- what is awaited isn't answered
-pub unheard : (front : List ℕ → Front) (a : ℕ) (x : OpenExchange) (h : Option (List ℕ)) → IsHeard front a x h →
+pub unheard : (front : List ℕ → Front) (a : ℕ) (x : OpenExchange) (h : Option (List ℕ))
+    → IsHeard front a x h →
     option_and_then (answer_of a x.request) (whole_of (front x.octets)) ≡ None
-unheard front a x (Some octets) m = ap (λ (f : Front). option_and_then (answer_of a x.request) (whole_of f)) m.1
+unheard front a x (Some octets) m =
+    ap (λ (f : Front). option_and_then (answer_of a x.request) (whole_of f)) m.1
 unheard front a x None said = said_now front a x None said
 
 -- the frame that answers an exchange stays at its front
-answered_front : (front : List ℕ → Front) (a : ℕ) (x : OpenExchange) (octets : List ℕ) (answer : Answer)
+answered_front : (front : List ℕ → Front) (a : ℕ) (x : OpenExchange) (octets : List ℕ)
+    (answer : Answer)
     → IsStable front →
     option_and_then (answer_of a x.request) (whole_of (front x.octets)) ≡ Some answer →
     whole_of (front (x.octets ++ octets)) ≡ whole_of (front x.octets)
 answered_front front a x octets answer stable said = go (front x.octets) refl said
   where
-    go : (f : Front) → front x.octets ≡ f → option_and_then (answer_of a x.request) (whole_of f) ≡ Some answer →
+    go : (f : Front) → front x.octets ≡ f → option_and_then (answer_of a x.request) (whole_of f)
+        ≡ Some answer →
         whole_of (front (x.octets ++ octets)) ≡ whole_of f
     go More e none = cc
     go (Never place why) e none = cc
@@ -175,14 +209,16 @@ answered_front front a x octets answer stable said = go (front x.octets) refl sa
 
 -- `next`
 
-pub ask_says : (front : List ℕ → Front) (settings : LinkSettings) (addresses : List ℕ) (p : Primary) (e : Exchanges)
+pub ask_says : (front : List ℕ → Front) (settings : LinkSettings) (addresses : List ℕ) (p : Primary)
+    (e : Exchanges)
     (now : ℕ) (may_poll : Bool) → IsStable front →
     SaysBy front settings addresses p e → SaysBy front settings addresses (asked p now may_poll)
     (begun_by now (sending p may_poll) e)
 ask_says front settings addresses p e now may_poll stable t = go p.outstanding refl
   where
     go : (o : Option Outstanding) → p.outstanding ≡ o →
-        SaysBy front settings addresses (asked_from p o now may_poll) (begun_by now (sending_from p o may_poll) e)
+        SaysBy front settings addresses (asked_from p o now may_poll)
+        (begun_by now (sending_from p o may_poll) e)
     go (Some o) is = t
     go None is = choose (choice p may_poll) (choice_may p may_poll t.fits)
       where
@@ -190,7 +226,12 @@ ask_says front settings addresses p e now may_poll stable t = go p.outstanding r
             SaysBy front settings addresses (after_choice p now c) (begun_by now (sending_by c) e)
         choose None may = record {
           settings_are = t.settings_are;
-          fits = record { turn = t.fits.turn; stations = t.fits.stations; outstanding = t.fits.outstanding };
+          fits = record {
+            turn = t.fits.turn;
+            stations = t.fits.stations;
+            outstanding =
+                t.fits.outstanding;
+          };
           count = t.count;
           address = t.address;
           allowed = t.allowed;
@@ -202,7 +243,8 @@ ask_says front settings addresses p e now may_poll stable t = go p.outstanding r
           spoilt = t.spoilt;
         }
         choose (Some c) may =
-            let s : StationState = station_asked (station_at p.stations c.station) c.wanted.request in
+            let s : StationState = station_asked (station_at p.stations c.station)
+            c.wanted.request in
             let x : OpenExchange = record {
               station = c.station;
               request = c.wanted.request;
@@ -212,19 +254,25 @@ ask_says front settings addresses p e now may_poll stable t = go p.outstanding r
               closed = false;
             } in
             let links = links_said front settings addresses p e None is t in
-            let there = station_fits p.settings.size p.stations c.station may.within t.fits.stations in
+            let there = station_fits p.settings.size p.stations c.station may.within
+            t.fits.stations in
             record {
               settings_are = t.settings_are;
               fits = record {
-                turn = subst (λ (n : ℕ). c.station < n) (sym (length-set p.stations c.station s)) may.within;
-                stations = set_fits p.settings.size p.stations c.station s may.within t.fits.stations
-                    (asked_fits p.settings.size (station_at p.stations c.station) c.wanted.request there);
+                turn = subst (λ (n : ℕ). c.station < n) (sym (length-set p.stations c.station s))
+                    may.within;
+                stations = set_fits p.settings.size p.stations c.station s may.within
+                    t.fits.stations
+                    (asked_fits p.settings.size (station_at p.stations c.station) c.wanted.request
+                    there);
                 outstanding = may.fits;
               };
               count = length-set p.stations c.station s ∙ t.count;
-              address = λ i. set_view (λ (r : StationState). r.address) p.stations c.station s refl i ∙ t.address i;
+              address = λ i. set_view (λ (r : StationState). r.address) p.stations c.station s refl
+                  i ∙ t.address i;
               allowed = subst (λ (l : Link). MaySend l c.wanted.request)
-                  (sym (set_view (λ (r : StationState). r.link) p.stations c.station s refl c.station)) may.may;
+                  (sym (set_view (λ (r : StationState). r.link) p.stations c.station s refl
+                  c.station)) may.may;
               current = record {
                 station = refl;
                 request = refl;
@@ -236,19 +284,23 @@ ask_says front settings addresses p e now may_poll stable t = go p.outstanding r
               };
               keeps = begun_keeps front settings addresses p.stations (e.ended
                   ++ as_list e.current) x t.keeps links may.may;
-              links = λ i. links i ∙ sym (set_view (λ (r : StationState). r.link) p.stations c.station s refl i);
+              links = λ i. links i
+                  ∙ sym (set_view (λ (r : StationState). r.link) p.stations c.station s refl i);
               flags = λ i.
                   unanswered_flags front addresses (e.ended ++ as_list e.current) x
-                  (ap (λ (f : Front). option_and_then (answer_of (slice_index addresses x.station) x.request)
+                  (ap (λ (f : Front). option_and_then (answer_of (slice_index addresses x.station)
+                  x.request)
                   (whole_of f)) stable.nothing) i
                   ∙ t.flags i ∙ sym (set_view flags_of p.stations c.station s refl i);
               sessions = begun_sessions front addresses p.stations (e.ended
                   ++ as_list e.current) x s may.within t.sessions
-                  (ap (λ (f : Front). option_and_then (answer_of (slice_index addresses x.station) x.request)
+                  (ap (λ (f : Front). option_and_then (answer_of (slice_index addresses x.station)
+                  x.request)
                   (whole_of f)) stable.nothing) refl;
               spoilt = t.spoilt
                   ∙ ap saturated
-                  (sym (open_push front (λ i. slice_index addresses i) (e.ended ++ as_list e.current) x refl));
+                  (sym (open_push front (λ i. slice_index addresses i)
+                  (e.ended ++ as_list e.current) x refl));
             }
 
 -- `due`
@@ -276,7 +328,8 @@ due_says front settings addresses p ended cur at t = go p.outstanding cur refl t
     go None (Some x) is t over = over_case over
       where
         links : AreLinks front settings addresses p.stations (ended ++ x ∷ [])
-        links = links_said front settings addresses p (record { ended = ended; current = Some x }) None is t
+        links = links_said front settings addresses p (record { ended = ended; current = Some x })
+            None is t
 
         over_case : IsOver front (slice_index addresses x.station) x →
             SaysBy front settings addresses p (record {
@@ -306,25 +359,33 @@ due_says front settings addresses p ended cur at t = go p.outstanding cur refl t
             (record { ended = ended; current = Some z })) (sym same) t
         over_case (inr a) =
             let e = said_now front (slice_index addresses x.station) x (Some a.0) a.1 in
-            same_state front settings addresses p ended (Some x) (Some (timed settings.answer_ms at x)) None is t
+            same_state front settings addresses p ended (Some x)
+            (Some (timed settings.answer_ms at x)) None is t
             (inr (a.0, a.1))
-            (grown_keeps front settings addresses ended x (timed settings.answer_ms at x) refl refl t.keeps)
+            (grown_keeps front settings addresses ended x (timed settings.answer_ms at x) refl refl
+            t.keeps)
             (λ i. alike_links front settings addresses ended x (timed settings.answer_ms at x) refl
             (λ (l : Link). ap (λ (m : Option Answer). after_outcome settings m
             (view front (timed settings.answer_ms at x)).exchange l) e
-            ∙ ap (λ (m : Option Answer). after_outcome settings m (view front x).exchange l) (sym e)) i ∙ links i)
-            (λ i. alike_flags front addresses ended x (timed settings.answer_ms at x) refl refl refl i ∙ t.flags i)
-            (λ i. alike_sessions front addresses ended x (timed settings.answer_ms at x) refl refl refl i
+            ∙ ap (λ (m : Option Answer). after_outcome settings m (view front x).exchange l)
+            (sym e)) i ∙ links i)
+            (λ i. alike_flags front addresses ended x (timed settings.answer_ms at x) refl refl refl
+            i ∙ t.flags i)
+            (λ i. alike_sessions front addresses ended x (timed settings.answer_ms at x) refl refl
+            refl i
             ∙ t.sessions i)
-            (answered_push front (λ i. slice_index addresses i) ended (timed settings.answer_ms at x) a.0 e
+            (answered_push front (λ i. slice_index addresses i) ended
+            (timed settings.answer_ms at x) a.0 e
             ∙ sym (answered_push front (λ i. slice_index addresses i) ended x a.0 e))
     go (Some q) (Some x) is t w = late (is_late p q at) refl
       where
         links : AreLinks front settings addresses p.stations ended
-        links = links_said front settings addresses p (record { ended = ended; current = Some x }) (Some q) is t
+        links = links_said front settings addresses p (record { ended = ended; current = Some x })
+            (Some q) is t
 
         asked_fits' : FitsAsked p.settings.size q.request
-        asked_fits' = subst (λ (r : Option Outstanding). FitsOutstanding p.settings.size r) is t.fits.outstanding
+        asked_fits' = subst (λ (r : Option Outstanding). FitsOutstanding p.settings.size r) is
+            t.fits.outstanding
 
         closes : (b : Bool) → is_late p q at ≡ b → (timed settings.answer_ms at x).closed ≡ b
         closes b e =
@@ -336,7 +397,8 @@ due_says front settings addresses p ended cur at t = go p.outstanding cur refl t
             SaysBy front settings addresses (if b then unanswered p q else p)
             (record { ended = ended; current = Some (timed settings.answer_ms at x) })
         late false e =
-            same_state front settings addresses p ended (Some x) (Some (timed settings.answer_ms at x)) (Some q) is t
+            same_state front settings addresses p ended (Some x)
+            (Some (timed settings.answer_ms at x)) (Some q) is t
             (record {
               station = w.station;
               request = w.request;
@@ -346,11 +408,15 @@ due_says front settings addresses p ended cur at t = go p.outstanding cur refl t
                   same_heard q.heard w.heard;
               has_octets = w.has_octets;
             })
-            (grown_keeps front settings addresses ended x (timed settings.answer_ms at x) refl refl t.keeps) links
-            (λ i. alike_flags front addresses ended x (timed settings.answer_ms at x) refl refl refl i ∙ t.flags i)
-            (λ i. alike_sessions front addresses ended x (timed settings.answer_ms at x) refl refl refl i
+            (grown_keeps front settings addresses ended x (timed settings.answer_ms at x) refl refl
+            t.keeps) links
+            (λ i. alike_flags front addresses ended x (timed settings.answer_ms at x) refl refl refl
+            i ∙ t.flags i)
+            (λ i. alike_sessions front addresses ended x (timed settings.answer_ms at x) refl refl
+            refl i
             ∙ t.sessions i)
-            (open_push front (λ i. slice_index addresses i) ended (timed settings.answer_ms at x) (closes false e)
+            (open_push front (λ i. slice_index addresses i) ended (timed settings.answer_ms at x)
+            (closes false e)
             ∙ sym (open_push front (λ i. slice_index addresses i) ended x w.waits))
           where
             same_heard : (h : Option (List ℕ)) → IsHeard front (slice_index addresses p.turn) x h →
@@ -358,44 +424,56 @@ due_says front settings addresses p ended cur at t = go p.outstanding cur refl t
             same_heard (Some octets) m = m
             same_heard None said = said
         late true e =
-            let s : StationState = station_unanswered p.settings (station_at p.stations p.turn) q.request in
+            let s : StationState = station_unanswered p.settings (station_at p.stations p.turn)
+            q.request in
             record {
               settings_are = t.settings_are;
               fits = record {
-                turn = subst (λ (n : ℕ). p.turn < n) (sym (length-set p.stations p.turn s)) t.fits.turn;
+                turn = subst (λ (n : ℕ). p.turn < n) (sym (length-set p.stations p.turn s))
+                    t.fits.turn;
                 stations = set_fits p.settings.size p.stations p.turn s t.fits.turn t.fits.stations
-                    (unanswered_fits p.settings p.settings.size (station_at p.stations p.turn) q.request asked_fits'
+                    (unanswered_fits p.settings p.settings.size (station_at p.stations p.turn)
+                    q.request asked_fits'
                     (station_fits p.settings.size p.stations p.turn t.fits.turn t.fits.stations));
                 outstanding = tt;
               };
               count = length-set p.stations p.turn s ∙ t.count;
-              address = λ i. set_view (λ (r : StationState). r.address) p.stations p.turn s refl i ∙ t.address i;
+              address = λ i. set_view (λ (r : StationState). r.address) p.stations p.turn s refl i
+                  ∙ t.address i;
               allowed = tt;
               current = inl (closes true e);
-              keeps = grown_keeps front settings addresses ended x (timed settings.answer_ms at x) refl refl t.keeps;
+              keeps = grown_keeps front settings addresses ended x (timed settings.answer_ms at x)
+                  refl refl t.keeps;
               links = ended_links front settings addresses p.stations p.turn ended
                   (timed settings.answer_ms at x) s t.fits.turn links w.station
-                  (ap (λ (z : LinkSettings). after_silence z q.request true (station_at p.stations p.turn).link)
+                  (ap (λ (z : LinkSettings). after_silence z q.request true
+                  (station_at p.stations p.turn).link)
                   t.settings_are
-                  ∙ ap (λ (r : Asked). after_silence settings r true (station_at p.stations p.turn).link)
+                  ∙ ap (λ (r : Asked). after_silence settings r true
+                  (station_at p.stations p.turn).link)
                   (sym w.request)
-                  ∙ ap (λ (c : Bool). after_silence settings x.request c (station_at p.stations p.turn).link)
+                  ∙ ap (λ (c : Bool). after_silence settings x.request c
+                  (station_at p.stations p.turn).link)
                   (sym (closes true e))
                   ∙ ap (λ (m : Option Answer). after_outcome settings m
-                  (view front (timed settings.answer_ms at x)).exchange (station_at p.stations p.turn).link)
+                  (view front (timed settings.answer_ms at x)).exchange
+                  (station_at p.stations p.turn).link)
                   (sym (unheard front (slice_index addresses p.turn) x q.heard w.heard)));
               flags = λ i.
-                  alike_flags front addresses ended x (timed settings.answer_ms at x) refl refl refl i ∙ t.flags i
+                  alike_flags front addresses ended x (timed settings.answer_ms at x) refl refl refl
+                  i ∙ t.flags i
                   ∙ sym (set_view flags_of p.stations p.turn s refl i);
               sessions = λ i.
-                  alike_sessions front addresses ended x (timed settings.answer_ms at x) refl refl refl i ∙ t.sessions i
+                  alike_sessions front addresses ended x (timed settings.answer_ms at x) refl refl
+                  refl i ∙ t.sessions i
                   ∙ sym (set_view (λ (r : StationState). r.session) p.stations p.turn s refl i);
               spoilt = missed_push front (λ i. slice_index addresses i) ended
                   (timed settings.answer_ms at x) q.has_octets p.spoilt (closes true e) w.has_octets
                   (ap (λ (i : ℕ). option_and_then (answer_of (slice_index addresses i) x.request)
                   (whole_of (front x.octets))) w.station
                   ∙ unheard front (slice_index addresses p.turn) x q.heard w.heard)
-                  (t.spoilt ∙ ap saturated (open_push front (λ i. slice_index addresses i) ended x w.waits));
+                  (t.spoilt
+                  ∙ ap saturated (open_push front (λ i. slice_index addresses i) ended x w.waits));
             }
 
 -- `octets`
@@ -407,12 +485,14 @@ flags_are Single = refl
 flags_are (Fixed control address) = refl
 flags_are (Data control address body) = refl
 
-pub hear_says : (front : List ℕ → Front) (settings : LinkSettings) (addresses : List ℕ) (p : Primary)
+pub hear_says : (front : List ℕ → Front) (settings : LinkSettings) (addresses : List ℕ)
+    (p : Primary)
     (ended : List OpenExchange) (cur : Option OpenExchange) (octets : List ℕ) →
     IsStable front → SaysBy front settings addresses p (record { ended = ended; current = cur }) →
     SaysBy front settings addresses (received front p octets)
     (record { ended = ended; current = heard_current octets cur })
-hear_says front settings addresses p ended cur octets stable t = go p.outstanding cur refl t t.current
+hear_says front settings addresses p ended cur octets stable t =
+    go p.outstanding cur refl t t.current
   where
     go : (o : Option Outstanding) (c : Option OpenExchange) → p.outstanding ≡ o
         → SaysBy front settings addresses p (record { ended = ended; current = c }) →
@@ -424,10 +504,12 @@ hear_says front settings addresses p ended cur octets stable t = go p.outstandin
     go None (Some x) is t over = by_closed x.closed refl
       where
         links : AreLinks front settings addresses p.stations (ended ++ x ∷ [])
-        links = links_said front settings addresses p (record { ended = ended; current = Some x }) None is t
+        links = links_said front settings addresses p (record { ended = ended; current = Some x })
+            None is t
 
         over_case : x.closed ≡ false → IsOver front (slice_index addresses x.station) x →
-            SaysBy front settings addresses p (record { ended = ended; current = Some (grown x octets) })
+            SaysBy front settings addresses p
+            (record { ended = ended; current = Some (grown x octets) })
         over_case alive (inl closed) = cc
         over_case alive (inr a) =
             let before = said_now front (slice_index addresses x.station) x (Some a.0) a.1 in
@@ -437,12 +519,16 @@ hear_says front settings addresses p ended cur octets stable t = go p.outstandin
             (λ i. alike_links front settings addresses ended x (grown x octets) refl
             (λ (l : Link). ap (λ (m : Option Answer). after_outcome settings m
             (view front (grown x octets)).exchange l) (a.1 octets)
-            ∙ ap (λ (m : Option Answer). after_outcome settings m (view front x).exchange l) (sym before)) i ∙ links i)
+            ∙ ap (λ (m : Option Answer). after_outcome settings m (view front x).exchange l)
+            (sym before)) i ∙ links i)
             (λ i. alike_flags front addresses ended x (grown x octets) refl refl
-            (answered_front front (slice_index addresses x.station) x octets a.0 stable before) i ∙ t.flags i)
-            (λ i. alike_sessions front addresses ended x (grown x octets) refl refl (a.1 octets ∙ sym before) i
+            (answered_front front (slice_index addresses x.station) x octets a.0 stable before) i
+            ∙ t.flags i)
+            (λ i. alike_sessions front addresses ended x (grown x octets) refl refl (a.1 octets
+            ∙ sym before) i
             ∙ t.sessions i)
-            (answered_push front (λ i. slice_index addresses i) ended (grown x octets) a.0 (a.1 octets)
+            (answered_push front (λ i. slice_index addresses i) ended (grown x octets) a.0
+            (a.1 octets)
             ∙ sym (answered_push front (λ i. slice_index addresses i) ended x a.0 before))
 
         by_closed : (b : Bool) → x.closed ≡ b → SaysBy front settings addresses p
@@ -452,9 +538,11 @@ hear_says front settings addresses p ended cur octets stable t = go p.outstandin
             (record { ended = ended; current = Some z })) (sym (heard_closed octets x e)) t
         by_closed false e =
             subst (λ (z : OpenExchange). SaysBy front settings addresses p
-            (record { ended = ended; current = Some z })) (sym (heard_open octets x e)) (over_case e over)
+            (record { ended = ended; current = Some z })) (sym (heard_open octets x e))
+            (over_case e over)
     go (Some q) (Some x) is t w =
-        subst (λ (z : OpenExchange). SaysBy front settings addresses (received_from front p (Some q) octets)
+        subst (λ (z : OpenExchange). SaysBy front settings addresses
+        (received_from front p (Some q) octets)
         (record { ended = ended; current = Some z }))
         (sym (heard_open octets x w.waits)) (by_heard q.heard refl w.heard)
       where
@@ -462,7 +550,8 @@ hear_says front settings addresses p ended cur octets stable t = go p.outstandin
         here = slice_index addresses p.turn
 
         links : AreLinks front settings addresses p.stations ended
-        links = links_said front settings addresses p (record { ended = ended; current = Some x }) (Some q) is t
+        links = links_said front settings addresses p (record { ended = ended; current = Some x })
+            (Some q) is t
 
         keeps : AreKept front settings addresses (ended ++ grown x octets ∷ [])
         keeps = grown_keeps front settings addresses ended x (grown x octets) refl refl t.keeps
@@ -471,7 +560,8 @@ hear_says front settings addresses p ended cur octets stable t = go p.outstandin
         may = subst (λ (r : Option Outstanding). IsAllowed p.stations p.turn r) is t.allowed
 
         asked_fits' : FitsAsked p.settings.size q.request
-        asked_fits' = subst (λ (r : Option Outstanding). FitsOutstanding p.settings.size r) is t.fits.outstanding
+        asked_fits' = subst (λ (r : Option Outstanding). FitsOutstanding p.settings.size r) is
+            t.fits.outstanding
 
         -- before its answer the flags are those of the exchanges that ended
         before_it : AreFlags front addresses p.stations ended
@@ -485,14 +575,21 @@ hear_says front settings addresses p ended cur octets stable t = go p.outstandin
         spoilt : AreSpoilt front addresses p.spoilt (ended ++ grown x octets ∷ [])
         spoilt =
             t.spoilt ∙ ap saturated (open_push front (λ i. slice_index addresses i) ended x w.waits)
-            ∙ ap saturated (sym (open_push front (λ i. slice_index addresses i) ended (grown x octets) w.waits))
+            ∙ ap saturated
+            (sym (open_push front (λ i. slice_index addresses i) ended (grown x octets) w.waits))
 
-        waits : (heard : Option (List ℕ)) → IsHeard front (slice_index addresses p.turn) (grown x octets) heard →
+        waits : (heard : Option (List ℕ))
+            → IsHeard front (slice_index addresses p.turn) (grown x octets) heard →
             SaysBy front settings addresses (awaits p (with_octets octets q) heard)
             (record { ended = ended; current = Some (grown x octets) })
         waits heard so = record {
           settings_are = t.settings_are;
-          fits = record { turn = t.fits.turn; stations = t.fits.stations; outstanding = asked_fits' };
+          fits = record {
+            turn = t.fits.turn;
+            stations = t.fits.stations;
+            outstanding =
+                asked_fits';
+          };
           count = t.count;
           address = t.address;
           allowed = may;
@@ -516,19 +613,23 @@ hear_says front settings addresses p ended cur octets stable t = go p.outstandin
               alike_sessions front addresses ended x (grown x octets) refl refl
               (subst (λ (j : ℕ). option_and_then (answer_of (slice_index addresses j) x.request)
               (whole_of (front (x.octets ++ octets)))
-              ≡ option_and_then (answer_of (slice_index addresses j) x.request) (whole_of (front x.octets)))
+              ≡ option_and_then (answer_of (slice_index addresses j) x.request)
+              (whole_of (front x.octets)))
               (sym w.station)
-              (unheard front here (grown x octets) heard so ∙ sym (unheard front here x q.heard w.heard))) i
+              (unheard front here (grown x octets) heard so
+              ∙ sym (unheard front here x q.heard w.heard))) i
               ∙ t.sessions i;
           spoilt = spoilt;
         }
 
         by_front : (f : Front) → front (x.octets ++ octets) ≡ f →
-            SaysBy front settings addresses (took p (with_octets octets q) (open_octets (x.octets ++ octets) f)
+            SaysBy front settings addresses
+            (took p (with_octets octets q) (open_octets (x.octets ++ octets) f)
             (whole_of f)) (record { ended = ended; current = Some (grown x octets) })
         by_front More e = waits (Some (x.octets ++ octets)) (refl, e)
         by_front (Never place why) e = waits None
-            (λ (more : List ℕ). ap (λ (f : Front). option_and_then (answer_of (slice_index addresses p.turn) x.request)
+            (λ (more : List ℕ). ap
+            (λ (f : Front). option_and_then (answer_of (slice_index addresses p.turn) x.request)
             (whole_of f)) (stable.never (x.octets ++ octets) more place why e))
         by_front (Whole frame n) e = say (answer_at p q frame) refl
           where
@@ -536,12 +637,15 @@ hear_says front settings addresses p ended cur octets stable t = go p.outstandin
                 → answer_of (slice_index addresses p.turn) x.request frame ≡ m
             told m e' =
                 ap (λ (a : ℕ). answer_of a x.request frame) (sym (t.address p.turn))
-                ∙ ap (λ (r : Asked). answer_of (station_at p.stations p.turn).address r frame) w.request ∙ e'
+                ∙ ap (λ (r : Asked). answer_of (station_at p.stations p.turn).address r frame)
+                w.request ∙ e'
 
             said : (m : Option Answer) → answer_at p q frame ≡ m
                 → IsSaid front (slice_index addresses p.turn) (grown x octets) m
             said m e' more =
-                ap (λ (f : Front). option_and_then (answer_of (slice_index addresses p.turn) x.request) (whole_of f))
+                ap
+                (λ (f : Front). option_and_then (answer_of (slice_index addresses p.turn) x.request)
+                (whole_of f))
                 (stable.whole (x.octets ++ octets) more frame n e) ∙ told m e'
 
             say : (m : Option Answer) → answer_at p q frame ≡ m →
@@ -549,35 +653,46 @@ hear_says front settings addresses p ended cur octets stable t = go p.outstandin
                 (record { ended = ended; current = Some (grown x octets) })
             say None e' = waits None (said None e')
             say (Some answer) e' =
-                let s : StationState = station_answered (station_at p.stations p.turn) q.request frame answer in
+                let s : StationState = station_answered (station_at p.stations p.turn) q.request
+                frame answer in
                 record {
                   settings_are = t.settings_are;
                   fits = record {
-                    turn = subst (λ (n : ℕ). p.turn < n) (sym (length-set p.stations p.turn s)) t.fits.turn;
-                    stations = set_fits p.settings.size p.stations p.turn s t.fits.turn t.fits.stations
-                        (answered_fits p.settings.size (station_at p.stations p.turn) q.request frame answer
-                        (station_fits p.settings.size p.stations p.turn t.fits.turn t.fits.stations));
+                    turn = subst (λ (n : ℕ). p.turn < n) (sym (length-set p.stations p.turn s))
+                        t.fits.turn;
+                    stations = set_fits p.settings.size p.stations p.turn s t.fits.turn
+                        t.fits.stations
+                        (answered_fits p.settings.size (station_at p.stations p.turn) q.request
+                        frame answer
+                        (station_fits p.settings.size p.stations p.turn t.fits.turn
+                        t.fits.stations));
                     outstanding = tt;
                   };
                   count = length-set p.stations p.turn s ∙ t.count;
-                  address = λ i. set_view (λ (r : StationState). r.address) p.stations p.turn s refl i ∙ t.address i;
+                  address = λ i. set_view (λ (r : StationState). r.address) p.stations p.turn s refl
+                      i ∙ t.address i;
                   allowed = tt;
                   current = inr (
                     answer,
-                    subst (λ (i : ℕ). IsSaid front (slice_index addresses i) (grown x octets) (Some answer))
+                    subst (λ (i : ℕ). IsSaid front (slice_index addresses i) (grown x octets)
+                        (Some answer))
                         (sym w.station) (said (Some answer) e'),
                   );
                   keeps = keeps;
                   links = ended_links front settings addresses p.stations p.turn ended
                       (grown x octets) s t.fits.turn links w.station
-                      (ap (λ (r : Asked). after_answer r answer (station_at p.stations p.turn).link) (sym w.request)
-                      ∙ ap (λ (m : Option Answer). after_outcome settings m (view front (grown x octets)).exchange
+                      (ap (λ (r : Asked). after_answer r answer (station_at p.stations p.turn).link)
+                      (sym w.request)
+                      ∙ ap (λ (m : Option Answer). after_outcome settings m
+                      (view front (grown x octets)).exchange
                       (station_at p.stations p.turn).link)
-                      (sym (said_now front (slice_index addresses p.turn) (grown x octets) (Some answer)
+                      (sym (said_now front (slice_index addresses p.turn) (grown x octets)
+                      (Some answer)
                       (said (Some answer) e'))));
                   flags = answered_flags front addresses p.stations p.turn ended
                       (grown x octets) s answer frame t.fits.turn before_it w.station
-                      (subst (λ (j : ℕ). option_and_then (answer_of (slice_index addresses j) x.request)
+                      (subst
+                      (λ (j : ℕ). option_and_then (answer_of (slice_index addresses j) x.request)
                       (whole_of (front (x.octets ++ octets))) ≡ Some answer) (sym w.station)
                       (said_now front here (grown x octets) (Some answer) (said (Some answer) e')))
                       (ap whole_of e) (flags_are frame);
@@ -585,153 +700,20 @@ hear_says front settings addresses p ended cur octets stable t = go p.outstandin
                       (grown x octets) s answer t.fits.turn t.sessions w.station w.station refl
                       (unheard front here x q.heard w.heard)
                       (said_now front here (grown x octets) (Some answer) (said (Some answer) e'))
-                      (ap (λ (r : Asked). session_answered (station_at p.stations p.turn).session r answer)
+                      (ap (λ (r : Asked). session_answered (station_at p.stations p.turn).session r
+                      answer)
                       (sym w.request));
                   spoilt = spoilt;
                 }
 
-        by_heard : (h : Option (List ℕ)) → q.heard ≡ h → IsHeard front (slice_index addresses p.turn) x h →
+        by_heard : (h : Option (List ℕ)) → q.heard ≡ h
+            → IsHeard front (slice_index addresses p.turn) x h →
             SaysBy front settings addresses (received_after front p (with_octets octets q) h octets)
             (record { ended = ended; current = Some (grown x octets) })
-        by_heard None at so = waits None (said_later front (slice_index addresses p.turn) x octets None so)
+        by_heard None at so =
+            waits None (said_later front (slice_index addresses p.turn) x octets None so)
         by_heard (Some before) at so =
             subst (λ (b : List ℕ). SaysBy front settings addresses
             (received_after front p (with_octets octets q) (Some b) octets)
             (record { ended = ended; current = Some (grown x octets) })) (sym so.0)
             (by_front (front (x.octets ++ octets)) refl)
-
--- `offer` and `withdraw`
-
-same_views : (front : List ℕ → Front) (settings : LinkSettings) (addresses : List ℕ) (p : Primary) (e : Exchanges)
-    (stations : List StationState) →
-    FitStations p.settings.size stations → length stations ≡ length p.stations →
-    ((i : ℕ) → (station_at stations i).link ≡ (station_at p.stations i).link)
-    → ((i : ℕ) → (station_at stations i).address ≡ (station_at p.stations i).address) →
-    ((i : ℕ) → flags_of (station_at stations i) ≡ flags_of (station_at p.stations i)) →
-    ((i : ℕ) → (station_at stations i).session ≡ (station_at p.stations i).session) →
-    SaysBy front settings addresses p e → SaysBy front settings addresses (record p { stations = stations }) e
-same_views front settings addresses p e stations fit count link address flags sessions t = record {
-  settings_are = t.settings_are;
-  fits = record {
-    turn = subst (λ (n : ℕ). p.turn < n) (sym count) t.fits.turn;
-    stations = fit;
-    outstanding =
-        t.fits.outstanding;
-  };
-  count = count ∙ t.count;
-  address = λ i. address i ∙ t.address i;
-  allowed = go p.outstanding t.allowed;
-  current = t.current;
-  keeps = t.keeps;
-  links = λ i. t.links i ∙ sym (link i);
-  flags = λ i. t.flags i ∙ sym (flags i);
-  sessions = λ i. t.sessions i ∙ sym (sessions i);
-  spoilt = t.spoilt;
-}
-  where
-    go : (o : Option Outstanding) → IsAllowed p.stations p.turn o → IsAllowed stations p.turn o
-    go None allowed = tt
-    go (Some o) allowed = subst (λ (l : Link). MaySend l o.request) (sym (link p.turn)) allowed
-
-pub offer_says : (front : List ℕ → Front) (settings : LinkSettings) (addresses : List ℕ) (p : Primary) (e : Exchanges)
-    (station : ℕ) (asdu : List ℕ) →
-    station < length p.stations → IsUserData p.settings.size asdu → SaysBy front settings addresses p e →
-    SaysBy front settings addresses (offered_to p station asdu) e
-offer_says front settings addresses p e station asdu within carried t = go (may_offer p station)
-  where
-    s : StationState
-    s = with_offer (station_at p.stations station) (Some asdu)
-
-    go : (b : Bool) → SaysBy front settings addresses
-        (if b then record p {
-          stations = slice_set p.stations station
-              (with_offer (station_at p.stations station) (Some asdu));
-        } else p) e
-    go false = t
-    go true =
-        same_views front settings addresses p e (slice_set p.stations station
-        (with_offer (station_at p.stations station) (Some asdu)))
-        (set_fits p.settings.size p.stations station _ within t.fits.stations
-        (offered_fits p.settings.size (station_at p.stations station) asdu
-        (station_fits p.settings.size p.stations station within t.fits.stations) carried))
-        (length-set p.stations station _)
-        (set_view (λ (r : StationState). r.link) p.stations station _ refl)
-        (set_view (λ (r : StationState). r.address) p.stations station _ refl)
-        (set_view flags_of p.stations station _ refl)
-        (set_view (λ (r : StationState). r.session) p.stations station _ refl) t
-
-pub withdraw_says : (front : List ℕ → Front) (settings : LinkSettings) (addresses : List ℕ) (p : Primary)
-    (e : Exchanges) → SaysBy front settings addresses p e →
-    SaysBy front settings addresses (withdrawn p) e
-withdraw_says front settings addresses p e t =
-    same_views front settings addresses p e (map without_offer p.stations)
-    (withdrawn_fits p.settings.size p.stations t.fits.stations)
-    (length-map p.stations without_offer) (link p.stations) (address p.stations) (flags p.stations)
-    (sessions p.stations) t
-  where
-    link : (ss : List StationState) (i : ℕ) → (station_at (map without_offer ss) i).link ≡ (station_at ss i).link
-    link [] i = refl
-    link (s ∷ ss) zero = refl
-    link (s ∷ ss) (suc i) = link ss i
-
-    address : (ss : List StationState) (i : ℕ) → (station_at (map without_offer ss) i).address
-        ≡ (station_at ss i).address
-    address [] i = refl
-    address (s ∷ ss) zero = refl
-    address (s ∷ ss) (suc i) = address ss i
-
-    flags : (ss : List StationState) (i : ℕ) → flags_of (station_at (map without_offer ss) i)
-        ≡ flags_of (station_at ss i)
-    flags [] i = refl
-    flags (s ∷ ss) zero = refl
-    flags (s ∷ ss) (suc i) = flags ss i
-
-    sessions : (ss : List StationState) (i : ℕ) → (station_at (map without_offer ss) i).session
-        ≡ (station_at ss i).session
-    sessions [] i = refl
-    sessions (s ∷ ss) zero = refl
-    sessions (s ∷ ss) (suc i) = sessions ss i
-
--- `new`
-
-pub start_says : (front : List ℕ → Front) (settings : LinkSettings) (addresses : List ℕ) → 0 < length addresses
-    → All (FitsAddress settings.size) addresses →
-    SaysBy front settings addresses (start settings addresses) no_exchanges
-start_says front settings addresses some fit = record {
-  settings_are = refl;
-  fits = record {
-    turn = subst (λ (n : ℕ). 0 < n) (sym (length-down addresses)) some;
-    stations =
-        down_fits settings.size addresses fit;
-    outstanding = tt;
-  };
-  count = length-down addresses;
-  address = address addresses;
-  allowed = tt;
-  current = tt;
-  keeps = λ i. tt;
-  links = λ i. sym (link addresses i);
-  flags = λ i. sym (flags addresses i);
-  sessions = λ i. sym (sessions addresses i);
-  spoilt = refl;
-}
-  where
-    link : (list : List ℕ) (i : ℕ) → (station_at (map station_down list) i).link ≡ Down
-    link [] i = refl
-    link (a ∷ rest) zero = refl
-    link (a ∷ rest) (suc i) = link rest i
-
-    address : (list : List ℕ) (i : ℕ) → (station_at (map station_down list) i).address ≡ slice_index list i
-    address [] i = refl
-    address (a ∷ rest) zero = refl
-    address (a ∷ rest) (suc i) = address rest i
-
-    flags : (list : List ℕ) (i : ℕ) → flags_of (station_at (map station_down list) i) ≡ clear
-    flags [] i = refl
-    flags (a ∷ rest) zero = refl
-    flags (a ∷ rest) (suc i) = flags rest i
-
-    sessions : (list : List ℕ) (i : ℕ) → (station_at (map station_down list) i).session ≡ no_session
-    sessions [] i = refl
-    sessions (a ∷ rest) zero = refl
-    sessions (a ∷ rest) (suc i) = sessions rest i

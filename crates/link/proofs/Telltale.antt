@@ -1,18 +1,25 @@
 -- What a station's answers tell of the reports that wait.
-use Rattle.std.proofs.Common.{◌≡◌, ◌≢◌, ℕ, Bool, true, false, List, [], ◌∷◌, ◌++◌, Option, Some, None, refl, sym, ap, subst, ◌∙◌, arith, if◌then◌else◌}
+use Rattle.std.proofs.Common.{◌≡◌, ◌≢◌, ℕ, Bool, true, false, List, [], ◌∷◌, ◌++◌, Option, Some}
+use Rattle.std.proofs.Common.{None, refl, sym, ap, subst, ◌∙◌, arith, if◌then◌else◌}
 use Rattle.ft12.specs.declared.frame.LinkSize.{LinkSize}
-use Rattle.link.specs.Answers.{Frame, Fixed, Service, Class1, Class2, Command, Asked, Status, Reset, Counted, Report}
+use Rattle.link.specs.Answers.{Frame, Fixed, Service, Class1, Class2, Command, Asked, Status, Reset}
+use Rattle.link.specs.Answers.{Counted, Report}
 use Rattle.link.specs.Flags.{flags_in}
 use Rattle.link.specs.Requests.{Reading, Foreign, Unknown, Asks, reading_of}
-use Rattle.link.specs.Secondary.{Secondary, fresh_station, control_of, short_of, data_frame, Served, unchanged, served_class1, served_class2, served_command, served_new, is_same, served_counted, served, heard_reading}
-use Rattle.link.specs.Life.{Call, Report1, Report2, Hear, called, after, request_asked, requests_heard, turns_in, given1, given2}
-use Rattle.link.specs.Tidings.{bit_by, bit_after, IsNew, IsNewReading, bit_of, answer_after, Wait1, Wait2, do_wait, TellsFlags, oldest, IsAnsweredBy}
+use Rattle.link.specs.Secondary.{Secondary, fresh_station, control_of, short_of, data_frame, Served}
+use Rattle.link.specs.Secondary.{unchanged, served_class1, served_class2, served_command}
+use Rattle.link.specs.Secondary.{served_new, is_same, served_counted, served, heard_reading}
+use Rattle.link.specs.Life.{Call, Report1, Report2, Hear, called, after, request_asked}
+use Rattle.link.specs.Life.{requests_heard, turns_in, given1, given2}
+use Rattle.link.specs.Tidings.{bit_by, bit_after, IsNew, IsNewReading, bit_of, answer_after, Wait1}
+use Rattle.link.specs.Tidings.{Wait2, do_wait, TellsFlags, oldest, IsAnsweredBy}
 use Rattle.link.proofs.Lives.{ledger, stays}
 use Rattle.link.proofs.Serving.{kept_address, none1_says, none2_says, data_says}
 
 -- ---- the bit
 
-bit-append : (bit : Option Bool) (xs ys : List Asked) → bit_after bit (xs ++ ys) ≡ bit_after (bit_after bit xs) ys
+bit-append : (bit : Option Bool) (xs ys : List Asked) → bit_after bit (xs ++ ys)
+    ≡ bit_after (bit_after bit xs) ys
 bit-append bit [] ys = refl
 bit-append bit (x ∷ xs) ys = bit-append (bit_by bit x) xs ys
 
@@ -51,18 +58,23 @@ served_bit granted s (Counted fcb service) = go s.bit refl
     go (Some old) e = same (is_same fcb old) refl
       where
         same : (b : Bool) → is_same fcb old ≡ b
-            → (if b then unchanged s s.last else served_new granted s fcb service).state.bit ≡ Some fcb
+            → (if b then unchanged s s.last else served_new granted s fcb service).state.bit
+            ≡ Some fcb
         same true is = e ∙ ap (λ (b : Bool). Some b) (sym (same_bit fcb old is))
         same false is = new service
 
-life_bit : (s : Secondary) (calls : List Call) → (after s calls).bit ≡ bit_after s.bit (requests_heard s.address calls)
+life_bit : (s : Secondary) (calls : List Call) → (after s calls).bit
+    ≡ bit_after s.bit (requests_heard s.address calls)
 life_bit s [] = refl
-life_bit s (Report1 true report ∷ calls) = life_bit (record s { class1 = s.class1 ++ report ∷ [] }) calls
+life_bit s (Report1 true report ∷ calls) = life_bit (record s { class1 = s.class1 ++ report ∷ [] })
+    calls
 life_bit s (Report1 false report ∷ calls) = life_bit s calls
-life_bit s (Report2 true report ∷ calls) = life_bit (record s { class2 = s.class2 ++ report ∷ [] }) calls
+life_bit s (Report2 true report ∷ calls) = life_bit (record s { class2 = s.class2 ++ report ∷ [] })
+    calls
 life_bit s (Report2 false report ∷ calls) = life_bit s calls
 life_bit s (Hear granted None ∷ calls) = life_bit s calls
-life_bit s (Hear granted (Some frame) ∷ calls) = go (λ t. life_bit t calls) (reading_of s.address frame)
+life_bit s (Hear granted (Some frame) ∷ calls) =
+    go (λ t. life_bit t calls) (reading_of s.address frame)
   where
     go : ((t : Secondary) → (after t calls).bit ≡ bit_after t.bit (requests_heard t.address calls))
         → (reading : Reading) →
@@ -72,9 +84,12 @@ life_bit s (Hear granted (Some frame) ∷ calls) = go (λ t. life_bit t calls) (
     go rest Unknown = rest s
     go rest (Asks request) =
         rest (served granted s request).state
-        ∙ ap (λ (b : Option Bool). bit_after b (requests_heard (served granted s request).state.address calls))
+        ∙ ap
+        (λ (b : Option Bool). bit_after b (requests_heard (served granted s request).state.address
+        calls))
         (served_bit granted s request)
-        ∙ ap (λ (a : ℕ). bit_after (bit_by s.bit request) (requests_heard a calls)) (kept_address granted s request)
+        ∙ ap (λ (a : ℕ). bit_after (bit_by s.bit request) (requests_heard a calls))
+        (kept_address granted s request)
 
 -- ---- one answer
 
@@ -85,14 +100,16 @@ other_bit false true other = refl
 other_bit false false other = absurd (other refl)
 
 -- a new request is served
-new_served : (granted : Bool) (s : Secondary) (fcb : Bool) (service : Service) → IsNew s.bit (Counted fcb service) →
+new_served : (granted : Bool) (s : Secondary) (fcb : Bool) (service : Service)
+    → IsNew s.bit (Counted fcb service) →
     served granted s (Counted fcb service) ≡ served_new granted s fcb service
 new_served granted s fcb service new = go s.bit new
   where
     go : (bit : Option Bool) → IsNew bit (Counted fcb service)
         → served_counted granted s bit fcb service ≡ served_new granted s fcb service
     go None none = absurd none
-    go (Some old) other = ap (λ (b : Bool). if b then unchanged s s.last else served_new granted s fcb service)
+    go (Some old) other = ap (λ (b : Bool). if b then unchanged s s.last
+        else served_new granted s fcb service)
         (other_bit fcb old other)
 
 -- an answer that tells what waits after it
@@ -110,7 +127,8 @@ none_tells s [] = refl
 none_tells s (r ∷ rs) = refl
 
 data_tells : (s : Secondary) (waiting : List (List ℕ)) (report : List ℕ) →
-    flags_in (data_frame (control_of 8 waiting) s.address report) ≡ record { acd = do_wait waiting; dfc = false }
+    flags_in (data_frame (control_of 8 waiting) s.address report)
+    ≡ record { acd = do_wait waiting; dfc = false }
 data_tells s [] report = refl
 data_tells s (r ∷ rs) report = refl
 
@@ -143,7 +161,8 @@ served_tells granted s Status new = (Fixed (control_of 11 s.class1) s.address, r
     go [] = refl
     go (r ∷ rs) = refl
 served_tells granted s Reset new = (short_of 0 s.address s.class1, refl, short_tells s s.class1)
-served_tells granted s (Counted fcb service) new = subst TellsAfter (sym (new_served granted s fcb service new))
+served_tells granted s (Counted fcb service) new =
+    subst TellsAfter (sym (new_served granted s fcb service new))
     (new_tells granted s fcb service)
 
 reading_tells : (granted : Bool) (s : Secondary) (reading : Reading) → IsNewReading s.bit reading
@@ -158,7 +177,8 @@ reading_tells granted s Unknown new = (Fixed (control_of 15 s.class1) s.address,
 reading_tells granted s (Asks request) new = served_tells granted s request new
 
 class1_says : (s : Secondary) (fcb : Bool) (waiting : List (List ℕ)) →
-    IsAnsweredBy (served_class1 s fcb waiting).turn.answer s.address (Counted fcb Class1) (oldest waiting)
+    IsAnsweredBy (served_class1 s fcb waiting).turn.answer s.address (Counted fcb Class1)
+    (oldest waiting)
 class1_says s fcb [] = (short_of 9 s.address s.class1, refl, none1_says s.address fcb s.class1)
 class1_says s fcb (r ∷ rs) = (
   data_frame (control_of 8 rs) s.address r,
@@ -167,7 +187,8 @@ class1_says s fcb (r ∷ rs) = (
 )
 
 class2_says : (s : Secondary) (fcb : Bool) (waiting : List (List ℕ)) →
-    IsAnsweredBy (served_class2 s fcb waiting).turn.answer s.address (Counted fcb Class2) (oldest waiting)
+    IsAnsweredBy (served_class2 s fcb waiting).turn.answer s.address (Counted fcb Class2)
+    (oldest waiting)
 class2_says s fcb [] = (short_of 9 s.address s.class1, refl, none2_says s.address fcb s.class1)
 class2_says s fcb (r ∷ rs) = (
   data_frame (control_of 8 s.class1) s.address r,
@@ -207,7 +228,8 @@ own_address : (size : LinkSize) (address : ℕ) (calls : List Call)
     → (after (fresh_station size address) calls).address ≡ address
 own_address size address calls = (stays (fresh_station size address) calls).0
 
-pub tells_flags : (size : LinkSize) (address : ℕ) (calls : List Call) (granted : Bool) (frame : Frame)
+pub tells_flags : (size : LinkSize) (address : ℕ) (calls : List Call) (granted : Bool)
+    (frame : Frame)
     (waiting : List (List ℕ)) →
     IsNewReading (bit_of address calls) (reading_of address frame)
     → Wait1 size address (calls ++ Hear granted (Some frame) ∷ []) waiting →
@@ -215,48 +237,62 @@ pub tells_flags : (size : LinkSize) (address : ℕ) (calls : List Call) (granted
 tells_flags size address calls granted frame waiting new w =
     let s : Secondary = after (fresh_station size address) calls in
     let tells = reading_tells granted s (reading_of address frame)
-    (subst (λ (b : Option Bool). IsNewReading b (reading_of address frame)) (own_bit size address calls) new) in
+    (subst (λ (b : Option Bool). IsNewReading b (reading_of address frame))
+    (own_bit size address calls) new) in
     let there : (heard_reading granted s (reading_of address frame)).state.class1 ≡ waiting =
-    ap (λ (a : ℕ). (heard_reading granted s (reading_of a frame)).state.class1) (sym (own_address size address calls))
+    ap (λ (a : ℕ). (heard_reading granted s (reading_of a frame)).state.class1)
+    (sym (own_address size address calls))
     ∙ ap (λ (t : Secondary). t.class1)
     (sym (after-append (fresh_station size address) calls (Hear granted (Some frame) ∷ [])))
     ∙ waits1 size address (calls ++ Hear granted (Some frame) ∷ []) waiting w in
-    subst (λ (l : List (List ℕ)). TellsFlags (answer_after size address calls granted frame) (do_wait l) false) there
+    subst (λ (l : List (List ℕ)). TellsFlags (answer_after size address calls granted frame)
+    (do_wait l) false) there
     tells
 
-asked_counted : (granted : Bool) (s : Secondary) (address : ℕ) (frame : Frame) (fcb : Bool) (service : Service) →
+asked_counted : (granted : Bool) (s : Secondary) (address : ℕ) (frame : Frame) (fcb : Bool)
+    (service : Service) →
     reading_of address frame ≡ Asks (Counted fcb service) → IsNew s.bit (Counted fcb service) →
     heard_reading granted s (reading_of address frame) ≡ served_new granted s fcb service
 asked_counted granted s address frame fcb service is new =
     ap (λ (r : Reading). heard_reading granted s r) is ∙ new_served granted s fcb service new
 
-pub gives_class1 : (size : LinkSize) (address : ℕ) (calls : List Call) (granted : Bool) (frame : Frame) (fcb : Bool)
+pub gives_class1 : (size : LinkSize) (address : ℕ) (calls : List Call) (granted : Bool)
+    (frame : Frame) (fcb : Bool)
     (waiting : List (List ℕ)) →
-    reading_of address frame ≡ Asks (Counted fcb Class1) → IsNew (bit_of address calls) (Counted fcb Class1)
+    reading_of address frame ≡ Asks (Counted fcb Class1)
+    → IsNew (bit_of address calls) (Counted fcb Class1)
     → Wait1 size address calls waiting →
-    IsAnsweredBy (answer_after size address calls granted frame) address (Counted fcb Class1) (oldest waiting)
+    IsAnsweredBy (answer_after size address calls granted frame) address (Counted fcb Class1)
+    (oldest waiting)
 gives_class1 size address calls granted frame fcb waiting is new w =
     let s : Secondary = after (fresh_station size address) calls in
     let by = asked_counted granted s address frame fcb Class1 is
     (subst (λ (b : Option Bool). IsNew b (Counted fcb Class1)) (own_bit size address calls) new) in
-    subst (λ (v : Served). IsAnsweredBy v.turn.answer address (Counted fcb Class1) (oldest waiting)) (sym by)
-    (subst (λ (a : ℕ). IsAnsweredBy (served_class1 s fcb s.class1).turn.answer a (Counted fcb Class1) (oldest waiting))
+    subst (λ (v : Served). IsAnsweredBy v.turn.answer address (Counted fcb Class1) (oldest waiting))
+    (sym by)
+    (subst (λ (a : ℕ). IsAnsweredBy (served_class1 s fcb s.class1).turn.answer a
+    (Counted fcb Class1) (oldest waiting))
     (own_address size address calls)
     (subst (λ (l : List (List ℕ)). IsAnsweredBy (served_class1 s fcb s.class1).turn.answer s.address
     (Counted fcb Class1) (oldest l))
     (waits1 size address calls waiting w) (class1_says s fcb s.class1)))
 
-pub gives_class2 : (size : LinkSize) (address : ℕ) (calls : List Call) (granted : Bool) (frame : Frame) (fcb : Bool)
+pub gives_class2 : (size : LinkSize) (address : ℕ) (calls : List Call) (granted : Bool)
+    (frame : Frame) (fcb : Bool)
     (waiting : List (List ℕ)) →
-    reading_of address frame ≡ Asks (Counted fcb Class2) → IsNew (bit_of address calls) (Counted fcb Class2)
+    reading_of address frame ≡ Asks (Counted fcb Class2)
+    → IsNew (bit_of address calls) (Counted fcb Class2)
     → Wait2 size address calls waiting →
-    IsAnsweredBy (answer_after size address calls granted frame) address (Counted fcb Class2) (oldest waiting)
+    IsAnsweredBy (answer_after size address calls granted frame) address (Counted fcb Class2)
+    (oldest waiting)
 gives_class2 size address calls granted frame fcb waiting is new w =
     let s : Secondary = after (fresh_station size address) calls in
     let by = asked_counted granted s address frame fcb Class2 is
     (subst (λ (b : Option Bool). IsNew b (Counted fcb Class2)) (own_bit size address calls) new) in
-    subst (λ (v : Served). IsAnsweredBy v.turn.answer address (Counted fcb Class2) (oldest waiting)) (sym by)
-    (subst (λ (a : ℕ). IsAnsweredBy (served_class2 s fcb s.class2).turn.answer a (Counted fcb Class2) (oldest waiting))
+    subst (λ (v : Served). IsAnsweredBy v.turn.answer address (Counted fcb Class2) (oldest waiting))
+    (sym by)
+    (subst (λ (a : ℕ). IsAnsweredBy (served_class2 s fcb s.class2).turn.answer a
+    (Counted fcb Class2) (oldest waiting))
     (own_address size address calls)
     (subst (λ (l : List (List ℕ)). IsAnsweredBy (served_class2 s fcb s.class2).turn.answer s.address
     (Counted fcb Class2) (oldest l))

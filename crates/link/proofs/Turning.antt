@@ -1,7 +1,9 @@
 -- Whose turn comes next.
-use Rattle.std.proofs.Common.{◌≡◌, ℕ, zero, suc, ◌<◌, Bool, false, List, length, Option, Some, None, refl, sym, ap, subst, ◌∙◌, ◌⊎◌, inl, inr, arith}
+use Rattle.std.proofs.Common.{◌≡◌, ℕ, zero, suc, ◌<◌, Bool, false, List, length, Option, Some, None}
+use Rattle.std.proofs.Common.{refl, sym, ap, subst, ◌∙◌, ◌⊎◌, inl, inr, arith}
 use Rattle.link.specs.Exchanges.{Sending}
-use Rattle.link.specs.Turns.{StationState, Starting, Wanted, Chosen, station_at, wanted, place_after, chosen_or, first_after}
+use Rattle.link.specs.Turns.{StationState, Starting, Wanted, Chosen, station_at, wanted}
+use Rattle.link.specs.Turns.{place_after, chosen_or, first_after}
 use Rattle.link.specs.Primary.{Outstanding, Primary, sending_by, sending_from, sending}
 use Rattle.link.specs.Runs.{nth_after, BeginsTurn, HaveNone}
 
@@ -15,13 +17,15 @@ pub record IsFound (burst : ℕ) (may_poll : Bool) (stations : List StationState
   pub nearer : (n : ℕ) → n < steps → wanted burst may_poll false
       (station_at stations (nth_after (length stations) place (suc n))) Starting ≡ None
 
-pub found : (burst : ℕ) (may_poll : Bool) (stations : List StationState) (many place : ℕ) (c : Chosen)
+pub found : (burst : ℕ) (may_poll : Bool) (stations : List StationState) (many place : ℕ)
+    (c : Chosen)
     → first_after burst may_poll stations many place ≡ Some c →
     IsFound burst may_poll stations many place c
 found burst may_poll stations zero place c is = cc
 found burst may_poll stations (suc many) place c is =
     go (λ rest. found burst may_poll stations many (place_after (length stations) place) c rest)
-    (wanted burst may_poll false (station_at stations (place_after (length stations) place)) Starting) refl is
+    (wanted burst may_poll false (station_at stations (place_after (length stations) place))
+    Starting) refl is
   where
     go : (first_after burst may_poll stations many (place_after (length stations) place) ≡ Some c →
         IsFound burst may_poll stations many (place_after (length stations) place) c) →
@@ -54,7 +58,8 @@ found burst may_poll stations (suc many) place c is =
       where
         nearer : (steps : ℕ) →
             ((n : ℕ) → n < steps → wanted burst may_poll false
-            (station_at stations (nth_after (length stations) (place_after (length stations) place) (suc n)))
+            (station_at stations (nth_after (length stations) (place_after (length stations) place)
+            (suc n)))
             Starting ≡ None) →
             (n : ℕ) → n < suc steps → wanted burst may_poll false
             (station_at stations (nth_after (length stations) place (suc n))) Starting ≡ None
@@ -64,15 +69,20 @@ found burst may_poll stations (suc many) place c is =
 none_found : (burst : ℕ) (may_poll : Bool) (stations : List StationState) (many place : ℕ)
     → first_after burst may_poll stations many place ≡ None →
     (n : ℕ) → n < many
-    → wanted burst may_poll false (station_at stations (nth_after (length stations) place (suc n))) Starting ≡ None
+    → wanted burst may_poll false (station_at stations (nth_after (length stations) place (suc n)))
+    Starting ≡ None
 none_found burst may_poll stations zero place is n lt = absurd (omega (arith, lt))
 none_found burst may_poll stations (suc many) place is n lt =
-    go (λ rest m less. none_found burst may_poll stations many (place_after (length stations) place) rest m less)
-    (wanted burst may_poll false (station_at stations (place_after (length stations) place)) Starting) refl is n lt
+    go (λ rest m less. none_found burst may_poll stations many (place_after (length stations) place)
+    rest m less)
+    (wanted burst may_poll false (station_at stations (place_after (length stations) place))
+    Starting) refl is n lt
   where
-    go : (first_after burst may_poll stations many (place_after (length stations) place) ≡ None → (n : ℕ) → n < many →
+    go : (first_after burst may_poll stations many (place_after (length stations) place) ≡ None
+        → (n : ℕ) → n < many →
         wanted burst may_poll false (station_at stations
-        (nth_after (length stations) (place_after (length stations) place) (suc n))) Starting ≡ None) →
+        (nth_after (length stations) (place_after (length stations) place) (suc n))) Starting
+        ≡ None) →
         (w : Option Wanted) → wanted burst may_poll false
         (station_at stations (place_after (length stations) place)) Starting ≡ w →
         chosen_or w (place_after (length stations) place)
@@ -87,7 +97,8 @@ none_found burst may_poll stations (suc many) place is n lt =
 abbrev pub present : Primary → (may_poll : Bool) → Option Wanted
 present p may_poll = wanted p.settings.burst may_poll p.again (station_at p.stations p.turn) p.phase
 
-pub goes_on : (p : Primary) (may_poll : Bool) (w : Wanted) → p.outstanding ≡ None → present p may_poll ≡ Some w →
+pub goes_on : (p : Primary) (may_poll : Bool) (w : Wanted) → p.outstanding ≡ None
+    → present p may_poll ≡ Some w →
     sending p may_poll ≡ Some (record { station = p.turn; request = w.request })
 goes_on p may_poll w free is =
     ap (λ (o : Option Outstanding). sending_from p o may_poll) free
@@ -95,20 +106,23 @@ goes_on p may_poll w free is =
     (first_after p.settings.burst may_poll p.stations (length p.stations) p.turn))) is
 
 passed : (p : Primary) (may_poll : Bool) → p.outstanding ≡ None → present p may_poll ≡ None →
-    sending p may_poll ≡ sending_by (first_after p.settings.burst may_poll p.stations (length p.stations) p.turn)
+    sending p may_poll
+    ≡ sending_by (first_after p.settings.burst may_poll p.stations (length p.stations) p.turn)
 passed p may_poll free is =
     ap (λ (o : Option Outstanding). sending_from p o may_poll) free
     ∙ ap (λ (v : Option Wanted). sending_by (chosen_or v p.turn
     (first_after p.settings.burst may_poll p.stations (length p.stations) p.turn))) is
 
-pub passes_on : (p : Primary) (may_poll : Bool) (s : Sending) → p.outstanding ≡ None → present p may_poll ≡ None
+pub passes_on : (p : Primary) (may_poll : Bool) (s : Sending) → p.outstanding ≡ None
+    → present p may_poll ≡ None
     → sending p may_poll ≡ Some s →
     BeginsTurn p may_poll s
 passes_on p may_poll s free is sent =
     go (first_after p.settings.burst may_poll p.stations (length p.stations) p.turn) refl
     (sym (passed p may_poll free is) ∙ sent)
   where
-    go : (c : Option Chosen) → first_after p.settings.burst may_poll p.stations (length p.stations) p.turn ≡ c
+    go : (c : Option Chosen) → first_after p.settings.burst may_poll p.stations (length p.stations)
+        p.turn ≡ c
         → sending_by c ≡ Some s → BeginsTurn p may_poll s
     go None e none = cc
     go (Some c) e some =
@@ -126,10 +140,12 @@ passes_on p may_poll s free is sent =
           nearer = f.nearer;
         })
 
-pub rests : (p : Primary) (may_poll : Bool) → p.outstanding ≡ None → sending p may_poll ≡ None → HaveNone p may_poll
+pub rests : (p : Primary) (may_poll : Bool) → p.outstanding ≡ None → sending p may_poll ≡ None
+    → HaveNone p may_poll
 rests p may_poll free none = go (present p may_poll) refl
   where
-    by : (c : Option Chosen) → first_after p.settings.burst may_poll p.stations (length p.stations) p.turn ≡ c
+    by : (c : Option Chosen) → first_after p.settings.burst may_poll p.stations (length p.stations)
+        p.turn ≡ c
         → sending_by c ≡ None →
         HaveNone p may_poll
     by None e quiet = none_found p.settings.burst may_poll p.stations (length p.stations) p.turn e
@@ -137,7 +153,8 @@ rests p may_poll free none = go (present p may_poll) refl
 
     go : (v : Option Wanted) → present p may_poll ≡ v → HaveNone p may_poll
     go (Some w) is = let some = goes_on p may_poll w free is in cc
-    go None is = by (first_after p.settings.burst may_poll p.stations (length p.stations) p.turn) refl
+    go None is = by (first_after p.settings.burst may_poll p.stations (length p.stations) p.turn)
+        refl
         (sym (passed p may_poll free is) ∙ none)
 
 -- what goes out goes on with the present turn, or begins one
@@ -147,10 +164,12 @@ pub record GoesOn (p : Primary) (may_poll : Bool) (s : Sending) : Type 0 where
   pub station : s.station ≡ p.turn
   pub request : s.request ≡ wanted.request
 
-pub free_where : (p : Primary) (may_poll : Bool) (s : Sending) → sending p may_poll ≡ Some s → p.outstanding ≡ None
+pub free_where : (p : Primary) (may_poll : Bool) (s : Sending) → sending p may_poll ≡ Some s
+    → p.outstanding ≡ None
 free_where p may_poll s sent = go p.outstanding refl sent
   where
-    go : (o : Option Outstanding) → p.outstanding ≡ o → sending_from p o may_poll ≡ Some s → o ≡ None
+    go : (o : Option Outstanding) → p.outstanding ≡ o → sending_from p o may_poll ≡ Some s
+        → o ≡ None
     go None is e = refl
     go (Some o) is e = cc
 

@@ -1,11 +1,17 @@
 -- Whether a command is under way, as the exchanges with its station show it.
 use Rattle.std.specs.Prelude.{◌==◌}
-use Rattle.std.proofs.Common.{◌≡◌, ℕ, suc, nat_lt, ◌&&◌, ◌||◌, not, is_none, slice_index, Bool, true, false, List, [], ◌∷◌, ◌++◌, Option, Some, None, refl, sym, ap, subst, ◌∙◌, if◌then◌else◌}
+use Rattle.std.proofs.Common.{◌≡◌, ℕ, suc, nat_lt, ◌&&◌, ◌||◌, not, is_none, slice_index, Bool}
+use Rattle.std.proofs.Common.{true, false, List, [], ◌∷◌, ◌++◌, Option, Some, None, refl, sym, ap}
+use Rattle.std.proofs.Common.{subst, ◌∙◌, if◌then◌else◌}
 use Rattle.std.proofs.lemmas.Bool.{eqb-true}
 use Rattle.ft12.specs.declared.frame.Front.{Front}
-use Rattle.link.specs.Answers.{Frame, Service, Class1, Class2, Command, Asked, Status, Reset, Counted, Answer, Ready, Confirmed, Busy, Report, NoData, Unable}
-use Rattle.link.specs.Exchanges.{Exchange, OpenExchange, Exchanges, answer_to, as_list, view, views, with_station}
-use Rattle.link.specs.Procedure.{LinkSettings, Link, Down, Available, Next, Held, held, missed_so_far, after_outcome, after_silence, after, link_after, MaySend, is_up, holds_command}
+use Rattle.link.specs.Answers.{Frame, Service, Class1, Class2, Command, Asked, Status, Reset}
+use Rattle.link.specs.Answers.{Counted, Answer, Ready, Confirmed, Busy, Report, NoData, Unable}
+use Rattle.link.specs.Exchanges.{Exchange, OpenExchange, Exchanges, answer_to, as_list, view, views}
+use Rattle.link.specs.Exchanges.{with_station}
+use Rattle.link.specs.Procedure.{LinkSettings, Link, Down, Available, Next, Held, held}
+use Rattle.link.specs.Procedure.{missed_so_far, after_outcome, after_silence, after, link_after}
+use Rattle.link.specs.Procedure.{MaySend, is_up, holds_command}
 use Rattle.link.specs.Delivery.{pending_by, pending_after, is_command_pending}
 use Rattle.link.specs.Offers.{is_under_way}
 use Rattle.link.specs.Turns.{station_at}
@@ -27,16 +33,19 @@ held_suits : (settings : LinkSettings) (fcb : Bool) (service : Service) (missed 
 held_suits settings fcb service missed = go (nat_lt settings.retries missed) settings.hold
   where
     go : (b hold : Bool)
-        → Suits (if b then (if hold then Held fcb service (suc settings.retries) else Down) else Held fcb service
+        → Suits (if b then (if hold then Held fcb service (suc settings.retries) else Down)
+        else Held fcb service
         missed) (Some service)
     go true true = refl
     go true false = tt
     go false hold = refl
 
-step_suits : (settings : LinkSettings) (request : Asked) (front : Option Frame) (closed : Bool) (m : Option Answer)
+step_suits : (settings : LinkSettings) (request : Asked) (front : Option Frame) (closed : Bool)
+    (m : Option Answer)
     (link : Link) (pending : Option Service) →
     Suits link pending →
-    Suits (after_outcome settings m (record { request = request; front = front; closed = closed }) link)
+    Suits (after_outcome settings m (record { request = request; front = front; closed = closed })
+    link)
     (pending_by request m pending)
 step_suits settings Status front closed None link pending suits = tt
 step_suits settings Status front closed (Some Ready) link pending suits = tt
@@ -58,11 +67,13 @@ step_suits settings (Counted fcb service) front false None link pending suits = 
 step_suits settings (Counted fcb service) front closed (Some Ready) link pending suits = refl
 step_suits settings (Counted fcb service) front closed (Some Confirmed) link pending suits = refl
 step_suits settings (Counted fcb service) front closed (Some Busy) link pending suits = refl
-step_suits settings (Counted fcb service) front closed (Some (Report asdu)) link pending suits = refl
+step_suits settings (Counted fcb service) front closed (Some (Report asdu)) link pending suits =
+    refl
 step_suits settings (Counted fcb service) front closed (Some NoData) link pending suits = refl
 step_suits settings (Counted fcb service) front closed (Some Unable) link pending suits = tt
 
-all_suit : (settings : LinkSettings) (a : ℕ) (link : Link) (pending : Option Service) (xs : List Exchange)
+all_suit : (settings : LinkSettings) (a : ℕ) (link : Link) (pending : Option Service)
+    (xs : List Exchange)
     → Suits link pending →
     Suits (link_after settings a link xs) (pending_after a pending xs)
 all_suit settings a link pending [] suits = suits
@@ -81,7 +92,8 @@ suits_holds : (link : Link) (pending : Option Service) → Suits link pending
 suits_holds Down pending suits = refl
 suits_holds Available pending suits = refl
 suits_holds (Next fcb) pending suits = ap is_command_pending suits
-suits_holds (Held fcb service missed) pending suits = ap is_command_pending suits ∙ command_held fcb service missed
+suits_holds (Held fcb service missed) pending suits = ap is_command_pending suits
+    ∙ command_held fcb service missed
 
 under_way : (settings : LinkSettings) (a : ℕ) (xs : List Exchange)
     → is_under_way settings a xs ≡ holds_command (link_after settings a Down xs)
@@ -92,7 +104,8 @@ under_way settings a xs = suits_holds (link_after settings a Down xs) (pending_a
 
 -- a request that went out and isn't answered yet
 sent_holds : (settings : LinkSettings) (request : Asked) (link : Link) → MaySend link request →
-    holds_command (after_silence settings request false link) ≡ (holds_command link || is_command request)
+    holds_command (after_silence settings request false link)
+    ≡ (holds_command link || is_command request)
 sent_holds settings Status Down may = refl
 sent_holds settings Status Available may = refl
 sent_holds settings Status (Next fcb) may = absurd may
@@ -126,7 +139,8 @@ neither : (holds command : Bool) → (not holds && not (true && command)) ≡ no
 neither true command = refl
 neither false command = refl
 
-pub taken : (front : List ℕ → Front) (settings : LinkSettings) (addresses : List ℕ) (p : Primary) (e : Exchanges)
+pub taken : (front : List ℕ → Front) (settings : LinkSettings) (addresses : List ℕ) (p : Primary)
+    (e : Exchanges)
     (i : ℕ) →
     TellsBy front settings addresses p e →
     may_offer p i
@@ -152,7 +166,8 @@ taken front settings addresses p e i t =
 
     go : (o : Option Outstanding) (c : Option OpenExchange) → p.outstanding ≡ o →
         TellsBy front settings addresses p (record { ended = e.ended; current = c }) →
-        (not (holds_command (station_at p.stations i).link) && not ((p.turn == i) && is_sending_command o))
+        (not (holds_command (station_at p.stations i).link)
+        && not ((p.turn == i) && is_sending_command o))
         ≡ not (holds_command (link_after settings (slice_index addresses i) Down
         (with_station i (views front (e.ended ++ as_list c)))))
     go None c is t =
@@ -160,25 +175,30 @@ taken front settings addresses p e i t =
         ∙ ap (λ (l : Link). not (holds_command l)) (sym
         (links_at front settings addresses p (record { ended = ended; current = c }) None is t i))
     go (Some q) None is t =
-        absurd (subst (λ (o : Option Outstanding). IsCurrent front addresses p.turn o None) is t.current)
+        absurd (subst (λ (o : Option Outstanding). IsCurrent front addresses p.turn o None) is
+        t.current)
     go (Some q) (Some x) is t =
         here (x.station == i) refl
         ∙ ap (λ (es : List Exchange). not (holds_command (link_after settings a Down es)))
         (sym (with_one front ended x i))
       where
         w : IsAwaited front (slice_index addresses p.turn) p.turn q x
-        w = subst (λ (o : Option Outstanding). IsCurrent front addresses p.turn o (Some x)) is t.current
+        w = subst (λ (o : Option Outstanding). IsCurrent front addresses p.turn o (Some x)) is
+            t.current
 
         links : AreLinks front settings addresses p.stations ended
-        links = links_at front settings addresses p (record { ended = ended; current = Some x }) (Some q) is t
+        links = links_at front settings addresses p (record { ended = ended; current = Some x })
+            (Some q) is t
 
         may : MaySend (station_at p.stations p.turn).link q.request
         may = subst (λ (o : Option Outstanding). IsAllowed p.stations p.turn o) is t.allowed
 
         here : (b : Bool) → (x.station == i) ≡ b →
-            (not (holds_command (station_at p.stations i).link) && not ((p.turn == i) && is_command q.request))
+            (not (holds_command (station_at p.stations i).link)
+            && not ((p.turn == i) && is_command q.request))
             ≡ not (holds_command (link_after settings (slice_index addresses i) Down
-            (with_station i (views front e.ended) ++ (if b then (view front x).exchange ∷ [] else []))))
+            (with_station i (views front e.ended) ++ (if b then (view front x).exchange ∷ []
+            else []))))
         here false other =
             ap (λ (c : Bool). not (holds_command link) && not (c && is_command q.request))
             (ap (λ (j : ℕ). j == i) (sym w.station) ∙ other)
@@ -191,16 +211,23 @@ taken front settings addresses p e i t =
             let sent : MaySend link q.request =
             subst (λ (j : ℕ). MaySend (station_at p.stations j).link q.request) turn may in
             let none : answer_to a (view front x).exchange ≡ None =
-            subst (λ (j : ℕ). answer_to (slice_index addresses j) (view front x).exchange ≡ None) turn
+            subst (λ (j : ℕ). answer_to (slice_index addresses j) (view front x).exchange ≡ None)
+            turn
             (unheard front (slice_index addresses p.turn) x q.heard w.heard) in
             ap (λ (c : Bool). not (holds_command link) && not (c && is_command q.request))
             (ap (λ (j : ℕ). j == i) (sym w.station) ∙ this)
             ∙ neither (holds_command link) (is_command q.request)
             ∙ ap not (sym (sent_holds settings q.request link sent))
-            ∙ ap (λ (r : Asked). not (holds_command (after_silence settings r false link))) (sym w.request)
-            ∙ ap (λ (b : Bool). not (holds_command (after_silence settings x.request b link))) (sym w.waits)
-            ∙ ap (λ (m : Option Answer). not (holds_command (after_outcome settings m (view front x).exchange link)))
+            ∙ ap (λ (r : Asked). not (holds_command (after_silence settings r false link)))
+            (sym w.request)
+            ∙ ap (λ (b : Bool). not (holds_command (after_silence settings x.request b link)))
+            (sym w.waits)
+            ∙ ap
+            (λ (m : Option Answer). not
+            (holds_command (after_outcome settings m (view front x).exchange link)))
             (sym none)
-            ∙ ap (λ (l : Link). not (holds_command (after settings a (view front x).exchange l))) (sym (links i))
+            ∙ ap (λ (l : Link). not (holds_command (after settings a (view front x).exchange l)))
+            (sym (links i))
             ∙ ap (λ (l : Link). not (holds_command l))
-            (sym (link_after-push settings a Down (with_station i (views front ended)) (view front x).exchange))
+            (sym (link_after-push settings a Down (with_station i (views front ended))
+            (view front x).exchange))

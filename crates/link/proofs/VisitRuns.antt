@@ -1,23 +1,42 @@
 -- Call by call, the exchanges of the line are visits, and the present turn is the latest of them.
 use Rattle.std.specs.Prelude.{◌==◌}
-use Rattle.std.proofs.Common.{◌≡◌, ℕ, suc, ◌<◌, ◌≤◌, ◌&&◌, ◌||◌, ◌%◌, nat_lt, Bool, true, false, List, [], ◌∷◌, ◌++◌, length, slice_index, slice_set, map, Option, Some, None, refl, sym, ap, subst, ◌∙◌, arith, if◌then◌else◌, append_assoc}
-use Rattle.std.proofs.lemmas.Bool.{leb-true, eqb-false}
+use Rattle.std.proofs.Common.{◌≡◌, ℕ, suc, ◌<◌, ◌≤◌, Bool, true, false}
+use Rattle.std.proofs.Common.{List, [], ◌∷◌, ◌++◌, length, slice_index, slice_set, map, Option}
+use Rattle.std.proofs.Common.{Some, None, refl, sym, ap, subst, ◌∙◌, arith, if◌then◌else◌}
+use Rattle.std.proofs.Common.{append_assoc}
+use Rattle.std.proofs.lemmas.Bool.{eqb-false}
 use Rattle.std.proofs.lemmas.List.{get_or-set_same}
 use Rattle.ft12.specs.declared.frame.Front.{Front}
 use Rattle.ft12.specs.declared.frame.Front.TheVariants.{Whole, More, Never}
-use Rattle.link.specs.Answers.{Frame, Single, Fixed, Data, Service, Asked, Status, Reset, Counted, Answer, Ready, Confirmed, Busy, Report, NoData, Unable, answer_of, comes_from}
-use Rattle.link.specs.Exchanges.{Exchange, LineExchange, OpenExchange, Exchanges, Sending, no_exchanges, as_list, all_of, with_station, view, views, whole_of, heard_current, timed_current, begun_by}
-use Rattle.link.specs.Procedure.{LinkSettings, Link, Down, Held, MaySend, after, link_after, after_answer, after_silence, held, has_repeats, missed_so_far}
-use Rattle.link.specs.Turns.{StationState, no_station, station_at, Phase, Starting, Over, Wanted, wanted, Chosen, chosen_or, first_after}
-use Rattle.link.specs.Primary.{Outstanding, Primary, start, station_down, after_choice, asked_from, asked, sending_by, sending_from, sending, phase_after, station_asked, station_answered, station_unanswered, unanswered, answer_at, awaits, said_by, open_octets, took, with_octets, received_after, received_from, received, is_late, due_from, timed_out, may_offer, with_offer, offered_to, without_offer, withdrawn}
+use Rattle.link.specs.Answers.{Frame}
+use Rattle.link.specs.Answers.{Answer}
+use Rattle.link.specs.Exchanges.{Exchange, LineExchange, OpenExchange, Exchanges, Sending}
+use Rattle.link.specs.Exchanges.{no_exchanges, as_list, all_of, with_station, view, views, whole_of}
+use Rattle.link.specs.Exchanges.{heard_current, timed_current, begun_by}
+use Rattle.link.specs.Procedure.{LinkSettings, Link, Down, MaySend, after, link_after}
+use Rattle.link.specs.Procedure.{has_repeats}
+use Rattle.link.specs.Turns.{StationState, no_station, station_at, Phase, Starting, Over, Wanted}
+use Rattle.link.specs.Turns.{wanted, Chosen, chosen_or, first_after}
+use Rattle.link.specs.Primary.{Outstanding, Primary, start, station_down, after_choice, asked_from}
+use Rattle.link.specs.Primary.{asked, sending_by, sending_from, sending, phase_after, station_asked}
+use Rattle.link.specs.Primary.{station_answered, station_unanswered, unanswered, answer_at, awaits}
+use Rattle.link.specs.Primary.{said_by, open_octets, took, with_octets, received_after}
+use Rattle.link.specs.Primary.{received_from, received, is_late, due_from, timed_out, may_offer}
+use Rattle.link.specs.Primary.{with_offer, offered_to, without_offer, withdrawn}
 use Rattle.link.specs.Telling.{TellsBy}
-use Rattle.link.specs.Visits.{Left, whole_visit, MayFollow, Visit, at_station, line_of, AreVisits, AreInVisits, most_of_visit}
-use Rattle.link.proofs.Beginning.{IsBegun, none_known, begun_choice, begun_none, begun_awaits, begun_answered, begun_unanswered, begun_linked, withdrawn_link, begun_start}
+use Rattle.link.specs.Visits.{Left, whole_visit, MayFollow, Visit, at_station, line_of, AreVisits}
+use Rattle.link.specs.Visits.{AreInVisits, most_of_visit}
+use Rattle.link.proofs.Beginning.{IsBegun, none_known, begun_choice, begun_none, begun_awaits}
+use Rattle.link.proofs.Beginning.{begun_answered, begun_unanswered, begun_linked, withdrawn_link}
+use Rattle.link.proofs.Beginning.{begun_start}
 use Rattle.link.proofs.Choice.{MayWant, MayChooseIt, at_may, first_may}
 use Rattle.link.proofs.Links.{set_view, with_station-append, views-append}
 use Rattle.link.proofs.Called.{links_at}
 use Rattle.link.proofs.Turning.{IsFound, found, present}
-use Rattle.link.proofs.Visiting.{Leads, leads_visit, leads_on, visit_room, whole_room, Awaits, HasPlan, IsReady, over, starting, serving, IsStarting, Follows, FollowsIt, ready_follows, begin_follows}
+use Rattle.link.proofs.Visiting.{Leads, leads_visit, leads_on, visit_room, whole_room, Awaits}
+use Rattle.link.proofs.Visiting.{IsReady, over, starting, IsStarting, Follows}
+use Rattle.link.proofs.Visiting.{FollowsIt, ready_follows, begin_follows}
+use Rattle.link.proofs.Statuses.{answered_ready, missed_ready}
 
 -- ---- lists
 
@@ -25,9 +44,11 @@ nil : {A : Type 0} (xs : List A) → xs ++ [] ≡ xs
 nil {A} [] = refl
 nil {A} (x ∷ xs) = ap (λ (ys : List A). x ∷ ys) (nil xs)
 
-at-append : (i : ℕ) (xs ys : List Exchange) → at_station i (xs ++ ys) ≡ at_station i xs ++ at_station i ys
+at-append : (i : ℕ) (xs ys : List Exchange) → at_station i (xs ++ ys) ≡ at_station i xs
+    ++ at_station i ys
 at-append i [] ys = refl
-at-append i (x ∷ xs) ys = ap (λ (es : List LineExchange). record { station = i; exchange = x } ∷ es) (at-append i xs ys)
+at-append i (x ∷ xs) ys = ap (λ (es : List LineExchange). record { station = i; exchange = x } ∷ es)
+    (at-append i xs ys)
 
 same_place : (i : ℕ) → (i == i) ≡ true
 same_place i = go (i == i) refl
@@ -39,7 +60,8 @@ same_place i = go (i == i) refl
 with-at : (i : ℕ) (xs : List Exchange) → with_station i (at_station i xs) ≡ xs
 with-at i [] = refl
 with-at i (x ∷ xs) =
-    ap (λ (b : Bool). if b then x ∷ with_station i (at_station i xs) else with_station i (at_station i xs))
+    ap (λ (b : Bool). if b then x ∷ with_station i (at_station i xs)
+    else with_station i (at_station i xs))
     (same_place i)
     ∙ ap (λ (es : List Exchange). x ∷ es) (with-at i xs)
 
@@ -48,9 +70,11 @@ link-append : (settings : LinkSettings) (a : ℕ) (link : Link) (xs ys : List Ex
 link-append settings a link [] ys = refl
 link-append settings a link (x ∷ xs) ys = link-append settings a (after settings a x link) xs ys
 
-one_longer : (xs : List Exchange) (x : Exchange) (n : ℕ) → length xs ≡ n → length (xs ++ x ∷ []) ≡ suc n
+one_longer : (xs : List Exchange) (x : Exchange) (n : ℕ) → length xs ≡ n → length (xs ++ x ∷ [])
+    ≡ suc n
 one_longer [] x n is = ap (λ (m : ℕ). suc m) is
-one_longer (y ∷ ys) x n is = ap (λ (m : ℕ). suc m) (one_longer ys x (length ys) refl) ∙ ap (λ (m : ℕ). suc m) is
+one_longer (y ∷ ys) x n is = ap (λ (m : ℕ). suc m) (one_longer ys x (length ys) refl)
+    ∙ ap (λ (m : ℕ). suc m) is
 
 -- ---- the present visit
 
@@ -60,37 +84,46 @@ shown front (Some x) = (view front x).exchange ∷ []
 
 -- the link of a station that these visits leave
 abbrev pub link_left : LinkSettings → (addresses : List ℕ) → List Visit → (station : ℕ) → Link
-link_left settings addresses visits station = link_after settings (slice_index addresses station) Down
+link_left settings addresses visits station = link_after settings (slice_index addresses station)
+    Down
     (with_station station (line_of visits))
 
-abbrev pub IsLatest : LinkSettings → Link → (turn : ℕ) → (mid now : Left) → Option OpenExchange → Type 0
+abbrev pub IsLatest : LinkSettings → Link → (turn : ℕ) → (mid now : Left) → Option OpenExchange
+    → Type 0
 IsLatest settings link turn mid now None = now ≡ mid
 IsLatest settings link turn mid now (Some x) = (x.station ≡ turn) × MaySend link x.request
     × MayFollow settings link mid x.request now
 
-abbrev pub FitsPhase : LinkSettings → Option Outstanding → (again : Bool) → Phase → Link → Left → Type 0
+abbrev pub FitsPhase : LinkSettings → Option Outstanding → (again : Bool) → Phase → Link → Left
+    → Type 0
 FitsPhase settings None again phase link left = IsReady settings again phase link left
-FitsPhase settings (Some o) again phase link left = (again ≡ false) × Awaits settings o.request phase link left
+FitsPhase settings (Some o) again phase link left = (again ≡ false)
+    × Awaits settings o.request phase link left
 
 -- The present visit has so many exchanges.
-pub record InVisit (front : List ℕ → Front) (addresses : List ℕ) (p : Primary) (e : Exchanges) (many : ℕ) : Type 0 where
+pub record InVisit (front : List ℕ → Front) (addresses : List ℕ) (p : Primary) (e : Exchanges)
+    (many : ℕ) : Type 0 where
   pub earlier : List Visit
   pub are : AreVisits p.settings addresses earlier
   pub before : List Exchange
   pub mid : Left
   pub now : Left
-  pub leads : Leads p.settings (slice_index addresses p.turn) (link_left p.settings addresses earlier p.turn)
+  pub leads : Leads p.settings (slice_index addresses p.turn)
+      (link_left p.settings addresses earlier p.turn)
       (whole_visit p.settings (link_left p.settings addresses earlier p.turn)) before mid
   pub ended : views front e.ended ≡ line_of earlier ++ at_station p.turn before
   pub latest : IsLatest p.settings (link_after p.settings (slice_index addresses p.turn)
       (link_left p.settings addresses earlier p.turn) before) p.turn mid now e.current
-  pub fits : FitsPhase p.settings p.outstanding p.again p.phase (station_at p.stations p.turn).link now
+  pub fits : FitsPhase p.settings p.outstanding p.again p.phase (station_at p.stations p.turn).link
+      now
   pub begun : IsBegun p
   pub many_are : length (before ++ shown front e.current) ≡ many
 
-pub whole_leads : (front : List ℕ → Front) (settings : LinkSettings) (a turn : ℕ) (link : Link) (left mid now : Left)
+pub whole_leads : (front : List ℕ → Front) (settings : LinkSettings) (a turn : ℕ) (link : Link)
+    (left mid now : Left)
     (before : List Exchange) (cur : Option OpenExchange) →
-    Leads settings a link left before mid → IsLatest settings (link_after settings a link before) turn mid now cur →
+    Leads settings a link left before mid → IsLatest settings (link_after settings a link before)
+    turn mid now cur →
     Leads settings a link left (before ++ shown front cur) now
 whole_leads front settings a turn link left mid now before None leads latest =
     subst (λ (xs : List Exchange). Leads settings a link left xs now) (sym (nil before))
@@ -98,65 +131,85 @@ whole_leads front settings a turn link left mid now before None leads latest =
 whole_leads front settings a turn link left mid now before (Some x) leads latest =
     leads_on settings a link left before (view front x).exchange mid now leads latest.1 latest.2
 
-shown_there : (front : List ℕ → Front) (settings : LinkSettings) (link : Link) (turn : ℕ) (mid now : Left)
+shown_there : (front : List ℕ → Front) (settings : LinkSettings) (link : Link) (turn : ℕ)
+    (mid now : Left)
     (cur : Option OpenExchange) →
-    IsLatest settings link turn mid now cur → views front (as_list cur) ≡ at_station turn (shown front cur)
+    IsLatest settings link turn mid now cur → views front (as_list cur)
+    ≡ at_station turn (shown front cur)
 shown_there front settings link turn mid now None latest = refl
 shown_there front settings link turn mid now (Some x) latest =
     ap (λ (i : ℕ). record { station = i; exchange = (view front x).exchange } ∷ []) latest.0
 
-pub leads_all : (front : List ℕ → Front) (addresses : List ℕ) (p : Primary) (e : Exchanges) (many : ℕ)
+pub leads_all : (front : List ℕ → Front) (addresses : List ℕ) (p : Primary) (e : Exchanges)
+    (many : ℕ)
     → (v : InVisit front addresses p e many) →
-    Leads p.settings (slice_index addresses p.turn) (link_left p.settings addresses v.earlier p.turn)
-    (whole_visit p.settings (link_left p.settings addresses v.earlier p.turn)) (v.before ++ shown front e.current) v.now
+    Leads p.settings (slice_index addresses p.turn)
+    (link_left p.settings addresses v.earlier p.turn)
+    (whole_visit p.settings (link_left p.settings addresses v.earlier p.turn))
+    (v.before ++ shown front e.current) v.now
 leads_all front addresses p e many v = whole_leads front p.settings
     (slice_index addresses p.turn) p.turn _ _ v.mid v.now v.before e.current v.leads v.latest
 
-pub whole_line : (front : List ℕ → Front) (addresses : List ℕ) (p : Primary) (e : Exchanges) (many : ℕ)
+pub whole_line : (front : List ℕ → Front) (addresses : List ℕ) (p : Primary) (e : Exchanges)
+    (many : ℕ)
     → (v : InVisit front addresses p e many) →
-    line_of v.earlier ++ at_station p.turn (v.before ++ shown front e.current) ≡ views front (all_of e)
+    line_of v.earlier ++ at_station p.turn (v.before ++ shown front e.current)
+    ≡ views front (all_of e)
 whole_line front addresses p e many v =
-    ap (λ (es : List LineExchange). line_of v.earlier ++ es) (at-append p.turn v.before (shown front e.current))
-    ∙ sym (append_assoc (line_of v.earlier) (at_station p.turn v.before) (at_station p.turn (shown front e.current)))
+    ap (λ (es : List LineExchange). line_of v.earlier ++ es)
+    (at-append p.turn v.before (shown front e.current))
+    ∙ sym (append_assoc (line_of v.earlier) (at_station p.turn v.before)
+    (at_station p.turn (shown front e.current)))
     ∙ ap (λ (es : List LineExchange). es ++ at_station p.turn (shown front e.current)) (sym v.ended)
     ∙ ap (λ (es : List LineExchange). views front e.ended ++ es)
     (sym (shown_there front p.settings _ p.turn v.mid v.now e.current v.latest))
     ∙ sym (views-append front e.ended (as_list e.current))
 
-pub in_visits : (front : List ℕ → Front) (addresses : List ℕ) (p : Primary) (e : Exchanges) (many : ℕ)
+pub in_visits : (front : List ℕ → Front) (addresses : List ℕ) (p : Primary) (e : Exchanges)
+    (many : ℕ)
     → InVisit front addresses p e many →
     AreInVisits p.settings addresses (views front (all_of e))
 in_visits front addresses p e many v = record {
   visits = record { station = p.turn; exchanges = v.before ++ shown front e.current } ∷ v.earlier;
   are = (
-    leads_visit p.settings (slice_index addresses p.turn) _ _ _ v.now (leads_all front addresses p e many v),
+    leads_visit p.settings (slice_index addresses p.turn) _ _ _ v.now
+        (leads_all front addresses p e many v),
     v.are,
   );
   whole = whole_line front addresses p e many v;
 }
 
 -- a visit is short
-pub many_most : (front : List ℕ → Front) (addresses : List ℕ) (p : Primary) (e : Exchanges) (many : ℕ)
+pub many_most : (front : List ℕ → Front) (addresses : List ℕ) (p : Primary) (e : Exchanges)
+    (many : ℕ)
     → InVisit front addresses p e many →
     many ≤ most_of_visit p.settings
 many_most front addresses p e many v =
     let short = visit_room p.settings (slice_index addresses p.turn)
     (link_left p.settings addresses v.earlier p.turn) _ _
-    (leads_visit p.settings (slice_index addresses p.turn) _ _ _ v.now (leads_all front addresses p e many v)) in
-    omega (arith, short, whole_room p.settings (link_left p.settings addresses v.earlier p.turn), v.many_are)
+    (leads_visit p.settings (slice_index addresses p.turn) _ _ _ v.now
+    (leads_all front addresses p e many v)) in
+    omega (
+      arith,
+      short,
+      whole_room p.settings (link_left p.settings addresses v.earlier p.turn),
+      v.many_are,
+    )
 
 -- while nothing is outstanding, the link that the present visit leaves is the machine's
 link_now : (front : List ℕ → Front) (addresses : List ℕ) (p : Primary) (e : Exchanges) (many : ℕ)
     → (v : InVisit front addresses p e many) →
     TellsBy front p.settings addresses p e → p.outstanding ≡ None →
-    link_after p.settings (slice_index addresses p.turn) (link_left p.settings addresses v.earlier p.turn) (v.before
+    link_after p.settings (slice_index addresses p.turn)
+    (link_left p.settings addresses v.earlier p.turn) (v.before
     ++ shown front e.current)
     ≡ (station_at p.stations p.turn).link
 link_now front addresses p e many v t free =
     let a = slice_index addresses p.turn in
     let xs = v.before ++ shown front e.current in
     sym (link-append p.settings a Down (with_station p.turn (line_of v.earlier)) xs)
-    ∙ ap (λ (ys : List Exchange). link_after p.settings a Down (with_station p.turn (line_of v.earlier) ++ ys))
+    ∙ ap (λ (ys : List Exchange). link_after p.settings a Down
+    (with_station p.turn (line_of v.earlier) ++ ys))
     (sym (with-at p.turn xs))
     ∙ ap (λ (ys : List Exchange). link_after p.settings a Down ys)
     (sym (with_station-append p.turn (line_of v.earlier) (at_station p.turn xs)))
@@ -167,15 +220,18 @@ link_now front addresses p e many v t free =
 -- ---- `next`
 
 -- what asking does: nothing goes out, or the present visit goes on, or another one begins
-pub data IsAsked (front : List ℕ → Front) (addresses : List ℕ) (p : Primary) (may_poll : Bool) (many : ℕ)
+pub data IsAsked (front : List ℕ → Front) (addresses : List ℕ) (p : Primary) (may_poll : Bool)
+    (many : ℕ)
     (p' : Primary) (e' : Exchanges) (s : Option Sending) : Type 0 where
   nothing : s ≡ None → p'.turn ≡ p.turn → InVisit front addresses p' e' many
       → IsAsked front addresses p may_poll many p' e' s
   goes_on : (z : Sending) → s ≡ Some z → z.station ≡ p.turn → p'.turn ≡ p.turn
       → InVisit front addresses p' e' (suc many) →
       IsAsked front addresses p may_poll many p' e' s
-  begins : (c : Chosen) → s ≡ Some (record { station = c.station; request = c.wanted.request }) → p.outstanding ≡ None →
-      IsFound p.settings.burst may_poll p.stations (length p.stations) p.turn c → c.station < length p.stations
+  begins : (c : Chosen) → s ≡ Some (record { station = c.station; request = c.wanted.request })
+      → p.outstanding ≡ None →
+      IsFound p.settings.burst may_poll p.stations (length p.stations) p.turn c → c.station
+      < length p.stations
       → p'.turn ≡ c.station →
       InVisit front addresses p' e' 1 → IsAsked front addresses p may_poll many p' e' s
 
@@ -186,9 +242,11 @@ may_want : (p : Primary) (e : Exchanges) (front : List ℕ
     → MaySend (station_at p.stations place).link w.request
 may_want p e front addresses may_poll again place phase w t within is =
     (subst (λ (v : Option Wanted). MayWant p.settings.size (station_at p.stations place).link v) is
-    (at_may p.settings.size p.settings.burst may_poll again p.stations place phase t.fits.stations within)).1
+    (at_may p.settings.size p.settings.burst may_poll again p.stations place phase t.fits.stations
+    within)).1
 
-on_visit : (front : List ℕ → Front) (addresses : List ℕ) (p : Primary) (e : Exchanges) (many now : ℕ) (may_poll : Bool)
+on_visit : (front : List ℕ → Front) (addresses : List ℕ) (p : Primary) (e : Exchanges)
+    (many now : ℕ) (may_poll : Bool)
     (w : Wanted) → 0 < p.settings.burst →
     TellsBy front p.settings addresses p e → p.outstanding ≡ None → present p may_poll ≡ Some w
     → InVisit front addresses p e many →
@@ -200,7 +258,8 @@ on_visit front addresses p e many now may_poll w some t free is v =
     let ready = subst (λ (o : Option Outstanding). FitsPhase p.settings o p.again p.phase
     (station_at p.stations p.turn).link v.now) free v.fits in
     let f : Follows p.settings (station_at p.stations p.turn).link v.now w =
-    subst (λ (x : Option Wanted). FollowsIt p.settings (station_at p.stations p.turn).link v.now x) is
+    subst (λ (x : Option Wanted). FollowsIt p.settings (station_at p.stations p.turn).link v.now x)
+    is
     (ready_follows p.settings may_poll p.again (station_at p.stations p.turn)
     (station_at p.stations p.turn).link p.phase v.now some ready) in
     record {
@@ -220,26 +279,33 @@ on_visit front addresses p e many now may_poll w some t free is v =
       fits = (
         refl,
         subst (λ (l : Link). Awaits p.settings w.request w.following l f.later)
-            (sym (set_view (λ (r : StationState). r.link) p.stations p.turn s refl p.turn)) f.awaits,
+            (sym (set_view (λ (r : StationState). r.link) p.stations p.turn s refl p.turn))
+            f.awaits,
       );
-      begun = begun_choice p now may_poll p.again p.phase (record { station = p.turn; wanted = w }) is
-          (may_want p e front addresses may_poll p.again p.turn p.phase w t t.fits.turn is) v.begun.away;
+      begun = begun_choice p now may_poll p.again p.phase (record { station = p.turn; wanted = w })
+          is
+          (may_want p e front addresses may_poll p.again p.turn p.phase w t t.fits.turn is)
+          v.begun.away;
       many_are = one_longer (v.before ++ shown front e.current) _ many v.many_are;
     }
 
-new_visit : (front : List ℕ → Front) (addresses : List ℕ) (p : Primary) (e : Exchanges) (many now : ℕ)
+new_visit : (front : List ℕ → Front) (addresses : List ℕ) (p : Primary) (e : Exchanges)
+    (many now : ℕ)
     (may_poll : Bool) (c : Chosen) → 0 < p.settings.burst →
     TellsBy front p.settings addresses p e → p.outstanding ≡ None → present p may_poll ≡ None
     → c.station < length p.stations →
-    wanted p.settings.burst may_poll false (station_at p.stations c.station) Starting ≡ Some c.wanted
+    wanted p.settings.burst may_poll false (station_at p.stations c.station) Starting
+    ≡ Some c.wanted
     → InVisit front addresses p e many →
     InVisit front addresses (after_choice p now (Some c))
     (begun_by now (Some (record { station = c.station; request = c.wanted.request })) e) 1
 new_visit front addresses p e many now may_poll c some t free gone within is v =
     let fresh = none_known p may_poll free gone v.begun in
-    let latest : Visit = record { station = p.turn; exchanges = v.before ++ shown front e.current } in
+    let latest : Visit =
+    record { station = p.turn; exchanges = v.before ++ shown front e.current } in
     let s : StationState = station_asked (station_at p.stations c.station) c.wanted.request in
-    let here : link_left p.settings addresses (latest ∷ v.earlier) c.station ≡ (station_at p.stations c.station).link =
+    let here : link_left p.settings addresses (latest ∷ v.earlier) c.station
+    ≡ (station_at p.stations c.station).link =
     ap (λ (es : List LineExchange). link_after p.settings (slice_index addresses c.station) Down
     (with_station c.station es)) (whole_line front addresses p e many v)
     ∙ links_at front p.settings addresses p e None free t c.station in
@@ -247,30 +313,35 @@ new_visit front addresses p e many now may_poll c some t free gone within is v =
     (whole_visit p.settings (station_at p.stations c.station).link) c.wanted =
     subst (λ (x : Option Wanted). FollowsIt p.settings (station_at p.stations c.station).link
     (whole_visit p.settings (station_at p.stations c.station).link) x) is
-    (begin_follows p.settings may_poll (station_at p.stations c.station) (station_at p.stations c.station).link some
+    (begin_follows p.settings may_poll (station_at p.stations c.station)
+    (station_at p.stations c.station).link some
     (fresh c.station)) in
     record {
       earlier = latest ∷ v.earlier;
       are = (
-        leads_visit p.settings (slice_index addresses p.turn) _ _ _ v.now (leads_all front addresses p e many v),
+        leads_visit p.settings (slice_index addresses p.turn) _ _ _ v.now
+            (leads_all front addresses p e many v),
         v.are,
       );
       before = [];
       mid = whole_visit p.settings (link_left p.settings addresses (latest ∷ v.earlier) c.station);
       now = f.later;
       leads = refl;
-      ended = sym (whole_line front addresses p e many v) ∙ sym (nil (line_of (latest ∷ v.earlier)));
+      ended = sym (whole_line front addresses p e many v)
+          ∙ sym (nil (line_of (latest ∷ v.earlier)));
       latest = (
         refl,
         subst (λ (l : Link). MaySend l c.wanted.request) (sym here)
             (may_want p e front addresses may_poll false c.station Starting c.wanted t within is),
-        subst (λ (l : Link). MayFollow p.settings l (whole_visit p.settings l) c.wanted.request f.later)
+        subst (λ (l : Link). MayFollow p.settings l (whole_visit p.settings l) c.wanted.request
+            f.later)
             (sym here) f.follow,
       );
       fits = (
         refl,
         subst (λ (l : Link). Awaits p.settings c.wanted.request c.wanted.following l f.later)
-            (sym (set_view (λ (r : StationState). r.link) p.stations c.station s refl c.station)) f.awaits,
+            (sym (set_view (λ (r : StationState). r.link) p.stations c.station s refl c.station))
+            f.awaits,
       );
       begun = begun_choice p now may_poll false Starting c is
           (may_want p e front addresses may_poll false c.station Starting c.wanted t within is)
@@ -278,7 +349,8 @@ new_visit front addresses p e many now may_poll c some t free gone within is v =
       many_are = refl;
     }
 
-no_visit : (front : List ℕ → Front) (addresses : List ℕ) (p : Primary) (e : Exchanges) (many now : ℕ) (may_poll : Bool)
+no_visit : (front : List ℕ → Front) (addresses : List ℕ) (p : Primary) (e : Exchanges)
+    (many now : ℕ) (may_poll : Bool)
     → p.outstanding ≡ None → present p may_poll ≡ None →
     InVisit front addresses p e many → InVisit front addresses (after_choice p now None) e many
 no_visit front addresses p e many now may_poll free gone v = record {
@@ -300,34 +372,42 @@ abbrev pub MayBeThere : Primary → Option Chosen → Type 0
 MayBeThere p None = Unit {0}
 MayBeThere p (Some c) = c.station < length p.stations
 
-rest_there : (front : List ℕ → Front) (addresses : List ℕ) (p : Primary) (e : Exchanges) (may_poll : Bool)
+rest_there : (front : List ℕ → Front) (addresses : List ℕ) (p : Primary) (e : Exchanges)
+    (may_poll : Bool)
     → TellsBy front p.settings addresses p e →
     MayBeThere p (first_after p.settings.burst may_poll p.stations (length p.stations) p.turn)
 rest_there front addresses p e may_poll t =
     go (first_after p.settings.burst may_poll p.stations (length p.stations) p.turn)
-    (first_may p.settings.size p.settings.burst may_poll p.stations (length p.stations) p.turn t.fits.stations
+    (first_may p.settings.size p.settings.burst may_poll p.stations (length p.stations) p.turn
+    t.fits.stations
     (omega (arith, t.fits.turn)))
   where
     go : (c : Option Chosen) → MayChooseIt p.settings.size p.stations c → MayBeThere p c
     go None may = tt
     go (Some c) may = may.within
 
-pub asked_visits : (front : List ℕ → Front) (addresses : List ℕ) (p : Primary) (e : Exchanges) (many now : ℕ)
+pub asked_visits : (front : List ℕ → Front) (addresses : List ℕ) (p : Primary) (e : Exchanges)
+    (many now : ℕ)
     (may_poll : Bool) → 0 < p.settings.burst →
     TellsBy front p.settings addresses p e → InVisit front addresses p e many →
-    IsAsked front addresses p may_poll many (asked p now may_poll) (begun_by now (sending p may_poll) e)
+    IsAsked front addresses p may_poll many (asked p now may_poll)
+    (begun_by now (sending p may_poll) e)
     (sending p may_poll)
 asked_visits front addresses p e many now may_poll some t v = go p.outstanding refl
   where
     rest : Option Chosen
     rest = first_after p.settings.burst may_poll p.stations (length p.stations) p.turn
 
-    by_rest : p.outstanding ≡ None → present p may_poll ≡ None → (r : Option Chosen) → rest ≡ r → MayBeThere p r →
-        IsAsked front addresses p may_poll many (after_choice p now r) (begun_by now (sending_by r) e) (sending_by r)
-    by_rest free gone None is there = nothing refl refl (no_visit front addresses p e many now may_poll free gone v)
+    by_rest : p.outstanding ≡ None → present p may_poll ≡ None → (r : Option Chosen) → rest ≡ r
+        → MayBeThere p r →
+        IsAsked front addresses p may_poll many (after_choice p now r)
+        (begun_by now (sending_by r) e) (sending_by r)
+    by_rest free gone None is there =
+        nothing refl refl (no_visit front addresses p e many now may_poll free gone v)
     by_rest free gone (Some c) is there =
         let f = found p.settings.burst may_poll p.stations (length p.stations) p.turn c is in
-        begins c refl free f there refl (new_visit front addresses p e many now may_poll c some t free gone there
+        begins c refl free f there refl (new_visit front addresses p e many now may_poll c some t
+        free gone there
         f.first v)
 
     by_present : p.outstanding ≡ None → (w : Option Wanted) → present p may_poll ≡ w →
@@ -347,14 +427,16 @@ asked_visits front addresses p e many now may_poll some t v = go p.outstanding r
 
 -- ---- what the other calls do
 
-abbrev pub Stays : (front : List ℕ → Front) → (addresses : List ℕ) → (turn : ℕ) → Primary → Exchanges → (many : ℕ)
+abbrev pub Stays : (front : List ℕ → Front) → (addresses : List ℕ) → (turn : ℕ) → Primary
+    → Exchanges → (many : ℕ)
     → Type 0
 Stays front addresses turn p e many = InVisit front addresses p e many × (p.turn ≡ turn)
 
 -- the latest exchange is another that goes out alike, and the machine has moved within its turn
 kept : (front : List ℕ → Front) (addresses : List ℕ) (p : Primary) (ended : List OpenExchange)
     (cur cur' : Option OpenExchange) (many : ℕ)
-    (stations : List StationState) (phase : Phase) (again : Bool) (outstanding : Option Outstanding) (spoilt : ℕ) →
+    (stations : List StationState) (phase : Phase) (again : Bool) (outstanding : Option Outstanding)
+    (spoilt : ℕ) →
     (v : InVisit front addresses p (record { ended = ended; current = cur }) many) →
     ((link : Link) → IsLatest p.settings link p.turn v.mid v.now cur
     → IsLatest p.settings link p.turn v.mid v.now cur') →
@@ -377,156 +459,71 @@ kept : (front : List ℕ → Front) (addresses : List ℕ) (p : Primary) (ended 
       spoilt = spoilt;
     })
     (record { ended = ended; current = cur' }) many
-kept front addresses p ended cur cur' many stations phase again outstanding spoilt v same long fits begun = (
-  record {
-    earlier = v.earlier;
-    are = v.are;
-    before = v.before;
-    mid = v.mid;
-    now = v.now;
-    leads = v.leads;
-    ended = v.ended;
-    latest = same _ v.latest;
-    fits = fits;
-    begun = begun;
-    many_are = long ∙ v.many_are;
-  },
-  refl,
-)
+kept front addresses p ended cur cur' many stations phase again outstanding spoilt v same long fits
+    begun = (
+      record {
+        earlier = v.earlier;
+        are = v.are;
+        before = v.before;
+        mid = v.mid;
+        now = v.now;
+        leads = v.leads;
+        ended = v.ended;
+        latest = same _ v.latest;
+        fits = fits;
+        begun = begun;
+        many_are = long ∙ v.many_are;
+      },
+      refl,
+    )
 
 heard_latest : (settings : LinkSettings) (link : Link) (turn : ℕ) (mid now : Left) (octets : List ℕ)
     (cur : Option OpenExchange) →
-    IsLatest settings link turn mid now cur → IsLatest settings link turn mid now (heard_current octets cur)
+    IsLatest settings link turn mid now cur
+    → IsLatest settings link turn mid now (heard_current octets cur)
 heard_latest settings link turn mid now octets None latest = latest
 heard_latest settings link turn mid now octets (Some x) latest = latest
 
 timed_latest : (settings : LinkSettings) (link : Link) (turn : ℕ) (mid now : Left) (ms at : ℕ)
     (cur : Option OpenExchange) →
-    IsLatest settings link turn mid now cur → IsLatest settings link turn mid now (timed_current ms at cur)
+    IsLatest settings link turn mid now cur
+    → IsLatest settings link turn mid now (timed_current ms at cur)
 timed_latest settings link turn mid now ms at None latest = latest
 timed_latest settings link turn mid now ms at (Some x) latest = latest
 
-heard_long : (front : List ℕ → Front) (before : List Exchange) (octets : List ℕ) (cur : Option OpenExchange) →
+heard_long : (front : List ℕ → Front) (before : List Exchange) (octets : List ℕ)
+    (cur : Option OpenExchange) →
     length (before ++ shown front (heard_current octets cur)) ≡ length (before ++ shown front cur)
 heard_long front before octets None = refl
 heard_long front before octets (Some x) = one_longer before _ (length before) refl
     ∙ sym (one_longer before _ (length before) refl)
 
-timed_long : (front : List ℕ → Front) (before : List Exchange) (ms at : ℕ) (cur : Option OpenExchange) →
+timed_long : (front : List ℕ → Front) (before : List Exchange) (ms at : ℕ)
+    (cur : Option OpenExchange) →
     length (before ++ shown front (timed_current ms at cur)) ≡ length (before ++ shown front cur)
 timed_long front before ms at None = refl
 timed_long front before ms at (Some x) = one_longer before _ (length before) refl
     ∙ sym (one_longer before _ (length before) refl)
 
--- what may be said to the requests that start a link
-abbrev pub SaysToStatus : Option Answer → Type 0
-SaysToStatus None = Unit {0}
-SaysToStatus (Some Ready) = Unit {0}
-SaysToStatus (Some Unable) = Unit {0}
-SaysToStatus (Some answer) = ⊥
-
-record FitsStatus (m : Option Answer) : Type 0 where
-  pub fits : SaysToStatus m
-
-either_status : (b : Bool) (m n : Option Answer) → FitsStatus m → FitsStatus n → FitsStatus (if b then m else n)
-either_status true m n p q = p
-either_status false m n p q = q
-
-no_status : FitsStatus None
-no_status = record { fits = tt }
-
-ready_status : FitsStatus (Some Ready)
-ready_status = record { fits = tt }
-
-unable_status : FitsStatus (Some Unable)
-unable_status = record { fits = tt }
-
-status_fits : (a : ℕ) (frame : Frame) → FitsStatus (answer_of a Status frame)
-status_fits a Single = no_status
-status_fits a (Fixed control address) =
-    either_status (comes_from a control address) _ _
-    (either_status (control % 16 == 11) _ _ ready_status
-    (either_status ((control % 16 == 14) || (control % 16 == 15)) _ _ unable_status no_status)) no_status
-status_fits a (Data control address body) = either_status (comes_from a control address
-    && (control % 16 == 8)) _ _ no_status no_status
-
-over_after : (answer : Answer) → phase_after answer Over ≡ Over
-over_after Ready = refl
-over_after Confirmed = refl
-over_after Busy = refl
-over_after (Report asdu) = refl
-over_after NoData = refl
-over_after Unable = refl
-
-served_ready : (settings : LinkSettings) (answer : Answer) (phase : Phase) (link : Link) (left : Left)
-    → HasPlan settings.burst phase left.plan →
-    IsReady settings false (phase_after answer phase) link left
-served_ready settings Unable phase link left plan = over refl refl
-served_ready settings Ready phase link left plan = serving plan (λ again. cc)
-served_ready settings Confirmed phase link left plan = serving plan (λ again. cc)
-served_ready settings Busy phase link left plan = serving plan (λ again. cc)
-served_ready settings (Report asdu) phase link left plan = serving plan (λ again. cc)
-served_ready settings NoData phase link left plan = serving plan (λ again. cc)
-
-answered_ready : (settings : LinkSettings) (a : ℕ) (request : Asked) (frame : Frame) (answer : Answer) (phase : Phase)
-    (link : Link) (left : Left) →
-    answer_of a request frame ≡ Some answer → Awaits settings request phase link left →
-    IsReady settings false (phase_after answer phase) (after_answer request answer link) left
-answered_ready settings a Status frame answer phase link left is aw =
-    go answer (subst (λ (m : Option Answer). FitsStatus m) is (status_fits a frame)).fits
-  where
-    go : (answer : Answer) → SaysToStatus (Some answer)
-        → IsReady settings false (phase_after answer phase) (after_answer Status answer link) left
-    go Ready fits = starting aw.0 aw.1
-    go Unable fits = over refl refl
-    go other fits = absurd fits
-answered_ready settings a Reset frame answer phase link left is aw =
-    over (ap (λ (f : Phase). phase_after answer f) aw ∙ over_after answer) refl
-answered_ready settings a (Counted fcb service) frame answer phase link left is aw =
-    served_ready settings answer phase (after_answer (Counted fcb service) answer link) left aw.0
-
-held_repeats : (settings : LinkSettings) (fcb : Bool) (service : Service) (missed : ℕ)
-    → has_repeats settings (held settings fcb service missed) ≡ true →
-    (missed_so_far (held settings fcb service missed) ≡ missed) × (missed ≤ settings.retries)
-held_repeats settings fcb service missed = go (nat_lt settings.retries missed) settings.hold
-  where
-    go : (b hold : Bool) →
-        has_repeats settings (if b then (if hold then Held fcb service (suc settings.retries) else Down) else Held fcb
-        service missed) ≡ true →
-        (missed_so_far (if b then (if hold then Held fcb service (suc settings.retries) else Down) else Held fcb
-        service missed) ≡ missed)
-        × (missed ≤ settings.retries)
-    go true true e = absurd (omega (arith, leb-true (suc settings.retries) settings.retries e))
-    go true false e = cc
-    go false hold e = (refl, leb-true missed settings.retries e)
-
-missed_ready : (settings : LinkSettings) (request : Asked) (phase : Phase) (link : Link) (left : Left)
-    → Awaits settings request phase link left →
-    IsReady settings (has_repeats settings (after_silence settings request true link))
-    (if has_repeats settings (after_silence settings request true link) then phase else Over)
-    (after_silence settings request true link) left
-missed_ready settings Status phase link left aw = over refl refl
-missed_ready settings Reset phase link left aw = over refl refl
-missed_ready settings (Counted fcb service) phase link left aw =
-    go (has_repeats settings (held settings fcb service (suc (missed_so_far link)))) refl
-  where
-    go : (b : Bool) → has_repeats settings (held settings fcb service (suc (missed_so_far link))) ≡ b →
-        IsReady settings b (if b then phase else Over) (held settings fcb service (suc (missed_so_far link))) left
-    go false e = over refl refl
-    go true e =
-        let h = held_repeats settings fcb service (suc (missed_so_far link)) e in
-        serving aw.0 (λ again. record { more = omega (arith, h.0, h.1); enough = omega (arith, h.0, aw.1) })
-
-pub heard_visits : (front : List ℕ → Front) (addresses : List ℕ) (p : Primary) (ended : List OpenExchange)
+pub heard_visits : (front : List ℕ → Front) (addresses : List ℕ) (p : Primary)
+    (ended : List OpenExchange)
     (cur : Option OpenExchange) (octets : List ℕ) (many : ℕ) →
-    p.turn < length p.stations → InVisit front addresses p (record { ended = ended; current = cur }) many →
+    p.turn < length p.stations → InVisit front addresses p (record { ended = ended; current = cur })
+    many →
     Stays front addresses p.turn (received front p octets)
     (record { ended = ended; current = heard_current octets cur }) many
 heard_visits front addresses p ended cur octets many within v = go p.outstanding refl
   where
-    moved : (stations : List StationState) (phase : Phase) (again : Bool) (outstanding : Option Outstanding) →
+    moved : (stations : List StationState) (phase : Phase) (again : Bool)
+        (outstanding : Option Outstanding) →
         FitsPhase p.settings outstanding again phase (station_at stations p.turn).link v.now →
-        IsBegun (record p { stations = stations; phase = phase; again = again; outstanding = outstanding }) →
+        IsBegun (record p {
+          stations = stations;
+          phase = phase;
+          again = again;
+          outstanding =
+              outstanding;
+        }) →
         Stays front addresses p.turn (record p {
           stations = stations;
           phase = phase;
@@ -537,7 +534,8 @@ heard_visits front addresses p ended cur octets many within v = go p.outstanding
         })
         (record { ended = ended; current = heard_current octets cur }) many
     moved stations phase again outstanding fits begun =
-        kept front addresses p ended cur (heard_current octets cur) many stations phase again outstanding p.spoilt v
+        kept front addresses p ended cur (heard_current octets cur) many stations phase again
+        outstanding p.spoilt v
         (λ link latest. heard_latest p.settings link p.turn v.mid v.now octets cur latest)
         (heard_long front v.before octets cur) fits begun
 
@@ -547,31 +545,39 @@ heard_visits front addresses p ended cur octets many within v = go p.outstanding
     go None is = moved p.stations p.phase p.again p.outstanding v.fits v.begun
     go (Some q) is = by_heard q.heard
       where
-        aw : (p.again ≡ false) × Awaits p.settings q.request p.phase (station_at p.stations p.turn).link v.now
+        aw : (p.again ≡ false)
+            × Awaits p.settings q.request p.phase (station_at p.stations p.turn).link v.now
         aw = subst (λ (o : Option Outstanding). FitsPhase p.settings o p.again p.phase
             (station_at p.stations p.turn).link v.now) is v.fits
 
-        waits : (heard : Option (List ℕ)) → Stays front addresses p.turn (awaits p (with_octets octets q) heard)
+        waits : (heard : Option (List ℕ))
+            → Stays front addresses p.turn (awaits p (with_octets octets q) heard)
             (record { ended = ended; current = heard_current octets cur }) many
-        waits heard = moved p.stations p.phase p.again _ aw (begun_awaits p q octets heard is v.begun)
+        waits heard =
+            moved p.stations p.phase p.again _ aw (begun_awaits p q octets heard is v.begun)
 
         say : (frame : Frame) (m : Option Answer) → answer_at p q frame ≡ m →
             Stays front addresses p.turn (said_by p (with_octets octets q) frame m)
             (record { ended = ended; current = heard_current octets cur }) many
         say frame None e = waits None
         say frame (Some answer) e =
-            let s : StationState = station_answered (station_at p.stations p.turn) q.request frame answer in
+            let s : StationState = station_answered (station_at p.stations p.turn) q.request frame
+            answer in
             moved (slice_set p.stations p.turn s) (phase_after answer p.phase) p.again None
             (subst (λ (b : Bool). IsReady p.settings b (phase_after answer p.phase)
             (station_at (slice_set p.stations p.turn s) p.turn).link v.now) (sym aw.0)
             (subst (λ (l : Link). IsReady p.settings false (phase_after answer p.phase) l v.now)
-            (sym (ap (λ (r : StationState). r.link) (get_or-set_same p.stations p.turn s no_station within)))
-            (answered_ready p.settings (station_at p.stations p.turn).address q.request frame answer p.phase
+            (sym (ap (λ (r : StationState). r.link) (get_or-set_same p.stations p.turn s no_station
+            within)))
+            (answered_ready p.settings (station_at p.stations p.turn).address q.request frame answer
+            p.phase
             (station_at p.stations p.turn).link v.now e aw.1)))
-            (begun_answered p q (station_at p.stations p.turn).address frame answer within is e v.begun)
+            (begun_answered p q (station_at p.stations p.turn).address frame answer within is e
+            v.begun)
 
         by_front : (before : List ℕ) (f : Front) →
-            Stays front addresses p.turn (took p (with_octets octets q) (open_octets before f) (whole_of f))
+            Stays front addresses p.turn (took p (with_octets octets q) (open_octets before f)
+            (whole_of f))
             (record { ended = ended; current = heard_current octets cur }) many
         by_front before More = waits (Some before)
         by_front before (Never place why) = waits None
@@ -583,13 +589,17 @@ heard_visits front addresses p ended cur octets many within v = go p.outstanding
         by_heard None = waits None
         by_heard (Some before) = by_front (before ++ octets) (front (before ++ octets))
 
-pub due_visits : (front : List ℕ → Front) (addresses : List ℕ) (p : Primary) (ended : List OpenExchange)
+pub due_visits : (front : List ℕ → Front) (addresses : List ℕ) (p : Primary)
+    (ended : List OpenExchange)
     (cur : Option OpenExchange) (ms at : ℕ) (many : ℕ) →
-    p.turn < length p.stations → InVisit front addresses p (record { ended = ended; current = cur }) many →
-    Stays front addresses p.turn (timed_out p at) (record { ended = ended; current = timed_current ms at cur }) many
+    p.turn < length p.stations → InVisit front addresses p (record { ended = ended; current = cur })
+    many →
+    Stays front addresses p.turn (timed_out p at)
+    (record { ended = ended; current = timed_current ms at cur }) many
 due_visits front addresses p ended cur ms at many within v = go p.outstanding refl
   where
-    moved : (stations : List StationState) (phase : Phase) (again : Bool) (outstanding : Option Outstanding)
+    moved : (stations : List StationState) (phase : Phase) (again : Bool)
+        (outstanding : Option Outstanding)
         (spoilt : ℕ) →
         FitsPhase p.settings outstanding again phase (station_at stations p.turn).link v.now →
         IsBegun (record p {
@@ -610,7 +620,8 @@ due_visits front addresses p ended cur ms at many within v = go p.outstanding re
         })
         (record { ended = ended; current = timed_current ms at cur }) many
     moved stations phase again outstanding spoilt fits begun =
-        kept front addresses p ended cur (timed_current ms at cur) many stations phase again outstanding spoilt v
+        kept front addresses p ended cur (timed_current ms at cur) many stations phase again
+        outstanding spoilt v
         (λ link latest. timed_latest p.settings link p.turn v.mid v.now ms at cur latest)
         (timed_long front v.before ms at cur) fits begun
 
@@ -620,7 +631,8 @@ due_visits front addresses p ended cur ms at many within v = go p.outstanding re
     go None is = moved p.stations p.phase p.again p.outstanding p.spoilt v.fits v.begun
     go (Some q) is = late (is_late p q at)
       where
-        aw : (p.again ≡ false) × Awaits p.settings q.request p.phase (station_at p.stations p.turn).link v.now
+        aw : (p.again ≡ false)
+            × Awaits p.settings q.request p.phase (station_at p.stations p.turn).link v.now
         aw = subst (λ (o : Option Outstanding). FitsPhase p.settings o p.again p.phase
             (station_at p.stations p.turn).link v.now) is v.fits
 
@@ -628,28 +640,37 @@ due_visits front addresses p ended cur ms at many within v = go p.outstanding re
             (record { ended = ended; current = timed_current ms at cur }) many
         late false = moved p.stations p.phase p.again p.outstanding p.spoilt v.fits v.begun
         late true =
-            let s : StationState = station_unanswered p.settings (station_at p.stations p.turn) q.request in
+            let s : StationState = station_unanswered p.settings (station_at p.stations p.turn)
+            q.request in
             moved (slice_set p.stations p.turn s) _ _ None _
             (subst (λ (l : Link). IsReady p.settings (has_repeats p.settings s.link)
             (if has_repeats p.settings s.link then p.phase else Over) l v.now)
-            (sym (ap (λ (r : StationState). r.link) (get_or-set_same p.stations p.turn s no_station within)))
-            (missed_ready p.settings q.request p.phase (station_at p.stations p.turn).link v.now aw.1))
+            (sym (ap (λ (r : StationState). r.link) (get_or-set_same p.stations p.turn s no_station
+            within)))
+            (missed_ready p.settings q.request p.phase (station_at p.stations p.turn).link v.now
+            aw.1))
             (begun_unanswered p q within v.begun)
 
 -- the links are as they were
-linked_visits : (front : List ℕ → Front) (addresses : List ℕ) (p : Primary) (e : Exchanges) (many : ℕ)
+linked_visits : (front : List ℕ → Front) (addresses : List ℕ) (p : Primary) (e : Exchanges)
+    (many : ℕ)
     (stations : List StationState) →
-    ((i : ℕ) → (station_at stations i).link ≡ (station_at p.stations i).link) → InVisit front addresses p e many →
+    ((i : ℕ) → (station_at stations i).link ≡ (station_at p.stations i).link)
+    → InVisit front addresses p e many →
     Stays front addresses p.turn (record p { stations = stations }) e many
 linked_visits front addresses p e many stations same v =
-    kept front addresses p e.ended e.current e.current many stations p.phase p.again p.outstanding p.spoilt v
+    kept front addresses p e.ended e.current e.current many stations p.phase p.again p.outstanding
+    p.spoilt v
     (λ link latest. latest) refl
-    (subst (λ (l : Link). FitsPhase p.settings p.outstanding p.again p.phase l v.now) (sym (same p.turn)) v.fits)
+    (subst (λ (l : Link). FitsPhase p.settings p.outstanding p.again p.phase l v.now)
+    (sym (same p.turn)) v.fits)
     (begun_linked p stations same v.begun)
 
-pub offer_visits : (front : List ℕ → Front) (addresses : List ℕ) (p : Primary) (e : Exchanges) (many station : ℕ)
+pub offer_visits : (front : List ℕ → Front) (addresses : List ℕ) (p : Primary) (e : Exchanges)
+    (many station : ℕ)
     (asdu : List ℕ) →
-    InVisit front addresses p e many → Stays front addresses p.turn (offered_to p station asdu) e many
+    InVisit front addresses p e many → Stays front addresses p.turn (offered_to p station asdu) e
+    many
 offer_visits front addresses p e many station asdu v = go (may_offer p station)
   where
     go : (b : Bool) → Stays front addresses p.turn
@@ -663,9 +684,11 @@ offer_visits front addresses p e many station asdu v = go (may_offer p station)
         (with_offer (station_at p.stations station) (Some asdu)))
         (set_view (λ (r : StationState). r.link) p.stations station _ refl) v
 
-pub withdraw_visits : (front : List ℕ → Front) (addresses : List ℕ) (p : Primary) (e : Exchanges) (many : ℕ) →
+pub withdraw_visits : (front : List ℕ → Front) (addresses : List ℕ) (p : Primary) (e : Exchanges)
+    (many : ℕ) →
     InVisit front addresses p e many → Stays front addresses p.turn (withdrawn p) e many
-withdraw_visits front addresses p e many v = linked_visits front addresses p e many (map without_offer p.stations)
+withdraw_visits front addresses p e many v =
+    linked_visits front addresses p e many (map without_offer p.stations)
     (withdrawn_link p.stations) v
 
 pub start_visits : (front : List ℕ → Front) (settings : LinkSettings) (addresses : List ℕ)
@@ -684,6 +707,7 @@ start_visits front settings addresses = record {
   many_are = refl;
 }
   where
-    down : (list : List ℕ) → IsStarting (station_at (map station_down list) 0).link (whole_visit settings Down)
+    down : (list : List ℕ) → IsStarting (station_at (map station_down list) 0).link
+        (whole_visit settings Down)
     down [] = refl
     down (a ∷ rest) = refl

@@ -1,7 +1,8 @@
 -- Which frames answer which request (IEC 60870-5-2, 5.1: the control field of a secondary station,
 -- and its procedures of unbalanced transmission). What the single character E5 stands for is this
 -- gateway's own profile.
-use Rattle.std.specs.Prelude.{◌≡◌, ℕ, ◌==◌, ◌&&◌, ◌||◌, Bool, List, Option, Some, None, if◌then◌else◌}
+use Rattle.std.specs.Prelude.{◌≡◌, ℕ, ◌==◌, ◌&&◌, ◌||◌, Bool, List, Option, Some, None}
+use Rattle.std.specs.Prelude.{if◌then◌else◌}
 use Rattle.link.specs.Control.{is_secondary, function_code, secondary_code as number}
 use Rattle.link.specs.declared.control.SecondaryFunction.TheVariants as function
 pub use Rattle.ft12.specs.declared.frame.Frame.{Frame}
@@ -11,7 +12,8 @@ pub use Rattle.link.specs.declared.service.Service.TheVariants.{Class1, Class2, 
 pub use Rattle.link.specs.declared.service.Asked.{Asked}
 pub use Rattle.link.specs.declared.service.Asked.TheVariants.{Status, Reset, Counted}
 pub use Rattle.link.specs.declared.answer.Answer.{Answer}
-pub use Rattle.link.specs.declared.answer.Answer.TheVariants.{Ready, Confirmed, Busy, Report, NoData, Unable}
+pub use Rattle.link.specs.declared.answer.Answer.TheVariants.{Ready, Confirmed, Busy, Report}
+pub use Rattle.link.specs.declared.answer.Answer.TheVariants.{NoData, Unable}
 
 -- the function is that the service isn't functioning, or that it isn't implemented
 abbrev pub is_unable : (code : ℕ) → Bool

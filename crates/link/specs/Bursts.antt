@@ -1,6 +1,7 @@
 -- How long polls of class 1 go on (this gateway's own profile): while ACD is set they do, until
 -- `burst` of them went out.
-use Rattle.std.specs.Prelude.{◌≡◌, ℕ, suc, ◌<◌, ◌==◌, Bool, true, false, List, [], ◌∷◌, Option, Some, None, if◌then◌else◌}
+use Rattle.std.specs.Prelude.{◌≡◌, ℕ, suc, ◌<◌, ◌==◌, Bool, true, false, List, [], ◌∷◌, Option}
+use Rattle.std.specs.Prelude.{Some, None, if◌then◌else◌}
 use Rattle.link.specs.Answers.{Class1, Class2, Asked, Counted}
 use Rattle.link.specs.Exchanges.{Sending}
 use Rattle.link.specs.Procedure.{Link, is_held}

@@ -1,7 +1,9 @@
 -- What a restart makes of a primary station (this gateway's own profile).
-use Rattle.std.specs.Prelude.{ℕ, ◌==◌, ◌&&◌, ◌||◌, min, Bool, true, false, List, map, slice_set, Option, Some, None, if◌then◌else◌}
+use Rattle.std.specs.Prelude.{ℕ, ◌==◌, ◌&&◌, ◌||◌, min, Bool, true, false, List, map, slice_set}
+use Rattle.std.specs.Prelude.{Option, Some, None, if◌then◌else◌}
 use Rattle.link.specs.Answers.{Asked}
-use Rattle.link.specs.Procedure.{LinkSettings, Link, Down, Available, Next, Held, holds_command, after_silence}
+use Rattle.link.specs.Procedure.{LinkSettings, Link, Down, Available, Next, Held, holds_command}
+use Rattle.link.specs.Procedure.{after_silence}
 use Rattle.link.specs.Turns.{StationState, Starting, Over, station_at}
 use Rattle.link.specs.Primary.{Primary, Outstanding, is_sending_command, station_down}
 use Rattle.link.specs.declared.seat.Seat.{Seat}

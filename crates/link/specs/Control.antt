@@ -1,6 +1,7 @@
 -- The control octet of a frame of the line (IEC 60870-5-2:1992, 5.1.2; IEC 60870-5-101, 6.1.2): its
 -- bits and functions by their names. Each name stands beside octets in `controls_by_example`.
-use Rattle.std.specs.Prelude.{◌≡◌, ℕ, ◌+◌, ◌/◌, ◌%◌, ◌==◌, ◌&&◌, Bool, true, false, not, if◌then◌else◌}
+use Rattle.std.specs.Prelude.{◌≡◌, ℕ, ◌+◌, ◌/◌, ◌%◌, ◌==◌, ◌&&◌, Bool, true, false, not}
+use Rattle.std.specs.Prelude.{if◌then◌else◌}
 pub use Rattle.link.specs.declared.control.PrimaryFunction.{PrimaryFunction}
 use Rattle.link.specs.declared.control.PrimaryFunction.TheVariants as primary
 pub use Rattle.link.specs.declared.control.SecondaryFunction.{SecondaryFunction}

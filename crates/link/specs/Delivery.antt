@@ -1,10 +1,13 @@
 -- What a primary station that keeps the frame count bit knows of an honest outstation: each service
 -- acts once, and its answer is taken once. (The frame count bit of IEC 60870-5-2 is there to give
 -- this.)
-use Rattle.std.specs.Prelude.{◌≡◌, ℕ, ◌⊎◌, Bool, true, false, List, [], ◌∷◌, ◌++◌, Option, Some, None, IsSome, if◌then◌else◌}
-use Rattle.link.specs.Answers.{Frame, Service, Class1, Class2, Command, Asked, Status, Reset, Counted, Answer, Confirmed, Busy, Unable}
+use Rattle.std.specs.Prelude.{◌≡◌, ℕ, ◌⊎◌, Bool, true, false, List, [], ◌∷◌, ◌++◌, Option, Some}
+use Rattle.std.specs.Prelude.{None, IsSome, if◌then◌else◌}
+use Rattle.link.specs.Answers.{Frame, Service, Class1, Class2, Command, Asked, Status, Reset}
+use Rattle.link.specs.Answers.{Counted, Answer, Confirmed, Busy, Unable}
 use Rattle.link.specs.Exchanges.{Exchange, answer_to}
-use Rattle.link.specs.Outstation.{Effect, Given, Accepted, effects_of, Outstation, unreset, Turn, OutstationRun, all_done}
+use Rattle.link.specs.Outstation.{Effect, Given, Accepted, effects_of, Outstation, unreset, Turn}
+use Rattle.link.specs.Outstation.{OutstationRun, all_done}
 
 -- what the primary learns of the outstation's doings by an answer
 abbrev pub learnt_by : Asked → Option Answer → List Effect

@@ -1,7 +1,9 @@
 -- Exchanges: a request, what came until the next one, and its answer (IEC 60870-5-2, unbalanced
 -- transmission procedures; which octets of the line belong to an exchange is this gateway's own
 -- profile).
-use Rattle.std.specs.Prelude.{◌≡◌, ℕ, ◌+◌, ◌==◌, ◌&&◌, ◌||◌, not, nat_le, Bool, true, false, List, [], ◌∷◌, ◌++◌, length, count_by, Option, Some, None, is_none, IsSome, option_and_then, if◌then◌else◌}
+use Rattle.std.specs.Prelude.{◌≡◌, ℕ, ◌+◌, ◌==◌, ◌&&◌, ◌||◌, not, nat_le, Bool, true, false, List}
+use Rattle.std.specs.Prelude.{[], ◌∷◌, ◌++◌, length, count_by, Option, Some, None, is_none, IsSome}
+use Rattle.std.specs.Prelude.{option_and_then, if◌then◌else◌}
 use Rattle.ft12.specs.declared.frame.Front.{Front}
 use Rattle.ft12.specs.declared.frame.Front.TheVariants.{Whole, More, Never}
 use Rattle.link.specs.Answers.{Frame, Asked, Answer, Report, answer_of}

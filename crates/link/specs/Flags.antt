@@ -3,7 +3,8 @@
 use Rattle.std.specs.Prelude.{◌≡◌, ℕ, Bool, true, false, List, [], ◌∷◌, Option, Some, slice_index}
 use Rattle.ft12.specs.declared.frame.Front.{Front}
 use Rattle.link.specs.Control.{shows_acd, shows_dfc}
-use Rattle.link.specs.Answers.{Frame, Single, Fixed, Data, Class1, Class2, Command, Asked, Status, Reset, Counted, Answer}
+use Rattle.link.specs.Answers.{Frame, Single, Fixed, Data, Class1, Class2, Command, Asked, Status}
+use Rattle.link.specs.Answers.{Reset, Counted, Answer}
 use Rattle.link.specs.Exchanges.{Exchange, Exchanges, answer_to, all_of, views, with_station}
 use Rattle.link.specs.Procedure.{LinkSettings, Link, Down, link_after}
 

@@ -1,7 +1,8 @@
 -- Sessions and gaps: a session of a link lies between two confirmed resets (IEC 60870-5-2, 5.1:
 -- reset of remote link). The sessions of a station are counted from 1, and one that ended with a
 -- poll that has no outcome has a gap: its last report may be lost (this gateway's own profile).
-use Rattle.std.specs.Prelude.{ℕ, suc, ◌+◌, List, [], ◌∷◌, ◌++◌, Option, Some, None, slice_index, if◌then◌else◌}
+use Rattle.std.specs.Prelude.{ℕ, suc, ◌+◌, List, [], ◌∷◌, ◌++◌, Option, Some, None, slice_index}
+use Rattle.std.specs.Prelude.{if◌then◌else◌}
 use Rattle.ft12.specs.declared.frame.Front.{Front}
 use Rattle.link.specs.Answers.{Service}
 use Rattle.link.specs.Counts.{saturated}

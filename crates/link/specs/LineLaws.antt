@@ -1,17 +1,22 @@
 -- What holds of a primary station and of the exchanges of its line, call by call: all that the
 -- crates above go by, in one record.
-use Rattle.std.specs.Prelude.{◌≡◌, ℕ, ◌<◌, ◌++◌, ◌&&◌, ◌==◌, Bool, true, false, if◌then◌else◌, List, All, length, slice_index, Option, Some, None}
+use Rattle.std.specs.Prelude.{◌≡◌, ℕ, ◌<◌, ◌++◌, ◌&&◌, ◌==◌, Bool, true, false, if◌then◌else◌, List}
+use Rattle.std.specs.Prelude.{All, length, slice_index, Option, Some, None}
 use Rattle.ft12.specs.declared.frame.Front.{Front}
 use Rattle.ft12.specs.declared.frame.LinkSize.{LinkSize}
 use Rattle.ft12.specs.Fronts.{front_of}
 use Rattle.ft12.specs.Spelling.{spelling}
 use Rattle.link.specs.Answers.{Asked, Counted, Command}
-use Rattle.link.specs.Exchanges.{Exchanges, OpenExchange, Sending, IsOutstanding, no_exchanges, answer_to, heard_octets, heard_current, timed_current, begun_by, view, reports_of_exchanges}
+use Rattle.link.specs.Exchanges.{Exchanges, OpenExchange, Sending, IsOutstanding, no_exchanges}
+use Rattle.link.specs.Exchanges.{answer_to, heard_octets, heard_current, timed_current, begun_by}
+use Rattle.link.specs.Exchanges.{view, reports_of_exchanges}
 use Rattle.link.specs.Gaps.{gap_at, gaps_at}
 use Rattle.link.specs.Holding.{IsFitting}
 use Rattle.link.specs.Leave.{IsLeftToPolls}
 use Rattle.link.specs.Offers.{offered_at}
-use Rattle.link.specs.Primary.{Primary, start as new_primary, asked, sending, request_of, outcome_of, with_gap, received, received_outcome, timed_out, is_command, may_offer, offered_to, withdrawn}
+use Rattle.link.specs.Primary.{Primary, start as new_primary, asked, sending, request_of}
+use Rattle.link.specs.Primary.{outcome_of, with_gap, received, received_outcome, timed_out}
+use Rattle.link.specs.Primary.{is_command, may_offer, offered_to, withdrawn}
 use Rattle.link.specs.Procedure.{LinkSettings, is_up, is_held, holds_command}
 use Rattle.link.specs.Requests.{request_frame, request_in, FitsAddress, FitsAsked, IsUserData}
 use Rattle.link.specs.Telling.{Tells, report_in, gap_in_outcome, IsFittingSending}

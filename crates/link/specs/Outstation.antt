@@ -1,8 +1,11 @@
 -- An outstation of unbalanced transmission, as a primary station may count on it (IEC 60870-5-2,
 -- the procedures of a secondary station): a machine with free choices. What it reports, and whether
 -- it can serve, is its own.
-use Rattle.std.specs.Prelude.{◌≡◌, ◌≢◌, ℕ, ◌&&◌, ◌⊎◌, Bool, true, false, List, [], ◌∷◌, ◌++◌, Option, Some, None}
-use Rattle.link.specs.Answers.{Frame, Single, Fixed, Data, Service, Class1, Class2, Command, Asked, Status, Reset, Counted, Answer, Ready, Confirmed, Report, Unable, Says, comes_from, is_unable}
+use Rattle.std.specs.Prelude.{◌≡◌, ◌≢◌, ℕ, ◌&&◌, ◌⊎◌, Bool, true, false, List, [], ◌∷◌, ◌++◌}
+use Rattle.std.specs.Prelude.{Option, Some, None}
+use Rattle.link.specs.Answers.{Frame, Single, Fixed, Data, Service, Class1, Class2, Command, Asked}
+use Rattle.link.specs.Answers.{Status, Reset, Counted, Answer, Ready, Confirmed, Report, Unable}
+use Rattle.link.specs.Answers.{Says, comes_from, is_unable}
 use Rattle.link.specs.Control.{function_code}
 
 -- what a service does at the outstation: a report is given, a command is accepted

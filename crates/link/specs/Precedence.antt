@@ -1,7 +1,8 @@
 -- Commands go before polls (this gateway's own profile; ACD, DFC and the services are those of
 -- IEC 60870-5-2): while a command waits for a station that takes user data, no new poll goes to the
 -- station but those of a visit that had begun.
-use Rattle.std.specs.Prelude.{◌≡◌, ℕ, suc, ◌-◌, ◌<◌, ◌==◌, ◌&&◌, Bool, true, false, not, List, [], ◌∷◌, Option, Some, None, is_some, if◌then◌else◌}
+use Rattle.std.specs.Prelude.{◌≡◌, ℕ, suc, ◌-◌, ◌<◌, ◌==◌, ◌&&◌, Bool, true, false, not, List, []}
+use Rattle.std.specs.Prelude.{◌∷◌, Option, Some, None, is_some, if◌then◌else◌}
 use Rattle.link.specs.Exchanges.{Sending}
 use Rattle.link.specs.Procedure.{is_held}
 use Rattle.link.specs.Turns.{StationState, station_at}

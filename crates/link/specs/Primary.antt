@@ -1,16 +1,21 @@
 -- The primary station of unbalanced transmission as a machine: whose turn it is, the request whose
 -- answer is awaited, and what a call of it does.
-use Rattle.std.specs.Prelude.{ℕ, ◌+◌, ◌==◌, ◌&&◌, ◌||◌, nat_le, Bool, true, false, not, List, [], ◌++◌, map, length, slice_set, Option, Some, None, is_none, if◌then◌else◌}
+use Rattle.std.specs.Prelude.{ℕ, ◌+◌, ◌==◌, ◌&&◌, ◌||◌, nat_le, Bool, true, false, not, List, []}
+use Rattle.std.specs.Prelude.{◌++◌, map, length, slice_set, Option, Some, None, is_none}
+use Rattle.std.specs.Prelude.{if◌then◌else◌}
 use Rattle.ft12.specs.declared.frame.Front.{Front}
 use Rattle.ft12.specs.declared.frame.Front.TheVariants.{Whole, More, Never}
 use Rattle.ft12.specs.Spelling.{spelling}
-use Rattle.link.specs.Answers.{Frame, Single, Fixed, Data, Command, Asked, Reset, Counted, Answer, Confirmed, Busy, Report, NoData, Unable, answer_of}
+use Rattle.link.specs.Answers.{Frame, Single, Fixed, Data, Command, Asked, Reset, Counted, Answer}
+use Rattle.link.specs.Answers.{Confirmed, Busy, Report, NoData, Unable, answer_of}
 use Rattle.link.specs.Control.{shows_acd, shows_dfc}
 use Rattle.link.specs.Counts.{saturated}
 use Rattle.link.specs.Exchanges.{Sending, whole_of}
-use Rattle.link.specs.Procedure.{LinkSettings, Down, after_answer, after_silence, is_held, holds_command, has_repeats, goes_down}
+use Rattle.link.specs.Procedure.{LinkSettings, Down, after_answer, after_silence, is_held}
+use Rattle.link.specs.Procedure.{holds_command, has_repeats, goes_down}
 use Rattle.link.specs.Requests.{request_frame, kind_of}
-use Rattle.link.specs.Turns.{StationState, SessionState, no_session, Phase, Starting, Over, station_at, is_poll, wanted, Chosen, chosen_or, first_after}
+use Rattle.link.specs.Turns.{StationState, SessionState, no_session, Phase, Starting, Over}
+use Rattle.link.specs.Turns.{station_at, is_poll, wanted, Chosen, chosen_or, first_after}
 pub use Rattle.link.specs.declared.request.Request.{Request}
 pub use Rattle.link.specs.declared.outcome.Outcome.{Outcome}
 pub use Rattle.link.specs.declared.outcome.Outcome.TheVariants as outcome

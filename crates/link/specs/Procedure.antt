@@ -1,8 +1,10 @@
 -- The link of a primary station to one secondary station, as its exchanges show it: when it is up,
 -- and the frame count bit (IEC 60870-5-2, 5.1 and the unbalanced transmission procedures). What
 -- silence does after the repeats is this gateway's own profile.
-use Rattle.std.specs.Prelude.{◌≡◌, ℕ, suc, nat_lt, nat_le, Bool, true, false, not, List, [], ◌∷◌, Option, Some, None, if◌then◌else◌}
-use Rattle.link.specs.Answers.{Service, Command, Asked, Status, Reset, Counted, Answer, Ready, Confirmed, Unable}
+use Rattle.std.specs.Prelude.{◌≡◌, ℕ, suc, nat_lt, nat_le, Bool, true, false, not, List, [], ◌∷◌}
+use Rattle.std.specs.Prelude.{Option, Some, None, if◌then◌else◌}
+use Rattle.link.specs.Answers.{Service, Command, Asked, Status, Reset, Counted, Answer, Ready}
+use Rattle.link.specs.Answers.{Confirmed, Unable}
 use Rattle.link.specs.Exchanges.{Exchange, answer_to}
 pub use Rattle.link.specs.declared.settings.LinkSettings.{LinkSettings}
 pub use Rattle.link.specs.declared.procedure.Link.{Link}

@@ -1,14 +1,17 @@
 -- Requests as frames, and what a frame asks for (IEC 60870-5-2, 5.1: the control field of a primary
 -- station).
-use Rattle.std.specs.Prelude.{ℕ, ◌+◌, ◌^◌, ◌<◌, ◌≤◌, ◌==◌, ◌&&◌, Bool, true, false, List, [], ◌∷◌, length, All, Option, Some, None, if◌then◌else◌}
+use Rattle.std.specs.Prelude.{ℕ, ◌+◌, ◌^◌, ◌<◌, ◌≤◌, ◌==◌, ◌&&◌, Bool, true, false, List, [], ◌∷◌}
+use Rattle.std.specs.Prelude.{length, All, Option, Some, None, if◌then◌else◌}
 use Rattle.ft12.specs.declared.frame.LinkSize.{LinkSize}
 use Rattle.ft12.specs.declared.frame.Front.{Front}
 use Rattle.ft12.specs.declared.frame.Front.TheVariants.{Whole, More, Never}
 use Rattle.ft12.specs.Spelling.{address_len, IsOctet}
 use Rattle.ft12.specs.Fronts.{front_of}
 use Rattle.link.specs.declared.control.PrimaryFunction.TheVariants as function
-use Rattle.link.specs.Control.{PrimaryFunction, primary_code as number, primary_octet, is_primary, fcb_bit, fcv_bit, function_code}
-use Rattle.link.specs.Answers.{Frame, Single, Fixed, Data, Service, Class1, Class2, Command, Asked, Status, Reset, Counted}
+use Rattle.link.specs.Control.{PrimaryFunction, primary_code as number, primary_octet, is_primary}
+use Rattle.link.specs.Control.{fcb_bit, fcv_bit, function_code}
+use Rattle.link.specs.Answers.{Frame, Single, Fixed, Data, Service, Class1, Class2, Command, Asked}
+use Rattle.link.specs.Answers.{Status, Reset, Counted}
 pub use Rattle.link.specs.declared.request.Reading.{Reading}
 pub use Rattle.link.specs.declared.request.Reading.TheVariants.{Foreign, Unknown, Asks}
 pub use Rattle.link.specs.declared.request.RequestKind.{RequestKind}

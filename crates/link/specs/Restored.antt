@@ -1,11 +1,13 @@
 -- The primary's state as lines of numbers, and what is made of such lines.
-use Rattle.std.specs.Prelude.{ℕ, ◌<◌, ◌==◌, ◌&&◌, nat_lt, Bool, true, false, if◌then◌else◌, List, [], ◌∷◌, Option, Some, None, IfSome, is_none}
+use Rattle.std.specs.Prelude.{ℕ, ◌<◌, ◌==◌, ◌&&◌, nat_lt, Bool, true, false, if◌then◌else◌, List}
+use Rattle.std.specs.Prelude.{[], ◌∷◌, Option, Some, None, IfSome, is_none}
 use Rattle.std.specs.List.{AllByRecursion}
 use Rattle.ft12.specs.Reading.{IsProperBeginning}
 use Rattle.ft12.specs.Assembly.{so_far_numbers}
 use Rattle.link.specs.Answers.{Asked, Status, Reset, Counted}
 use Rattle.link.specs.Procedure.{LinkSettings}
-use Rattle.link.specs.Turns.{StationState, Phase, Starting, Commanding, Polling, Class1Polling, Over}
+use Rattle.link.specs.Turns.{StationState, Phase, Starting, Commanding, Polling, Class1Polling}
+use Rattle.link.specs.Turns.{Over}
 use Rattle.link.specs.Primary.{Primary, Outstanding}
 use Rattle.link.specs.Holding.{IsFitting}
 use Rattle.std.specs.List.{list_all}
@@ -14,7 +16,8 @@ use Rattle.std.specs.List.{All}
 use Rattle.link.specs.Answers.{Service}
 use Rattle.link.specs.declared.awaited.Awaited.{Awaited}
 use Rattle.link.specs.declared.master.restoring.Head.{Head}
-use Rattle.link.specs.Saved.{bit_number, bit_from, service_numbers, service_from, FitsSavedStation, FitsSavedService, lines_of}
+use Rattle.link.specs.Saved.{bit_number, bit_from, service_numbers, service_from, FitsSavedStation}
+use Rattle.link.specs.Saved.{FitsSavedService, lines_of}
 
 abbrev pub phase_numbers : Phase → List ℕ
 phase_numbers Starting = 0 ∷ []

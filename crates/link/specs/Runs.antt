@@ -1,13 +1,16 @@
 -- Whole runs of a primary station: its calls, one after another, and the exchanges of its line
 -- meanwhile.
-use Rattle.std.specs.Prelude.{◌≡◌, ℕ, zero, suc, ◌<◌, ◌==◌, ◌&&◌, not, Bool, false, List, [], ◌∷◌, ◌++◌, length, Option, Some, None, if◌then◌else◌}
+use Rattle.std.specs.Prelude.{◌≡◌, ℕ, zero, suc, ◌<◌, ◌==◌, ◌&&◌, not, Bool, false, List, [], ◌∷◌}
+use Rattle.std.specs.Prelude.{◌++◌, length, Option, Some, None, if◌then◌else◌}
 use Rattle.ft12.specs.Fronts.{front_of}
 use Rattle.link.specs.Answers.{Asked, Counted, Command}
-use Rattle.link.specs.Exchanges.{Exchanges, Sending, no_exchanges, heard_current, timed_current, begun_by}
+use Rattle.link.specs.Exchanges.{Exchanges, Sending, no_exchanges, heard_current, timed_current}
+use Rattle.link.specs.Exchanges.{begun_by}
 use Rattle.link.specs.Procedure.{LinkSettings, Link, is_held, is_up}
 use Rattle.link.specs.Requests.{IsUserData}
 use Rattle.link.specs.Turns.{Starting, Wanted, station_at, wanted, place_after}
-use Rattle.link.specs.Primary.{Primary, start, asked, sending, received, timed_out, may_offer, offered_to, withdrawn, Outcome}
+use Rattle.link.specs.Primary.{Primary, start, asked, sending, received, timed_out, may_offer}
+use Rattle.link.specs.Primary.{offered_to, withdrawn, Outcome}
 use Rattle.link.specs.declared.outcome.Outcome.TheVariants as outcome
 
 pub data Call : Type 0 where

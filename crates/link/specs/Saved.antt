@@ -1,6 +1,7 @@
 -- A station's state as lists of numbers, each of them a line of a saved state, and what such lists
 -- say (a form of this gateway's own).
-use Rattle.std.specs.Prelude.{◌≡◌, ℕ, ◌<◌, ◌≤◌, ◌==◌, ◌&&◌, nat_le, nat_lt, Bool, true, false, if◌then◌else◌, List, [], ◌∷◌, All, length, Option, Some, None}
+use Rattle.std.specs.Prelude.{◌≡◌, ℕ, ◌<◌, ◌≤◌, ◌==◌, ◌&&◌, nat_le, nat_lt, Bool, true, false}
+use Rattle.std.specs.Prelude.{if◌then◌else◌, List, [], ◌∷◌, All, length, Option, Some, None}
 use Rattle.std.specs.List.{list_all}
 use Rattle.link.specs.Answers.{Service, Class1, Class2, Command}
 use Rattle.link.specs.Procedure.{Link, Down, Available, Next, Held}

@@ -1,10 +1,12 @@
 -- The secondary station of this crate: what it answers to each request (IEC 60870-5-2, the
 -- procedures of a secondary station). Where it answers with the single character, and that DFC is
 -- never set, is its own choice.
-use Rattle.std.specs.Prelude.{◌≡◌, ◌⊎◌, ℕ, ◌+◌, min, ◌-◌, ◌^◌, Bool, true, false, List, [], ◌∷◌, ◌++◌, Option, Some, None, if◌then◌else◌}
+use Rattle.std.specs.Prelude.{◌≡◌, ◌⊎◌, ℕ, ◌+◌, min, ◌-◌, ◌^◌, Bool, true, false, List, [], ◌∷◌}
+use Rattle.std.specs.Prelude.{◌++◌, Option, Some, None, if◌then◌else◌}
 use Rattle.link.specs.Control.{secondary_octet, secondary_code as number}
 use Rattle.link.specs.declared.control.SecondaryFunction.TheVariants as function
-use Rattle.link.specs.Answers.{Frame, Single, Fixed, Data, Service, Class1, Class2, Command, Asked, Status, Reset, Counted}
+use Rattle.link.specs.Answers.{Frame, Single, Fixed, Data, Service, Class1, Class2, Command, Asked}
+use Rattle.link.specs.Answers.{Status, Reset, Counted}
 use Rattle.link.specs.Outstation.{Given, Accepted, Outstation, Turn}
 use Rattle.link.specs.Requests.{Reading, Foreign, Unknown, Asks, reading_of}
 use Rattle.ft12.specs.declared.frame.LinkSize.{LinkSize}

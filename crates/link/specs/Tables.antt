@@ -3,7 +3,8 @@
 -- procedures of unbalanced transmission; what E5 stands for is this gateway's own profile). A
 -- function that isn't in the row of a request is no answer to it.
 use Rattle.std.specs.Prelude.{ℕ, ◌==◌, List, [], ◌∷◌, Option, Some, None, if◌then◌else◌}
-use Rattle.link.specs.Answers.{Class1, Class2, Command, Asked, Status, Reset, Counted, Answer, Ready, Confirmed, Busy, Report, NoData, Unable}
+use Rattle.link.specs.Answers.{Class1, Class2, Command, Asked, Status, Reset, Counted, Answer}
+use Rattle.link.specs.Answers.{Ready, Confirmed, Busy, Report, NoData, Unable}
 use Rattle.link.specs.Primary.{Outcome}
 use Rattle.link.specs.declared.outcome.Outcome.TheVariants as outcome
 

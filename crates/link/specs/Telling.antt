@@ -1,5 +1,6 @@
 -- What the state of a primary station says of the exchanges of its line.
-use Rattle.std.specs.Prelude.{◌≡◌, ℕ, ◌<◌, ◌==◌, ◌⊎◌, not, true, false, List, [], ◌∷◌, ◌++◌, length, slice_index, Option, Some, None, option_and_then, if◌then◌else◌}
+use Rattle.std.specs.Prelude.{◌≡◌, ℕ, ◌<◌, ◌==◌, ◌⊎◌, not, true, false, List, [], ◌∷◌, ◌++◌, length}
+use Rattle.std.specs.Prelude.{slice_index, Option, Some, None, option_and_then, if◌then◌else◌}
 use Rattle.ft12.specs.declared.frame.Front.{Front}
 use Rattle.ft12.specs.declared.frame.Front.TheVariants.{Whole, More, Never}
 use Rattle.ft12.specs.declared.frame.Frame.{Frame}
@@ -8,7 +9,8 @@ use Rattle.ft12.specs.Fronts.{front_of}
 use Rattle.link.specs.Answers.{Answer, answer_of}
 use Rattle.link.specs.Counts.{saturated}
 use Rattle.link.specs.Delivery.{is_gap, pending_after}
-use Rattle.link.specs.Exchanges.{Sending, Exchange, OpenExchange, Exchanges, all_of, whole_of, views, with_station, spoilt_count}
+use Rattle.link.specs.Exchanges.{Sending, Exchange, OpenExchange, Exchanges, all_of, whole_of}
+use Rattle.link.specs.Exchanges.{views, with_station, spoilt_count}
 use Rattle.link.specs.Flags.{Flags, clear, flags_after}
 use Rattle.link.specs.Gaps.{resets_in}
 use Rattle.link.specs.Procedure.{LinkSettings, Down, MaySend, KeepsFrameCountBit, link_after}

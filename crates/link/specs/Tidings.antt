@@ -1,13 +1,15 @@
 -- What a secondary station tells of the reports that wait (IEC 60870-5-2, 5.1: ACD and DFC; the
 -- procedures of a secondary station), over whole lives: the reports that it was given to tell,
 -- those that it gave, and its answers. That DFC is never set is its own choice.
-use Rattle.std.specs.Prelude.{◌≡◌, ◌≢◌, ℕ, Bool, true, false, List, [], ◌∷◌, ◌++◌, Option, Some, None}
+use Rattle.std.specs.Prelude.{◌≡◌, ◌≢◌, ℕ, Bool, true, false, List, [], ◌∷◌, ◌++◌, Option, Some}
+use Rattle.std.specs.Prelude.{None}
 use Rattle.ft12.specs.declared.frame.LinkSize.{LinkSize}
 use Rattle.link.specs.Answers.{Frame, Asked, Status, Reset, Counted, Answer, Report, NoData, Says}
 use Rattle.link.specs.Flags.{flags_in}
 use Rattle.link.specs.Requests.{Reading, Foreign, Unknown, Asks, reading_of}
 use Rattle.link.specs.Secondary.{fresh_station, heard_reading}
-use Rattle.link.specs.Life.{Call, after, requests_heard, turns_in, given1, given2, reported1, reported2}
+use Rattle.link.specs.Life.{Call, after, requests_heard, turns_in, given1, given2, reported1}
+use Rattle.link.specs.Life.{reported2}
 
 -- the frame count bit that a station has after these requests: a reset clears it, and each counted
 -- request since leaves its own

@@ -1,17 +1,20 @@
 -- Turns: the stations are served in the order of the settings, each for a turn (this gateway's own
 -- profile; the requests that a turn has are those of IEC 60870-5-2's unbalanced transmission
 -- procedures).
-use Rattle.std.specs.Prelude.{ℕ, zero, suc, ◌&&◌, ◌||◌, nat_lt, Bool, true, false, not, List, length, slice_index_or, Option, Some, None, if◌then◌else◌}
+use Rattle.std.specs.Prelude.{ℕ, zero, suc, ◌&&◌, ◌||◌, nat_lt, Bool, true, false, not, List}
+use Rattle.std.specs.Prelude.{length, slice_index_or, Option, Some, None, if◌then◌else◌}
 use Rattle.link.specs.Answers.{Service, Class1, Class2, Command, Asked, Status, Reset, Counted}
 use Rattle.link.specs.Procedure.{Link, Down, Available, Next, Held}
 pub use Rattle.link.specs.declared.turn.StationState.{StationState}
 pub use Rattle.link.specs.declared.session.SessionState.{SessionState}
 pub use Rattle.link.specs.declared.turn.Phase.{Phase}
-pub use Rattle.link.specs.declared.turn.Phase.TheVariants.{Starting, Commanding, Polling, Class1Polling, Over}
+pub use Rattle.link.specs.declared.turn.Phase.TheVariants.{Starting, Commanding, Polling}
+pub use Rattle.link.specs.declared.turn.Phase.TheVariants.{Class1Polling, Over}
 pub use Rattle.link.specs.declared.turn.Wanted.{Wanted}
 pub use Rattle.link.specs.declared.turn.Chosen.{Chosen}
 pub use Rattle.link.specs.declared.turn.Wish.{Wish}
-pub use Rattle.link.specs.declared.turn.Wish.TheVariants.{AskStatus, AskReset, PollClass1, PollClass2, SendOffered, SendHeld}
+pub use Rattle.link.specs.declared.turn.Wish.TheVariants.{AskStatus, AskReset, PollClass1}
+pub use Rattle.link.specs.declared.turn.Wish.TheVariants.{PollClass2, SendOffered, SendHeld}
 pub use Rattle.link.specs.declared.turn.Pick.{Pick}
 
 -- before the first answered reset

@@ -3,7 +3,8 @@
 use Rattle.std.specs.Prelude.{◌≡◌, ℕ, zero, suc, ◌+◌, ◌*◌, List, [], ◌∷◌, ◌++◌, Some, slice_index}
 use Rattle.link.specs.Answers.{Asked, Status, Ready}
 use Rattle.link.specs.Exchanges.{Exchange, LineExchange, answer_to, with_station}
-use Rattle.link.specs.Procedure.{LinkSettings, Link, Down, Available, Next, Held, MaySend, after, link_after}
+use Rattle.link.specs.Procedure.{LinkSettings, Link, Down, Available, Next, Held, MaySend, after}
+use Rattle.link.specs.Procedure.{link_after}
 use Rattle.link.specs.Requests.{RequestKind, kind_of}
 use Rattle.link.specs.declared.request.RequestKind.TheVariants as kind
 

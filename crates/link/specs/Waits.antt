@@ -1,5 +1,6 @@
 -- How long a station waits for a request to it (this gateway's own profile).
-use Rattle.std.specs.Prelude.{◌≡◌, ◌⊎◌, ℕ, suc, ◌==◌, true, List, [], ◌∷◌, ◌++◌, Option, Some, None, if◌then◌else◌}
+use Rattle.std.specs.Prelude.{◌≡◌, ◌⊎◌, ℕ, suc, ◌==◌, true, List, [], ◌∷◌, ◌++◌, Option, Some, None}
+use Rattle.std.specs.Prelude.{if◌then◌else◌}
 use Rattle.link.specs.Exchanges.{Sending}
 use Rattle.link.specs.Turns.{station_at}
 use Rattle.link.specs.Primary.{Primary, sending}

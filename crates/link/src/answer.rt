@@ -2,7 +2,8 @@
 ghost use Rattle.std.specs.Prelude.{◌≡◌, length, ◌≤◌};
 ghost use Rattle.ft12.specs.Borrowed.{owned, FitsMemory};
 ghost use Rattle.link.specs.Control.{secondary_code};
-ghost use Rattle.link.specs.Answers.{unable_answer, service_answer, code_answer, single_answer, data_answer, answer_of};
+ghost use Rattle.link.specs.Answers.{unable_answer, service_answer, code_answer, single_answer};
+ghost use Rattle.link.specs.Answers.{data_answer, answer_of};
 
 use crate::asdu::AsduRef;
 use crate::control::{Control, SecondaryFunction};

@@ -1,5 +1,6 @@
 //! What asking for the next request changes.
-ghost use Rattle.std.specs.Prelude.{◌≡◌, ◌<◌, ℕ, Bool, true, false, List, length, Option, Some, None};
+ghost use Rattle.std.specs.Prelude.{◌≡◌, ◌<◌, ℕ, Bool, true, false, List, length, Option, Some};
+ghost use Rattle.std.specs.Prelude.{None};
 ghost use Rattle.link.specs.Exchanges.{Sending};
 ghost use Rattle.link.specs.Turns.{station_at};
 ghost use Rattle.link.specs.Procedure.{LinkSettings, is_up, holds_command};

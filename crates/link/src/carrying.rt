@@ -6,7 +6,8 @@ ghost use Rattle.link.specs.Primary.{Primary};
 ghost use Rattle.link.specs.Leave.{is_polling};
 ghost use Rattle.link.specs.Telling.{IsAllowed};
 ghost use Rattle.link.specs.Carried.{awaits_command, station_given_up, given_up};
-ghost use Rattle.link.specs.Carried.{released, station_carried, seated, reseated, bit_of};
+ghost use Rattle.link.specs.Carried.{gap_marked, released, station_carried, seated, reseated};
+ghost use Rattle.link.specs.Carried.{bit_of};
 ghost use Rattle.link.specs.declared.seat.Seat.{Seat};
 
 /// A station whose link is given up awaits no command any more, and keeps all else; every other
@@ -39,4 +40,22 @@ pub fn frame_count_bits_go_on()
         station_at (reseated settings seats p).stations i
         ≡ seated settings.retries seat.address p.stations seat.before }
     ensures number { (p : Primary) → length (released p).stations ≡ length p.stations }
+{}
+
+/// What is known of a station's session outlives a restart: where its link is given up, where an
+/// exchange is broken off, and where it goes on with other settings, its session keeps its number,
+/// and that its last report may be lost, until the next reset is answered: so a gap is told then.
+/// Where it is marked, the station's own session has a gap, and no other session changes.
+pub fn sessions_go_on()
+    ensures given_up { (p : Primary) (k j : ℕ) →
+        (station_at (given_up k p).stations j).session ≡ (station_at p.stations j).session }
+    ensures released { (p : Primary) (j : ℕ) →
+        (station_at (released p).stations j).session ≡ (station_at p.stations j).session }
+    ensures carried { (retries address : ℕ) (s : StationState) →
+        (station_carried retries address s).session ≡ s.session }
+    ensures marked { (p : Primary) (k : ℕ) → k < length p.stations →
+        (station_at (gap_marked k p).stations k).session
+        ≡ record (station_at p.stations k).session { has_gap = true } }
+    ensures others { (p : Primary) (k j : ℕ) → j ≢ k →
+        station_at (gap_marked k p).stations j ≡ station_at p.stations j }
 {}

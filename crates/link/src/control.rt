@@ -1,6 +1,7 @@
 //! The control octet of a frame of the line (IEC 60870-5-2:1992, 5.1.2).
 ghost use Rattle.std.specs.Prelude.{◌≡◌, ◌≤◌, ◌<◌, ℕ};
-ghost use Rattle.link.specs.Control.{primary_code, secondary_code, HasFields, weight, octet_of, shows_acd, shows_dfc};
+ghost use Rattle.link.specs.Control.{primary_code, secondary_code, HasFields, weight, octet_of};
+ghost use Rattle.link.specs.Control.{shows_acd, shows_dfc};
 ghost use Rattle.link.specs.declared.control.Control as value;
 
 /// What a primary station's frame is for, in unbalanced transmission (IEC 60870-5-2, 5.1.2).

@@ -4,14 +4,19 @@ ghost use Rattle.std.specs.Prelude.{◌≡◌, [], ◌∷◌, true, false, Some,
 ghost use Rattle.link.specs.declared.control.Control.TheVariants as control;
 ghost use Rattle.link.specs.declared.control.PrimaryFunction.TheVariants as primary;
 ghost use Rattle.link.specs.declared.control.SecondaryFunction.TheVariants as secondary;
-ghost use Rattle.link.specs.Control.{is_primary, is_secondary, fcb_bit, fcv_bit, acd_bit, dfc_bit, reserved_bit, function_code, octet_of};
-ghost use Rattle.link.specs.Answers.{Single, Fixed, Status, Reset, Counted, Class1, Class2, Command, Ready, Confirmed, Busy, Report, NoData, Unable, answer_of};
-ghost use Rattle.link.specs.Examples.{octet, other_octet, in_state, two_repeats, unreset_with, reset_with, answer_by, answer_behind};
+ghost use Rattle.link.specs.Control.{is_primary, is_secondary, fcb_bit, fcv_bit, acd_bit, dfc_bit};
+ghost use Rattle.link.specs.Control.{reserved_bit, function_code, octet_of};
+ghost use Rattle.link.specs.Answers.{Single, Fixed, Status, Reset, Counted, Class1, Class2};
+ghost use Rattle.link.specs.Answers.{Command, Ready, Confirmed, Busy, Report, NoData, Unable};
+ghost use Rattle.link.specs.Answers.{answer_of};
+ghost use Rattle.link.specs.Examples.{octet, other_octet, in_state, two_repeats, unreset_with};
+ghost use Rattle.link.specs.Examples.{reset_with, answer_by, answer_behind};
 ghost use Rattle.link.specs.Flags.{clear, flags_in};
 ghost use Rattle.link.specs.Procedure.{Down, Available, Next, Held, after_silence, has_repeats};
 ghost use Rattle.link.specs.Requests.{Foreign, Unknown, Asks, request_frame, reading_of};
 ghost use Rattle.link.specs.Secondary.{data_frame, control_of, short_of};
-ghost use Rattle.link.specs.Turns.{Starting, Commanding, Polling, Class1Polling, Over, wants, wanted, place_after};
+ghost use Rattle.link.specs.Turns.{Starting, Commanding, Polling, Class1Polling, Over, wants};
+ghost use Rattle.link.specs.Turns.{wanted, place_after};
 ghost use Rattle.link.specs.Primary.{outcome_by, with_gap};
 ghost use Rattle.link.specs.declared.outcome.Outcome.TheVariants as outcome;
 

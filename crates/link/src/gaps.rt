@@ -3,7 +3,8 @@ ghost use Rattle.std.specs.Prelude.{◌≡◌, ◌++◌, ℕ, List, length, Opti
 ghost use Rattle.ft12.specs.declared.frame.LinkSize.{LinkSize};
 ghost use Rattle.ft12.specs.Fronts.{front_of};
 ghost use Rattle.link.specs.Delivery.{IsHonest, sessions};
-ghost use Rattle.link.specs.Exchanges.{Exchange, Exchanges, Sending, heard_current, timed_current, begun_by};
+ghost use Rattle.link.specs.Exchanges.{Exchange, Exchanges, Sending, heard_current, timed_current};
+ghost use Rattle.link.specs.Exchanges.{begun_by};
 ghost use Rattle.link.specs.Gaps.{gaps_in, gaps_at, ended_with_gap};
 ghost use Rattle.link.specs.Outstation.{Turn};
 ghost use Rattle.link.specs.Procedure.{LinkSettings, Down, KeepsFrameCountBit};

@@ -1,14 +1,19 @@
 //! What holds of requests, exchanges and stations.
-ghost use Rattle.std.specs.Prelude.{◌≡◌, ◌<◌, ◌++◌, [], ◌∷◌, ℕ, Bool, true, false, List, All, length, slice_index, Option, Some, option_and_then};
+ghost use Rattle.std.specs.Prelude.{◌≡◌, ◌<◌, ◌++◌, [], ◌∷◌, ℕ, Bool, true, false, List, All};
+ghost use Rattle.std.specs.Prelude.{length, slice_index, Option, Some, option_and_then};
 ghost use Rattle.ft12.specs.declared.frame.LinkSize.{LinkSize};
 ghost use Rattle.ft12.specs.Fronts.{front_of};
 ghost use Rattle.ft12.specs.Spelling.{spelling};
 ghost use Rattle.link.specs.Answers.{Asked};
-ghost use Rattle.link.specs.Exchanges.{Exchange, Exchanges, OpenExchange, Sending, IsOutstanding, no_exchanges, heard_current, timed_current, begun_by, whole_of, view, reports_of_exchanges};
+ghost use Rattle.link.specs.Exchanges.{Exchange, Exchanges, OpenExchange, Sending, IsOutstanding};
+ghost use Rattle.link.specs.Exchanges.{no_exchanges, heard_current, timed_current, begun_by};
+ghost use Rattle.link.specs.Exchanges.{whole_of, view, reports_of_exchanges};
 ghost use Rattle.link.specs.LineLaws.{LineLaws};
 ghost use Rattle.link.specs.Procedure.{LinkSettings, Down, KeepsFrameCountBit, IsUp, is_service};
-ghost use Rattle.link.specs.Requests.{request_frame, IsUserData, FitsAddress, FitsAsked, asked_in, request_in};
-ghost use Rattle.link.specs.Primary.{Primary, start, asked, sending, request_of, received, received_outcome, timed_out, offered_to, withdrawn};
+ghost use Rattle.link.specs.Requests.{request_frame, IsUserData, FitsAddress, FitsAsked, asked_in};
+ghost use Rattle.link.specs.Requests.{request_in};
+ghost use Rattle.link.specs.Primary.{Primary, start, asked, sending, request_of, received};
+ghost use Rattle.link.specs.Primary.{received_outcome, timed_out, offered_to, withdrawn};
 ghost use Rattle.link.specs.Telling.{Tells, report_in, IsFittingSending};
 
 use crate::asking::next_changes_nothing;

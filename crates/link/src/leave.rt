@@ -1,9 +1,11 @@
 //! Polls wait for leave: no report comes that the caller has no room for.
-ghost use Rattle.std.specs.Prelude.{◌≡◌, ◌<◌, ◌⊎◌, ℕ, Bool, true, false, List, length, Option, Some, None};
+ghost use Rattle.std.specs.Prelude.{◌≡◌, ◌<◌, ◌⊎◌, ℕ, Bool, true, false, List, length, Option};
+ghost use Rattle.std.specs.Prelude.{Some, None};
 ghost use Rattle.ft12.specs.declared.frame.Front.{Front};
 ghost use Rattle.link.specs.Exchanges.{Sending};
 ghost use Rattle.link.specs.Turns.{station_at};
-ghost use Rattle.link.specs.Primary.{Primary, asked, sending, received, received_outcome, timed_out, offered_to, withdrawn};
+ghost use Rattle.link.specs.Primary.{Primary, asked, sending, received, received_outcome};
+ghost use Rattle.link.specs.Primary.{timed_out, offered_to, withdrawn};
 ghost use Rattle.link.specs.Holding.{IsFitting};
 ghost use Rattle.link.specs.Leave.{is_poll_request, is_polling, is_report, IsLeftToPolls};
 

@@ -26,7 +26,8 @@
 //!   ([`gaps_are_told`], [`gaps_are_ended_sessions`]);
 //! - where a link is given up at a restart no other station changes
 //!   ([`giving_up_is_for_one_station`]), and where a line goes on with other settings each station
-//!   that goes on keeps its frame count bit ([`frame_count_bits_go_on`]);
+//!   that goes on keeps its frame count bit ([`frame_count_bits_go_on`]), and what is known of its
+//!   session ([`sessions_go_on`]);
 //! - what the crates above go by is one record ([`line_keeps_the_procedures`]);
 //! - a station runs as an outstation that hears each request to it ([`station_is_an_outstation`]),
 //!   and its answers say what waits there ([`station_tells_what_waits`]);
@@ -80,7 +81,7 @@ pub use answer::Answer;
 pub use asdu::{Asdu, AsduRef, CommandOctets};
 pub use asking::next_changes_nothing;
 pub use bursts::class_1_polls_go_on;
-pub use carrying::{frame_count_bits_go_on, giving_up_is_for_one_station};
+pub use carrying::{frame_count_bits_go_on, giving_up_is_for_one_station, sessions_go_on};
 pub use control::{Control, PrimaryFunction, SecondaryFunction, controls_are_octets};
 pub use examples::{
     answers_by_example, controls_by_example, outstations_by_example, requests_by_example,

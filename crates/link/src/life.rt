@@ -1,13 +1,16 @@
 //! What holds of a station's whole life.
-ghost use Rattle.std.specs.Prelude.{◌≡◌, ◌<◌, ◌+◌, ◌^◌, ◌∷◌, ◌++◌, [], ℕ, Bool, false, List, length, Some};
+ghost use Rattle.std.specs.Prelude.{◌≡◌, ◌<◌, ◌+◌, ◌^◌, ◌∷◌, ◌++◌, [], ℕ, Bool, false, List};
+ghost use Rattle.std.specs.Prelude.{length, Some};
 ghost use Rattle.ft12.specs.declared.frame.LinkSize.{LinkSize};
 ghost use Rattle.link.specs.Answers.{Frame, Class1, Class2, Counted};
 ghost use Rattle.link.specs.Requests.{Asks, reading_of};
 ghost use Rattle.link.specs.Outstation.{OutstationRun, all_done};
 ghost use Rattle.link.specs.Delivery.{reports, commands};
 ghost use Rattle.link.specs.Secondary.{Secondary, outstation_of};
-ghost use Rattle.link.specs.Tidings.{IsNew, IsNewReading, bit_of, answer_after, Wait1, Wait2, do_wait, TellsFlags, oldest, IsAnsweredBy};
-ghost use Rattle.link.specs.Life.{Call, Hear, after, requests_heard, turns_in, given1, given2, reported1, reported2, saturated};
+ghost use Rattle.link.specs.Tidings.{IsNew, IsNewReading, bit_of, answer_after, Wait1, Wait2};
+ghost use Rattle.link.specs.Tidings.{do_wait, TellsFlags, oldest, IsAnsweredBy};
+ghost use Rattle.link.specs.Life.{Call, Hear, after, requests_heard, turns_in, given1, given2};
+ghost use Rattle.link.specs.Life.{reported1, reported2, saturated};
 
 /// Whatever it is called for, a station runs as the outstation that a primary counts on, and hears
 /// each request to it. It gives the reports of each class in order, each once. Its address and its

@@ -1,15 +1,23 @@
 //! The primary station of unbalanced transmission (IEC 60870-5-2).
-ghost use Rattle.std.specs.Prelude.{◌≡◌, ◌<◌, ◌≤◌, ◌+◌, List, [], All, length, map, take, drop, slice_index, ◌++◌, true, false, None, Some, IfSome, IfNone, IfOk, is_some, option_map, if◌then◌else◌};
+ghost use Rattle.std.specs.Prelude.{◌≡◌, ◌<◌, ◌≤◌, ◌+◌, List, [], All, length, map, take, drop};
+ghost use Rattle.std.specs.Prelude.{slice_index, ◌++◌, true, false, None, Some, IfSome, IfNone};
+ghost use Rattle.std.specs.Prelude.{IfOk, is_some, option_map, if◌then◌else◌};
 ghost use Rattle.link.specs.Counts.{saturated};
 ghost use Rattle.link.specs.Turns.{Over, station_at, wished, picked};
 ghost use Rattle.ft12.specs.Borrowed.{owned, FitsMemory};
 ghost use Rattle.ft12.specs.Fronts.{front_of};
 ghost use Rattle.link.specs.Requests.{IsUserData, FitsAddress, FitsAsked};
-ghost use Rattle.link.specs.Primary.{start, choice, station_asked, after_choice, asked, sending, request_of, acd_of, dfc_of, phase_after, station_answered, heard_from, heard_outcome, received, received_outcome, station_unanswered, unanswered, miss_outcome, timed_out, due_outcome, is_sending_command, may_offer, offered_to, without_offer, withdrawn};
+ghost use Rattle.link.specs.Primary.{start, choice, station_asked, after_choice, asked, sending};
+ghost use Rattle.link.specs.Primary.{request_of, acd_of, dfc_of, phase_after, station_answered};
+ghost use Rattle.link.specs.Primary.{heard_from, heard_outcome, received, received_outcome};
+ghost use Rattle.link.specs.Primary.{station_unanswered, unanswered, miss_outcome, timed_out};
+ghost use Rattle.link.specs.Primary.{due_outcome, is_sending_command, may_offer, offered_to};
+ghost use Rattle.link.specs.Primary.{without_offer, withdrawn};
 ghost use Rattle.link.specs.Leave.{is_polling};
 ghost use Rattle.link.specs.Outcomes.{lent};
 ghost use Rattle.link.specs.declared.outcome.Outcome.TheVariants as outcome;
-ghost use Rattle.link.specs.Holding.{outstanding_of, IsFittingChoice, frame_after, so_far_after, is_at_front, noted, completed, gathered, MayEnd, MayComplete};
+ghost use Rattle.link.specs.Holding.{outstanding_of, IsFittingChoice, frame_after, so_far_after};
+ghost use Rattle.link.specs.Holding.{is_at_front, noted, completed, gathered, MayEnd, MayComplete};
 
 mod carrying;
 mod restoring;

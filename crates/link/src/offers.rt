@@ -1,5 +1,6 @@
 //! What waits for a station, through each call.
-ghost use Rattle.std.specs.Prelude.{◌≡◌, ◌<◌, ◌==◌, ◌&&◌, ℕ, not, is_none, slice_index, Bool, false, List, length, Option, None, Some, if◌then◌else◌};
+ghost use Rattle.std.specs.Prelude.{◌≡◌, ◌<◌, ◌==◌, ◌&&◌, ℕ, not, is_none, slice_index, Bool};
+ghost use Rattle.std.specs.Prelude.{false, List, length, Option, None, Some, if◌then◌else◌};
 ghost use Rattle.ft12.specs.declared.frame.Front.{Front};
 ghost use Rattle.ft12.specs.Fronts.{front_of};
 ghost use Rattle.link.specs.Answers.{Command, Counted};
@@ -8,7 +9,8 @@ ghost use Rattle.link.specs.Gaps.{exchanges_at};
 ghost use Rattle.link.specs.Procedure.{LinkSettings, is_held};
 ghost use Rattle.link.specs.Telling.{Tells};
 ghost use Rattle.link.specs.Turns.{station_at};
-ghost use Rattle.link.specs.Primary.{Primary, asked, sending, received, timed_out, is_command, may_offer, offered_to, withdrawn};
+ghost use Rattle.link.specs.Primary.{Primary, asked, sending, received, timed_out, is_command};
+ghost use Rattle.link.specs.Primary.{may_offer, offered_to, withdrawn};
 ghost use Rattle.link.specs.Offers.{offered_at, is_under_way};
 
 /// An offered command waits until it is put on the line or withdrawn: octets and time leave it, and

@@ -1,7 +1,8 @@
 //! The link to one station, as its exchanges leave it.
 ghost use Rattle.std.specs.Prelude.{◌≡◌, true};
 ghost use Rattle.link.specs.Leave.{holds_poll};
-ghost use Rattle.link.specs.Procedure.{after_answer, after_silence, missed_so_far, has_repeats, goes_down, is_held, holds_command};
+ghost use Rattle.link.specs.Procedure.{after_answer, after_silence, missed_so_far, has_repeats};
+ghost use Rattle.link.specs.Procedure.{goes_down, is_held, holds_command};
 
 use crate::answer::Answer;
 use crate::service::{Asked, Service};

@@ -6,7 +6,10 @@ ghost use Rattle.link.specs.Answers.{Unable};
 ghost use Rattle.link.specs.Exchanges.{Exchange, answer_to};
 ghost use Rattle.link.specs.Procedure.{LinkSettings, KeepsFrameCountBit, IsSteady, Down};
 ghost use Rattle.link.specs.Outstation.{Turn, all_done};
-ghost use Rattle.link.specs.Delivery.{learnt, IsHonest, IsKnown, IsSessionKnown, sessions, pending_after, IsAllOrButLast, IsLatestAnswered, reports, HasReports, AcceptsSendings, AcceptsAllSendings, sendings_not_busy, is_command_pending, commands};
+ghost use Rattle.link.specs.Delivery.{learnt, IsHonest, IsKnown, IsSessionKnown, sessions};
+ghost use Rattle.link.specs.Delivery.{pending_after, IsAllOrButLast, IsLatestAnswered, reports};
+ghost use Rattle.link.specs.Delivery.{HasReports, AcceptsSendings, AcceptsAllSendings};
+ghost use Rattle.link.specs.Delivery.{sendings_not_busy, is_command_pending, commands};
 
 /// In each session of the link an honest outstation has done what the primary learnt, and then at
 /// most what the session's last service asks for. What is learnt and done is learnt and done in the

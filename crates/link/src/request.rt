@@ -6,7 +6,9 @@ ghost use Rattle.ft12.specs.Spelling.{spelling, spelling_len};
 ghost use Rattle.link.specs.Control.{primary_code};
 ghost use Rattle.link.specs.declared.request.Reading.TheVariants as reading;
 ghost use Rattle.link.specs.Heard.{with_data as joined};
-ghost use Rattle.link.specs.Requests.{counted_control, plain_control, request_frame, FitsAddress, FitsAsked, service_kind, kind_of, counted_reading, plain_reading, short_by, data_by, reading_of};
+ghost use Rattle.link.specs.Requests.{counted_control, plain_control, request_frame, FitsAddress};
+ghost use Rattle.link.specs.Requests.{FitsAsked, service_kind, kind_of, counted_reading};
+ghost use Rattle.link.specs.Requests.{plain_reading, short_by, data_by, reading_of};
 
 use crate::control::{Control, PrimaryFunction};
 use crate::heard_request::HeardRequest;

@@ -1,17 +1,23 @@
 //! What holds of every list of calls of a primary station.
-ghost use Rattle.std.specs.Prelude.{◌≡◌, ◌≢◌, ◌<◌, ◌↔◌, [], ℕ, Bool, true, false, List, All, length, slice_index, Option, Some, None};
+ghost use Rattle.std.specs.Prelude.{◌≡◌, ◌≢◌, ◌<◌, ◌↔◌, [], ℕ, Bool, true, false, List, All};
+ghost use Rattle.std.specs.Prelude.{length, slice_index, Option, Some, None};
 ghost use Rattle.ft12.specs.declared.frame.Front.{Front};
 ghost use Rattle.ft12.specs.Fronts.{front_of};
 ghost use Rattle.link.specs.Counts.{saturated};
-ghost use Rattle.link.specs.Exchanges.{Exchanges, OpenExchange, Sending, IsOutstanding, IsUnanswered, no_exchanges, answer_to, all_of, view, views, with_station, heard_octets, timed, is_spoilt, spoilt_count};
+ghost use Rattle.link.specs.Exchanges.{Exchanges, OpenExchange, Sending, IsOutstanding};
+ghost use Rattle.link.specs.Exchanges.{IsUnanswered, no_exchanges, answer_to, all_of, view, views};
+ghost use Rattle.link.specs.Exchanges.{with_station, heard_octets, timed, is_spoilt, spoilt_count};
 ghost use Rattle.link.specs.Gaps.{gap_at};
-ghost use Rattle.link.specs.Procedure.{LinkSettings, Down, KeepsFrameCountBit, after_silence, link_after};
+ghost use Rattle.link.specs.Procedure.{LinkSettings, Down, KeepsFrameCountBit, after_silence};
+ghost use Rattle.link.specs.Procedure.{link_after};
 ghost use Rattle.link.specs.Requests.{FitsAddress};
 ghost use Rattle.link.specs.Turns.{Wanted, station_at, wanted};
-ghost use Rattle.link.specs.Primary.{Primary, start, sending, received, outcome_of, with_gap, received_outcome, timed_out, due_outcome};
+ghost use Rattle.link.specs.Primary.{Primary, start, sending, received, outcome_of, with_gap};
+ghost use Rattle.link.specs.Primary.{received_outcome, timed_out, due_outcome};
 ghost use Rattle.link.specs.declared.outcome.Outcome.TheVariants as outcome;
 ghost use Rattle.link.specs.Telling.{Tells};
-ghost use Rattle.link.specs.Runs.{Call, MayCallAll, called_all, exchanged_all, all_deeds, AreInOrder, BeginsTurn, HaveNone, silence_outcome};
+ghost use Rattle.link.specs.Runs.{Call, MayCallAll, called_all, exchanged_all, all_deeds};
+ghost use Rattle.link.specs.Runs.{AreInOrder, BeginsTurn, HaveNone, silence_outcome};
 
 use ft12::front_is_computed;
 

@@ -6,10 +6,13 @@ ghost use Rattle.std.specs.Prelude.{◌≡◌, ◌++◌, ◌∷◌, ◌<◌, [],
 ghost use Rattle.std.specs.List.{AllByRecursion};
 ghost use Rattle.checkpoint.specs.declared.StateFault.TheVariants.{Wrong};
 ghost use Rattle.link.specs.Saved.{bit_number, bit_from, service_numbers, service_by, service_from};
-ghost use Rattle.link.specs.Saved.{link_numbers, link_by, link_from, next_from, held_from, held_missed};
-ghost use Rattle.link.specs.Saved.{flags_numbers, flags_from, offered_numbers, offered_by, offered_from};
+ghost use Rattle.link.specs.Saved.{link_numbers, link_by, link_from, next_from, held_from};
+ghost use Rattle.link.specs.Saved.{held_missed};
+ghost use Rattle.link.specs.Saved.{flags_numbers, flags_from, offered_numbers, offered_by};
+ghost use Rattle.link.specs.Saved.{offered_from};
 ghost use Rattle.link.specs.Saved.{command_from, lines_of};
-ghost use Rattle.link.specs.Saved.{FitsSavedService, FitsSavedLink, FitsSavedOffer, FitsSavedStation};
+ghost use Rattle.link.specs.Saved.{FitsSavedService, FitsSavedLink, FitsSavedOffer};
+ghost use Rattle.link.specs.Saved.{FitsSavedStation};
 ghost use Rattle.link.specs.Turns.{StationState};
 
 use crate::asdu::{CommandOctets, LONGEST_COMMAND};

@@ -1,5 +1,6 @@
 //! A secondary station of unbalanced transmission (IEC 60870-5-2).
-ghost use Rattle.std.specs.Prelude.{◌≡◌, ◌<◌, ◌≤◌, ◌+◌, ◌^◌, ◌∷◌, ◌++◌, [], List, ℕ, length, map, true, IfSome, OnOk, OnErr};
+ghost use Rattle.std.specs.Prelude.{◌≡◌, ◌<◌, ◌≤◌, ◌+◌, ◌^◌, ◌∷◌, ◌++◌, [], List, ℕ, length, map};
+ghost use Rattle.std.specs.Prelude.{true, IfSome, OnOk, OnErr};
 ghost use Rattle.std.specs.Bool.{OnTrue, OnFalse};
 ghost use Rattle.ft12.specs.Spelling.{Fits};
 ghost use Rattle.link.specs.declared.service.Asked.TheVariants as Asked;
@@ -8,7 +9,10 @@ ghost use Rattle.link.specs.Heard.{service_with};
 ghost use Rattle.link.specs.Control.{secondary_code as number};
 ghost use Rattle.link.specs.declared.control.SecondaryFunction.TheVariants as function;
 ghost use Rattle.link.specs.Life.{Report1, Report2, called};
-ghost use Rattle.link.specs.Secondary.{served_class1, served_class2, served_command, control_of, short_of, data_frame, one_more_given, is_same, IsServed, IsCommandServed, IsReadingHeard, with_frame, HearsOctets, fresh_station};
+ghost use Rattle.link.specs.Secondary.{served_class1, served_class2, served_command, control_of};
+ghost use Rattle.link.specs.Secondary.{short_of, data_frame, one_more_given, is_same, IsServed};
+ghost use Rattle.link.specs.Secondary.{IsCommandServed, IsReadingHeard, with_frame, HearsOctets};
+ghost use Rattle.link.specs.Secondary.{fresh_station};
 
 use crate::asdu::Asdu;
 use crate::control::{Control, SecondaryFunction};

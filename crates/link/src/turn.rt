@@ -1,6 +1,8 @@
 //! Turns: what is sent next, and to which station.
 ghost use Rattle.std.specs.Prelude.{◌≡◌, ◌<◌, List, length, option_map, IfSome};
-ghost use Rattle.link.specs.Turns.{is_poll, wanted_poll, polls_from, commands_from, next_of, wanted, wished, offer_request, held_request, picked, station_at, place_after, first_after};
+ghost use Rattle.link.specs.Turns.{is_poll, wanted_poll, polls_from, commands_from, next_of};
+ghost use Rattle.link.specs.Turns.{wanted, wished, offer_request, held_request, picked, station_at};
+ghost use Rattle.link.specs.Turns.{place_after, first_after};
 
 use crate::asdu::CommandOctets;
 use crate::procedure::Link;

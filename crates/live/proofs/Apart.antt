@@ -1,8 +1,11 @@
 -- What the looks of a turn leave as it was: the log, the clock, and when the wall clock was told.
-use Rattle.std.proofs.Common.{◌≡◌, ℕ, true, false, Bool, List, [], ◌∷◌, Option, Some, None, refl, ◌∙◌}
+use Rattle.std.proofs.Common.{◌≡◌, ℕ, true, false, Bool, List, [], ◌∷◌, Option, Some, None, refl}
+use Rattle.std.proofs.Common.{◌∙◌}
 use Rattle.gateway.specs.Log.{Log}
 use Rattle.live.specs.Timing.{Moments, is_behind}
-use Rattle.live.specs.Ends.{Ends, Peer, Answers, taken_by, turn_by, sources_by, held_by, round, look, unless_found, next_round, looked_at, found_at, after, nothing_more, let_in}
+use Rattle.live.specs.Ends.{Ends, Peer, Answers, taken_by, turn_by, sources_by, held_by, round}
+use Rattle.live.specs.Ends.{look, unless_found, next_round, looked_at, found_at, after}
+use Rattle.live.specs.Ends.{nothing_more, let_in}
 use Rattle.live.specs.declared.found.Found.{Found}
 use Rattle.live.specs.declared.found.Found.TheVariants as found
 use Rattle.live.specs.declared.source.Source.{Source}
@@ -12,9 +15,11 @@ use Rattle.live.specs.declared.walled.Walled.{Walled}
 
 -- a part of the ends that no look touches
 pub record Apart {A : Type 0} (part : Ends → A) : Type 0 where
-  pub looked : (s : Source) (t : ℕ) (a : Answers) (buf : List ℕ) (e : Ends) → part (looked_at s t a buf e) ≡ part e
+  pub looked : (s : Source) (t : ℕ) (a : Answers) (buf : List ℕ) (e : Ends)
+      → part (looked_at s t a buf e) ≡ part e
   pub moved : (s : Source) (e : Ends) → part (record e { first = s }) ≡ part e
-  pub ended : (e : Ends) (s : Source) → part (record e { connection = None; held = []; first = s; is_cut_due = false })
+  pub ended : (e : Ends) (s : Source)
+      → part (record e { connection = None; held = []; first = s; is_cut_due = false })
       ≡ part e
   pub given : (e : Ends) (s : Source) → part (record e { held = []; first = s }) ≡ part e
   pub kept : (e : Ends) (held : List ℕ) → part (record e { held = held }) ≡ part e
@@ -28,14 +33,17 @@ next_same : {A : Type 0} (part : Ends → A) → Apart part → (s : Source) (f 
 next_same part p s None e = refl
 next_same part p s (Some f) e = p.moved (after s) e
 
-unless_same : {A : Type 0} (part : Ends → A) (f : Option Found) (e : Ends) (others : Ends → Option Found × Ends)
+unless_same : {A : Type 0} (part : Ends → A) (f : Option Found) (e : Ends) (others : Ends
+    → Option Found × Ends)
     → IsSilent part others → part (unless_found f e others).1 ≡ part e
 unfolding IsSilent
 unless_same part None e others on = on e
 unless_same part (Some f) e others on = refl
 
-look_same : {A : Type 0} (part : Ends → A) → Apart part → (s : Source) (t : ℕ) (a : Answers) (buf : List ℕ)
-    (others : Ends → Option Found × Ends) → IsSilent part others → IsSilent part (λ e. look s t a buf e others)
+look_same : {A : Type 0} (part : Ends → A) → Apart part
+    → (s : Source) (t : ℕ) (a : Answers) (buf : List ℕ)
+    (others : Ends → Option Found × Ends) → IsSilent part others
+    → IsSilent part (λ e. look s t a buf e others)
 unfolding IsSilent
 look_same part p s t a buf others on e =
     let f = found_at s a e in
@@ -46,7 +54,8 @@ nothing_same : {A : Type 0} (part : Ends → A) → IsSilent part nothing_more
 unfolding IsSilent
 nothing_same part e = refl
 
-round_same : {A : Type 0} (part : Ends → A) → Apart part → (t : ℕ) (a : Answers) (buf : List ℕ) (e : Ends)
+round_same : {A : Type 0} (part : Ends → A) → Apart part
+    → (t : ℕ) (a : Answers) (buf : List ℕ) (e : Ends)
     → part (round t a buf e).1 ≡ part e
 unfolding IsSilent
 round_same part p t a buf e =
@@ -57,23 +66,28 @@ round_same part p t a buf e =
     (λ x. look (after e.first) t a buf x (λ y. look (after (after e.first)) t a buf y nothing_more))
     second e
 
-held_same : {A : Type 0} (part : Ends → A) → Apart part → (h : List ℕ) (t : ℕ) (a : Answers) (buf : List ℕ) (e : Ends)
+held_same : {A : Type 0} (part : Ends → A) → Apart part
+    → (h : List ℕ) (t : ℕ) (a : Answers) (buf : List ℕ) (e : Ends)
     → part (held_by h t a buf e).1 ≡ part e
 held_same part p [] t a buf e = round_same part p t a buf e
 held_same part p (octet ∷ octets) t a buf e = p.given e (after Connection)
 
-sources_same : {A : Type 0} (part : Ends → A) → Apart part → (b : Bool) (t : ℕ) (a : Answers) (buf : List ℕ) (e : Ends)
+sources_same : {A : Type 0} (part : Ends → A) → Apart part
+    → (b : Bool) (t : ℕ) (a : Answers) (buf : List ℕ) (e : Ends)
     → part (sources_by b t a buf e).1 ≡ part e
 unfolding IsSilent
-sources_same part p true t a buf e = look_same part p Line t a buf nothing_more (nothing_same part) e
+sources_same part p true t a buf e = look_same part p Line t a buf nothing_more (nothing_same part)
+    e
 sources_same part p false t a buf e = held_same part p e.held t a buf e
 
-pub turn_same : {A : Type 0} (part : Ends → A) → Apart part → (d : Bool) (t : ℕ) (a : Answers) (buf : List ℕ) (e : Ends)
+pub turn_same : {A : Type 0} (part : Ends → A) → Apart part
+    → (d : Bool) (t : ℕ) (a : Answers) (buf : List ℕ) (e : Ends)
     → part (turn_by d t a buf e).1 ≡ part e
 turn_same part p true t a buf e = p.ended e (after Connection)
 turn_same part p false t a buf e = sources_same part p (is_behind e.timing t) t a buf e
 
-pub taken_same : {A : Type 0} (part : Ends → A) → Apart part → (b : Bool) (buf : List ℕ) (f : Option Found) (e : Ends)
+pub taken_same : {A : Type 0} (part : Ends → A) → Apart part
+    → (b : Bool) (buf : List ℕ) (f : Option Found) (e : Ends)
     → part (taken_by b buf f e).1 ≡ part e
 taken_same part p false buf f e = refl
 taken_same part p true buf None e = refl
@@ -91,7 +105,8 @@ log_at_door : (v : Option Peer) (e : Ends) → (let_in v e).log ≡ e.log
 log_at_door None e = refl
 log_at_door (Some visitor) e = refl
 
-log_looked : (s : Source) (t : ℕ) (a : Answers) (buf : List ℕ) (e : Ends) → log_of (looked_at s t a buf e) ≡ log_of e
+log_looked : (s : Source) (t : ℕ) (a : Answers) (buf : List ℕ) (e : Ends)
+    → log_of (looked_at s t a buf e) ≡ log_of e
 log_looked Door t a buf e = log_at_door a.visitor e
 log_looked Connection t a buf e = refl
 log_looked Line t a buf e = refl

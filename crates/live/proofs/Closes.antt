@@ -5,7 +5,8 @@ use Rattle.session.specs.declared.kinds.Close.{Close}
 use Rattle.session.specs.declared.kinds.Close.TheVariants as close
 use Rattle.live.specs.Ends.{Ends, LogsPut, closed_by}
 
-shut_by : (cause : Close) (e : Ends) → cause ≢ close.Replaced → (closed_by cause e).connection ≡ None
+shut_by : (cause : Close) (e : Ends) → cause ≢ close.Replaced → (closed_by cause e).connection
+    ≡ None
 shut_by close.Grammar e other = refl
 shut_by close.SendNumber e other = refl
 shut_by close.ReceiveNumber e other = refl
@@ -16,4 +17,5 @@ shut_by close.Replaced e other = absurd (other refl)
 
 pub shut : (old new : Ends) (moment : ℕ) (cause : Close) → LogsPut old moment (Closed cause) new
     → cause ≢ close.Replaced → new.connection ≡ None
-shut old new moment cause l other = ap (λ (e : Ends). e.connection) l.puts.done ∙ shut_by cause old other
+shut old new moment cause l other = ap (λ (e : Ends). e.connection) l.puts.done
+    ∙ shut_by cause old other

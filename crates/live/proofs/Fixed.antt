@@ -1,11 +1,13 @@
 -- What is fixed of the port over live ends. Neither looks nor actions touch it.
-use Rattle.std.proofs.Common.{◌≡◌, ℕ, true, false, Bool, List, Option, Some, None, refl, ap, ◌∙◌, inl, inr}
+use Rattle.std.proofs.Common.{◌≡◌, ℕ, true, false, Bool, List, Option, Some, None, refl, ap, ◌∙◌}
+use Rattle.std.proofs.Common.{inl, inr}
 use Rattle.gateway.specs.declared.ports.Next.{Next}
 use Rattle.gateway.specs.Log.{Log, Output, LineOut, TcpOut, Closed, GapOut}
 use Rattle.session.specs.declared.kinds.Close.{Close}
 use Rattle.session.specs.declared.kinds.Close.TheVariants as close
 use Rattle.live.specs.Timing.{is_behind}
-use Rattle.live.specs.Ends.{Ends, Fixture, Peer, Answers, Turns, Puts, as_logged, fixed_of, looking, told_at, let_in, looked_at, written_open, closed_by, after_action}
+use Rattle.live.specs.Ends.{Ends, Fixture, Peer, Answers, Turns, Puts, as_logged, fixed_of, looking}
+use Rattle.live.specs.Ends.{told_at, let_in, looked_at, written_open, closed_by, after_action}
 use Rattle.live.proofs.Apart.{Apart, taken_same}
 use Rattle.live.proofs.Rounds.{Aside, looks_kept}
 use Rattle.live.specs.declared.found.Found.{Found}
@@ -34,12 +36,14 @@ fixed_apart = record {
 fixed_aside : Aside fixed_of
 fixed_aside = record { apart = fixed_apart; told = λ now e. refl }
 
-turns_fixed : (old new : Ends) (event : Next) (buf : List ℕ) → Turns old event buf new → fixed_of new ≡ fixed_of old
+turns_fixed : (old new : Ends) (event : Next) (buf : List ℕ) → Turns old event buf new
+    → fixed_of new ≡ fixed_of old
 turns_fixed old new event buf (inl t) = ap fixed_of t.told.ends
 turns_fixed old new event buf (inr t) =
     ap (λ (p : Option Found × Ends). fixed_of p.1) t.told.ends
     ∙ (taken_same fixed_of fixed_apart (is_behind t.found.timing t.now) buf t.f t.found
-    ∙ looks_kept fixed_of fixed_aside t.first (looking (told_at t.first old)) t.now t.f buf t.found t.looks)
+    ∙ looks_kept fixed_of fixed_aside t.first (looking (told_at t.first old)) t.now t.f buf t.found
+    t.looks)
 
 written_fixed : (b : Bool) (octets : List ℕ) (taken : Bool) (p : Option Peer) (e : Ends)
     → fixed_of (written_open b octets taken p e) ≡ fixed_of e
@@ -59,16 +63,19 @@ closed_fixed close.Replaced e = refl
 action_fixed : (moment : ℕ) (action : Output) (written : ℕ) (taken : Bool) (e : Ends)
     → fixed_of (after_action moment action written taken e) ≡ fixed_of e
 action_fixed moment (LineOut octets) written taken e = refl
-action_fixed moment (TcpOut octets) written taken e = written_fixed e.is_cut_due octets taken e.connection e
+action_fixed moment (TcpOut octets) written taken e =
+    written_fixed e.is_cut_due octets taken e.connection e
 action_fixed moment (Closed cause) written taken e = closed_fixed cause e
 action_fixed moment (GapOut station session) written taken e = refl
 
 -- a turn, and an action, once they are logged
-pub next_fixed : (old mid new : Ends) (event : Next) (buf : List ℕ) (log : Log) → Turns old event buf mid
+pub next_fixed : (old mid new : Ends) (event : Next) (buf : List ℕ) (log : Log)
+    → Turns old event buf mid
     → new ≡ as_logged log mid → fixed_of new ≡ fixed_of old
 next_fixed old mid new event buf log t done = ap fixed_of done ∙ turns_fixed old mid event buf t
 
-pub put_fixed : (old mid new : Ends) (moment : ℕ) (action : Output) (log : Log) → Puts old moment action mid
+pub put_fixed : (old mid new : Ends) (moment : ℕ) (action : Output) (log : Log)
+    → Puts old moment action mid
     → new ≡ as_logged log mid → fixed_of new ≡ fixed_of old
 put_fixed old mid new moment action log p done =
     ap fixed_of done ∙ (ap fixed_of p.done ∙ action_fixed moment action p.written p.taken old)

@@ -1,5 +1,6 @@
 -- No source hides another: they are looked at in turn.
-use Rattle.std.proofs.Common.{◌≡◌, ℕ, ◌<◌, ◌≤◌, true, false, Bool, List, [], ◌∷◌, length, Option, Some, None, refl, sym, ap, subst, arith, ◌∙◌, ◌⊎◌, inl, inr}
+use Rattle.std.proofs.Common.{◌≡◌, ℕ, ◌<◌, ◌≤◌, true, false, Bool, List, [], ◌∷◌, length, Option}
+use Rattle.std.proofs.Common.{Some, None, refl, sym, ap, subst, arith, ◌∙◌, ◌⊎◌, inl, inr}
 use Rattle.gateway.specs.declared.ports.Next.{Next}
 use Rattle.gateway.specs.declared.ports.Next.TheVariants as next
 use Rattle.gateway.specs.Log.{Log, Output, LineOut, TcpOut, Closed, GapOut}
@@ -7,7 +8,10 @@ use Rattle.session.specs.declared.kinds.Close.{Close}
 use Rattle.session.specs.declared.kinds.Close.TheVariants as close
 use Rattle.live.specs.Timing.{is_behind, heard_at, moment_at}
 use Rattle.live.specs.Wires.{Happening, History, WasQuiet, noted, Visits, visited}
-use Rattle.live.specs.Ends.{Ends, Peer, Answers, Turns, LogsTurn, LogsPut, as_logged, IsTurn, QuietRounds, NoRound, OneRound, TurnsToEnds, event_at, taken_by, looking, told_at, turn_by, sources_by, held_by, round, look, nothing_more, after, written_open, closed_by, after_action}
+use Rattle.live.specs.Ends.{Ends, Peer, Answers, Turns, LogsTurn, LogsPut, as_logged, IsTurn}
+use Rattle.live.specs.Ends.{QuietRounds, NoRound, OneRound, TurnsToEnds, event_at, taken_by}
+use Rattle.live.specs.Ends.{looking, told_at, turn_by, sources_by, held_by, round, look}
+use Rattle.live.specs.Ends.{nothing_more, after, written_open, closed_by, after_action}
 use Rattle.live.specs.InTurn.{IsMore, IsMoreAt, IsLookedAt, LooksBefore, BeginsBehind, IsFarBehind}
 use Rattle.live.proofs.Rounds.{quiet_hears}
 use Rattle.live.specs.declared.found.Found.{Found}
@@ -33,12 +37,15 @@ visited_more (Some before) here = more_one before here
 -- what a round that began at `s` found, where the next begins, and what was looked at
 Looked : Source → Option Found → (old new : Ends) → Type 0
 Looked s None old new =
-    (new.first ≡ s) × IsLookedAt Door old new × IsLookedAt Connection old new × IsLookedAt Line old new
+    (new.first ≡ s) × IsLookedAt Door old new × IsLookedAt Connection old new
+    × IsLookedAt Line old new
     × (new.is_cut_due ≡ old.is_cut_due) × (new.held ≡ old.held)
 Looked s (Some found.Open) old new = (new.first ≡ Connection) × LooksBefore (next.Open 0) s old new
-Looked s (Some (found.Bytes len)) old new = (new.first ≡ Line) × LooksBefore (next.Bytes 0 len) s old new
+Looked s (Some (found.Bytes len)) old new = (new.first ≡ Line)
+    × LooksBefore (next.Bytes 0 len) s old new
 Looked s (Some found.Cut) old new = (new.first ≡ Line) × LooksBefore (next.Cut 0) s old new
-Looked s (Some (found.Line len)) old new = (new.first ≡ Door) × LooksBefore (next.Line 0 len) s old new
+Looked s (Some (found.Line len)) old new = (new.first ≡ Door)
+    × LooksBefore (next.Line 0 len) s old new
 Looked s (Some found.Fault) old new = (new.first ≡ Door) × LooksBefore next.Fault s old new
 
 InRound : Source → Ends → Option Found × Ends → Type 0
@@ -59,15 +66,23 @@ by_answers : (s : Source) (v k : Option Peer) (c l : Got) (t : ℕ) (buf : List 
 unfolding InRound Looked
 by_answers Door (Some p) k c l t buf e = (refl, tt)
 by_answers Door None None c (Octets len) t buf e = (refl, (visited_more e.door false, tt))
-by_answers Door None None c Quiet t buf e = (refl, visited_more e.door false, tt, noted_more e.line WasQuiet, refl, refl)
+by_answers Door None None c Quiet t buf e =
+    (refl, visited_more e.door false, tt, noted_more e.line WasQuiet, refl, refl)
 by_answers Door None None c Gone t buf e = (refl, (visited_more e.door false, tt))
 by_answers Door None (Some p) (Octets n) l t buf e = (refl, visited_more e.door false)
 by_answers Door None (Some p) Gone l t buf e = (refl, visited_more e.door false)
 by_answers Door None (Some p) Quiet (Octets len) t buf e =
     (refl, (visited_more e.door false, noted_more p.wire WasQuiet))
-by_answers Door None (Some p) Quiet Quiet t buf e =
-    (refl, visited_more e.door false, noted_more p.wire WasQuiet, noted_more e.line WasQuiet, refl, refl)
-by_answers Door None (Some p) Quiet Gone t buf e = (refl, (visited_more e.door false, noted_more p.wire WasQuiet))
+by_answers Door None (Some p) Quiet Quiet t buf e = (
+  refl,
+  visited_more e.door false,
+  noted_more p.wire WasQuiet,
+  noted_more e.line WasQuiet,
+  refl,
+  refl,
+)
+by_answers Door None (Some p) Quiet Gone t buf e =
+    (refl, (visited_more e.door false, noted_more p.wire WasQuiet))
 by_answers Connection v None c (Octets len) t buf e = (refl, tt)
 by_answers Connection v None c Gone t buf e = (refl, tt)
 by_answers Connection (Some q) None c Quiet t buf e = (refl, noted_more e.line WasQuiet)
@@ -78,8 +93,14 @@ by_answers Connection v (Some p) Gone l t buf e = (refl, tt)
 by_answers Connection v (Some p) Quiet (Octets len) t buf e = (refl, noted_more p.wire WasQuiet)
 by_answers Connection v (Some p) Quiet Gone t buf e = (refl, noted_more p.wire WasQuiet)
 by_answers Connection (Some q) (Some p) Quiet Quiet t buf e = (refl, noted_more e.line WasQuiet)
-by_answers Connection None (Some p) Quiet Quiet t buf e =
-    (refl, visited_more e.door false, noted_more p.wire WasQuiet, noted_more e.line WasQuiet, refl, refl)
+by_answers Connection None (Some p) Quiet Quiet t buf e = (
+  refl,
+  visited_more e.door false,
+  noted_more p.wire WasQuiet,
+  noted_more e.line WasQuiet,
+  refl,
+  refl,
+)
 by_answers Line v k c (Octets len) t buf e = (refl, tt)
 by_answers Line v k c Gone t buf e = (refl, tt)
 by_answers Line (Some q) k c Quiet t buf e = (refl, noted_more e.line WasQuiet)
@@ -87,9 +108,16 @@ by_answers Line None None c Quiet t buf e =
     (refl, visited_more e.door false, tt, noted_more e.line WasQuiet, refl, refl)
 by_answers Line None (Some p) (Octets n) Quiet t buf e =
     (refl, (noted_more e.line WasQuiet, visited_more e.door false))
-by_answers Line None (Some p) Gone Quiet t buf e = (refl, (noted_more e.line WasQuiet, visited_more e.door false))
-by_answers Line None (Some p) Quiet Quiet t buf e =
-    (refl, visited_more e.door false, noted_more p.wire WasQuiet, noted_more e.line WasQuiet, refl, refl)
+by_answers Line None (Some p) Gone Quiet t buf e =
+    (refl, (noted_more e.line WasQuiet, visited_more e.door false))
+by_answers Line None (Some p) Quiet Quiet t buf e = (
+  refl,
+  visited_more e.door false,
+  noted_more p.wire WasQuiet,
+  noted_more e.line WasQuiet,
+  refl,
+  refl,
+)
 
 in_round : (t : ℕ) (a : Answers) (buf : List ℕ) (e : Ends) → InRound e.first e (round t a buf e)
 in_round t a buf e = by_answers e.first a.visitor e.connection a.connection a.line t buf e
@@ -103,7 +131,8 @@ Begins (Some found.Cut) first = first ≡ Line
 Begins (Some (found.Line len)) first = first ≡ Door
 Begins (Some found.Fault) first = first ≡ Door
 
-begins_in : (s : Source) (f : Option Found) (old new : Ends) → Looked s f old new → Begins f new.first
+begins_in : (s : Source) (f : Option Found) (old new : Ends) → Looked s f old new
+    → Begins f new.first
 unfolding Looked Begins
 begins_in s None old new l = tt
 begins_in s (Some found.Open) old new l = l.0
@@ -137,7 +166,8 @@ unfolding Begins
 turn_begins true t a buf e = refl
 turn_begins false t a buf e = sources_begin (is_behind e.timing t) t a buf e
 
-taken_begins : (b : Bool) (n : ℕ) (before : Source) (buf : List ℕ) (f : Option Found) (e : Ends) → Begins f e.first
+taken_begins : (b : Bool) (n : ℕ) (before : Source) (buf : List ℕ) (f : Option Found) (e : Ends)
+    → Begins f e.first
     → BeginsBehind (event_at n (taken_by b buf f e).0) before (taken_by b buf f e).1.first
 unfolding Begins
 taken_begins false n before buf None e h = tt
@@ -166,7 +196,8 @@ behind_by old new event buf (inr t) =
     let R : Ends → Type 0 = λ e. Begins t.f e.first in
     let S : Option Found × Ends → Type 0 = λ p. BeginsBehind (event_at n p.0) old.first p.1.first in
     let last : Begins t.f l.found.first =
-    subst Q (sym l.turn.turned) (turn_begins l.before.is_cut_due l.begun l.turn.answers buf l.before) in
+    subst Q (sym l.turn.turned) (turn_begins l.before.is_cut_due l.begun l.turn.answers buf
+    l.before) in
     let looked_on : Begins t.f t.found.first = subst R (sym l.done) last in
     subst P (sym t.told.told) (subst S (sym t.told.ends)
     (taken_begins (is_behind t.found.timing t.now) n old.first buf t.f t.found looked_on))
@@ -194,14 +225,16 @@ closed_first close.Replaced e = refl
 action_first : (moment : ℕ) (action : Output) (written : ℕ) (taken : Bool) (e : Ends)
     → (after_action moment action written taken e).first ≡ e.first
 action_first moment (LineOut octets) written taken e = refl
-action_first moment (TcpOut octets) written taken e = written_first e.is_cut_due octets taken e.connection e
+action_first moment (TcpOut octets) written taken e =
+    written_first e.is_cut_due octets taken e.connection e
 action_first moment (Closed cause) written taken e = closed_first cause e
 action_first moment (GapOut station session) written taken e = refl
 
 pub put_first : (old new : Ends) (moment : ℕ) (action : Output) → LogsPut old moment action new
     → new.first ≡ old.first
 put_first old new moment action l =
-    ap (λ (e : Ends). e.first) l.puts.done ∙ action_first moment action l.puts.written l.puts.taken old
+    ap (λ (e : Ends). e.first) l.puts.done ∙ action_first moment action l.puts.written l.puts.taken
+    old
 
 -- at least as much has happened
 IsLeast : {A : Type 0} → (before now : Option (List A)) → Type 0
@@ -321,7 +354,8 @@ unfolding StaysIf
 turn_stays true t a buf e = tt
 turn_stays false t a buf e = sources_stay (is_behind e.timing t) t a buf e
 
-one_stays : (begun now : ℕ) (e n : Ends) (buf : List ℕ) → IsTurn begun e None buf n → Stays e (told_at now n)
+one_stays : (begun now : ℕ) (e n : Ends) (buf : List ℕ) → IsTurn begun e None buf n
+    → Stays e (told_at now n)
 unfolding StaysIf
 one_stays begun now e n buf t =
     let Q : Option Found × Ends → Type 0 = λ p. StaysIf p.0 e p.1 in
@@ -335,7 +369,8 @@ one_stays begun now e n buf t =
       held = s.held;
     }
 
-quiet_stays : (start : Ends) (first count begun : ℕ) (e : Ends) → QuietRounds start first count begun e → Stays start e
+quiet_stays : (start : Ends) (first count begun : ℕ) (e : Ends)
+    → QuietRounds start first count begun e → Stays start e
 quiet_stays start first _ _ _ NoRound = record {
   door = least_same start.door;
   connection = least_same_at start.connection;
@@ -349,7 +384,8 @@ quiet_stays start first _ _ _ (OneRound count begun now before found buf q t und
     let m = one_stays begun now before found buf t in
     record {
       door = least_least start.door before.door found.door s.door m.door;
-      connection = least_least_at start.connection before.connection found.connection s.connection m.connection;
+      connection = least_least_at start.connection before.connection found.connection s.connection
+          m.connection;
       line = least_least start.line before.line found.line s.line m.line;
       first = m.first ∙ s.first;
       due = m.due ∙ s.due;
@@ -357,7 +393,8 @@ quiet_stays start first _ _ _ (OneRound count begun now before found buf q t und
     }
 
 -- and what they heard
-quiet_heard : (start : Ends) (first count begun : ℕ) (e : Ends) → QuietRounds start first count begun e
+quiet_heard : (start : Ends) (first count begun : ℕ) (e : Ends)
+    → QuietRounds start first count begun e
     → (heard : ℕ) × (e.timing ≡ heard_at heard start.timing)
 quiet_heard start first _ _ _ NoRound = (start.timing.heard, refl)
 quiet_heard start first _ _ _ (OneRound count begun now before found buf q t undue) =
@@ -372,24 +409,34 @@ in_turn begun e n f buf t due level none =
     let Q : Option Found × Ends → Type 0 = λ p. InRound e.first e p in
     let plain : (f, n) ≡ round begun t.answers buf e =
     t.turned ∙ (ap (λ b. turn_by b begun t.answers buf e) due
-    ∙ (ap (λ b. sources_by b begun t.answers buf e) level ∙ ap (λ h. held_by h begun t.answers buf e) none)) in
+    ∙ (ap (λ b. sources_by b begun t.answers buf e) level
+    ∙ ap (λ h. held_by h begun t.answers buf e) none)) in
     subst Q (sym plain) (in_round begun t.answers buf e)
 
-compose : (n : ℕ) (s : Source) (f : Option Found) (old mid new : Ends) → Stays old mid → Looked s f mid new
+compose : (n : ℕ) (s : Source) (f : Option Found) (old mid new : Ends) → Stays old mid
+    → Looked s f mid new
     → LooksBefore (event_at n f) s old new
 unfolding Looked
 compose n s None old mid new k l = tt
 compose n Door (Some found.Open) old mid new k l = tt
-compose n Connection (Some found.Open) old mid new k l = least_more old.line mid.line new.line k.line l.1
+compose n Connection (Some found.Open) old mid new k l =
+    least_more old.line mid.line new.line k.line l.1
 compose n Line (Some found.Open) old mid new k l = least_more old.line mid.line new.line k.line l.1
-compose n Door (Some (found.Bytes len)) old mid new k l = least_more old.door mid.door new.door k.door l.1
+compose n Door (Some (found.Bytes len)) old mid new k l =
+    least_more old.door mid.door new.door k.door l.1
 compose n Connection (Some (found.Bytes len)) old mid new k l = tt
-compose n Line (Some (found.Bytes len)) old mid new k l =
-    (least_more old.line mid.line new.line k.line l.1.0, least_more old.door mid.door new.door k.door l.1.1)
+compose n Line (Some (found.Bytes len)) old mid new k l = (
+  least_more old.line mid.line new.line k.line l.1.0,
+  least_more old.door mid.door new.door
+      k.door l.1.1,
+)
 compose n Door (Some found.Cut) old mid new k l = least_more old.door mid.door new.door k.door l.1
 compose n Connection (Some found.Cut) old mid new k l = tt
-compose n Line (Some found.Cut) old mid new k l =
-    (least_more old.line mid.line new.line k.line l.1.0, least_more old.door mid.door new.door k.door l.1.1)
+compose n Line (Some found.Cut) old mid new k l = (
+  least_more old.line mid.line new.line k.line l.1.0,
+  least_more old.door mid.door new.door
+      k.door l.1.1,
+)
 compose n Door (Some (found.Line len)) old mid new k l = (
   least_more old.door mid.door new.door k.door l.1.0,
   least_more_at old.connection mid.connection new.connection k.connection l.1.1,
@@ -407,7 +454,8 @@ compose n Line (Some found.Fault) old mid new k l = tt
 
 -- the clock is no matter
 same_before : (n : ℕ) (s : Source) (f : Option Found) (old e : Ends) (now first : ℕ)
-    → LooksBefore (event_at n f) s (looking (told_at first old)) e → LooksBefore (event_at n f) s old (told_at now e)
+    → LooksBefore (event_at n f) s (looking (told_at first old)) e
+    → LooksBefore (event_at n f) s old (told_at now e)
 same_before n s None old e now first h = tt
 same_before n Door (Some found.Open) old e now first h = h
 same_before n Connection (Some found.Open) old e now first h = h
@@ -436,7 +484,8 @@ taken_before true n s buf (Some found.Cut) old e h = h
 taken_before true n s buf (Some (found.Line len)) old e h = h
 taken_before true n s buf (Some found.Fault) old e h = h
 
-last_by : (old : Ends) (event : Next) (buf : List ℕ) (new : Ends) (t : TurnsToEnds old event buf new) (b : Bool)
+last_by : (old : Ends) (event : Next) (buf : List ℕ) (new : Ends)
+    (t : TurnsToEnds old event buf new) (b : Bool)
     → old.is_cut_due ≡ false → old.held ≡ [] → is_behind t.looks.before.timing t.looks.begun ≡ b
     → LooksBefore event old.first old new ⊎ IsFarBehind old.timing
 last_by old event buf new t true due none is =
@@ -453,7 +502,9 @@ last_by old event buf new t false due none is =
     let n = moment_at new.timing t.now in
     let k = quiet_stays start t.first l.count l.begun l.before l.quiet in
     let S : Source → Type 0 = λ s. Looked s t.f l.before l.found in
-    let looked_so = subst S k.first (in_turn l.begun l.before l.found t.f buf l.turn (k.due ∙ due) is (k.held ∙ none)) in
+    let looked_so =
+    subst S k.first (in_turn l.begun l.before l.found t.f buf l.turn (k.due ∙ due) is (k.held
+    ∙ none)) in
     let last : LooksBefore (event_at n t.f) old.first start l.found =
     compose n old.first t.f start l.before l.found k looked_so in
     let P : Next → Type 0 = λ e. LooksBefore e old.first old new in
@@ -463,7 +514,8 @@ last_by old event buf new t false due none is =
     (taken_before (is_behind t.found.timing t.now) n old.first buf t.f old t.found
     (subst R (sym l.done) (same_before n old.first t.f old l.found t.now t.first last)))))
 
-before_by : (old new : Ends) (event : Next) (buf : List ℕ) → Turns old event buf new → old.is_cut_due ≡ false
+before_by : (old new : Ends) (event : Next) (buf : List ℕ) → Turns old event buf new
+    → old.is_cut_due ≡ false
     → old.held ≡ [] → LooksBefore event old.first old new ⊎ IsFarBehind old.timing
 before_by old new event buf (inl t) due none =
     let P : Next → Type 0 = λ e. LooksBefore e old.first old new in
@@ -472,7 +524,8 @@ before_by old new event buf (inr t) due none =
     last_by old event buf new t (is_behind t.looks.before.timing t.looks.begun) due none refl
 
 -- the log is no matter
-logged_before : (event : Next) (s : Source) (log : Log) (old new : Ends) → LooksBefore event s old (as_logged log new)
+logged_before : (event : Next) (s : Source) (log : Log) (old new : Ends)
+    → LooksBefore event s old (as_logged log new)
     → LooksBefore event s old new
 logged_before (next.Open now) Door log old new h = h
 logged_before (next.Open now) Connection log old new h = h
@@ -499,7 +552,9 @@ either_before : (event : Next) (log : Log) (old new : Ends)
 either_before event log old new (inl h) = inl (logged_before event old.first log old new h)
 either_before event log old new (inr h) = inr h
 
-pub in_turns : (old new : Ends) (event : Next) (buf : List ℕ) → LogsTurn old event buf new → old.is_cut_due ≡ false
+pub in_turns : (old new : Ends) (event : Next) (buf : List ℕ) → LogsTurn old event buf new
+    → old.is_cut_due ≡ false
     → old.held ≡ [] → LooksBefore event old.first old new ⊎ IsFarBehind old.timing
 in_turns old new event buf l due none =
-    either_before event old.log old new (before_by old (as_logged old.log new) event buf l.turns due none)
+    either_before event old.log old new (before_by old (as_logged old.log new) event buf l.turns due
+    none)

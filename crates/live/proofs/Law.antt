@@ -1,8 +1,14 @@
 -- The laws of the port over live ends.
-use Rattle.std.proofs.Common.{◌≡◌, ℕ, ◌+◌, ◌-◌, ◌<◌, ◌≤◌, true, false, Bool, List, [], ◌∷◌, Option, Some, None, refl, sym, ap, subst, arith, nat_lt, if◌then◌else◌, ◌∙◌, inl, inr}
+use Rattle.std.proofs.Common.{◌≡◌, ℕ, ◌+◌, ◌-◌, ◌<◌, ◌≤◌, true, false, Bool, List, [], ◌∷◌, Option}
+use Rattle.std.proofs.Common.{Some, None, refl, sym, ap, subst, arith, nat_lt, if◌then◌else◌, ◌∙◌}
+use Rattle.std.proofs.Common.{inl, inr}
 use Rattle.gateway.specs.declared.ports.Next.{Next}
-use Rattle.live.specs.Timing.{Moments, read_at, moment_at, moment_by, is_heard_out, goes_on, is_behind, eve}
-use Rattle.live.specs.Ends.{Ends, Peer, Answers, IsTurn, QuietRounds, NoRound, OneRound, LooksOn, Turns, LogsTurn, as_logged, looking, event_at, taken_by, told_at, turn_by, sources_by, held_by, round, look, unless_found, next_round, looked_at, found_at, after, nothing_more, let_in}
+use Rattle.live.specs.Timing.{Moments, read_at, moment_at, moment_by, is_heard_out, goes_on}
+use Rattle.live.specs.Timing.{is_behind, eve}
+use Rattle.live.specs.Ends.{Ends, Peer, Answers, IsTurn, QuietRounds, NoRound, OneRound, LooksOn}
+use Rattle.live.specs.Ends.{Turns, LogsTurn, as_logged, looking, event_at, taken_by, told_at}
+use Rattle.live.specs.Ends.{turn_by, sources_by, held_by, round, look, unless_found, next_round}
+use Rattle.live.specs.Ends.{looked_at, found_at, after, nothing_more, let_in}
 use Rattle.live.proofs.Apart.{clock_of, clock_apart, taken_same}
 use Rattle.live.specs.declared.source.Source.{Source}
 use Rattle.live.specs.declared.source.Source.TheVariants.{Door, Connection, Line}
@@ -13,7 +19,8 @@ use Rattle.live.specs.declared.timing.Timing.{Timing}
 use Rattle.live.specs.declared.timing.Request.{Request}
 
 -- an event has the moment that it is given
-at_moment : (now : ℕ) (f : Option Found) (Holds : ℕ → Type 0) → Holds now → AtMoment (event_at now f) Holds
+at_moment : (now : ℕ) (f : Option Found) (Holds : ℕ → Type 0) → Holds now
+    → AtMoment (event_at now f) Holds
 at_moment now None Holds h = h
 at_moment now (Some found.Open) Holds h = h
 at_moment now (Some (found.Bytes len)) Holds h = h
@@ -22,19 +29,25 @@ at_moment now (Some (found.Line len)) Holds h = h
 at_moment now (Some found.Fault) Holds h = tt
 
 -- by whether the line is heard out, and whether the exchange goes on
-heard_by : (h g : Bool) (t : Timing) (r : Request) (now : ℕ) → is_heard_out t r ≡ h → goes_on t r now ≡ g
+heard_by : (h g : Bool) (t : Timing) (r : Request) (now : ℕ) → is_heard_out t r ≡ h
+    → goes_on t r now ≡ g
     → 0 < t.answer_ms →
-    r.moment + t.answer_ms ≤ (if h then now else (if g then now else eve t r)) → t.answer_ms ≤ t.heard - r.written
+    r.moment + t.answer_ms ≤ (if h then now else (if g then now else eve t r)) → t.answer_ms
+    ≤ t.heard - r.written
 heard_by true g t r now heard on some late = grind (arith, heard)
 heard_by false true t r now heard on some late = grind (arith, on)
 heard_by false false t r now heard on some late = omega (arith, some, late)
 
-by_request : (t : Timing) (q : Option Request) (r : Request) (now : ℕ) → q ≡ Some r → 0 < t.answer_ms
+by_request : (t : Timing) (q : Option Request) (r : Request) (now : ℕ) → q ≡ Some r
+    → 0 < t.answer_ms
     → r.moment + t.answer_ms ≤ moment_by t q now → t.answer_ms ≤ t.heard - r.written
-by_request t q r now asked some late = heard_by (is_heard_out t r) (goes_on t r now) t r now refl refl some
-    (let P : Option Request → Type 0 = λ q. r.moment + t.answer_ms ≤ moment_by t q now in subst P asked late)
+by_request t q r now asked some late = heard_by (is_heard_out t r) (goes_on t r now) t r now refl
+    refl some
+    (let P : Option Request → Type 0 = λ q. r.moment + t.answer_ms ≤ moment_by t q now in
+    subst P asked late)
 
-heard_out_by : (old new : Ends) (event : Next) (buf : List ℕ) (r : Request) → Turns old event buf new
+heard_out_by : (old new : Ends) (event : Next) (buf : List ℕ) (r : Request)
+    → Turns old event buf new
     → new.timing.request ≡ Some r
     → 0 < new.timing.answer_ms →
     AtMoment event (λ moment. r.moment + new.timing.answer_ms ≤ moment
@@ -45,7 +58,8 @@ heard_out_by old new event buf r (inl t) asked some =
     let P : Next → Type 0 = λ e. AtMoment e Holds in
     let Q : Timing → Type 0 = λ k. Holds (moment_at k t.begun) in
     let same : new.timing ≡ old.timing = ap (λ (e : Ends). e.timing) t.told.ends in
-    subst P (sym t.told.told) (subst Q same (by_request new.timing new.timing.request r t.begun asked some))
+    subst P (sym t.told.told)
+    (subst Q same (by_request new.timing new.timing.request r t.begun asked some))
 heard_out_by old new event buf r (inr t) asked some =
     let Holds : ℕ → Type 0 = λ moment. r.moment + new.timing.answer_ms ≤ moment →
     new.timing.answer_ms ≤ new.timing.heard - r.written in
@@ -53,26 +67,31 @@ heard_out_by old new event buf r (inr t) asked some =
     subst P (sym t.told.told) (at_moment (moment_at new.timing t.now) t.told.taken Holds
     (by_request new.timing new.timing.request r t.now asked some))
 
-pub heard_out : (old new : Ends) (event : Next) (buf : List ℕ) (r : Request) → LogsTurn old event buf new
+pub heard_out : (old new : Ends) (event : Next) (buf : List ℕ) (r : Request)
+    → LogsTurn old event buf new
     → new.timing.request ≡ Some r → 0 < new.timing.answer_ms →
     AtMoment event (λ moment. r.moment + new.timing.answer_ms ≤ moment
     → new.timing.answer_ms ≤ new.timing.heard - r.written)
 heard_out old new event buf r l = heard_out_by old (as_logged old.log new) event buf r l.turns
 
 -- the clock has told this last
-at_clock : (told : Moments) (now : ℕ) (Holds : ℕ → Type 0) → Holds now → AtClock (read_at told now) Holds
+at_clock : (told : Moments) (now : ℕ) (Holds : ℕ → Type 0) → Holds now
+    → AtClock (read_at told now) Holds
 at_clock None now Holds h = tt
 at_clock (Some before) now Holds h = h
 
 -- the clock has told this
-clock_told : (now : ℕ) (b : Bool) (buf : List ℕ) (f : Option Found) (old found new : Ends) (taken : Option Found)
-    → found ≡ told_at now old → (taken, new) ≡ taken_by b buf f found → new.clock ≡ read_at old.clock now
+clock_told : (now : ℕ) (b : Bool) (buf : List ℕ) (f : Option Found) (old found new : Ends)
+    (taken : Option Found)
+    → found ≡ told_at now old → (taken, new) ≡ taken_by b buf f found → new.clock
+    ≡ read_at old.clock now
 clock_told now b buf f old found new taken done is =
     ap (λ (p : Option Found × Ends). clock_of p.1) is
     ∙ (taken_same clock_of clock_apart b buf f found ∙ ap clock_of done)
 
 -- once the line was heard out, or before any request, the moment is the clock's
-out_by : (h : Bool) (t : Timing) (r : Request) (now : ℕ) → is_heard_out t r ≡ h → t.answer_ms ≤ t.heard - r.written
+out_by : (h : Bool) (t : Timing) (r : Request) (now : ℕ) → is_heard_out t r ≡ h → t.answer_ms
+    ≤ t.heard - r.written
     → (if h then now else (if goes_on t r now then now else eve t r)) ≡ now
 out_by true t r now heard long = refl
 out_by false t r now heard long = absurd (grind (arith, heard, long))
@@ -82,7 +101,8 @@ clocks_by t None now out = refl
 clocks_by t (Some r) now out = out_by (is_heard_out t r) t r now refl out
 
 clocks_of : (old new : Ends) (event : Next) (buf : List ℕ) → Turns old event buf new
-    → IsHeardOut new.timing new.timing.request → AtClock new.clock (λ now. AtMoment event (λ moment. moment ≡ now))
+    → IsHeardOut new.timing new.timing.request
+    → AtClock new.clock (λ now. AtMoment event (λ moment. moment ≡ now))
 clocks_of old new event buf (inl t) out =
     let P : Next → Type 0 = λ e. AtClock new.clock (λ now. AtMoment e (λ moment. moment ≡ now)) in
     let m = moment_at old.timing t.begun in
@@ -95,25 +115,31 @@ clocks_of old new event buf (inl t) out =
 clocks_of old new event buf (inr t) out =
     let m = moment_at new.timing t.now in
     let P : Next → Type 0 = λ e. AtClock new.clock (λ now. AtMoment e (λ moment. moment ≡ now)) in
-    let R : Moments → Type 0 = λ c. AtClock c (λ now. AtMoment (event_at m t.told.taken) (λ moment. moment ≡ now)) in
-    let told = clock_told t.now (is_behind t.found.timing t.now) buf t.f t.looks.found t.found new t.told.taken
+    let R : Moments → Type 0 =
+    λ c. AtClock c (λ now. AtMoment (event_at m t.told.taken) (λ moment. moment ≡ now)) in
+    let told = clock_told t.now (is_behind t.found.timing t.now) buf t.f t.looks.found t.found new
+    t.told.taken
     t.looks.done t.told.ends in
     subst P (sym t.told.told) (subst R (sym told) (at_clock t.looks.found.clock t.now
     (λ now. AtMoment (event_at m t.told.taken) (λ moment. moment ≡ now))
-    (at_moment m t.told.taken (λ moment. moment ≡ t.now) (clocks_by new.timing new.timing.request t.now out))))
+    (at_moment m t.told.taken (λ moment. moment ≡ t.now)
+    (clocks_by new.timing new.timing.request t.now out))))
 
 pub clocks : (old new : Ends) (event : Next) (buf : List ℕ) → LogsTurn old event buf new
-    → IsHeardOut new.timing new.timing.request → AtClock new.clock (λ now. AtMoment event (λ moment. moment ≡ now))
+    → IsHeardOut new.timing new.timing.request
+    → AtClock new.clock (λ now. AtMoment event (λ moment. moment ≡ now))
 clocks old new event buf l out = clocks_of old (as_logged old.log new) event buf l.turns out
 
 -- what a control centre sent is at most 50 ms behind the clock
 InTime : ℕ → Option Found × Ends → Type 0
-InTime now p = AtClock p.1.clock (λ n. AtBytes (event_at (moment_at p.1.timing now) p.0) (λ m. n ≤ m + 50))
+InTime now p =
+    AtClock p.1.clock (λ n. AtBytes (event_at (moment_at p.1.timing now) p.0) (λ m. n ≤ m + 50))
 
 level_bound : (now m : ℕ) → nat_lt 50 (now - m) ≡ false → now ≤ m + 50
 level_bound now m level = grind (arith, level)
 
-timely : (b : Bool) (buf : List ℕ) (f : Option Found) (e : Ends) (now : ℕ) → is_behind e.timing now ≡ b
+timely : (b : Bool) (buf : List ℕ) (f : Option Found) (e : Ends) (now : ℕ) → is_behind e.timing now
+    ≡ b
     → InTime now (taken_by b buf f (told_at now e))
 unfolding InTime
 timely true buf None e now behind = at_clock e.clock now (λ n. Unit {0}) tt
@@ -124,7 +150,8 @@ timely true buf (Some (found.Line len)) e now behind = at_clock e.clock now (λ 
 timely true buf (Some found.Fault) e now behind = at_clock e.clock now (λ n. Unit {0}) tt
 timely false buf None e now behind = at_clock e.clock now (λ n. Unit {0}) tt
 timely false buf (Some found.Open) e now behind = at_clock e.clock now (λ n. Unit {0}) tt
-timely false buf (Some (found.Bytes len)) e now behind = at_clock e.clock now (λ n. n ≤ moment_at e.timing now + 50)
+timely false buf (Some (found.Bytes len)) e now behind =
+    at_clock e.clock now (λ n. n ≤ moment_at e.timing now + 50)
     (level_bound now (moment_at e.timing now) behind)
 timely false buf (Some found.Cut) e now behind = at_clock e.clock now (λ n. Unit {0}) tt
 timely false buf (Some (found.Line len)) e now behind = at_clock e.clock now (λ n. Unit {0}) tt
@@ -134,12 +161,14 @@ in_time_by : (old new : Ends) (event : Next) (buf : List ℕ) → Turns old even
     → AtClock new.clock (λ now. AtBytes event (λ moment. now ≤ moment + 50))
 unfolding InTime
 in_time_by old new event buf (inl t) =
-    let P : Next → Type 0 = λ e. AtClock new.clock (λ now. AtBytes e (λ moment. now ≤ moment + 50)) in
+    let P : Next → Type 0 =
+    λ e. AtClock new.clock (λ now. AtBytes e (λ moment. now ≤ moment + 50)) in
     let R : Moments → Type 0 = λ c. AtClock c (λ now. Unit {0}) in
     let told = ap (λ (e : Ends). e.clock) t.told.ends in
     subst P (sym t.told.told) (subst R (sym told) (at_clock old.clock t.begun (λ n. Unit {0}) tt))
 in_time_by old new event buf (inr t) =
-    let P : Next → Type 0 = λ e. AtClock new.clock (λ now. AtBytes e (λ moment. now ≤ moment + 50)) in
+    let P : Next → Type 0 =
+    λ e. AtClock new.clock (λ now. AtBytes e (λ moment. now ≤ moment + 50)) in
     let Q : Option Found × Ends → Type 0 = λ p. InTime t.now p in
     let R : Ends → Type 0 = λ e. InTime t.now (taken_by (is_behind e.timing t.now) buf t.f e) in
     subst P (sym t.told.told) (subst Q (sym t.told.ends) (subst R (sym t.looks.done)
@@ -153,11 +182,13 @@ in_time old new event buf l = in_time_by old (as_logged old.log new) event buf l
 Keeps : Timing → Timing → Type 0
 Keeps a b = (b.request ≡ a.request) × (b.answer_ms ≡ a.answer_ms)
 
-let_in_keeps : (k : Timing) (v : Option Peer) (e : Ends) → Keeps k e.timing → Keeps k (let_in v e).timing
+let_in_keeps : (k : Timing) (v : Option Peer) (e : Ends) → Keeps k e.timing
+    → Keeps k (let_in v e).timing
 let_in_keeps k None e h = h
 let_in_keeps k (Some visitor) e h = h
 
-looked_keeps : (k : Timing) (s : Source) (t : ℕ) (a : Answers) (buf : List ℕ) (e : Ends) → Keeps k e.timing
+looked_keeps : (k : Timing) (s : Source) (t : ℕ) (a : Answers) (buf : List ℕ) (e : Ends)
+    → Keeps k e.timing
     → Keeps k (looked_at s t a buf e).timing
 unfolding Keeps
 looked_keeps k Door t a buf e h = let_in_keeps k a.visitor e h
@@ -173,13 +204,15 @@ next_keeps k s (Some f) e h = h
 IsKeeping : Timing → (Ends → Option Found × Ends) → Type 0
 IsKeeping k others = (e : Ends) → Keeps k e.timing → Keeps k (others e).1.timing
 
-unless_keeps : (k : Timing) (f : Option Found) (e : Ends) (others : Ends → Option Found × Ends) → Keeps k e.timing
+unless_keeps : (k : Timing) (f : Option Found) (e : Ends) (others : Ends → Option Found × Ends)
+    → Keeps k e.timing
     → IsKeeping k others → Keeps k (unless_found f e others).1.timing
 unfolding IsKeeping
 unless_keeps k None e others h on = on e h
 unless_keeps k (Some f) e others h on = h
 
-look_keeps : (k : Timing) (s : Source) (t : ℕ) (a : Answers) (buf : List ℕ) (others : Ends → Option Found × Ends)
+look_keeps : (k : Timing) (s : Source) (t : ℕ) (a : Answers) (buf : List ℕ) (others : Ends
+    → Option Found × Ends)
     → IsKeeping k others
     → IsKeeping k (λ e. look s t a buf e others)
 unfolding IsKeeping
@@ -203,23 +236,27 @@ round_keeps k t a buf e h =
     (λ x. look (after e.first) t a buf x (λ y. look (after (after e.first)) t a buf y nothing_more))
     second e h
 
-held_keeps : (k : Timing) (held : List ℕ) (t : ℕ) (a : Answers) (buf : List ℕ) (e : Ends) → Keeps k e.timing
+held_keeps : (k : Timing) (held : List ℕ) (t : ℕ) (a : Answers) (buf : List ℕ) (e : Ends)
+    → Keeps k e.timing
     → Keeps k (held_by held t a buf e).1.timing
 held_keeps k [] t a buf e h = round_keeps k t a buf e h
 held_keeps k (octet ∷ octets) t a buf e h = h
 
-sources_keeps : (k : Timing) (b : Bool) (t : ℕ) (a : Answers) (buf : List ℕ) (e : Ends) → Keeps k e.timing
+sources_keeps : (k : Timing) (b : Bool) (t : ℕ) (a : Answers) (buf : List ℕ) (e : Ends)
+    → Keeps k e.timing
     → Keeps k (sources_by b t a buf e).1.timing
 unfolding IsKeeping
 sources_keeps k true t a buf e h = look_keeps k Line t a buf nothing_more (nothing_keeps k) e h
 sources_keeps k false t a buf e h = held_keeps k e.held t a buf e h
 
-turn_keeps : (k : Timing) (d : Bool) (t : ℕ) (a : Answers) (buf : List ℕ) (e : Ends) → Keeps k e.timing
+turn_keeps : (k : Timing) (d : Bool) (t : ℕ) (a : Answers) (buf : List ℕ) (e : Ends)
+    → Keeps k e.timing
     → Keeps k (turn_by d t a buf e).1.timing
 turn_keeps k true t a buf e h = h
 turn_keeps k false t a buf e h = sources_keeps k (is_behind e.timing t) t a buf e h
 
-taken_keeps : (k : Timing) (b : Bool) (buf : List ℕ) (f : Option Found) (e : Ends) → Keeps k e.timing
+taken_keeps : (k : Timing) (b : Bool) (buf : List ℕ) (f : Option Found) (e : Ends)
+    → Keeps k e.timing
     → Keeps k (taken_by b buf f e).1.timing
 taken_keeps k false buf f e h = h
 taken_keeps k true buf None e h = h
@@ -229,19 +266,22 @@ taken_keeps k true buf (Some found.Cut) e h = h
 taken_keeps k true buf (Some (found.Line len)) e h = h
 taken_keeps k true buf (Some found.Fault) e h = h
 
-one_keeps : (k : Timing) (begun : ℕ) (e n : Ends) (f : Option Found) (buf : List ℕ) → IsTurn begun e f buf n
+one_keeps : (k : Timing) (begun : ℕ) (e n : Ends) (f : Option Found) (buf : List ℕ)
+    → IsTurn begun e f buf n
     → Keeps k e.timing → Keeps k n.timing
 one_keeps k begun e n f buf t h =
     let Q : Option Found × Ends → Type 0 = λ p. Keeps k p.1.timing in
     subst Q (sym t.turned) (turn_keeps k e.is_cut_due begun t.answers buf e h)
 
-quiet_keeps : (k : Timing) (start : Ends) (first count begun : ℕ) (e : Ends) → QuietRounds start first count begun e
+quiet_keeps : (k : Timing) (start : Ends) (first count begun : ℕ) (e : Ends)
+    → QuietRounds start first count begun e
     → Keeps k start.timing → Keeps k e.timing
 quiet_keeps k start first _ _ _ NoRound h = h
 quiet_keeps k start first _ _ _ (OneRound count begun now before found buf q t undue) h =
     one_keeps k begun before found None buf t (quiet_keeps k start first count begun before q h)
 
-looks_keep : (k : Timing) (first : ℕ) (old : Ends) (now : ℕ) (f : Option Found) (buf : List ℕ) (new : Ends)
+looks_keep : (k : Timing) (first : ℕ) (old : Ends) (now : ℕ) (f : Option Found) (buf : List ℕ)
+    (new : Ends)
     → LooksOn first old now f buf new → Keeps k old.timing → Keeps k new.timing
 looks_keep k first old now f buf new l h =
     let P : Ends → Type 0 = λ e. Keeps k e.timing in
@@ -256,9 +296,11 @@ kept_by old new event buf (inl t) =
     (ap (λ (k : Timing). k.request) same, ap (λ (k : Timing). k.answer_ms) same)
 kept_by old new event buf (inr t) =
     let Q : Option Found × Ends → Type 0 = λ p. Keeps old.timing p.1.timing in
-    let found = looks_keep old.timing t.first (looking (told_at t.first old)) t.now t.f buf t.found t.looks (refl, refl)
+    let found = looks_keep old.timing t.first (looking (told_at t.first old)) t.now t.f buf t.found
+    t.looks (refl, refl)
     in
-    subst Q (sym t.told.ends) (taken_keeps old.timing (is_behind t.found.timing t.now) buf t.f t.found found)
+    subst Q (sym t.told.ends) (taken_keeps old.timing (is_behind t.found.timing t.now) buf t.f
+    t.found found)
 
 pub kept : (old new : Ends) (event : Next) (buf : List ℕ) → LogsTurn old event buf new
     → (new.timing.request ≡ old.timing.request) × (new.timing.answer_ms ≡ old.timing.answer_ms)

@@ -1,22 +1,26 @@
 -- The log of the port over live ends. Looks and actions leave it as it was; it is told apart.
-use Rattle.std.proofs.Common.{◌≡◌, ℕ, true, false, Bool, List, [], ◌∷◌, ◌++◌, Option, Some, None, refl, sym, ap, subst, ◌∙◌, inl, inr}
+use Rattle.std.proofs.Common.{◌≡◌, ℕ, true, false, Bool, List, [], ◌∷◌, ◌++◌, Option, Some, None}
+use Rattle.std.proofs.Common.{refl, sym, ap, subst, ◌∙◌, inl, inr}
 use Rattle.gateway.specs.declared.ports.Next.{Next}
 use Rattle.gateway.specs.Log.{tell, Went, Output, LineOut, TcpOut, Closed, GapOut}
 use Rattle.gateway.specs.Ports.{told_by}
 use Rattle.session.specs.declared.kinds.Close.{Close}
 use Rattle.session.specs.declared.kinds.Close.TheVariants as close
 use Rattle.live.specs.Timing.{is_behind}
-use Rattle.live.specs.Ends.{Ends, Peer, Turns, Puts, LogsTurn, LogsPut, as_logged, looking, told_at, written_open, closed_by, after_action}
+use Rattle.live.specs.Ends.{Ends, Peer, Turns, Puts, LogsTurn, LogsPut, as_logged, looking, told_at}
+use Rattle.live.specs.Ends.{written_open, closed_by, after_action}
 use Rattle.live.proofs.Apart.{log_of, log_apart, taken_same}
 use Rattle.live.proofs.Rounds.{log_aside, looks_kept}
 use Rattle.live.specs.declared.found.Found.{Found}
 
-pub turns_same : (old new : Ends) (event : Next) (buf : List ℕ) → Turns old event buf new → new.log ≡ old.log
+pub turns_same : (old new : Ends) (event : Next) (buf : List ℕ) → Turns old event buf new
+    → new.log ≡ old.log
 turns_same old new event buf (inl t) = ap (λ (e : Ends). e.log) t.told.ends
 turns_same old new event buf (inr t) =
     ap (λ (p : Option Found × Ends). log_of p.1) t.told.ends
     ∙ (taken_same log_of log_apart (is_behind t.found.timing t.now) buf t.f t.found
-    ∙ looks_kept log_of log_aside t.first (looking (told_at t.first old)) t.now t.f buf t.found t.looks)
+    ∙ looks_kept log_of log_aside t.first (looking (told_at t.first old)) t.now t.f buf t.found
+    t.looks)
 
 written_same : (b : Bool) (octets : List ℕ) (taken : Bool) (p : Option Peer) (e : Ends)
     → (written_open b octets taken p e).log ≡ e.log
@@ -36,19 +40,23 @@ closed_same close.Replaced e = refl
 action_same : (moment : ℕ) (action : Output) (written : ℕ) (taken : Bool) (e : Ends)
     → (after_action moment action written taken e).log ≡ e.log
 action_same moment (LineOut octets) written taken e = refl
-action_same moment (TcpOut octets) written taken e = written_same e.is_cut_due octets taken e.connection e
+action_same moment (TcpOut octets) written taken e =
+    written_same e.is_cut_due octets taken e.connection e
 action_same moment (Closed cause) written taken e = closed_same cause e
 action_same moment (GapOut station session) written taken e = refl
 
-pub puts_same : (old new : Ends) (moment : ℕ) (action : Output) → Puts old moment action new → new.log ≡ old.log
+pub puts_same : (old new : Ends) (moment : ℕ) (action : Output) → Puts old moment action new
+    → new.log ≡ old.log
 puts_same old new moment action p =
     ap (λ (e : Ends). e.log) p.done ∙ action_same moment action p.written p.taken old
 
 -- the event of a turn, once it is logged
 pub next_told : (old mid new : Ends) (event : Next) (buf : List ℕ) → Turns old event buf mid
-    → new ≡ as_logged (told_by event buf ++ mid.log) mid → Some new.log ≡ tell (Some old.log) (told_by event buf)
+    → new ≡ as_logged (told_by event buf ++ mid.log) mid → Some new.log
+    ≡ tell (Some old.log) (told_by event buf)
 next_told old mid new event buf t done =
-    ap (λ (e : Ends). Some e.log) done ∙ ap (λ l. Some (told_by event buf ++ l)) (turns_same old mid event buf t)
+    ap (λ (e : Ends). Some e.log) done
+    ∙ ap (λ l. Some (told_by event buf ++ l)) (turns_same old mid event buf t)
 
 pub next_logged : (old mid new : Ends) (event : Next) (buf : List ℕ) → Turns old event buf mid
     → new ≡ as_logged (told_by event buf ++ mid.log) mid → LogsTurn old event buf new
@@ -62,9 +70,11 @@ next_logged old mid new event buf t done =
 
 -- an action, once it is logged
 pub put_told : (old mid new : Ends) (moment : ℕ) (action : Output) → Puts old moment action mid
-    → new ≡ as_logged (Went moment action ∷ mid.log) mid → Some new.log ≡ tell (Some old.log) (Went moment action ∷ [])
+    → new ≡ as_logged (Went moment action ∷ mid.log) mid → Some new.log
+    ≡ tell (Some old.log) (Went moment action ∷ [])
 put_told old mid new moment action p done =
-    ap (λ (e : Ends). Some e.log) done ∙ ap (λ l. Some (Went moment action ∷ l)) (puts_same old mid moment action p)
+    ap (λ (e : Ends). Some e.log) done
+    ∙ ap (λ l. Some (Went moment action ∷ l)) (puts_same old mid moment action p)
 
 pub put_logged : (old mid new : Ends) (moment : ℕ) (action : Output) → Puts old moment action mid
     → new ≡ as_logged (Went moment action ∷ mid.log) mid → LogsPut old moment action new

@@ -7,8 +7,13 @@ use Rattle.live.specs.declared.found.Found.TheVariants.{Bytes}
 use Rattle.live.specs.declared.source.Source.TheVariants.{Connection}
 use Rattle.live.specs.declared.wires.Got.TheVariants.{Octets, Quiet}
 
-pub octets_came : (old new : Ends) (peer : Peer) (len : ℕ) (buf : List ℕ) → old.connection ≡ Some peer →
-    new ≡ record old { connection = Some (record peer { wire = noted peer.wire (looked (Octets len) buf) }) }
+pub octets_came : (old new : Ends) (peer : Peer) (len : ℕ) (buf : List ℕ) → old.connection
+    ≡ Some peer →
+    new
+    ≡ record old {
+      connection =
+          Some (record peer { wire = noted peer.wire (looked (Octets len) buf) });
+    }
     → LooksAt Connection 0 old (Some (Bytes len)) buf new
 octets_came old new peer len buf there done = record {
   visitor = tt;
@@ -17,7 +22,9 @@ octets_came old new peer len buf there done = record {
 }
 
 pub nothing_came : (old new : Ends) (peer : Peer) (buf : List ℕ) → old.connection ≡ Some peer →
-    new ≡ record old { connection = Some (record peer { wire = noted peer.wire (looked Quiet buf) }) }
+    new ≡ record old {
+      connection = Some (record peer { wire = noted peer.wire (looked Quiet buf) });
+    }
     → LooksAt Connection 0 old None buf new
 nothing_came old new peer buf there done = record {
   visitor = tt;

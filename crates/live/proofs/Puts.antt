@@ -5,7 +5,8 @@ use Rattle.session.specs.declared.kinds.Close.{Close}
 use Rattle.live.specs.Ends.{Ends, Peer, after_action, written_open, IsWritten, Puts}
 
 -- nothing is written, where a cut is due
-pub dropped_due : (old new : Ends) (octets : List ℕ) → old.is_cut_due ≡ true → new ≡ old → IsWritten old octets new
+pub dropped_due : (old new : Ends) (octets : List ℕ) → old.is_cut_due ≡ true → new ≡ old
+    → IsWritten old octets new
 dropped_due old new octets due same = record {
   taken = false;
   done = same
@@ -13,7 +14,8 @@ dropped_due old new octets due same = record {
 }
 
 -- nor where there is no connection
-pub dropped_none : (old new : Ends) (octets : List ℕ) → old.is_cut_due ≡ false → old.connection ≡ None → new ≡ old
+pub dropped_none : (old new : Ends) (octets : List ℕ) → old.is_cut_due ≡ false → old.connection
+    ≡ None → new ≡ old
     → IsWritten old octets new
 dropped_none old new octets due none same = record {
   taken = false;
@@ -22,8 +24,10 @@ dropped_none old new octets due none same = record {
       ∙ ap (λ h. written_open false octets false h old) none);
 }
 
-pub written : (old new : Ends) (octets : List ℕ) (peer : Peer) (taken : Bool) → old.is_cut_due ≡ false
-    → old.connection ≡ Some peer → new ≡ written_open false octets taken (Some peer) old → IsWritten old octets new
+pub written : (old new : Ends) (octets : List ℕ) (peer : Peer) (taken : Bool) → old.is_cut_due
+    ≡ false
+    → old.connection ≡ Some peer → new ≡ written_open false octets taken (Some peer) old
+    → IsWritten old octets new
 written old new octets wire taken due there done = record {
   taken = taken;
   done = done
@@ -32,16 +36,20 @@ written old new octets wire taken due there done = record {
 }
 
 pub put_line : (old new : Ends) (moment written : ℕ) (octets : List ℕ) (taken : Bool)
-    → new ≡ after_action moment (LineOut octets) written taken old → Puts old moment (LineOut octets) new
-put_line old new moment written octets taken done = record { written = written; taken = taken; done = done }
+    → new ≡ after_action moment (LineOut octets) written taken old
+    → Puts old moment (LineOut octets) new
+put_line old new moment written octets taken done =
+    record { written = written; taken = taken; done = done }
 
 pub put_tcp : (old new : Ends) (moment : ℕ) (octets : List ℕ) → IsWritten old octets new
     → Puts old moment (TcpOut octets) new
 put_tcp old new moment octets w = record { written = 0; taken = w.taken; done = w.done }
 
-pub put_close : (old new : Ends) (moment : ℕ) (cause : Close) → new ≡ after_action moment (Closed cause) 0 false old
+pub put_close : (old new : Ends) (moment : ℕ) (cause : Close)
+    → new ≡ after_action moment (Closed cause) 0 false old
     → Puts old moment (Closed cause) new
 put_close old new moment cause done = record { written = 0; taken = false; done = done }
 
-pub put_gap : (old new : Ends) (moment station session : ℕ) → new ≡ old → Puts old moment (GapOut station session) new
+pub put_gap : (old new : Ends) (moment station session : ℕ) → new ≡ old
+    → Puts old moment (GapOut station session) new
 put_gap old new moment station session same = record { written = 0; taken = false; done = same }

@@ -1,8 +1,13 @@
 -- What rounds of looks leave as it was, and when they begin.
-use Rattle.std.proofs.Common.{◌≡◌, ℕ, true, false, Bool, List, [], ◌∷◌, Option, Some, None, refl, sym, ap, subst, ◌∙◌}
+use Rattle.std.proofs.Common.{◌≡◌, ℕ, true, false, Bool, List, [], ◌∷◌, Option, Some, None, refl}
+use Rattle.std.proofs.Common.{sym, ap, subst, ◌∙◌}
 use Rattle.live.specs.Timing.{is_behind, heard_at}
-use Rattle.live.specs.Ends.{Ends, Peer, Answers, IsTurn, QuietRounds, NoRound, OneRound, LooksOn, told_at, turn_by, sources_by, held_by, look, unless_found, next_round, looked_at, after, nothing_more, let_in, of_visitor, of_open, of_line, read_from}
-use Rattle.live.proofs.Apart.{Apart, turn_same, log_of, log_apart, walled_of, walled_apart, guests_of, guests_apart}
+use Rattle.live.specs.Ends.{Ends, Peer, Answers, IsTurn, QuietRounds, NoRound, OneRound, LooksOn}
+use Rattle.live.specs.Ends.{told_at, turn_by, sources_by, held_by, look, unless_found, next_round}
+use Rattle.live.specs.Ends.{looked_at, after, nothing_more, let_in, of_visitor, of_open, of_line}
+use Rattle.live.specs.Ends.{read_from}
+use Rattle.live.proofs.Apart.{Apart, turn_same, log_of, log_apart, walled_of, walled_apart}
+use Rattle.live.proofs.Apart.{guests_of, guests_apart}
 use Rattle.live.specs.declared.found.Found.{Found}
 use Rattle.live.specs.declared.source.Source.{Source}
 use Rattle.live.specs.declared.source.Source.TheVariants.{Door, Connection, Line}
@@ -25,13 +30,16 @@ pub guests_aside : Aside guests_of
 guests_aside = record { apart = guests_apart; told = λ now e. refl }
 
 -- one round
-pub turn_kept : {A : Type 0} (part : Ends → A) → Apart part → (begun : ℕ) (e n : Ends) (f : Option Found)
+pub turn_kept : {A : Type 0} (part : Ends → A) → Apart part
+    → (begun : ℕ) (e n : Ends) (f : Option Found)
     (buf : List ℕ) → IsTurn begun e f buf n → part n ≡ part e
 turn_kept part p begun e n f buf t =
-    ap (λ (q : Option Found × Ends). part q.1) t.turned ∙ turn_same part p e.is_cut_due begun t.answers buf e
+    ap (λ (q : Option Found × Ends). part q.1) t.turned
+    ∙ turn_same part p e.is_cut_due begun t.answers buf e
 
 -- those that found nothing
-pub quiet_kept : {A : Type 0} (part : Ends → A) → Aside part → (start : Ends) (first count begun : ℕ) (e : Ends)
+pub quiet_kept : {A : Type 0} (part : Ends → A) → Aside part
+    → (start : Ends) (first count begun : ℕ) (e : Ends)
     → QuietRounds start first count begun e → part e ≡ part start
 quiet_kept part p start first _ _ _ NoRound = refl
 quiet_kept part p start first _ _ _ (OneRound count begun now before found buf q t undue) =
@@ -39,10 +47,12 @@ quiet_kept part p start first _ _ _ (OneRound count begun now before found buf q
     ∙ quiet_kept part p start first count begun before q)
 
 -- all rounds for one event
-pub looks_kept : {A : Type 0} (part : Ends → A) → Aside part → (first : ℕ) (old : Ends) (now : ℕ) (f : Option Found)
+pub looks_kept : {A : Type 0} (part : Ends → A) → Aside part
+    → (first : ℕ) (old : Ends) (now : ℕ) (f : Option Found)
     (buf : List ℕ) (new : Ends) → LooksOn first old now f buf new → part new ≡ part old
 looks_kept part p first old now f buf new l =
-    ap part l.done ∙ (p.told now l.found ∙ (turn_kept part p.apart l.begun l.before l.found f buf l.turn
+    ap part l.done
+    ∙ (p.told now l.found ∙ (turn_kept part p.apart l.begun l.before l.found f buf l.turn
     ∙ quiet_kept part p old first l.count l.begun l.before l.quiet))
 
 -- a round that found nothing looked at the line
@@ -61,14 +71,17 @@ heard_already : (begun : ℕ) (k : Timing) → HearsOn begun k (heard_at begun k
 unfolding HearsOn Heard IsHeardBy
 heard_already begun k e same = same
 
-door_hears : (begun : ℕ) (k t : Timing) (v : Option Peer) (e : Ends) (others : Ends → Option Found × Ends)
+door_hears : (begun : ℕ) (k t : Timing) (v : Option Peer) (e : Ends) (others : Ends → Option Found
+    × Ends)
     → HearsOn begun k t others → e.timing ≡ t
-    → Heard begun k (unless_found (of_visitor v) (next_round Door (of_visitor v) (let_in v e)) others)
+    → Heard begun k (unless_found (of_visitor v) (next_round Door (of_visitor v) (let_in v e))
+    others)
 unfolding HearsOn Heard IsHeardBy
 door_hears begun k t None e others on same = on (let_in None e) same
 door_hears begun k t (Some peer) e others on same = tt
 
-connection_hears : (begun : ℕ) (k t : Timing) (c : Option Peer) (got : Got) (buf : List ℕ) (e : Ends)
+connection_hears : (begun : ℕ) (k t : Timing) (c : Option Peer) (got : Got) (buf : List ℕ)
+    (e : Ends)
     (others : Ends → Option Found × Ends) → HearsOn begun k t others → e.timing ≡ t
     → Heard begun k (unless_found (of_open c got) (next_round Connection (of_open c got)
     (record e { connection = read_from c got buf })) others)
@@ -87,18 +100,22 @@ line_hears begun k (Octets len) e others on same = tt
 line_hears begun k Quiet e others on same = on e same
 line_hears begun k Gone e others on same = tt
 
-at_line : (begun : ℕ) (k : Timing) (a : Answers) (buf : List ℕ) (others : Ends → Option Found × Ends)
-    → HearsOn begun k (heard_at begun k) others → HearsOn begun k k (λ e. look Line begun a buf e others)
+at_line : (begun : ℕ) (k : Timing) (a : Answers) (buf : List ℕ) (others : Ends → Option Found
+    × Ends)
+    → HearsOn begun k (heard_at begun k) others
+    → HearsOn begun k k (λ e. look Line begun a buf e others)
 unfolding HearsOn
 at_line begun k a buf others on e same =
     line_hears begun k a.line (looked_at Line begun a buf e) others on (ap (heard_at begun) same)
 
-at_door : (begun : ℕ) (k t : Timing) (a : Answers) (buf : List ℕ) (others : Ends → Option Found × Ends)
+at_door : (begun : ℕ) (k t : Timing) (a : Answers) (buf : List ℕ) (others : Ends → Option Found
+    × Ends)
     → HearsOn begun k t others → HearsOn begun k t (λ e. look Door begun a buf e others)
 unfolding HearsOn
 at_door begun k t a buf others on e same = door_hears begun k t a.visitor e others on same
 
-at_connection : (begun : ℕ) (k t : Timing) (a : Answers) (buf : List ℕ) (others : Ends → Option Found × Ends)
+at_connection : (begun : ℕ) (k t : Timing) (a : Answers) (buf : List ℕ) (others : Ends
+    → Option Found × Ends)
     → HearsOn begun k t others → HearsOn begun k t (λ e. look Connection begun a buf e others)
 unfolding HearsOn
 at_connection begun k t a buf others on e same =
@@ -117,17 +134,23 @@ round_hears Door begun a buf e =
     let k = e.timing in
     let third = at_line begun k a buf nothing_more (heard_already begun k) in
     let second = at_connection begun k k a buf (λ y. look Line begun a buf y nothing_more) third in
-    at_door begun k k a buf (λ x. look Connection begun a buf x (λ y. look Line begun a buf y nothing_more)) second e refl
+    at_door begun k k a buf
+    (λ x. look Connection begun a buf x (λ y. look Line begun a buf y nothing_more)) second e refl
 round_hears Connection begun a buf e =
     let k = e.timing in
     let third = at_door begun k (heard_at begun k) a buf nothing_more (heard_already begun k) in
     let second = at_line begun k a buf (λ y. look Door begun a buf y nothing_more) third in
-    at_connection begun k k a buf (λ x. look Line begun a buf x (λ y. look Door begun a buf y nothing_more)) second e refl
+    at_connection begun k k a buf
+    (λ x. look Line begun a buf x (λ y. look Door begun a buf y nothing_more)) second e refl
 round_hears Line begun a buf e =
     let k = e.timing in
-    let third = at_connection begun k (heard_at begun k) a buf nothing_more (heard_already begun k) in
-    let second = at_door begun k (heard_at begun k) a buf (λ y. look Connection begun a buf y nothing_more) third in
-    at_line begun k a buf (λ x. look Door begun a buf x (λ y. look Connection begun a buf y nothing_more)) second e refl
+    let third = at_connection begun k (heard_at begun k) a buf nothing_more
+    (heard_already begun k) in
+    let second =
+    at_door begun k (heard_at begun k) a buf (λ y. look Connection begun a buf y nothing_more)
+    third in
+    at_line begun k a buf
+    (λ x. look Door begun a buf x (λ y. look Connection begun a buf y nothing_more)) second e refl
 
 held_hears : (held : List ℕ) (begun : ℕ) (a : Answers) (buf : List ℕ) (e : Ends)
     → Heard begun e.timing (held_by held begun a buf e)
@@ -148,7 +171,8 @@ unfolding Heard IsHeardBy
 turn_hears true begun a buf e = tt
 turn_hears false begun a buf e = sources_hear (is_behind e.timing begun) begun a buf e
 
-pub quiet_hears : (begun : ℕ) (e n : Ends) (buf : List ℕ) → IsTurn begun e None buf n → n.timing ≡ heard_at begun e.timing
+pub quiet_hears : (begun : ℕ) (e n : Ends) (buf : List ℕ) → IsTurn begun e None buf n
+    → n.timing ≡ heard_at begun e.timing
 unfolding Heard IsHeardBy
 quiet_hears begun e n buf t =
     let P : Option Found × Ends → Type 0 = λ p. Heard begun e.timing p in

@@ -1,11 +1,16 @@
 -- Nobody but a guest comes in.
-use Rattle.std.proofs.Common.{◌≡◌, ℕ, true, false, Bool, List, [], ◌∷◌, Option, Some, None, IfSome, option_map, refl, sym, ap, subst, inl, inr}
+use Rattle.std.proofs.Common.{◌≡◌, ℕ, true, false, Bool, List, [], ◌∷◌, Option, Some, None, IfSome}
+use Rattle.std.proofs.Common.{option_map, refl, sym, ap, subst, inl, inr}
 use Rattle.std.specs.declared.net.ip_addr.IpAddr.{IpAddr}
 use Rattle.gateway.specs.Log.{Log}
 use Rattle.gateway.specs.declared.ports.Next.{Next}
 use Rattle.gateway.specs.declared.ports.Next.TheVariants as next
 use Rattle.live.specs.Timing.{is_behind, moment_at}
-use Rattle.live.specs.Ends.{Ends, Peer, IsGuest, Answers, QuietRounds, NoRound, OneRound, LooksOn, Turns, LogsTurn, as_logged, looking, event_at, taken_by, told_at, turn_by, sources_by, held_by, round, look, unless_found, next_round, looked_at, after, nothing_more, let_in, of_visitor, of_open, of_line, read_from}
+use Rattle.live.specs.Ends.{Ends, Peer, IsGuest, Answers, QuietRounds, NoRound, OneRound, LooksOn}
+use Rattle.live.specs.Ends.{Turns, LogsTurn, as_logged, looking, event_at, taken_by, told_at}
+use Rattle.live.specs.Ends.{turn_by, sources_by, held_by, round, look, unless_found, next_round}
+use Rattle.live.specs.Ends.{looked_at, after, nothing_more, let_in, of_visitor, of_open, of_line}
+use Rattle.live.specs.Ends.{read_from}
 use Rattle.live.specs.Law.{IsOfGuest, IsSameOrNone, peer_of, KeepsOut}
 use Rattle.live.proofs.Apart.{guests_of}
 use Rattle.live.proofs.Rounds.{guests_aside, quiet_kept}
@@ -31,30 +36,35 @@ Out guests before p = IsKeptOut guests before p.0 p.1.connection
 
 -- what goes on from ends that kept them out does so
 KeepsOn : Guests → Option IpAddr → (Ends → Option Found × Ends) → Type 0
-KeepsOn guests before others = (e : Ends) → IsSameOrNone before e.connection → Out guests before (others e)
+KeepsOn guests before others = (e : Ends) → IsSameOrNone before e.connection
+    → Out guests before (others e)
 
 nothing_out : (g : Guests) (b : Option IpAddr) → KeepsOn g b nothing_more
 unfolding KeepsOn Out IsKeptOut
 nothing_out g b e h = h
 
-at_door : (g : Guests) (b : Option IpAddr) (v : Option Peer) (e : Ends) (others : Ends → Option Found × Ends)
+at_door : (g : Guests) (b : Option IpAddr) (v : Option Peer) (e : Ends) (others : Ends
+    → Option Found × Ends)
     → KeepsOn g b others → IfSome v (IsGuest g) → IsSameOrNone b e.connection →
     Out g b (unless_found (of_visitor v) (next_round Door (of_visitor v) (let_in v e)) others)
 unfolding KeepsOn Out IsKeptOut
 at_door g b None e others on guest h = on (let_in None e) h
 at_door g b (Some peer) e others on guest h = guest.lets_in
 
-at_connection : (g : Guests) (b : Option IpAddr) (c : Option Peer) (got : Got) (buf : List ℕ) (e : Ends) (others : Ends
+at_connection : (g : Guests) (b : Option IpAddr) (c : Option Peer) (got : Got) (buf : List ℕ)
+    (e : Ends) (others : Ends
     → Option Found × Ends) → KeepsOn g b others → IsSameOrNone b c →
     Out g b (unless_found (of_open c got) (next_round Connection (of_open c got)
     (record e { connection = read_from c got buf })) others)
 unfolding KeepsOn Out IsKeptOut
 at_connection g b None got buf e others on h = on (record e { connection = None }) tt
 at_connection g b (Some peer) (Octets len) buf e others on h = h
-at_connection g b (Some peer) Quiet buf e others on h = on (record e { connection = read_from (Some peer) Quiet buf }) h
+at_connection g b (Some peer) Quiet buf e others on h =
+    on (record e { connection = read_from (Some peer) Quiet buf }) h
 at_connection g b (Some peer) Gone buf e others on h = tt
 
-at_line : (g : Guests) (b : Option IpAddr) (got : Got) (e : Ends) (others : Ends → Option Found × Ends)
+at_line : (g : Guests) (b : Option IpAddr) (got : Got) (e : Ends) (others : Ends → Option Found
+    × Ends)
     → KeepsOn g b others → IsSameOrNone b e.connection →
     Out g b (unless_found (of_line got) (next_round Line (of_line got) e) others)
 unfolding KeepsOn Out IsKeptOut
@@ -62,13 +72,16 @@ at_line g b (Octets len) e others on h = h
 at_line g b Quiet e others on h = on e h
 at_line g b Gone e others on h = h
 
-look_out : (g : Guests) (b : Option IpAddr) (s : Source) (t : ℕ) (a : Answers) (buf : List ℕ) (others : Ends
+look_out : (g : Guests) (b : Option IpAddr) (s : Source) (t : ℕ) (a : Answers) (buf : List ℕ)
+    (others : Ends
     → Option Found × Ends)
     → IfSome a.visitor (IsGuest g) → KeepsOn g b others → KeepsOn g b (λ e. look s t a buf e others)
 unfolding KeepsOn
 look_out g b Door t a buf others guest on e h = at_door g b a.visitor e others on guest h
-look_out g b Connection t a buf others guest on e h = at_connection g b e.connection a.connection buf e others on h
-look_out g b Line t a buf others guest on e h = at_line g b a.line (looked_at Line t a buf e) others on h
+look_out g b Connection t a buf others guest on e h = at_connection g b e.connection a.connection
+    buf e others on h
+look_out g b Line t a buf others guest on e h = at_line g b a.line (looked_at Line t a buf e) others
+    on h
 
 round_out : (g : Guests) (b : Option IpAddr) (t : ℕ) (a : Answers) (buf : List ℕ) (e : Ends)
     → IfSome a.visitor (IsGuest g)
@@ -82,25 +95,32 @@ round_out g b t a buf e guest h =
     (λ x. look (after e.first) t a buf x (λ y. look (after (after e.first)) t a buf y nothing_more))
     guest second e h
 
-held_out : (g : Guests) (b : Option IpAddr) (h : List ℕ) (t : ℕ) (a : Answers) (buf : List ℕ) (e : Ends)
+held_out : (g : Guests) (b : Option IpAddr) (h : List ℕ) (t : ℕ) (a : Answers) (buf : List ℕ)
+    (e : Ends)
     → IfSome a.visitor (IsGuest g) → IsSameOrNone b e.connection → Out g b (held_by h t a buf e)
 unfolding Out IsKeptOut
 held_out g b [] t a buf e guest h = round_out g b t a buf e guest h
 held_out g b (octet ∷ octets) t a buf e guest h = h
 
-sources_out : (g : Guests) (b : Option IpAddr) (is_late : Bool) (t : ℕ) (a : Answers) (buf : List ℕ) (e : Ends)
-    → IfSome a.visitor (IsGuest g) → IsSameOrNone b e.connection → Out g b (sources_by is_late t a buf e)
+sources_out : (g : Guests) (b : Option IpAddr) (is_late : Bool) (t : ℕ) (a : Answers) (buf : List ℕ)
+    (e : Ends)
+    → IfSome a.visitor (IsGuest g) → IsSameOrNone b e.connection
+    → Out g b (sources_by is_late t a buf e)
 unfolding KeepsOn
-sources_out g b true t a buf e guest h = look_out g b Line t a buf nothing_more guest (nothing_out g b) e h
+sources_out g b true t a buf e guest h = look_out g b Line t a buf nothing_more guest
+    (nothing_out g b) e h
 sources_out g b false t a buf e guest h = held_out g b e.held t a buf e guest h
 
-turn_out : (g : Guests) (b : Option IpAddr) (is_due : Bool) (t : ℕ) (a : Answers) (buf : List ℕ) (e : Ends)
-    → IfSome a.visitor (IsGuest g) → IsSameOrNone b e.connection → Out g b (turn_by is_due t a buf e)
+turn_out : (g : Guests) (b : Option IpAddr) (is_due : Bool) (t : ℕ) (a : Answers) (buf : List ℕ)
+    (e : Ends)
+    → IfSome a.visitor (IsGuest g) → IsSameOrNone b e.connection
+    → Out g b (turn_by is_due t a buf e)
 unfolding Out IsKeptOut
 turn_out g b true t a buf e guest h = tt
 turn_out g b false t a buf e guest h = sources_out g b (is_behind e.timing t) t a buf e guest h
 
-taken_out : (g : Guests) (b : Option IpAddr) (is_late : Bool) (buf : List ℕ) (f : Option Found) (e : Ends)
+taken_out : (g : Guests) (b : Option IpAddr) (is_late : Bool) (buf : List ℕ) (f : Option Found)
+    (e : Ends)
     → IsKeptOut g b f e.connection → Out g b (taken_by is_late buf f e)
 unfolding Out IsKeptOut
 taken_out g b false buf f e h = h
@@ -111,7 +131,8 @@ taken_out g b true buf (Some found.Cut) e h = h
 taken_out g b true buf (Some (found.Line len)) e h = h
 taken_out g b true buf (Some found.Fault) e h = h
 
-told_out : (old new : Ends) (now : ℕ) (f : Option Found) → IsKeptOut old.guests (peer_of old) f new.connection
+told_out : (old new : Ends) (now : ℕ) (f : Option Found)
+    → IsKeptOut old.guests (peer_of old) f new.connection
     → KeepsOut old (event_at now f) new
 unfolding IsKeptOut
 told_out old new now None h = h
@@ -126,29 +147,36 @@ as_it_was None = tt
 as_it_was (Some peer) = refl
 
 -- rounds that found nothing leave the connection that was, or none
-quiet_out : (b : Option IpAddr) (start : Ends) (first count begun : ℕ) (e : Ends) → QuietRounds start first count begun e
+quiet_out : (b : Option IpAddr) (start : Ends) (first count begun : ℕ) (e : Ends)
+    → QuietRounds start first count begun e
     → IsSameOrNone b start.connection → IsSameOrNone b e.connection
 unfolding Out IsKeptOut
 quiet_out b start first _ _ _ NoRound h = h
 quiet_out b start first _ _ _ (OneRound count begun now before found buf q t undue) h =
     let Q : Option Found × Ends → Type 0 = λ p. Out before.guests b p in
-    subst Q (sym t.turned) (turn_out before.guests b before.is_cut_due begun t.answers buf before t.visitor
+    subst Q (sym t.turned) (turn_out before.guests b before.is_cut_due begun t.answers buf before
+    t.visitor
     (quiet_out b start first count begun before q h))
 
-looks_out : (b : Option IpAddr) (first : ℕ) (old : Ends) (now : ℕ) (f : Option Found) (buf : List ℕ) (new : Ends)
-    → LooksOn first old now f buf new → IsSameOrNone b old.connection → IsKeptOut old.guests b f new.connection
+looks_out : (b : Option IpAddr) (first : ℕ) (old : Ends) (now : ℕ) (f : Option Found) (buf : List ℕ)
+    (new : Ends)
+    → LooksOn first old now f buf new → IsSameOrNone b old.connection
+    → IsKeptOut old.guests b f new.connection
 unfolding Out
 looks_out b first old now f buf new l h =
     let Q : Option Found × Ends → Type 0 = λ p. Out l.before.guests b p in
     let G : Guests → Type 0 = λ g. IsKeptOut g b f l.found.connection in
     let P : Ends → Type 0 = λ e. IsKeptOut old.guests b f e.connection in
     let same = quiet_kept guests_of guests_aside old first l.count l.begun l.before l.quiet in
-    let turned = turn_out l.before.guests b l.before.is_cut_due l.begun l.turn.answers buf l.before l.turn.visitor
+    let turned = turn_out l.before.guests b l.before.is_cut_due l.begun l.turn.answers buf l.before
+    l.turn.visitor
     (quiet_out b old first l.count l.begun l.before l.quiet h) in
-    let found : IsKeptOut l.before.guests b f l.found.connection = subst Q (sym l.turn.turned) turned in
+    let found : IsKeptOut l.before.guests b f l.found.connection =
+    subst Q (sym l.turn.turned) turned in
     subst P (sym l.done) (subst G same found)
 
-kept_out_by : (old new : Ends) (event : Next) (buf : List ℕ) → Turns old event buf new → KeepsOut old event new
+kept_out_by : (old new : Ends) (event : Next) (buf : List ℕ) → Turns old event buf new
+    → KeepsOut old event new
 unfolding Out
 kept_out_by old new event buf (inl t) =
     let P : Next → Type 0 = λ e. KeepsOut old e new in
@@ -158,10 +186,13 @@ kept_out_by old new event buf (inl t) =
 kept_out_by old new event buf (inr t) =
     let Q : Option Found × Ends → Type 0 = λ p. Out old.guests (peer_of old) p in
     let P : Next → Type 0 = λ e. KeepsOut old e new in
-    let found = looks_out (peer_of old) t.first (looking (told_at t.first old)) t.now t.f buf t.found t.looks
+    let found = looks_out (peer_of old) t.first (looking (told_at t.first old)) t.now t.f buf
+    t.found t.looks
     (as_it_was old.connection) in
-    let taken = taken_out old.guests (peer_of old) (is_behind t.found.timing t.now) buf t.f t.found found in
-    let told : IsKeptOut old.guests (peer_of old) t.told.taken new.connection = subst Q (sym t.told.ends) taken in
+    let taken = taken_out old.guests (peer_of old) (is_behind t.found.timing t.now) buf t.f t.found
+    found in
+    let told : IsKeptOut old.guests (peer_of old) t.told.taken new.connection =
+    subst Q (sym t.told.ends) taken in
     subst P (sym t.told.told) (told_out old new (moment_at new.timing t.now) t.told.taken told)
 
 -- the log is no matter
@@ -176,6 +207,7 @@ logged_out log old new (next.Wall now number) h = h
 logged_out log old new next.Done h = h
 logged_out log old new next.Fault h = h
 
-pub kept_out : (old new : Ends) (event : Next) (buf : List ℕ) → LogsTurn old event buf new → KeepsOut old event new
+pub kept_out : (old new : Ends) (event : Next) (buf : List ℕ) → LogsTurn old event buf new
+    → KeepsOut old event new
 kept_out old new event buf l =
     logged_out old.log old new event (kept_out_by old (as_logged old.log new) event buf l.turns)

@@ -1,12 +1,14 @@
 -- Ends that tell what happens at them go on telling it.
-use Rattle.std.proofs.Common.{◌≡◌, ℕ, Bool, true, false, List, Option, Some, None, is_some, refl, ap, ◌∙◌, inl, inr}
+use Rattle.std.proofs.Common.{◌≡◌, ℕ, Bool, true, false, List, Option, Some, None, is_some, refl}
+use Rattle.std.proofs.Common.{ap, ◌∙◌, inl, inr}
 use Rattle.gateway.specs.declared.ports.Next.{Next}
 use Rattle.gateway.specs.Log.{Output, LineOut, TcpOut, Closed, GapOut}
 use Rattle.session.specs.declared.kinds.Close.{Close}
 use Rattle.session.specs.declared.kinds.Close.TheVariants as close
 use Rattle.live.specs.Timing.{Moments, read_at, is_behind}
 use Rattle.live.specs.Wires.{Happening, History, noted, Visits, visited}
-use Rattle.live.specs.Ends.{Ends, Peer, Answers, Turns, Puts, as_logged, looking, looked_at, let_in, told_at, wall_told_at, written_open, closed_by, after_action}
+use Rattle.live.specs.Ends.{Ends, Peer, Answers, Turns, Puts, as_logged, looking, looked_at, let_in}
+use Rattle.live.specs.Ends.{told_at, wall_told_at, written_open, closed_by, after_action}
 use Rattle.live.specs.Passed.{Run, Begun, Told, Put, TellsStill}
 use Rattle.live.proofs.Apart.{Apart, taken_same}
 use Rattle.live.proofs.Rounds.{Aside, looks_kept}
@@ -100,7 +102,8 @@ clock_aside =
     record { apart = apart; told = λ now e. read_still e.clock now }
 
 -- a turn
-turn_still : (part : Ends → Bool) → Aside part → ((e : Ends) (now shown : ℕ) → part (wall_told_at now shown e) ≡ part e)
+turn_still : (part : Ends → Bool) → Aside part
+    → ((e : Ends) (now shown : ℕ) → part (wall_told_at now shown e) ≡ part e)
     → (old new : Ends) (event : Next) (buf : List ℕ) → Turns old event buf new
     → ((e : Ends) → part (looking e) ≡ part e) → part new ≡ part old
 turn_still part p wall old new event buf (inl t) look =
@@ -157,9 +160,11 @@ action_still moment (TcpOut octets) written taken e = record {
 action_still moment (Closed cause) written taken e =
     let same = closed_same cause e in
     record { line = ap is_some same.0; door = ap is_some same.1; clock = ap is_some same.2 }
-action_still moment (GapOut station session) written taken e = record { line = refl; door = refl; clock = refl }
+action_still moment (GapOut station session) written taken e =
+    record { line = refl; door = refl; clock = refl }
 
-put_still : (old new : Ends) (moment : ℕ) (action : Output) → Puts old moment action new → TellsStill old new
+put_still : (old new : Ends) (moment : ℕ) (action : Output) → Puts old moment action new
+    → TellsStill old new
 put_still old new moment action p =
     let still = action_still moment action p.written p.taken old in
     record {
@@ -174,11 +179,14 @@ still start _ Begun = record { line = refl; door = refl; clock = refl }
 still start _ (Told before end event buf run l) =
     let s = still start before run in
     record {
-      line = turn_still tells_line line_aside (λ e now shown. refl) before (as_logged before.log end) event buf l.turns
+      line = turn_still tells_line line_aside (λ e now shown. refl) before
+          (as_logged before.log end) event buf l.turns
           (λ e. refl) ∙ s.line;
-      door = turn_still tells_door door_aside (λ e now shown. refl) before (as_logged before.log end) event buf l.turns
+      door = turn_still tells_door door_aside (λ e now shown. refl) before
+          (as_logged before.log end) event buf l.turns
           (λ e. refl) ∙ s.door;
-      clock = turn_still tells_clock clock_aside (λ e now shown. refl) before (as_logged before.log end) event buf l.turns
+      clock = turn_still tells_clock clock_aside (λ e now shown. refl) before
+          (as_logged before.log end) event buf l.turns
           (λ e. refl) ∙ s.clock;
     }
 still start _ (Put before end moment action run l) =

@@ -1,12 +1,18 @@
 -- When rounds of looks begin, and why they end in a tick.
-use Rattle.std.proofs.Common.{◌≡◌, ℕ, ◌+◌, ◌-◌, ◌<◌, ◌≤◌, nat_le, ◌⊎◌, ◌&&◌, ◌||◌, not, true, false, Bool, List, [], ◌∷◌, ◌++◌, length, Option, Some, None, refl, sym, ap, subst, arith, ◌∙◌, inl, inr}
+use Rattle.std.proofs.Common.{◌≡◌, ℕ, ◌+◌, ◌-◌, ◌<◌, ◌≤◌, nat_le, ◌⊎◌, ◌&&◌, ◌||◌, not, true, false}
+use Rattle.std.proofs.Common.{Bool, List, [], ◌∷◌, ◌++◌, length, Option, Some, None, refl, sym, ap}
+use Rattle.std.proofs.Common.{subst, arith, ◌∙◌, inl, inr}
 use Rattle.std.specs.Prelude.{All}
 use Rattle.std.proofs.lemmas.List.Elements.{All-cons, All-nil}
 use Rattle.gateway.specs.declared.ports.Next.{Next}
-use Rattle.live.specs.Timing.{Moments, read_at, moment_at, is_awaited, is_awaited_by, is_behind, heard_at}
+use Rattle.live.specs.Timing.{Moments, read_at, moment_at, is_awaited, is_awaited_by, is_behind}
+use Rattle.live.specs.Timing.{heard_at}
 use Rattle.live.specs.Walls.{is_wall, is_wall_due}
-use Rattle.live.specs.Law.{SomeRounds, AtRounds, first_of, IsTickDue, LongSince, TooLate, WallIsDue, FarBehind, ManyRounds, IfTick}
-use Rattle.live.specs.Ends.{Ends, Turns, LogsTurn, as_logged, TurnsToWall, TurnsToEnds, QuietRounds, NoRound, OneRound, is_tick_due, IsLast, event_at, taken_by, looking, told_at}
+use Rattle.live.specs.Law.{SomeRounds, AtRounds, first_of, IsTickDue, LongSince, TooLate, WallIsDue}
+use Rattle.live.specs.Law.{FarBehind, ManyRounds, IfTick}
+use Rattle.live.specs.Ends.{Ends, Turns, LogsTurn, as_logged, TurnsToWall, TurnsToEnds, QuietRounds}
+use Rattle.live.specs.Ends.{NoRound, OneRound, is_tick_due, IsLast, event_at, taken_by, looking}
+use Rattle.live.specs.Ends.{told_at}
 use Rattle.live.proofs.Apart.{clock_of, clock_apart, walled_of, walled_apart, taken_same}
 use Rattle.live.proofs.Rounds.{turn_kept, quiet_hears}
 use Rattle.live.specs.declared.found.Found.{Found}
@@ -48,7 +54,8 @@ awaited_by t q r asked was =
     let on : is_awaited_by t (Some r) ≡ true = subst P asked was in
     grind (arith, on)
 
-begins : (start : Ends) (first count begun : ℕ) (e : Ends) (before : List ℕ) → QuietRounds start first count begun e
+begins : (start : Ends) (first count begun : ℕ) (e : Ends) (before : List ℕ)
+    → QuietRounds start first count begun e
     → start.clock ≡ Some (first ∷ before) → Begins start first count begun e before
 begins start first _ _ _ before NoRound told =
     let short : first < first + 100 = omega arith in
@@ -64,37 +71,46 @@ begins start first _ _ _ before NoRound told =
     }
 begins start first _ _ _ before (OneRound count begun now earlier found buf q t undue) told =
     let b = begins start first count begun earlier before q told in
-    let heard : found.timing ≡ heard_at begun earlier.timing = quiet_hears begun earlier found buf t in
-    let short = not_long (nat_le 100 (now - first)) (is_awaited start.timing && not (is_awaited found.timing))
+    let heard : found.timing ≡ heard_at begun earlier.timing =
+    quiet_hears begun earlier found buf t in
+    let short =
+    not_long (nat_le 100 (now - first)) (is_awaited start.timing && not (is_awaited found.timing))
     (is_wall_due found.walled now) undue in
     record {
       quiet = begun ∷ b.quiet;
-      told = ap (λ c. read_at c now) (turn_kept clock_of clock_apart begun earlier found None buf t ∙ b.told);
+      told = ap (λ c. read_at c now) (turn_kept clock_of clock_apart begun earlier found None buf t
+          ∙ b.told);
       first_is = b.first_is;
-      brief = All-cons (λ m. m < first + 100) now (begun ∷ b.quiet) (brief_by first now short) b.brief;
+      brief = All-cons (λ m. m < first + 100) now (begun ∷ b.quiet) (brief_by first now short)
+          b.brief;
       many = grind (arith, b.many);
       asked = ap (λ (k : Timing). k.request) heard ∙ b.asked;
       waits = ap (λ (k : Timing). k.answer_ms) heard ∙ b.waits;
       in_time = λ r is was.
-          let still = not_late (nat_le 100 (now - first)) (is_awaited start.timing) (is_awaited found.timing)
+          let still = not_late (nat_le 100 (now - first)) (is_awaited start.timing)
+          (is_awaited found.timing)
           (is_wall_due found.walled now) undue was in
           let P : Timing → Type 0 = λ k. is_awaited k ≡ true in
           let k = heard_at begun earlier.timing in
           let soon : begun - r.written < earlier.timing.answer_ms =
           awaited_by k k.request r (b.asked ∙ is) (subst P heard still) in
           let Q : ℕ → Type 0 = λ n. begun - r.written < n in
-          All-cons (λ m. m - r.written < start.timing.answer_ms) begun b.quiet (subst Q b.waits soon)
+          All-cons (λ m. m - r.written < start.timing.answer_ms) begun b.quiet
+          (subst Q b.waits soon)
           (b.in_time r is was);
     }
 
 -- the rounds of a turn
-abbrev BeginsOf : (old : Ends) (event : Next) (buf : List ℕ) (new : Ends) → TurnsToEnds old event buf new → List ℕ → Type 0
+abbrev BeginsOf : (old : Ends) (event : Next) (buf : List ℕ) (new : Ends)
+    → TurnsToEnds old event buf new → List ℕ → Type 0
 BeginsOf old event buf new t before =
     Begins (looking (told_at t.first old)) t.first t.looks.count t.looks.begun t.looks.before before
 
-at_rounds_by : (old : Ends) (event : Next) (buf : List ℕ) (new : Ends) (t : TurnsToEnds old event buf new)
+at_rounds_by : (old : Ends) (event : Next) (buf : List ℕ) (new : Ends)
+    (t : TurnsToEnds old event buf new)
     (Holds : ℕ → List ℕ → ℕ → Type 0) (c : Moments) → old.clock ≡ c
-    → ((before : List ℕ) → (b : BeginsOf old event buf new t before) → Holds t.looks.begun b.quiet t.now)
+    → ((before : List ℕ) → (b : BeginsOf old event buf new t before)
+    → Holds t.looks.begun b.quiet t.now)
     → AtRounds c new.clock Holds
 at_rounds_by old event buf new t Holds None is all = tt
 at_rounds_by old event buf new t Holds (Some before) is all =
@@ -111,31 +127,41 @@ at_rounds_by old event buf new t Holds (Some before) is all =
     record { begun = l.begun; quiet = b.quiet; now = t.now; told = refl; holds = all before b } in
     subst P (sym told) rounds
 
-at_rounds : (old : Ends) (event : Next) (buf : List ℕ) (new : Ends) (t : TurnsToEnds old event buf new)
+at_rounds : (old : Ends) (event : Next) (buf : List ℕ) (new : Ends)
+    (t : TurnsToEnds old event buf new)
     (Holds : ℕ → List ℕ → ℕ → Type 0)
-    → ((before : List ℕ) → (b : BeginsOf old event buf new t before) → Holds t.looks.begun b.quiet t.now)
+    → ((before : List ℕ) → (b : BeginsOf old event buf new t before)
+    → Holds t.looks.begun b.quiet t.now)
     → AtRounds old.clock new.clock Holds
 at_rounds old event buf new t Holds all = at_rounds_by old event buf new t Holds old.clock refl all
 
-wall_of : (old : Ends) (event : Next) (new : Ends) → TurnsToWall old event new → is_wall event ≡ false → true ≡ false
+wall_of : (old : Ends) (event : Next) (new : Ends) → TurnsToWall old event new → is_wall event
+    ≡ false → true ≡ false
 wall_of old event new t dark = sym (ap is_wall t.told.told) ∙ dark
 
 -- the looks of an event begin within 100 ms
-briefly_by : (old new : Ends) (event : Next) (buf : List ℕ) → Turns old event buf new → is_wall event ≡ false
-    → AtRounds old.clock new.clock (λ begun quiet now. All (λ m. m < first_of begun quiet + 100) (begun ∷ quiet))
+briefly_by : (old new : Ends) (event : Next) (buf : List ℕ) → Turns old event buf new
+    → is_wall event ≡ false
+    → AtRounds old.clock new.clock (λ begun quiet now. All (λ m. m < first_of begun quiet + 100)
+    (begun ∷ quiet))
 briefly_by old new event buf (inl t) dark =
     let wrong : true ≡ false = wall_of old event new t dark in absurd (cc)
 briefly_by old new event buf (inr t) dark =
-    at_rounds old event buf new t (λ begun quiet now. All (λ m. m < first_of begun quiet + 100) (begun ∷ quiet))
-    (λ before b. let P : ℕ → Type 0 = λ first. All (λ m. m < first + 100) (t.looks.begun ∷ b.quiet) in
+    at_rounds old event buf new t (λ begun quiet now. All (λ m. m < first_of begun quiet + 100)
+    (begun ∷ quiet))
+    (λ before b. let P : ℕ → Type 0 =
+    λ first. All (λ m. m < first + 100) (t.looks.begun ∷ b.quiet) in
     subst P (sym b.first_is) b.brief)
 
-pub briefly : (old new : Ends) (event : Next) (buf : List ℕ) → LogsTurn old event buf new → is_wall event ≡ false
-    → AtRounds old.clock new.clock (λ begun quiet now. All (λ m. m < first_of begun quiet + 100) (begun ∷ quiet))
+pub briefly : (old new : Ends) (event : Next) (buf : List ℕ) → LogsTurn old event buf new
+    → is_wall event ≡ false
+    → AtRounds old.clock new.clock (λ begun quiet now. All (λ m. m < first_of begun quiet + 100)
+    (begun ∷ quiet))
 briefly old new event buf l dark = briefly_by old (as_logged old.log new) event buf l.turns dark
 
 -- an exchange that is over is told
-awaited_at : (t : Timing) (q : Option Request) (r : Request) → q ≡ Some r → t.heard - r.written < t.answer_ms
+awaited_at : (t : Timing) (q : Option Request) (r : Request) → q ≡ Some r → t.heard - r.written
+    < t.answer_ms
     → is_awaited_by t q ≡ true
 awaited_at t q r asked soon =
     let P : Option Request → Type 0 = λ q. is_awaited_by t q ≡ true in
@@ -143,22 +169,28 @@ awaited_at t q r asked soon =
     subst P (sym asked) on
 
 over_by : (old new : Ends) (event : Next) (buf : List ℕ) (r : Request) → Turns old event buf new
-    → is_wall event ≡ false → old.timing.request ≡ Some r → old.timing.heard - r.written < old.timing.answer_ms
-    → AtRounds old.clock new.clock (λ begun quiet now. All (λ m. m - r.written < old.timing.answer_ms) quiet)
+    → is_wall event ≡ false → old.timing.request ≡ Some r → old.timing.heard - r.written
+    < old.timing.answer_ms
+    → AtRounds old.clock new.clock (λ begun quiet now. All (λ m. m - r.written
+    < old.timing.answer_ms) quiet)
 over_by old new event buf r (inl t) dark asked soon =
     let wrong : true ≡ false = wall_of old event new t dark in absurd (cc)
 over_by old new event buf r (inr t) dark asked soon =
-    at_rounds old event buf new t (λ begun quiet now. All (λ m. m - r.written < old.timing.answer_ms) quiet)
+    at_rounds old event buf new t
+    (λ begun quiet now. All (λ m. m - r.written < old.timing.answer_ms) quiet)
     (λ before b. b.in_time r asked (awaited_at old.timing old.timing.request r asked soon))
 
 pub over : (old new : Ends) (event : Next) (buf : List ℕ) (r : Request) → LogsTurn old event buf new
-    → is_wall event ≡ false → old.timing.request ≡ Some r → old.timing.heard - r.written < old.timing.answer_ms
-    → AtRounds old.clock new.clock (λ begun quiet now. All (λ m. m - r.written < old.timing.answer_ms) quiet)
+    → is_wall event ≡ false → old.timing.request ≡ Some r → old.timing.heard - r.written
+    < old.timing.answer_ms
+    → AtRounds old.clock new.clock (λ begun quiet now. All (λ m. m - r.written
+    < old.timing.answer_ms) quiet)
 over old new event buf r l dark asked soon =
     over_by old (as_logged old.log new) event buf r l.turns dark asked soon
 
 -- why a tick is due
-taken_timing : (b : Bool) (buf : List ℕ) (f : Option Found) (e : Ends) → (taken_by b buf f e).1.timing ≡ e.timing
+taken_timing : (b : Bool) (buf : List ℕ) (f : Option Found) (e : Ends)
+    → (taken_by b buf f e).1.timing ≡ e.timing
 taken_timing false buf f e = refl
 taken_timing true buf None e = refl
 taken_timing true buf (Some found.Open) e = refl
@@ -168,12 +200,14 @@ taken_timing true buf (Some (found.Line len)) e = refl
 taken_timing true buf (Some found.Fault) e = refl
 
 due_by : (old new : Timing) (walled : Walled) (first now : ℕ) (quiet : List ℕ) (a w h c : Bool)
-    → nat_le 100 (now - first) ≡ a → is_awaited old ≡ w → is_awaited new ≡ h → is_wall_due walled now ≡ c
+    → nat_le 100 (now - first) ≡ a → is_awaited old ≡ w → is_awaited new ≡ h
+    → is_wall_due walled now ≡ c
     → (a || (w && not h || c)) ≡ true → IsTickDue old new walled first quiet now
 due_by old new walled first now quiet true w h c long was still wall due =
     let passed : first + 100 ≤ now = grind (arith, long) in LongSince passed
 due_by old new walled first now quiet false w h true long was still wall due = WallIsDue wall
-due_by old new walled first now quiet false true false false long was still wall due = TooLate was still
+due_by old new walled first now quiet false true false false long was still wall due =
+    TooLate was still
 due_by old new walled first now quiet false true true false long was still wall due = absurd (cc)
 due_by old new walled first now quiet false false h false long was still wall due = absurd (cc)
 
@@ -186,36 +220,46 @@ if_tick m (Some (found.Line len)) X h = tt
 if_tick m (Some found.Fault) X h = tt
 
 -- what the looks left, as it is behind the event
-looked_timing : (old : Ends) (event : Next) (buf : List ℕ) (new : Ends) → (t : TurnsToEnds old event buf new)
+looked_timing : (old : Ends) (event : Next) (buf : List ℕ) (new : Ends)
+    → (t : TurnsToEnds old event buf new)
     → new.timing ≡ t.looks.found.timing
 looked_timing old event buf new t =
     ap (λ (p : Option Found × Ends). p.1.timing) t.told.ends
-    ∙ (taken_timing (is_behind t.found.timing t.now) buf t.f t.found ∙ ap (λ (e : Ends). e.timing) t.looks.done)
+    ∙ (taken_timing (is_behind t.found.timing t.now) buf t.f t.found
+    ∙ ap (λ (e : Ends). e.timing) t.looks.done)
 
-looked_walled : (old : Ends) (event : Next) (buf : List ℕ) (new : Ends) → (t : TurnsToEnds old event buf new)
+looked_walled : (old : Ends) (event : Next) (buf : List ℕ) (new : Ends)
+    → (t : TurnsToEnds old event buf new)
     → new.walled ≡ t.looks.found.walled
 looked_walled old event buf new t =
     ap (λ (p : Option Found × Ends). walled_of p.1) t.told.ends
     ∙ (taken_same walled_of walled_apart (is_behind t.found.timing t.now) buf t.f t.found
     ∙ ap walled_of t.looks.done)
 
-last_by : (old : Ends) (event : Next) (buf : List ℕ) (new : Ends) (t : TurnsToEnds old event buf new) (quiet : List ℕ)
+last_by : (old : Ends) (event : Next) (buf : List ℕ) (new : Ends)
+    (t : TurnsToEnds old event buf new) (quiet : List ℕ)
     → length quiet ≡ t.looks.count
-    → (is_tick_due t.first (is_awaited old.timing) t.now t.looks.found ≡ true) ⊎ (t.looks.count ≡ 200)
+    → (is_tick_due t.first (is_awaited old.timing) t.now t.looks.found ≡ true)
+    ⊎ (t.looks.count ≡ 200)
     → IsTickDue old.timing new.timing new.walled t.first quiet t.now
 last_by old event buf new t quiet many (inl due) =
     let found = t.looks.found in
-    due_by old.timing new.timing new.walled t.first t.now quiet (nat_le 100 (t.now - t.first)) (is_awaited old.timing)
+    due_by old.timing new.timing new.walled t.first t.now quiet (nat_le 100 (t.now - t.first))
+    (is_awaited old.timing)
     (is_awaited found.timing) (is_wall_due found.walled t.now) refl refl
     (ap is_awaited (looked_timing old event buf new t))
     (ap (λ (w : Walled). is_wall_due w t.now) (looked_walled old event buf new t)) due
 last_by old event buf new t quiet many (inr all) = ManyRounds (many ∙ all)
 
-cause_by : (old : Ends) (event : Next) (buf : List ℕ) (new : Ends) (t : TurnsToEnds old event buf new) (quiet : List ℕ)
-    (behind : Bool) → length quiet ≡ t.looks.count → t.told.taken ≡ None → is_behind t.found.timing t.now ≡ behind
-    → (t.told.taken, new) ≡ taken_by behind buf t.f t.found → IsTickDue old.timing new.timing new.walled t.first quiet t.now
+cause_by : (old : Ends) (event : Next) (buf : List ℕ) (new : Ends)
+    (t : TurnsToEnds old event buf new) (quiet : List ℕ)
+    (behind : Bool) → length quiet ≡ t.looks.count → t.told.taken ≡ None
+    → is_behind t.found.timing t.now ≡ behind
+    → (t.told.taken, new) ≡ taken_by behind buf t.f t.found
+    → IsTickDue old.timing new.timing new.walled t.first quiet t.now
 cause_by old event buf new t quiet true many none is ends =
-    FarBehind (ap (λ (k : Timing). is_behind k t.now) (ap (λ (p : Option Found × Ends). p.1.timing) ends
+    FarBehind
+    (ap (λ (k : Timing). is_behind k t.now) (ap (λ (p : Option Found × Ends). p.1.timing) ends
     ∙ taken_timing true buf t.f t.found) ∙ is)
 cause_by old event buf new t quiet false many none is ends =
     let nothing : t.f ≡ None = sym (ap (λ (p : Option Found × Ends). p.0) ends) ∙ none in
@@ -224,21 +268,30 @@ cause_by old event buf new t quiet false many none is ends =
     last_by old event buf new t quiet many (subst P nothing t.looks.last)
 
 tick_by : (old new : Ends) (event : Next) (buf : List ℕ) → Turns old event buf new
-    → IfTick event (AtRounds old.clock new.clock (λ begun quiet now. IsTickDue old.timing new.timing new.walled (first_of begun quiet) quiet now))
+    → IfTick event
+    (AtRounds old.clock new.clock (λ begun quiet now. IsTickDue old.timing new.timing new.walled
+    (first_of begun quiet) quiet now))
 tick_by old new event buf (inl t) =
-    let X = AtRounds old.clock new.clock (λ begun quiet now. IsTickDue old.timing new.timing new.walled (first_of begun quiet) quiet now) in
+    let X =
+    AtRounds old.clock new.clock (λ begun quiet now. IsTickDue old.timing new.timing new.walled
+    (first_of begun quiet) quiet now) in
     let P : Next → Type 0 = λ e. IfTick e X in
     subst P (sym t.told.told) tt
 tick_by old new event buf (inr t) =
-    let Holds : ℕ → List ℕ → ℕ → Type 0 = λ begun quiet now. IsTickDue old.timing new.timing new.walled (first_of begun quiet) quiet now in
+    let Holds : ℕ → List ℕ → ℕ → Type 0 = λ begun quiet now. IsTickDue old.timing new.timing
+    new.walled (first_of begun quiet) quiet now in
     let P : Next → Type 0 = λ e. IfTick e (AtRounds old.clock new.clock Holds) in
-    subst P (sym t.told.told) (if_tick (moment_at new.timing t.now) t.told.taken (AtRounds old.clock new.clock Holds)
+    subst P (sym t.told.told) (if_tick (moment_at new.timing t.now) t.told.taken
+    (AtRounds old.clock new.clock Holds)
     (λ none. at_rounds old event buf new t Holds
-    (λ before b. let Q : ℕ → Type 0 = λ first. IsTickDue old.timing new.timing new.walled first b.quiet t.now in
-    subst Q (sym b.first_is) (cause_by old event buf new t b.quiet (is_behind t.found.timing t.now) b.many none refl
+    (λ before b. let Q : ℕ → Type 0 = λ first. IsTickDue old.timing new.timing new.walled first
+    b.quiet t.now in
+    subst Q (sym b.first_is) (cause_by old event buf new t b.quiet (is_behind t.found.timing t.now)
+    b.many none refl
     t.told.ends))))
 
 pub why : (old new : Ends) (event : Next) (buf : List ℕ) → LogsTurn old event buf new
     → IfTick event (AtRounds old.clock new.clock
-    (λ begun quiet now. IsTickDue old.timing new.timing new.walled (first_of begun quiet) quiet now))
+    (λ begun quiet now. IsTickDue old.timing new.timing new.walled (first_of begun quiet) quiet
+    now))
 why old new event buf l = tick_by old (as_logged old.log new) event buf l.turns

@@ -1,12 +1,14 @@
 -- A wire that is reached again.
 use Rattle.std.proofs.Common.{◌≡◌, ℕ, true, false, Some, None, List, refl, sym, ap, subst, ◌∙◌}
 use Rattle.live.specs.Wires.{History, IsNew, Visits}
-use Rattle.live.specs.Redial.{Redial, ended, IfReached, dialled_map, is_due, told_at, settled, begun_by, tried_by, looked_by, IsAnswered, IsTriedOn, IsRedialled}
+use Rattle.live.specs.Redial.{Redial, ended, IfReached, dialled_map, is_due, told_at, settled}
+use Rattle.live.specs.Redial.{begun_by, tried_by, looked_by, IsAnswered, IsTriedOn, IsRedialled}
 use Rattle.live.specs.declared.redial.Dialled.{Dialled}
 use Rattle.live.specs.declared.redial.Dialled.TheVariants.{Reached, Pending, Failed}
 use Rattle.live.specs.declared.wires.Got.TheVariants.{Quiet}
 
-ended_map : {A : Type 0} (f : A → History) (t : Visits) (d : Dialled A) → ended t (dialled_map f d) ≡ ended t d
+ended_map : {A : Type 0} (f : A → History) (t : Visits) (d : Dialled A) → ended t (dialled_map f d)
+    ≡ ended t d
 ended_map f t (Reached wire) = refl
 ended_map f t Pending = refl
 ended_map f t Failed = refl
@@ -25,10 +27,12 @@ answered_so f d tries old new fresh told done = record {
   answer = dialled_map f d;
   is_new = new_map f d fresh;
   done = done
-      ∙ ap (λ t. settled (dialled_map f d) (record old { tries = t })) (told ∙ sym (ended_map f old.tries d));
+      ∙ ap (λ t. settled (dialled_map f d) (record old { tries = t })) (told
+      ∙ sym (ended_map f old.tries d));
 }
 
-pub answered_from : {A : Type 0} (f : A → History) (d : Dialled A) (tries : Visits) (seen old new : Redial)
+pub answered_from : {A : Type 0} (f : A → History) (d : Dialled A) (tries : Visits)
+    (seen old new : Redial)
     → seen ≡ old → IfReached d (λ wire. IsNew (f wire)) → tries ≡ ended seen.tries d
     → new ≡ settled (dialled_map f d) (record seen { tries = tries }) → IsAnswered old new
 answered_from f d tries seen old new same fresh told done =
@@ -36,7 +40,8 @@ answered_from f d tries seen old new same fresh told done =
     subst P same (answered_so f d tries seen new fresh told done)
 
 -- the try that goes on, of which it was asked
-pub tried_asked : (now : ℕ) (old new : Redial) → old.is_trying ≡ true → IsAnswered old new → IsTriedOn now old new
+pub tried_asked : (now : ℕ) (old new : Redial) → old.is_trying ≡ true → IsAnswered old new
+    → IsTriedOn now old new
 tried_asked now old new trying a = record {
   answer = a.answer;
   is_new = a.is_new;
@@ -50,19 +55,23 @@ tried_due now old new trying due a = record {
   answer = a.answer;
   is_new = a.is_new;
   done = a.done
-      ∙ sym (ap (λ b. tried_by b now a.answer old) trying ∙ ap (λ b. begun_by b now a.answer old) due);
+      ∙ sym (ap (λ b. tried_by b now a.answer old) trying
+      ∙ ap (λ b. begun_by b now a.answer old) due);
 }
 
 -- and where none is due
-pub tried_not : (now : ℕ) (old new : Redial) → old.is_trying ≡ false → is_due old now ≡ false → new ≡ old
+pub tried_not : (now : ℕ) (old new : Redial) → old.is_trying ≡ false → is_due old now ≡ false
+    → new ≡ old
     → IsTriedOn now old new
 tried_not now old new trying due same = record {
   answer = Pending;
   is_new = tt;
-  done = same ∙ sym (ap (λ b. tried_by b now Pending old) trying ∙ ap (λ b. begun_by b now Pending old) due);
+  done = same ∙ sym (ap (λ b. tried_by b now Pending old) trying
+      ∙ ap (λ b. begun_by b now Pending old) due);
 }
 
-pub looked_away : (now : ℕ) (buf : List ℕ) (old mid new : Redial) → old.wire ≡ None → mid ≡ told_at now old
+pub looked_away : (now : ℕ) (buf : List ℕ) (old mid new : Redial) → old.wire ≡ None
+    → mid ≡ told_at now old
     → IsTriedOn now mid new → IsRedialled old Quiet buf new
 looked_away now buf old mid new away told t =
     let P : Redial → Type 0 = λ r. IsTriedOn now r new in
@@ -71,5 +80,6 @@ looked_away now buf old mid new away told t =
       answer = u.answer;
       is_new = u.is_new;
       found = Quiet;
-      looked = ap (λ r. (Quiet, r)) u.done ∙ sym (ap (λ w. looked_by w now u.answer Quiet buf old) away);
+      looked = ap (λ r. (Quiet, r)) u.done
+          ∙ sym (ap (λ w. looked_by w now u.answer Quiet buf old) away);
     }

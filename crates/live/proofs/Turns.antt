@@ -1,8 +1,15 @@
--- A turn from its looks. Each source answers at its look; a turn is told by the answers of all three.
-use Rattle.std.proofs.Common.{◌≡◌, ℕ, ◌+◌, arith, ◌==◌, ◌⊎◌, is_some, true, false, Bool, List, [], ◌∷◌, length, take, Option, Some, None, IfSome, refl, sym, ap, subst, ◌∙◌, inl, inr}
+-- A turn from its looks. Each source answers at its look; a turn is told by the answers of all
+-- three.
+use Rattle.std.proofs.Common.{◌≡◌, ℕ, ◌+◌, arith, ◌==◌, ◌⊎◌, is_some, true, false, Bool, List, []}
+use Rattle.std.proofs.Common.{◌∷◌, length, take, Option, Some, None, IfSome, refl, sym, ap, subst}
+use Rattle.std.proofs.Common.{◌∙◌, inl, inr}
 use Rattle.live.specs.declared.guests.Guests.{Guests}
 use Rattle.live.specs.Timing.{is_behind, moment_at, is_awaited}
-use Rattle.live.specs.Ends.{Ends, Peer, IsGuest, let_in, Answers, after, found_at, looked_at, read_from, next_round, unless_found, look, nothing_more, round, turn, turn_by, held_by, sources_by, IsFront, taken_by, told_at, looking, IsTurn, IsTold, IsWallTold, QuietRounds, OneRound, LooksOn, is_tick_due, faults_in, Turns, TurnsToWall, TurnsToEnds, event_at}
+use Rattle.live.specs.Ends.{Ends, Peer, IsGuest, let_in, Answers, after, found_at, looked_at}
+use Rattle.live.specs.Ends.{read_from, next_round, unless_found, look, nothing_more, round, turn}
+use Rattle.live.specs.Ends.{turn_by, held_by, sources_by, IsFront, taken_by, told_at, looking}
+use Rattle.live.specs.Ends.{IsTurn, IsTold, IsWallTold, QuietRounds, OneRound, LooksOn, is_tick_due}
+use Rattle.live.specs.Ends.{faults_in, Turns, TurnsToWall, TurnsToEnds, event_at}
 use Rattle.gateway.specs.declared.ports.Next.{Next}
 use Rattle.live.specs.Looks.{Looks, answers_for}
 use Rattle.live.specs.Walls.{is_wall_due}
@@ -18,7 +25,8 @@ joined Door a b c = record { visitor = a.visitor; connection = b.connection; lin
 joined Connection a b c = record { visitor = c.visitor; connection = a.connection; line = b.line }
 joined Line a b c = record { visitor = b.visitor; connection = c.connection; line = a.line }
 
-visitor_of : (g : Guests) (s : Source) (a b c : Answers) → IfSome a.visitor (IsGuest g) → IfSome b.visitor (IsGuest g)
+visitor_of : (g : Guests) (s : Source) (a b c : Answers) → IfSome a.visitor (IsGuest g)
+    → IfSome b.visitor (IsGuest g)
     → IfSome c.visitor (IsGuest g) → IfSome (joined s a b c).visitor (IsGuest g)
 unfolding joined
 visitor_of g Door a b c x y z = x
@@ -30,7 +38,8 @@ let_in_same : (v : Option Peer) (e : Ends) → (let_in v e).guests ≡ e.guests
 let_in_same None e = refl
 let_in_same (Some peer) e = refl
 
-looked_same : (s : Source) (t : ℕ) (a : Answers) (buf : List ℕ) (e : Ends) → (looked_at s t a buf e).guests ≡ e.guests
+looked_same : (s : Source) (t : ℕ) (a : Answers) (buf : List ℕ) (e : Ends)
+    → (looked_at s t a buf e).guests ≡ e.guests
 looked_same Door t a buf e = let_in_same a.visitor e
 looked_same Connection t a buf e = refl
 looked_same Line t a buf e = refl
@@ -38,17 +47,20 @@ looked_same Line t a buf e = refl
 -- so does a look that finds nothing
 same_guests : (s : Source) (t : ℕ) (old new : Ends) (buf : List ℕ) → Looks s t old None buf new
     → new.guests ≡ old.guests
-same_guests s t old new buf l = ap (λ (e : Ends). e.guests) l.ends ∙ looked_same s t (answers_for None new) buf old
+same_guests s t old new buf l = ap (λ (e : Ends). e.guests) l.ends
+    ∙ looked_same s t (answers_for None new) buf old
 
 -- and what is in the buffer then is no matter
-quiet_from : (c : Option Peer) (buf other : List ℕ) → read_from c Quiet buf ≡ read_from c Quiet other
+quiet_from : (c : Option Peer) (buf other : List ℕ) → read_from c Quiet buf
+    ≡ read_from c Quiet other
 quiet_from None buf other = refl
 quiet_from (Some peer) buf other = refl
 
 quiet_at : (s : Source) (t : ℕ) (old new : Ends) (buf other : List ℕ)
     → looked_at s t (answers_for None new) buf old ≡ looked_at s t (answers_for None new) other old
 quiet_at Door t old new buf other = refl
-quiet_at Connection t old new buf other = ap (λ c. record old { connection = c }) (quiet_from old.connection buf other)
+quiet_at Connection t old new buf other =
+    ap (λ c. record old { connection = c }) (quiet_from old.connection buf other)
 quiet_at Line t old new buf other = refl
 
 quiet : (s : Source) (t : ℕ) (old new : Ends) (buf other : List ℕ) → Looks s t old None buf new
@@ -69,7 +81,8 @@ ends_1 Door n a b c buf e = refl
 ends_1 Connection n a b c buf e = refl
 ends_1 Line n a b c buf e = refl
 
-found_2 : (s : Source) (a b c : Answers) (e : Ends) → found_at (after s) (joined s a b c) e ≡ found_at (after s) b e
+found_2 : (s : Source) (a b c : Answers) (e : Ends) → found_at (after s) (joined s a b c) e
+    ≡ found_at (after s) b e
 unfolding joined
 found_2 Door a b c e = refl
 found_2 Connection a b c e = refl
@@ -97,7 +110,8 @@ ends_3 Connection n a b c buf e = refl
 ends_3 Line n a b c buf e = refl
 
 -- a look with these answers
-look_of : (s : Source) (t : ℕ) (a : Answers) (buf : List ℕ) (e n : Ends) (f : Option Found) (others : Ends
+look_of : (s : Source) (t : ℕ) (a : Answers) (buf : List ℕ) (e n : Ends) (f : Option Found)
+    (others : Ends
     → Option Found × Ends)
     → f ≡ found_at s a e → n ≡ next_round s f (looked_at s t a buf e)
     → look s t a buf e others ≡ unless_found f n others
@@ -115,39 +129,54 @@ none_of (x ∷ h) empty = absurd (grind (arith, empty))
 
 front_none : (a b : Bool) (h buf : List ℕ) → h ≡ [] → IsFront a b h buf
 front_none a b h buf none =
-    let P : List ℕ → Type 0 = λ h. take (length h) buf ≡ h in front_by a b h buf (subst P (sym none) refl)
+    let P : List ℕ → Type 0 = λ h. take (length h) buf ≡ h in
+    front_by a b h buf (subst P (sym none) refl)
 
 -- the cut that is due
 pub due_turn : (t : ℕ) (buf : List ℕ) (old new : Ends) → old.is_cut_due ≡ true
-    → new ≡ record old { connection = None; held = []; first = after Connection; is_cut_due = false }
+    → new ≡ record old {
+      connection = None;
+      held = [];
+      first = after Connection;
+      is_cut_due =
+          false;
+    }
     → IsTurn t old (Some Cut) buf new
 due_turn t buf old new due done = record {
   answers = record { visitor = None; connection = Quiet; line = Quiet };
   visitor = tt;
-  front = let P : Bool → Type 0 = λ d. IsFront d (is_behind old.timing t) old.held buf in subst P (sym due) tt;
+  front = let P : Bool → Type 0 = λ d. IsFront d (is_behind old.timing t) old.held buf in
+      subst P (sym due) tt;
   turned = rw (due, done) refl;
 }
 
-look_1 : (s : Source) (t : ℕ) (a b c : Answers) (buf : List ℕ) (e n : Ends) (f : Option Found) (others : Ends
+look_1 : (s : Source) (t : ℕ) (a b c : Answers) (buf : List ℕ) (e n : Ends) (f : Option Found)
+    (others : Ends
     → Option Found × Ends)
     → f ≡ found_at s a e → n ≡ next_round s f (looked_at s t a buf e)
     → look s t (joined s a b c) buf e others ≡ unless_found f n others
 look_1 s t a b c buf e n f others found ends = look_of s t (joined s a b c) buf e n f others (found
     ∙ sym (found_1 s a b c e)) (ends ∙ ap (next_round s f) (sym (ends_1 s t a b c buf e)))
 
-look_2 : (s : Source) (t : ℕ) (a b c : Answers) (buf : List ℕ) (e n : Ends) (f : Option Found) (others : Ends
+look_2 : (s : Source) (t : ℕ) (a b c : Answers) (buf : List ℕ) (e n : Ends) (f : Option Found)
+    (others : Ends
     → Option Found × Ends)
     → f ≡ found_at (after s) b e → n ≡ next_round (after s) f (looked_at (after s) t b buf e)
     → look (after s) t (joined s a b c) buf e others ≡ unless_found f n others
-look_2 s t a b c buf e n f others found ends = look_of (after s) t (joined s a b c) buf e n f others (found
+look_2 s t a b c buf e n f others found ends = look_of (after s) t (joined s a b c) buf e n f others
+    (found
     ∙ sym (found_2 s a b c e)) (ends ∙ ap (next_round (after s) f) (sym (ends_2 s t a b c buf e)))
 
-look_3 : (s : Source) (t : ℕ) (a b c : Answers) (buf : List ℕ) (e n : Ends) (f : Option Found) (others : Ends
+look_3 : (s : Source) (t : ℕ) (a b c : Answers) (buf : List ℕ) (e n : Ends) (f : Option Found)
+    (others : Ends
     → Option Found × Ends)
-    → f ≡ found_at (after (after s)) c e → n ≡ next_round (after (after s)) f (looked_at (after (after s)) t c buf e)
+    → f ≡ found_at (after (after s)) c e
+    → n ≡ next_round (after (after s)) f (looked_at (after (after s)) t c buf e)
     → look (after (after s)) t (joined s a b c) buf e others ≡ unless_found f n others
-look_3 s t a b c buf e n f others found ends = look_of (after (after s)) t (joined s a b c) buf e n f others (found
-    ∙ sym (found_3 s a b c e)) (ends ∙ ap (next_round (after (after s)) f) (sym (ends_3 s t a b c buf e)))
+look_3 s t a b c buf e n f others found ends = look_of (after (after s)) t (joined s a b c) buf e n
+    f others (found
+    ∙ sym (found_3 s a b c e)) (ends
+    ∙ ap (next_round (after (after s)) f) (sym (ends_3 s t a b c buf e)))
 
 -- no cut is due, no moment too far behind, and nothing is held
 plain : (t : ℕ) (answers : Answers) (buf : List ℕ) (old : Ends) → old.is_cut_due ≡ false
@@ -159,13 +188,15 @@ plain t answers buf old due level none = ap (λ b. turn_by b t answers buf old) 
 
 -- octets that are held
 held_some : (h : List ℕ) (t : ℕ) (a : Answers) (buf : List ℕ) (e : Ends) → (length h == 0) ≡ false
-    → (Some (Bytes (length h)), record e { held = []; first = after Connection }) ≡ held_by h t a buf e
+    → (Some (Bytes (length h)), record e { held = []; first = after Connection })
+    ≡ held_by h t a buf e
 held_some [] t a buf e some = absurd (cc)
 held_some (x ∷ h) t a buf e some = refl
 
 pub held_turn : (t : ℕ) (buf : List ℕ) (old new : Ends) (f : Found) → old.is_cut_due ≡ false
     → is_behind old.timing t ≡ false → (length old.held == 0) ≡ false → f ≡ Bytes (length old.held)
-    → take (length old.held) buf ≡ old.held → new ≡ record old { held = []; first = after Connection }
+    → take (length old.held) buf ≡ old.held
+    → new ≡ record old { held = []; first = after Connection }
     → IsTurn t old (Some f) buf new
 held_turn t buf old new f due level some is front done =
     let a : Answers = record { visitor = None; connection = Quiet; line = Quiet } in
@@ -198,21 +229,25 @@ line_turn t buf old new f due behind l =
 
 -- the first look finds something
 pub first_turn : (t : ℕ) (buf : List ℕ) (old new : Ends) (f : Found) → old.is_cut_due ≡ false
-    → is_behind old.timing t ≡ false → (length old.held == 0) ≡ true → Looks old.first t old (Some f) buf new
+    → is_behind old.timing t ≡ false → (length old.held == 0) ≡ true
+    → Looks old.first t old (Some f) buf new
     → IsTurn t old (Some f) buf new
 first_turn t buf old new f due level none l =
     let a = answers_for (Some f) new in
     record {
       answers = joined old.first a a a;
       visitor = visitor_of old.guests old.first a a a l.visitor l.visitor l.visitor;
-      front = front_none old.is_cut_due (is_behind old.timing t) old.held buf (none_of old.held none);
+      front = front_none old.is_cut_due (is_behind old.timing t) old.held buf
+          (none_of old.held none);
       turned = sym (plain t (joined old.first a a a) buf old due level none
           ∙ look_1 old.first t a a a buf old new (Some f) _ l.found l.ends);
     }
 
 -- the second look finds something
-pub second_turn : (t : ℕ) (before buf : List ℕ) (old mid new : Ends) (f : Found) → old.is_cut_due ≡ false
-    → is_behind old.timing t ≡ false → (length old.held == 0) ≡ true → Looks old.first t old None before mid
+pub second_turn : (t : ℕ) (before buf : List ℕ) (old mid new : Ends) (f : Found) → old.is_cut_due
+    ≡ false
+    → is_behind old.timing t ≡ false → (length old.held == 0) ≡ true
+    → Looks old.first t old None before mid
     → Looks (after old.first) t mid (Some f) buf new → IsTurn t old (Some f) buf new
 second_turn t before buf old mid new f due level none first m =
     let a = answers_for None mid in
@@ -223,7 +258,8 @@ second_turn t before buf old mid new f due level none first m =
     record {
       answers = joined old.first a b b;
       visitor = visitor_of old.guests old.first a b b l.visitor second second;
-      front = front_none old.is_cut_due (is_behind old.timing t) old.held buf (none_of old.held none);
+      front = front_none old.is_cut_due (is_behind old.timing t) old.held buf
+          (none_of old.held none);
       turned = sym (plain t (joined old.first a b b) buf old due level none
           ∙ (look_1 old.first t a b b buf old mid None _ l.found l.ends
           ∙ look_2 old.first t a b b buf mid new (Some f) _ m.found m.ends));
@@ -232,7 +268,8 @@ second_turn t before buf old mid new f due level none first m =
 -- the third look tells the turn
 pub third_turn : (t : ℕ) (before then buf : List ℕ) (old mid more new : Ends) (f : Option Found)
     → old.is_cut_due ≡ false → is_behind old.timing t ≡ false → (length old.held == 0) ≡ true
-    → Looks old.first t old None before mid → Looks (after old.first) t mid None then more → Looks (after (after old.first)) t more f buf new
+    → Looks old.first t old None before mid → Looks (after old.first) t mid None then more
+    → Looks (after (after old.first)) t more f buf new
     → IsTurn t old f buf new
 third_turn t before then buf old mid more new f due level none first second n =
     let a = answers_for None mid in
@@ -248,7 +285,8 @@ third_turn t before then buf old mid more new f due level none first second n =
     record {
       answers = joined old.first a b c;
       visitor = visitor_of old.guests old.first a b c l.visitor at_second at_third;
-      front = front_none old.is_cut_due (is_behind old.timing t) old.held buf (none_of old.held none);
+      front = front_none old.is_cut_due (is_behind old.timing t) old.held buf
+          (none_of old.held none);
       turned = sym (plain t (joined old.first a b c) buf old due level none
           ∙ (look_1 old.first t a b c buf old mid None _ l.found l.ends
           ∙ (look_2 old.first t a b c buf mid more None _ m.found m.ends
@@ -256,19 +294,22 @@ third_turn t before then buf old mid more new f due level none first second n =
     }
 
 -- octets that came too far behind the clock
-pub told_held : (now : ℕ) (old new : Ends) (len : ℕ) (event : Next) (buf : List ℕ) → is_behind old.timing now ≡ true
+pub told_held : (now : ℕ) (old new : Ends) (len : ℕ) (event : Next) (buf : List ℕ)
+    → is_behind old.timing now ≡ true
     → new ≡ record old { held = take len buf } → event ≡ event_at (moment_at new.timing now) None
     → IsTold now old (Some (Bytes len)) event buf new
 told_held now old new len event buf behind done told =
     let nothing : Option Found = None in record {
       taken = nothing;
-      ends = ap (λ e. (nothing, e)) done ∙ sym (ap (λ b. taken_by b buf (Some (Bytes len)) old) behind);
+      ends = ap (λ e. (nothing, e)) done
+          ∙ sym (ap (λ b. taken_by b buf (Some (Bytes len)) old) behind);
       told = told;
     }
 
 -- octets that came in time
 pub told_level : (now : ℕ) (old : Ends) (f : Option Found) (event : Next) (buf : List ℕ)
-    → is_behind old.timing now ≡ false → event ≡ event_at (moment_at old.timing now) f → IsTold now old f event buf old
+    → is_behind old.timing now ≡ false → event ≡ event_at (moment_at old.timing now) f
+    → IsTold now old f event buf old
 told_level now old f event buf level told = record {
   taken = f;
   ends = sym (ap (λ b. taken_by b buf f old) level);
@@ -276,8 +317,10 @@ told_level now old f event buf level told = record {
 }
 
 -- rounds that found nothing, and the last one
-pub looked_found : (old before found new : Ends) (first count begun now : ℕ) (f : Found) (buf : List ℕ)
-    → QuietRounds old first count begun before → IsTurn begun before (Some f) buf found → new ≡ told_at now found
+pub looked_found : (old before found new : Ends) (first count begun now : ℕ) (f : Found)
+    (buf : List ℕ)
+    → QuietRounds old first count begun before → IsTurn begun before (Some f) buf found
+    → new ≡ told_at now found
     → LooksOn first old now (Some f) buf new
 looked_found old before found new first count begun now f buf quiet turn done = record {
   count = count;
@@ -292,7 +335,8 @@ looked_found old before found new first count begun now f buf quiet turn done = 
 
 pub looked_long : (old before found new : Ends) (first count begun now : ℕ) (buf : List ℕ)
     → QuietRounds old first count begun before → IsTurn begun before None buf found
-    → (is_tick_due first (is_awaited old.timing) now found ≡ true) ⊎ (count ≡ 200) → new ≡ told_at now found
+    → (is_tick_due first (is_awaited old.timing) now found ≡ true) ⊎ (count ≡ 200)
+    → new ≡ told_at now found
     → LooksOn first old now None buf new
 looked_long old before found new first count begun now buf quiet turn last done = record {
   count = count;
@@ -305,9 +349,11 @@ looked_long old before found new first count begun now buf quiet turn last done 
   done = done;
 }
 
-pub looked_last : (old before found new : Ends) (first count begun now : ℕ) (f : Option Found) (buf : List ℕ)
+pub looked_last : (old before found new : Ends) (first count begun now : ℕ) (f : Option Found)
+    (buf : List ℕ)
     → QuietRounds old first count begun before → IsTurn begun before f buf found
-    → (is_tick_due first (is_awaited old.timing) now found ≡ true) ⊎ (count ≡ 200) → new ≡ told_at now found
+    → (is_tick_due first (is_awaited old.timing) now found ≡ true) ⊎ (count ≡ 200)
+    → new ≡ told_at now found
     → LooksOn first old now f buf new
 looked_last old before found new first count begun now None buf quiet turn last done =
     looked_long old before found new first count begun now buf quiet turn last done
@@ -315,63 +361,90 @@ looked_last old before found new first count begun now (Some f) buf quiet turn l
     looked_found old before found new first count begun now f buf quiet turn done
 
 -- one more that found nothing
-quiet_more_by : (start before found : Ends) (first count begun now : ℕ) (f : Option Found) (buf : List ℕ)
-    → QuietRounds start first count begun before → IsTurn begun before f buf found → is_some f ≡ false
+quiet_more_by : (start before found : Ends) (first count begun now : ℕ) (f : Option Found)
+    (buf : List ℕ)
+    → QuietRounds start first count begun before → IsTurn begun before f buf found → is_some f
+    ≡ false
     → is_tick_due first (is_awaited start.timing) now found ≡ false
     → QuietRounds start first (count + 1) now (told_at now found)
 quiet_more_by start before found first count begun now None buf quiet turn nothing undue =
     OneRound count begun now before found buf quiet turn undue
-quiet_more_by start before found first count begun now (Some f) buf quiet turn nothing undue = absurd (cc)
+quiet_more_by start before found first count begun now (Some f) buf quiet turn nothing undue =
+    absurd (cc)
 
 -- a tick is due or not, by what the port has at hand
-due_of : (start found new : Ends) (first now : ℕ) (was is_due : Bool) → was ≡ is_awaited start.timing
+due_of : (start found new : Ends) (first now : ℕ) (was is_due : Bool)
+    → was ≡ is_awaited start.timing
     → new ≡ told_at now found → is_due ≡ is_tick_due first was now new
     → is_tick_due first (is_awaited start.timing) now found ≡ is_due
 due_of start found new first now was is_due awaited done is =
     sym (is ∙ (ap (λ (e : Ends). is_tick_due first was now e) done
     ∙ ap (λ w. is_tick_due first w now found) awaited))
 
-pub quiet_more : (start before found new : Ends) (first count begun now : ℕ) (f : Option Found) (buf : List ℕ)
-    (was is_due : Bool) → QuietRounds start first count begun before → IsTurn begun before f buf found
+pub quiet_more : (start before found new : Ends) (first count begun now : ℕ) (f : Option Found)
+    (buf : List ℕ)
+    (was is_due : Bool) → QuietRounds start first count begun before
+    → IsTurn begun before f buf found
     → is_some f ≡ false → was ≡ is_awaited start.timing → new ≡ told_at now found
-    → is_due ≡ is_tick_due first was now new → is_due ≡ false → QuietRounds start first (count + 1) now new
-quiet_more start before found new first count begun now f buf was is_due quiet turn nothing awaited done is undue =
+    → is_due ≡ is_tick_due first was now new → is_due ≡ false
+    → QuietRounds start first (count + 1) now new
+quiet_more start before found new first count begun now f buf was is_due quiet turn nothing awaited
+    done is undue =
     let P : Ends → Type 0 = λ e. QuietRounds start first (count + 1) now e in
-    subst P (sym done) (quiet_more_by start before found first count begun now f buf quiet turn nothing
+    subst P (sym done) (quiet_more_by start before found first count begun now f buf quiet turn
+    nothing
     (due_of start found new first now was is_due awaited done is ∙ undue))
 
-pub looked_due : (start before found new : Ends) (first count begun now : ℕ) (f : Option Found) (buf : List ℕ)
-    (was is_due : Bool) → QuietRounds start first count begun before → IsTurn begun before f buf found
+pub looked_due : (start before found new : Ends) (first count begun now : ℕ) (f : Option Found)
+    (buf : List ℕ)
+    (was is_due : Bool) → QuietRounds start first count begun before
+    → IsTurn begun before f buf found
     → was ≡ is_awaited start.timing → new ≡ told_at now found
     → is_due ≡ is_tick_due first was now new → is_due ≡ true → LooksOn first start now f buf new
-looked_due start before found new first count begun now f buf was is_due quiet turn awaited done is due =
+looked_due start before found new first count begun now f buf was is_due quiet turn awaited done is
+    due =
     looked_last start before found new first count begun now f buf quiet turn
     (inl (due_of start found new first now was is_due awaited done is ∙ due)) done
 
 -- something was found
-pub looked_some : (start before found new : Ends) (first count begun now : ℕ) (f : Option Found) (buf : List ℕ)
-    → QuietRounds start first count begun before → IsTurn begun before f buf found → is_some f ≡ true
+pub looked_some : (start before found new : Ends) (first count begun now : ℕ) (f : Option Found)
+    (buf : List ℕ)
+    → QuietRounds start first count begun before → IsTurn begun before f buf found → is_some f
+    ≡ true
     → new ≡ told_at now found → LooksOn first start now f buf new
 looked_some start before found new first count begun now None buf quiet turn some done = absurd (cc)
 looked_some start before found new first count begun now (Some f) buf quiet turn some done =
     looked_found start before found new first count begun now f buf quiet turn done
 
 -- and where nothing was, nothing failed
-pub none_failed : (f : Option Found) (old new : ℕ) → is_some f ≡ false → new ≡ old + faults_in f → new ≡ old
+pub none_failed : (f : Option Found) (old new : ℕ) → is_some f ≡ false → new ≡ old + faults_in f
+    → new ≡ old
 none_failed None old new nothing is = omega (arith, is)
 none_failed (Some f) old new nothing is = absurd (cc)
 
 -- a turn, with its event
-pub turned : (old found new : Ends) (first now : ℕ) (f : Option Found) (event : Next) (buf : List ℕ) →
-    is_wall_due old.walled first ≡ false → LooksOn first (looking (told_at first old)) now f buf found →
+pub turned : (old found new : Ends) (first now : ℕ) (f : Option Found) (event : Next) (buf : List ℕ)
+    →
+    is_wall_due old.walled first ≡ false
+    → LooksOn first (looking (told_at first old)) now f buf found →
     IsTold now found f event buf new → Turns old event buf new
 turned old found new first now f event buf due looks told =
     let t : TurnsToEnds old event buf new =
-    record { first = first; due = due; now = now; f = f; found = found; looks = looks; told = told } in
+    record {
+      first = first;
+      due = due;
+      now = now;
+      f = f;
+      found = found;
+      looks = looks;
+      told =
+          told;
+    } in
     inr t
 
 -- the wall clock, which is due
-pub turned_to_wall : (old new : Ends) (begun : ℕ) (event : Next) (buf : List ℕ) → is_wall_due old.walled begun ≡ true →
+pub turned_to_wall : (old new : Ends) (begun : ℕ) (event : Next) (buf : List ℕ)
+    → is_wall_due old.walled begun ≡ true →
     IsWallTold begun (told_at begun old) event new → Turns old event buf new
 turned_to_wall old new begun event buf due told =
     let t : TurnsToWall old event new = record { begun = begun; due = due; told = told } in

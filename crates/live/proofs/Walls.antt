@@ -1,12 +1,15 @@
 -- The ends are looked at between two events that tell the wall clock.
-use Rattle.std.proofs.Common.{◌≡◌, ◌≢◌, ℕ, ◌+◌, ◌-◌, ◌<◌, nat_le, ◌&&◌, ◌||◌, not, Bool, true, false, List, Option, Some, None, IfSome, arith, refl, sym, ap, subst, ◌∙◌, inl, inr}
+use Rattle.std.proofs.Common.{◌≡◌, ◌≢◌, ℕ, ◌+◌, ◌-◌, ◌<◌, nat_le, ◌&&◌, ◌||◌, not, Bool, true}
+use Rattle.std.proofs.Common.{false, List, Option, Some, None, IfSome, arith, refl, sym, ap, subst}
+use Rattle.std.proofs.Common.{◌∙◌, inl, inr}
 use Rattle.gateway.specs.declared.ports.Next.{Next}
 use Rattle.live.specs.Timing.{Moments, read_at, moment_at, is_behind, is_awaited}
 use Rattle.live.specs.Walls.{is_wall, is_wall_due, is_due_since}
 use Rattle.live.specs.Law.{AtBegun}
 use Rattle.live.proofs.Apart.{walled_of, walled_apart, clock_of, clock_apart, taken_same}
 use Rattle.live.proofs.Rounds.{walled_aside, turn_kept, quiet_kept, looks_kept}
-use Rattle.live.specs.Ends.{Ends, QuietRounds, NoRound, OneRound, Turns, LogsTurn, as_logged, TurnsToWall, TurnsToEnds, event_at, looking, told_at}
+use Rattle.live.specs.Ends.{Ends, QuietRounds, NoRound, OneRound, Turns, LogsTurn, as_logged}
+use Rattle.live.specs.Ends.{TurnsToWall, TurnsToEnds, event_at, looking, told_at}
 use Rattle.live.specs.declared.found.Found.{Found}
 use Rattle.live.specs.declared.found.Found.TheVariants as found
 use Rattle.live.specs.declared.walled.Walled.{Walled}
@@ -20,17 +23,21 @@ no_wall now (Some found.Cut) = refl
 no_wall now (Some (found.Line len)) = refl
 no_wall now (Some found.Fault) = refl
 
-of_ends : (old new : Ends) (event : Next) (buf : List ℕ) → TurnsToEnds old event buf new → is_wall event ≡ false
-of_ends old new event buf t = ap is_wall t.told.told ∙ no_wall (moment_at new.timing t.now) t.told.taken
+of_ends : (old new : Ends) (event : Next) (buf : List ℕ) → TurnsToEnds old event buf new
+    → is_wall event ≡ false
+of_ends old new event buf t = ap is_wall t.told.told
+    ∙ no_wall (moment_at new.timing t.now) t.told.taken
 
 -- once it was told it isn't due before the ends have been looked at
-undue : (a b c d : Ends) (first second : Next) → b.walled ≡ c.walled → TurnsToWall a first b → TurnsToWall c second d
+undue : (a b c d : Ends) (first second : Next) → b.walled ≡ c.walled → TurnsToWall a first b
+    → TurnsToWall c second d
     → false ≡ true
 undue a b c d first second same t u =
     let told = sym same ∙ ap (λ (e : Ends). e.walled) t.told.ends in
     sym (ap (λ (w : Walled). is_wall_due w u.begun) told) ∙ u.due
 
-apart_by : (a b c d : Ends) (first second : Next) (buf more : List ℕ) → b.walled ≡ c.walled → Turns a first buf b
+apart_by : (a b c d : Ends) (first second : Next) (buf more : List ℕ) → b.walled ≡ c.walled
+    → Turns a first buf b
     → Turns c second more d → is_wall first ≡ true → is_wall second ≡ false
 apart_by a b c d first second buf more same (inr t) u told =
     let no : false ≡ true = sym (of_ends a b first buf t) ∙ told in absurd (cc)
@@ -38,7 +45,8 @@ apart_by a b c d first second buf more same (inl t) (inr u) told = of_ends c d s
 apart_by a b c d first second buf more same (inl t) (inl u) told =
     let no : false ≡ true = undue a b c d first second same t u in absurd (cc)
 
-pub apart : (a b c : Ends) (first second : Next) (buf more : List ℕ) → LogsTurn a first buf b → LogsTurn b second more c
+pub apart : (a b c : Ends) (first second : Next) (buf more : List ℕ) → LogsTurn a first buf b
+    → LogsTurn b second more c
     → is_wall first ≡ true → is_wall second ≡ false
 apart a b c first second buf more l m =
     apart_by a (as_logged a.log b) b (as_logged b.log c) first second buf more refl l.turns m.turns
@@ -58,7 +66,8 @@ looked_walled : (old new : Ends) (event : Next) (buf : List ℕ) → TurnsToEnds
 looked_walled old new event buf t =
     ap (λ (p : Option Found × Ends). walled_of p.1) t.told.ends
     ∙ (taken_same walled_of walled_apart (is_behind t.found.timing t.now) buf t.f t.found
-    ∙ looks_kept walled_of walled_aside t.first (looking (told_at t.first old)) t.now t.f buf t.found t.looks)
+    ∙ looks_kept walled_of walled_aside t.first (looking (told_at t.first old)) t.now t.f buf
+    t.found t.looks)
 
 -- it isn't due either where the last round begins
 due_last : (a b c : Bool) → (a || (b || c)) ≡ false → c ≡ false
@@ -66,7 +75,8 @@ due_last true b c undue = absurd (cc)
 due_last false true c undue = absurd (cc)
 due_last false false c undue = undue
 
-quiet_undue : (start : Ends) (first count begun : ℕ) (e : Ends) → QuietRounds start first count begun e
+quiet_undue : (start : Ends) (first count begun : ℕ) (e : Ends)
+    → QuietRounds start first count begun e
     → is_wall_due start.walled first ≡ false → is_wall_due start.walled begun ≡ false
 quiet_undue start first _ _ _ NoRound undue = undue
 quiet_undue start first _ _ _ (OneRound count begun now before found buf q t undue) before_undue =
@@ -105,13 +115,16 @@ at_begun (Some before) begun now Holds h = h
 ToldAt : (begun : ℕ) → Moments → Type 0
 ToldAt begun told = (before : Moments) × (told ≡ read_at before begun)
 
-quiet_told : (start : Ends) (first count begun : ℕ) (e : Ends) → QuietRounds start first count begun e → ToldAt first start.clock
+quiet_told : (start : Ends) (first count begun : ℕ) (e : Ends)
+    → QuietRounds start first count begun e → ToldAt first start.clock
     → ToldAt begun e.clock
 unfolding ToldAt
 quiet_told start first _ _ _ NoRound told = told
-quiet_told start first _ _ _ (OneRound count begun now before found buf q t undue) told = (found.clock, refl)
+quiet_told start first _ _ _ (OneRound count begun now before found buf q t undue) told =
+    (found.clock, refl)
 
-begun_clock : (old new : Ends) (event : Next) (buf : List ℕ) (t : TurnsToEnds old event buf new) (Holds : ℕ → Type 0)
+begun_clock : (old new : Ends) (event : Next) (buf : List ℕ) (t : TurnsToEnds old event buf new)
+    (Holds : ℕ → Type 0)
     → Holds t.looks.begun → AtBegun new.clock Holds
 unfolding ToldAt
 begun_clock old new event buf t Holds h =
@@ -126,9 +139,11 @@ begun_clock old new event buf t Holds h =
     let P : Moments → Type 0 = λ c. AtBegun c Holds in
     subst P (sym told) (at_begun begun.0 l.begun t.now Holds h)
 
-second_by : (a b c d : Ends) (first second : Next) (buf more : List ℕ) → b.walled ≡ c.walled → Turns a first buf b
+second_by : (a b c d : Ends) (first second : Next) (buf more : List ℕ) → b.walled ≡ c.walled
+    → Turns a first buf b
     → Turns c second more d → is_wall first ≡ false → is_wall second ≡ false
-    → AtBegun d.clock (λ begun. IfSome b.walled.told (λ t. begun < t + 1000)) × (b.walled.told ≢ None)
+    → AtBegun d.clock (λ begun. IfSome b.walled.told (λ t. begun < t + 1000))
+    × (b.walled.told ≢ None)
 second_by a b c d first second buf more same (inl t) u dark other =
     let wrong : false ≡ true = sym dark ∙ wall_of a b first buf t in absurd (cc)
 second_by a b c d first second buf more same (inr t) (inl u) dark other =
@@ -144,9 +159,12 @@ pub each_second : (a b c : Ends) (first second : Next) (buf more : List ℕ) →
     → LogsTurn b second more c → is_wall first ≡ false → is_wall second ≡ false
     → AtBegun c.clock (λ begun. IfSome b.walled.told (λ t. begun < t + 1000))
 each_second a b c first second buf more l m dark other =
-    (second_by a (as_logged a.log b) b (as_logged b.log c) first second buf more refl l.turns m.turns dark other).0
+    (second_by a (as_logged a.log b) b (as_logged b.log c) first second buf more refl l.turns
+    m.turns dark other).0
 
 pub was_told : (a b c : Ends) (first second : Next) (buf more : List ℕ) → LogsTurn a first buf b
-    → LogsTurn b second more c → is_wall first ≡ false → is_wall second ≡ false → b.walled.told ≢ None
+    → LogsTurn b second more c → is_wall first ≡ false → is_wall second ≡ false → b.walled.told
+    ≢ None
 was_told a b c first second buf more l m dark other =
-    (second_by a (as_logged a.log b) b (as_logged b.log c) first second buf more refl l.turns m.turns dark other).1
+    (second_by a (as_logged a.log b) b (as_logged b.log c) first second buf more refl l.turns
+    m.turns dark other).1

@@ -1,9 +1,12 @@
 -- A write in two calls: what the first took isn't handed over again.
-use Rattle.std.proofs.Common.{◌≡◌, ℕ, ◌+◌, ◌-◌, ◌≤◌, ◌==◌, true, false, Bool, List, [], ◌++◌, length, take, drop, Some, None, Result, Ok, Err, arith, refl, sym, ap, subst, ◌∙◌}
+use Rattle.std.proofs.Common.{◌≡◌, ℕ, ◌+◌, ◌-◌, ◌≤◌, ◌==◌, true, false, Bool, List, [], ◌++◌}
+use Rattle.std.proofs.Common.{length, take, drop, Some, None, Result, Ok, Err, arith, refl, sym, ap}
+use Rattle.std.proofs.Common.{subst, ◌∙◌}
 use Rattle.std.specs.declared.io.Error.{Error}
 use Rattle.std.proofs.Math.Seq.{take-add, take-append_seam}
 use Rattle.std.proofs.lemmas.List.{append_assoc, append-nil, length-drop}
-use Rattle.live.specs.Streams.{Calls, Sent, Waits, called, taken_of, takes_all, took, Took, WritesOnce, WritesAll, WritesFront}
+use Rattle.live.specs.Streams.{Calls, Sent, Waits, called, taken_of, takes_all, took, Took}
+use Rattle.live.specs.Streams.{WritesOnce, WritesAll, WritesFront}
 
 -- octets that one call more took
 took_once : (old : Calls) (octets : List ℕ) (answer : Result ℕ Error)
@@ -11,14 +14,16 @@ took_once : (old : Calls) (octets : List ℕ) (answer : Result ℕ Error)
 took_once None octets answer = tt
 took_once (Some before) octets answer = refl
 
-took_by : (old new : Calls) (octets : List ℕ) (n : ℕ) → WritesOnce old octets n new → Took old (take n octets) new
+took_by : (old new : Calls) (octets : List ℕ) (n : ℕ) → WritesOnce old octets n new
+    → Took old (take n octets) new
 took_by old new octets n w =
     let P : Calls → Type 0 = λ c. Took old (take n octets) c in
     let Q : ℕ → Type 0 = λ k. Took old (take k octets) (called old (Sent octets w.answer)) in
     subst P (sym w.asked) (subst Q (sym w.means) (took_once old octets w.answer))
 
 -- the first call took them all, or it took a part and nothing more was handed over
-pub written_whole : (old new : Calls) (octets : List ℕ) (n : ℕ) → WritesOnce old octets n new → n ≡ length octets
+pub written_whole : (old new : Calls) (octets : List ℕ) (n : ℕ) → WritesOnce old octets n new
+    → n ≡ length octets
     → WritesFront old octets true new
 written_whole old new octets n w all = record {
   count = n;
@@ -26,7 +31,8 @@ written_whole old new octets n w all = record {
   all = grind (arith, all);
 }
 
-pub written_part : (old new : Calls) (octets : List ℕ) (n : ℕ) → WritesOnce old octets n new → n ≤ length octets
+pub written_part : (old new : Calls) (octets : List ℕ) (n : ℕ) → WritesOnce old octets n new
+    → n ≤ length octets
     → (n == length octets) ≡ false → WritesFront old octets false new
 written_part old new octets n w some part = record {
   count = n;
@@ -51,10 +57,13 @@ eq_by false false f g = refl
 eq_by true false f g = let wrong : false ≡ true = f refl in absurd (cc)
 eq_by false true f g = let wrong : false ≡ true = g refl in absurd (cc)
 
-all_by : (answer : Result ℕ Error) (n : ℕ) (octets : List ℕ) → n ≤ length octets → (n == length octets) ≡ false
+all_by : (answer : Result ℕ Error) (n : ℕ) (octets : List ℕ) → n ≤ length octets
+    → (n == length octets) ≡ false
     → takes_all answer (length (drop n octets)) ≡ (n + taken_of answer == length octets)
-all_by (Ok count) n octets some part = eq_by (count == length (drop n octets)) (n + count == length octets)
-    (λ e. grind (arith, e, some, length-drop n octets)) (λ e. grind (arith, e, some, length-drop n octets))
+all_by (Ok count) n octets some part =
+    eq_by (count == length (drop n octets)) (n + count == length octets)
+    (λ e. grind (arith, e, some, length-drop n octets))
+    (λ e. grind (arith, e, some, length-drop n octets))
 all_by (Err fault) n octets some part =
     let none : n + 0 ≡ n = omega arith in sym (ap (λ k. k == length octets) none ∙ part)
 
@@ -63,7 +72,8 @@ unequal n l other = eq_by (n == l) false (λ e. absurd (other (grind (arith, e))
     (λ e. let wrong : false ≡ true = e in absurd (cc))
 
 -- whether calls wait is no matter
-waits_took : (old c : Calls) (octets : List ℕ) (w s : Bool) → Took old octets c → Took old octets (called c (Waits w s))
+waits_took : (old c : Calls) (octets : List ℕ) (w s : Bool) → Took old octets c
+    → Took old octets (called c (Waits w s))
 waits_took None None octets w s t = tt
 waits_took None (Some b) octets w s t = t
 waits_took (Some a) None octets w s t = t
@@ -73,20 +83,24 @@ waits_none : (c : Calls) (w s : Bool) → Took c [] (called c (Waits w s))
 waits_none None w s = tt
 waits_none (Some before) w s = sym (append-nil (took before))
 
-pub written_refused : (old mid new : Calls) (octets : List ℕ) (n : ℕ) (w s : Bool) → WritesOnce old octets n mid
+pub written_refused : (old mid new : Calls) (octets : List ℕ) (n : ℕ) (w s : Bool)
+    → WritesOnce old octets n mid
     → n ≤ length octets → (n == length octets) ≡ false → new ≡ called mid (Waits w s)
     → WritesFront old octets false new
 written_refused old mid new octets n w s once some part done =
     let P : Calls → Type 0 = λ c. Took old (take n octets) c in
     record {
       count = n;
-      taken = subst P (sym done) (waits_took old mid (take n octets) w s (took_by old mid octets n once));
+      taken =
+          subst P (sym done) (waits_took old mid (take n octets) w s
+          (took_by old mid octets n once));
       all = sym part;
     }
 
 -- the second call took the rest, or a part of it
 written_rest : (old mid again last new : Calls) (octets : List ℕ) (n : ℕ) (is_taken w s v r : Bool)
-    → WritesOnce old octets n mid → n ≤ length octets → (n ≡ length octets → ⊥) → again ≡ called mid (Waits w s)
+    → WritesOnce old octets n mid → n ≤ length octets → (n ≡ length octets → ⊥)
+    → again ≡ called mid (Waits w s)
     → WritesAll again (drop n octets) is_taken last → new ≡ called last (Waits v r)
     → WritesFront old octets is_taken new
 written_rest old mid again last new octets n is_taken w s v r once some part same a stays =
@@ -95,14 +109,16 @@ written_rest old mid again last new octets n is_taken w s v r once some part sam
     let P : Calls → Type 0 = λ c. Took mid [] c in
     let Q : Calls → Type 0 = λ c. Took again (take m rest) c in
     let R : List ℕ → Type 0 = λ xs. Took old xs new in
-    let sent : Took again (take m rest) last = subst Q (sym a.asked) (took_once again rest a.answer) in
+    let sent : Took again (take m rest) last =
+    subst Q (sym a.asked) (took_once again rest a.answer) in
     let second : Took mid (take m rest) new =
     took_both mid again new [] (take m rest) (subst P (sym same) (waits_none mid w s))
     (subst Q (sym stays) (waits_took again last (take m rest) v r sent)) in
     record {
       count = n + m;
       taken = subst R (sym (take-add n m octets))
-          (took_both old mid new (take n octets) (take m rest) (took_by old mid octets n once) second);
+          (took_both old mid new (take n octets) (take m rest) (took_by old mid octets n once)
+          second);
       all = a.means ∙ all_by a.answer n octets some (unequal n (length octets) part);
     }
 
@@ -113,11 +129,15 @@ rest_is n xs =
     ap (λ k. take k rest) (sym (length-drop n xs))
     ∙ (ap (λ ys. take (length rest) ys) (sym (append-nil rest)) ∙ take-append_seam rest [])
 
-pub written_slice : (old mid again last new : Calls) (octets : List ℕ) (n : ℕ) (is_taken w s v r : Bool)
-    → WritesOnce old octets n mid → n ≤ length octets → (n ≡ length octets → ⊥) → again ≡ called mid (Waits w s)
-    → WritesAll again (take (length octets - n) (drop n octets)) is_taken last → new ≡ called last (Waits v r)
+pub written_slice : (old mid again last new : Calls) (octets : List ℕ) (n : ℕ)
+    (is_taken w s v r : Bool)
+    → WritesOnce old octets n mid → n ≤ length octets → (n ≡ length octets → ⊥)
+    → again ≡ called mid (Waits w s)
+    → WritesAll again (take (length octets - n) (drop n octets)) is_taken last
+    → new ≡ called last (Waits v r)
     → WritesFront old octets is_taken new
 written_slice old mid again last new octets n is_taken w s v r once some part same a stays =
     let P : List ℕ → Type 0 = λ rest. WritesAll again rest is_taken last in
-    written_rest old mid again last new octets n is_taken w s v r once some part same (subst P (rest_is n octets) a)
+    written_rest old mid again last new octets n is_taken w s v r once some part same
+    (subst P (rest_is n octets) a)
     stays

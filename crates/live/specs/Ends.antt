@@ -1,5 +1,6 @@
 -- The ends of a live run, and what its port does with them (this gateway's own profile).
-use Rattle.std.specs.Prelude.{ℕ, ◌+◌, ◌-◌, ◌≤◌, nat_le, ◌⊎◌, List, [], ◌∷◌, ◌++◌, length, take, Bool, true, false, not, ◌&&◌, ◌||◌, Option, Some, None, IfSome, ◌≡◌}
+use Rattle.std.specs.Prelude.{ℕ, ◌+◌, ◌-◌, ◌≤◌, nat_le, ◌⊎◌, List, [], ◌∷◌, ◌++◌, length, take}
+use Rattle.std.specs.Prelude.{Bool, true, false, not, ◌&&◌, ◌||◌, Option, Some, None, IfSome, ◌≡◌}
 use Rattle.gateway.specs.Log.{Log, Went, Output, LineOut, TcpOut, Closed, GapOut}
 use Rattle.gateway.specs.Ports.{told_by}
 use Rattle.gateway.specs.declared.ports.Next.{Next}
@@ -12,7 +13,8 @@ use Rattle.live.specs.declared.guests.Guests.{Guests}
 use Rattle.live.specs.Wires.{looked, Wrote, History, noted, IsNew, Visits, visited}
 use Rattle.live.specs.declared.wires.Got.{Got}
 use Rattle.live.specs.declared.wires.Got.TheVariants.{Octets, Quiet, Gone}
-use Rattle.live.specs.Timing.{Moments, read_at, moment_at, is_behind, is_awaited, heard_at, asked_at}
+use Rattle.live.specs.Timing.{Moments, read_at, moment_at, is_behind, is_awaited, heard_at}
+use Rattle.live.specs.Timing.{asked_at}
 use Rattle.live.specs.Walls.{is_wall_due, told_at_moment}
 use Rattle.live.specs.declared.timing.Timing.{Timing}
 use Rattle.live.specs.declared.walled.Walled.{Walled}

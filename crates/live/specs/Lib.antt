@@ -10,3 +10,4 @@ pub mod InTurn
 pub mod Law
 pub mod Passed
 pub mod Memory
+pub mod Clocks

@@ -1,5 +1,6 @@
 -- What passed at the wires, as the log tells it (this gateway's own profile).
-use Rattle.std.specs.Prelude.{◌≡◌, ℕ, ◌+◌, List, [], ◌∷◌, ◌++◌, Bool, true, false, Option, Some, None, is_some}
+use Rattle.std.specs.Prelude.{◌≡◌, ℕ, ◌+◌, List, [], ◌∷◌, ◌++◌, Bool, true, false, Option, Some}
+use Rattle.std.specs.Prelude.{None, is_some}
 use Rattle.gateway.specs.Log.{Log, Came, Went, LineIn, LineOut, Opened, TcpIn, TcpOut, Output}
 use Rattle.gateway.specs.declared.ports.Next.{Next}
 use Rattle.live.specs.Wires.{Happening, Gave, WasQuiet, Wrote, History, IsNew, Visits}
@@ -66,9 +67,13 @@ abbrev pub TellsLine : List ℕ → List (List ℕ) → History → Type 0
 TellsLine came went None = Unit {0}
 TellsLine came went (Some happened) = (came ≡ given happened) × (went ≡ handed happened)
 
--- While no cut is due these APDUs, and no others, were handed to the wire, which took each.
+-- While no cut is due these APDUs, and no others, were handed to the wire, which took each. Since a
+-- write failed, so that a cut is due, the wire was handed the first of them alone, and took each of
+-- these but the last, of which it may have taken a part; those that went out behind it were
+-- dropped.
 abbrev pub TellsWritten : (is_cut_due : Bool) → (went handed taken : List (List ℕ)) → Type 0
-TellsWritten true went handed taken = Unit {0}
+TellsWritten true went handed taken = (dropped : List (List ℕ)) × (lost : List ℕ)
+    × (went ≡ dropped ++ handed) × (handed ≡ lost ∷ taken)
 TellsWritten false went handed taken = (went ≡ handed) × (went ≡ taken)
 
 -- the wire of a connection gave these octets, with those that are held, and took these APDUs

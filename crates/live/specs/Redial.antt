@@ -1,5 +1,6 @@
 -- A wire that is reached again where it has gone (this gateway's own profile).
-use Rattle.std.specs.Prelude.{◌≡◌, ℕ, ◌-◌, ◌*◌, min, nat_le, List, Bool, true, false, Option, Some, None}
+use Rattle.std.specs.Prelude.{◌≡◌, ℕ, ◌-◌, ◌*◌, min, nat_le, List, Bool, true, false, Option, Some}
+use Rattle.std.specs.Prelude.{None}
 use Rattle.live.specs.Wires.{History, Wrote, noted, IsNew, Visits, visited}
 use Rattle.live.specs.Timing.{Moments, read_at}
 use Rattle.live.specs.Ends.{read_open}

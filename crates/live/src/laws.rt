@@ -1,14 +1,18 @@
 //! Laws of the port over live ends, in the terms of the clock, the requests and the looks at the
 //! line.
-ghost use Rattle.std.specs.Prelude.{◌⊎◌, ◌≡◌, ◌≢◌, All, IfSome, None, ◌+◌, ◌-◌, ◌<◌, ◌≤◌, ℕ, List, [], ◌∷◌, Some, true, false};
+ghost use Rattle.std.specs.Prelude.{◌⊎◌, ◌≡◌, ◌≢◌, All, IfSome, None, ◌+◌, ◌-◌, ◌<◌, ◌≤◌, ℕ, List};
+ghost use Rattle.std.specs.Prelude.{[], ◌∷◌, Some, true, false};
 ghost use Rattle.gateway.specs.declared.ports.Next.{Next};
 ghost use Rattle.live.specs.Ends.{Ends, LogsTurn, LogsPut};
-ghost use Rattle.live.specs.Law.{AtMoment, AtBytes, AtClock, AtBegun, IsHeardOut, KeepsOut, AtRounds, first_of, IsTickDue, IfTick};
+ghost use Rattle.live.specs.Law.{AtMoment, AtBytes, AtClock, AtBegun, IsHeardOut, KeepsOut};
+ghost use Rattle.live.specs.Law.{AtRounds, first_of, IsTickDue, IfTick};
 ghost use Rattle.gateway.specs.Log.{Closed, Output};
 ghost use Rattle.live.specs.InTurn.{BeginsBehind, LooksBefore, IsFarBehind};
 ghost use Rattle.session.specs.declared.kinds.Close.{Close};
 ghost use Rattle.session.specs.declared.kinds.Close.TheVariants.{Replaced};
-ghost use Rattle.live.specs.Passed.{IsFresh, Run, TellsEnds, TellsStill, line_in, line_out, centre_in, centre_out, opened_in, let_in_at, given, handed, taken_of, example_log, example_line};
+ghost use Rattle.live.specs.Passed.{IsFresh, Run, TellsEnds, TellsStill, line_in, line_out};
+ghost use Rattle.live.specs.Passed.{centre_in, centre_out, opened_in, let_in_at, given, handed};
+ghost use Rattle.live.specs.Passed.{taken_of, example_log, example_line};
 ghost use Rattle.live.specs.Walls.{is_wall};
 ghost use Rattle.live.specs.declared.timing.Request.{Request};
 
@@ -128,8 +132,10 @@ pub fn the_ends_are_looked_at_between_wall_moments()
 /// where the line and the connection tell what happens at them: the octets that came from the line,
 /// by the log, are those that its wire gave, and each request that went there was handed to it,
 /// whole and in that order; the octets that came on the open connection are those that its wire
-/// gave, and, while no cut is due, each APDU that went there was handed to it and taken; and where
-/// the door tells whom it let in, as many connections were opened.
+/// gave, and, while no cut is due, each APDU that went there was handed to it and taken. Since a
+/// write failed, so that a cut is due, each before it was taken, and none behind it was handed
+/// over: so the octets that the connection took are a beginning of those that the log tells. And
+/// where the door tells whom it let in, as many connections were opened.
 pub fn the_log_tells_what_passed()
     ensures { (start end : Ends) → IsFresh start → Run start end → TellsEnds end.log end }
 {}

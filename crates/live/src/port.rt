@@ -1,7 +1,10 @@
 //! The port over live ends.
-ghost use Rattle.std.specs.Prelude.{◌≡◌, ◌≢◌, ℕ, ◌+◌, ◌<◌, ◌≤◌, true, false, List, [], ◌∷◌, ◌++◌, length, take, Some, None, IfSome, option_map};
+ghost use Rattle.std.specs.Prelude.{◌≡◌, ◌≢◌, ℕ, ◌+◌, ◌<◌, ◌≤◌, true, false, List, [], ◌∷◌, ◌++◌};
+ghost use Rattle.std.specs.Prelude.{length, take, Some, None, IfSome, option_map};
 ghost use Rattle.gateway.specs.Ports.{FitsBuffer, faults_of, output_of, told_by};
-ghost use Rattle.live.specs.Ends.{Ends, Peer, after, told_at, IsTurn, IsTold, IsWallTold, Turns, Puts, LogsTurn, LogsPut, as_logged, FitsFound, IsWritten, LooksOn, faults_in, is_tick_due};
+ghost use Rattle.live.specs.Ends.{Ends, Peer, after, told_at, IsTurn, IsTold, IsWallTold, Turns};
+ghost use Rattle.live.specs.Ends.{Puts, LogsTurn, LogsPut, as_logged, FitsFound, IsWritten};
+ghost use Rattle.live.specs.Ends.{LooksOn, faults_in, is_tick_due};
 ghost use Rattle.live.specs.Timing.{is_behind, moment_at};
 ghost use Rattle.live.specs.Looks.{Looks, LooksAt};
 ghost use Rattle.live.specs.Walls.{untold};

@@ -1,7 +1,8 @@
 //! A wire that comes back.
 ghost use Rattle.std.specs.Prelude.{◌≡◌, ◌≢◌, ℕ, List, None, false};
 ghost use Rattle.live.specs.Wires.{FitsBuffer};
-ghost use Rattle.live.specs.Redial.{IsRedialled, IsPut, IsTriedOn, IsAnswered, dialled_map, is_due, grown, settled, told_at};
+ghost use Rattle.live.specs.Redial.{IsRedialled, IsPut, IsTriedOn, IsAnswered, dialled_map, is_due};
+ghost use Rattle.live.specs.Redial.{grown, settled, told_at};
 ghost use Rattle.live.specs.declared.wires.Got.TheVariants.{Quiet, Gone};
 ghost use Rattle.live.specs.declared.wires.Presence.TheVariants.{Untried};
 

@@ -3,7 +3,8 @@
 //! Only a look at the line waits, for some milliseconds; the door and a connection are asked
 //! without a wait. So octets of the line are seen at once, those of a control centre after one look
 //! at a quiet line.
-ghost use Rattle.std.specs.Prelude.{None};
+ghost use Rattle.std.specs.Prelude.{◌≡◌, ◌≤◌, IfOk, None};
+ghost use Rattle.live.specs.Clocks.{BeginsAt};
 
 use crate::guests::Guests;
 use crate::redial::{Dialled, Dialler};
@@ -378,7 +379,9 @@ impl<'a, R: std::rt::Clock> SystemClock<'a, R> {
     /// # Errors
     ///
     /// Those of the system.
-    pub fn start(rt: &'a R) -> io::Result<SystemClock<'a, R>> {
+    pub fn start(rt: &'a R) -> io::Result<SystemClock<'a, R>>
+        ensures { IfOk result (λ clock. BeginsAt 0 clock.first clock.now) }
+    {
         SystemClock::start_at(rt, 0)
     }
 
@@ -387,7 +390,9 @@ impl<'a, R: std::rt::Clock> SystemClock<'a, R> {
     /// # Errors
     ///
     /// Those of the system.
-    pub fn start_at(rt: &'a R, first: u64) -> io::Result<SystemClock<'a, R>> {
+    pub fn start_at(rt: &'a R, first: u64) -> io::Result<SystemClock<'a, R>>
+        ensures { IfOk result (λ clock. BeginsAt first clock.first clock.now) }
+    {
         Ok(SystemClock {
             rt,
             start: Instant::now(rt)?,
@@ -402,7 +407,12 @@ impl<R: std::rt::Clock> Clock for SystemClock<'_, R> {
 
     ghost walls = { λ _. None };
 
-    fn now_ms(&mut self) -> u64 {
+    fn now_ms(&mut self) -> u64
+        ensures first { self.new.first ≡ self.old.first }
+        // No moment is before the first one.
+        ensures from { self.old.first ≤ self.old.now → self.old.first ≤ result }
+        ensures last { self.new.now ≡ result }
+    {
         if let Ok(passed) = self.start.elapsed(self.rt) {
             let passed = u64::try_from(passed.as_millis()).unwrap_or(u64::MAX);
             self.now = self.first.saturating_add(passed);

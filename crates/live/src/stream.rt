@@ -1,7 +1,8 @@
 //! One call to a stream of the system, and what its answer means.
 ghost use Rattle.std.specs.Prelude.{◌≤◌, length};
 ghost use Rattle.live.specs.Wires.{FitsBuffer};
-ghost use Rattle.live.specs.Streams.{ReadsOnce, WritesOnce, WritesAll, WritesFront, WritesRequest, DropsWaiting, Drains};
+ghost use Rattle.live.specs.Streams.{ReadsOnce, WritesOnce, WritesAll, WritesFront, WritesRequest};
+ghost use Rattle.live.specs.Streams.{DropsWaiting, Drains};
 
 use crate::wires::Got;
 use std::io;

@@ -1,6 +1,7 @@
 //! What moment an event bears, so that a stall of the gateway is no late answer of the line.
 ghost use Rattle.std.specs.Prelude.{◌≡◌};
-ghost use Rattle.live.specs.Timing.{moment_at, is_behind, is_heard_out, is_awaited, heard_at, asked_at};
+ghost use Rattle.live.specs.Timing.{moment_at, is_behind, is_heard_out, is_awaited, heard_at};
+ghost use Rattle.live.specs.Timing.{asked_at};
 
 /// How far the moment of what a control centre sends may be behind the clock, in ms.
 // A healthy machine stays below it, and a selection lasts for seconds.

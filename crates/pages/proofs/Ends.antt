@@ -13,7 +13,8 @@ same_number : (m n : ℕ) → Some m ≡ Some n → m ≡ n
 same_number m n e = cc
 
 -- so many turns, and then so many more
-pub turns_joined : (n m k : ℕ) (a b c : Option Log) → k ≡ n + m → MoreEvents n a b → MoreEvents m b c
+pub turns_joined : (n m k : ℕ) (a b c : Option Log) → k ≡ n + m → MoreEvents n a b
+    → MoreEvents m b c
     → MoreEvents k a c
 turns_joined n m k None None None e p q = refl
 turns_joined n m k None None (Some z) e p q = cc

@@ -1,5 +1,6 @@
 -- Texts that are printed part by part.
-use Rattle.std.proofs.Common.{◌≡◌, ℕ, Bool, true, false, List, ◌++◌, Option, Some, None, sym, ap, subst, ◌∙◌, append_assoc}
+use Rattle.std.proofs.Common.{◌≡◌, ℕ, Bool, true, false, List, ◌++◌, Option, Some, None, sym, ap}
+use Rattle.std.proofs.Common.{subst, ◌∙◌, append_assoc}
 use Rattle.std.specs.Prelude.{Result, Ok, Err, OnOk, OnErr}
 use Rattle.std.specs.Result.{is_ok}
 use Rattle.std.specs.Io.KnownBytes.{Appends}
@@ -15,9 +16,17 @@ appends_more (Some a) (Some b) (Some c) xs ys p q =
     q ∙ ap (λ zs. zs ++ ys) p ∙ append_assoc a xs ys
 
 -- a text behind a beginning
-pub begun_longer : (a b : Option (List ℕ)) (xs ys : List ℕ) → IsBegun a b xs → IsBegun a b (xs ++ ys)
-begun_longer a b xs ys begun =
-    (begun.0, (begun.1.0 ++ ys, sym (append_assoc begun.0 begun.1.0 ys) ∙ ap (λ zs. zs ++ ys) begun.1.1), begun.2)
+pub begun_longer : (a b : Option (List ℕ)) (xs ys : List ℕ) → IsBegun a b xs
+    → IsBegun a b (xs ++ ys)
+begun_longer a b xs ys begun = (
+  begun.0,
+  (
+    begun.1.0 ++ ys,
+    sym (append_assoc begun.0 begun.1.0 ys)
+        ∙ ap (λ zs. zs ++ ys) begun.1.1,
+  ),
+  begun.2,
+)
 
 pub begun_behind : (a b c : Option (List ℕ)) (xs ys : List ℕ) → Appends a b xs → IsBegun b c ys
     → IsBegun a c (xs ++ ys)
@@ -28,8 +37,10 @@ begun_behind a b c xs ys p begun = (
 )
 
 -- a text that is known, or a beginning of it, goes behind one that was printed
-pub poured_more : {E : Type 0} (before old new : Option (List ℕ)) (xs ys zs : List ℕ) (r : Result (Unit {0}) E)
-    → Appends before old xs → xs ++ ys ≡ zs → OnOk r (Appends old new ys) → OnErr r (IsBegun old new ys)
+pub poured_more : {E : Type 0} (before old new : Option (List ℕ)) (xs ys zs : List ℕ)
+    (r : Result (Unit {0}) E)
+    → Appends before old xs → xs ++ ys ≡ zs → OnOk r (Appends old new ys)
+    → OnErr r (IsBegun old new ys)
     → IsPoured (is_ok r) before new zs
 poured_more before old new xs ys zs (Ok done) p is all begun =
     subst (Appends before new) is (appends_more before old new xs ys p all)
@@ -37,7 +48,8 @@ poured_more before old new xs ys zs (Err e) p is all begun =
     subst (IsBegun before new) is (begun_behind before old new xs ys p begun)
 
 -- of the same output
-pub poured_as : {W : Type 0} (contents : W → Option (List ℕ)) (before : Option (List ℕ)) (text : List ℕ)
+pub poured_as : {W : Type 0} (contents : W → Option (List ℕ)) (before : Option (List ℕ))
+    (text : List ℕ)
     (taken is : Bool) (out w : W) → taken ≡ is → out ≡ w → IsPoured is before (contents w) text
     → IsPoured taken before (contents out) text
 poured_as contents before text taken is out w e f p =

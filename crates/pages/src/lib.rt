@@ -3,7 +3,7 @@
 //! A [`Paged`] port puts those lines on a page. [`drive_printed`] drives a gateway over one, as
 //! `gateway::drive_on` does, and takes the lines off the page from time to time and prints them, so
 //! that a run of any length takes the room of a part of its lines. Where it is watched it tells how
-//! far it has come. [`print`] writes one text whole.
+//! far it has come. [`print`] writes one text whole, and [`print_behind`] one behind others.
 //!
 //! Proved: what `drive_on` promises of the run; that what was printed is the lines of all actions
 //! of the log, in their order, and nothing else, or, where the output failed, a beginning of them;
@@ -17,5 +17,5 @@ mod progress;
 
 pub use driving::drive_printed;
 pub use paged::Paged;
-pub use printing::print;
+pub use printing::{print, print_behind};
 pub use progress::{blank_if, tell_percent};

@@ -1,7 +1,7 @@
 //! A text that is written whole.
-ghost use Rattle.std.specs.Prelude.{OnErr, OnOk};
+ghost use Rattle.std.specs.Prelude.{◌++◌, ℕ, List, OnErr, OnOk, Option};
 ghost use Rattle.std.specs.Io.KnownBytes.{Appends};
-ghost use Rattle.pages.specs.Pouring.{IsBegun};
+ghost use Rattle.pages.specs.Pouring.{IsBegun, IsPoured};
 
 use std::io;
 use std::io::{ErrorKind, Write};
@@ -25,4 +25,17 @@ pub fn print<W: Write>(text: &[u8], out: &mut W) -> io::Result<()>
         }
     }
     Err(io::Error::from(ErrorKind::WriteZero))
+}
+
+/// Writes a text behind one of which all was printed, or else nothing, since the output failed.
+/// Answers whether the output has taken all.
+pub fn print_behind<W: Write>(text: &[u8], is_whole: bool, out: &mut W) -> bool
+    ensures { (before : Option (List ℕ)) (earlier : List ℕ) →
+        IsPoured is_whole before (W.contents out.old) earlier →
+        IsPoured result before (W.contents out.new) (earlier ++ text.now) }
+{
+    if !is_whole {
+        return false;
+    }
+    print(text, out).is_ok()
 }

@@ -1,5 +1,6 @@
 -- The text of a record, call by call.
-use Rattle.std.proofs.Common.{◌≡◌, ℕ, Bool, true, false, List, [], ◌∷◌, ◌++◌, reverse, Option, Some, None, IfSome, refl, sym, ap, subst, ◌∙◌, append_assoc, if◌then◌else◌}
+use Rattle.std.proofs.Common.{◌≡◌, ℕ, Bool, true, false, List, [], ◌∷◌, ◌++◌, reverse, Option, Some}
+use Rattle.std.proofs.Common.{None, IfSome, refl, sym, ap, subst, ◌∙◌, append_assoc, if◌then◌else◌}
 use Rattle.std.proofs.lemmas.List.{append-nil, reverse-reverse}
 use Rattle.std.specs.List.{AllByRecursion}
 use Rattle.std.specs.Prelude.{is_err, Result, Ok, Err, OnOk}
@@ -9,7 +10,9 @@ use Rattle.gateway.specs.declared.ports.Next.{Next}
 use Rattle.traces.specs.Printed.{IsPrintable, entries_in, line_of_entry, lines_of_log}
 use Rattle.traces.specs.Progress.{all_told}
 use Rattle.record.specs.Law.{grows_by}
-use Rattle.record.specs.Recording.{Recording, IsKept, Gives, Hears, Notes, added, text_of, log_of, told_behind, told_first, unless_over, passed, given, held_by, held_or_over}
+use Rattle.record.specs.Recording.{Recording, IsKept, Gives, Hears, Notes, added, text_of, log_of}
+use Rattle.record.specs.Recording.{told_behind, told_first, unless_over, passed, given, held_by}
+use Rattle.record.specs.Recording.{held_or_over}
 use Rattle.record.specs.Written.{log_in, IsText, IsWritten, AreLines}
 
 -- two texts behind one another
@@ -27,10 +30,12 @@ nothing_held (Some x) w = subst IsText (sym (append-nil x)) w
 
 -- by whether the record was over, and whether there was memory
 noted : (over memory : Bool) (old : Recording) (news : Log) → old.is_over ≡ over →
-    grows_by (if over then passed news old else held_by memory news old).is_over old (lines_of_log news)
+    grows_by (if over then passed news old else held_by memory news old).is_over old
+    (lines_of_log news)
     (if over then passed news old else held_by memory news old)
 noted true memory old news over =
-    let P : Bool → Type 0 = λ b. grows_by b old (lines_of_log news) (passed news old) in subst P (sym over) refl
+    let P : Bool → Type 0 = λ b. grows_by b old (lines_of_log news) (passed news old) in
+    subst P (sym over) refl
 noted false false old news over = refl
 noted false true old news over =
     let new = held_by true news old in
@@ -43,7 +48,8 @@ notes_line old new news n =
     let P : Recording → Type 0 = λ r. grows_by r.is_over old (lines_of_log news) r in
     subst P (sym n.done) (noted old.is_over n.has_memory old news refl)
 
-gave : (over taken : Bool) (old : Recording) → text_of (if over then old else given taken old) ≡ text_of old
+gave : (over taken : Bool) (old : Recording) → text_of (if over then old else given taken old)
+    ≡ text_of old
 gave true taken old = refl
 gave false true old = nothing_added old.taken old.held
 gave false false old = refl
@@ -58,7 +64,8 @@ took true taken old over goes = let no : false ≡ true = sym goes ∙ over in a
 took false true old over goes = refl
 took false false old over goes = absurd (cc)
 
-pub gives_taken : (old new : Recording) → Gives old new → new.is_over ≡ false → new.taken ≡ text_of old
+pub gives_taken : (old new : Recording) → Gives old new → new.is_over ≡ false
+    → new.taken ≡ text_of old
 gives_taken old new g goes =
     let P : Recording → Type 0 = λ r. r.is_over ≡ false → r.taken ≡ text_of old in
     subst P (sym g.done) (took old.is_over g.taken old refl) goes
@@ -70,7 +77,8 @@ kept_over true taken old over ends = ap (λ b. record old { is_over = b }) over
 kept_over false true old over ends = let no : false ≡ true = sym over ∙ ends in absurd (cc)
 kept_over false false old over ends = refl
 
-pub gives_over : (old new : Recording) → Gives old new → new.is_over ≡ true → new ≡ record old { is_over = true }
+pub gives_over : (old new : Recording) → Gives old new → new.is_over ≡ true
+    → new ≡ record old { is_over = true }
 gives_over old new g ends =
     let P : Recording → Type 0 = λ r. r.is_over ≡ true → r ≡ record old { is_over = true } in
     subst P (sym g.done) (kept_over old.is_over g.taken old refl) ends
@@ -87,7 +95,8 @@ gave_on old new g goes =
     subst P (sym g.done) (went_on old.is_over g.taken old refl) goes
 
 -- the line of an event that came has been taken, with all that was held
-pub hears_line : (old new : Recording) (next : Next) (buf : List ℕ) → Hears old next buf new → new.is_over ≡ false
+pub hears_line : (old new : Recording) (next : Next) (buf : List ℕ) → Hears old next buf new
+    → new.is_over ≡ false
     → new.taken ≡ added (text_of old) (lines_of_log (told_by next buf))
 hears_line old new next buf h goes =
     let grows : grows_by h.noted.is_over old (lines_of_log (told_by next buf)) h.noted
@@ -95,7 +104,8 @@ hears_line old new next buf h goes =
     let P : Bool → Type 0 = λ b. grows_by b old (lines_of_log (told_by next buf)) h.noted in
     gives_taken h.noted new h.gives goes ∙ subst P (gave_on h.noted new h.gives goes) grows
 
-pub ends : (old new : Recording) (news : Log) → Notes old news new → old.is_over ≡ true → new ≡ passed news old
+pub ends : (old new : Recording) (news : Log) → Notes old news new → old.is_over ≡ true
+    → new ≡ passed news old
 ends old new news n over =
     n.done ∙ ap (λ b. if b then passed news old else held_by n.has_memory news old) over
 
@@ -103,7 +113,8 @@ ends old new news n over =
 
 -- each log is read back from its lines
 abbrev pub ReadsBack : Type 0
-ReadsBack = (log : Log) → AllByRecursion IsPrintable log → entries_in (lines_of_log log) ≡ Some (reverse log)
+ReadsBack = (log : Log) → AllByRecursion IsPrintable log → entries_in (lines_of_log log)
+    ≡ Some (reverse log)
 
 lines_behind : (news log : Log) → lines_of_log (news ++ log) ≡ lines_of_log log ++ lines_of_log news
 lines_behind [] log = sym (append-nil (lines_of_log log))
@@ -116,7 +127,8 @@ all_printable : (news log : Log) → AllByRecursion IsPrintable news → AllByRe
 all_printable [] log ok all = all
 all_printable (entry ∷ news) log ok all = (ok.0, all_printable news log ok.1 all)
 
-log_read : ReadsBack → (log : Log) → AllByRecursion IsPrintable log → log_in (lines_of_log log) ≡ log
+log_read : ReadsBack → (log : Log) → AllByRecursion IsPrintable log → log_in (lines_of_log log)
+    ≡ log
 log_read reads log all = ap (λ told. reverse (all_told told)) (reads log all) ∙ reverse-reverse log
 
 -- the lines of a log are its text
@@ -126,7 +138,8 @@ log_text reads log all = record {
   printable = subst (AllByRecursion IsPrintable) (sym (log_read reads log all)) all;
 }
 
-more : (text : List ℕ) (news : Log) → IsText text → text ++ lines_of_log news ≡ lines_of_log (news ++ log_in text)
+more : (text : List ℕ) (news : Log) → IsText text → text ++ lines_of_log news
+    ≡ lines_of_log (news ++ log_in text)
 more text news is =
     ap (λ t. t ++ lines_of_log news) (sym is.lines) ∙ sym (lines_behind news (log_in text))
 
@@ -160,7 +173,8 @@ gave_written t held is = nothing_held (added t held) is
 -- what was written and what was missed, and these lines behind it
 told_more : ReadsBack → (t : Option (List ℕ)) (held : List ℕ) (missed : Option Log) (news : Log)
     → AllByRecursion IsPrintable news → IsWritten (added t held) → IfSome missed (λ log. log ≡ [])
-    → told_behind (added t (held ++ lines_of_log news)) missed ≡ tell (told_behind (added t held) missed) news
+    → told_behind (added t (held ++ lines_of_log news)) missed
+    ≡ tell (told_behind (added t held) missed) news
 told_more reads None held missed news ok is none = refl
 told_more reads (Some text) held None news ok is none = refl
 told_more reads (Some text) held (Some log) news ok is none =
@@ -168,10 +182,13 @@ told_more reads (Some text) held (Some log) news ok is none =
     ∙ more_log reads (text ++ held) news ok is))
 
 -- an event or an action was written down
-pub held_told : ReadsBack → (old new : Recording) (news : Log) → AllByRecursion IsPrintable news → IsKept old
-    → old.is_over ≡ false → new ≡ held_or_over true (lines_of_log news) old → log_of new ≡ tell (log_of old) news
+pub held_told : ReadsBack → (old new : Recording) (news : Log) → AllByRecursion IsPrintable news
+    → IsKept old
+    → old.is_over ≡ false → new ≡ held_or_over true (lines_of_log news) old → log_of new
+    ≡ tell (log_of old) news
 held_told reads old new news ok kept goes is =
-    ap log_of is ∙ told_more reads old.taken old.held old.missed news ok kept.written (kept.whole goes)
+    ap log_of is ∙ told_more reads old.taken old.held old.missed news ok kept.written
+    (kept.whole goes)
 
 told_missed : (t : Option (List ℕ)) (missed : Option Log) (news : Log)
     → told_behind t (tell missed news) ≡ tell (told_behind t missed) news
@@ -180,12 +197,14 @@ told_missed (Some text) None news = refl
 told_missed (Some text) (Some log) news = ap Some (append_assoc news log (log_in text))
 
 -- or it passed unwritten
-pub missed_told : (old new : Recording) (news : Log) (missed : Option Log) (over : Bool) → missed ≡ tell old.missed news
+pub missed_told : (old new : Recording) (news : Log) (missed : Option Log) (over : Bool)
+    → missed ≡ tell old.missed news
     → new ≡ record old { is_over = over; missed = missed } → log_of new ≡ tell (log_of old) news
 missed_told old new news missed over tells is =
     ap log_of is ∙ ap (told_behind (text_of old)) tells ∙ told_missed (text_of old) old.missed news
 
-pub gives_log : (old new : Recording) → Gives old new → new.missed ≡ old.missed → log_of new ≡ log_of old
+pub gives_log : (old new : Recording) → Gives old new → new.missed ≡ old.missed → log_of new
+    ≡ log_of old
 gives_log old new g same =
     ap (λ t. told_behind t new.missed) (gives_text old new g) ∙ ap (told_behind (text_of old)) same
 

@@ -4,7 +4,8 @@ use Rattle.gateway.specs.Ports.{told_by}
 use Rattle.gateway.specs.declared.ports.Next.{Next}
 use Rattle.traces.specs.Printed.{lines_of_log}
 use Rattle.record.specs.Written.{log_in, IsWritten}
-use Rattle.std.specs.Prelude.{◌≡◌, ℕ, Bool, true, false, List, [], ◌++◌, Option, Some, None, IfSome, if◌then◌else◌}
+use Rattle.std.specs.Prelude.{◌≡◌, ℕ, Bool, true, false, List, [], ◌++◌, Option, Some, None, IfSome}
+use Rattle.std.specs.Prelude.{if◌then◌else◌}
 
 -- a text, and one behind it, where it is told
 abbrev pub added : Option (List ℕ) → List ℕ → Option (List ℕ)

@@ -1,9 +1,12 @@
 -- The first line of a segment.
-use Rattle.std.proofs.Common.{◌≡◌, ℕ, ◌+◌, ◌*◌, List, [], ◌∷◌, ◌++◌, length, slice_index, codes, refl, ◌∙◌, arith}
+use Rattle.std.proofs.Common.{◌≡◌, ℕ, zero, suc, ◌+◌, ◌*◌, ◌%◌, ◌/◌, ◌^◌, ◌<◌, List, [], ◌∷◌, ◌++◌}
+use Rattle.std.proofs.Common.{length, slice_index, take, drop, codes, refl, ap, ◌∙◌, lit<, arith}
+use Rattle.std.proofs.Common.{Some, Result, Ok, Err, MatchResult}
 use Rattle.std.proofs.lemmas.List.{length-append}
 use Rattle.std.specs.Int.{w32, w64, to_be_bytes}
-use Rattle.hex.specs.Hex.{encode_lower, lower_digits}
-use Rattle.hex.proofs.HexLemmas.{length-encode_with}
+use Rattle.hex.specs.Hex.{IsBytes, decode_sized, encode_lower, encode_with, lower_digits}
+use Rattle.hex.specs.declared.error.FromHexError.{FromHexError}
+use Rattle.hex.proofs.HexLemmas.{decode_sized-encode_lower, length-encode_with}
 use Rattle.segments.specs.Head.{head_of}
 use Rattle.segments.specs.declared.head.Head.{Head}
 
@@ -19,10 +22,86 @@ sums a b c is-a is-b is-c = omega arith
 
 pub head_length : (h : Head) → length (head_of h) ≡ 87
 head_length h =
-    parts (codes "telegate state 1 rules 1 segment ") (encode_lower (to_be_bytes w64 h.number)) (codes " octets ")
-    (encode_lower (to_be_bytes w64 h.octets)) (codes " sum ") (encode_lower (to_be_bytes w32 h.sum)) (10 ∷ [])
-    ∙ sums _ _ _ (digits (to_be_bytes w64 h.number) 8 refl) (digits (to_be_bytes w64 h.octets) 8 refl)
+    parts (codes "telegate state 1 rules 1 segment ") (encode_lower (to_be_bytes w64 h.number))
+    (codes " octets ")
+    (encode_lower (to_be_bytes w64 h.octets)) (codes " sum ") (encode_lower (to_be_bytes w32 h.sum))
+    (10 ∷ [])
+    ∙ sums _ _ _ (digits (to_be_bytes w64 h.number) 8 refl)
+    (digits (to_be_bytes w64 h.octets) 8 refl)
     (digits (to_be_bytes w32 h.sum) 4 refl)
 
 pub head_first : (h : Head) → slice_index (head_of h) 0 ≡ 116
 head_first h = refl
+
+-- Digits are read back
+
+no_bytes : IsBytes []
+no_bytes i = lit< tt
+
+byte_of : (n : ℕ) → n % 256 < 256
+byte_of n = omega arith
+
+more_bytes : (a b c d : ℕ) (rest : List ℕ) → IsBytes rest
+    → IsBytes (a % 256 ∷ b % 256 ∷ c % 256 ∷ d % 256 ∷ rest)
+more_bytes a b c d rest others zero = byte_of a
+more_bytes a b c d rest others (suc zero) = byte_of b
+more_bytes a b c d rest others (suc (suc zero)) = byte_of c
+more_bytes a b c d rest others (suc (suc (suc zero))) = byte_of d
+more_bytes a b c d rest others (suc (suc (suc (suc i)))) = others i
+
+pub four_bytes : (n : ℕ) → IsBytes (to_be_bytes w32 n)
+four_bytes n = more_bytes (n / 256 ^ 3) (n / 256 ^ 2) (n / 256 ^ 1) n [] no_bytes
+
+pub eight_bytes : (n : ℕ) → IsBytes (to_be_bytes w64 n)
+eight_bytes n =
+    let low = more_bytes (n / 256 ^ 3) (n / 256 ^ 2) (n / 256 ^ 1) n [] no_bytes in
+    more_bytes (n / 256 ^ 7) (n / 256 ^ 6) (n / 256 ^ 5) (n / 256 ^ 4) (to_be_bytes w32 n) low
+
+decoded : (found : Result (List ℕ) FromHexError) (octets new : List ℕ)
+    (r : Result (Unit {0}) FromHexError)
+    → found ≡ Ok octets → MatchResult found (λ bytes. (r ≡ Ok tt) × (new ≡ bytes)) (λ e. r ≡ Err e)
+    → (r ≡ Ok tt) × (new ≡ octets)
+decoded (Ok bytes) octets new r is read = let same : bytes ≡ octets = cc in (read.0, read.1 ∙ same)
+decoded (Err e) octets new r is read = absurd (cc)
+
+pub decoded_8 : (text new : List ℕ) (r : Result (Unit {0}) FromHexError) (number : ℕ)
+    → MatchResult (decode_sized text 8) (λ bytes. (r ≡ Ok tt) × (new ≡ bytes)) (λ e. r ≡ Err e)
+    → text ≡ encode_lower (to_be_bytes w64 number) → (r ≡ Ok tt) × (new ≡ to_be_bytes w64 number)
+decoded_8 text new r number read is =
+    decoded (decode_sized text 8) (to_be_bytes w64 number) new r
+    (ap (λ (t : List ℕ). decode_sized t 8) is
+    ∙ decode_sized-encode_lower (to_be_bytes w64 number) 8 refl (eight_bytes number)) read
+
+pub decoded_4 : (text new : List ℕ) (r : Result (Unit {0}) FromHexError) (sum : ℕ)
+    → MatchResult (decode_sized text 4) (λ bytes. (r ≡ Ok tt) × (new ≡ bytes)) (λ e. r ≡ Err e)
+    → text ≡ encode_lower (to_be_bytes w32 sum) → (r ≡ Ok tt) × (new ≡ to_be_bytes w32 sum)
+decoded_4 text new r sum read is =
+    decoded (decode_sized text 4) (to_be_bytes w32 sum) new r
+    (ap (λ (t : List ℕ). decode_sized t 4) is
+    ∙ decode_sized-encode_lower (to_be_bytes w32 sum) 4 refl (four_bytes sum)) read
+
+-- The numbers stand at their places
+
+pub number_at : (h : Head) → take 16 (drop 33 (head_of h)) ≡ encode_lower (to_be_bytes w64 h.number)
+unfolding encode_with
+number_at h = refl
+
+pub octets_at : (h : Head) → take 16 (drop 57 (head_of h)) ≡ encode_lower (to_be_bytes w64 h.octets)
+unfolding encode_with
+octets_at h = refl
+
+pub sum_at : (h : Head) → take 8 (drop 78 (head_of h)) ≡ encode_lower (to_be_bytes w32 h.sum)
+unfolding encode_with
+sum_at h = refl
+
+-- those that were read back are those of the line
+pub same_head : (number octets sum : ℕ) (h : Head) → Some number ≡ Some h.number → Some octets
+    ≡ Some h.octets
+    → Some sum ≡ Some h.sum → record { number = number; octets = octets; sum = sum } ≡ h
+same_head number octets sum h n o s =
+    let by_number : ℕ → Head = λ m. record { number = m; octets = octets; sum = sum } in
+    let by_octets : ℕ → Head = λ m. record { number = h.number; octets = m; sum = sum } in
+    let by_sum : ℕ → Head = λ m. record { number = h.number; octets = h.octets; sum = m } in
+    ap by_number (let a : number ≡ h.number = cc in a)
+    ∙ ap by_octets (let b : octets ≡ h.octets = cc in b)
+    ∙ ap by_sum (let d : sum ≡ h.sum = cc in d)

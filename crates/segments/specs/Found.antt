@@ -1,7 +1,8 @@
 -- What a start shows of the newest segment.
-use Rattle.std.specs.Prelude.{ℕ, List, drop}
+use Rattle.std.specs.Prelude.{ℕ, List, drop, IsTrue}
 use Rattle.sqlite_disk.specs.declared.Disk.{Ghosts}
 use Rattle.segments.specs.Starts.{before_zero}
+use Rattle.segments.specs.declared.start.Side.{Side}
 use Rattle.segments.specs.declared.start.Start.{Start}
 
 module _ {D : Type 0} {g : Ghosts D} where
@@ -16,3 +17,22 @@ module _ {D : Type 0} {g : Ghosts D} where
   -- its lines, and what a crash left of one
   abbrev pub events_in : Start D g → List ℕ
   events_in s = before_zero (drop s.at (g.seen s.newest))
+
+  -- the other file, into which the next segment goes
+  abbrev pub other_of : Start D g → D
+  other_of s = s.other
+
+  -- what both files have
+  abbrev pub newest_in : Start D g → List ℕ
+  newest_in s = g.seen s.newest
+
+  abbrev pub other_in : Start D g → List ℕ
+  other_in s = g.seen s.other
+
+  -- each read of both has gone well
+  abbrev pub AreClean : Start D g → Type 0
+  AreClean s = IsTrue (g.is_clean s.newest) × IsTrue (g.is_clean s.other)
+
+  -- where the newest segment stands, and the number of the next one
+  abbrev pub next_of : Start D g → Side × ℕ
+  next_of s = (s.side, s.number)

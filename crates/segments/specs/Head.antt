@@ -1,5 +1,5 @@
 -- The first line of a segment (profile).
-use Rattle.std.specs.Prelude.{ℕ, List, [], ◌∷◌, ◌++◌, codes, length}
+use Rattle.std.specs.Prelude.{ℕ, ◌<◌, ◌^◌, List, [], ◌∷◌, ◌++◌, codes, length}
 use Rattle.std.specs.Int.{w32, w64, to_be_bytes}
 use Rattle.statetext.specs.Sum.{sum_of}
 use Rattle.hex.specs.Hex.{encode_lower}
@@ -11,6 +11,12 @@ abbrev pub head_of : Head → List ℕ
 head_of h = codes "telegate state 1 rules 1 segment " ++ encode_lower (to_be_bytes w64 h.number)
     ++ codes " octets " ++ encode_lower (to_be_bytes w64 h.octets)
     ++ codes " sum " ++ encode_lower (to_be_bytes w32 h.sum) ++ 10 ∷ []
+
+-- its numbers have so few digits
+pub record Fits (h : Head) : Type 0 where
+  pub number : h.number < 2 ^ 64
+  pub octets : h.octets < 2 ^ 64
+  pub sum : h.sum < 2 ^ 32
 
 -- the text of a segment with this checkpoint, before its first line of events
 unfoldable pub whole_text : ℕ → List ℕ → List ℕ

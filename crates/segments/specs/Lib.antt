@@ -6,3 +6,4 @@ pub mod Head
 pub mod Writer
 pub mod Starts
 pub mod Found
+pub mod Crashes

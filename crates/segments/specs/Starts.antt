@@ -1,8 +1,9 @@
 -- What a start finds in a file (profile).
-use Rattle.std.specs.Prelude.{◌≡◌, ℕ, ◌==◌, ◌<◌, List, length, take, position, Option, Some, None}
+use Rattle.std.specs.Prelude.{◌≡◌, ◌⊎◌, Bool, true, false, not, ◌||◌, ℕ, ◌+◌, ◌==◌, ◌<◌, ◌≤◌, min}
+use Rattle.std.specs.Prelude.{List, length, slice_index, take, position, Option, Some, None}
 use Rattle.sqlite_disk.specs.Disk.{Holds}
 use Rattle.statetext.specs.Sum.{sum_of}
-use Rattle.segments.specs.Head.{head_of}
+use Rattle.segments.specs.Head.{Fits, head_of}
 use Rattle.segments.specs.declared.head.Head.{Head}
 use Rattle.segments.specs.declared.start.Front.{Front}
 use Rattle.segments.specs.declared.start.Front.TheVariants as fronts
@@ -13,16 +14,40 @@ abbrev pub other_side : Side → Side
 other_side sides.Log = sides.Db
 other_side sides.Db = sides.Log
 
--- where it is said to begin with the first line of a segment, it does
-abbrev pub IsHeadIn : List ℕ → Front → Type 0
-IsHeadIn file fronts.Shut = Unit {0}
-IsHeadIn file (fronts.Head head) = Holds file 0 (head_of head)
-IsHeadIn file fronts.Other = Unit {0}
+-- the file was never written, or its first octet is 0
+abbrev pub IsShut : List ℕ → Type 0
+IsShut file = (length file < 2) ⊎ (slice_index file 0 ≡ 0)
+
+-- it is shut, or begins with this first line of a segment, or with something else
+abbrev pub BeginsSo : List ℕ → Front → Type 0
+BeginsSo file fronts.Shut = IsShut file
+BeginsSo file (fronts.Head head) = Holds file 0 (head_of head)
+BeginsSo file fronts.Other = IsShut file → ⊥
+
+-- so does the file begin, and with no other first line of a segment
+pub record IsHeadIn (file : List ℕ) (front : Front) : Type 0 where
+  pub begins : BeginsSo file front
+  pub heads : (head : Head) → Fits head → Holds file 0 (head_of head) → front ≡ fronts.Head head
 
 abbrev pub number_in : Front → ℕ
 number_in fronts.Shut = 0
 number_in (fronts.Head head) = head.number
 number_in fronts.Other = 0
+
+abbrev pub is_shut : Front → Bool
+is_shut fronts.Shut = true
+is_shut (fronts.Head head) = false
+is_shut fronts.Other = false
+
+abbrev pub is_other : Front → Bool
+is_other fronts.Shut = false
+is_other (fronts.Head head) = false
+is_other fronts.Other = true
+
+-- a file without a segment isn't shut, or, where none was found in the other one, either isn't
+abbrev pub is_doubtful : (front : Front) → (is_found : Bool) → (behind : Front) → Bool
+is_doubtful front true behind = not (is_shut front)
+is_doubtful front false behind = not (is_shut front) || not (is_shut behind)
 
 -- the file has a segment with this first line, and this checkpoint, whose length and whose sum the
 -- line tells
@@ -39,3 +64,35 @@ up_to (Some place) text = take place text
 -- the octets before the first octet 0
 abbrev pub before_zero : List ℕ → List ℕ
 before_zero text = up_to (position (λ c. c == 0) text) text
+
+-- the file has no segment
+abbrev pub HasNone : List ℕ → Type 0
+HasNone file = (head : Head) (text : List ℕ) → Fits head → IsFoundIn file head text → ⊥
+
+-- of two files with a segment the first one has the higher number, or both have the same
+abbrev pub IsNewest : (newest other : List ℕ) → Type 0
+IsNewest newest other = (own head : Head) (text others : List ℕ) → Fits own → Fits head →
+    IsFoundIn newest own text → IsFoundIn other head others → head.number ≤ own.number
+
+-- the file is shut, or has a segment: no crash leaves another one
+abbrev pub IsSound : List ℕ → Type 0
+IsSound file = IsShut file
+    ⊎ ((head : Head) × (text : List ℕ) × Fits head × IsFoundIn file head text)
+
+-- these are the two files as they were, the newest segment being in the one of this side
+abbrev pub ArePlaced : Side → (log db newest other : List ℕ) → Type 0
+ArePlaced sides.Log log db newest other = (newest ≡ log) × (other ≡ db)
+ArePlaced sides.Db log db newest other = (newest ≡ db) × (other ≡ log)
+
+-- a segment whose first line stands in the file has a number below this one, unless this is the
+-- greatest of 64 bits
+abbrev pub IsAbove : ℕ → List ℕ → Type 0
+IsAbove number file = (head : Head) → Fits head → Holds file 0 (head_of head) →
+    min (head.number + 1) 18446744073709551615 ≤ number
+
+-- The other file is shut, or begins with the first line of a segment that isn't newer: so no newer
+-- one than the newest ever stood there.
+abbrev pub HasNoNewer : (newest other : List ℕ) → Type 0
+HasNoNewer newest other = IsShut other
+    ⊎ ((own : Head) × (head : Head) × Holds newest 0 (head_of own) × Holds other 0 (head_of head)
+    × (head.number ≤ own.number))

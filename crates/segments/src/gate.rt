@@ -1,5 +1,6 @@
 //! A file counts as a segment only if its first octet is `t`, which is written last.
-ghost use Rattle.std.specs.Prelude.{◌≡◌, ◌+◌, ◌*◌, ◌<◌, ◌≤◌, ◌^◌, ◌++◌, ℕ, List, [], drop, length, slice_index, IsTrue, OnOk, is_ok};
+ghost use Rattle.std.specs.Prelude.{◌≡◌, ◌+◌, ◌*◌, ◌<◌, ◌≤◌, ◌^◌, ◌++◌, ℕ, List, [], drop, length};
+ghost use Rattle.std.specs.Prelude.{slice_index, IsTrue, OnOk, is_ok};
 ghost use Rattle.sqlite_disk.specs.Disk.{Only};
 ghost use Rattle.segments.specs.Crash.{IsShut, IsLong, IsBlankFrom, IsOldIfOpen, IsWholeIfOpen};
 ghost use Rattle.segments.specs.Written.{text_in};

@@ -1,6 +1,10 @@
 //! The first line of a segment.
-ghost use Rattle.std.specs.Prelude.{◌≡◌, length, slice_index, IfOk, IfSome};
-ghost use Rattle.segments.specs.Head.{head_of};
+ghost use Rattle.std.specs.Prelude.{◌≡◌, ℕ, ◌<◌, ◌^◌, true, false, Some, length, slice_index, IfOk};
+ghost use Rattle.std.specs.Prelude.{IfSome};
+ghost use Rattle.hex.specs.Hex.{encode_lower};
+ghost use Rattle.std.specs.Int.{w32, w64, to_be_bytes};
+ghost use Rattle.segments.specs.Head.{Fits, head_of};
+ghost use Rattle.segments.specs.declared.head.Head.{Head};
 
 use crate::gate::HEAD;
 use hex::decode_to_slice;
@@ -43,7 +47,10 @@ fn spell(alloc: Global, head: &Head) -> Result<Vec<u8>, AllocError>
 }
 
 /// Eight octets as a number, which is spelled in 16 digits in hexadecimal.
-fn number_of(digits: &[u8]) -> Option<u64> {
+fn number_of(digits: &[u8]) -> Option<u64>
+    ensures { (number : ℕ) → number < 2 ^ 64 →
+        digits.now ≡ encode_lower (to_be_bytes w64 number) → result ≡ Some number }
+{
     let mut octets = [0; 8];
     match decode_to_slice(digits, &mut octets) {
         Ok(()) => Some(u64::from_be_bytes(octets)),
@@ -52,7 +59,10 @@ fn number_of(digits: &[u8]) -> Option<u64> {
 }
 
 /// Four octets as a number, which is spelled in 8 digits in hexadecimal.
-fn sum_of(digits: &[u8]) -> Option<u32> {
+fn sum_of(digits: &[u8]) -> Option<u32>
+    ensures { (sum : ℕ) → sum < 2 ^ 32 →
+        digits.now ≡ encode_lower (to_be_bytes w32 sum) → result ≡ Some sum }
+{
     let mut octets = [0; 4];
     match decode_to_slice(digits, &mut octets) {
         Ok(()) => Some(u32::from_be_bytes(octets)),
@@ -60,9 +70,19 @@ fn sum_of(digits: &[u8]) -> Option<u32> {
     }
 }
 
+/// Whether both are the same octets.
+fn are_same(first: &[u8], second: &[u8]) -> bool
+    ensures same { result ≡ true → first.now ≡ second.now }
+    ensures others { result ≡ false → first.now ≡ second.now → ⊥ }
+{
+    first == second
+}
+
 /// What a line tells, if it is the first one of a segment: then it is printed anew as it was.
 pub(crate) fn parse(alloc: Global, text: &[u8]) -> Result<Option<Head>, AllocError>
-    ensures { IfOk result (λ found. IfSome found (λ head. text.now ≡ head_of head)) }
+    ensures is { IfOk result (λ found. IfSome found (λ head. text.now ≡ head_of head)) }
+    ensures all { (head : Head) → Fits head → text.now ≡ head_of head →
+        IfOk result (λ found. found ≡ Some head) }
 {
     if text.len() != HEAD {
         return Ok(None);
@@ -80,7 +100,7 @@ pub(crate) fn parse(alloc: Global, text: &[u8]) -> Result<Option<Head>, AllocErr
         sum,
     };
     let row = print(alloc, &head)?;
-    if row.as_slice() == text {
+    if are_same(row.as_slice(), text) {
         Ok(Some(head))
     } else {
         Ok(None)

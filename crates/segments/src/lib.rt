@@ -11,6 +11,9 @@
 //!   segment there, or the whole one, and the segment of the other file as it is.
 //! - Lines are appended and synced ([`Segment`]). Whatever a crash leaves begins with what was
 //!   synced ([`Segment::survives`]).
+//! - So over any crash a start finds the segment that took lines, and all that was synced
+//!   ([`a_start_finds_what_was_synced`]), while the next segment is begun in the other file too
+//!   ([`the_other_file_has_older_segments`]).
 //!
 //! A file whose sync failed is used no more: each later call fails. It must be opened anew.
 #![tactic(auto)]
@@ -18,12 +21,14 @@
 mod fault;
 mod gate;
 mod head;
+mod laws;
 mod segment;
 mod start;
 mod writer;
 
 pub use fault::SegmentFault;
 pub use head::Head;
+pub use laws::{a_start_finds_what_was_synced, the_other_file_has_older_segments};
 pub use segment::Segment;
 pub use start::{Found, Side, Start};
 pub use writer::{Failed, Writer};

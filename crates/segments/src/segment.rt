@@ -1,7 +1,11 @@
 //! The segment whose lines are appended.
-ghost use Rattle.std.specs.Prelude.{◌≡◌, ◌≢◌, ◌+◌, ◌<◌, ◌≤◌, ◌^◌, ◌++◌, ℕ, List, [], length, slice_index, IsTrue, OnOk, OnErr, IfOk, IfErr, Err, true, false};
+ghost use Rattle.std.specs.Prelude.{◌≡◌, ◌≢◌, ◌+◌, ◌-◌, ◌<◌, ◌≤◌, ◌^◌, ◌++◌, ℕ, List, [], length};
+ghost use Rattle.std.specs.Prelude.{slice_index, IsTrue, OnOk, OnErr, IfOk, IfErr, Err, true};
+ghost use Rattle.std.specs.Prelude.{false};
 ghost use Rattle.segments.specs.declared.fault.SegmentFault.TheVariants.{Device, NoMemory};
 ghost use Rattle.segments.specs.Crash.{HasLength, BeginsWith, HasNoOther, IsBlankFrom};
+ghost use Rattle.segments.specs.Crashes.{HasNoZero, Survives, head_for};
+ghost use Rattle.segments.specs.Head.{Fits, whole_text};
 ghost use Rattle.segments.specs.Written.{text_in};
 ghost use Rattle.sqlite_disk.specs.Disk.{Only};
 
@@ -83,7 +87,8 @@ fn store<D: Disk>(file: &mut D, at: usize, page: &[u8]) -> Result<usize, Segment
 }
 
 impl<D: Disk> Segment<D> {
-    ghost use Rattle.segments.specs.Segment.{text_of, durable_of, size_of, is_open, mixes, outcomes_of, file_of};
+    ghost use Rattle.segments.specs.Segment.{text_of, durable_of, size_of, is_open, mixes};
+    ghost use Rattle.segments.specs.Segment.{outcomes_of, file_of};
 
     /// A segment in a file that is synced: the text ends there, zeros stand behind it.
     pub(crate) fn begun(alloc: Global, file: D, end: usize, size: usize) -> Segment<D>
@@ -125,6 +130,13 @@ impl<D: Disk> Segment<D> {
         ensures durable { durable_of self.now ≤ length (text_of self.now) }
         ensures mixed { IsTrue (mixes self.now) →
             HasNoOther (outcomes_of self.now) (text_of self.now) }
+        // So a start finds its checkpoint and its synced lines, of which no octet is 0
+        // ([`crate::a_start_finds_what_was_synced`]).
+        ensures start { (number : ℕ) (body lines : List ℕ) → Fits (head_for number body) →
+            text_of self.now ≡ whole_text number body ++ lines → HasNoZero lines →
+            length (whole_text number body) ≤ durable_of self.now →
+            Survives (outcomes_of self.now) number body lines
+            (durable_of self.now - length (whole_text number body)) }
     {
         let _ = &self.file;
     }

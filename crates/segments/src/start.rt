@@ -1,8 +1,11 @@
 //! What a start finds in the two files.
-ghost use Rattle.std.specs.Option.{ForSome};
-ghost use Rattle.std.specs.Prelude.{◌≡◌, ◌==◌, ◌+◌, ◌-◌, ◌<◌, length, position, IsTrue, IfOk, IfSome};
+ghost use Rattle.std.specs.Option.{ForSome, is_some};
+ghost use Rattle.std.specs.Prelude.{◌≡◌, ◌==◌, ℕ, ◌+◌, ◌-◌, ◌<◌, ◌≤◌, false, true, List, None};
+ghost use Rattle.std.specs.Prelude.{length, min, position, IsTrue, IfOk, IfNone, IfSome};
 ghost use Rattle.sqlite_disk.specs.Disk.{Holds};
-ghost use Rattle.segments.specs.Starts.{IsFoundIn, IsHeadIn, before_zero, number_in, other_side};
+ghost use Rattle.segments.specs.Starts.{ArePlaced, HasNoNewer, HasNone, IsAbove, IsFoundIn};
+ghost use Rattle.segments.specs.Starts.{IsHeadIn, IsNewest, IsShut, IsSound, before_zero};
+ghost use Rattle.segments.specs.Starts.{is_doubtful, is_other, is_shut, number_in, other_side};
 ghost use Rattle.statetext.specs.Sum.{sum_of};
 
 use crate::SegmentFault;
@@ -50,6 +53,7 @@ fn front_at<D: Disk>(alloc: Global, file: &mut D) -> Result<Front, SegmentFault>
     ensures head { IfOk result (λ front. IsTrue (D.Disk.is_clean file.new) →
         IsHeadIn (D.Disk.seen file.new) front) }
     ensures usable { IsTrue (D.Disk.is_usable file.new) }
+    ensures seen { D.Disk.seen file.new ≡ D.Disk.seen file.old }
 {
     let Ok(octets) = file.len() else {
         return Err(SegmentFault::Device);
@@ -78,6 +82,42 @@ fn front_at<D: Disk>(alloc: Global, file: &mut D) -> Result<Front, SegmentFault>
     }
 }
 
+/// So many octets from a place on.
+fn octets_at<D: Disk>(
+    alloc: Global,
+    file: &mut D,
+    at: usize,
+    octets: usize,
+) -> Result<Vec<u8>, SegmentFault>
+    requires { IsTrue (D.Disk.is_usable file.old) }
+    ensures text { IfOk result (λ text. IsTrue (D.Disk.is_clean file.new) →
+        0 < length text.items → Holds (D.Disk.seen file.new) at text.items) }
+    ensures octets { IfOk result (λ text. length text.items ≡ octets) }
+    ensures usable { IsTrue (D.Disk.is_usable file.new) }
+    ensures clean { IsTrue (D.Disk.is_clean file.new) → IsTrue (D.Disk.is_clean file.old) }
+    ensures seen { D.Disk.seen file.new ≡ D.Disk.seen file.old }
+{
+    let Ok(mut text) = vec![in alloc; 0; octets] else {
+        return Err(SegmentFault::NoMemory);
+    };
+    if text.is_empty() {
+        return Ok(text);
+    }
+    match file.read_at(at, &mut text) {
+        Ok(()) => Ok(text),
+        Err(_) => Err(SegmentFault::Device),
+    }
+}
+
+/// The sum of a text.
+fn sum_of(text: &[u8]) -> u32
+    ensures { result ≡ sum_of text.now }
+{
+    let mut sum = Sum::new();
+    sum.add(text);
+    sum.value()
+}
+
 /// The text of the checkpoint behind the first line, if it is whole and has its sum.
 fn text_at<D: Disk>(
     alloc: Global,
@@ -90,6 +130,8 @@ fn text_at<D: Disk>(
     ensures octets { IfOk result (λ found. IfSome found
         (λ text. length text.items ≡ head.now.octets)) }
     ensures sum { IfOk result (λ found. IfSome found (λ text. sum_of text.items ≡ head.now.sum)) }
+    ensures none { IfOk result (λ found. IfNone found (IsTrue (D.Disk.is_clean file.new) →
+        (text : List ℕ) → IsFoundIn (D.Disk.seen file.old) head.now text → ⊥)) }
     ensures usable { IsTrue (D.Disk.is_usable file.new) }
     ensures clean { IsTrue (D.Disk.is_clean file.new) → IsTrue (D.Disk.is_clean file.old) }
     ensures seen { D.Disk.seen file.new ≡ D.Disk.seen file.old }
@@ -103,15 +145,8 @@ fn text_at<D: Disk>(
     if all < HEAD || all - HEAD < octets {
         return Ok(None);
     }
-    let Ok(mut text) = vec![in alloc; 0; octets] else {
-        return Err(SegmentFault::NoMemory);
-    };
-    if file.read_at(HEAD, &mut text).is_err() {
-        return Err(SegmentFault::Device);
-    }
-    let mut sum = Sum::new();
-    sum.add(&text);
-    if sum.value() == head.sum {
+    let text = octets_at(alloc, file, HEAD, octets)?;
+    if sum_of(&text) == head.sum {
         Ok(Some(text))
     } else {
         Ok(None)
@@ -132,16 +167,7 @@ fn rest_at<D: Disk>(alloc: Global, file: &mut D, at: usize) -> Result<Vec<u8>, S
     let Ok(all) = file.len() else {
         return Err(SegmentFault::Device);
     };
-    let Ok(mut text) = vec![in alloc; 0; all.saturating_sub(at)] else {
-        return Err(SegmentFault::NoMemory);
-    };
-    if text.is_empty() {
-        return Ok(text);
-    }
-    match file.read_at(at, &mut text) {
-        Ok(()) => Ok(text),
-        Err(_) => Err(SegmentFault::Device),
-    }
+    octets_at(alloc, file, at, all.saturating_sub(at))
 }
 
 /// Cuts a text off at its first octet 0.
@@ -191,6 +217,32 @@ pub struct Start<D: Disk> {
         IsFoundIn (D.Disk.seen newest) c.head c.text.items)) },
 }
 
+/// Whether a file begins with something else than a segment.
+fn is_other(front: Front) -> bool
+    ensures { result ≡ is_other front }
+{
+    matches!(front, Front::Other)
+}
+
+/// Whether a file is shut.
+fn is_shut(front: Front) -> bool
+    ensures { result ≡ is_shut front }
+{
+    matches!(front, Front::Shut)
+}
+
+/// Whether files are doubtful of which the one with the higher number has no segment: it isn't
+/// shut; or, where none was found in the other one either, that one isn't.
+fn is_doubtful(front: Front, is_found: bool, other_front: Front) -> bool
+    ensures { result ≡ is_doubtful front is_found other_front }
+{
+    if is_found {
+        !is_shut(front)
+    } else {
+        !is_shut(front) || !is_shut(other_front)
+    }
+}
+
 /// The number of a segment, or 0.
 fn number_of(front: Front) -> u64
     ensures { result ≡ number_in front }
@@ -211,7 +263,12 @@ fn found_in<D: Disk>(
     requires head { IsTrue (D.Disk.is_clean file.old) → IsHeadIn (D.Disk.seen file.old) front }
     ensures found { IfOk result (λ found. IfSome found (λ c. IsTrue (D.Disk.is_clean file.new) →
         IsFoundIn (D.Disk.seen file.new) c.head c.text.items)) }
+    ensures head { IfOk result (λ found. IfSome found (λ c. front ≡ Front.Head c.head)) }
+    ensures none { IfOk result (λ found. IfNone found (IsTrue (D.Disk.is_clean file.new) →
+        HasNone (D.Disk.seen file.new))) }
     ensures usable { IsTrue (D.Disk.is_usable file.new) }
+    ensures clean { IsTrue (D.Disk.is_clean file.new) → IsTrue (D.Disk.is_clean file.old) }
+    ensures seen { D.Disk.seen file.new ≡ D.Disk.seen file.old }
 {
     let Front::Head(head) = front else {
         return Ok(None);
@@ -223,11 +280,33 @@ fn found_in<D: Disk>(
 }
 
 impl<D: Disk + Drop> Start<D> {
+    ghost use Rattle.segments.specs.Found.{AreClean, newest_in, newest_of, other_in, other_of};
+
     /// Looks at both files. Where the segment of the higher number isn't whole, the other counts,
     /// and that is doubtful: no crash leaves such a file.
     pub fn open(alloc: Global, files: Files<D>) -> Result<Start<D>, SegmentFault>
         requires log { IsTrue (D.Disk.is_usable files.log) }
         requires db { IsTrue (D.Disk.is_usable files.db) }
+        // Of two segments the newer one counts; and where none was found there is none.
+        ensures newest { IfOk result (λ s. AreClean s → IsNewest (newest_in s) (other_in s)) }
+        ensures none { IfOk result (λ s. AreClean s → is_some s.checkpoint ≡ false →
+            HasNone (newest_in s) × HasNone (other_in s)) }
+        // A start changes neither file, and tells in which one the newest segment stands.
+        ensures placed { IfOk result (λ s. ArePlaced s.side (D.Disk.seen files.log)
+            (D.Disk.seen files.db) (newest_in s) (other_in s)) }
+        // The next segment's number is above that of each first line that stands in a file, whether
+        // or not its segment is whole.
+        ensures above { IfOk result (λ s. AreClean s →
+            IsAbove s.number (newest_in s) × IsAbove s.number (other_in s)) }
+        // Where nothing is doubtful, no newer segment than that one ever stood in the other file.
+        ensures sure { IfOk result (λ s. AreClean s → is_some s.checkpoint ≡ true →
+            s.is_doubtful ≡ false → HasNoNewer (newest_in s) (other_in s)) }
+        // What a crash may leave isn't doubtful; and what isn't is a segment, or two files that are
+        // shut.
+        ensures sound { IfOk result (λ s. AreClean s → IsSound (newest_in s) →
+            IsSound (other_in s) → s.is_doubtful ≡ false) }
+        ensures shut { IfOk result (λ s. AreClean s → is_some s.checkpoint ≡ false →
+            s.is_doubtful ≡ false → IsShut (newest_in s) × IsShut (other_in s)) }
     {
         let Files { mut log, mut db } = files;
         let first = front_at(alloc, &mut log)?;
@@ -254,15 +333,30 @@ impl<D: Disk + Drop> Start<D> {
         requires older { IsTrue (D.Disk.is_usable older) }
         requires head { IsTrue (D.Disk.is_clean newer) → IsHeadIn (D.Disk.seen newer) front }
         requires other { IsTrue (D.Disk.is_clean older) → IsHeadIn (D.Disk.seen older) other_front }
+        requires order { number_in other_front ≤ number_in front }
+        requires above { min (number_in front + 1) 18446744073709551615 ≤ number }
+        ensures placed { (log db : List ℕ) →
+            ArePlaced side log db (D.Disk.seen newer) (D.Disk.seen older) →
+            IfOk result (λ s. ArePlaced s.side log db (newest_in s) (other_in s)) }
+        ensures above { IfOk result (λ s. AreClean s →
+            IsAbove s.number (newest_in s) × IsAbove s.number (other_in s)) }
+        ensures sure { IfOk result (λ s. AreClean s → is_some s.checkpoint ≡ true →
+            s.is_doubtful ≡ false → HasNoNewer (newest_in s) (other_in s)) }
+        ensures newest { IfOk result (λ s. AreClean s → IsNewest (newest_in s) (other_in s)) }
+        ensures none { IfOk result (λ s. AreClean s → is_some s.checkpoint ≡ false →
+            HasNone (newest_in s) × HasNone (other_in s)) }
+        ensures sound { IfOk result (λ s. AreClean s → IsSound (newest_in s) →
+            IsSound (other_in s) → s.is_doubtful ≡ false) }
+        ensures shut { IfOk result (λ s. AreClean s → is_some s.checkpoint ≡ false →
+            s.is_doubtful ≡ false → IsShut (newest_in s) × IsShut (other_in s)) }
     {
         let (mut newer, mut older) = (newer, older);
         if let Some(found) = found_in(alloc, &mut newer, front)? {
-            let is_doubtful = matches!(other_front, Front::Other);
+            let is_doubtful = is_other(other_front);
             return Start::made(newer, older, side, Some(found), number, is_doubtful);
         }
         let found = found_in(alloc, &mut older, other_front)?;
-        let is_doubtful = !matches!(front, Front::Shut)
-            || (found.is_none() && !matches!(other_front, Front::Shut));
+        let is_doubtful = is_doubtful(front, found.is_some(), other_front);
         Start::made(older, newer, side.other(), found, number, is_doubtful)
     }
 
@@ -278,6 +372,12 @@ impl<D: Disk + Drop> Start<D> {
         requires other { IsTrue (D.Disk.is_usable other) }
         requires stands { IfSome checkpoint (λ c. IsTrue (D.Disk.is_clean newest) →
             IsFoundIn (D.Disk.seen newest) c.head c.text.items) }
+        ensures newest { IfOk result (λ s. newest_of s ≡ newest) }
+        ensures other { IfOk result (λ s. other_of s ≡ other) }
+        ensures found { IfOk result (λ s. s.checkpoint ≡ checkpoint) }
+        ensures doubtful { IfOk result (λ s. s.is_doubtful ≡ is_doubtful) }
+        ensures side { IfOk result (λ s. s.side ≡ side) }
+        ensures number { IfOk result (λ s. s.number ≡ number) }
     {
         let at = match &checkpoint {
             Some(found) => HEAD.checked_add(found.text.len()),
@@ -299,27 +399,35 @@ impl<D: Disk + Drop> Start<D> {
 }
 
 impl<D: Disk> Start<D> {
-    ghost use Rattle.segments.specs.Found.{begins_at, events_in, newest_of};
+    ghost use Rattle.segments.specs.Found.{begins_at, events_in, newest_of, next_of, other_of};
 
     /// Whether a segment was found, and its checkpoint wasn't taken yet.
-    pub fn is_found(&self) -> bool {
+    pub fn is_found(&self) -> bool
+        ensures { result ≡ is_some self.now.checkpoint }
+    {
         self.checkpoint.is_some()
     }
 
     /// Whether a file that isn't shut has no whole segment. No crash leaves such a file. Where a
     /// segment was found, a newer one may be lost; where none was found, what is there can't be
     /// read.
-    pub fn is_doubtful(&self) -> bool {
+    pub fn is_doubtful(&self) -> bool
+        ensures { result ≡ self.now.is_doubtful }
+    {
         self.is_doubtful
     }
 
     /// The number for the next segment: above that of each that stands in a file.
-    pub fn next_number(&self) -> u64 {
+    pub fn next_number(&self) -> u64
+        ensures { result ≡ self.now.number }
+    {
         self.number
     }
 
     /// Where the segment that was found stands. The next one goes into the other file.
-    pub fn side(&self) -> Side {
+    pub fn side(&self) -> Side
+        ensures { result ≡ self.now.side }
+    {
         self.side
     }
 
@@ -329,6 +437,8 @@ impl<D: Disk> Start<D> {
             IsFoundIn (D.Disk.seen (newest_of self.new)) c.head c.text.items) }
         ensures behind { IfSome result (λ c. begins_at self.new ≡ 87 + length c.text.items) }
         ensures newest { newest_of self.new ≡ newest_of self.old }
+        ensures other { other_of self.new ≡ other_of self.old }
+        ensures next { next_of self.new ≡ next_of self.old }
     {
         self.checkpoint.take()
     }
@@ -343,6 +453,8 @@ impl<D: Disk> Start<D> {
         ensures clean { IsTrue (D.Disk.is_clean (newest_of self.new)) →
             IsTrue (D.Disk.is_clean (newest_of self.old)) }
         ensures same { begins_at self.new ≡ begins_at self.old }
+        ensures other { other_of self.new ≡ other_of self.old }
+        ensures next { next_of self.new ≡ next_of self.old }
     {
         let mut text = rest_at(alloc, &mut self.newest, self.at)?;
         cut_at_zero(&mut text);
@@ -354,6 +466,7 @@ impl<D: Disk> Start<D> {
         ensures found { IsTrue (D.Disk.is_usable result.0) }
         ensures newest { result.0 ≡ newest_of self }
         ensures next { IsTrue (D.Disk.is_usable result.1) }
+        ensures other { result.1 ≡ other_of self }
     {
         let Start { newest, other, .. } = self;
         (newest, other)

@@ -1,5 +1,7 @@
 //! The segment that is begun.
-ghost use Rattle.std.specs.Prelude.{◌≡◌, ◌+◌, ◌*◌, ◌<◌, ◌≤◌, ◌^◌, ◌++◌, ℕ, List, [], drop, take, length, slice_index, bit_xor, IsTrue, IfOk, IfErr, OnOk, OnErr, true, false};
+ghost use Rattle.std.specs.Prelude.{◌≡◌, ◌+◌, ◌*◌, ◌<◌, ◌≤◌, ◌^◌, ◌++◌, ℕ, List, [], drop, take};
+ghost use Rattle.std.specs.Prelude.{length, slice_index, bit_xor, IsTrue, IfOk, IfErr, OnOk, OnErr};
+ghost use Rattle.std.specs.Prelude.{true, false};
 ghost use Rattle.sqlite_disk.specs.Disk.{Only};
 ghost use Rattle.segments.specs.Crash.{IsShut, IsLong, IsBlankFrom, IsOldIfOpen, IsTextIfOpen};
 ghost use Rattle.segments.specs.Head.{whole_text};

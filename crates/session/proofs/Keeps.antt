@@ -1,12 +1,15 @@
 -- What a session keeps of the history of its connection, from call to call.
-use Rattle.std.proofs.Common.{◌≡◌, ℕ, suc, ◌+◌, ◌-◌, ◌%◌, ◌<◌, ◌≤◌, ◌==◌, ◌&&◌, Bool, true, false, not, cond, nat_le, nat_lt, min, List, [], ◌∷◌, ◌++◌, length, drop, Option, Some, None, refl, ap, sym, ◌∙◌, arith}
+use Rattle.std.proofs.Common.{◌≡◌, ℕ, suc, ◌+◌, ◌-◌, ◌%◌, ◌<◌, ◌≤◌, ◌==◌, ◌&&◌, Bool, true, false}
+use Rattle.std.proofs.Common.{not, cond, nat_le, nat_lt, min, List, [], ◌∷◌, ◌++◌, length, drop}
+use Rattle.std.proofs.Common.{Option, Some, None, refl, ap, sym, ◌∙◌, arith}
 use Rattle.std.specs.Prelude.{is_none, option_to_list}
 use Rattle.std.proofs.lemmas.Bool.{and_parts, ltb-true, ne_eqb}
 use Rattle.std.proofs.lemmas.List.{length-append, length-drop, drop-drop, drop-append-le}
 use Rattle.apci.specs.declared.apdu.Apdu.{Apdu}
 use Rattle.apci.specs.declared.apdu.Apdu.TheVariants.{I, S, U}
 use Rattle.apci.specs.declared.apdu.Uf.{Uf}
-use Rattle.apci.specs.declared.apdu.Uf.TheVariants.{StartAct, StartCon, StopAct, StopCon, TestAct, TestCon}
+use Rattle.apci.specs.declared.apdu.Uf.TheVariants.{StartAct, StartCon, StopAct, StopCon, TestAct}
+use Rattle.apci.specs.declared.apdu.Uf.TheVariants.{TestCon}
 use Rattle.session.specs.declared.kinds.Kind.{Kind}
 use Rattle.session.specs.declared.kinds.Unacknowledged.{Unacknowledged}
 use Rattle.session.specs.declared.kinds.Taken.{Taken}
@@ -14,16 +17,24 @@ use Rattle.session.specs.declared.kinds.Taken.TheVariants.{Nothing, Asdu, Close}
 use Rattle.session.specs.declared.kinds.Close.TheVariants.{SendNumber, ReceiveNumber, Stopped}
 use Rattle.session.specs.declared.kinds.Transfer.TheVariants as Transfer
 use Rattle.session.specs.Session as session
-use Rattle.session.specs.Session.{Session, is_close, is_transferring, may_send, is_valid, newly, newly_by, outcome_of, refuses, taken, after_frame, nothing_due, acknowledgement, replied, confirmed, pulled, Due}
-use Rattle.session.specs.History.{History, Opened, Came, Refused, Sent, Went, is_open, sent_frames, received_count, reached, acknowledged_count, IsNumbered, is_started, is_stop_pending, confirmations_due, confirmations_sent, confirmation_owed, unconfirmed_moments, last_frame, outstanding_test}
-use Rattle.session.specs.Runs.{Settings, IsInRange, Call, Open, Cut, Take, Send, Confirm, Pull, Run, run, told, with_frame, may_take, after_call}
+use Rattle.session.specs.Session.{Session, is_close, is_transferring, may_send, is_valid, newly}
+use Rattle.session.specs.Session.{newly_by, outcome_of, refuses, taken, after_frame, nothing_due}
+use Rattle.session.specs.Session.{acknowledgement, replied, confirmed, pulled, Due}
+use Rattle.session.specs.History.{History, Opened, Came, Refused, Sent, Went, is_open, sent_frames}
+use Rattle.session.specs.History.{received_count, reached, acknowledged_count, IsNumbered}
+use Rattle.session.specs.History.{is_started, is_stop_pending, confirmations_due}
+use Rattle.session.specs.History.{confirmations_sent, confirmation_owed, unconfirmed_moments}
+use Rattle.session.specs.History.{last_frame, outstanding_test}
+use Rattle.session.specs.Runs.{Settings, IsInRange, Call, Open, Cut, Take, Send, Confirm, Pull, Run}
+use Rattle.session.specs.Runs.{run, told, with_frame, may_take, after_call}
 use Rattle.session.proofs.Counters.{valid_agrees, reached_newly}
 use Rattle.session.proofs.States.{transferring_opens, stopping_transfers_not}
 
 -- ---- the parts
 
 -- the sent frames: a of them are acknowledged, and the others are kept
-pub record Window (k : ℕ) (us : List Unacknowledged) (next a : ℕ) (sent : List Unacknowledged) : Type 0 where
+pub record Window (k : ℕ) (us : List Unacknowledged) (next a : ℕ)
+    (sent : List Unacknowledged) : Type 0 where
   pub frames : us ≡ drop a sent
   pub enough : a ≤ length sent
   pub bound : length us ≤ k
@@ -48,7 +59,8 @@ pub record Keeps (p : Settings) (s : Session) (h : History) : Type 0 where
   pub transferring : is_transferring s ≡ is_started h
   pub stopping : session.is_stopping s ≡ is_stop_pending h
   pub window : Window s.k s.unacknowledged s.next_sent (acknowledged_count h) (sent_frames h)
-  pub receipt : Receipt s.w s.next_received s.unconfirmed s.unconfirmed_since (received_count h) (unconfirmed_moments h)
+  pub receipt : Receipt s.w s.next_received s.unconfirmed s.unconfirmed_since (received_count h)
+      (unconfirmed_moments h)
   pub last : s.last_frame ≡ last_frame h
   pub test : s.test_sent ≡ outstanding_test h
   pub reply : s.reply ≡ confirmation_owed h
@@ -59,10 +71,16 @@ no_window : (k : ℕ) → Window k [] 0 0 []
 no_window k = record { frames = refl; enough = omega arith; bound = omega arith; next_is = refl }
 
 no_receipt : (w : ℕ) → Receipt w 0 0 0 0 []
-no_receipt w = record { next_is = refl; counted = omega arith; oldest = λ some. absurd (omega arith) }
+no_receipt w = record {
+  next_is = refl;
+  counted = omega arith;
+  oldest =
+      λ some. absurd (omega arith);
+}
 
 -- nothing is left to acknowledge
-confirmed_receipt : (w next count since received : ℕ) (moments : List ℕ) → Receipt w next count since received moments
+confirmed_receipt : (w next count since received : ℕ) (moments : List ℕ)
+    → Receipt w next count since received moments
     → Receipt w next 0 since received []
 confirmed_receipt w next count since received moments r =
     record { next_is = r.next_is; counted = omega arith; oldest = λ some. absurd (omega arith) }
@@ -71,14 +89,16 @@ confirmed_receipt w next count since received moments r =
 counted_since : (w now count since : ℕ) (moments : List ℕ) → 0 < w → count ≡ min w (length moments)
     → (0 < length moments → since ≡ first_moment moments)
     → cond (count == 0) now since ≡ first_moment (moments ++ now ∷ [])
-counted_since w now count since [] positive counted oldest = (let none : count ≡ 0 = omega arith in rw none)
+counted_since w now count since [] positive counted oldest = (let none : count ≡ 0 = omega arith in
+    rw none)
 counted_since w now count since (moment ∷ rest) positive counted oldest =
     let some : (count == 0) ≡ false = ne_eqb count 0 (λ e. absurd (omega arith)) in
     rw some (oldest (omega arith))
 
 one_received : (w now next count since received : ℕ) (moments : List ℕ) → 0 < w
     → Receipt w next count since received moments
-    → Receipt w ((next + 1) % 32768) (min w (count + 1)) (cond (count == 0) now since) (suc received) (moments ++ now
+    → Receipt w ((next + 1) % 32768) (min w (count + 1)) (cond (count == 0) now since)
+    (suc received) (moments ++ now
     ∷ [])
 one_received w now next count since received moments positive r = record {
   next_is = omega (arith, r.next_is);
@@ -88,43 +108,56 @@ one_received w now next count since received moments positive r = record {
 
 -- ---- N(R)
 
-frames_len : (k : ℕ) (us : List Unacknowledged) (next a : ℕ) (sent : List Unacknowledged) → Window k us next a sent
+frames_len : (k : ℕ) (us : List Unacknowledged) (next a : ℕ) (sent : List Unacknowledged)
+    → Window k us next a sent
     → a + length us ≡ length sent
 frames_len k us next a sent w = omega (arith, w.enough, ap length w.frames, length-drop a sent)
 
-pub valid_in : (nr k : ℕ) (us : List Unacknowledged) (next a : ℕ) (sent : List Unacknowledged) → k < 32768
+pub valid_in : (nr k : ℕ) (us : List Unacknowledged) (next a : ℕ) (sent : List Unacknowledged)
+    → k < 32768
     → Window k us next a sent
-    → nat_le ((next + (32768 - nr % 32768)) % 32768) (length us) ≡ nat_le (reached a nr) (length sent)
-valid_in nr k us next a sent small w = valid_agrees a (length us) nr next (length sent) (omega (arith, w.bound))
+    → nat_le ((next + (32768 - nr % 32768)) % 32768) (length us)
+    ≡ nat_le (reached a nr) (length sent)
+valid_in nr k us next a sent small w = valid_agrees a (length us) nr next (length sent)
+    (omega (arith, w.bound))
     (frames_len k us next a sent w) w.next_is
 
 -- a valid N(R) moves the window to the count that it reaches
-pub reaches : (nr k : ℕ) (us : List Unacknowledged) (next a : ℕ) (sent : List Unacknowledged) → k < 32768
+pub reaches : (nr k : ℕ) (us : List Unacknowledged) (next a : ℕ) (sent : List Unacknowledged)
+    → k < 32768
     → Window k us next a sent
     → nat_le ((next + (32768 - nr % 32768)) % 32768) (length us) ≡ true
     → reached a nr ≡ a + (length us - (next + (32768 - nr % 32768)) % 32768)
-reaches nr k us next a sent small w valid = reached_newly a (length us) nr next (length sent) (omega (arith, w.bound))
+reaches nr k us next a sent small w valid = reached_newly a (length us) nr next (length sent)
+    (omega (arith, w.bound))
     (frames_len k us next a sent w) w.next_is valid
 
-moved : (n k : ℕ) (us : List Unacknowledged) (next a b : ℕ) (sent : List Unacknowledged) → n ≤ length us → b ≡ a + n
+moved : (n k : ℕ) (us : List Unacknowledged) (next a b : ℕ) (sent : List Unacknowledged)
+    → n ≤ length us → b ≡ a + n
     → Window k us next a sent → Window k (drop n us) next b sent
 moved n k us next a b sent within is w = record {
-  frames = ap (drop n) w.frames ∙ drop-drop n a sent ∙ ap (λ m. drop m sent) (let e : a + n ≡ b = omega arith in e);
+  frames = ap (drop n) w.frames ∙ drop-drop n a sent
+      ∙ ap (λ m. drop m sent) (let e : a + n ≡ b = omega arith in e);
   enough = omega (arith, frames_len k us next a sent w);
   bound = omega (arith, w.bound, length-drop n us);
   next_is = w.next_is;
 }
 
-window_after : (nr k : ℕ) (us : List Unacknowledged) (next a : ℕ) (sent : List Unacknowledged) → k < 32768
+window_after : (nr k : ℕ) (us : List Unacknowledged) (next a : ℕ) (sent : List Unacknowledged)
+    → k < 32768
     → Window k us next a sent
     → nat_le ((next + (32768 - nr % 32768)) % 32768) (length us) ≡ true
-    → Window k (drop (length us - (next + (32768 - nr % 32768)) % 32768) us) next (reached a nr) sent
+    → Window k (drop (length us - (next + (32768 - nr % 32768)) % 32768) us) next (reached a nr)
+    sent
 window_after nr k us next a sent small w valid =
-    moved (length us - (next + (32768 - nr % 32768)) % 32768) k us next a (reached a nr) sent (omega arith)
+    moved (length us - (next + (32768 - nr % 32768)) % 32768) k us next a (reached a nr) sent
+    (omega arith)
     (reaches nr k us next a sent small w valid) w
 
 pub three_tests : (a b c : Bool)
-    → is_close (cond a (Close Stopped) (cond b (Close SendNumber) (cond (not c) (Close ReceiveNumber) Asdu))) ≡ false
+    → is_close
+    (cond a (Close Stopped) (cond b (Close SendNumber) (cond (not c) (Close ReceiveNumber) Asdu)))
+    ≡ false
     → c ≡ true
 three_tests true b c h = absurd cc
 three_tests false true c h = absurd cc
@@ -138,13 +171,16 @@ one_test false h = absurd cc
 -- ---- a frame comes
 
 abbrev after : Apdu → ℕ → Session → Session
-after frame now s = after_frame frame now (session.acknowledged (newly_by frame s) (record s { last_frame = now }))
+after frame now s =
+    after_frame frame now (session.acknowledged (newly_by frame s) (record s { last_frame = now }))
 
-none_owed : (owed : Option Uf) (due sent : List Uf) → owed ≡ None → due ≡ option_to_list owed ++ sent → due ≡ sent
+none_owed : (owed : Option Uf) (due sent : List Uf) → owed ≡ None
+    → due ≡ option_to_list owed ++ sent → due ≡ sent
 none_owed None due sent e h = h
 none_owed (Some u) due sent e h = absurd cc
 
-passed : (p : Settings) (frame : Apdu) (now : ℕ) (s : Session) (h : History) → IsInRange p → Keeps p s h
+passed : (p : Settings) (frame : Apdu) (now : ℕ) (s : Session) (h : History) → IsInRange p
+    → Keeps p s h
     → session.is_open s ≡ true → s.reply ≡ None → refuses s frame ≡ false
     → Keeps p (after frame now s) (Came frame now ∷ h)
 passed p (I ns nr asdu) now s h range keeps connected drained passes = record {
@@ -153,8 +189,10 @@ passed p (I ns nr asdu) now s h range keeps connected drained passes = record {
   transferring = keeps.transferring;
   stopping = keeps.stopping;
   window = window_after nr s.k s.unacknowledged s.next_sent (acknowledged_count h) (sent_frames h)
-      (omega (arith, keeps.set.0, range.k_small)) keeps.window (three_tests _ _ (is_valid nr s) passes);
-  receipt = one_received s.w now s.next_received s.unconfirmed s.unconfirmed_since (received_count h)
+      (omega (arith, keeps.set.0, range.k_small)) keeps.window
+      (three_tests _ _ (is_valid nr s) passes);
+  receipt = one_received s.w now s.next_received s.unconfirmed s.unconfirmed_since
+      (received_count h)
       (unconfirmed_moments h) (omega (arith, keeps.set.1, range.w_positive)) keeps.receipt;
   last = refl;
   test = keeps.test;
@@ -257,7 +295,8 @@ passed p (U StopCon) now s h range keeps connected drained passes = record {
   numbered = keeps.numbered;
 }
 
-refused : (p : Settings) (now : ℕ) (s : Session) (h : History) → Keeps p s h → session.is_open s ≡ true
+refused : (p : Settings) (now : ℕ) (s : Session) (h : History) → Keeps p s h → session.is_open s
+    ≡ true
     → Keeps p (session.acknowledged 0 (record s { last_frame = now })) (Refused now ∷ h)
 refused p now s h keeps connected = record {
   set = keeps.set;
@@ -275,18 +314,22 @@ refused p now s h keeps connected = record {
 
 -- nothing to confirm, so no STARTDT con or TESTFR con
 drained_reply : (b c : Bool) (r : Option Uf) (s : Session) → b ≡ true
-    → is_none (cond (not b) (nothing_due s) (cond c (acknowledgement s) (replied r s))).0 ≡ true → r ≡ None
+    → is_none (cond (not b) (nothing_due s) (cond c (acknowledgement s) (replied r s))).0 ≡ true
+    → r ≡ None
 drained_reply false c r s e h = absurd cc
 drained_reply true true r s e h = absurd cc
 drained_reply true false None s e h = refl
 drained_reply true false (Some u) s e h = absurd cc
 
-came : (p : Settings) (frame : Apdu) (now : ℕ) (s : Session) (h : History) → IsInRange p → Keeps p s h
+came : (p : Settings) (frame : Apdu) (now : ℕ) (s : Session) (h : History) → IsInRange p
+    → Keeps p s h
     → session.is_open s ≡ true → s.reply ≡ None
     → (o : Taken) → outcome_of s frame ≡ o
-    → Keeps p (cond (is_close o) (session.acknowledged 0 (record s { last_frame = now })) (after frame now s))
+    → Keeps p (cond (is_close o) (session.acknowledged 0 (record s { last_frame = now }))
+    (after frame now s))
     (told o frame now ∷ h)
-came p frame now s h range keeps connected drained (Close cause) e = refused p now s h keeps connected
+came p frame now s h range keeps connected drained (Close cause) e =
+    refused p now s h keeps connected
 came p frame now s h range keeps connected drained Asdu e =
     passed p frame now s h range keeps connected drained (ap is_close e)
 came p frame now s h range keeps connected drained Nothing e =
@@ -294,7 +337,8 @@ came p frame now s h range keeps connected drained Nothing e =
 
 -- ---- frames go out
 
-data_sent : (p : Settings) (kind : Kind) (now : ℕ) (s : Session) (h : History) → Keeps p s h → may_send s ≡ true
+data_sent : (p : Settings) (kind : Kind) (now : ℕ) (s : Session) (h : History) → Keeps p s h
+    → may_send s ≡ true
     → Keeps p (session.sent kind now s) (Sent s.next_sent s.next_received kind now ∷ h)
 data_sent p kind now s h keeps may =
     let tests = and_parts (is_transferring s) (nat_lt (length s.unacknowledged) s.k) may in
@@ -312,7 +356,8 @@ data_sent p kind now s h keeps may =
         bound = omega (arith, ltb-true _ _ tests.1, length-append s.unacknowledged (u ∷ []));
         next_is = omega (arith, w.next_is, length-append (sent_frames h) (u ∷ []));
       };
-      receipt = confirmed_receipt s.w s.next_received s.unconfirmed s.unconfirmed_since (received_count h)
+      receipt = confirmed_receipt s.w s.next_received s.unconfirmed s.unconfirmed_since
+          (received_count h)
           (unconfirmed_moments h) keeps.receipt;
       last = keeps.last;
       test = keeps.test;
@@ -321,7 +366,8 @@ data_sent p kind now s h keeps may =
       numbered = (w.next_is, keeps.receipt.next_is, keeps.numbered);
     }
 
-acknowledgement_gone : (p : Settings) (now : ℕ) (s : Session) (h : History) → Keeps p s h → session.is_open s ≡ true
+acknowledgement_gone : (p : Settings) (now : ℕ) (s : Session) (h : History) → Keeps p s h
+    → session.is_open s ≡ true
     → Keeps p (record s { unconfirmed = 0 }) (Went (S s.next_received) now ∷ h)
 acknowledgement_gone p now s h keeps connected = record {
   set = keeps.set;
@@ -329,7 +375,8 @@ acknowledgement_gone p now s h keeps connected = record {
   transferring = keeps.transferring;
   stopping = keeps.stopping;
   window = keeps.window;
-  receipt = confirmed_receipt s.w s.next_received s.unconfirmed s.unconfirmed_since (received_count h)
+  receipt = confirmed_receipt s.w s.next_received s.unconfirmed s.unconfirmed_since
+      (received_count h)
       (unconfirmed_moments h) keeps.receipt;
   last = keeps.last;
   test = keeps.test;
@@ -370,7 +417,8 @@ only_cons (Went (U TestAct) now ∷ h) u e = only_cons h u e
 only_cons (Went (U TestCon) now ∷ h) u e = absurd cc
 
 -- a STARTDT con or TESTFR con goes out
-function_gone : (p : Settings) (u : Uf) (now : ℕ) (s : Session) (h : History) → Keeps p s h → session.is_open s ≡ true
+function_gone : (p : Settings) (u : Uf) (now : ℕ) (s : Session) (h : History) → Keeps p s h
+    → session.is_open s ≡ true
     → s.reply ≡ Some u → Keeps p (record s { reply = None }) (Went (U u) now ∷ h)
 function_gone p StartCon now s h keeps connected due = record {
   set = keeps.set;
@@ -382,7 +430,8 @@ function_gone p StartCon now s h keeps connected due = record {
   last = keeps.last;
   test = keeps.test;
   reply = refl;
-  once = keeps.once ∙ ap (λ (owed : Option Uf). option_to_list owed ++ confirmations_sent h) (sym keeps.reply ∙ due);
+  once = keeps.once ∙ ap (λ (owed : Option Uf). option_to_list owed ++ confirmations_sent h)
+      (sym keeps.reply ∙ due);
   numbered = keeps.numbered;
 }
 function_gone p TestCon now s h keeps connected due = record {
@@ -395,7 +444,8 @@ function_gone p TestCon now s h keeps connected due = record {
   last = keeps.last;
   test = keeps.test;
   reply = refl;
-  once = keeps.once ∙ ap (λ (owed : Option Uf). option_to_list owed ++ confirmations_sent h) (sym keeps.reply ∙ due);
+  once = keeps.once ∙ ap (λ (owed : Option Uf). option_to_list owed ++ confirmations_sent h)
+      (sym keeps.reply ∙ due);
   numbered = keeps.numbered;
 }
 function_gone p StartAct now s h keeps connected due =
@@ -407,8 +457,10 @@ function_gone p StopCon now s h keeps connected due = (let owable : false ≡ tr
 function_gone p TestAct now s h keeps connected due = (let owable : false ≡ true =
     only_cons h TestAct (sym keeps.reply ∙ due) in absurd cc)
 
-stop_confirmed : (p : Settings) (now : ℕ) (s : Session) (h : History) → Keeps p s h → session.is_open s ≡ true
-    → session.is_stopping s ≡ true → Keeps p (record s { transfer = Transfer.Stopped }) (Went (U StopCon) now ∷ h)
+stop_confirmed : (p : Settings) (now : ℕ) (s : Session) (h : History) → Keeps p s h
+    → session.is_open s ≡ true
+    → session.is_stopping s ≡ true
+    → Keeps p (record s { transfer = Transfer.Stopped }) (Went (U StopCon) now ∷ h)
 stop_confirmed p now s h keeps connected stopping = record {
   set = keeps.set;
   connected = refl;
@@ -426,30 +478,37 @@ stop_confirmed p now s h keeps connected stopping = record {
 abbrev stop_due : Bool → Session → Due
 stop_due b s = cond b (Some (U StopCon), record s { transfer = Transfer.Stopped }) (nothing_due s)
 
-stop_gone : (p : Settings) (now : ℕ) (s : Session) (h : History) → Keeps p s h → session.is_open s ≡ true → (b : Bool)
+stop_gone : (p : Settings) (now : ℕ) (s : Session) (h : History) → Keeps p s h → session.is_open s
+    ≡ true → (b : Bool)
     → (session.is_stopping s && length s.unacknowledged == 0) ≡ b
     → Keeps p (stop_due b s).1 (with_frame (stop_due b s).0 now h)
 stop_gone p now s h keeps connected true test = stop_confirmed p now s h keeps connected
     (and_parts (session.is_stopping s) (length s.unacknowledged == 0) test).0
 stop_gone p now s h keeps connected false test = keeps
 
-reply_gone : (p : Settings) (now : ℕ) (s : Session) (h : History) → Keeps p s h → session.is_open s ≡ true
+reply_gone : (p : Settings) (now : ℕ) (s : Session) (h : History) → Keeps p s h → session.is_open s
+    ≡ true
     → (r : Option Uf)
     → s.reply ≡ r
     → Keeps p (replied r s).1 (with_frame (replied r s).0 now h)
 reply_gone p now s h keeps connected (Some u) is = function_gone p u now s h keeps connected is
-reply_gone p now s h keeps connected None is = stop_gone p now s h keeps connected (session.is_stopping s
+reply_gone p now s h keeps connected None is =
+    stop_gone p now s h keeps connected (session.is_stopping s
     && length s.unacknowledged == 0) refl
 
-confirm_gone : (p : Settings) (now : ℕ) (s : Session) (h : History) → Keeps p s h → (b : Bool) → session.is_open s ≡ b
+confirm_gone : (p : Settings) (now : ℕ) (s : Session) (h : History) → Keeps p s h → (b : Bool)
+    → session.is_open s ≡ b
     → (c : Bool)
     → Keeps p (cond (not b) (nothing_due s) (cond c (acknowledgement s) (replied s.reply s))).1
-    (with_frame (cond (not b) (nothing_due s) (cond c (acknowledgement s) (replied s.reply s))).0 now h)
+    (with_frame (cond (not b) (nothing_due s) (cond c (acknowledgement s) (replied s.reply s))).0
+    now h)
 confirm_gone p now s h keeps false connected c = keeps
 confirm_gone p now s h keeps true connected true = acknowledgement_gone p now s h keeps connected
-confirm_gone p now s h keeps true connected false = reply_gone p now s h keeps connected s.reply refl
+confirm_gone p now s h keeps true connected false =
+    reply_gone p now s h keeps connected s.reply refl
 
-test_gone : (p : Settings) (now : ℕ) (s : Session) (h : History) → Keeps p s h → session.is_open s ≡ true
+test_gone : (p : Settings) (now : ℕ) (s : Session) (h : History) → Keeps p s h → session.is_open s
+    ≡ true
     → Keeps p (record s { test_sent = Some now }) (Went (U TestAct) now ∷ h)
 test_gone p now s h keeps connected = record {
   set = keeps.set;
@@ -468,10 +527,15 @@ test_gone p now s h keeps connected = record {
 abbrev tested : ℕ → Session → Due
 tested now s = (Some (U TestAct), record s { test_sent = Some now })
 
-pull_gone : (p : Settings) (now : ℕ) (s : Session) (h : History) → Keeps p s h → (b : Bool) → session.is_open s ≡ b
+pull_gone : (p : Settings) (now : ℕ) (s : Session) (h : History) → Keeps p s h → (b : Bool)
+    → session.is_open s ≡ b
     → (c d : Bool)
-    → Keeps p (cond (not b) (nothing_due s) (cond c (acknowledgement s) (cond d (tested now s) (nothing_due s)))).1
-    (with_frame (cond (not b) (nothing_due s) (cond c (acknowledgement s) (cond d (tested now s) (nothing_due s)))).0
+    → Keeps p
+    (cond (not b) (nothing_due s)
+    (cond c (acknowledgement s) (cond d (tested now s) (nothing_due s)))).1
+    (with_frame
+    (cond (not b) (nothing_due s)
+    (cond c (acknowledgement s) (cond d (tested now s) (nothing_due s)))).0
     now h)
 pull_gone p now s h keeps false connected c d = keeps
 pull_gone p now s h keeps true connected true d = acknowledgement_gone p now s h keeps connected
@@ -495,7 +559,8 @@ new_keeps p = record {
   numbered = tt;
 }
 
-open_keeps : (p : Settings) (now : ℕ) (s : Session) → IsSet p s → Keeps p (session.opened now s) (Opened now ∷ [])
+open_keeps : (p : Settings) (now : ℕ) (s : Session) → IsSet p s
+    → Keeps p (session.opened now s) (Opened now ∷ [])
 open_keeps p now s set = record {
   set = set;
   connected = refl;
@@ -538,7 +603,8 @@ if_sent holds kind now r = cond holds (record {
   history = Sent r.session.next_sent r.session.next_received kind now ∷ r.history;
 }) r
 
-taken_keeps : (p : Settings) (frame : Apdu) (now : ℕ) (r : Run) → IsInRange p → Keeps p r.session r.history
+taken_keeps : (p : Settings) (frame : Apdu) (now : ℕ) (r : Run) → IsInRange p
+    → Keeps p r.session r.history
     → (b : Bool) → may_take r.session ≡ b
     → Keeps p (if_taken b frame now r).session (if_taken b frame now r).history
 taken_keeps p frame now r range keeps true may =
@@ -548,7 +614,8 @@ taken_keeps p frame now r range keeps true may =
     (outcome_of r.session frame) refl
 taken_keeps p frame now r range keeps false may = keeps
 
-sent_keeps : (p : Settings) (kind : Kind) (now : ℕ) (r : Run) → Keeps p r.session r.history → (b : Bool)
+sent_keeps : (p : Settings) (kind : Kind) (now : ℕ) (r : Run) → Keeps p r.session r.history
+    → (b : Bool)
     → may_send r.session ≡ b
     → Keeps p (if_sent b kind now r).session (if_sent b kind now r).history
 sent_keeps p kind now r keeps true may = data_sent p kind now r.session r.history keeps may
@@ -558,15 +625,20 @@ call_keeps : (p : Settings) (call : Call) (r : Run) → IsInRange p → Keeps p 
     → Keeps p (after_call call r).session (after_call call r).history
 call_keeps p (Open now) r range keeps = open_keeps p now r.session keeps.set
 call_keeps p Cut r range keeps = cut_keeps p r.session keeps.set
-call_keeps p (Take frame now) r range keeps = taken_keeps p frame now r range keeps (may_take r.session) refl
+call_keeps p (Take frame now) r range keeps =
+    taken_keeps p frame now r range keeps (may_take r.session) refl
 call_keeps p (Send kind now) r range keeps = sent_keeps p kind now r keeps (may_send r.session) refl
-call_keeps p (Confirm now) r range keeps = confirm_gone p now r.session r.history keeps (session.is_open r.session) refl
+call_keeps p (Confirm now) r range keeps = confirm_gone p now r.session r.history keeps
+    (session.is_open r.session) refl
     (session.is_stopping r.session && nat_lt 0 r.session.unconfirmed)
 call_keeps p (Pull now) r range keeps =
-    pull_gone p now r.session r.history keeps (session.is_open r.session) refl (session.is_s_due now r.session)
+    pull_gone p now r.session r.history keeps (session.is_open r.session) refl
+    (session.is_s_due now r.session)
     (session.is_test_due now r.session)
 
 -- Whatever is called, the session keeps the history.
-pub run_keeps : (p : Settings) (calls : List Call) → IsInRange p → Keeps p (run p calls).session (run p calls).history
+pub run_keeps : (p : Settings) (calls : List Call) → IsInRange p
+    → Keeps p (run p calls).session (run p calls).history
 run_keeps p [] range = new_keeps p
-run_keeps p (call ∷ earlier) range = call_keeps p call (run p earlier) range (run_keeps p earlier range)
+run_keeps p (call ∷ earlier) range =
+    call_keeps p call (run p earlier) range (run_keeps p earlier range)

@@ -1,10 +1,14 @@
 -- The lines of a session read back.
-use Rattle.std.proofs.Common.{◌≡◌, ℕ, zero, suc, ◌+◌, ◌<◌, ◌≤◌, ◌==◌, ◌&&◌, nat_lt, Bool, true, false, if◌then◌else◌, List, [], ◌∷◌, ◌++◌, length, get_or, take, drop, Option, Some, None, refl, sym, ap, ◌∙◌, append_assoc, arith, rules}
+use Rattle.std.proofs.Common.{◌≡◌, ℕ, zero, suc, ◌+◌, ◌<◌, ◌≤◌, ◌==◌, ◌&&◌, nat_lt, Bool, true}
+use Rattle.std.proofs.Common.{false, if◌then◌else◌, List, [], ◌∷◌, ◌++◌, length, get_or, take, drop}
+use Rattle.std.proofs.Common.{Option, Some, None, refl, sym, ap, ◌∙◌, append_assoc, arith, rules}
 use Rattle.std.specs.Prelude.{Result, Ok, Err, IsOk, OnOk}
 use Rattle.std.proofs.lemmas.Bool.{ne_eqb}
-use Rattle.std.proofs.lemmas.List.{take_more, drop_more, take_all, drop_all, length_push, append-nil, length-append}
+use Rattle.std.proofs.lemmas.List.{take_more, drop_more, take_all, drop_all, length_push}
+use Rattle.std.proofs.lemmas.List.{append-nil, length-append}
 use Rattle.apci.specs.declared.apdu.Uf.{Uf}
-use Rattle.apci.specs.declared.apdu.Uf.TheVariants.{StartAct, StartCon, StopAct, StopCon, TestAct, TestCon}
+use Rattle.apci.specs.declared.apdu.Uf.TheVariants.{StartAct, StartCon, StopAct, StopCon, TestAct}
+use Rattle.apci.specs.declared.apdu.Uf.TheVariants.{TestCon}
 use Rattle.session.specs.declared.kinds.Kind.{Kind}
 use Rattle.session.specs.declared.kinds.Kind.TheVariants.{Queue, Own}
 use Rattle.session.specs.declared.kinds.Unacknowledged.{Unacknowledged}
@@ -13,7 +17,11 @@ use Rattle.session.specs.declared.kinds.Transfer.TheVariants.{Closed, Stopped, S
 use Rattle.session.specs.declared.saving.Numbers.{Numbers}
 use Rattle.session.specs.declared.saving.Dues.{Dues}
 use Rattle.session.specs.Session.{Session}
-use Rattle.session.specs.Restored.{transfer_number, transfer_from, kind_number, kind_from, reply_number, reply_from, moment_numbers, moment_from, numbers_line, dues_line, frame_line, frame_lines, frame_with, frame_from, numbers_with, numbers_from, numbers_of, dues_with, dues_from, dues_of, IsSavable, HasSettings}
+use Rattle.session.specs.Restored.{transfer_number, transfer_from, kind_number, kind_from}
+use Rattle.session.specs.Restored.{reply_number, reply_from, moment_numbers, moment_from}
+use Rattle.session.specs.Restored.{numbers_line, dues_line, frame_line, frame_lines, frame_with}
+use Rattle.session.specs.Restored.{frame_from, numbers_with, numbers_from, numbers_of, dues_with}
+use Rattle.session.specs.Restored.{dues_from, dues_of, IsSavable, HasSettings}
 
 transfer_back : (t : Transfer) → transfer_from (transfer_number t) ≡ Some t
 transfer_back Closed = refl
@@ -41,11 +49,13 @@ moment_back (Some m) = refl
 frame_back : (f : Unacknowledged) → frame_from (frame_line f) ≡ Some f
 frame_back f = rw (kind_back f.kind) refl
 
-numbers_back : (s : Session) → IsSavable s → numbers_from (numbers_line (numbers_of s)) ≡ Some (numbers_of s)
+numbers_back : (s : Session) → IsSavable s → numbers_from (numbers_line (numbers_of s))
+    ≡ Some (numbers_of s)
 numbers_back s sav =
     let sent : s.next_sent < 32768 = sav.sent_small in
     let received : s.next_received < 32768 = sav.received_small in
-    let small : (nat_lt s.next_sent 32768 && nat_lt s.next_received 32768) ≡ true = grind (arith, sent, received) in
+    let small : (nat_lt s.next_sent 32768 && nat_lt s.next_received 32768) ≡ true =
+    grind (arith, sent, received) in
     rw (transfer_back s.transfer, small) refl
 
 dues_back : (s : Session) → IsSavable s → dues_from (dues_line (dues_of s)) ≡ Some (dues_of s)
@@ -80,7 +90,8 @@ kind_only zero k e = let same : Queue ≡ k = cc in ap kind_number same
 kind_only (suc zero) k e = let same : Own ≡ k = cc in ap kind_number same
 kind_only (suc (suc n)) k e =
     let m : ℕ = suc (suc n) in
-    let none : None ≡ kind_from m = sym (rw (above m 0 (omega arith), above m 1 (omega arith)) refl) in
+    let none : None ≡ kind_from m =
+    sym (rw (above m 0 (omega arith), above m 1 (omega arith)) refl) in
     absurd cc
 
 reply_only : (n : ℕ) (r : Option Uf) → reply_from n ≡ Some r → n ≡ reply_number r
@@ -88,9 +99,12 @@ reply_only zero r e = let same : None ≡ r = cc in ap reply_number same
 reply_only (suc zero) r e = let same : Some StartAct ≡ r = cc in ap reply_number same
 reply_only (suc (suc zero)) r e = let same : Some StartCon ≡ r = cc in ap reply_number same
 reply_only (suc (suc (suc zero))) r e = let same : Some StopAct ≡ r = cc in ap reply_number same
-reply_only (suc (suc (suc (suc zero)))) r e = let same : Some StopCon ≡ r = cc in ap reply_number same
-reply_only (suc (suc (suc (suc (suc zero))))) r e = let same : Some TestAct ≡ r = cc in ap reply_number same
-reply_only (suc (suc (suc (suc (suc (suc zero)))))) r e = let same : Some TestCon ≡ r = cc in ap reply_number same
+reply_only (suc (suc (suc (suc zero)))) r e = let same : Some StopCon ≡ r = cc in
+    ap reply_number same
+reply_only (suc (suc (suc (suc (suc zero))))) r e = let same : Some TestAct ≡ r = cc in
+    ap reply_number same
+reply_only (suc (suc (suc (suc (suc (suc zero)))))) r e = let same : Some TestCon ≡ r = cc in
+    ap reply_number same
 reply_only (suc (suc (suc (suc (suc (suc (suc n))))))) r e =
     let m : ℕ = suc (suc (suc (suc (suc (suc (suc n)))))) in
     let none : None ≡ reply_from m = sym (rw (
@@ -109,7 +123,8 @@ moment_only [] m e = let same : None ≡ m = cc in ap moment_numbers same
 moment_only (n ∷ []) m e = let same : Some n ≡ m = cc in ap moment_numbers same
 moment_only (n ∷ o ∷ ns) m e = absurd cc
 
-frame_by : (n moment : ℕ) (f : Unacknowledged) (o : Option Kind) → kind_from n ≡ o → frame_with o moment ≡ Some f
+frame_by : (n moment : ℕ) (f : Unacknowledged) (o : Option Kind) → kind_from n ≡ o
+    → frame_with o moment ≡ Some f
     → n ∷ moment ∷ [] ≡ frame_line f
 frame_by n moment f None is e = absurd cc
 frame_by n moment f (Some kind) is e =
@@ -154,7 +169,8 @@ dues_by frames unconfirmed since last n ns x None m is at e = absurd cc
 dues_by frames unconfirmed since last n ns x (Some r) None is at e = absurd cc
 dues_by frames unconfirmed since last n ns x (Some r) (Some m) is at e =
     ap (λ (i : ℕ). frames ∷ unconfirmed ∷ since ∷ last ∷ i ∷ ns) (reply_only n r is)
-    ∙ ap (λ (l : List ℕ). frames ∷ unconfirmed ∷ since ∷ last ∷ reply_number r ∷ l) (moment_only ns m at)
+    ∙ ap (λ (l : List ℕ). frames ∷ unconfirmed ∷ since ∷ last ∷ reply_number r ∷ l)
+    (moment_only ns m at)
     ∙ ap dues_line (if_dues (nat_lt unconfirmed 65536) _ x e)
 
 pub dues_only : (ns : List ℕ) (x : Dues) → dues_from ns ≡ Some x → ns ≡ dues_line x
@@ -163,26 +179,32 @@ dues_only (a ∷ []) x e = absurd cc
 dues_only (a ∷ b ∷ []) x e = absurd cc
 dues_only (a ∷ b ∷ c ∷ []) x e = absurd cc
 dues_only (a ∷ b ∷ c ∷ d ∷ []) x e = absurd cc
-dues_only (a ∷ b ∷ c ∷ d ∷ f ∷ ns) x e = dues_by a b c d f ns x (reply_from f) (moment_from ns) refl refl e
+dues_only (a ∷ b ∷ c ∷ d ∷ f ∷ ns) x e = dues_by a b c d f ns x (reply_from f) (moment_from ns) refl
+    refl e
 
 -- ---- a line that comes
 
-pub next_line : (x y : List ℕ) (xs ys all : List (List ℕ)) → all ≡ x ∷ xs → all ≡ y ∷ ys → (y ≡ x) × (ys ≡ xs)
+pub next_line : (x y : List ℕ) (xs ys all : List (List ℕ)) → all ≡ x ∷ xs → all ≡ y ∷ ys
+    → (y ≡ x) × (ys ≡ xs)
 next_line x y xs ys all e f = let g : y ∷ ys ≡ x ∷ xs = sym f ∙ e in (cc, cc)
 
-pub frame_is : (f : Unacknowledged) (ns : List ℕ) (r : Option Unacknowledged) → ns ≡ frame_line f → r ≡ frame_from ns
+pub frame_is : (f : Unacknowledged) (ns : List ℕ) (r : Option Unacknowledged) → ns ≡ frame_line f
+    → r ≡ frame_from ns
     → r ≡ Some f
 frame_is f ns r is e = e ∙ ap frame_from is ∙ frame_back f
 
-pub numbers_are : (s : Session) (ns : List ℕ) (r : Option Numbers) → IsSavable s → ns ≡ numbers_line (numbers_of s)
+pub numbers_are : (s : Session) (ns : List ℕ) (r : Option Numbers) → IsSavable s
+    → ns ≡ numbers_line (numbers_of s)
     → r ≡ numbers_from ns → r ≡ Some (numbers_of s)
 numbers_are s ns r sav is e = e ∙ ap numbers_from is ∙ numbers_back s sav
 
-pub dues_are : (s : Session) (ns : List ℕ) (r : Option Dues) → IsSavable s → ns ≡ dues_line (dues_of s) → r ≡ dues_from ns
+pub dues_are : (s : Session) (ns : List ℕ) (r : Option Dues) → IsSavable s
+    → ns ≡ dues_line (dues_of s) → r ≡ dues_from ns
     → r ≡ Some (dues_of s)
 dues_are s ns r sav is e = e ∙ ap dues_from is ∙ dues_back s sav
 
-pub same_frame : (f g : Unacknowledged) (r : Option Unacknowledged) → r ≡ Some f → r ≡ Some g → f ≡ g
+pub same_frame : (f g : Unacknowledged) (r : Option Unacknowledged) → r ≡ Some f → r ≡ Some g
+    → f ≡ g
 same_frame f g r e h = cc
 
 pub same_numbers : (f g : Numbers) (r : Option Numbers) → r ≡ Some f → r ≡ Some g → f ≡ g
@@ -209,50 +231,70 @@ pub frame_at : List Unacknowledged → ℕ → Unacknowledged
 frame_at fs i = get_or fs i some_frame
 
 pub lines_at : (fs : List Unacknowledged) (i : ℕ) (rest : List (List ℕ)) → i < length fs
-    → frame_lines (drop i fs) ++ rest ≡ frame_line (frame_at fs i) ∷ (frame_lines (drop (i + 1) fs) ++ rest)
+    → frame_lines (drop i fs) ++ rest ≡ frame_line (frame_at fs i)
+    ∷ (frame_lines (drop (i + 1) fs) ++ rest)
 unfolding frame_at
-lines_at fs i rest lt = ap (λ (gs : List Unacknowledged). frame_lines gs ++ rest) (drop_more fs i some_frame lt)
+lines_at fs i rest lt = ap (λ (gs : List Unacknowledged). frame_lines gs ++ rest)
+    (drop_more fs i some_frame lt)
 
-pub one_more : (before now new fs : List Unacknowledged) (i : ℕ) (f : Unacknowledged) → i < length fs
-    → now ≡ before ++ take i fs → f ≡ frame_at fs i → new ≡ now ++ f ∷ [] → new ≡ before ++ take (i + 1) fs
+pub one_more : (before now new fs : List Unacknowledged) (i : ℕ) (f : Unacknowledged)
+    → i < length fs
+    → now ≡ before ++ take i fs → f ≡ frame_at fs i → new ≡ now ++ f ∷ []
+    → new ≡ before ++ take (i + 1) fs
 unfolding frame_at
 one_more before now new fs i f lt is same e =
     e ∙ ap (λ (l : List Unacknowledged). l ++ f ∷ []) is ∙ append_assoc before (take i fs) (f ∷ [])
     ∙ ap (λ (g : Unacknowledged). before ++ (take i fs ++ g ∷ [])) same
     ∙ ap (λ (l : List Unacknowledged). before ++ l) (sym (take_more fs i some_frame lt))
 
-frame_lines-append : (fs gs : List Unacknowledged) → frame_lines (fs ++ gs) ≡ frame_lines fs ++ frame_lines gs
+frame_lines-append : (fs gs : List Unacknowledged) → frame_lines (fs ++ gs)
+    ≡ frame_lines fs ++ frame_lines gs
 frame_lines-append [] gs = refl
-frame_lines-append (f ∷ fs) gs = ap (λ (l : List (List ℕ)). frame_line f ∷ l) (frame_lines-append fs gs)
+frame_lines-append (f ∷ fs) gs = ap (λ (l : List (List ℕ)). frame_line f ∷ l)
+    (frame_lines-append fs gs)
 
 -- so many frames were read, and the lines were theirs
-pub record Read (before now : List Unacknowledged) (lines coming : List (List ℕ)) (n : ℕ) : Type 0 where
+pub record Read (before now : List Unacknowledged) (lines coming : List (List ℕ)) (n : ℕ) : Type
+    0 where
   pub frames : List Unacknowledged
   pub count : length frames ≡ n
   pub items : now ≡ before ++ frames
   pub told : lines ≡ frame_lines frames ++ coming
 
-pub none_read : (before : List Unacknowledged) (lines : List (List ℕ)) → Read before before lines lines 0
-none_read before lines = record { frames = []; count = refl; items = sym (append-nil before); told = refl }
+pub none_read : (before : List Unacknowledged) (lines : List (List ℕ))
+    → Read before before lines lines 0
+none_read before lines = record {
+  frames = [];
+  count = refl;
+  items = sym (append-nil before);
+  told =
+      refl;
+}
 
-pub one_read : (before now new : List Unacknowledged) (lines coming after : List (List ℕ)) (n : ℕ) (f : Unacknowledged)
+pub one_read : (before now new : List Unacknowledged) (lines coming after : List (List ℕ)) (n : ℕ)
+    (f : Unacknowledged)
     → Read before now lines coming n → coming ≡ frame_line f ∷ after → new ≡ now ++ f ∷ []
     → Read before new lines after (n + 1)
 one_read before now new lines coming after n f r line e = record {
   frames = r.frames ++ f ∷ [];
   count = omega (arith, length_push r.frames f, r.count);
-  items = e ∙ ap (λ (l : List Unacknowledged). l ++ f ∷ []) r.items ∙ append_assoc before r.frames (f ∷ []);
+  items = e ∙ ap (λ (l : List Unacknowledged). l ++ f ∷ []) r.items
+      ∙ append_assoc before r.frames (f ∷ []);
   told = r.told ∙ ap (λ (l : List (List ℕ)). frame_lines r.frames ++ l) line
       ∙ sym (append_assoc (frame_lines r.frames) (frame_line f ∷ []) after)
       ∙ ap (λ (l : List (List ℕ)). l ++ after) (sym (frame_lines-append r.frames (f ∷ [])));
 }
 
-pub has_room : (before now : List Unacknowledged) (lines coming : List (List ℕ)) (n : ℕ) → Read before now lines coming n
+pub has_room : (before now : List Unacknowledged) (lines coming : List (List ℕ)) (n : ℕ)
+    → Read before now lines coming n
     → length now ≡ length before + n
-has_room before now lines coming n r = omega (arith, ap length r.items, length-append before r.frames, r.count)
+has_room before now lines coming n r =
+    omega (arith, ap length r.items, length-append before r.frames, r.count)
 
-pub all_read : (before now fs : List Unacknowledged) (rest coming : List (List ℕ)) (i : ℕ) → length fs ≤ i
-    → now ≡ before ++ take i fs → coming ≡ frame_lines (drop i fs) ++ rest → (now ≡ before ++ fs) × (coming ≡ rest)
+pub all_read : (before now fs : List Unacknowledged) (rest coming : List (List ℕ)) (i : ℕ)
+    → length fs ≤ i
+    → now ≡ before ++ take i fs → coming ≡ frame_lines (drop i fs) ++ rest → (now ≡ before ++ fs)
+    × (coming ≡ rest)
 all_read before now fs rest coming i le is e = (
   is ∙ ap (λ (l : List Unacknowledged). before ++ l) (take_all i fs le),
   e ∙ ap (λ (gs : List Unacknowledged). frame_lines gs ++ rest) (drop_all i fs le),
@@ -283,7 +325,8 @@ with_parts k w t1 t2 t3 n d us = record {
   reply = d.reply;
 }
 
-pub restored_is : (s : Session) (k w t1 t2 t3 : ℕ) (n : Numbers) (d : Dues) (us : List Unacknowledged)
+pub restored_is : (s : Session) (k w t1 t2 t3 : ℕ) (n : Numbers) (d : Dues)
+    (us : List Unacknowledged)
     → HasSettings s k w t1 t2 t3 → n ≡ numbers_of s → d ≡ dues_of s → us ≡ s.unacknowledged
     → with_parts k w t1 t2 t3 n d us ≡ s
 restored_is s k w t1 t2 t3 n d us set en ed eu =
@@ -294,4 +337,5 @@ restored_is s k w t1 t2 t3 n d us set en ed eu =
     ∙ ap (λ (x : ℕ). with_parts s.k s.w s.t1 s.t2 x n d us) (sym set.t3_is)
     ∙ ap (λ (x : Numbers). with_parts s.k s.w s.t1 s.t2 s.t3 x d us) en
     ∙ ap (λ (x : Dues). with_parts s.k s.w s.t1 s.t2 s.t3 (numbers_of s) x us) ed
-    ∙ ap (λ (x : List Unacknowledged). with_parts s.k s.w s.t1 s.t2 s.t3 (numbers_of s) (dues_of s) x) eu
+    ∙ ap (λ (x : List Unacknowledged). with_parts s.k s.w s.t1 s.t2 s.t3 (numbers_of s) (dues_of s)
+    x) eu

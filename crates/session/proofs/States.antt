@@ -2,10 +2,12 @@
 use Rattle.std.proofs.Common.{◌≡◌, ℕ, Bool, true, false, cond, [], refl}
 use Rattle.apci.specs.declared.apdu.Apdu.{Apdu}
 use Rattle.apci.specs.declared.apdu.Apdu.TheVariants.{I, S, U}
-use Rattle.apci.specs.declared.apdu.Uf.TheVariants.{StartAct, StartCon, StopAct, StopCon, TestAct, TestCon}
+use Rattle.apci.specs.declared.apdu.Uf.TheVariants.{StartAct, StartCon, StopAct, StopCon, TestAct}
+use Rattle.apci.specs.declared.apdu.Uf.TheVariants.{TestCon}
 use Rattle.session.specs.declared.kinds.Transfer.{Transfer}
 use Rattle.session.specs.declared.kinds.Transfer.TheVariants.{Closed, Stopped, Started, Stopping}
-use Rattle.session.specs.Session.{Session, opens, transfers, stops, is_open, turned_to, refuses, taken, after_frame, acknowledged, newly_by}
+use Rattle.session.specs.Session.{Session, opens, transfers, stops, is_open, turned_to, refuses}
+use Rattle.session.specs.Session.{taken, after_frame, acknowledged, newly_by}
 use Rattle.session.specs.Laws.{TellsAcknowledged}
 use Rattle.session.specs.Ends.{IsSilent}
 
@@ -50,7 +52,9 @@ taken_opens frame now s = by (refuses s frame) refl
   where
     by : (b : Bool) → refuses s frame ≡ b → is_open (taken frame now s) ≡ is_open s
     by true e = rw e refl
-    by false e = rw e (opens_after frame now (acknowledged (newly_by frame s) (record s { last_frame = now })))
+    by false e =
+        rw e
+        (opens_after frame now (acknowledged (newly_by frame s) (record s { last_frame = now })))
 
 pub refused_acknowledges : (frame : Apdu) (now : ℕ) (s : Session) → refuses s frame ≡ true
     → TellsAcknowledged [] (taken frame now s)

@@ -3,7 +3,9 @@
 use Rattle.std.specs.Prelude.{◌≡◌, ℕ, ◌%◌, ◌<◌, ◌⊎◌, true, false, [], ◌∷◌, length, Some, None}
 use Rattle.apci.specs.declared.apdu.Apdu.{Apdu}
 use Rattle.session.specs.Session.{is_close}
-use Rattle.session.specs.History.{Happened, History, Opened, Came, Refused, Sent, Went, is_open, sent_frames, received_count, still_unacknowledged, is_started, verdict_on, confirmation_of, frame_due}
+use Rattle.session.specs.History.{Happened, History, Opened, Came, Refused, Sent, Went, is_open}
+use Rattle.session.specs.History.{sent_frames, received_count, still_unacknowledged, is_started}
+use Rattle.session.specs.History.{verdict_on, confirmation_of, frame_due}
 use Rattle.session.specs.Runs.{Settings}
 
 -- A frame is heard on an open connection, once all confirmations are out (5.3).

@@ -1,10 +1,12 @@
 -- A session under a list of calls, and the history that it leaves. Lists of calls are newest first.
-use Rattle.std.specs.Prelude.{ℕ, ◌<◌, ◌&&◌, Bool, if◌then◌else◌, List, [], ◌∷◌, is_none, Option, Some, None}
+use Rattle.std.specs.Prelude.{ℕ, ◌<◌, ◌&&◌, Bool, if◌then◌else◌, List, [], ◌∷◌, is_none, Option}
+use Rattle.std.specs.Prelude.{Some, None}
 use Rattle.apci.specs.declared.apdu.Apdu.{Apdu}
 use Rattle.session.specs.declared.kinds.Kind.{Kind}
 use Rattle.session.specs.declared.kinds.Taken.{Taken}
 use Rattle.session.specs.declared.kinds.Taken.TheVariants.{Nothing, Asdu, Close}
-use Rattle.session.specs.Session.{Session, new_session, opened, closed, is_open, taken, outcome_of, sent, may_send, confirmed, pulled, Due}
+use Rattle.session.specs.Session.{Session, new_session, opened, closed, is_open, taken, outcome_of}
+use Rattle.session.specs.Session.{sent, may_send, confirmed, pulled, Due}
 use Rattle.session.specs.History.{Happened, History, Opened, Came, Refused, Sent, Went}
 
 pub record Settings : Type 0 where

@@ -1,9 +1,12 @@
 -- What a contract sees of a session, and what each call makes of it (IEC 60870-5-104, clause 5).
-use Rattle.std.specs.Prelude.{ℕ, ◌+◌, ◌-◌, ◌%◌, Bool, true, false, not, ◌&&◌, ◌||◌, ◌==◌, nat_lt, nat_le, if◌then◌else◌, List, [], ◌∷◌, ◌++◌, length, take, drop, min, count_by, is_none, Option, Some, None}
+use Rattle.std.specs.Prelude.{ℕ, ◌+◌, ◌-◌, ◌%◌, Bool, true, false, not, ◌&&◌, ◌||◌, ◌==◌, nat_lt}
+use Rattle.std.specs.Prelude.{nat_le, if◌then◌else◌, List, [], ◌∷◌, ◌++◌, length, take, drop, min}
+use Rattle.std.specs.Prelude.{count_by, is_none, Option, Some, None}
 use Rattle.apci.specs.declared.apdu.Apdu.{Apdu}
 use Rattle.apci.specs.declared.apdu.Apdu.TheVariants.{I, S, U}
 use Rattle.apci.specs.declared.apdu.Uf.{Uf}
-use Rattle.apci.specs.declared.apdu.Uf.TheVariants.{StartAct, StartCon, StopAct, StopCon, TestAct, TestCon}
+use Rattle.apci.specs.declared.apdu.Uf.TheVariants.{StartAct, StartCon, StopAct, StopCon, TestAct}
+use Rattle.apci.specs.declared.apdu.Uf.TheVariants.{TestCon}
 use Rattle.session.specs.declared.kinds.Kind.{Kind}
 use Rattle.session.specs.declared.kinds.Kind.TheVariants.{Queue, Own}
 use Rattle.session.specs.declared.kinds.Unacknowledged.{Unacknowledged}

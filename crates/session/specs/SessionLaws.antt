@@ -1,7 +1,8 @@
 -- What holds of a session after every list of calls, for crates that keep one.
 use Rattle.std.specs.Prelude.{◌≡◌, ℕ, ◌&&◌, nat_lt, length}
 use Rattle.session.specs.Session.{may_send, confirmed, pulled, timed_out}
-use Rattle.session.specs.History.{is_started, still_unacknowledged, confirmation_of, frame_due, has_timed_out}
+use Rattle.session.specs.History.{is_started, still_unacknowledged, confirmation_of, frame_due}
+use Rattle.session.specs.History.{has_timed_out}
 use Rattle.session.specs.Laws.{AfterEachRun}
 use Rattle.session.specs.Rules.{KeepsRules}
 

@@ -1,6 +1,7 @@
 //! The session of one connection.
 
-ghost use Rattle.std.specs.Prelude.{◌≡◌, ◌+◌, ◌-◌, ◌^◌, ◌<◌, ◌≤◌, if◌then◌else◌, true, false, Some, None, IfOk, IfSome, length, take, option_map, IsTrue, ◌↔◌};
+ghost use Rattle.std.specs.Prelude.{◌≡◌, ◌+◌, ◌-◌, ◌^◌, ◌<◌, ◌≤◌, if◌then◌else◌, true, false, Some};
+ghost use Rattle.std.specs.Prelude.{None, IfOk, IfSome, length, take, option_map, IsTrue, ◌↔◌};
 ghost use Rattle.apci.specs.Borrowed.{owned};
 ghost use Rattle.apci.specs.Short.{apdu_of};
 ghost use Rattle.apci.specs.Spelling.{Fits};
@@ -9,7 +10,8 @@ ghost use Rattle.session.specs.Ends.{IsConfirmed};
 ghost use Rattle.std.specs.Prelude.{ℕ, List, ◌++◌, OnOk, MatchResult};
 ghost use Rattle.checkpoint.specs.declared.StateFault.TheVariants.{Wrong};
 ghost use Rattle.session.specs.Session.{Session as Machine};
-ghost use Rattle.session.specs.Restored.{session_lines, numbers_line, numbers_of, dues_line, dues_of, IsSavable, HasSettings};
+ghost use Rattle.session.specs.Restored.{session_lines, numbers_line, numbers_of, dues_line};
+ghost use Rattle.session.specs.Restored.{dues_of, IsSavable, HasSettings};
 
 use crate::kinds::{Close, Kind, Taken, Transfer, Unacknowledged};
 use crate::saving::{
@@ -71,7 +73,11 @@ impl Model for Session {
 }
 
 impl Session {
-    ghost use Rattle.session.specs.Session.{new_session, opened, closed, is_open, is_stopping, turned_to, is_transferring, may_send as can_send, sent as after_sent, left_by, refuses, outcome_of, taken, timed_out, confirmed, pulled, is_valid, acknowledged, newly_by, counted, after_u};
+    ghost use Rattle.session.specs.Session.{new_session, opened, closed, is_open, is_stopping};
+    ghost use Rattle.session.specs.Session.{turned_to, is_transferring, may_send as can_send};
+    ghost use Rattle.session.specs.Session.{sent as after_sent, left_by, refuses, outcome_of};
+    ghost use Rattle.session.specs.Session.{taken, timed_out, confirmed, pulled, is_valid};
+    ghost use Rattle.session.specs.Session.{acknowledged, newly_by, counted, after_u};
 
     /// A session without a connection. This alone takes memory: room for k frames.
     ///

@@ -3,16 +3,22 @@
 //! The history of a connection has what came and what went out. Each law says what a session's
 //! calls answer by what the standard makes of that history.
 
-ghost use Rattle.std.specs.Prelude.{◌≡◌, ℕ, ◌%◌, ◌<◌, ◌≤◌, ◌&&◌, ◌++◌, List, [], true, false, None, nat_lt, length, option_to_list};
+ghost use Rattle.std.specs.Prelude.{◌≡◌, ℕ, ◌%◌, ◌<◌, ◌≤◌, ◌&&◌, ◌++◌, List, [], true, false, None};
+ghost use Rattle.std.specs.Prelude.{nat_lt, length, option_to_list};
 ghost use Rattle.apci.specs.declared.apdu.Apdu.{Apdu};
 ghost use Rattle.session.specs.declared.kinds.Kind.{Kind};
 ghost use Rattle.session.specs.declared.kinds.Unacknowledged.{Unacknowledged};
-ghost use Rattle.session.specs.Session.{Session, is_open, is_transferring, may_send, refuses, outcome_of, timed_out, confirmed, pulled, sent, taken};
-ghost use Rattle.session.specs.History.{IsNumbered, sent_frames, received_count, reached, still_unacknowledged, is_started, verdict_on, confirmation_of, confirmation_owed, confirmations_due, confirmations_sent, has_timed_out, frame_due};
+ghost use Rattle.session.specs.Session.{Session, is_open, is_transferring, may_send, refuses};
+ghost use Rattle.session.specs.Session.{outcome_of, timed_out, confirmed, pulled, sent, taken};
+ghost use Rattle.session.specs.History.{IsNumbered, sent_frames, received_count, reached};
+ghost use Rattle.session.specs.History.{still_unacknowledged, is_started, verdict_on};
+ghost use Rattle.session.specs.History.{confirmation_of, confirmation_owed, confirmations_due};
+ghost use Rattle.session.specs.History.{confirmations_sent, has_timed_out, frame_due};
 ghost use Rattle.session.specs.Laws.{AfterEachRun, Acknowledges, TellsAcknowledged};
 ghost use Rattle.session.specs.Rules.{KeepsRules};
 ghost use Rattle.session.specs.SessionLaws.{SessionLaws};
-ghost use Rattle.session.specs.Ends.{after_confirm, after_pull, IsConfirmed, IsInTime, IsSilent, AreInOrder};
+ghost use Rattle.session.specs.Ends.{after_confirm, after_pull, IsConfirmed, IsInTime, IsSilent};
+ghost use Rattle.session.specs.Ends.{AreInOrder};
 
 /// N(R) is judged by the least number that isn't below the acknowledged count and equals it modulo
 /// 32768.

@@ -1,10 +1,15 @@
 //! The parts of a session as lines of numbers, and back.
 
-ghost use Rattle.std.specs.Prelude.{◌≡◌, ℕ, ◌+◌, ◌<◌, ◌≤◌, List, ◌∷◌, ◌++◌, length, MatchResult, OnOk, IfOk, IfSome};
+ghost use Rattle.std.specs.Prelude.{◌≡◌, ℕ, ◌+◌, ◌<◌, ◌≤◌, List, ◌∷◌, ◌++◌, length, MatchResult};
+ghost use Rattle.std.specs.Prelude.{OnOk, IfOk, IfSome};
 ghost use Rattle.checkpoint.specs.declared.StateFault.TheVariants.{Wrong};
 ghost use Rattle.session.specs.declared.kinds.Unacknowledged.{Unacknowledged};
 ghost use Rattle.session.specs.Session.{Session};
-ghost use Rattle.session.specs.Restored.{transfer_number, transfer_from, kind_number, kind_from, reply_number, reply_from, moment_numbers, moment_from, numbers_line, dues_line, frame_line, frame_lines, frame_from, numbers_from, numbers_of, dues_from, dues_of, IsSavable};
+ghost use Rattle.session.specs.Restored.{transfer_number, transfer_from, kind_number, kind_from};
+ghost use Rattle.session.specs.Restored.{reply_number, reply_from, moment_numbers, moment_from};
+ghost use Rattle.session.specs.Restored.{numbers_line, dues_line, frame_line, frame_lines};
+ghost use Rattle.session.specs.Restored.{frame_from, numbers_from, numbers_of, dues_from, dues_of};
+ghost use Rattle.session.specs.Restored.{IsSavable};
 
 use crate::kinds::{Kind, Transfer, Unacknowledged};
 use apci::Uf;

@@ -1,5 +1,6 @@
 -- Where a port begins, octet by octet.
-use Rattle.std.proofs.Common.{◌≡◌, ℕ, ◌+◌, ◌<◌, ◌≤◌, nat_eq, true, false, List, length, drop, get_or, refl, ap, ◌∙◌}
+use Rattle.std.proofs.Common.{◌≡◌, ℕ, ◌+◌, ◌<◌, ◌≤◌, nat_eq, true, false, List, length, drop}
+use Rattle.std.proofs.Common.{get_or, refl, ap, ◌∙◌}
 use Rattle.std.proofs.lemmas.List.{drop_more, drop_all}
 use Rattle.settings.specs.Live.{has_port, is_port}
 
@@ -7,7 +8,8 @@ pub port_here : (text : List ℕ) (i d : ℕ) → i < length text → nat_eq (ge
     → is_port (drop (i + 1) text) ≡ true → has_port (drop i text) ≡ true
 port_here text i d lt colon port = ap has_port (drop_more text i d lt) ∙ rw (colon, port) refl
 
-pub no_colon_here : (text : List ℕ) (i d : ℕ) → i < length text → nat_eq (get_or text i d) 58 ≡ false
+pub no_colon_here : (text : List ℕ) (i d : ℕ) → i < length text → nat_eq (get_or text i d) 58
+    ≡ false
     → has_port (drop i text) ≡ has_port (drop (i + 1) text)
 no_colon_here text i d lt colon = ap has_port (drop_more text i d lt) ∙ rw colon refl
 

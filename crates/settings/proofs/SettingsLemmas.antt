@@ -5,13 +5,15 @@ use Rattle.gateway.specs.Config.{Settings}
 use Rattle.toml.specs.Data.{Members}
 use Rattle.settings.specs.Faults.{Path, IsWrongKeyOf, ◌>>=◌}
 use Rattle.settings.specs.Live.{Places}
-use Rattle.settings.specs.Settings.{Values, IsDocument, IsFirstFault, IsLiveReadOfText, IsReadFor, IsRootFault, IsReadOf, IsReadBy, known_live, known_with_ends}
+use Rattle.settings.specs.Settings.{Values, IsDocument, IsFirstFault, IsLiveReadOfText, IsReadFor}
+use Rattle.settings.specs.Settings.{IsRootFault, IsReadOf, IsReadBy, known_live, known_with_ends}
 use Rattle.settings.specs.declared.live.LiveSettings.{LiveSettings}
 use Rattle.settings.specs.declared.fault.ConfigFault.{ConfigFault}
 use Rattle.settings.specs.declared.fault.ConfigFault.TheVariants.{NotToml, Key, Unknown, NoMemory}
 
 -- a fault of what is read first is one of the settings, where these go on with it
-pub wrong_before : {A B : Type 0} (r : Result A Path) (more : A → Result B Path) (e : ConfigFault) → IsWrongKeyOf r e
+pub wrong_before : {A B : Type 0} (r : Result A Path) (more : A → Result B Path) (e : ConfigFault)
+    → IsWrongKeyOf r e
     → IsWrongKeyOf (r >>= more) e
 wrong_before r more NotToml h = absurd h
 wrong_before r more (Key path) h = rw h
@@ -29,7 +31,8 @@ read_text known see text root (Err (Unknown path)) d h = (root, d, h)
 read_text known see text root (Err NoMemory) d h = tt
 
 -- a text without a root has that fault
-pub no_root : {A V : Type 0} (known : Members → Result V Path) (see : A → V) (text : List ℕ) (e : ConfigFault)
+pub no_root : {A V : Type 0} (known : Members → Result V Path) (see : A → V) (text : List ℕ)
+    (e : ConfigFault)
     → IsRootFault text e → IsReadBy known see text (Err e)
 no_root known see text NotToml h = h
 no_root known see text (Key path) h = absurd h
@@ -37,7 +40,8 @@ no_root known see text (Unknown path) h = absurd h
 no_root known see text NoMemory h = tt
 
 -- settings that were read with a live run's ends
-pub without_ends : (text : List ℕ) (both : Settings × LiveSettings) → IsLiveReadOfText text (Ok both)
+pub without_ends : (text : List ℕ) (both : Settings × LiveSettings)
+    → IsLiveReadOfText text (Ok both)
     → IsReadFor true text (Ok both.0)
 without_ends text both h =
     (h.0, h.1, ap (λ (r : Result (Values × Places) Path). r >>= (λ b. Ok b.0)) h.2, h.3)

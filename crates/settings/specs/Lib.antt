@@ -6,3 +6,4 @@ pub mod Settings
 pub mod Stations
 pub mod Tcp
 pub mod Unknown
+pub mod Wanted

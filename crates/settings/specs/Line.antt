@@ -1,6 +1,7 @@
 -- The settings of the table `line` (this gateway's own profile): each key in its order, up to the
 -- first that is wrong.
-use Rattle.std.specs.Prelude.{ℕ, codes, List, ◌==◌, if◌then◌else◌, Option, Some, None, Result, Ok, Err}
+use Rattle.std.specs.Prelude.{ℕ, codes, List, ◌==◌, if◌then◌else◌, Option, Some, None, Result, Ok}
+use Rattle.std.specs.Prelude.{Err}
 use Rattle.std.specs.Str.{bytes_eq}
 use Rattle.toml.specs.Data.{Data, Members, as_str}
 use Rattle.ft12.specs.declared.frame.LinkSize.{LinkSize}

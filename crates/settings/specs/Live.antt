@@ -1,6 +1,9 @@
 -- The keys of the table `live` (this gateway's own profile): each is a text, and may be missing; a
 -- live run needs both, and says what they are.
-use Rattle.std.specs.Prelude.{ℕ, nat_eq, nat_le, nat_lt, ◌&&◌, ◌||◌, codes, Bool, false, if◌then◌else◌, List, [], ◌∷◌, length, take, drop, Option, Some, None, Result, Ok, Err, string_bytes}
+use Rattle.std.specs.Prelude.{ℕ, nat_eq, nat_le, nat_lt, ◌&&◌, ◌||◌, codes, Bool, false}
+use Rattle.std.specs.Prelude.{if◌then◌else◌, List, [], ◌∷◌, length, take, drop, Option, Some, None}
+use Rattle.std.specs.Prelude.{Result, Ok, Err, string_bytes}
+use Rattle.std.specs.List.{list_all, starts_with}
 use Rattle.std.specs.Str.{bytes_eq}
 use Rattle.traces.specs.Fields.{decimal_of}
 use Rattle.settings.specs.declared.live.LiveSettings.{LiveSettings}
@@ -52,6 +55,26 @@ abbrev pub is_line : List ℕ → Bool
 is_line text =
     (begins_with (codes "tcp:") text && is_address (drop 4 text))
     || (begins_with (codes "unix:") text && nat_lt 5 (length text))
+
+-- a digit (48 to 57), a dot (46) or a colon (58)
+abbrev pub is_numeric : ℕ → Bool
+is_numeric c = (nat_le 48 c && nat_le c 57) || nat_eq c 46 || nat_eq c 58
+
+-- a line is this beginning and a port
+abbrev pub is_behind : (head : List ℕ) → List ℕ → Bool
+is_behind head line = starts_with nat_eq line head && is_port (drop (length head) line)
+
+-- a line's host is `localhost` or `::1`
+unfoldable pub is_localhost : List ℕ → Bool
+is_localhost line = is_behind (codes "tcp:localhost:") line || is_behind (codes "tcp:::1:") line
+
+-- it is an address of 127.0.0.0/8
+abbrev pub is_loopback : List ℕ → Bool
+is_loopback line = begins_with (codes "tcp:127.") line && list_all is_numeric (drop 8 line)
+
+-- a line is on this machine by its name: a path of a device, or such a host
+abbrev pub is_here : List ℕ → Bool
+is_here line = begins_with (codes "unix:") line || is_localhost line || is_loopback line
 
 -- the text of a key, where it is there and is one
 abbrev pub text_of : Option Data → Option (List ℕ)

@@ -2,7 +2,8 @@
 -- (this gateway's own profile). The keys and their values stand in `Line.antt`, `Tcp.antt`,
 -- `Stations.antt` and `Live.antt`, in the order in which they are judged. A default is judged like
 -- a given value. Where `line`, `tcp` or `live` is no table, its first key is wrong.
-use Rattle.std.specs.Prelude.{◌≡◌, ℕ, Bool, true, false, codes, List, [], Some, None, Result, Ok, Err, IsOk, IsUtf8, MatchResult}
+use Rattle.std.specs.Prelude.{◌≡◌, ℕ, Bool, true, false, codes, List, [], Some, None, Result, Ok}
+use Rattle.std.specs.Prelude.{Err, IsOk, IsUtf8, MatchResult}
 use Rattle.toml.specs.Data.{Members, get_member}
 use Rattle.toml.specs.Parse.{parse_document}
 use Rattle.gateway.specs.Config.{Settings}

@@ -1,6 +1,8 @@
 -- The list of stations (this gateway's own profile): each in its order, its keys one before the
 -- next, up to the first that is wrong.
-use Rattle.std.specs.Prelude.{◌≡◌, ℕ, false, codes, List, [], ◌∷◌, ◌++◌, Bool, ◌==◌, if◌then◌else◌, nat_lt, nat_le, ◌&&◌, suc, Option, Some, None, Result, Ok, Err, Vec, MatchResult}
+use Rattle.std.specs.Prelude.{◌≡◌, ℕ, false, codes, List, [], ◌∷◌, ◌++◌, Bool, ◌==◌, if◌then◌else◌}
+use Rattle.std.specs.Prelude.{nat_lt, nat_le, ◌&&◌, suc, Option, Some, None, Result, Ok, Err, Vec}
+use Rattle.std.specs.Prelude.{MatchResult}
 use Rattle.std.specs.List.{list_any}
 use Rattle.std.specs.declared.alloc.Global.{Global}
 use Rattle.toml.specs.Data.{Data, Items, no_items, item, Members, as_array, as_table}

@@ -1,9 +1,11 @@
 -- The keys that the settings don't know, by their dotted paths (this gateway's own profile).
-use Rattle.std.specs.Prelude.{◌≡◌, ℕ, codes, List, [], ◌∷◌, ◌++◌, Bool, false, ◌||◌, if◌then◌else◌, Option, Some, None, Result, MatchResult, Contains, All, string_bytes}
+use Rattle.std.specs.Prelude.{◌≡◌, ℕ, codes, List, [], ◌∷◌, ◌++◌, Bool, false, ◌||◌, if◌then◌else◌}
+use Rattle.std.specs.Prelude.{Option, Some, None, Result, MatchResult, Contains, All, string_bytes}
 use Rattle.std.specs.Ordering.{nat_cmp, is_lt}
 use Rattle.std.specs.Cmp.Lexicographic.{slice_cmp}
 use Rattle.std.specs.Str.{bytes_eq}
-use Rattle.toml.specs.Data.{Data, Items, no_items, item, Members, no_members, member, get_member, as_table, as_array}
+use Rattle.toml.specs.Data.{Data, Items, no_items, item, Members, no_members, member, get_member}
+use Rattle.toml.specs.Data.{as_table, as_array}
 use Rattle.settings.specs.declared.fault.ConfigFault.{ConfigFault}
 use Rattle.settings.specs.declared.fault.ConfigFault.TheVariants.{NotToml, Key, Unknown, NoMemory}
 use Rattle.settings.specs.declared.unknown.Section.{Section}

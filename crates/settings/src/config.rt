@@ -1,7 +1,9 @@
 //! A whole file of settings.
 ghost use Rattle.std.specs.Prelude.{ℕ, List, MatchResult, true};
 ghost use Rattle.toml.specs.View.{table_view};
-ghost use Rattle.settings.specs.Settings.{values_of, gateway_values, known_settings, known_live, live_values_of, IsKnownOf, IsReadOf, IsDocument, IsRootFault, IsReadFor, IsReadOfText, IsLiveReadOfText};
+ghost use Rattle.settings.specs.Settings.{values_of, gateway_values, known_settings, known_live};
+ghost use Rattle.settings.specs.Settings.{live_values_of, IsKnownOf, IsReadOf, IsDocument};
+ghost use Rattle.settings.specs.Settings.{IsRootFault, IsReadFor, IsReadOfText, IsLiveReadOfText};
 
 use crate::ConfigFault;
 use crate::keys::{given, section};

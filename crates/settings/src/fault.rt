@@ -25,8 +25,8 @@ pub enum ConfigFault {
 
 /// A key that is missing, or whose value is wrong, by its dotted path.
 #[derive(Clone, Copy)]
-pub(crate) struct WrongKey {
-    pub(crate) path: &'static str,
+pub struct WrongKey {
+    pub path: &'static str,
 }
 
 impl From<WrongKey> for ConfigFault {

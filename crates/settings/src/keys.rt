@@ -3,7 +3,8 @@ ghost use Rattle.std.specs.Prelude.{◌≡◌, ◌≤◌, IfOk, option_map};
 ghost use Rattle.toml.specs.Data.{as_integer};
 ghost use Rattle.toml.specs.View.{view, table_view};
 ghost use Rattle.settings.specs.Faults.{seen};
-ghost use Rattle.settings.specs.Keys.{given_at, row_of, whole_of, flag_of, number_of, members_in, section_of, sections_seen};
+ghost use Rattle.settings.specs.Keys.{given_at, row_of, whole_of, flag_of, number_of, members_in};
+ghost use Rattle.settings.specs.Keys.{section_of, sections_seen};
 
 use crate::fault::WrongKey;
 use toml::{Table, Value};
@@ -11,18 +12,18 @@ use toml::{Table, Value};
 /// A setting that is a whole number from `low` to `high`. A missing one has the default, which is
 /// judged likewise.
 #[derive(Clone, Copy)]
-pub(crate) struct Whole {
-    pub(crate) key: &'static str,
+pub struct Whole {
+    pub key: &'static str,
     /// What a fault names.
-    pub(crate) path: &'static str,
-    pub(crate) low: u32,
-    pub(crate) high: u32,
-    pub(crate) default: Option<u32>,
+    pub path: &'static str,
+    pub low: u32,
+    pub high: u32,
+    pub default: Option<u32>,
 }
 
 /// The table at `key`, if it is there. `first` is its first key, which is the wrong one where it is
 /// no table.
-pub(crate) fn section<'a>(
+pub fn section<'a>(
     root: &'a Table,
     key: &str,
     first: &'static str,
@@ -40,7 +41,7 @@ pub(crate) fn section<'a>(
 
 /// The value at `key`, where both the table and the key are there.
 #[tactic(auto, using(toml::proofs::Views::table_get))]
-pub(crate) fn given<'a>(table: Option<&'a Table>, key: &str) -> Option<&'a Value>
+pub fn given<'a>(table: Option<&'a Table>, key: &str) -> Option<&'a Value>
     ensures { option_map (λ v. view v.now) result ≡ given_at key.now (members_in table.entry) }
 {
     match table {
@@ -61,7 +62,7 @@ fn whole_number(value: &Value) -> Option<u32>
 
 impl Whole {
     /// The number that the table gives, or the default.
-    pub(crate) fn read(&self, table: Option<&Table>) -> Result<u32, WrongKey>
+    pub fn read(&self, table: Option<&Table>) -> Result<u32, WrongKey>
         ensures value { seen result ≡ whole_of (row_of self.now) (members_in table.entry) }
         ensures range { IfOk result (λ n. (self.now.low ≤ n) × (n ≤ self.now.high)) }
     {
@@ -77,15 +78,16 @@ impl Whole {
 }
 
 /// A setting that is true or false, with the default `false`.
-pub(crate) struct Flag {
-    pub(crate) key: &'static str,
+#[derive(Clone, Copy)]
+pub struct Flag {
+    pub key: &'static str,
     /// What a fault names.
-    pub(crate) path: &'static str,
+    pub path: &'static str,
 }
 
 impl Flag {
     /// What the table gives, or `false`.
-    pub(crate) fn read(&self, table: Option<&Table>) -> Result<bool, WrongKey>
+    pub fn read(&self, table: Option<&Table>) -> Result<bool, WrongKey>
         ensures { seen result
             ≡ flag_of self.now.key.now self.now.path.now (members_in table.entry) }
     {

@@ -17,7 +17,10 @@ mod live;
 mod stations;
 mod tcp;
 mod unknown;
+mod wanted;
 
 pub use config::{read_config, read_live_config};
-pub use fault::ConfigFault;
-pub use live::LiveSettings;
+pub use fault::{ConfigFault, WrongKey};
+pub use keys::{Flag, Whole, given, section};
+pub use live::{LiveSettings, is_address, is_here};
+pub use wanted::wanted_values;

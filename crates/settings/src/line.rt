@@ -3,7 +3,8 @@ ghost use Rattle.std.specs.Prelude.{◌≡◌, ◌≤◌, IfOk, codes};
 ghost use Rattle.gateway.specs.Settings.{IsWithin};
 ghost use Rattle.settings.specs.Faults.{seen, seen_by};
 ghost use Rattle.settings.specs.Keys.{given_at, members_in};
-ghost use Rattle.settings.specs.Line.{line_settings, line_of, sizes_of, waits_of, link_size, cause_size, ca_size, ioa_size, silence_of};
+ghost use Rattle.settings.specs.Line.{line_settings, line_of, sizes_of, waits_of, link_size};
+ghost use Rattle.settings.specs.Line.{cause_size, ca_size, ioa_size, silence_of};
 
 use crate::fault::WrongKey;
 use crate::keys::{Whole, given};

@@ -2,10 +2,13 @@
 ghost use Rattle.std.specs.Prelude.{◌≡◌};
 ghost use Rattle.settings.specs.Faults.{seen};
 ghost use Rattle.settings.specs.Keys.{members_in};
+ghost use Rattle.std.specs.List.{list_all};
 ghost use Rattle.std.specs.Prelude.{codes, option_map, MatchResult};
 ghost use Rattle.settings.specs.Faults.{seen_by, IsWrongKeyOf};
 ghost use Rattle.settings.specs.Keys.{given_at};
-ghost use Rattle.settings.specs.Live.{live_keys, word_of, has_port, is_address, is_line, is_port, live_places, place_of, places_of, text_of};
+ghost use Rattle.settings.specs.Live.{live_keys, word_of, has_port, is_address, is_behind, is_here};
+ghost use Rattle.settings.specs.Live.{is_line, is_localhost, is_loopback, is_numeric, is_port};
+ghost use Rattle.settings.specs.Live.{live_places, place_of, places_of, text_of};
 
 use crate::ConfigFault;
 use crate::fault::WrongKey;
@@ -102,7 +105,7 @@ fn is_line(text: &[u8]) -> bool
 }
 
 /// `HOST:PORT`, where the host is all that stands before the last colon, and isn't empty.
-fn is_address(text: &[u8]) -> bool
+pub fn is_address(text: &[u8]) -> bool
     ensures { result ≡ is_address text.now }
 {
     match text {
@@ -134,4 +137,48 @@ fn is_port(digits: &[u8]) -> bool
         Some(port) => (1..=65535).contains(&port),
         None => false,
     }
+}
+
+/// Whether a line, `tcp:HOST:PORT` or `unix:PATH`, is on this machine by its name: a path of a
+/// device is, and so are the hosts `localhost`, `::1` and those of 127.0.0.0/8.
+pub fn is_here(line: &[u8]) -> bool
+    ensures { result ≡ is_here line.now }
+{
+    line.starts_with(b"unix:") || is_localhost(line) || is_loopback(line)
+}
+
+/// Whether a line's host is `localhost` or `::1`.
+#[tactic(auto, unfolding(crate::specs::Live::is_localhost))]
+fn is_localhost(line: &[u8]) -> bool
+    ensures { result ≡ is_localhost line.now }
+{
+    is_behind(line, b"tcp:localhost:") || is_behind(line, b"tcp:::1:")
+}
+
+/// Whether a line is this beginning and a port.
+fn is_behind(line: &[u8], head: &[u8]) -> bool
+    ensures { result ≡ is_behind head.now line.now }
+{
+    line.starts_with(head) && is_port(&line[head.len()..])
+}
+
+/// Whether a line's host is an address of 127.0.0.0/8.
+fn is_loopback(line: &[u8]) -> bool
+    ensures { result ≡ is_loopback line.now }
+{
+    line.starts_with(b"tcp:127.") && are_numeric(&line[8..])
+}
+
+/// Whether the octets are those of an IPv4 address with its port.
+fn are_numeric(text: &[u8]) -> bool
+    ensures { result ≡ list_all is_numeric text.now }
+{
+    text.iter().all(|octet| is_numeric(*octet))
+}
+
+/// Whether the octet belongs to an IPv4 address with its port.
+fn is_numeric(octet: u8) -> bool
+    ensures { result ≡ is_numeric octet }
+{
+    octet.is_ascii_digit() || octet == b'.' || octet == b':'
 }

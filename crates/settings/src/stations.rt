@@ -1,12 +1,15 @@
 //! The list of stations.
 ghost use Rattle.std.specs.List.{list_any};
-ghost use Rattle.std.specs.Prelude.{◌==◌, ◌≡◌, ◌≤◌, false, [], length, None, Some, IfOk, option_map};
+ghost use Rattle.std.specs.Prelude.{◌==◌, ◌≡◌, ◌≤◌, false, [], length, None, Some, IfOk};
+ghost use Rattle.std.specs.Prelude.{option_map};
 ghost use Rattle.toml.specs.View.{view, items_view, table_view};
 ghost use Rattle.settings.specs.Faults.{seen};
 ghost use Rattle.settings.specs.Keys.{row, whole_of};
 ghost use Rattle.gateway.specs.Config.{AreStations};
 ghost use Rattle.gateway.specs.Settings.{IsLinkAddress, IsCommonAddress};
-ghost use Rattle.settings.specs.Stations.{greatest_address, greatest_ca, address_of, ca_of, distinct_number, station_of, stations_from, stations_of, IsAsExpected, IsNext};
+ghost use Rattle.settings.specs.Stations.{greatest_address, greatest_ca, address_of, ca_of};
+ghost use Rattle.settings.specs.Stations.{distinct_number, station_of, stations_from, stations_of};
+ghost use Rattle.settings.specs.Stations.{IsAsExpected, IsNext};
 
 use crate::ConfigFault;
 use crate::fault::WrongKey;

@@ -1,9 +1,12 @@
 //! Keys that the settings don't know.
-ghost use Rattle.std.specs.Prelude.{◌≡◌, ◌++◌, map, option_map, OnOk, IfOk, MatchOption, Contains, All, [], false, string_bytes};
+ghost use Rattle.std.specs.Prelude.{◌≡◌, ◌++◌, map, option_map, OnOk, IfOk, MatchOption, Contains};
+ghost use Rattle.std.specs.Prelude.{All, [], false, string_bytes};
 ghost use Rattle.std.specs.Ordering.{is_lt};
 ghost use Rattle.std.specs.String.{string_cmp};
 ghost use Rattle.toml.specs.View.{view, table_view, items_view};
-ghost use Rattle.settings.specs.Unknown.{knows, knows_line, knows_size, prefix, member_keys, unknown_in, unknown_of, unknown_under, unknown_stations, unknown_items, unknown_paths, IsRefusedFor};
+ghost use Rattle.settings.specs.Unknown.{knows, knows_line, knows_size, prefix, member_keys};
+ghost use Rattle.settings.specs.Unknown.{unknown_in, unknown_of, unknown_under, unknown_stations};
+ghost use Rattle.settings.specs.Unknown.{unknown_items, unknown_paths, IsRefusedFor};
 ghost use Rattle.settings.specs.declared.unknown.Section.TheVariants.{Root, Tcp, Station, Live};
 
 use crate::ConfigFault;

@@ -1,12 +1,14 @@
 -- The lines that show an ASDU and its objects (texts of this gateway's own profile; the fields are
 -- those of IEC 60870-5-101, 7.2).
-use Rattle.std.specs.Prelude.{ℕ, ℤ, ◌%◌, codes, List, [], ◌∷◌, ◌++◌, length, slice_index, Option, Some, None}
+use Rattle.std.specs.Prelude.{ℕ, ℤ, ◌%◌, codes, List, [], ◌∷◌, ◌++◌, length, slice_index, Option}
+use Rattle.std.specs.Prelude.{Some, None}
 use Rattle.std.specs.List.{flat_map}
 use Rattle.std.specs.Fmt.{decimal, signed_decimal}
 use Rattle.hex.specs.Hex.{encode_upper}
 use Rattle.elements.specs.declared.types.TypeId.{TypeId}
 use Rattle.elements.specs.declared.tag.Verdict.{Verdict}
-use Rattle.elements.specs.declared.tag.Verdict.TheVariants.{Good, MarkedInvalid, OutOfRange, NoSuchDay, WrongWeekday}
+use Rattle.elements.specs.declared.tag.Verdict.TheVariants.{Good, MarkedInvalid, OutOfRange}
+use Rattle.elements.specs.declared.tag.Verdict.TheVariants.{NoSuchDay, WrongWeekday}
 use Rattle.elements.specs.TimeTag.{verdict_of}
 use Rattle.elements.specs.Types.{row, value_shown, type_of}
 use Rattle.asdu.specs.Asdu.{Info, AsduValue}

@@ -6,18 +6,21 @@ ghost use Rattle.ft12.specs.declared.frame.LinkSize.TheVariants as link;
 ghost use Rattle.ft12.specs.declared.frame.Why.TheVariants as why;
 ghost use Rattle.apci.specs.declared.apdu.Apdu.TheVariants.{I, S, U};
 ghost use Rattle.apci.specs.declared.apdu.Front.TheVariants as tcp;
-ghost use Rattle.apci.specs.declared.apdu.Uf.TheVariants.{StartAct, StartCon, StopAct, StopCon, TestAct, TestCon};
+ghost use Rattle.apci.specs.declared.apdu.Uf.TheVariants.{StartAct, StartCon, StopAct, StopCon};
+ghost use Rattle.apci.specs.declared.apdu.Uf.TheVariants.{TestAct, TestCon};
 ghost use Rattle.apci.specs.declared.apdu.Why.TheVariants as reason;
 ghost use Rattle.asdu.specs.declared.sizes.CaSize.TheVariants as ca;
 ghost use Rattle.asdu.specs.declared.sizes.CauseSize.TheVariants as cause;
 ghost use Rattle.asdu.specs.declared.sizes.IoaSize.TheVariants as ioa;
-ghost use Rattle.elements.specs.declared.tag.Verdict.TheVariants.{Good, MarkedInvalid, OutOfRange, NoSuchDay, WrongWeekday};
+ghost use Rattle.elements.specs.declared.tag.Verdict.TheVariants.{Good, MarkedInvalid, OutOfRange};
+ghost use Rattle.elements.specs.declared.tag.Verdict.TheVariants.{NoSuchDay, WrongWeekday};
 ghost use Rattle.show.specs.declared.sizes.LineSizes.{LineSizes};
 ghost use Rattle.show.specs.declared.outcome.Outcome.TheVariants as outcome;
 ghost use Rattle.show.specs.Line.{control_text, frame_line, front_lines, front_outcome, number_of};
 ghost use Rattle.show.specs.Outcome.{rest_line, with_rest};
 ghost use Rattle.show.specs.Sizes.{sizes_of};
-ghost use Rattle.show.specs.Tcp.{function_text, apdu_line, front_lines as apdu_lines, number_of as number_of_reason};
+ghost use Rattle.show.specs.Tcp.{function_text, apdu_line, front_lines as apdu_lines};
+ghost use Rattle.show.specs.Tcp.{number_of as number_of_reason};
 ghost use Rattle.show.specs.Units.{verdict_text, cause_text};
 
 /// The lines of frames of the line, field by field, of what begins none, and of octets behind a

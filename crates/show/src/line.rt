@@ -1,7 +1,8 @@
 //! Octets of the line in words.
 ghost use Rattle.std.specs.Prelude.{◌≡◌, ◌++◌, IfOk, OnOk, length, string_bytes};
 ghost use Rattle.ft12.specs.Borrowed.{owned, owned_front};
-ghost use Rattle.show.specs.Line.{frame_line, frame_lines, frame_outcome, front_lines, front_outcome, number_of, IsLineShown};
+ghost use Rattle.show.specs.Line.{frame_line, frame_lines, frame_outcome, front_lines};
+ghost use Rattle.show.specs.Line.{front_outcome, number_of, IsLineShown};
 
 use crate::control::control_text;
 use crate::outcome::push_rest;

@@ -3,7 +3,8 @@ ghost use Rattle.std.specs.Prelude.{◌≡◌, ◌++◌, IfOk, OnOk, length, str
 ghost use Rattle.std.specs.Option.{ForSome, option_copied};
 ghost use Rattle.elements.specs.Types.{row};
 ghost use Rattle.asdu.specs.Objects.{info_of};
-ghost use Rattle.show.specs.Units.{object_line, value_text, content_text, judged_text, tag_text, verdict_text};
+ghost use Rattle.show.specs.Units.{object_line, value_text, content_text, judged_text, tag_text};
+ghost use Rattle.show.specs.Units.{verdict_text};
 
 use asdu::Object;
 use elements::{Cp56, TypeId, Verdict, judge};

@@ -1,7 +1,8 @@
 //! Octets of the connection in words.
 ghost use Rattle.std.specs.Prelude.{◌≡◌, ◌++◌, IfOk, OnOk, length, string_bytes};
 ghost use Rattle.apci.specs.Borrowed.{owned, owned_front};
-ghost use Rattle.show.specs.Tcp.{apdu_lines, apdu_outcome, front_lines, front_outcome, function_text, number_of, IsTcpShown};
+ghost use Rattle.show.specs.Tcp.{apdu_lines, apdu_outcome, front_lines, front_outcome};
+ghost use Rattle.show.specs.Tcp.{function_text, number_of, IsTcpShown};
 
 use crate::outcome::push_rest;
 use crate::units::push_unit;

@@ -4,7 +4,8 @@ ghost use Rattle.std.specs.List.{flat_map};
 ghost use Rattle.elements.specs.Types.{row};
 ghost use Rattle.asdu.specs.Asdu.{IsAsdu};
 ghost use Rattle.asdu.specs.Reading.{value_of};
-ghost use Rattle.show.specs.Units.{structure_text, cause_text, addresses_text, header_line, object_line, unit_lines, unit_outcome, asdu_lines};
+ghost use Rattle.show.specs.Units.{structure_text, cause_text, addresses_text, header_line};
+ghost use Rattle.show.specs.Units.{object_line, unit_lines, unit_outcome, asdu_lines};
 
 use crate::Outcome;
 use crate::bits::{bit, cause_in, flag};

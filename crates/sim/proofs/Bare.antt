@@ -4,12 +4,14 @@ use Rattle.link.specs.declared.service.Service.TheVariants.{Class1, Class2, Comm
 use Rattle.link.specs.declared.service.Asked.{Asked}
 use Rattle.link.specs.declared.service.Asked.TheVariants.{Status, Reset, Counted}
 use Rattle.link.specs.declared.answer.Answer.{Answer}
-use Rattle.link.specs.declared.answer.Answer.TheVariants.{Ready, Confirmed, Busy, Report, NoData, Unable}
+use Rattle.link.specs.declared.answer.Answer.TheVariants.{Ready, Confirmed, Busy, Report, NoData}
+use Rattle.link.specs.declared.answer.Answer.TheVariants.{Unable}
 use Rattle.link.specs.Heard.{with_data}
 use Rattle.sim.specs.declared.tally.Tally.{Tally}
 use Rattle.sim.specs.Tallies.{tally_asked, tally_answered}
 
-bare_asked : (given : ℕ) (t : Tally) (r : Asked) → tally_asked (with_data [] r) given t ≡ tally_asked r given t
+bare_asked : (given : ℕ) (t : Tally) (r : Asked) → tally_asked (with_data [] r) given t
+    ≡ tally_asked r given t
 bare_asked given t Status = refl
 bare_asked given t Reset = refl
 bare_asked given t (Counted fcb Class1) = refl
@@ -37,4 +39,5 @@ asked_alike given t r s e =
 pub answered_alike : (answer : Answer) (t : Tally) (r s : Asked) → with_data [] r ≡ with_data [] s
     → tally_answered r answer t ≡ tally_answered s answer t
 answered_alike answer t r s e =
-    sym (bare_answered answer t r) ∙ ap (λ (q : Asked). tally_answered q answer t) e ∙ bare_answered answer t s
+    sym (bare_answered answer t r) ∙ ap (λ (q : Asked). tally_answered q answer t) e
+    ∙ bare_answered answer t s

@@ -1,10 +1,12 @@
 -- Counts of connections go on.
-use Rattle.std.proofs.Common.{◌≡◌, ℕ, zero, suc, ◌+◌, ◌-◌, ◌<◌, ◌≤◌, ◌^◌, min, List, [], ◌∷◌, length, get_or, refl, ap, arith}
+use Rattle.std.proofs.Common.{◌≡◌, ℕ, zero, suc, ◌+◌, ◌-◌, ◌<◌, ◌≤◌, ◌^◌, min, List, [], ◌∷◌}
+use Rattle.std.proofs.Common.{length, get_or, refl, ap, arith}
 use Rattle.std.specs.Prelude.{slice_set}
 use Rattle.sim.specs.Connections.{add_latest}
 
 -- the last count is put
-last_set : (more i : ℕ) (ns : List ℕ) (n : ℕ) → i + 1 ≡ length ns → n ≡ min (get_or ns i 0 + more) (2 ^ 64 - 1)
+last_set : (more i : ℕ) (ns : List ℕ) (n : ℕ) → i + 1 ≡ length ns
+    → n ≡ min (get_or ns i 0 + more) (2 ^ 64 - 1)
     → slice_set ns i n ≡ add_latest more ns
 last_set more i [] n e is = absurd (omega arith)
 last_set more zero (m ∷ []) n e is = ap (λ (k : ℕ). k ∷ []) is

@@ -1,5 +1,6 @@
 -- A station's requests and reports are few: at most as many as the log has requests.
-use Rattle.std.proofs.Common.{◌≡◌, ℕ, ◌+◌, ◌≤◌, Bool, true, false, List, [], ◌∷◌, length, Option, Some, None, refl, sym, ap, subst, inl, inr, arith, if◌then◌else◌}
+use Rattle.std.proofs.Common.{◌≡◌, ℕ, ◌+◌, ◌≤◌, Bool, true, false, List, [], ◌∷◌, length, Option}
+use Rattle.std.proofs.Common.{Some, None, refl, sym, ap, subst, inl, inr, arith, if◌then◌else◌}
 use Rattle.std.specs.Prelude.{◌==◌}
 use Rattle.std.proofs.lemmas.List.{length-append, length-map}
 use Rattle.link.specs.declared.service.Service.{Service}
@@ -7,7 +8,8 @@ use Rattle.link.specs.declared.service.Asked.{Asked}
 use Rattle.link.specs.declared.service.Asked.TheVariants.{Status, Reset, Counted}
 use Rattle.link.specs.Delivery.{requests_of, reports}
 use Rattle.link.specs.Exchanges.{Exchange, Sending}
-use Rattle.link.specs.Outstation.{Outstation, Turn, OutstationStep, OutstationRun, Serves, unheard, unable, heard, effects_of, all_done}
+use Rattle.link.specs.Outstation.{Outstation, Turn, OutstationStep, OutstationRun, Serves, unheard}
+use Rattle.link.specs.Outstation.{unable, heard, effects_of, all_done}
 use Rattle.gateway.specs.Log.{Log, Came, Went, LineOut, TcpOut, Closed, GapOut}
 use Rattle.gateway.specs.Reports.{Setup, sending_in, exchanges_with}
 use Rattle.sim.specs.declared.directive.Directive.{Directive}
@@ -29,7 +31,8 @@ one_request i heard_it (Some s) = go (s.station == i)
     go true = omega arith
     go false = omega arith
 
-requests_few : (p : Setup) (ds : List Directive) (i : ℕ) (log : Log) → length (requests_to p ds i log) ≤ requests_in log
+requests_few : (p : Setup) (ds : List Directive) (i : ℕ) (log : Log)
+    → length (requests_to p ds i log) ≤ requests_in log
 requests_few p ds i [] = omega arith
 requests_few p ds i (Came now event ∷ log) = omega (arith, requests_few p ds i log)
 requests_few p ds i (Went now (LineOut octets) ∷ log) =
@@ -37,12 +40,14 @@ requests_few p ds i (Went now (LineOut octets) ∷ log) =
       arith,
       requests_few p ds i log,
       one_request i (is_heard (fate_of ds (requests_in log + 1))) (sending_in p octets),
-      length-append (requests_to p ds i log) (request_to i (is_heard (fate_of ds (requests_in log + 1)))
+      length-append (requests_to p ds i log)
+          (request_to i (is_heard (fate_of ds (requests_in log + 1)))
           (sending_in p octets)),
     )
 requests_few p ds i (Went now (TcpOut octets) ∷ log) = omega (arith, requests_few p ds i log)
 requests_few p ds i (Went now (Closed cause) ∷ log) = omega (arith, requests_few p ds i log)
-requests_few p ds i (Went now (GapOut station session) ∷ log) = omega (arith, requests_few p ds i log)
+requests_few p ds i (Went now (GapOut station session) ∷ log) =
+    omega (arith, requests_few p ds i log)
 
 length-requests : (xs : List Exchange) → length (requests_of xs) ≡ length xs
 length-requests [] = refl
@@ -51,7 +56,8 @@ length-requests (x ∷ xs) = omega (arith, length-requests xs)
 pub exchanges_few : (p : Setup) (ds : List Directive) (i : ℕ) (log : Log)
     → length (exchanges_with p i log) ≤ requests_in log
 exchanges_few p ds i log =
-    let same : length (requests_of (exchanges_with p i log)) ≡ length (asked_of (requests_to p ds i log)) =
+    let same : length (requests_of (exchanges_with p i log))
+    ≡ length (asked_of (requests_to p ds i log)) =
     ap length (same_asked p ds i log) in
     omega (
       arith,
@@ -61,12 +67,15 @@ exchanges_few p ds i log =
       requests_few p ds i log,
     )
 
-none_by : (turn other : Turn) → turn ≡ other → length (reports other.done) ≤ 1 → length (reports turn.done) ≤ 1
+none_by : (turn other : Turn) → turn ≡ other → length (reports other.done) ≤ 1
+    → length (reports turn.done) ≤ 1
 none_by turn other e le = subst (λ (t : Turn). length (reports t.done) ≤ 1) (sym e) le
 
-served_one : (station : ℕ) (bit : Option Bool) (old new : Outstation) (fcb : Bool) (service : Service) (turn : Turn)
+served_one : (station : ℕ) (bit : Option Bool) (old new : Outstation) (fcb : Bool)
+    (service : Service) (turn : Turn)
     → Serves station bit old fcb service turn new → length (reports turn.done) ≤ 1
-served_one station None old new fcb service turn h = none_by turn (record { answer = None; done = [] }) h.0
+served_one station None old new fcb service turn h =
+    none_by turn (record { answer = None; done = [] }) h.0
     (omega arith)
 served_one station (Some bit) old new fcb service turn (inl h) =
     none_by turn (record { answer = old.last; done = [] }) h.1 (omega arith)
@@ -76,16 +85,21 @@ served_one station (Some bit) old new fcb service turn (inr h) =
 
 step_one : (station : ℕ) (old new : Outstation) (request : Asked) (turn : Turn)
     → OutstationStep station old request turn new → length (reports turn.done) ≤ 1
-step_one station old new request turn (unheard t n) = none_by turn (record { answer = None; done = [] }) t (omega arith)
+step_one station old new request turn (unheard t n) =
+    none_by turn (record { answer = None; done = [] }) t (omega arith)
 step_one station old new request turn (unable frame is t n) =
     none_by turn (record { answer = Some frame; done = [] }) t (omega arith)
-step_one station old new Status turn (heard h) = none_by turn (record { answer = Some h.0; done = [] }) h.2
+step_one station old new Status turn (heard h) =
+    none_by turn (record { answer = Some h.0; done = [] }) h.2
     (omega arith)
-step_one station old new Reset turn (heard h) = none_by turn (record { answer = Some h.0; done = [] }) h.2 (omega arith)
-step_one station old new (Counted fcb service) turn (heard h) = served_one station old.bit old new fcb service turn h
+step_one station old new Reset turn (heard h) =
+    none_by turn (record { answer = Some h.0; done = [] }) h.2 (omega arith)
+step_one station old new (Counted fcb service) turn (heard h) =
+    served_one station old.bit old new fcb service turn h
 
 pub reports_few : (station : ℕ) (old new : Outstation) (requests : List Asked) (turns : List Turn)
-    → OutstationRun station old requests turns new → length (reports (all_done turns)) ≤ length turns
+    → OutstationRun station old requests turns new → length (reports (all_done turns))
+    ≤ length turns
 reports_few station old new [] [] run = omega arith
 reports_few station old new [] (turn ∷ turns) run = absurd run
 reports_few station old new (r ∷ rs) [] run = absurd run

@@ -1,6 +1,9 @@
 -- The loop in which all stations hear.
-use Rattle.std.proofs.Common.{◌≡◌, ℕ, zero, suc, ◌+◌, ◌<◌, ◌≤◌, List, [], ◌∷◌, ◌++◌, length, take, drop, get_or, slice_set, Option, Some, None, IfSome, refl, sym, ap, subst, ◌∙◌, inl, inr, arith}
-use Rattle.std.proofs.lemmas.List.{take_more, drop_more, get_or_at, length-take-le, take_all, drop_all, append-nil}
+use Rattle.std.proofs.Common.{◌≡◌, ℕ, zero, suc, ◌+◌, ◌<◌, ◌≤◌, List, [], ◌∷◌, ◌++◌, length, take}
+use Rattle.std.proofs.Common.{drop, get_or, slice_set, Option, Some, None, IfSome, refl, sym, ap}
+use Rattle.std.proofs.Common.{subst, ◌∙◌, inl, inr, arith}
+use Rattle.std.proofs.lemmas.List.{take_more, drop_more, get_or_at, length-take-le, take_all}
+use Rattle.std.proofs.lemmas.List.{drop_all, append-nil}
 use Rattle.std.specs.List.{AllByRecursion}
 use Rattle.ft12.specs.declared.frame.LinkSize.{LinkSize}
 use Rattle.ft12.specs.declared.frame.Frame.{Frame}
@@ -9,7 +12,8 @@ use Rattle.ft12.specs.Spelling.{Fits, spelling}
 use Rattle.link.specs.Life.{Hear}
 use Rattle.link.specs.Secondary.{Secondary, HearsOctets}
 use Rattle.sim.specs.declared.directive.Fate.{Fate}
-use Rattle.sim.specs.declared.directive.Fate.TheVariants.{Unheard, AnswerLost, AnswerSpoilt, Answered}
+use Rattle.sim.specs.declared.directive.Fate.TheVariants.{Unheard, AnswerLost, AnswerSpoilt}
+use Rattle.sim.specs.declared.directive.Fate.TheVariants.{Answered}
 use Rattle.gateway.specs.Log.{Log, Came, Went, LineOut, TcpOut, Closed, GapOut}
 use Rattle.sim.specs.Losses.{fate_of}
 use Rattle.sim.specs.Lives.{Plan, later, HeardByAll, IsPutOut, AreLived, requests_in}
@@ -21,12 +25,15 @@ pub record HeardSoFar (octets : List ℕ) (initial : List Secondary) (i : ℕ) (
   pub done : List Secondary
   pub heard : HeardByAll octets (take i initial) answer done
   pub rest : stations ≡ done ++ drop i initial
-  pub fits : (size : LinkSize) → AllByRecursion (λ s. s.size ≡ size) initial → IfSome answer (Fits size)
+  pub fits : (size : LinkSize) → AllByRecursion (λ s. s.size ≡ size) initial
+      → IfSome answer (Fits size)
 
-pub heard_none : (octets : List ℕ) (initial : List Secondary) → HeardSoFar octets initial 0 None initial
+pub heard_none : (octets : List ℕ) (initial : List Secondary)
+    → HeardSoFar octets initial 0 None initial
 heard_none octets initial = record { done = []; heard = refl; rest = refl; fits = λ size all. tt }
 
-heard_length : (octets : List ℕ) (ss ts : List Secondary) (answer : Option Frame) → HeardByAll octets ss answer ts
+heard_length : (octets : List ℕ) (ss ts : List Secondary) (answer : Option Frame)
+    → HeardByAll octets ss answer ts
     → length ts ≡ length ss
 heard_length octets [] [] answer h = refl
 heard_length octets [] (t ∷ ts) answer h = absurd h
@@ -44,7 +51,8 @@ later_assoc a b (Some frame) = refl
 heard_snoc : (octets : List ℕ) (ss ts : List Secondary) (a b : Option Frame) (s t : Secondary)
     → HeardByAll octets ss a ts → HearsOctets s octets b t →
     HeardByAll octets (ss ++ s ∷ []) (later a b) (ts ++ t ∷ [])
-heard_snoc octets [] [] a b s t h hears = (b, None, hears, refl, ap (λ (x : Option Frame). later x b) h ∙ later_none b)
+heard_snoc octets [] [] a b s t h hears =
+    (b, None, hears, refl, ap (λ (x : Option Frame). later x b) h ∙ later_none b)
 heard_snoc octets [] (u ∷ ts) a b s t h hears = absurd h
 heard_snoc octets (r ∷ ss) [] a b s t h hears = absurd h
 heard_snoc octets (r ∷ ss) (u ∷ ts) a b s t h hears = (
@@ -61,7 +69,8 @@ set_at : (done : List Secondary) (x y : Secondary) (rest : List Secondary) (i : 
 set_at [] x y rest zero e = refl
 set_at [] x y rest (suc i) e = absurd (omega arith)
 set_at (d ∷ done) x y rest zero e = absurd (omega arith)
-set_at (d ∷ done) x y rest (suc i) e = ap (λ (l : List Secondary). d ∷ l) (set_at done x y rest i (omega arith))
+set_at (d ∷ done) x y rest (suc i) e =
+    ap (λ (l : List Secondary). d ∷ l) (set_at done x y rest i (omega arith))
 
 size_at : (size : LinkSize) (ss : List Secondary) (i : ℕ) (d : Secondary) → i < length ss
     → AllByRecursion (λ s. s.size ≡ size) ss → (get_or ss i d).size ≡ size
@@ -74,9 +83,11 @@ fits_later : (size : LinkSize) (a b : Option Frame) → IfSome a (Fits size) →
 fits_later size a None f g = f
 fits_later size a (Some frame) f g = g
 
-pub heard_more : (octets : List ℕ) (initial stations : List Secondary) (i : ℕ) (answer b joint : Option Frame)
+pub heard_more : (octets : List ℕ) (initial stations : List Secondary) (i : ℕ)
+    (answer b joint : Option Frame)
     (s t : Secondary) → i < length initial → HeardSoFar octets initial i answer stations →
-    s ≡ get_or stations i s → HearsOctets s octets b t → IfSome b (Fits s.size) → joint ≡ later answer b
+    s ≡ get_or stations i s → HearsOctets s octets b t → IfSome b (Fits s.size)
+    → joint ≡ later answer b
     → HeardSoFar octets initial (i + 1) joint (slice_set stations i t)
 heard_more octets initial stations i answer b joint s t lt so is hears fit e =
     let x : Secondary = get_or initial i s in
@@ -90,46 +101,63 @@ heard_more octets initial stations i answer b joint s t lt so is hears fit e =
       done = so.done ++ t ∷ [];
       heard = subst (λ (l : List Secondary). HeardByAll octets l joint (so.done ++ t ∷ []))
           (sym (take_more initial i s lt))
-          (subst (λ (a : Option Frame). HeardByAll octets (take i initial ++ x ∷ []) a (so.done ++ t ∷ [])) (sym e)
+          (subst (λ (a : Option Frame). HeardByAll octets (take i initial ++ x ∷ []) a
+          (so.done ++ t ∷ [])) (sym e)
           (heard_snoc octets (take i initial) so.done answer b x t so.heard
           (subst (λ (u : Secondary). HearsOctets u octets b t) at hears)));
-      rest = ap (λ (l : List Secondary). slice_set l i t) whole ∙ set_at so.done x t (drop (i + 1) initial) i long;
+      rest = ap (λ (l : List Secondary). slice_set l i t) whole
+          ∙ set_at so.done x t (drop (i + 1) initial) i long;
       fits = λ size all.
-          let same : s.size ≡ size = ap (λ (u : Secondary). u.size) at ∙ size_at size initial i s lt all in
+          let same : s.size ≡ size = ap (λ (u : Secondary). u.size) at
+          ∙ size_at size initial i s lt all in
           subst (λ (o : Option Frame). IfSome o (Fits size)) (sym e)
-          (fits_later size answer b (so.fits size all) (subst (λ (z : LinkSize). IfSome b (Fits z)) same fit));
+          (fits_later size answer b (so.fits size all) (subst (λ (z : LinkSize). IfSome b (Fits z))
+          same fit));
     }
 
 -- all have heard
-pub heard_whole : (octets : List ℕ) (initial stations : List Secondary) (i : ℕ) (answer : Option Frame)
-    → length initial ≤ i → HeardSoFar octets initial i answer stations → HeardByAll octets initial answer stations
+pub heard_whole : (octets : List ℕ) (initial stations : List Secondary) (i : ℕ)
+    (answer : Option Frame)
+    → length initial ≤ i → HeardSoFar octets initial i answer stations
+    → HeardByAll octets initial answer stations
 heard_whole octets initial stations i answer le so =
-    let done : stations ≡ so.done = so.rest ∙ ap (λ (l : List Secondary). so.done ++ l) (drop_all i initial le)
+    let done : stations ≡ so.done = so.rest
+    ∙ ap (λ (l : List Secondary). so.done ++ l) (drop_all i initial le)
     ∙ append-nil so.done in
     subst (HeardByAll octets initial answer) (sym done)
-    (subst (λ (l : List Secondary). HeardByAll octets l answer so.done) (take_all i initial le) so.heard)
+    (subst (λ (l : List Secondary). HeardByAll octets l answer so.done) (take_all i initial le)
+    so.heard)
 
-size_heard : KeepsSize → (octets : List ℕ) (s t : Secondary) (answer : Option Frame) → HearsOctets s octets answer t
+size_heard : KeepsSize → (octets : List ℕ) (s t : Secondary) (answer : Option Frame)
+    → HearsOctets s octets answer t
     → t.size ≡ s.size
-size_heard kept octets s t answer (inl h) = ap (λ (u : Secondary). u.size) h.2.2 ∙ kept s (Hear h.2.0 (Some h.0) ∷ [])
+size_heard kept octets s t answer (inl h) = ap (λ (u : Secondary). u.size) h.2.2
+    ∙ kept s (Hear h.2.0 (Some h.0) ∷ [])
 size_heard kept octets s t answer (inr h) = ap (λ (u : Secondary). u.size) h.2
 
-sizes_heard : KeepsSize → (size : LinkSize) (octets : List ℕ) (ss ts : List Secondary) (answer : Option Frame)
-    → HeardByAll octets ss answer ts → AllByRecursion (λ s. s.size ≡ size) ss → AllByRecursion (λ s. s.size ≡ size) ts
+sizes_heard : KeepsSize → (size : LinkSize) (octets : List ℕ) (ss ts : List Secondary)
+    (answer : Option Frame)
+    → HeardByAll octets ss answer ts → AllByRecursion (λ s. s.size ≡ size) ss
+    → AllByRecursion (λ s. s.size ≡ size) ts
 sizes_heard kept size octets [] [] answer h all = tt
 sizes_heard kept size octets [] (t ∷ ts) answer h all = absurd h
 sizes_heard kept size octets (s ∷ ss) [] answer h all = absurd h
 sizes_heard kept size octets (s ∷ ss) (t ∷ ts) answer h all =
     (size_heard kept octets s t h.0 h.2 ∙ all.0, sizes_heard kept size octets ss ts h.1 h.3 all.1)
 
-pub sizes_out : KeepsSize → (size : LinkSize) (fate : Fate) (octets : List ℕ) (ss ts : List Secondary)
-    (answer : Option Frame) → IsPutOut fate octets ss answer ts → AllByRecursion (λ s. s.size ≡ size) ss
+pub sizes_out : KeepsSize
+    → (size : LinkSize) (fate : Fate) (octets : List ℕ) (ss ts : List Secondary)
+    (answer : Option Frame) → IsPutOut fate octets ss answer ts
+    → AllByRecursion (λ s. s.size ≡ size) ss
     → AllByRecursion (λ s. s.size ≡ size) ts
 sizes_out kept size Unheard octets ss ts answer h all =
     subst (λ (us : List Secondary). AllByRecursion (λ s. s.size ≡ size) us) (sym h.1) all
-sizes_out kept size AnswerLost octets ss ts answer h all = sizes_heard kept size octets ss ts answer h all
-sizes_out kept size (AnswerSpoilt place) octets ss ts answer h all = sizes_heard kept size octets ss ts answer h all
-sizes_out kept size Answered octets ss ts answer h all = sizes_heard kept size octets ss ts answer h all
+sizes_out kept size AnswerLost octets ss ts answer h all =
+    sizes_heard kept size octets ss ts answer h all
+sizes_out kept size (AnswerSpoilt place) octets ss ts answer h all =
+    sizes_heard kept size octets ss ts answer h all
+sizes_out kept size Answered octets ss ts answer h all =
+    sizes_heard kept size octets ss ts answer h all
 
 -- a spelling has octets
 pub some_spelling : (size : LinkSize) (frame : Frame) → 0 < length (spelling size frame)
@@ -144,16 +172,20 @@ length_out AnswerLost octets ss ts answer h = heard_length octets ss ts answer h
 length_out (AnswerSpoilt place) octets ss ts answer h = heard_length octets ss ts answer h
 length_out Answered octets ss ts answer h = heard_length octets ss ts answer h
 
-pub length_lived : (plan : Plan) (log : Log) (answers : List (Option Frame)) (stations : List Secondary)
+pub length_lived : (plan : Plan) (log : Log) (answers : List (Option Frame))
+    (stations : List Secondary)
     → AreLived plan log answers stations → length stations ≡ length plan.stations
 length_lived plan [] [] stations h = ap length h
 length_lived plan [] (a ∷ answers) stations h = absurd h
-length_lived plan (Came now event ∷ log) answers stations h = length_lived plan log answers stations h
+length_lived plan (Came now event ∷ log) answers stations h =
+    length_lived plan log answers stations h
 length_lived plan (Went now (LineOut octets) ∷ log) [] stations h = absurd h
 length_lived plan (Went now (LineOut octets) ∷ log) (a ∷ answers) stations h =
     length_out (fate_of plan.directives (requests_in log + 1)) octets h.0 stations a h.1
     ∙ length_lived plan log answers h.0 h.2
-length_lived plan (Went now (TcpOut octets) ∷ log) answers stations h = length_lived plan log answers stations h
-length_lived plan (Went now (Closed cause) ∷ log) answers stations h = length_lived plan log answers stations h
+length_lived plan (Went now (TcpOut octets) ∷ log) answers stations h =
+    length_lived plan log answers stations h
+length_lived plan (Went now (Closed cause) ∷ log) answers stations h =
+    length_lived plan log answers stations h
 length_lived plan (Went now (GapOut station session) ∷ log) answers stations h =
     length_lived plan log answers stations h

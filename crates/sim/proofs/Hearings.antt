@@ -1,5 +1,6 @@
 -- What two stations hear of literal octets.
-use Rattle.std.proofs.Common.{◌≡◌, ℕ, ◌<◌, List, [], ◌∷◌, ◌++◌, length, Option, Some, None, refl, sym, ap, subst, ◌∙◌, inl, inr, arith}
+use Rattle.std.proofs.Common.{◌≡◌, ℕ, ◌<◌, List, [], ◌∷◌, ◌++◌, length, Option, Some, None, refl}
+use Rattle.std.proofs.Common.{sym, ap, subst, ◌∙◌, inl, inr, arith}
 use Rattle.ft12.specs.declared.frame.LinkSize.{LinkSize}
 use Rattle.ft12.specs.declared.frame.LinkSize.TheVariants.{One}
 use Rattle.ft12.specs.declared.frame.Frame.{Frame}
@@ -7,17 +8,20 @@ use Rattle.ft12.specs.declared.frame.Frame.TheVariants.{Single, Fixed}
 use Rattle.ft12.specs.Spelling.{IsLineFrame, Fits, spelling}
 use Rattle.ft12.specs.Spoiling.{spoilt}
 use Rattle.link.specs.Secondary.{Secondary, HearsOctets, IsFrameHeard}
-use Rattle.sim.specs.Examples.{unreset, was_reset, two_stations, reset_of_1, reset_of_2, spoilt_reset}
+use Rattle.sim.specs.Examples.{unreset, was_reset, two_stations, reset_of_1, reset_of_2}
+use Rattle.sim.specs.Examples.{spoilt_reset}
 use Rattle.sim.specs.Lives.{later, HeardByAll}
 
 -- where the same octets begin with two spellings, it is one frame, with one rest
 abbrev pub Cancels : Type 0
-Cancels = (size : LinkSize) (f g : Frame) (x y : List ℕ) → spelling size f ++ x ≡ spelling size g ++ y
+Cancels = (size : LinkSize) (f g : Frame) (x y : List ℕ) → spelling size f ++ x ≡ spelling size g
+    ++ y
     → (f ≡ g) × (x ≡ y)
 
 -- no frame begins with a spelling that has one octet changed
 abbrev pub Spoils : Type 0
-Spoils = (size : LinkSize) (f g : Frame) (x rest : List ℕ) (place : ℕ) → IsLineFrame size f x → place < length x
+Spoils = (size : LinkSize) (f g : Frame) (x rest : List ℕ) (place : ℕ) → IsLineFrame size f x
+    → place < length x
     → IsLineFrame size g (spoilt place x ++ rest) → ⊥
 
 -- hearing these octets the station answers so, and stands so
@@ -31,7 +35,8 @@ heard_frame : Cancels → (s new : Secondary) (f : Frame) (answer : Option Frame
 heard_frame cancels s new f answer fits (inl h) =
     subst (λ (g : Frame). IsFrameHeard s g answer new)
     (sym (cancels s.size f h.0 [] [] (ap (λ (l : List ℕ). l ++ []) h.1.spelled)).0) h.2
-heard_frame cancels s new f answer fits (inr h) = absurd (h.0 f (record { fits = fits; spelled = refl }))
+heard_frame cancels s new f answer fits (inr h) =
+    absurd (h.0 f (record { fits = fits; spelled = refl }))
 
 heard_1_by_1 : Cancels → IsSureOf reset_of_1 (unreset 1) (Some Single) (was_reset 1)
 heard_1_by_1 cancels answer new h =
@@ -65,7 +70,8 @@ heard_2_by_2 cancels answer new h =
 heard_spoilt : Spoils → (s : Secondary) → s.size ≡ One → IsSureOf spoilt_reset s None s
 heard_spoilt spoils s size answer new (inl h) =
     absurd (spoils One (Fixed 0x40 1) h.0 reset_of_1 [] 3
-    (record { fits = record { control = omega arith; address = omega arith }; spelled = refl }) (omega arith)
+    (record { fits = record { control = omega arith; address = omega arith }; spelled = refl })
+    (omega arith)
     (subst (λ (z : LinkSize). IsLineFrame z h.0 spoilt_reset) size h.1))
 heard_spoilt spoils s size answer new (inr h) = (h.1, h.2)
 
@@ -81,20 +87,25 @@ both octets r s t u a b answer (x ∷ y ∷ []) by_r by_s h =
     let other : (h.3.0 ≡ b) × (y ≡ u) = by_s h.3.0 y h.3.2 in (
       h.4 ∙ ap (λ (o : Option Frame). later o h.1) one.0
           ∙ ap (λ (o : Option Frame). later a o)
-          (h.3.4 ∙ ap (λ (o : Option Frame). later o h.3.1) other.0 ∙ ap (λ (o : Option Frame). later b o) h.3.3),
+          (h.3.4 ∙ ap (λ (o : Option Frame). later o h.3.1) other.0
+          ∙ ap (λ (o : Option Frame). later b o) h.3.3),
       ap (λ (v : Secondary). v ∷ y ∷ []) one.1 ∙ ap (λ (v : Secondary). t ∷ v ∷ []) other.1,
     )
 
 pub both_hear_1 : Cancels → (answer : Option Frame) (after : List Secondary)
-    → HeardByAll reset_of_1 two_stations answer after → (answer ≡ Some Single) × (after ≡ was_reset 1 ∷ unreset 2 ∷ [])
+    → HeardByAll reset_of_1 two_stations answer after → (answer ≡ Some Single)
+    × (after ≡ was_reset 1 ∷ unreset 2 ∷ [])
 both_hear_1 cancels answer after h =
-    both reset_of_1 (unreset 1) (unreset 2) (was_reset 1) (unreset 2) (Some Single) None answer after
+    both reset_of_1 (unreset 1) (unreset 2) (was_reset 1) (unreset 2) (Some Single) None answer
+    after
     (heard_1_by_1 cancels) (heard_1_by_2 cancels) h
 
 pub both_hear_2 : Cancels → (answer : Option Frame) (after : List Secondary)
-    → HeardByAll reset_of_2 two_stations answer after → (answer ≡ Some Single) × (after ≡ unreset 1 ∷ was_reset 2 ∷ [])
+    → HeardByAll reset_of_2 two_stations answer after → (answer ≡ Some Single)
+    × (after ≡ unreset 1 ∷ was_reset 2 ∷ [])
 both_hear_2 cancels answer after h =
-    both reset_of_2 (unreset 1) (unreset 2) (unreset 1) (was_reset 2) None (Some Single) answer after
+    both reset_of_2 (unreset 1) (unreset 2) (unreset 1) (was_reset 2) None (Some Single) answer
+    after
     (heard_2_by_1 cancels) (heard_2_by_2 cancels) h
 
 pub neither_hears : Spoils → (answer : Option Frame) (after : List Secondary)

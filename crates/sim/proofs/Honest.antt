@@ -1,5 +1,7 @@
 -- In a run of a plan each station is an honest outstation.
-use Rattle.std.proofs.Common.{◌≡◌, ℕ, zero, suc, ◌+◌, ◌-◌, ◌<◌, ◌^◌, ◌&&◌, Bool, true, false, List, [], ◌∷◌, ◌++◌, length, get_or, map, Option, Some, None, IfSome, nat_le, refl, sym, ap, subst, ◌∙◌, inl, inr, arith, if◌then◌else◌}
+use Rattle.std.proofs.Common.{◌≡◌, ℕ, zero, suc, ◌+◌, ◌-◌, ◌<◌, ◌^◌, ◌&&◌, Bool, true, false, List}
+use Rattle.std.proofs.Common.{[], ◌∷◌, ◌++◌, length, get_or, map, Option, Some, None, IfSome}
+use Rattle.std.proofs.Common.{nat_le, refl, sym, ap, subst, ◌∙◌, inl, inr, arith, if◌then◌else◌}
 use Rattle.std.specs.Prelude.{◌==◌, not}
 use Rattle.std.specs.List.{AllByRecursion}
 use Rattle.std.proofs.lemmas.List.{append-nil, length-map}
@@ -12,56 +14,70 @@ use Rattle.link.specs.declared.service.Asked.{Asked}
 use Rattle.link.specs.Counts.{saturated}
 use Rattle.link.specs.Delivery.{requests_of, reports}
 use Rattle.link.specs.Life.{Hear}
-use Rattle.link.specs.Exchanges.{Exchange, Exchanges, OpenExchange, Sending, as_list, all_of, heard_octets, heard_current, timed, timed_current, begun_by, view}
+use Rattle.link.specs.Exchanges.{Exchange, Exchanges, OpenExchange, Sending, as_list, all_of}
+use Rattle.link.specs.Exchanges.{heard_octets, heard_current, timed, timed_current, begun_by, view}
 use Rattle.link.specs.Outstation.{Turn, silent, all_done}
 use Rattle.link.specs.Requests.{request_in}
 use Rattle.link.specs.Secondary.{Secondary, HearsOctets, served}
-use Rattle.gateway.specs.Log.{Log, Came, Went, LineIn, Opened, TcpIn, CutOff, Ticked, WallIs, LineOut, TcpOut, Closed, GapOut, latest}
+use Rattle.gateway.specs.Log.{Log, Came, Went, LineIn, Opened, TcpIn, CutOff, Ticked, WallIs}
+use Rattle.gateway.specs.Log.{LineOut, TcpOut, Closed, GapOut, latest}
 use Rattle.gateway.specs.Line.{IsWaiting}
-use Rattle.gateway.specs.Reports.{Setup, address_at, index_of, AreFound, sending_in, exchanges_of, exchanges_with}
+use Rattle.gateway.specs.Reports.{Setup, address_at, index_of, AreFound, sending_in, exchanges_of}
+use Rattle.gateway.specs.Reports.{exchanges_with}
 use Rattle.gateway.specs.Traffic.{ActsRightly}
 use Rattle.sim.specs.declared.centre.Centre.{Centre}
 use Rattle.sim.specs.declared.directive.Directive.{Directive}
 use Rattle.sim.specs.declared.directive.Fate.{Fate}
-use Rattle.sim.specs.declared.directive.Fate.TheVariants.{Unheard, AnswerLost, AnswerSpoilt, Answered}
+use Rattle.sim.specs.declared.directive.Fate.TheVariants.{Unheard, AnswerLost, AnswerSpoilt}
+use Rattle.sim.specs.declared.directive.Fate.TheVariants.{Answered}
 use Rattle.sim.specs.Centres.{start_apdu, acknowledging_apdu, centre_of}
 use Rattle.sim.specs.Losses.{fate_of, ack_of, is_cut_at, sent_at, wall_at}
 use Rattle.sim.specs.Lives.{Plan, HeardByAll, IsPutOut, AreLived, requests_in, arriving, waiting_in}
-use Rattle.sim.specs.Calls.{calls_in, line_event, quiet_event, sending_event, usual_event, walled_event, event_at, FollowsPlan}
+use Rattle.sim.specs.Calls.{calls_in, line_event, quiet_event, sending_event, usual_event}
+use Rattle.sim.specs.Calls.{walled_event, event_at, FollowsPlan}
 use Rattle.sim.specs.Outstations.{is_heard, request_to, requests_to, TakesTurn, TakesTurns}
 use Rattle.sim.specs.declared.tally.Tally.{Tally}
 use Rattle.sim.specs.Tallies.{tally_at, each_asked, each_heard, awaited_in, tallies_of}
 use Rattle.sim.proofs.Below.{Laws}
 use Rattle.sim.proofs.HearingLemmas.{sizes_out}
-use Rattle.sim.proofs.Requests.{asked_frame, read_from, quiet, hears_asked, heard_at, heard_joint, address_in, IsNotTo, Whom, nobody, other, this, whom}
+use Rattle.sim.proofs.Requests.{asked_frame, read_from, quiet, hears_asked, heard_at, heard_joint}
+use Rattle.sim.proofs.Requests.{address_in, IsNotTo, Whom, nobody, other, this, whom}
 use Rattle.sim.proofs.Turns.{IsReadable, asked_of, takes_more, did, length_more}
-use Rattle.sim.proofs.Fronts.{MayCome, its, AreFronts, fronts_timed, fronts_heard, fronts_settled, fronts_other, fronts_this, begun, may_arrive, settled_now, its-append}
+use Rattle.sim.proofs.Fronts.{MayCome, its, AreFronts, fronts_timed, fronts_heard, fronts_settled}
+use Rattle.sim.proofs.Fronts.{fronts_other, fronts_this, begun, may_arrive, settled_now, its-append}
 use Rattle.sim.proofs.Counting.{tally_step}
-use Rattle.sim.proofs.Tallying.{tally_ended, given_by_turns, IsTallied, tally_timed, tally_heard, tally_all, asked_other, asked_this, length_tallies, fresh_at}
+use Rattle.sim.proofs.Tallying.{tally_ended, given_by_turns, IsTallied, tally_timed, tally_heard}
+use Rattle.sim.proofs.Tallying.{tally_all, asked_other, asked_this, length_tallies, fresh_at}
 
 -- The stations keep their addresses and sizes
 
-address_heard : Laws → (octets : List ℕ) (s t : Secondary) (answer : Option Frame) → HearsOctets s octets answer t
+address_heard : Laws → (octets : List ℕ) (s t : Secondary) (answer : Option Frame)
+    → HearsOctets s octets answer t
     → t.address ≡ s.address
 address_heard laws octets s t answer (inl h) = ap (λ (u : Secondary). u.address) h.2.2
     ∙ laws.address s (Hear h.2.0 (Some h.0) ∷ [])
 address_heard laws octets s t answer (inr h) = ap (λ (u : Secondary). u.address) h.2
 
 addresses_heard : Laws → (octets : List ℕ) (ss ts : List Secondary) (answer : Option Frame)
-    → HeardByAll octets ss answer ts → map (λ (s : Secondary). s.address) ts ≡ map (λ (s : Secondary). s.address) ss
+    → HeardByAll octets ss answer ts → map (λ (s : Secondary). s.address) ts
+    ≡ map (λ (s : Secondary). s.address) ss
 addresses_heard laws octets [] [] answer h = refl
 addresses_heard laws octets [] (t ∷ ts) answer h = absurd h
 addresses_heard laws octets (s ∷ ss) [] answer h = absurd h
 addresses_heard laws octets (s ∷ ss) (t ∷ ts) answer h =
-    ap (λ (a : ℕ). a ∷ map (λ (u : Secondary). u.address) ts) (address_heard laws octets s t h.0 h.2)
+    ap (λ (a : ℕ). a ∷ map (λ (u : Secondary). u.address) ts)
+    (address_heard laws octets s t h.0 h.2)
     ∙ ap (λ (l : List ℕ). s.address ∷ l) (addresses_heard laws octets ss ts h.1 h.3)
 
-addresses_out : Laws → (fate : Fate) (octets : List ℕ) (ss ts : List Secondary) (answer : Option Frame)
-    → IsPutOut fate octets ss answer ts → map (λ (s : Secondary). s.address) ts ≡ map (λ (s : Secondary). s.address) ss
+addresses_out : Laws → (fate : Fate) (octets : List ℕ) (ss ts : List Secondary)
+    (answer : Option Frame)
+    → IsPutOut fate octets ss answer ts → map (λ (s : Secondary). s.address) ts
+    ≡ map (λ (s : Secondary). s.address) ss
 addresses_out laws Unheard octets ss ts answer h =
     ap (λ (us : List Secondary). map (λ (s : Secondary). s.address) us) h.1
 addresses_out laws AnswerLost octets ss ts answer h = addresses_heard laws octets ss ts answer h
-addresses_out laws (AnswerSpoilt place) octets ss ts answer h = addresses_heard laws octets ss ts answer h
+addresses_out laws (AnswerSpoilt place) octets ss ts answer h =
+    addresses_heard laws octets ss ts answer h
 addresses_out laws Answered octets ss ts answer h = addresses_heard laws octets ss ts answer h
 
 -- The settings fit the plan: these stations, which are found by their addresses.
@@ -76,21 +92,28 @@ record AreThese (p : Setup) (size : LinkSize) (stations : List Secondary) : Type
   addresses : map (λ (s : Secondary). s.address) stations ≡ p.addresses
   sizes : AllByRecursion (λ s. s.size ≡ size) stations
 
-these_out : Laws → (p : Setup) (size : LinkSize) (fate : Fate) (octets : List ℕ) (ss ts : List Secondary)
-    (answer : Option Frame) → IsPutOut fate octets ss answer ts → AreThese p size ss → AreThese p size ts
+these_out : Laws → (p : Setup) (size : LinkSize) (fate : Fate) (octets : List ℕ)
+    (ss ts : List Secondary)
+    (answer : Option Frame) → IsPutOut fate octets ss answer ts → AreThese p size ss
+    → AreThese p size ts
 these_out laws p size fate octets ss ts answer h k = record {
   addresses = addresses_out laws fate octets ss ts answer h ∙ k.addresses;
   sizes = sizes_out laws.size size fate octets ss ts answer h k.sizes;
 }
 
-these_lived : Laws → (p : Setup) (plan : Plan) (log : Log) (answers : List (Option Frame)) (stations : List Secondary)
-    → AreThese p plan.size plan.stations → AreLived plan log answers stations → AreThese p plan.size stations
-these_lived laws p plan [] [] stations k h = subst (λ (ss : List Secondary). AreThese p plan.size ss) (sym h) k
+these_lived : Laws → (p : Setup) (plan : Plan) (log : Log) (answers : List (Option Frame))
+    (stations : List Secondary)
+    → AreThese p plan.size plan.stations → AreLived plan log answers stations
+    → AreThese p plan.size stations
+these_lived laws p plan [] [] stations k h =
+    subst (λ (ss : List Secondary). AreThese p plan.size ss) (sym h) k
 these_lived laws p plan [] (a ∷ answers) stations k h = absurd h
-these_lived laws p plan (Came now event ∷ log) answers stations k h = these_lived laws p plan log answers stations k h
+these_lived laws p plan (Came now event ∷ log) answers stations k h =
+    these_lived laws p plan log answers stations k h
 these_lived laws p plan (Went now (LineOut octets) ∷ log) [] stations k h = absurd h
 these_lived laws p plan (Went now (LineOut octets) ∷ log) (a ∷ answers) stations k h =
-    these_out laws p plan.size (fate_of plan.directives (requests_in log + 1)) octets h.0 stations a h.1
+    these_out laws p plan.size (fate_of plan.directives (requests_in log + 1)) octets h.0 stations a
+    h.1
     (these_lived laws p plan log answers h.0 k h.2)
 these_lived laws p plan (Went now (TcpOut octets) ∷ log) answers stations k h =
     these_lived laws p plan log answers stations k h
@@ -101,10 +124,13 @@ these_lived laws p plan (Went now (GapOut station session) ∷ log) answers stat
 
 -- What a request makes of a station
 
-address_of : (p : Setup) (size : LinkSize) (ss : List Secondary) (i : ℕ) (d : Secondary) → AreThese p size ss
-    → i < length p.addresses → (i < length ss) × ((get_or ss i d).address ≡ address_at p.addresses i)
+address_of : (p : Setup) (size : LinkSize) (ss : List Secondary) (i : ℕ) (d : Secondary)
+    → AreThese p size ss
+    → i < length p.addresses → (i < length ss)
+    × ((get_or ss i d).address ≡ address_at p.addresses i)
 address_of p size ss i d k lt =
-    let long : length (map (λ (s : Secondary). s.address) ss) ≡ length p.addresses = ap length k.addresses in
+    let long : length (map (λ (s : Secondary). s.address) ss) ≡ length p.addresses =
+    ap length k.addresses in
     let within : i < length ss = omega (arith, length-map ss (λ (s : Secondary). s.address)) in
     (within, sym (address_in ss i d within) ∙ ap (λ (l : List ℕ). address_at l i) k.addresses)
 
@@ -115,18 +141,25 @@ size_of size (s ∷ ss) zero d lt all = all.0
 size_of size (s ∷ ss) (suc i) d lt all = size_of size ss i d (omega arith) all.1
 
 -- the others have other addresses
-others_apart : (p : Setup) (size : LinkSize) (ss : List Secondary) (i : ℕ) (d : Secondary) → AreFound p.addresses
+others_apart : (p : Setup) (size : LinkSize) (ss : List Secondary) (i : ℕ) (d : Secondary)
+    → AreFound p.addresses
     → AreThese p size ss → i < length p.addresses →
     (j : ℕ) → j < length ss → (j ≡ i → ⊥) → (get_or ss j d).address ≡ address_at p.addresses i → ⊥
 others_apart p size ss i d found k lt j less apart e =
-    let long : length (map (λ (s : Secondary). s.address) ss) ≡ length p.addresses = ap length k.addresses in
-    let within : j < length p.addresses = omega (arith, length-map ss (λ (s : Secondary). s.address)) in
-    let same : address_at p.addresses j ≡ address_at p.addresses i = sym (address_of p size ss j d k within).1 ∙ e in
-    let one : Some j ≡ Some i = sym (found j within) ∙ ap (λ (a : ℕ). index_of a p.addresses) same ∙ found i lt in
+    let long : length (map (λ (s : Secondary). s.address) ss) ≡ length p.addresses =
+    ap length k.addresses in
+    let within : j < length p.addresses =
+    omega (arith, length-map ss (λ (s : Secondary). s.address)) in
+    let same : address_at p.addresses j ≡ address_at p.addresses i =
+    sym (address_of p size ss j d k within).1 ∙ e in
+    let one : Some j ≡ Some i = sym (found j within) ∙ ap (λ (a : ℕ). index_of a p.addresses) same
+    ∙ found i lt in
     apart cc
 
-put_quiet : (laws : Laws) (p : Setup) (fate : Fate) (octets : List ℕ) (ss ts : List Secondary) (answer : Option Frame)
-    (i : ℕ) (d : Secondary) → AreThese p p.link.size ss → i < length p.addresses → IsNotTo p octets i →
+put_quiet : (laws : Laws) (p : Setup) (fate : Fate) (octets : List ℕ) (ss ts : List Secondary)
+    (answer : Option Frame)
+    (i : ℕ) (d : Secondary) → AreThese p p.link.size ss → i < length p.addresses
+    → IsNotTo p octets i →
     IsPutOut fate octets ss answer ts → get_or ts i d ≡ get_or ss i d
 put_quiet laws p fate octets ss ts answer i d these lt never h = go fate h
   where
@@ -153,10 +186,13 @@ record TurnAt (size : LinkSize) (fate : Fate) (answer : Option Frame) (s t : Sec
   took : TakesTurn (is_heard fate) s r turn t
   may : MayCome size (arriving size fate answer) x turn
 
-put_asked : (laws : Laws) (p : Setup) (fate : Fate) (octets : List ℕ) (ss ts : List Secondary) (answer : Option Frame)
-    (i : ℕ) (d : Secondary) (r : Asked) (x : OpenExchange) → AreFound p.addresses → AreThese p p.link.size ss →
+put_asked : (laws : Laws) (p : Setup) (fate : Fate) (octets : List ℕ) (ss ts : List Secondary)
+    (answer : Option Frame)
+    (i : ℕ) (d : Secondary) (r : Asked) (x : OpenExchange) → AreFound p.addresses
+    → AreThese p p.link.size ss →
     i < length p.addresses → IfSome answer (Fits p.link.size) → x.octets ≡ []
-    → request_in p.link.size octets ≡ Some (address_at p.addresses i, r) → IsPutOut fate octets ss answer ts →
+    → request_in p.link.size octets ≡ Some (address_at p.addresses i, r)
+    → IsPutOut fate octets ss answer ts →
     TurnAt p.link.size fate answer (get_or ss i d) (get_or ts i d) r x
 put_asked laws p fate octets ss ts answer i d r x found these lt fits empty e h = go fate h
   where
@@ -167,24 +203,30 @@ put_asked laws p fate octets ss ts answer i d r x found these lt fits empty e h 
         × (answer ≡ (served granted (get_or ss i d) r).turn.answer)
         × (get_or ts i d ≡ (served granted (get_or ss i d) r).state)
     heard_so k =
-        let one = heard_joint laws p.link.size octets (address_at p.addresses i) r ss ts answer i d e these.sizes
+        let one = heard_joint laws p.link.size octets (address_at p.addresses i) r ss ts answer i d
+        e these.sizes
         (others_apart p p.link.size ss i d found these lt) at.0 k in
         let two = hears_asked laws p.link.size octets r (get_or ss i d) (get_or ts i d) one.0
-        (size_of p.link.size ss i d at.0 these.sizes) (e ∙ ap (λ (a : ℕ). Some (a, r)) (sym at.1)) one.1 in
+        (size_of p.link.size ss i d at.0 these.sizes) (e ∙ ap (λ (a : ℕ). Some (a, r)) (sym at.1))
+        one.1 in
         (two.0, one.2 ∙ two.1, two.2)
 
-    go : (f : Fate) → IsPutOut f octets ss answer ts → TurnAt p.link.size f answer (get_or ss i d) (get_or ts i d) r x
+    go : (f : Fate) → IsPutOut f octets ss answer ts
+        → TurnAt p.link.size f answer (get_or ss i d) (get_or ts i d) r x
     go Unheard k = record {
       turn = silent;
       took = (refl, ap (λ (us : List Secondary). get_or us i d) k.1);
-      may = subst (λ (a : Option Frame). MayCome p.link.size (arriving p.link.size Unheard a) x silent) (sym k.0) tt;
+      may =
+          subst (λ (a : Option Frame). MayCome p.link.size (arriving p.link.size Unheard a) x
+          silent) (sym k.0) tt;
     }
     go AnswerLost k = let so = heard_so k in
         record {
           turn = (served so.0 (get_or ss i d) r).turn;
           took = (so.0, refl, so.2);
           may =
-              may_arrive laws p.link.size AnswerLost answer x (served so.0 (get_or ss i d) r).turn fits empty
+              may_arrive laws p.link.size AnswerLost answer x (served so.0 (get_or ss i d) r).turn
+              fits empty
               (sym so.1);
         }
     go (AnswerSpoilt place) k = let so = heard_so k in
@@ -192,7 +234,8 @@ put_asked laws p fate octets ss ts answer i d r x found these lt fits empty e h 
           turn = (served so.0 (get_or ss i d) r).turn;
           took = (so.0, refl, so.2);
           may =
-              may_arrive laws p.link.size (AnswerSpoilt place) answer x (served so.0 (get_or ss i d) r).turn fits empty
+              may_arrive laws p.link.size (AnswerSpoilt place) answer x
+              (served so.0 (get_or ss i d) r).turn fits empty
               (sym so.1);
         }
     go Answered k = let so = heard_so k in
@@ -200,12 +243,14 @@ put_asked laws p fate octets ss ts answer i d r x found these lt fits empty e h 
           turn = (served so.0 (get_or ss i d) r).turn;
           took = (so.0, refl, so.2);
           may =
-              may_arrive laws p.link.size Answered answer x (served so.0 (get_or ss i d) r).turn fits empty (sym so.1);
+              may_arrive laws p.link.size Answered answer x (served so.0 (get_or ss i d) r).turn
+              fits empty (sym so.1);
         }
 
 -- What comes of the line is what waits
 
-line_waits : (octets : List ℕ) (waiting : Option (List ℕ)) → LineIn octets ≡ line_event waiting → waiting ≡ Some octets
+line_waits : (octets : List ℕ) (waiting : Option (List ℕ)) → LineIn octets ≡ line_event waiting
+    → waiting ≡ Some octets
 line_waits octets None e = cc
 line_waits octets (Some piece) e = cc
 
@@ -213,50 +258,60 @@ quiet_waits : (octets : List ℕ) (ack : ℕ) (c : Centre) (waiting : Option (Li
     → LineIn octets ≡ quiet_event ack c waiting → waiting ≡ Some octets
 quiet_waits octets ack c waiting e = go (nat_le ack (c.received - c.acknowledged)) e
   where
-    go : (b : Bool) → LineIn octets ≡ (if b then TcpIn (acknowledging_apdu c) else line_event waiting)
+    go : (b : Bool) → LineIn octets ≡ (if b then TcpIn (acknowledging_apdu c)
+        else line_event waiting)
         → waiting ≡ Some octets
     go true f = cc
     go false f = line_waits octets waiting f
 
-sending_waits : (octets : List ℕ) (m : Option (List ℕ)) (ack : ℕ) (c : Centre) (waiting : Option (List ℕ))
+sending_waits : (octets : List ℕ) (m : Option (List ℕ)) (ack : ℕ) (c : Centre)
+    (waiting : Option (List ℕ))
     → LineIn octets ≡ sending_event m ack c waiting → waiting ≡ Some octets
 sending_waits octets (Some asdu) ack c waiting e = cc
 sending_waits octets None ack c waiting e = quiet_waits octets ack c waiting e
 
-usual_waits : (octets : List ℕ) (ds : List Directive) (call : ℕ) (c : Centre) (waiting : Option (List ℕ))
+usual_waits : (octets : List ℕ) (ds : List Directive) (call : ℕ) (c : Centre)
+    (waiting : Option (List ℕ))
     → LineIn octets ≡ usual_event ds call c waiting → waiting ≡ Some octets
-usual_waits octets ds call c waiting e = go (c.is_open && is_cut_at ds call) (not c.is_open) (not c.is_started) e
+usual_waits octets ds call c waiting e = go (c.is_open && is_cut_at ds call) (not c.is_open)
+    (not c.is_started) e
   where
     go : (x y z : Bool)
         → LineIn octets
-        ≡ (if x then CutOff else if y then Opened else if z then TcpIn start_apdu else sending_event (sent_at ds call)
+        ≡ (if x then CutOff else if y then Opened else if z then TcpIn start_apdu
+        else sending_event (sent_at ds call)
         (ack_of ds) c waiting) → waiting ≡ Some octets
     go true y z f = cc
     go false true z f = cc
     go false false true f = cc
     go false false false f = sending_waits octets (sent_at ds call) (ack_of ds) c waiting f
 
-event_waits : (octets : List ℕ) (ds : List Directive) (call : ℕ) (c : Centre) (waiting : Option (List ℕ))
+event_waits : (octets : List ℕ) (ds : List Directive) (call : ℕ) (c : Centre)
+    (waiting : Option (List ℕ))
     → LineIn octets ≡ event_at ds call c waiting → waiting ≡ Some octets
 event_waits octets ds call c waiting e = walled (wall_at ds call) e
   where
-    walled : (n : Option ℕ) → LineIn octets ≡ walled_event n (usual_event ds call c waiting) → waiting ≡ Some octets
+    walled : (n : Option ℕ) → LineIn octets ≡ walled_event n (usual_event ds call c waiting)
+        → waiting ≡ Some octets
     walled (Some number) f = cc
     walled None f = usual_waits octets ds call c waiting f
 
 -- The requests of its exchanges
 
-same_requests : (size : LinkSize) (i : ℕ) (c e : OpenExchange) → e.station ≡ c.station → e.request ≡ c.request
+same_requests : (size : LinkSize) (i : ℕ) (c e : OpenExchange) → e.station ≡ c.station → e.request
+    ≡ c.request
     → requests_of (its size i (e ∷ [])) ≡ requests_of (its size i (c ∷ []))
 same_requests size i c e s r =
-    ap (λ (n : ℕ). requests_of (if n == i then (view (front_of size) e).exchange ∷ [] else [])) s ∙ go (c.station == i)
+    ap (λ (n : ℕ). requests_of (if n == i then (view (front_of size) e).exchange ∷ [] else [])) s
+    ∙ go (c.station == i)
   where
     go : (b : Bool) → requests_of (if b then (view (front_of size) e).exchange ∷ [] else [])
         ≡ requests_of (if b then (view (front_of size) c).exchange ∷ [] else [])
     go true = ap (λ (q : Asked). q ∷ []) r
     go false = refl
 
-requests-append : (xs ys : List Exchange) → requests_of (xs ++ ys) ≡ requests_of xs ++ requests_of ys
+requests-append : (xs ys : List Exchange) → requests_of (xs ++ ys)
+    ≡ requests_of xs ++ requests_of ys
 requests-append [] ys = refl
 requests-append (x ∷ xs) ys = ap (λ (l : List Asked). x.request ∷ l) (requests-append xs ys)
 
@@ -265,18 +320,22 @@ asked-append [] ys = refl
 asked-append (x ∷ xs) ys = ap (λ (l : List Asked). x.1 ∷ l) (asked-append xs ys)
 
 its_requests : (size : LinkSize) (i : ℕ) (xs ys : List OpenExchange)
-    → requests_of (its size i (xs ++ ys)) ≡ requests_of (its size i xs) ++ requests_of (its size i ys)
-its_requests size i xs ys = ap requests_of (its-append size i xs ys) ∙ requests-append (its size i xs) (its size i ys)
+    → requests_of (its size i (xs ++ ys)) ≡ requests_of (its size i xs)
+    ++ requests_of (its size i ys)
+its_requests size i xs ys = ap requests_of (its-append size i xs ys)
+    ∙ requests-append (its size i xs) (its size i ys)
 
 after_current : (size : LinkSize) (i : ℕ) (ended : List OpenExchange) (c e : Option OpenExchange)
     → requests_of (its size i (as_list e)) ≡ requests_of (its size i (as_list c)) →
     requests_of (its size i (ended ++ as_list e)) ≡ requests_of (its size i (ended ++ as_list c))
 after_current size i ended c e same =
-    its_requests size i ended (as_list e) ∙ ap (λ (l : List Asked). requests_of (its size i ended) ++ l) same
+    its_requests size i ended (as_list e)
+    ∙ ap (λ (l : List Asked). requests_of (its size i ended) ++ l) same
     ∙ sym (its_requests size i ended (as_list c))
 
 timed_requests : (size : LinkSize) (i ms at : ℕ) (c : Option OpenExchange)
-    → requests_of (its size i (as_list (timed_current ms at c))) ≡ requests_of (its size i (as_list c))
+    → requests_of (its size i (as_list (timed_current ms at c)))
+    ≡ requests_of (its size i (as_list c))
 timed_requests size i ms at None = refl
 timed_requests size i ms at (Some x) = same_requests size i x (timed ms at x) refl refl
 
@@ -284,7 +343,8 @@ heard_requests : (size : LinkSize) (i ms at : ℕ) (octets : List ℕ) (c : Opti
     → requests_of (its size i (as_list (timed_current ms at (heard_current octets c))))
     ≡ requests_of (its size i (as_list c))
 heard_requests size i ms at octets None = refl
-heard_requests size i ms at octets (Some x) = same_requests size i x (timed ms at (heard_octets octets x)) refl refl
+heard_requests size i ms at octets (Some x) =
+    same_requests size i x (timed ms at (heard_octets octets x)) refl refl
 
 begun_requests : (size : LinkSize) (i now : ℕ) (heard : Bool) (m : Option Sending) (e : Exchanges)
     → requests_of (its size i (all_of (begun_by now m e))) ≡ requests_of (its size i (all_of e))
@@ -293,7 +353,8 @@ begun_requests size i now heard None e = sym (append-nil (requests_of (its size 
 begun_requests size i now heard (Some s) e = its_requests size i (all_of e) (begun now s ∷ [])
     ∙ ap (λ (l : List Asked). requests_of (its size i (all_of e)) ++ l) (go (s.station == i))
   where
-    go : (b : Bool) → requests_of (if b then (view (front_of size) (begun now s)).exchange ∷ [] else [])
+    go : (b : Bool) → requests_of (if b then (view (front_of size) (begun now s)).exchange ∷ []
+        else [])
         ≡ asked_of (if b then (heard, s.request) ∷ [] else [])
     go true = refl
     go false = refl
@@ -304,7 +365,8 @@ same_asked p ds i [] = refl
 same_asked p ds i (Came now (LineIn octets) ∷ log) =
     let e : Exchanges = exchanges_of p log in
     let at : ℕ = latest (Came now (LineIn octets) ∷ log) in
-    after_current p.link.size i e.ended e.current (timed_current p.link.answer_ms at (heard_current octets e.current))
+    after_current p.link.size i e.ended e.current
+    (timed_current p.link.answer_ms at (heard_current octets e.current))
     (heard_requests p.link.size i p.link.answer_ms at octets e.current) ∙ same_asked p ds i log
 same_asked p ds i (Came now Opened ∷ log) =
     let e : Exchanges = exchanges_of p log in
@@ -334,7 +396,8 @@ same_asked p ds i (Came now (WallIs number) ∷ log) =
 same_asked p ds i (Went now (LineOut octets) ∷ log) =
     let heard : Bool = is_heard (fate_of ds (requests_in log + 1)) in
     begun_requests p.link.size i now heard (sending_in p octets) (exchanges_of p log)
-    ∙ ap (λ (l : List Asked). l ++ asked_of (request_to i heard (sending_in p octets))) (same_asked p ds i log)
+    ∙ ap (λ (l : List Asked). l ++ asked_of (request_to i heard (sending_in p octets)))
+    (same_asked p ds i log)
     ∙ sym (asked-append (requests_to p ds i log) (request_to i heard (sending_in p octets)))
 same_asked p ds i (Went now (TcpOut octets) ∷ log) = same_asked p ds i log
 same_asked p ds i (Went now (Closed cause) ∷ log) = same_asked p ds i log
@@ -342,7 +405,8 @@ same_asked p ds i (Went now (GapOut station session) ∷ log) = same_asked p ds 
 
 -- The station has served
 
-pub record Serves (p : Setup) (rs : List (Bool × Asked)) (e : Exchanges) (waiting : Option (List ℕ)) (i : ℕ)
+pub record Serves (p : Setup) (rs : List (Bool × Asked)) (e : Exchanges) (waiting : Option (List ℕ))
+    (i : ℕ)
     (first s : Secondary) (t : Tally) : Type 0 where
   pub turns : List Turn
   pub took : TakesTurns first rs turns s
@@ -351,9 +415,11 @@ pub record Serves (p : Setup) (rs : List (Bool × Asked)) (e : Exchanges) (waiti
   pub given : s.given ≡ given_by_turns turns
   pub tallied : IsTallied p i e turns waiting fronts t
 
-serves_timed : (p : Setup) (rs : List (Bool × Asked)) (e : Exchanges) (waiting : Option (List ℕ)) (i at : ℕ)
+serves_timed : (p : Setup) (rs : List (Bool × Asked)) (e : Exchanges) (waiting : Option (List ℕ))
+    (i at : ℕ)
     (first s : Secondary) (t : Tally) → Serves p rs e waiting i first s t →
-    Serves p rs (record { ended = e.ended; current = timed_current p.link.answer_ms at e.current }) waiting i first s t
+    Serves p rs (record { ended = e.ended; current = timed_current p.link.answer_ms at e.current })
+    waiting i first s t
 serves_timed p rs e waiting i at first s t h = record {
   turns = h.turns;
   took = h.took;
@@ -364,7 +430,8 @@ serves_timed p rs e waiting i at first s t h = record {
       (tally_ended p i e.ended h.fronts.done);
 }
 
-serves_heard : (laws : Laws) (p : Setup) (rs : List (Bool × Asked)) (e : Exchanges) (i at : ℕ) (octets : List ℕ)
+serves_heard : (laws : Laws) (p : Setup) (rs : List (Bool × Asked)) (e : Exchanges) (i at : ℕ)
+    (octets : List ℕ)
     (first s : Secondary) (each : List Tally) → i < length each →
     Serves p rs e (Some octets) i first s (tally_at each i) →
     Serves p rs (record {
@@ -385,7 +452,8 @@ serves_heard laws p rs e i at octets first s each lt h =
       given = h.given;
       tallied = tally_heard laws p i (given_by_turns done) each e.current octets h.fronts.here
           (tally_ended p i e.ended done) lt h.fronts.latest h.tallied
-          ∙ tally_timed p i (given_by_turns done) p.link.answer_ms at (heard_current octets e.current)
+          ∙ tally_timed p i (given_by_turns done) p.link.answer_ms at
+          (heard_current octets e.current)
           (tally_ended p i e.ended done);
     }
 
@@ -396,19 +464,24 @@ readable_more a [] r all one = (one, tt)
 readable_more a (q ∷ rs) r all one = (all.0, readable_more a rs r all.1 one)
 
 -- a request that isn't to it
-serves_none : (p : Setup) (rs more : List (Bool × Asked)) (old new : Exchanges) (waiting next : Option (List ℕ))
-    (i : ℕ) (first s t : Secondary) (before tally : Tally) (h : Serves p rs old waiting i first s before) → more ≡ []
+serves_none : (p : Setup) (rs more : List (Bool × Asked)) (old new : Exchanges)
+    (waiting next : Option (List ℕ))
+    (i : ℕ) (first s t : Secondary) (before tally : Tally)
+    (h : Serves p rs old waiting i first s before) → more ≡ []
     → t ≡ s →
-    (fronts : AreFronts p.link.size i new h.turns next) → IsTallied p i new h.turns next fronts tally
+    (fronts : AreFronts p.link.size i new h.turns next)
+    → IsTallied p i new h.turns next fronts tally
     → Serves p (rs ++ more) new next i first t tally
 serves_none p rs more old new waiting next i first s t before tally h none same fronts tallied =
-    let none_more : rs ++ more ≡ rs = ap (λ (l : List (Bool × Asked)). rs ++ l) none ∙ append-nil rs in
+    let none_more : rs ++ more ≡ rs = ap (λ (l : List (Bool × Asked)). rs ++ l) none
+    ∙ append-nil rs in
     record {
       turns = h.turns;
       took = subst (λ (l : List (Bool × Asked)). TakesTurns first l h.turns t) (sym none_more)
           (subst (λ (u : Secondary). TakesTurns first rs h.turns u) (sym same) h.took);
       readable = subst (λ (l : List (Bool × Asked)). AllByRecursion
-          (λ (q : Bool × Asked). IsReadable (address_at p.addresses i) q.1) l) (sym none_more) h.readable;
+          (λ (q : Bool × Asked). IsReadable (address_at p.addresses i) q.1) l) (sym none_more)
+          h.readable;
       fronts = fronts;
       given = ap (λ (u : Secondary). u.given) same ∙ h.given;
       tallied = tallied;
@@ -418,7 +491,8 @@ given_more : (n m : ℕ) (turns : List Turn) (turn : Turn) → n ≡ given_by_tu
     → m ≡ saturated (n + length (reports turn.done)) → m ≡ given_by_turns (turns ++ turn ∷ [])
 given_more n m turns turn e f =
     let sum : length (reports (all_done (turns ++ turn ∷ [])))
-    ≡ length (reports (all_done turns)) + length (reports turn.done) = done_more turns in omega arith
+    ≡ length (reports (all_done turns)) + length (reports turn.done) = done_more turns in
+    omega arith
   where
     done_more : (us : List Turn) → length (reports (all_done (us ++ turn ∷ [])))
         ≡ length (reports (all_done us)) + length (reports turn.done)
@@ -431,32 +505,40 @@ given_more n m turns turn e f =
     )
 
 -- one that is
-serves_one : (laws : Laws) (p : Setup) (rs : List (Bool × Asked)) (e : Exchanges) (waiting next : Option (List ℕ))
+serves_one : (laws : Laws) (p : Setup) (rs : List (Bool × Asked)) (e : Exchanges)
+    (waiting next : Option (List ℕ))
     (i now : ℕ) (heard : Bool) (r : Asked) (turn : Turn) (first s t : Secondary) (tally : Tally)
     (stations : List Secondary) (each : List Tally) (d : Secondary) →
-    i < length each → i < length stations → get_or stations i d ≡ s → s.address ≡ address_at p.addresses i
+    i < length each → i < length stations → get_or stations i d ≡ s → s.address
+    ≡ address_at p.addresses i
     → tally_at each i ≡ tally → Serves p rs e waiting i first s tally →
     IsReadable (address_at p.addresses i) r → TakesTurn heard s r turn t
     → MayCome p.link.size next (begun now (record { station = i; request = r })) turn →
-    Serves p (rs ++ (heard, r) ∷ []) (begun_by now (Some (record { station = i; request = r })) e) next i first t
+    Serves p (rs ++ (heard, r) ∷ []) (begun_by now (Some (record { station = i; request = r })) e)
+    next i first t
     (tally_at (each_asked (Some (record { station = i; request = r })) stations each) i)
-serves_one laws p rs e waiting next i now heard r turn first s t tally stations each d lt within is here same h
+serves_one laws p rs e waiting next i now heard r turn first s t tally stations each d lt within is
+    here same h
     readable took may = record {
       turns = h.turns ++ turn ∷ [];
       took = takes_more first s t rs h.turns heard r turn h.took took;
       readable = readable_more (address_at p.addresses i) rs (heard, r) h.readable readable;
-      fronts = fronts_this laws p.link.size i now (record { station = i; request = r }) e h.turns turn waiting next refl
+      fronts = fronts_this laws p.link.size i now (record { station = i; request = r }) e h.turns
+          turn waiting next refl
           may h.fronts;
       given = given_more s.given t.given h.turns turn h.given
-          (did laws heard s r turn t (subst (λ (a : ℕ). IsReadable a r) (sym here) readable) small took).given;
-      tallied = asked_this laws p i now r stations each d (tally_ended p i (all_of e) h.turns) lt within (same
+          (did laws heard s r turn t (subst (λ (a : ℕ). IsReadable a r) (sym here) readable) small
+          took).given;
+      tallied = asked_this laws p i now r stations each d (tally_ended p i (all_of e) h.turns) lt
+          within (same
           ∙ tally_all p i e h.turns waiting h.fronts tally h.tallied)
           ∙ ap (λ (n : ℕ). tally_step (address_at p.addresses i)
           (view (front_of p.link.size) (begun now (record { station = i; request = r }))).exchange n
           (tally_ended p i (all_of e) h.turns)) (ap (λ (u : Secondary). u.given) is ∙ h.given)
           ∙ sym (ap (λ (b : Bool). if b then tally_step (address_at p.addresses i)
           (view (front_of p.link.size) (begun now (record { station = i; request = r }))).exchange
-          (given_by_turns h.turns) (tally_ended p i (all_of e) h.turns) else tally_ended p i (all_of e) h.turns)
+          (given_by_turns h.turns) (tally_ended p i (all_of e) h.turns)
+          else tally_ended p i (all_of e) h.turns)
           (eq-eqb i i refl));
     }
   where
@@ -464,38 +546,48 @@ serves_one laws p rs e waiting next i now heard r turn first s t tally stations 
     small = let e : s.given ≡ given_by_turns h.turns = h.given in omega arith
 
 -- any
-serves_request : (laws : Laws) (p : Setup) (log : Log) (rs : List (Bool × Asked)) (waiting : Option (List ℕ))
-    (fate : Fate) (octets : List ℕ) (ss ts : List Secondary) (answer : Option Frame) (i now : ℕ) (d first : Secondary)
+serves_request : (laws : Laws) (p : Setup) (log : Log) (rs : List (Bool × Asked))
+    (waiting : Option (List ℕ))
+    (fate : Fate) (octets : List ℕ) (ss ts : List Secondary) (answer : Option Frame) (i now : ℕ)
+    (d first : Secondary)
     (each : List Tally) →
     i < length each → AreFound p.addresses → AreThese p p.link.size ss → i < length p.addresses
     → IfSome answer (Fits p.link.size) → (IsWaiting p log → ⊥) → IsPutOut fate octets ss answer ts →
     Serves p rs (exchanges_of p log) waiting i first (get_or ss i d) (tally_at each i) →
     Serves p (rs ++ request_to i (is_heard fate) (sending_in p octets))
-    (begun_by now (sending_in p octets) (exchanges_of p log)) (arriving p.link.size fate answer) i first
+    (begun_by now (sending_in p octets) (exchanges_of p log)) (arriving p.link.size fate answer) i
+    first
     (get_or ts i d) (tally_at (each_asked (sending_in p octets) ss each) i)
-serves_request laws p log rs waiting fate octets ss ts answer i now d first each few found these lt fits alone out h =
+serves_request laws p log rs waiting fate octets ss ts answer i now d first each few found these lt
+    fits alone out h =
     go (whom p octets i found lt)
   where
     go : Whom p octets i →
         Serves p (rs ++ request_to i (is_heard fate) (sending_in p octets))
-        (begun_by now (sending_in p octets) (exchanges_of p log)) (arriving p.link.size fate answer) i first
+        (begun_by now (sending_in p octets) (exchanges_of p log)) (arriving p.link.size fate answer)
+        i first
         (get_or ts i d) (tally_at (each_asked (sending_in p octets) ss each) i)
     go (nobody e never) =
         subst (λ (m : Option Sending). Serves p (rs ++ request_to i (is_heard fate) m)
-        (begun_by now m (exchanges_of p log)) (arriving p.link.size fate answer) i first (get_or ts i d)
+        (begun_by now m (exchanges_of p log)) (arriving p.link.size fate answer) i first
+        (get_or ts i d)
         (tally_at (each_asked m ss each) i)) (sym e)
         (serves_none p rs [] (exchanges_of p log) (exchanges_of p log) waiting
         (arriving p.link.size fate answer) i first (get_or ss i d) (get_or ts i d) (tally_at each i)
         (tally_at each i) h refl (put_quiet laws p fate octets ss ts answer i d these lt never out)
-        (fronts_settled p.link.size i (exchanges_of p log) h.turns waiting (arriving p.link.size fate answer)
+        (fronts_settled p.link.size i (exchanges_of p log) h.turns waiting
+        (arriving p.link.size fate answer)
         (settled_now p log alone) h.fronts) h.tallied)
     go (other s e apart never) =
         subst (λ (m : Option Sending). Serves p (rs ++ request_to i (is_heard fate) m)
-        (begun_by now m (exchanges_of p log)) (arriving p.link.size fate answer) i first (get_or ts i d)
+        (begun_by now m (exchanges_of p log)) (arriving p.link.size fate answer) i first
+        (get_or ts i d)
         (tally_at (each_asked m ss each) i)) (sym e)
         (serves_none p rs (request_to i (is_heard fate) (Some s)) (exchanges_of p log)
-        (begun_by now (Some s) (exchanges_of p log)) waiting (arriving p.link.size fate answer) i first
-        (get_or ss i d) (get_or ts i d) (tally_at each i) (tally_at (each_asked (Some s) ss each) i) h
+        (begun_by now (Some s) (exchanges_of p log)) waiting (arriving p.link.size fate answer) i
+        first
+        (get_or ss i d) (get_or ts i d) (tally_at each i) (tally_at (each_asked (Some s) ss each) i)
+        h
         (ap (λ (b : Bool). if b then (is_heard fate, s.request) ∷ [] else []) apart)
         (put_quiet laws p fate octets ss ts answer i d these lt never out)
         (fronts_other p.link.size i now s (exchanges_of p log) h.turns waiting
@@ -509,27 +601,35 @@ serves_request laws p log rs waiting fate octets ss ts answer i now d first each
     go (this r e asked) =
         let read = read_from laws p.link.size octets (address_at p.addresses i) r asked in
         let new : Sending = record { station = i; request = r } in
-        let one = put_asked laws p fate octets ss ts answer i d r (begun now new) found these lt fits refl asked out in
+        let one = put_asked laws p fate octets ss ts answer i d r (begun now new) found these lt
+        fits refl asked out in
         let at : (i < length ss) × ((get_or ss i d).address ≡ address_at p.addresses i) =
         address_of p p.link.size ss i d these lt in
         let its_own : request_to i (is_heard fate) (Some new) ≡ (is_heard fate, r) ∷ [] =
         ap (λ (b : Bool). if b then (is_heard fate, r) ∷ [] else []) (eq-eqb i i refl) in
         subst (λ (m : Option Sending). Serves p (rs ++ request_to i (is_heard fate) m)
-        (begun_by now m (exchanges_of p log)) (arriving p.link.size fate answer) i first (get_or ts i d)
+        (begun_by now m (exchanges_of p log)) (arriving p.link.size fate answer) i first
+        (get_or ts i d)
         (tally_at (each_asked m ss each) i)) (sym e)
-        (subst (λ (l : List (Bool × Asked)). Serves p (rs ++ l) (begun_by now (Some new) (exchanges_of p log))
-        (arriving p.link.size fate answer) i first (get_or ts i d) (tally_at (each_asked (Some new) ss each) i))
+        (subst (λ (l : List (Bool × Asked)). Serves p (rs ++ l)
+        (begun_by now (Some new) (exchanges_of p log))
+        (arriving p.link.size fate answer) i first (get_or ts i d)
+        (tally_at (each_asked (Some new) ss each) i))
         (sym its_own)
         (serves_one laws p rs (exchanges_of p log) waiting (arriving p.link.size fate answer) i now
         (is_heard fate) r one.turn first (get_or ss i d) (get_or ts i d) (tally_at each i) ss each d
         few at.0 refl at.1 refl h
-        (read.frame, asked_frame read.frame (address_at p.addresses i) r read.asked) one.took one.may))
+        (read.frame, asked_frame read.frame (address_at p.addresses i) r read.asked) one.took
+        one.may))
 
-tallied_there : (plan : Plan) (log : Log) (answers : List (Option Frame)) (stations : List Secondary) (i : ℕ)
-    → FitsPlan plan.setup plan → i < length plan.setup.addresses → (lived : AreLived plan log answers stations) →
+tallied_there : (plan : Plan) (log : Log) (answers : List (Option Frame))
+    (stations : List Secondary) (i : ℕ)
+    → FitsPlan plan.setup plan → i < length plan.setup.addresses
+    → (lived : AreLived plan log answers stations) →
     i < length (tallies_of plan log answers stations lived)
 tallied_there plan log answers stations i fits lt lived =
-    let long : length (map (λ (s : Secondary). s.address) plan.stations) ≡ length plan.setup.addresses =
+    let long : length (map (λ (s : Secondary). s.address) plan.stations)
+    ≡ length plan.setup.addresses =
     ap length fits.addresses in
     omega (
       arith,
@@ -538,9 +638,12 @@ tallied_there plan log answers stations i fits lt lived =
     )
 
 -- A station has served after each log of a run, and is counted so.
-pub serves : (laws : Laws) (plan : Plan) (log : Log) (answers : List (Option Frame)) (stations : List Secondary)
-    (i : ℕ) (d : Secondary) → d.given ≡ 0 → FitsPlan plan.setup plan → i < length plan.setup.addresses →
-    (lived : AreLived plan log answers stations) → AllByRecursion (λ answer. IfSome answer (Fits plan.size)) answers
+pub serves : (laws : Laws) (plan : Plan) (log : Log) (answers : List (Option Frame))
+    (stations : List Secondary)
+    (i : ℕ) (d : Secondary) → d.given ≡ 0 → FitsPlan plan.setup plan
+    → i < length plan.setup.addresses →
+    (lived : AreLived plan log answers stations)
+    → AllByRecursion (λ answer. IfSome answer (Fits plan.size)) answers
     → FollowsPlan plan log answers → ActsRightly plan.setup log →
     Serves plan.setup (requests_to plan.setup plan.directives i log) (exchanges_of plan.setup log)
     (waiting_in plan log answers) i (get_or plan.stations i d) (get_or stations i d)
@@ -554,47 +657,64 @@ serves laws plan [] [] stations i d none fits lt lived fit follows acts = record
   tallied = fresh_at (length plan.stations) i;
 }
 serves laws plan [] (a ∷ answers) stations i d none fits lt lived fit follows acts = absurd lived
-serves laws plan (Came now (LineIn octets) ∷ log) answers stations i d none fits lt lived fit follows acts =
-    serves_heard laws plan.setup (requests_to plan.setup plan.directives i log) (exchanges_of plan.setup log) i
-    (latest (Came now (LineIn octets) ∷ log)) octets (get_or plan.stations i d) (get_or stations i d)
-    (tallies_of plan log answers stations lived) (tallied_there plan log answers stations i fits lt lived)
-    (subst (λ (w : Option (List ℕ)). Serves plan.setup (requests_to plan.setup plan.directives i log)
+serves laws plan (Came now (LineIn octets) ∷ log) answers stations i d none fits lt lived fit
+    follows acts =
+    serves_heard laws plan.setup (requests_to plan.setup plan.directives i log)
+    (exchanges_of plan.setup log) i
+    (latest (Came now (LineIn octets) ∷ log)) octets (get_or plan.stations i d)
+    (get_or stations i d)
+    (tallies_of plan log answers stations lived) (tallied_there plan log answers stations i fits lt
+    lived)
+    (subst (λ (w : Option (List ℕ)). Serves plan.setup
+    (requests_to plan.setup plan.directives i log)
     (exchanges_of plan.setup log) w i (get_or plan.stations i d) (get_or stations i d)
     (tally_at (tallies_of plan log answers stations lived) i))
-    (event_waits octets plan.directives (calls_in log + 1) (centre_of log) (waiting_in plan log answers) follows.0)
+    (event_waits octets plan.directives (calls_in log + 1) (centre_of log)
+    (waiting_in plan log answers) follows.0)
     (serves laws plan log answers stations i d none fits lt lived fit follows.2 acts))
 serves laws plan (Came now Opened ∷ log) answers stations i d none fits lt lived fit follows acts =
-    serves_timed plan.setup (requests_to plan.setup plan.directives i log) (exchanges_of plan.setup log)
+    serves_timed plan.setup (requests_to plan.setup plan.directives i log)
+    (exchanges_of plan.setup log)
     (waiting_in plan log answers) i (latest (Came now Opened ∷ log)) (get_or plan.stations i d)
     (get_or stations i d)
     (tally_at (tallies_of plan log answers stations lived) i)
     (serves laws plan log answers stations i d none fits lt lived fit follows.2 acts)
-serves laws plan (Came now (TcpIn octets) ∷ log) answers stations i d none fits lt lived fit follows acts =
-    serves_timed plan.setup (requests_to plan.setup plan.directives i log) (exchanges_of plan.setup log)
-    (waiting_in plan log answers) i (latest (Came now (TcpIn octets) ∷ log)) (get_or plan.stations i d)
+serves laws plan (Came now (TcpIn octets) ∷ log) answers stations i d none fits lt lived fit follows
+    acts =
+    serves_timed plan.setup (requests_to plan.setup plan.directives i log)
+    (exchanges_of plan.setup log)
+    (waiting_in plan log answers) i (latest (Came now (TcpIn octets) ∷ log))
+    (get_or plan.stations i d)
     (get_or stations i d)
     (tally_at (tallies_of plan log answers stations lived) i)
     (serves laws plan log answers stations i d none fits lt lived fit follows.2 acts)
 serves laws plan (Came now CutOff ∷ log) answers stations i d none fits lt lived fit follows acts =
-    serves_timed plan.setup (requests_to plan.setup plan.directives i log) (exchanges_of plan.setup log)
+    serves_timed plan.setup (requests_to plan.setup plan.directives i log)
+    (exchanges_of plan.setup log)
     (waiting_in plan log answers) i (latest (Came now CutOff ∷ log)) (get_or plan.stations i d)
     (get_or stations i d)
     (tally_at (tallies_of plan log answers stations lived) i)
     (serves laws plan log answers stations i d none fits lt lived fit follows.2 acts)
 serves laws plan (Came now Ticked ∷ log) answers stations i d none fits lt lived fit follows acts =
-    serves_timed plan.setup (requests_to plan.setup plan.directives i log) (exchanges_of plan.setup log)
+    serves_timed plan.setup (requests_to plan.setup plan.directives i log)
+    (exchanges_of plan.setup log)
     (waiting_in plan log answers) i (latest (Came now Ticked ∷ log)) (get_or plan.stations i d)
     (get_or stations i d)
     (tally_at (tallies_of plan log answers stations lived) i)
     (serves laws plan log answers stations i d none fits lt lived fit follows.2 acts)
-serves laws plan (Came now (WallIs number) ∷ log) answers stations i d none fits lt lived fit follows acts =
-    serves_timed plan.setup (requests_to plan.setup plan.directives i log) (exchanges_of plan.setup log)
-    (waiting_in plan log answers) i (latest (Came now (WallIs number) ∷ log)) (get_or plan.stations i d)
+serves laws plan (Came now (WallIs number) ∷ log) answers stations i d none fits lt lived fit
+    follows acts =
+    serves_timed plan.setup (requests_to plan.setup plan.directives i log)
+    (exchanges_of plan.setup log)
+    (waiting_in plan log answers) i (latest (Came now (WallIs number) ∷ log))
+    (get_or plan.stations i d)
     (get_or stations i d)
     (tally_at (tallies_of plan log answers stations lived) i)
     (serves laws plan log answers stations i d none fits lt lived fit follows.2 acts)
-serves laws plan (Went now (LineOut octets) ∷ log) [] stations i d none fits lt lived fit follows acts = absurd lived
-serves laws plan (Went now (LineOut octets) ∷ log) (a ∷ answers) stations i d none fits lt lived fit follows acts =
+serves laws plan (Went now (LineOut octets) ∷ log) [] stations i d none fits lt lived fit follows
+    acts = absurd lived
+serves laws plan (Went now (LineOut octets) ∷ log) (a ∷ answers) stations i d none fits lt lived fit
+    follows acts =
     let fate : Fate = fate_of plan.directives (requests_in log + 1) in
     let first : Secondary = get_or plan.stations i d in
     let these : AreThese plan.setup plan.size lived.0 =
@@ -604,7 +724,8 @@ serves laws plan (Went now (LineOut octets) ∷ log) (a ∷ answers) stations i 
     subst (λ (z : LinkSize).
     Serves plan.setup (requests_to plan.setup plan.directives i log
     ++ request_to i (is_heard fate) (sending_in plan.setup octets))
-    (begun_by now (sending_in plan.setup octets) (exchanges_of plan.setup log)) (arriving z fate a) i first
+    (begun_by now (sending_in plan.setup octets) (exchanges_of plan.setup log)) (arriving z fate a)
+    i first
     (get_or stations i d)
     (tally_at (each_asked (sending_in plan.setup octets) lived.0 each) i))
     (sym fits.size)
@@ -614,9 +735,12 @@ serves laws plan (Went now (LineOut octets) ∷ log) (a ∷ answers) stations i 
     (subst (λ (z : LinkSize). AreThese plan.setup z lived.0) fits.size these) lt
     (subst (λ (z : LinkSize). IfSome a (Fits z)) fits.size fit.0) acts.0.may.alone lived.1
     (serves laws plan log answers lived.0 i d none fits lt lived.2 fit.1 follows acts.1))
-serves laws plan (Went now (TcpOut octets) ∷ log) answers stations i d none fits lt lived fit follows acts =
+serves laws plan (Went now (TcpOut octets) ∷ log) answers stations i d none fits lt lived fit
+    follows acts =
     serves laws plan log answers stations i d none fits lt lived fit follows acts.1
-serves laws plan (Went now (Closed cause) ∷ log) answers stations i d none fits lt lived fit follows acts =
+serves laws plan (Went now (Closed cause) ∷ log) answers stations i d none fits lt lived fit follows
+    acts =
     serves laws plan log answers stations i d none fits lt lived fit follows acts.1
-serves laws plan (Went now (GapOut station session) ∷ log) answers stations i d none fits lt lived fit follows acts =
+serves laws plan (Went now (GapOut station session) ∷ log) answers stations i d none fits lt lived
+    fit follows acts =
     serves laws plan log answers stations i d none fits lt lived fit follows acts.1

@@ -1,11 +1,13 @@
 -- The fields of the port after one event or one action.
-use Rattle.std.proofs.Common.{◌≡◌, ℕ, ◌+◌, ◌<◌, ◌^◌, min, List, [], ◌∷◌, ◌++◌, length, replicate, take, drop, Option, None, IfSome, if◌then◌else◌, refl, ap, ◌∙◌}
+use Rattle.std.proofs.Common.{◌≡◌, ℕ, ◌+◌, ◌<◌, ◌^◌, min, List, [], ◌∷◌, ◌++◌, length, replicate}
+use Rattle.std.proofs.Common.{take, drop, Option, None, IfSome, if◌then◌else◌, refl, ap, ◌∙◌}
 use Rattle.std.specs.List.{AllByRecursion}
 use Rattle.std.proofs.lemmas.List.{take_at}
 use Rattle.ft12.specs.declared.frame.Frame.{Frame}
 use Rattle.ft12.specs.Spelling.{Fits}
 use Rattle.link.specs.Secondary.{Secondary}
-use Rattle.gateway.specs.Log.{Log, LogEntry, Came, Went, Input, LineOut, TcpOut, Closed, GapOut, last_moment}
+use Rattle.gateway.specs.Log.{Log, LogEntry, Came, Went, Input, LineOut, TcpOut, Closed, GapOut}
+use Rattle.gateway.specs.Log.{last_moment}
 use Rattle.gateway.specs.Ports.{told_by}
 use Rattle.gateway.specs.declared.ports.Next.{Next}
 use Rattle.gateway.specs.declared.ports.Next.TheVariants as answers
@@ -19,7 +21,8 @@ use Rattle.sim.specs.Lives.{Plan, IsPutOut, arriving}
 use Rattle.sim.specs.Calls.{event_at, lasting}
 use Rattle.sim.specs.Played.{Standing, Stands, Simulated, coming, centre_after, moment_at, is_given}
 use Rattle.sim.specs.Tallies.{Tallied, fresh_tally, tallied_after, tallied_asked}
-use Rattle.sim.proofs.Standing.{stands_came, stands_asked, stands_handed, stands_closed, stands_told, stands_fresh}
+use Rattle.sim.proofs.Standing.{stands_came, stands_asked, stands_handed, stands_closed}
+use Rattle.sim.proofs.Standing.{stands_told, stands_fresh}
 use Rattle.sim.proofs.Below.{KeepsSize}
 use Rattle.sim.proofs.HearingLemmas.{sizes_out}
 
@@ -36,20 +39,28 @@ told_lines answers.Done buf log = refl
 told_lines answers.Fault buf log = refl
 
 pub entry_is : (s v : Simulated) (event : Input) (now : ℕ) → v ≡ s
-    → event ≡ event_at v.plan.directives (v.standing.call + 1) v.standing.centre v.standing.waiting →
+    → event ≡ event_at v.plan.directives (v.standing.call + 1) v.standing.centre v.standing.waiting
+    →
     now ≡ min (s.standing.moment + lasting s.plan.answer_ms event) last_moment
     → Came now event ≡ coming s.plan s.standing
 entry_is s v event now e ev at =
-    let due : event ≡ event_at s.plan.directives (s.standing.call + 1) s.standing.centre s.standing.waiting =
-    ev ∙ ap (λ (w : Simulated). event_at w.plan.directives (w.standing.call + 1) w.standing.centre w.standing.waiting)
+    let due : event ≡ event_at s.plan.directives (s.standing.call + 1) s.standing.centre
+    s.standing.waiting =
+    ev
+    ∙ ap (λ (w : Simulated). event_at w.plan.directives (w.standing.call + 1) w.standing.centre
+    w.standing.waiting)
     e in
     ap (λ (n : ℕ). Came n event) at
-    ∙ ap (λ (x : Input). Came (min (s.standing.moment + lasting s.plan.answer_ms x) last_moment) x) due
+    ∙ ap (λ (x : Input). Came (min (s.standing.moment + lasting s.plan.answer_ms x) last_moment) x)
+    due
 
-pub come_kept : (plan : Plan) (log new : Log) (stations : List Secondary) (at : Standing) (entry : LogEntry)
-    (waiting : Option (List ℕ)) (centre : Centre) (moment : ℕ) (counts : List ℕ) (tallied : Tallied) →
+pub come_kept : (plan : Plan) (log new : Log) (stations : List Secondary) (at : Standing)
+    (entry : LogEntry)
+    (waiting : Option (List ℕ)) (centre : Centre) (moment : ℕ) (counts : List ℕ) (tallied : Tallied)
+    →
     new ≡ entry ∷ log → entry ≡ coming plan at → at.call < turns_of plan.directives
-    → waiting ≡ (if is_given entry then None else at.waiting) → centre ≡ centre_after entry at.centre
+    → waiting ≡ (if is_given entry then None else at.waiting)
+    → centre ≡ centre_after entry at.centre
     → moment ≡ moment_at entry → counts ≡ counted_after entry at.counts
     → tallied ≡ tallied_after plan.setup entry at.tallied → Stands plan log stations at →
     Stands plan new stations (record {
@@ -61,7 +72,8 @@ pub come_kept : (plan : Plan) (log new : Log) (stations : List Secondary) (at : 
       counts = counts;
       tallied = tallied;
     })
-come_kept plan log new stations at entry waiting centre moment counts tallied push due few w c m n t k =
+come_kept plan log new stations at entry waiting centre moment counts tallied push due few w c m n t
+    k =
     rw (push, w, c, m, n, t) (stands_came plan log stations at entry due few k)
 
 pub hand_kept : (plan : Plan) (log new : Log) (stations : List Secondary) (at : Standing) (now : ℕ)
@@ -96,7 +108,8 @@ close_kept plan log new stations at now cause centre push c k =
     rw (push, c) (stands_closed plan log stations at now cause k)
 
 pub tell_kept : (plan : Plan) (log new : Log) (stations : List Secondary) (at : Standing)
-    (now station session : ℕ) → new ≡ Went now (GapOut station session) ∷ log → Stands plan log stations at
+    (now station session : ℕ) → new ≡ Went now (GapOut station session) ∷ log
+    → Stands plan log stations at
     → Stands plan new stations at
 tell_kept plan log new stations at now station session push k =
     rw push (stands_told plan log stations at now station session k)
@@ -105,9 +118,12 @@ pub ask_kept : KeepsSize → (plan : Plan) (log new : Log) (stations after writt
     (at : Standing) (now : ℕ) (octets : List ℕ) (answer : Option Frame) (requests : ℕ)
     (waiting : Option (List ℕ)) (tallied : Tallied) →
     new ≡ Went now (LineOut octets) ∷ log → requests ≡ at.requests + 1 → requests < 2 ^ 64
-    → IsPutOut (fate_of plan.directives (at.requests + 1)) octets stations answer after → written ≡ after →
-    waiting ≡ arriving plan.size (fate_of plan.directives (at.requests + 1)) answer → IfSome answer (Fits plan.size)
-    → tallied ≡ tallied_asked plan.setup now octets stations at.tallied → Stands plan log stations at →
+    → IsPutOut (fate_of plan.directives (at.requests + 1)) octets stations answer after → written
+    ≡ after →
+    waiting ≡ arriving plan.size (fate_of plan.directives (at.requests + 1)) answer
+    → IfSome answer (Fits plan.size)
+    → tallied ≡ tallied_asked plan.setup now octets stations at.tallied
+    → Stands plan log stations at →
     Stands plan new written (record {
       waiting = waiting;
       centre = at.centre;
@@ -117,18 +133,22 @@ pub ask_kept : KeepsSize → (plan : Plan) (log new : Log) (stations after writt
       counts = at.counts;
       tallied = tallied;
     })
-ask_kept kept plan log new stations after written at now octets answer requests waiting tallied push more small out
+ask_kept kept plan log new stations after written at now octets answer requests waiting tallied push
+    more small out
     wrote w fits t k =
     let few : at.requests + 1 < 2 ^ 64 = rw more at small in
     rw (push, more, wrote, w, t) (stands_asked plan log stations after at now octets answer out
-    (sizes_out kept plan.size (fate_of plan.directives (at.requests + 1)) octets stations after answer out k.sizes)
+    (sizes_out kept plan.size (fate_of plan.directives (at.requests + 1)) octets stations after
+    answer out k.sizes)
     fits few k)
 
 -- the stations as they are written back
-pub written : (xs ws : List Secondary) (len : ℕ) → length ws ≡ len → take len (ws ++ drop (length ws) xs) ≡ ws
+pub written : (xs ws : List Secondary) (len : ℕ) → length ws ≡ len
+    → take len (ws ++ drop (length ws) xs) ≡ ws
 written xs ws len e = take_at ws (drop (length ws) xs) len e
 
-pub stands_new : (plan : Plan) (log : Log) (stations : List Secondary) (centre : Centre) (counts : List ℕ)
+pub stands_new : (plan : Plan) (log : Log) (stations : List Secondary) (centre : Centre)
+    (counts : List ℕ)
     (tallied : Tallied) → log ≡ [] → centre ≡ shut → counts ≡ [] → stations ≡ plan.stations
     → AllByRecursion (λ s. s.size ≡ plan.size) plan.stations →
     tallied ≡ record { awaited = None; each = replicate (length stations) fresh_tally } →
@@ -142,8 +162,10 @@ pub stands_new : (plan : Plan) (log : Log) (stations : List Secondary) (centre :
       tallied = tallied;
     })
 stands_new plan log stations centre counts tallied none c n e sizes t =
-    let fresh : Tallied = record { awaited = None; each = replicate (length plan.stations) fresh_tally } in
+    let fresh : Tallied =
+    record { awaited = None; each = replicate (length plan.stations) fresh_tally } in
     let same : tallied ≡ fresh = t
     ∙ ap (λ (ss : List Secondary).
-    let made : Tallied = record { awaited = None; each = replicate (length ss) fresh_tally } in made) e in
+    let made : Tallied = record { awaited = None; each = replicate (length ss) fresh_tally } in
+    made) e in
     rw (none, n, same) (stands_fresh plan stations centre c e sizes)

@@ -1,5 +1,5 @@
 pub mod ScriptLemmas
-pub mod Finding
+pub mod Numbering
 pub mod Places
 pub mod Counts
 pub mod Standing

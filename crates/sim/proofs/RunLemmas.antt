@@ -29,16 +29,20 @@ record IsTold (plan : Plan) (log : Log) (stations : List Secondary) (answers : L
   counted : tallies ≡ tallies_of plan log answers stations played.lived
 
 -- the run of which these are the closing lines
-pub told_run : (c : Settings) (ds : List Directive) (s : Simulated) (closing : List ℕ) → s.plan ≡ plan_of c ds →
-    calls_in s.log ≡ turns_of ds → IsFaithful (setup_of c) s.log → HasRested (setup_of c) s.log → KeepsOrder s.log
+pub told_run : (c : Settings) (ds : List Directive) (s : Simulated) (closing : List ℕ)
+    → s.plan ≡ plan_of c ds →
+    calls_in s.log ≡ turns_of ds → IsFaithful (setup_of c) s.log → HasRested (setup_of c) s.log
+    → KeepsOrder s.log
     → closing ≡ closing_lines s.plan.directives s.stations (connection_lines 1 s.standing.counts)
     s.standing.tallied.each
     → Stands s.plan s.log s.stations s.standing → Delivers (setup_of c) s.log →
     ((answers : List (Option Frame)) (ss : List Secondary) (ts : List Tally)
-    (played : IsPlayed (plan_of c ds) s.log answers ss) → ts ≡ tallies_of (plan_of c ds) s.log answers ss played.lived
+    (played : IsPlayed (plan_of c ds) s.log answers ss)
+    → ts ≡ tallies_of (plan_of c ds) s.log answers ss played.lived
     → requests_in s.log < 2 ^ 64 → HaveServed c ds s.log 0 ss ts) →
     ((d : Delivers (setup_of c) s.log)
-    → connection_lines 1 (counted_in s.log) ≡ lines_of_connections (connections_in s.log (here_of d.course) d.course.earlier))
+    → connection_lines 1 (counted_in s.log)
+    ≡ lines_of_connections (connections_in s.log (here_of d.course) d.course.earlier))
     → IsRun c ds s.log closing
 told_run c ds s closing plan calls faithful rests order lines k delivers serve count =
     let was : IsTold s.plan s.log s.stations k.answers s.standing.tallied.each =
@@ -59,8 +63,11 @@ told_run c ds s closing plan calls faithful rests order lines k delivers serve c
       delivers = delivers;
       served = serve k.answers s.stations s.standing.tallied.each now.played now.counted few;
       lines = lines
-          ∙ ap (λ (p : Plan). closing_lines p.directives s.stations (connection_lines 1 s.standing.counts)
+          ∙ ap (λ (p : Plan). closing_lines p.directives s.stations
+          (connection_lines 1 s.standing.counts)
           s.standing.tallied.each) plan
-          ∙ ap (λ (ns : List ℕ). closing_lines ds s.stations (connection_lines 1 ns) s.standing.tallied.each) k.counts
-          ∙ ap (λ (ls : List ℕ). closing_lines ds s.stations ls s.standing.tallied.each) (count delivers);
+          ∙ ap (λ (ns : List ℕ). closing_lines ds s.stations (connection_lines 1 ns)
+          s.standing.tallied.each) k.counts
+          ∙ ap (λ (ls : List ℕ). closing_lines ds s.stations ls s.standing.tallied.each)
+          (count delivers);
     }

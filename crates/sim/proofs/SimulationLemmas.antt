@@ -1,5 +1,6 @@
 -- Runs over a simulated line: what their ends say.
-use Rattle.std.proofs.Common.{◌≡◌, ℕ, ◌+◌, ◌≤◌, List, [], ◌∷◌, length, nat_le, true, Option, Some, inr, refl, subst, sym, ◌∙◌, arith}
+use Rattle.std.proofs.Common.{◌≡◌, ℕ, ◌+◌, ◌≤◌, List, [], ◌∷◌, length, nat_le, true, Option, Some}
+use Rattle.std.proofs.Common.{inr, refl, subst, sym, ◌∙◌, arith}
 use Rattle.std.proofs.lemmas.List.{length-append}
 use Rattle.std.specs.Io.KnownBytes.{Appends}
 use Rattle.std.specs.Prelude.{Result, Ok, Err, IfOk}
@@ -35,7 +36,8 @@ at_finish end P is promised = subst (λ (e : End). UnlessDevice e P) is promised
 
 length-events : (log : Log) → length (events_of log) ≡ calls_in log
 length-events [] = refl
-length-events (Came now event ∷ log) = let so_far : length (events_of log) ≡ calls_in log = length-events log in
+length-events (Came now event ∷ log) = let so_far : length (events_of log) ≡ calls_in log =
+    length-events log in
     omega (arith, length-append (events_of log) (Came now event ∷ []))
 length-events (Went now action ∷ log) = length-events log
 
@@ -46,8 +48,10 @@ turns_calls n log more =
     let same : length (events_of log) ≡ 0 + n = cc in
     omega (arith, length-events log)
 
-pub run_turns : (n m : ℕ) (old log : Log) → n ≡ m → old ≡ [] → MoreEvents n (Some old) (Some log) → calls_in log ≡ m
-run_turns n m old log e none more = turns_calls n log (subst (λ (l : Log). MoreEvents n (Some l) (Some log)) none more)
+pub run_turns : (n m : ℕ) (old log : Log) → n ≡ m → old ≡ [] → MoreEvents n (Some old) (Some log)
+    → calls_in log ≡ m
+run_turns n m old log e none more =
+    turns_calls n log (subst (λ (l : Log). MoreEvents n (Some l) (Some log)) none more)
     ∙ e
 
 le_of : (a b : ℕ) → nat_le a b ≡ true → a ≤ b
@@ -75,7 +79,8 @@ at_first_call p s plan sim is begins = (
 pub begun_blank : (known : Option (List ℕ)) (sim : Simulated) (plan : Plan) → sim ≡ fresh_run plan
     → Appends known known (lines_of_actions sim.poured)
 begun_blank known sim plan is =
-    subst (λ (s : Simulated). Appends known known (lines_of_actions s.poured)) (sym is) (appends_none known)
+    subst (λ (s : Simulated). Appends known known (lines_of_actions s.poured)) (sym is)
+    (appends_none known)
 
 -- what is promised where there is no error
 pub at_ok : {T E : Type 0} (r : Result T E) (x : T) (P : T → Type 0) → r ≡ Ok x → IfOk r P → P x
@@ -83,7 +88,8 @@ at_ok (Ok y) x P is h = let same : y ≡ x = cc in subst P same h
 at_ok (Err e) x P is h = cc
 
 -- a run that stopped before its end
-pub stopped : (c : Settings) (ds : List Directive) (s : Simulated) (old new : Option (List ℕ)) → s.plan ≡ plan_of c ds
+pub stopped : (c : Settings) (ds : List Directive) (s : Simulated) (old new : Option (List ℕ))
+    → s.plan ≡ plan_of c ds
     → Stands s.plan s.log s.stations s.standing → IsFaithful (setup_of c) s.log
     → IsBegun old new (lines_of_actions s.log) → IsStopped c ds old new
 stopped c ds s old new plan k faithful begun =
@@ -100,11 +106,20 @@ stopped c ds s old new plan k faithful begun =
     }
 
 -- one that came to its end
-pub ended : (c : Settings) (ds : List Directive) (log : Log) (closing : List ℕ) (old new : Option (List ℕ))
-    (r : Result (Unit {0}) SimFault) → IsRun c ds log closing → IsClosedBy old new (lines_of_actions log) closing r
+pub ended : (c : Settings) (ds : List Directive) (log : Log) (closing : List ℕ)
+    (old new : Option (List ℕ))
+    (r : Result (Unit {0}) SimFault) → IsRun c ds log closing
+    → IsClosedBy old new (lines_of_actions log) closing r
     → IsSimulation c ds old new r
-ended c ds log closing old new (Ok done) run h = record { log = log; closing = closing; run = run; text = h }
-ended c ds log closing old new (Err Write) run h = record { log = log; closing = closing; run = run; text = h }
+ended c ds log closing old new (Ok done) run h =
+    record { log = log; closing = closing; run = run; text = h }
+ended c ds log closing old new (Err Write) run h = record {
+  log = log;
+  closing = closing;
+  run =
+      run;
+  text = h;
+}
 ended c ds log closing old new (Err NoMemory) run h = inr (record {
   log = log;
   stations = run.stations;

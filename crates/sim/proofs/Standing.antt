@@ -1,29 +1,38 @@
 -- A run goes on by one event or one action.
-use Rattle.std.proofs.Common.{◌≡◌, ℕ, ◌+◌, ◌<◌, ◌≤◌, ◌^◌, ◌||◌, min, Bool, true, false, List, [], ◌∷◌, ◌++◌, length, replicate, Option, Some, None, IfSome, nat_le, refl, sym, ap, subst, ◌∙◌, arith, if◌then◌else◌}
+use Rattle.std.proofs.Common.{◌≡◌, ℕ, ◌+◌, ◌<◌, ◌≤◌, ◌^◌, ◌||◌, min, Bool, true, false, List, []}
+use Rattle.std.proofs.Common.{◌∷◌, ◌++◌, length, replicate, Option, Some, None, IfSome, nat_le}
+use Rattle.std.proofs.Common.{refl, sym, ap, subst, ◌∙◌, arith, if◌then◌else◌}
 use Rattle.std.specs.Prelude.{◌==◌}
 use Rattle.std.specs.List.{AllByRecursion}
 use Rattle.ft12.specs.declared.frame.Frame.{Frame}
 use Rattle.ft12.specs.Spelling.{Fits}
 use Rattle.link.specs.Secondary.{Secondary}
-use Rattle.gateway.specs.Log.{Log, LogEntry, Came, Went, Input, LineIn, Opened, TcpIn, CutOff, Ticked, WallIs, LineOut, TcpOut, Closed, GapOut, last_moment, latest}
+use Rattle.gateway.specs.Log.{Log, LogEntry, Came, Went, Input, LineIn, Opened, TcpIn, CutOff}
+use Rattle.gateway.specs.Log.{Ticked, WallIs, LineOut, TcpOut, Closed, GapOut, last_moment, latest}
 use Rattle.gateway.specs.Reports.{Setup, sending_in, exchanges_of}
-use Rattle.link.specs.Exchanges.{OpenExchange, Exchanges, Sending, heard_octets, heard_current, timed, timed_current, begun_by}
+use Rattle.link.specs.Exchanges.{OpenExchange, Exchanges, Sending, heard_octets, heard_current}
+use Rattle.link.specs.Exchanges.{timed, timed_current, begun_by}
 use Rattle.sim.specs.declared.tally.Tally.{Tally}
 use Rattle.sim.specs.declared.tallies.Awaited.{Awaited}
-use Rattle.sim.specs.Tallies.{Tallied, fresh_tally, each_asked, each_heard, awaited_heard, awaited_timed, awaited_asked, awaited_with, tallied_at, tallied_asked, awaited_in, tallies_of}
+use Rattle.sim.specs.Tallies.{Tallied, fresh_tally, each_asked, each_heard, awaited_heard}
+use Rattle.sim.specs.Tallies.{awaited_timed, awaited_asked, awaited_with, tallied_at, tallied_asked}
+use Rattle.sim.specs.Tallies.{awaited_in, tallies_of}
 use Rattle.session.specs.declared.kinds.Close.{Close}
 use Rattle.sim.specs.declared.centre.Centre.{Centre}
-use Rattle.sim.specs.Centres.{shut, is_data, first_control, after_sending, after_receiving, after_event, centre_of}
+use Rattle.sim.specs.Centres.{shut, is_data, first_control, after_sending, after_receiving}
+use Rattle.sim.specs.Centres.{after_event, centre_of}
 use Rattle.sim.specs.Losses.{fate_of, turns_of}
 use Rattle.sim.specs.Lives.{Plan, AreLived, IsPutOut, arriving, waiting_in}
 use Rattle.sim.specs.Connections.{objects_in_apdu, add_latest, counted_after}
 use Rattle.sim.specs.Calls.{event_at, lasting, calls_in}
 use Rattle.sim.specs.Played.{Standing, Stands, coming, standing_after}
 
-sent_by : (octets : List ℕ) (c : Centre) (n : ℕ) → c.sent ≤ n → (after_sending octets c).sent ≤ n + 1
+sent_by : (octets : List ℕ) (c : Centre) (n : ℕ) → c.sent ≤ n → (after_sending octets c).sent
+    ≤ n + 1
 sent_by octets c n le = go (first_control octets == 0x07) (is_data octets) refl refl
   where
-    go : (a b : Bool) → (first_control octets == 0x07) ≡ a → is_data octets ≡ b → (after_sending octets c).sent ≤ n + 1
+    go : (a b : Bool) → (first_control octets == 0x07) ≡ a → is_data octets ≡ b
+        → (after_sending octets c).sent ≤ n + 1
     go true b e f = rw e (omega arith)
     go false true e f = rw (e, f) (omega arith)
     go false false e f = rw (e, f) (omega arith)
@@ -36,9 +45,11 @@ sent_after CutOff c n le = omega arith
 sent_after Ticked c n le = omega arith
 sent_after (WallIs number) c n le = omega arith
 
-waiting_after : (plan : Plan) (log : Log) (answers : List (Option Frame)) (now : ℕ) (event : Input) (at : Standing)
+waiting_after : (plan : Plan) (log : Log) (answers : List (Option Frame)) (now : ℕ) (event : Input)
+    (at : Standing)
     → at.waiting ≡ waiting_in plan log answers →
-    (standing_after plan (Came now event) at).waiting ≡ waiting_in plan (Came now event ∷ log) answers
+    (standing_after plan (Came now event) at).waiting
+    ≡ waiting_in plan (Came now event ∷ log) answers
 waiting_after plan log answers now (LineIn octets) at e = refl
 waiting_after plan log answers now Opened at e = e
 waiting_after plan log answers now (TcpIn octets) at e = e
@@ -71,7 +82,8 @@ awaits_heard (o ∷ os) None = refl
 awaits_heard [] (Some x) = go x.closed x.octets
   where
     go : (closed : Bool) (xs : List ℕ) → (if closed then None else awaited_with xs x)
-        ≡ (if closed then None else awaited_with (if closed then xs else xs ++ []) (heard_octets [] x))
+        ≡ (if closed then None
+        else awaited_with (if closed then xs else xs ++ []) (heard_octets [] x))
     go true xs = refl
     go false [] = refl
     go false (y ∷ ys) = refl
@@ -81,12 +93,15 @@ awaits_heard (o ∷ os) (Some x) = go x.closed x.octets
     none = None
 
     go : (closed : Bool) (xs : List ℕ)
-        → none ≡ (if closed then None else awaited_with (if closed then xs else xs ++ o ∷ os) (heard_octets (o ∷ os) x))
+        → none
+        ≡ (if closed then None else awaited_with (if closed then xs else xs ++ o ∷ os)
+        (heard_octets (o ∷ os) x))
     go true xs = refl
     go false [] = refl
     go false (y ∷ ys) = refl
 
-awaits_came : (p : Setup) (log : Log) (now : ℕ) (event : Input) (t : Tallied) → latest (Came now event ∷ log) ≡ now
+awaits_came : (p : Setup) (log : Log) (now : ℕ) (event : Input) (t : Tallied)
+    → latest (Came now event ∷ log) ≡ now
     → t.awaited ≡ awaited_in (exchanges_of p log).current →
     (tallied_at p now event t).awaited ≡ awaited_in (exchanges_of p (Came now event ∷ log)).current
 awaits_came p log now (LineIn octets) t at is =
@@ -94,25 +109,37 @@ awaits_came p log now (LineIn octets) t at is =
     ap (λ (a : Option Awaited). awaited_timed p.link.answer_ms now (awaited_heard octets a)) is
     ∙ ap (awaited_timed p.link.answer_ms now) (awaits_heard octets c)
     ∙ awaits_timed p.link.answer_ms now (heard_current octets c)
-    ∙ ap (λ (n : ℕ). awaited_in (timed_current p.link.answer_ms n (heard_current octets c))) (sym at)
+    ∙ ap (λ (n : ℕ). awaited_in (timed_current p.link.answer_ms n (heard_current octets c)))
+    (sym at)
 awaits_came p log now Opened t at is =
-    ap (awaited_timed p.link.answer_ms now) is ∙ awaits_timed p.link.answer_ms now (exchanges_of p log).current
-    ∙ ap (λ (n : ℕ). awaited_in (timed_current p.link.answer_ms n (exchanges_of p log).current)) (sym at)
+    ap (awaited_timed p.link.answer_ms now) is
+    ∙ awaits_timed p.link.answer_ms now (exchanges_of p log).current
+    ∙ ap (λ (n : ℕ). awaited_in (timed_current p.link.answer_ms n (exchanges_of p log).current))
+    (sym at)
 awaits_came p log now (TcpIn octets) t at is =
-    ap (awaited_timed p.link.answer_ms now) is ∙ awaits_timed p.link.answer_ms now (exchanges_of p log).current
-    ∙ ap (λ (n : ℕ). awaited_in (timed_current p.link.answer_ms n (exchanges_of p log).current)) (sym at)
+    ap (awaited_timed p.link.answer_ms now) is
+    ∙ awaits_timed p.link.answer_ms now (exchanges_of p log).current
+    ∙ ap (λ (n : ℕ). awaited_in (timed_current p.link.answer_ms n (exchanges_of p log).current))
+    (sym at)
 awaits_came p log now CutOff t at is =
-    ap (awaited_timed p.link.answer_ms now) is ∙ awaits_timed p.link.answer_ms now (exchanges_of p log).current
-    ∙ ap (λ (n : ℕ). awaited_in (timed_current p.link.answer_ms n (exchanges_of p log).current)) (sym at)
+    ap (awaited_timed p.link.answer_ms now) is
+    ∙ awaits_timed p.link.answer_ms now (exchanges_of p log).current
+    ∙ ap (λ (n : ℕ). awaited_in (timed_current p.link.answer_ms n (exchanges_of p log).current))
+    (sym at)
 awaits_came p log now Ticked t at is =
-    ap (awaited_timed p.link.answer_ms now) is ∙ awaits_timed p.link.answer_ms now (exchanges_of p log).current
-    ∙ ap (λ (n : ℕ). awaited_in (timed_current p.link.answer_ms n (exchanges_of p log).current)) (sym at)
+    ap (awaited_timed p.link.answer_ms now) is
+    ∙ awaits_timed p.link.answer_ms now (exchanges_of p log).current
+    ∙ ap (λ (n : ℕ). awaited_in (timed_current p.link.answer_ms n (exchanges_of p log).current))
+    (sym at)
 awaits_came p log now (WallIs number) t at is =
-    ap (awaited_timed p.link.answer_ms now) is ∙ awaits_timed p.link.answer_ms now (exchanges_of p log).current
-    ∙ ap (λ (n : ℕ). awaited_in (timed_current p.link.answer_ms n (exchanges_of p log).current)) (sym at)
+    ap (awaited_timed p.link.answer_ms now) is
+    ∙ awaits_timed p.link.answer_ms now (exchanges_of p log).current
+    ∙ ap (λ (n : ℕ). awaited_in (timed_current p.link.answer_ms n (exchanges_of p log).current))
+    (sym at)
 
 -- once a request has gone out
-awaits_begun : (now : ℕ) (m : Option Sending) (e : Exchanges) (a : Option Awaited) → a ≡ awaited_in e.current
+awaits_begun : (now : ℕ) (m : Option Sending) (e : Exchanges) (a : Option Awaited)
+    → a ≡ awaited_in e.current
     → awaited_asked now m a ≡ awaited_in (begun_by now m e).current
 awaits_begun now None e a is = is
 awaits_begun now (Some s) e a is = refl
@@ -121,8 +148,10 @@ awaits_begun now (Some s) e a is = refl
 
 counts_came : (plan : Plan) (log : Log) (answers : List (Option Frame)) (stations : List Secondary)
     (lived : AreLived plan log answers stations) (now : ℕ) (event : Input) (t : Tallied) →
-    t.awaited ≡ awaited_in (exchanges_of plan.setup log).current → t.each ≡ tallies_of plan log answers stations lived →
-    (tallied_at plan.setup now event t).each ≡ tallies_of plan (Came now event ∷ log) answers stations lived
+    t.awaited ≡ awaited_in (exchanges_of plan.setup log).current
+    → t.each ≡ tallies_of plan log answers stations lived →
+    (tallied_at plan.setup now event t).each ≡ tallies_of plan (Came now event ∷ log) answers
+    stations lived
 counts_came plan log answers stations lived now (LineIn octets) t is each =
     ap (λ (a : Option Awaited). each_heard plan.setup a octets t.each) is
     ∙ ap (each_heard plan.setup (awaited_in (exchanges_of plan.setup log).current) octets) each
@@ -132,9 +161,11 @@ counts_came plan log answers stations lived now CutOff t is each = each
 counts_came plan log answers stations lived now Ticked t is each = each
 counts_came plan log answers stations lived now (WallIs number) t is each = each
 
-came_with : (plan : Plan) (log : Log) (stations : List Secondary) (at : Standing) (now : ℕ) (event : Input)
+came_with : (plan : Plan) (log : Log) (stations : List Secondary) (at : Standing) (now : ℕ)
+    (event : Input)
     → event ≡ event_at plan.directives (at.call + 1) at.centre at.waiting →
-    now ≡ min (at.moment + lasting plan.answer_ms event) last_moment → at.call < turns_of plan.directives
+    now ≡ min (at.moment + lasting plan.answer_ms event) last_moment → at.call
+    < turns_of plan.directives
     → Stands plan log stations at → Stands plan (Came now event ∷ log) stations
     (standing_after plan (Came now event) at)
 came_with plan log stations at now event e f few k = record {
@@ -145,7 +176,8 @@ came_with plan log stations at now event e f few k = record {
     follows = (
       e ∙ ap (λ (n : ℕ). event_at plan.directives (n + 1) at.centre at.waiting) k.call
           ∙ ap (λ (c : Centre). event_at plan.directives (calls_in log + 1) c at.waiting) k.centre
-          ∙ ap (λ (w : Option (List ℕ)). event_at plan.directives (calls_in log + 1) (centre_of log) w) k.waiting,
+          ∙ ap (λ (w : Option (List ℕ)). event_at plan.directives (calls_in log + 1) (centre_of log)
+          w) k.waiting,
       f ∙ ap (λ (m : ℕ). min (m + lasting plan.answer_ms event) last_moment) k.moment,
       k.played.follows,
     );
@@ -158,7 +190,8 @@ came_with plan log stations at now event e f few k = record {
   counts = ap (counted_after (Came now event)) k.counts;
   latest = moment_is;
   awaited = awaits_came plan.setup log now event at.tallied moment_is k.awaited;
-  each = counts_came plan log k.answers stations k.played.lived now event at.tallied k.awaited k.each;
+  each = counts_came plan log k.answers stations k.played.lived now event at.tallied k.awaited
+      k.each;
   in_time = let le : now ≤ last_moment = omega arith in le;
   sent = sent_after event at.centre at.call k.sent;
   few = k.few;
@@ -167,23 +200,28 @@ came_with plan log stations at now event e f few k = record {
 }
   where
     moment_is : latest (Came now event ∷ log) ≡ now
-    moment_is = let before : latest log ≡ at.moment = k.latest in let within : at.moment ≤ last_moment = k.in_time in
+    moment_is = let before : latest log ≡ at.moment = k.latest in let within : at.moment
+        ≤ last_moment = k.in_time in
         omega arith
 
 -- the next event
-pub stands_came : (plan : Plan) (log : Log) (stations : List Secondary) (at : Standing) (entry : LogEntry)
+pub stands_came : (plan : Plan) (log : Log) (stations : List Secondary) (at : Standing)
+    (entry : LogEntry)
     → entry ≡ coming plan at → at.call < turns_of plan.directives → Stands plan log stations at →
     Stands plan (entry ∷ log) stations (standing_after plan entry at)
 stands_came plan log stations at entry e few k =
     let event : Input = event_at plan.directives (at.call + 1) at.centre at.waiting in
     subst (λ (x : LogEntry). Stands plan (x ∷ log) stations (standing_after plan x at)) (sym e)
-    (came_with plan log stations at (min (at.moment + lasting plan.answer_ms event) last_moment) event refl refl few k)
+    (came_with plan log stations at (min (at.moment + lasting plan.answer_ms event) last_moment)
+    event refl refl few k)
 
 -- a request
-pub stands_asked : (plan : Plan) (log : Log) (stations new : List Secondary) (at : Standing) (now : ℕ)
+pub stands_asked : (plan : Plan) (log : Log) (stations new : List Secondary) (at : Standing)
+    (now : ℕ)
     (octets : List ℕ) (answer : Option Frame) →
     IsPutOut (fate_of plan.directives (at.requests + 1)) octets stations answer new
-    → AllByRecursion (λ s. s.size ≡ plan.size) new → IfSome answer (Fits plan.size) → at.requests + 1 < 2 ^ 64
+    → AllByRecursion (λ s. s.size ≡ plan.size) new → IfSome answer (Fits plan.size)
+    → at.requests + 1 < 2 ^ 64
     → Stands plan log stations at →
     Stands plan (Went now (LineOut octets) ∷ log) new
     (record {
@@ -216,7 +254,8 @@ stands_asked plan log stations new at now octets answer out sizes fits small k =
   requests = ap (λ (n : ℕ). n + 1) k.requests;
   counts = k.counts;
   latest = k.latest;
-  awaited = awaits_begun now (sending_in plan.setup octets) (exchanges_of plan.setup log) at.tallied.awaited k.awaited;
+  awaited = awaits_begun now (sending_in plan.setup octets) (exchanges_of plan.setup log)
+      at.tallied.awaited k.awaited;
   each = ap (λ (ts : List Tally). each_asked (sending_in plan.setup octets) stations ts) k.each;
   in_time = k.in_time;
   sent = k.sent;
@@ -233,7 +272,8 @@ sent_same octets c = go (is_data octets) refl
     go false e = rw e refl
 
 -- an APDU
-pub stands_handed : (plan : Plan) (log : Log) (stations : List Secondary) (at : Standing) (now : ℕ) (octets : List ℕ)
+pub stands_handed : (plan : Plan) (log : Log) (stations : List Secondary) (at : Standing) (now : ℕ)
+    (octets : List ℕ)
     → Stands plan log stations at →
     Stands plan (Went now (TcpOut octets) ∷ log) stations (record at {
       centre = after_receiving octets at.centre;
@@ -259,7 +299,8 @@ stands_handed plan log stations at now octets k = record {
 }
 
 -- a close
-pub stands_closed : (plan : Plan) (log : Log) (stations : List Secondary) (at : Standing) (now : ℕ) (cause : Close)
+pub stands_closed : (plan : Plan) (log : Log) (stations : List Secondary) (at : Standing) (now : ℕ)
+    (cause : Close)
     → Stands plan log stations at →
     Stands plan (Went now (Closed cause) ∷ log) stations (record at { centre = shut })
 stands_closed plan log stations at now cause k = record {
@@ -282,7 +323,8 @@ stands_closed plan log stations at now cause k = record {
 }
 
 -- a gap
-pub stands_told : (plan : Plan) (log : Log) (stations : List Secondary) (at : Standing) (now station session : ℕ)
+pub stands_told : (plan : Plan) (log : Log) (stations : List Secondary) (at : Standing)
+    (now station session : ℕ)
     → Stands plan log stations at →
     Stands plan (Went now (GapOut station session) ∷ log) stations at
 stands_told plan log stations at now station session k = record {
@@ -344,5 +386,6 @@ stands_fresh plan stations centre c e sizes =
       sent = omega arith;
       few = omega arith;
       in_turns = omega arith;
-      sizes = subst (λ (ss : List Secondary). AllByRecursion (λ s. s.size ≡ plan.size) ss) (sym e) sizes;
+      sizes = subst (λ (ss : List Secondary). AllByRecursion (λ s. s.size ≡ plan.size) ss) (sym e)
+          sizes;
     })

@@ -1,7 +1,9 @@
 -- What each call of a simulated line's port gives.
-use Rattle.std.specs.Prelude.{◌≡◌, ℕ, ◌+◌, ◌-◌, min, nat_le, ◌&&◌, not, if◌then◌else◌, List, [], ◌∷◌, Option, Some, None}
+use Rattle.std.specs.Prelude.{◌≡◌, ℕ, ◌+◌, ◌-◌, min, nat_le, ◌&&◌, not, if◌then◌else◌, List, []}
+use Rattle.std.specs.Prelude.{◌∷◌, Option, Some, None}
 use Rattle.ft12.specs.declared.frame.Frame.{Frame}
-use Rattle.gateway.specs.Log.{Log, Came, Went, Input, LineIn, Opened, TcpIn, CutOff, Ticked, WallIs, LineOut, last_moment}
+use Rattle.gateway.specs.Log.{Log, Came, Went, Input, LineIn, Opened, TcpIn, CutOff, Ticked, WallIs}
+use Rattle.gateway.specs.Log.{LineOut, last_moment}
 use Rattle.sim.specs.declared.centre.Centre.{Centre}
 use Rattle.sim.specs.declared.directive.Directive.{Directive}
 use Rattle.sim.specs.Centres.{centre_of, start_apdu, acknowledging_apdu, data_apdu}

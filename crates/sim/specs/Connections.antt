@@ -1,7 +1,8 @@
 -- What a simulated line counts of each connection, entry by entry of the log (this gateway's own
 -- profile). That the counts are those of the connections' frames is the promise of
 -- `connections_are_counted`.
-use Rattle.std.specs.Prelude.{ℕ, ◌+◌, ◌-◌, ◌^◌, min, if◌then◌else◌, List, [], ◌∷◌, ◌++◌, drop, length}
+use Rattle.std.specs.Prelude.{ℕ, ◌+◌, ◌-◌, ◌^◌, min, if◌then◌else◌, List, [], ◌∷◌, ◌++◌, drop}
+use Rattle.std.specs.Prelude.{length}
 use Rattle.gateway.specs.Log.{Log, LogEntry, Came, Went, Opened, TcpOut}
 use Rattle.gateway.specs.Objects.{objects}
 use Rattle.sim.specs.Centres.{is_data}

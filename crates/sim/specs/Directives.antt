@@ -1,6 +1,7 @@
 -- What one line of a script says (texts of this gateway's own profile). Its fields are separated by
 -- one space.
-use Rattle.std.specs.Prelude.{ℕ, ◌-◌, ◌==◌, nat_le, ◌&&◌, if◌then◌else◌, List, [], ◌∷◌, codes, length, Option, Some, None, ◌≤◌, ◌<◌}
+use Rattle.std.specs.Prelude.{ℕ, ◌-◌, ◌==◌, nat_le, ◌&&◌, if◌then◌else◌, List, [], ◌∷◌, codes}
+use Rattle.std.specs.Prelude.{length, Option, Some, None, ◌≤◌, ◌<◌}
 use Rattle.std.specs.List.{slice_split}
 use Rattle.std.specs.Str.{bytes_eq}
 use Rattle.ft12.specs.declared.frame.LinkSize.{LinkSize}
@@ -10,7 +11,9 @@ use Rattle.traces.specs.Fields.{decimal_of, octets_of}
 use Rattle.sim.specs.declared.directive.Class.{Class}
 use Rattle.sim.specs.declared.directive.Class.TheVariants.{One, Two}
 use Rattle.sim.specs.declared.directive.Directive.{Directive}
-use Rattle.sim.specs.declared.directive.Directive.TheVariants.{Turns, Ack, Wall, Report, LoseRequest, LoseAnswer, SpoilAnswer, Cut, Send}
+use Rattle.sim.specs.declared.directive.Directive.TheVariants.{Turns, Ack, Wall, Report}
+use Rattle.sim.specs.declared.directive.Directive.TheVariants.{LoseRequest, LoseAnswer, SpoilAnswer}
+use Rattle.sim.specs.declared.directive.Directive.TheVariants.{Cut, Send}
 
 -- a number of 1 to 9 decimal digits
 abbrev pub number_of : List ℕ → Option ℕ

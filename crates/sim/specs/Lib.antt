@@ -2,6 +2,7 @@ pub mod Directives
 pub mod Scripts
 pub mod Centres
 pub mod Losses
+pub mod Numbered
 pub mod Lives
 pub mod Tallies
 pub mod Connections

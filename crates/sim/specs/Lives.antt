@@ -15,7 +15,8 @@ use Rattle.gateway.specs.Log.{Log, Came, Went, LineIn, LineOut}
 use Rattle.sim.specs.declared.directive.Class.TheVariants.{One, Two}
 use Rattle.sim.specs.declared.directive.Directive.{Directive}
 use Rattle.sim.specs.declared.directive.Fate.{Fate}
-use Rattle.sim.specs.declared.directive.Fate.TheVariants.{Unheard, AnswerLost, AnswerSpoilt, Answered}
+use Rattle.sim.specs.declared.directive.Fate.TheVariants.{Unheard, AnswerLost, AnswerSpoilt}
+use Rattle.sim.specs.declared.directive.Fate.TheVariants.{Answered}
 use Rattle.sim.specs.Losses.{fate_of, report_said}
 
 -- what is fixed in a run: what the gateway is set to, the size of link addresses, how long an

@@ -1,10 +1,12 @@
 -- What each station of a simulated line did in a run, and what was taken from it.
-use Rattle.std.specs.Prelude.{◌≡◌, ◌≤◌, ℕ, ◌+◌, ◌==◌, Bool, true, false, if◌then◌else◌, List, [], ◌∷◌, ◌++◌, count_by, length, Option, Some, None}
+use Rattle.std.specs.Prelude.{◌≡◌, ◌≤◌, ℕ, ◌+◌, ◌==◌, Bool, true, false, if◌then◌else◌, List, []}
+use Rattle.std.specs.Prelude.{◌∷◌, ◌++◌, count_by, length, Option, Some, None}
 use Rattle.std.specs.List.{flat_map, AllByRecursion}
 use Rattle.link.specs.declared.service.Asked.{Asked}
 use Rattle.link.specs.Exchanges.{Sending}
 use Rattle.link.specs.Outstation.{Turn, silent, all_done}
-use Rattle.link.specs.Delivery.{requests_of, reports, commands, learnt, sessions, HasReports, AcceptsSendings}
+use Rattle.link.specs.Delivery.{requests_of, reports, commands, learnt, sessions, HasReports}
+use Rattle.link.specs.Delivery.{AcceptsSendings}
 use Rattle.link.specs.Life.{given1, given2, saturated}
 use Rattle.link.specs.Secondary.{Secondary, fresh_station, served}
 use Rattle.gateway.specs.declared.settings.Silence.TheVariants.{Hold}
@@ -18,7 +20,8 @@ use Rattle.sim.specs.declared.tally.Tally.{Tally}
 use Rattle.sim.specs.declared.directive.Class.TheVariants.{One, Two}
 use Rattle.sim.specs.declared.directive.Directive.{Directive}
 use Rattle.sim.specs.declared.directive.Fate.{Fate}
-use Rattle.sim.specs.declared.directive.Fate.TheVariants.{Unheard, AnswerLost, AnswerSpoilt, Answered}
+use Rattle.sim.specs.declared.directive.Fate.TheVariants.{Unheard, AnswerLost, AnswerSpoilt}
+use Rattle.sim.specs.declared.directive.Fate.TheVariants.{Answered}
 use Rattle.sim.specs.Losses.{fate_of, report_said}
 use Rattle.sim.specs.Lives.{requests_in}
 use Rattle.sim.specs.Texts.{reports_for}

@@ -2,7 +2,8 @@
 -- gateway's own profile). That the counts are those of the log's exchanges, and of what the
 -- stations did, is the promise of `stations_are_honest`.
 use Rattle.std.specs.Prelude.{ℕ, ◌+◌, ◌-◌, ◌==◌, nat_le, ◌&&◌, not, false, if◌then◌else◌}
-use Rattle.std.specs.Prelude.{List, [], ◌∷◌, length, map, replicate, slice_index_or, slice_index, slice_set, Option, Some, None, option_and_then}
+use Rattle.std.specs.Prelude.{List, [], ◌∷◌, length, map, replicate, slice_index_or, slice_index}
+use Rattle.std.specs.Prelude.{slice_set, Option, Some, None, option_and_then}
 use Rattle.ft12.specs.declared.frame.Frame.{Frame}
 use Rattle.ft12.specs.Fronts.{front_of}
 use Rattle.link.specs.declared.service.Service.{Service}

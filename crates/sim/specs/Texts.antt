@@ -1,6 +1,7 @@
 -- The closing lines of a run (texts of this gateway's own profile): what stands behind the lines of
 -- its actions.
-use Rattle.std.specs.Prelude.{ℕ, ◌+◌, ◌==◌, nat_lt, Bool, false, if◌then◌else◌, List, [], ◌∷◌, ◌++◌, codes, count_by, length}
+use Rattle.std.specs.Prelude.{ℕ, ◌+◌, ◌==◌, nat_lt, Bool, false, if◌then◌else◌, List, [], ◌∷◌, ◌++◌}
+use Rattle.std.specs.Prelude.{codes, count_by, length}
 use Rattle.std.specs.Fmt.{decimal}
 use Rattle.link.specs.Secondary.{Secondary}
 use Rattle.sim.specs.declared.directive.Directive.{Directive}

@@ -52,13 +52,9 @@ fn report_all(
     Ok(())
 }
 
-#[tactic(auto, using(crate::proofs::BeginningLemmas::begun_more, crate::proofs::BeginningLemmas::begun_end, crate::proofs::BeginningLemmas::address_at))]
 /// The stations of these settings, with the reports that the script gives them.
-pub(crate) fn begin(
-    alloc: Global,
-    config: &Config,
-    script: &Script,
-) -> Result<Vec<Station>, NoMemory>
+#[tactic(auto, using(crate::proofs::BeginningLemmas::begun_more, crate::proofs::BeginningLemmas::begun_end, crate::proofs::BeginningLemmas::address_at))]
+pub fn begin(alloc: Global, config: &Config, script: &Script) -> Result<Vec<Station>, NoMemory>
     requires { FitsSettings config.now script.now }
     ensures { IfOk result (λ v. v.items
         ≡ begun_from config.now.line.link 0 script.now config.now.stations) }

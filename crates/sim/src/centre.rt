@@ -2,7 +2,8 @@
 ghost use Rattle.std.specs.Prelude.{◌≡◌, ◌+◌, ◌<◌, ◌≤◌, ◌^◌, length, IfSome};
 ghost use Rattle.apci.specs.Spelling.{spelling};
 ghost use Rattle.gateway.specs.Entries.{event_of};
-ghost use Rattle.sim.specs.Centres.{shut, opened, first_control, is_data, after_sending, after_receiving, start_apdu, acknowledging_apdu, data_apdu};
+ghost use Rattle.sim.specs.Centres.{shut, opened, first_control, is_data, after_sending};
+ghost use Rattle.sim.specs.Centres.{after_receiving, start_apdu, acknowledging_apdu, data_apdu};
 
 use apci::{Apdu, Uf, encode};
 use arrayvec::ArrayVec;

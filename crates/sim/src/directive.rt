@@ -2,9 +2,8 @@
 ghost use Rattle.std.specs.Prelude.{◌≡◌, ◌≤◌, IfSome, length};
 ghost use Rattle.std.specs.Option.{option_copied};
 ghost use Rattle.sim.specs.Directives.{IsWithinRanges};
-ghost use Rattle.sim.specs.Scripts.{clashes, is_turns};
 ghost use Rattle.sim.specs.Texts.{reports_for};
-ghost use Rattle.sim.specs.Losses.{turns_said, ack_said, wall_said, spoil_said, send_said, loses_request, loses_answer, cuts};
+ghost use Rattle.sim.specs.Losses.{turns_said, ack_said, wall_said, send_said};
 
 use link::Asdu;
 
@@ -57,35 +56,6 @@ pub enum Directive {
 }
 
 impl Directive {
-    /// Whether it says how many calls there are.
-    pub(crate) fn is_turns(&self) -> bool
-        ensures { result ≡ is_turns self.now }
-    {
-        matches!(self, Directive::Turns(_))
-    }
-
-    /// Whether the two can't stand in one script.
-    pub(crate) fn clashes(&self, other: &Directive) -> bool
-        ensures { result ≡ clashes self.now other.now }
-    {
-        match self {
-            Directive::Turns(_) => matches!(other, Directive::Turns(_)),
-            Directive::Ack(_) => matches!(other, Directive::Ack(_)),
-            Directive::Wall(_) => matches!(other, Directive::Wall(_)),
-            Directive::SpoilAnswer(n, _) => match other {
-                Directive::SpoilAnswer(m, _) => n == m,
-                _ => false,
-            },
-            Directive::Send(n, _) => match other {
-                Directive::Send(m, _) => n == m,
-                _ => false,
-            },
-            _ => false,
-        }
-    }
-}
-
-impl Directive {
     /// How many calls there are, if it says so.
     pub(crate) fn turns(&self) -> Option<u64>
         ensures { result ≡ turns_said self.now }
@@ -115,16 +85,6 @@ impl Directive {
         }
     }
 
-    /// The place at which it has the answer to this request spoilt.
-    pub(crate) fn spoils(&self, request: u64) -> Option<u64>
-        ensures { result ≡ spoil_said request self.now }
-    {
-        match self {
-            Directive::SpoilAnswer(n, place) if *n == request => Some(*place),
-            _ => None,
-        }
-    }
-
     /// The ASDU that it has sent at this call.
     pub(crate) fn sends(&self, call: u64) -> Option<&Asdu>
         ensures said { option_copied result ≡ send_said call self.now }
@@ -137,39 +97,12 @@ impl Directive {
         }
     }
 
-    pub(crate) fn loses_request(&self, request: u64) -> bool
-        ensures { result ≡ loses_request request self.now }
-    {
-        match self {
-            Directive::LoseRequest(n) => *n == request,
-            _ => false,
-        }
-    }
-
-    pub(crate) fn loses_answer(&self, request: u64) -> bool
-        ensures { result ≡ loses_answer request self.now }
-    {
-        match self {
-            Directive::LoseAnswer(n) => *n == request,
-            _ => false,
-        }
-    }
-
     /// Whether it gives the station with this index a report.
     pub(crate) fn reports_for(&self, station: usize) -> bool
         ensures { result ≡ reports_for station self.now }
     {
         match self {
             Directive::Report(i, _, _) => *i == station,
-            _ => false,
-        }
-    }
-
-    pub(crate) fn cuts(&self, call: u64) -> bool
-        ensures { result ≡ cuts call self.now }
-    {
-        match self {
-            Directive::Cut(n) => *n == call,
             _ => false,
         }
     }

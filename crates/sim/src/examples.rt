@@ -1,24 +1,33 @@
 //! Scripts, calls and closing lines by worked examples: literal texts and octets.
-ghost use Rattle.std.specs.Prelude.{◌≡◌, ◌++◌, ◌∷◌, [], ℕ, List, codes, replicate, true, false, Option, Some, None};
+ghost use Rattle.std.specs.Prelude.{◌≡◌, ◌++◌, ◌∷◌, [], ℕ, List, codes, replicate, true, false};
+ghost use Rattle.std.specs.Prelude.{Option, Some, None};
 ghost use Rattle.ft12.specs.declared.frame.Frame.{Frame};
 ghost use Rattle.ft12.specs.declared.frame.Frame.TheVariants.{Single, Fixed};
 ghost use Rattle.ft12.specs.declared.frame.LinkSize.TheVariants.{One, Two};
-ghost use Rattle.gateway.specs.Log.{Input, LineIn, Opened, TcpIn, CutOff, Ticked, WallIs, LineOut, TcpOut, Closed, GapOut, Came, Went};
+ghost use Rattle.gateway.specs.Log.{Input, LineIn, Opened, TcpIn, CutOff, Ticked, WallIs, LineOut};
+ghost use Rattle.gateway.specs.Log.{TcpOut, Closed, GapOut, Came, Went};
 ghost use Rattle.link.specs.Secondary.{Secondary};
 ghost use Rattle.session.specs.declared.kinds.Close.TheVariants.{Grammar};
 ghost use Rattle.sim.specs.declared.directive.Class.TheVariants as class;
-ghost use Rattle.sim.specs.declared.directive.Directive.TheVariants.{Turns, Ack, Wall, Report, LoseRequest, LoseAnswer, SpoilAnswer, Cut, Send};
-ghost use Rattle.sim.specs.declared.directive.Fate.TheVariants.{Unheard, AnswerLost, AnswerSpoilt, Answered};
+ghost use Rattle.sim.specs.declared.directive.Directive.TheVariants.{Turns, Ack, Wall, Report};
+ghost use Rattle.sim.specs.declared.directive.Directive.TheVariants.{LoseRequest, LoseAnswer};
+ghost use Rattle.sim.specs.declared.directive.Directive.TheVariants.{SpoilAnswer, Cut, Send};
+ghost use Rattle.sim.specs.declared.directive.Fate.TheVariants.{Unheard, AnswerLost, AnswerSpoilt};
+ghost use Rattle.sim.specs.declared.directive.Fate.TheVariants.{Answered};
 ghost use Rattle.sim.specs.Calls.{calls_in, moment_of, event_at, lasting, next_moment};
 ghost use Rattle.sim.specs.Centres.{shut, opened, centre_of, data_apdu};
 ghost use Rattle.sim.specs.Connections.{add_latest, counted_in};
 ghost use Rattle.sim.specs.Directives.{of_three, of_four, reporting_by, sending_by};
-ghost use Rattle.sim.specs.Examples.{started, busy, command, with_script, says, line, wrong_line, unreset, was_reset, two_stations, with_two_stations, reset_of_1, reset_of_2, spoilt_reset, Leaves};
+ghost use Rattle.sim.specs.Examples.{started, busy, command, with_script, says, line, wrong_line};
+ghost use Rattle.sim.specs.Examples.{unreset, was_reset, two_stations, with_two_stations};
+ghost use Rattle.sim.specs.Examples.{reset_of_1, reset_of_2, spoilt_reset, Leaves};
 ghost use Rattle.sim.specs.Lives.{Plan, AreLived, arriving, later, requests_in, waiting_in};
-ghost use Rattle.sim.specs.Losses.{turns_of, ack_of, wall_at, is_cut_at, sent_at, fate_of, report_said};
+ghost use Rattle.sim.specs.Losses.{turns_of, ack_of, wall_at, is_cut_at, sent_at, fate_of};
+ghost use Rattle.sim.specs.Losses.{report_said};
 ghost use Rattle.sim.specs.Scripts.{clashes, lines_of};
 ghost use Rattle.traces.specs.Fields.{octets_of};
-ghost use Rattle.sim.specs.Texts.{station_line, connection_line, connection_lines, line_of_sessions};
+ghost use Rattle.sim.specs.Texts.{station_line, connection_line, connection_lines};
+ghost use Rattle.sim.specs.Texts.{line_of_sessions};
 
 use ft12::{spellings_cancel, spoilt_lines_are_no_lines};
 

@@ -38,7 +38,7 @@ fn hear_all(stations: &mut [Station], octets: &[u8]) -> Option<Frame>
 }
 
 /// Puts a request out to the stations, of which each hears it where it isn't lost.
-pub(crate) fn put_out(stations: &mut [Station], fate: Fate, octets: &[u8]) -> Option<Frame>
+pub fn put_out(stations: &mut [Station], fate: Fate, octets: &[u8]) -> Option<Frame>
     ensures out { IsPutOut fate octets.now stations.old result stations.new }
     ensures fits { (size : LinkSize) → AllByRecursion (λ s. s.size ≡ size) stations.old
         → IfSome result (Fits size) }
@@ -59,11 +59,7 @@ fn spoil(octets: &mut ArrayVec<u8, 261>, place: usize)
 }
 
 /// What of an answer comes to wait.
-pub(crate) fn arriving(
-    size: LinkSize,
-    fate: Fate,
-    answer: Option<Frame>,
-) -> Option<ArrayVec<u8, 261>>
+pub fn arriving(size: LinkSize, fate: Fate, answer: Option<Frame>) -> Option<ArrayVec<u8, 261>>
     requires { IfSome answer (Fits size) }
     ensures { option_map (λ v. v.items) result ≡ arriving size fate answer }
 {

@@ -47,6 +47,7 @@ mod fault;
 mod hearing;
 mod laws;
 mod line;
+mod numbered;
 mod paged;
 mod printout;
 mod reading;
@@ -57,13 +58,16 @@ mod tallies;
 mod tally;
 mod text;
 
+pub use beginning::begin;
 pub use directive::{Class, Directive, Fate};
 pub use examples::{
     calls_by_example, closing_lines_by_example, hearings_by_example, losses_by_example,
     scripts_by_example,
 };
 pub use fault::SimFault;
+pub use hearing::{arriving, put_out};
 pub use laws::{connections_are_counted, stations_are_honest};
+pub use line::read_line;
 pub use reading::read_script;
 pub use script::Script;
 pub use sim::Sim;

@@ -2,7 +2,10 @@
 ghost use Rattle.std.specs.Prelude.{◌≡◌, ℕ, ◌<◌, ◌≤◌, IfOk, IfSome, length, option_map};
 ghost use Rattle.ft12.specs.declared.frame.LinkSize.{LinkSize};
 ghost use Rattle.traces.specs.Fields.{decimal_of};
-ghost use Rattle.sim.specs.Directives.{number_of, counted, counted_by, walled_by, of_two, losing_by, sending_by, spoiling_by, longest_report, class_of, classed, reporting_by, of_three, of_four, directive_in, FitsStations, IsWithinRanges};
+ghost use Rattle.sim.specs.Directives.{number_of, counted, counted_by, walled_by, of_two};
+ghost use Rattle.sim.specs.Directives.{losing_by, sending_by, spoiling_by, longest_report};
+ghost use Rattle.sim.specs.Directives.{class_of, classed, reporting_by, of_three, of_four};
+ghost use Rattle.sim.specs.Directives.{directive_in, FitsStations, IsWithinRanges};
 
 use crate::directive::{Class, Directive};
 use ft12::LinkSize;
@@ -28,7 +31,7 @@ fn number(digits: &[u8]) -> Option<u64>
 
 /// What a line says, where there are so many stations and link addresses have this size. `None`
 /// where it says nothing.
-pub(crate) fn read_line(
+pub fn read_line(
     alloc: Global,
     size: LinkSize,
     stations: usize,

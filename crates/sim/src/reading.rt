@@ -1,11 +1,11 @@
 //! Reading of scripts.
 ghost use Rattle.std.specs.Prelude.{◌≡◌, IfOk, MatchResult, map};
-ghost use Rattle.std.specs.List.{AllByRecursion, list_any};
+ghost use Rattle.std.specs.List.{AllByRecursion};
 ghost use Rattle.sim.specs.Directives.{FitsStations};
-ghost use Rattle.sim.specs.Scripts.{IsScriptOf, AreSaidBy, IsFaultOf, FitsSettings, clashes_with, is_turns, lines_of};
+ghost use Rattle.sim.specs.Scripts.{IsScriptOf, AreSaidBy, IsFaultOf, FitsSettings, lines_of};
 
-use crate::directive::Directive;
 use crate::line::read_line;
+use crate::numbered::Numbered;
 use crate::script::Script;
 use ft12::LinkSize;
 use gateway::Config;
@@ -32,19 +32,6 @@ fn lines(alloc: Global, text: &[u8]) -> Result<Vec<&[u8]>, AllocError>
     Ok(lines)
 }
 
-/// Whether one of them clashes with this one.
-fn clash(before: &[Directive], directive: &Directive) -> bool
-    ensures { result ≡ clashes_with before.now directive.now }
-{
-    before.iter().any(|other| other.clashes(directive))
-}
-
-fn has_turns(directives: &[Directive]) -> bool
-    ensures { result ≡ list_any is_turns directives.now }
-{
-    directives.iter().any(|directive| directive.is_turns())
-}
-
 /// Reads lines, counted from 1, where there are so many stations and link addresses have this size.
 #[tactic(auto, using(crate::proofs::ScriptLemmas::read_skip, crate::proofs::ScriptLemmas::wrong_here, crate::proofs::ScriptLemmas::clash_here, crate::proofs::ScriptLemmas::said_end, crate::proofs::ScriptLemmas::wrong_end, crate::proofs::ScriptLemmas::no_turns_end))]
 fn read_lines(
@@ -58,17 +45,19 @@ fn read_lines(
         (IsFaultOf size stations (map (λ line. line.now) lines.now)) }
     ensures fits { IfOk result (AllByRecursion (FitsStations size stations)) }
 {
-    let mut directives = Vec::new(alloc);
+    let mut directives = Numbered::new(alloc);
     for (i, line) in lines.iter().enumerate() {
         if is_skipped(*line) {
             continue;
         }
         match read_line(alloc, size, stations, *line)? {
-            Some(directive) if !clash(&directives, &directive) => directives.push(directive)?,
+            Some(directive) if !directives.clash(&directive) => {
+                directives = directives.push(directive)?;
+            }
             _ => return Err(TextFault::Line(i as u64 + 1)),
         }
     }
-    if has_turns(&directives) {
+    if directives.has_turns() {
         Ok(Script::new(directives))
     } else {
         Err(TextFault::Line(lines.len() as u64 + 1))

@@ -1,7 +1,8 @@
 //! What is counted of the sessions of one station's link.
 ghost use Rattle.std.specs.Prelude.{◌≡◌};
 ghost use Rattle.link.specs.Turns.{is_poll};
-ghost use Rattle.sim.specs.Tallies.{fresh_tally, tally_asked, tally_reset, tally_served, tally_answered};
+ghost use Rattle.sim.specs.Tallies.{fresh_tally, tally_asked, tally_reset, tally_served};
+ghost use Rattle.sim.specs.Tallies.{tally_answered};
 
 use link::{Answer, Asked, HeardRequest, Service};
 

@@ -1,6 +1,7 @@
 //! The closing lines of a run.
 ghost use Rattle.std.specs.Prelude.{◌≡◌, ◌+◌, ◌++◌, ◌<◌, ◌^◌, IfOk, OnOk, string_bytes, count_by};
-ghost use Rattle.sim.specs.Texts.{reports_for, line_of_station, station_lines, connection_line, connection_lines};
+ghost use Rattle.sim.specs.Texts.{reports_for, line_of_station, station_lines, connection_line};
+ghost use Rattle.sim.specs.Texts.{connection_lines};
 ghost use Rattle.sim.specs.Texts.{line_of_sessions, session_lines, closing_lines};
 
 use crate::directive::Directive;

@@ -1,16 +1,57 @@
 -- A gateway that goes on with what a log has.
-use Rattle.std.proofs.Common.{◌≡◌, ℕ, List, Option, sym, subst}
+use Rattle.std.proofs.Common.{◌≡◌, ℕ, Bool, true, false, List, drop, Option, refl, sym, subst}
+use Rattle.std.specs.Prelude.{not, ◌&&◌}
 use Rattle.gateway.specs.Config.{Settings}
 use Rattle.gateway.specs.Log.{Log}
 use Rattle.gateway.specs.State.{State}
-use Rattle.state.specs.Beginnings.{IsRead, WentOn, given_up}
+use Rattle.segments.specs.Starts.{before_zero}
+use Rattle.state.specs.Beginnings.{GoesOnBy, GoesOnFrom, HasNoCommand, IsHeadOf, IsMoved, IsRead}
+use Rattle.state.specs.Beginnings.{MovedOn, WentOn, given_up}
 use Rattle.state.specs.Replays.{ToldGap}
 
-pub went_on : (c : Settings) (log : Log) (lines : List (List ℕ)) (events : List ℕ) (gap other : Option ToldGap)
-    (before s : State) → IsRead c log lines events gap before → other ≡ gap → s ≡ given_up before
-    → WentOn c log lines events other s
-went_on c log lines events gap other before s read same given = record {
-  before = before;
-  read = subst (λ (g : Option ToldGap). IsRead c log lines events g before) (sym same) read;
+pub went_on : (c : Settings) (log : Log) (lines : List (List ℕ)) (events : List ℕ)
+    (gap other : Option ToldGap)
+    (whole others : Log) (left s : State) → IsRead c log lines events gap whole left → other ≡ gap
+    → others ≡ whole
+    → s ≡ given_up left → (HasNoCommand left → s ≡ left) → WentOn c log lines events other others s
+went_on c log lines events gap other whole others left s read same alike given unless = record {
+  left = left;
+  read = subst (λ (l : Log). IsRead c log lines events other l left) (sym alike)
+      (subst (λ (g : Option ToldGap). IsRead c log lines events g whole left) (sym same) read);
   given = given;
+  unless = unless;
 }
+
+moved_by : (is_same : Bool) (written text : List ℕ) → (is_same ≡ true → written ≡ text)
+    → (is_same ≡ false → written ≡ text → ⊥) → IsMoved written text (not is_same)
+moved_by true written text same others = same refl
+moved_by false written text same others = others refl
+
+by_moved : (trusted is_same : Bool) → (trusted ≡ true → is_same ≡ false)
+    → (trusted && not (not is_same)) ≡ false
+by_moved false is_same other = refl
+by_moved true false other = refl
+by_moved true true other = other refl
+
+-- it was moved
+pub moved_from : (trusted is_same is_moved : Bool) (c : Settings) (text : List ℕ) (log : Log)
+    (file : List ℕ) (begins : ℕ)
+    (written : List ℕ) (lines : List (List ℕ)) (gap : Option ToldGap) (whole : Log) (s : State)
+    → IsHeadOf file begins written lines → (is_same ≡ true → written ≡ text)
+    → (is_same ≡ false → written ≡ text → ⊥)
+    → (trusted ≡ true → is_same ≡ false) → is_moved ≡ not is_same
+    → MovedOn trusted c written log lines (before_zero (drop begins file)) gap whole s
+    → GoesOnFrom trusted c text log file is_moved gap whole s
+moved_from trusted is_same is_moved c text log file begins written lines gap whole s head same
+    others other is moved =
+    subst (λ (m : Bool). GoesOnFrom trusted c text log file m gap whole s) (sym is) (record {
+      begins = begins;
+      written = written;
+      lines = lines;
+      head = head;
+      moved = moved_by is_same written text same others;
+      goes =
+          subst (λ (b : Bool). GoesOnBy b trusted c written log lines
+          (before_zero (drop begins file)) gap whole s)
+          (sym (by_moved trusted is_same other)) moved;
+    })

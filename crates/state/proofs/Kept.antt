@@ -1,5 +1,6 @@
 -- What keeping an event does to the history.
-use Rattle.std.proofs.Common.{◌≡◌, ◌∙◌, ℕ, ◌+◌, ◌<◌, ◌≤◌, ◌^◌, Bool, true, false, [], ◌∷◌, ◌++◌, map, Some, None, ap, sym, subst, refl, inl, inr, arith, if◌then◌else◌}
+use Rattle.std.proofs.Common.{◌≡◌, ◌∙◌, ℕ, ◌+◌, ◌<◌, ◌≤◌, ◌^◌, Bool, true, false, [], ◌∷◌, ◌++◌}
+use Rattle.std.proofs.Common.{map, Some, None, ap, sym, subst, refl, inl, inr, arith, if◌then◌else◌}
 use Rattle.gateway.specs.Log.{Log}
 use Rattle.gateway.specs.Log.{LogEntry}
 use Rattle.gateway.specs.Ports.{faults_of}
@@ -13,7 +14,8 @@ use Rattle.state.specs.declared.standing.Standing.TheVariants.{Synced, Waiting, 
 use Rattle.state.specs.declared.loss.Loss.TheVariants.{Marked, Unmarked}
 
 -- where an event waits, it is there
-pub some_waits : (deeds : Deeds) (moment : ℕ) → since_of (waiting deeds) ≡ Some moment → waiting deeds ≡ [] → ⊥
+pub some_waits : (deeds : Deeds) (moment : ℕ) → since_of (waiting deeds) ≡ Some moment
+    → waiting deeds ≡ [] → ⊥
 some_waits deeds moment since none =
     let both : None ≡ Some moment = sym (ap since_of none) ∙ since in absurd (cc)
 
@@ -23,7 +25,8 @@ in_time : (news : Log) (deeds : Deeds) → IsInTime deeds → IsInTime (map Hear
 in_time [] deeds time = time
 in_time (event ∷ news) deeds time = in_time news deeds time
 
-pub heard_right : (bears : Bool) (news : Log) (old new : Deeds) → new ≡ map Heard news ++ old → IsInTime old
+pub heard_right : (bears : Bool) (news : Log) (old new : Deeds) → new ≡ map Heard news ++ old
+    → IsInTime old
     → AreRight bears old → AreRight bears new
 heard_right bears news old new is time right = subst (AreRight bears) (sym is) (all news)
   where
@@ -32,7 +35,8 @@ heard_right bears news old new is time right = subst (AreRight bears) (sym is) (
     all (event ∷ news) = (in_time news old time, all news)
 
 -- it stood so before they were heard
-pub heard_stands : (s : Standing) (news : Log) (old new : Deeds) → IsStanding s old → new ≡ map Heard news ++ old
+pub heard_stands : (s : Standing) (news : Log) (old new : Deeds) → IsStanding s old
+    → new ≡ map Heard news ++ old
     → HasHeard s news new
 heard_stands s news old new stands is = record { earlier = old; stood = stands; heard = is }
 
@@ -56,7 +60,8 @@ pub few_stops : (first last stops : ℕ) → last ≡ first → first + stops < 
     → last + (stops + 1) < 2 ^ 64
 few_stops first last stops same few = omega arith
 
-pub few_put : (gone : Bool) (first next last stops : ℕ) → next ≡ first → last ≡ next + (if gone then 0 else 1)
+pub few_put : (gone : Bool) (first next last stops : ℕ) → next ≡ first
+    → last ≡ next + (if gone then 0 else 1)
     → first + stops < 18446744073709551615 → last + stops < 2 ^ 64
 few_put true first next last stops same more few = omega arith
 few_put false first next last stops same more few = omega arith
@@ -80,7 +85,8 @@ may_put false (Lost Marked) action deeds settled goes stands = absurd (cc)
 may_put bears (Lost Unmarked) action deeds settled goes stands = absurd (cc)
 
 pub put_orderly : (gone bears : Bool) (s : Standing) (action : LogEntry) (old new : Deeds)
-    → new ≡ (if gone then PutOut action ∷ [] else []) ++ old → IsSettled s → false ≡ is_stopped s bears
+    → new ≡ (if gone then PutOut action ∷ [] else []) ++ old → IsSettled s
+    → false ≡ is_stopped s bears
     → IsOrderly bears s old → IsOrderly bears s new
 put_orderly true bears s action old new is settled goes h =
     subst (IsOrderly bears s) (sym is) (record {

@@ -1,5 +1,6 @@
 -- What a log tells as it is begun, appended to and synced.
-use Rattle.std.proofs.Common.{◌≡◌, ◌∙◌, ℕ, ◌≤◌, List, [], ◌∷◌, ◌++◌, length, take, drop, ap, refl, arith}
+use Rattle.std.proofs.Common.{◌≡◌, ◌∙◌, ℕ, ◌≤◌, List, [], ◌∷◌, ◌++◌, length, take, drop, ap, refl}
+use Rattle.std.proofs.Common.{arith}
 use Rattle.std.proofs.lemmas.List.{drop-append-le, take-append-le, take_all}
 use Rattle.std.proofs.Math.ListN.{drop_of_length-le}
 use Rattle.segments.specs.Head.{head_of, whole_text}
@@ -11,12 +12,14 @@ use Rattle.state.specs.Logs.{IsHeaded, told_by}
 
 body_behind : (n : ℕ) (head body : List ℕ) → length head ≡ n → drop n (head ++ body) ≡ body
 body_behind n head body is =
-    drop-append-le n head body (omega (arith, is)) ∙ ap (λ (l : List ℕ). l ++ body) (drop_of_length-le head {i = n} (omega (arith, is)))
+    drop-append-le n head body (omega (arith, is))
+    ∙ ap (λ (l : List ℕ). l ++ body) (drop_of_length-le head {i = n} (omega (arith, is)))
 
 whole_behind : (number : ℕ) (body : List ℕ) → drop 87 (whole_text number body) ≡ body
 unfolding whole_text
 whole_behind number body =
-    body_behind 87 (head_of (record { number = number; octets = length body; sum = sum_of body })) body
+    body_behind 87 (head_of (record { number = number; octets = length body; sum = sum_of body }))
+    body
     (head_length (record { number = number; octets = length body; sum = sum_of body }))
 
 all_taken : (text : List ℕ) (n : ℕ) → n ≡ length text → take n text ≡ text
@@ -33,15 +36,23 @@ begun_told settings lines head durable text headed is synced =
     ap (λ (l : List ℕ). lines_in (drop 87 l)) (all_taken text head is ∙ headed.is)
     ∙ ap lines_in (whole_behind headed.number headed.body) ∙ headed.says in
     let none : drop head text ≡ [] = none_left text head is in
-    let safe : drop head (take durable text) ≡ [] = ap (drop head) (all_taken text durable synced) ∙ none in
+    let safe : drop head (take durable text) ≡ [] = ap (drop head) (all_taken text durable synced)
+    ∙ none in
     rw (says, none, safe) refl
 
-pub appended_told : (head durable : ℕ) (text more new : List ℕ) → new ≡ text ++ more → head ≤ durable → durable ≤ length text
-    → told_by head durable new ≡ record (told_by head durable text) { text = drop head text ++ more }
+pub appended_told : (head durable : ℕ) (text more new : List ℕ) → new ≡ text ++ more
+    → head ≤ durable → durable ≤ length text
+    → told_by head durable new ≡ record (told_by head durable text) {
+      text =
+          drop head text ++ more;
+    }
 appended_told head durable text more new is le within =
-    let front : take head new ≡ take head text = ap (take head) is ∙ take-append-le head text more (omega (arith, le, within)) in
-    let kept : take durable new ≡ take durable text = ap (take durable) is ∙ take-append-le durable text more within in
-    let behind : drop head new ≡ drop head text ++ more = ap (drop head) is ∙ drop-append-le head text more (omega (arith, le, within)) in
+    let front : take head new ≡ take head text = ap (take head) is
+    ∙ take-append-le head text more (omega (arith, le, within)) in
+    let kept : take durable new ≡ take durable text = ap (take durable) is
+    ∙ take-append-le durable text more within in
+    let behind : drop head new ≡ drop head text ++ more = ap (drop head) is
+    ∙ drop-append-le head text more (omega (arith, le, within)) in
     rw (front, kept, behind) refl
 
 pub synced_told : (head old durable : ℕ) (text new : List ℕ) → new ≡ text → durable ≡ length new
@@ -53,8 +64,11 @@ synced_told head old durable text new is synced =
 pub lines_put : (old new left : List ℕ) (lines : List (List ℕ)) → left ≡ new → old ≡ []
     → lines_in new ≡ lines_in old ++ lines → lines_in left ≡ lines
 lines_put old new left lines same empty put =
-    ap lines_in same ∙ put ∙ ap (λ (l : List ℕ). lines_in l ++ lines) empty ∙ ap (λ (l : List (List ℕ)). l ++ lines) no_text
+    ap lines_in same ∙ put ∙ ap (λ (l : List ℕ). lines_in l ++ lines) empty
+    ∙ ap (λ (l : List (List ℕ)). l ++ lines) no_text
 
 pub headed : (settings : List ℕ) (lines : List (List ℕ)) (number : ℕ) (body text : List ℕ)
-    → text ≡ whole_text number body → lines_in body ≡ settings ∷ lines → IsHeaded settings lines text
-headed settings lines number body text is says = record { number = number; body = body; is = is; says = says }
+    → text ≡ whole_text number body → lines_in body ≡ settings ∷ lines
+    → IsHeaded settings lines text
+headed settings lines number body text is says =
+    record { number = number; body = body; is = is; says = says }

@@ -1,5 +1,7 @@
 -- What is heard again, line by line.
-use Rattle.std.proofs.Common.{◌≡◌, ◌∙◌, ℕ, ◌≤◌, Bool, true, false, List, [], ◌∷◌, ◌++◌, length, map, Option, Some, None, ap, sym, subst, refl, append_assoc, arith, if◌then◌else◌}
+use Rattle.std.proofs.Common.{◌≡◌, ◌∙◌, ℕ, ◌≤◌, Bool, true, false, List, [], ◌∷◌, ◌++◌, length, map}
+use Rattle.std.proofs.Common.{Option, Some, None, ap, sym, subst, refl, append_assoc, arith}
+use Rattle.std.proofs.Common.{if◌then◌else◌}
 use Rattle.std.proofs.lemmas.List.{append-nil}
 use Rattle.std.specs.Prelude.{not, ◌&&◌, get_or}
 use Rattle.std.specs.List.{filter_map}
@@ -17,7 +19,8 @@ use Rattle.gateway.specs.declared.ports.Next.{Next}
 use Rattle.traces.specs.Event.{Event, event_of, event_in, line, opening, received, cut, tick, wall}
 use Rattle.traces.specs.Progress.{came}
 use Rattle.traces.specs.Trace.{lines_of, told, is_skipped, is_wrong, first_wrong}
-use Rattle.state.specs.Replays.{IsFirst, IsRepeating, IsReplayed, IsTold, Replaying, ToldGap, before_those, events_in_front, events_left, last_gap, log_of}
+use Rattle.state.specs.Replays.{IsFirst, IsRepeating, IsReplayed, IsTold, Replaying, ToldGap}
+use Rattle.state.specs.Replays.{before_those, events_in_front, events_left, last_gap, log_of}
 
 -- A line
 
@@ -29,7 +32,8 @@ came_entry (Cut now) = refl
 came_entry (Tick now) = refl
 came_entry (Wall now number) = refl
 
-none_of : (f : List ℕ → Option Event) (text : List ℕ) → f text ≡ None → filter_map f (text ∷ []) ≡ []
+none_of : (f : List ℕ → Option Event) (text : List ℕ) → f text ≡ None → filter_map f (text ∷ [])
+    ≡ []
 none_of f text is = rw is
 
 one_of : (f : List ℕ → Option Event) (text : List ℕ) (event : Event) → f text ≡ Some event
@@ -37,7 +41,8 @@ one_of : (f : List ℕ → Option Event) (text : List ℕ) (event : Event) → f
 one_of f text event is = rw is
 
 told_first : (f : List ℕ → Option Event) (text : List ℕ) (found : Option Event) → f text ≡ found
-    → (event : Event) (events : List Event) → event ∷ events ≡ filter_map f (text ∷ []) → found ≡ Some event
+    → (event : Event) (events : List Event) → event ∷ events ≡ filter_map f (text ∷ [])
+    → found ≡ Some event
 told_first f text None is event events all =
     let no : event ∷ events ≡ [] = all ∙ none_of f text is in absurd (cc)
 told_first f text (Some other) is event events all =
@@ -50,20 +55,23 @@ told_nothing f text (Some other) is all =
     let no : [] ≡ other ∷ [] = all ∙ one_of f text other is in absurd (cc)
 
 -- the first of the entries is the event that the line tells
-announced : (text : List ℕ) (entries others : List Entry) (entry : Entry) (next : Next) (buf : List ℕ)
+announced : (text : List ℕ) (entries others : List Entry) (entry : Entry) (next : Next)
+    (buf : List ℕ)
     → lines_of text ≡ text ∷ [] → map event_of entries ≡ filter_map told (lines_of text)
     → entries ≡ entry ∷ others → IsAnnounced entry next buf → IsTold (told text) (Some next) buf
 announced text entries others entry next buf one are is a =
     let all : event_of entry ∷ map event_of others ≡ filter_map told (text ∷ []) =
     sym (ap (map event_of) is) ∙ are ∙ ap (filter_map told) one in
-    subst (λ found. IsTold found (Some next) buf) (sym (told_first told text (told text) refl _ _ all)) (record {
+    subst (λ found. IsTold found (Some next) buf)
+    (sym (told_first told text (told text) refl _ _ all)) (record {
       told = a.told ∙ ap (λ event. event ∷ []) (sym (came_entry entry));
       fits = a.fits;
       healthy = a.healthy;
       some = a.some;
     })
 
-pub announced_first : (text : List ℕ) (entries : List Entry) (entry : Entry) (next : Next) (buf : List ℕ)
+pub announced_first : (text : List ℕ) (entries : List Entry) (entry : Entry) (next : Next)
+    (buf : List ℕ)
     → 1 ≤ length entries → entry ≡ get_or entries 0 entry → lines_of text ≡ text ∷ []
     → map event_of entries ≡ filter_map told (lines_of text) → IsAnnounced entry next buf
     → IsTold (told text) (Some next) buf
@@ -73,10 +81,12 @@ announced_first text (first ∷ others) entry next buf some is one are a =
 
 -- without entries it tells none
 pub unannounced : (text : List ℕ) (entries : List Entry) (buf : List ℕ) → lines_of text ≡ text ∷ []
-    → map event_of entries ≡ filter_map told (lines_of text) → entries ≡ [] → IsTold (told text) None buf
+    → map event_of entries ≡ filter_map told (lines_of text) → entries ≡ []
+    → IsTold (told text) None buf
 unannounced text entries buf one are is =
     subst (λ found. IsTold found None buf)
-    (sym (told_nothing told text (told text) refl (sym (ap (map event_of) is) ∙ are ∙ ap (filter_map told) one))) refl
+    (sym (told_nothing told text (told text) refl (sym (ap (map event_of) is) ∙ are
+    ∙ ap (filter_map told) one))) refl
 
 unless_skipped : (skipped : Bool) (event : Option Event) → (not skipped && is_none event) ≡ true
     → (if skipped then None else event) ≡ None
@@ -92,12 +102,15 @@ by_number false n is = absurd (cc)
 pub wrongly_told : (text : List ℕ) (n : ℕ) (buf : List ℕ) → lines_of text ≡ text ∷ []
     → first_wrong 1 (lines_of text) ≡ Some n → IsTold (told text) None buf
 wrongly_told text n buf one wrong =
-    let is : is_wrong text ≡ true = by_number (is_wrong text) n (sym (ap (first_wrong 1) one) ∙ wrong) in
-    subst (λ found. IsTold found None buf) (sym (unless_skipped (is_skipped text) (event_in text) is)) refl
+    let is : is_wrong text ≡ true = by_number (is_wrong text) n (sym (ap (first_wrong 1) one)
+    ∙ wrong) in
+    subst (λ found. IsTold found None buf)
+    (sym (unless_skipped (is_skipped text) (event_in text) is)) refl
 
 -- A replay
 
-came_events : (event : Event) (log : Log) → events_of (came event ∷ log) ≡ events_of log ++ came event ∷ []
+came_events : (event : Event) (log : Log) → events_of (came event ∷ log)
+    ≡ events_of log ++ came event ∷ []
 came_events (line now octets) log = refl
 came_events (opening now) log = refl
 came_events (received now octets) log = refl
@@ -110,27 +123,34 @@ by_told : (found : Option Event) (next : Next) (buf : List ℕ) → IsTold found
     → events_of (told_by next buf ++ log) ++ events ≡ events_of log ++ before_those found events
 by_told None next buf is log events = absurd (cc)
 by_told (Some event) next buf is log events =
-    ap (λ news. events_of (news ++ log) ++ events) is.told ∙ ap (λ es. es ++ events) (came_events event log)
+    ap (λ news. events_of (news ++ log) ++ events) is.told
+    ∙ ap (λ es. es ++ events) (came_events event log)
     ∙ append_assoc (events_of log) (came event ∷ []) events
 
-more_events : (lines others : List (List ℕ)) (next : Next) (buf : List ℕ) → IsFirst lines others (Some next) buf
-    → (log : Log) → events_of (told_by next buf ++ log) ++ events_in_front others ≡ events_of log ++ events_in_front lines
+more_events : (lines others : List (List ℕ)) (next : Next) (buf : List ℕ)
+    → IsFirst lines others (Some next) buf
+    → (log : Log) → events_of (told_by next buf ++ log) ++ events_in_front others
+    ≡ events_of log ++ events_in_front lines
 more_events [] others next buf first log = absurd (cc)
 more_events (text ∷ lines) others next buf first log =
     ap (λ ls. events_of (told_by next buf ++ log) ++ events_in_front ls) first.1
     ∙ by_told (told text) next buf first.0 log (events_in_front lines)
 
-nothing_told : (found : Option Event) (buf : List ℕ) (events : List LogEntry) → IsTold found None buf
+nothing_told : (found : Option Event) (buf : List ℕ) (events : List LogEntry)
+    → IsTold found None buf
     → before_those found events ≡ []
 nothing_told None buf events is = refl
 nothing_told (Some event) buf events is = absurd is
 
-none_left : (lines others : List (List ℕ)) (buf : List ℕ) → IsFirst lines others None buf → events_in_front lines ≡ []
+none_left : (lines others : List (List ℕ)) (buf : List ℕ) → IsFirst lines others None buf
+    → events_in_front lines ≡ []
 none_left [] others buf first = refl
-none_left (text ∷ lines) others buf first = nothing_told (told text) buf (events_in_front lines) first.0
+none_left (text ∷ lines) others buf first = nothing_told (told text) buf (events_in_front lines)
+    first.0
 
 -- behind an event no gap was told yet
-no_gap_by : (found : Option Event) (next : Next) (buf : List ℕ) → IsTold found (Some next) buf → (log : Log)
+no_gap_by : (found : Option Event) (next : Next) (buf : List ℕ) → IsTold found (Some next) buf
+    → (log : Log)
     → last_gap (told_by next buf ++ log) ≡ None
 no_gap_by None next buf is log = absurd (cc)
 no_gap_by (Some (line now octets)) next buf is log = ap (λ news. last_gap (news ++ log)) is.told
@@ -140,33 +160,72 @@ no_gap_by (Some (cut now)) next buf is log = ap (λ news. last_gap (news ++ log)
 no_gap_by (Some (tick now)) next buf is log = ap (λ news. last_gap (news ++ log)) is.told
 no_gap_by (Some (wall now number)) next buf is log = ap (λ news. last_gap (news ++ log)) is.told
 
-no_gap_yet : (lines others : List (List ℕ)) (next : Next) (buf : List ℕ) → IsFirst lines others (Some next) buf
+no_gap_yet : (lines others : List (List ℕ)) (next : Next) (buf : List ℕ)
+    → IsFirst lines others (Some next) buf
     → (log : Log) → last_gap (told_by next buf ++ log) ≡ None
 no_gap_yet [] others next buf first log = absurd (cc)
 no_gap_yet (text ∷ lines) others next buf first log = no_gap_by (told text) next buf first.0 log
 
 -- an event was heard
-pub one_more : (events : List LogEntry) (coming others : List (List ℕ)) (is_over : Bool) (news more earlier : Log)
-    (failed : ℕ) (gap : Option ToldGap) (next : Next) (buf : List ℕ) → IsFirst coming others (Some next) buf → is_over ≡ false
+pub one_more : (events : List LogEntry) (coming others : List (List ℕ)) (is_over : Bool)
+    (news more earlier : Log)
+    (failed : ℕ) (gap : Option ToldGap) (next : Next) (buf : List ℕ)
+    → IsFirst coming others (Some next) buf → is_over ≡ false
     → more ≡ told_by next buf ++ news
-    → IsRepeating events (record { coming = coming; is_over = is_over; news = news; earlier = earlier; failed = failed; gap = gap })
-    → IsRepeating events (record { coming = others; is_over = is_over; news = more; earlier = earlier; failed = failed; gap = None })
-one_more events coming others is_over news more earlier failed gap next buf first goes is repeating = record {
-  whole = λ healthy.
-      ap (λ over. events_of (more ++ earlier) ++ events_left over others) goes
-      ∙ ap (λ news. events_of (news ++ earlier) ++ events_in_front others) is
-      ∙ ap (λ log. events_of log ++ events_in_front others) (append_assoc (told_by next buf) news earlier)
-      ∙ more_events coming others next buf first (news ++ earlier)
-      ∙ ap (λ over. events_of (news ++ earlier) ++ events_left over coming) (sym goes)
-      ∙ repeating.whole healthy;
-  gap = sym (ap last_gap is ∙ no_gap_yet coming others next buf first news);
-}
+    → IsRepeating events (record {
+      coming = coming;
+      is_over = is_over;
+      news = news;
+      earlier =
+          earlier;
+      failed = failed;
+      gap = gap;
+    })
+    → IsRepeating events (record {
+      coming = others;
+      is_over = is_over;
+      news = more;
+      earlier =
+          earlier;
+      failed = failed;
+      gap = None;
+    })
+one_more events coming others is_over news more earlier failed gap next buf first goes is
+    repeating = record {
+      whole = λ healthy.
+          ap (λ over. events_of (more ++ earlier) ++ events_left over others) goes
+          ∙ ap (λ news. events_of (news ++ earlier) ++ events_in_front others) is
+          ∙ ap (λ log. events_of log ++ events_in_front others)
+          (append_assoc (told_by next buf) news earlier)
+          ∙ more_events coming others next buf first (news ++ earlier)
+          ∙ ap (λ over. events_of (news ++ earlier) ++ events_left over coming) (sym goes)
+          ∙ repeating.whole healthy;
+      gap = sym (ap last_gap is ∙ no_gap_yet coming others next buf first news);
+    }
 
 -- none comes any more
-pub no_more : (events : List LogEntry) (coming others : List (List ℕ)) (is_over : Bool) (news earlier : Log)
-    (failed : ℕ) (gap : Option ToldGap) (buf : List ℕ) → IsFirst coming others None buf → is_over ≡ false
-    → IsRepeating events (record { coming = coming; is_over = is_over; news = news; earlier = earlier; failed = failed; gap = gap })
-    → IsRepeating events (record { coming = others; is_over = true; news = news; earlier = earlier; failed = failed; gap = gap })
+pub no_more : (events : List LogEntry) (coming others : List (List ℕ)) (is_over : Bool)
+    (news earlier : Log)
+    (failed : ℕ) (gap : Option ToldGap) (buf : List ℕ) → IsFirst coming others None buf → is_over
+    ≡ false
+    → IsRepeating events (record {
+      coming = coming;
+      is_over = is_over;
+      news = news;
+      earlier =
+          earlier;
+      failed = failed;
+      gap = gap;
+    })
+    → IsRepeating events (record {
+      coming = others;
+      is_over = true;
+      news = news;
+      earlier =
+          earlier;
+      failed = failed;
+      gap = gap;
+    })
 no_more events coming others is_over news earlier failed gap buf first goes repeating = record {
   whole = λ healthy.
       ap (λ es. events_of (news ++ earlier) ++ es)
@@ -176,15 +235,20 @@ no_more events coming others is_over news earlier failed gap buf first goes repe
 }
 
 -- the gateway follows the log of the replay
-pub replayed : (p : Setup) (log : Log) (events : List LogEntry) (gap : Option ToldGap) (s : State) (end : Replaying)
-    → Follows p s (Some (log_of end)) → Rests p (Some (log_of end)) → IsRepeating events end
-    → end.failed ≡ 0 → end.is_over ≡ true → end.earlier ≡ log → gap ≡ end.gap → IsReplayed p log events gap s
-replayed p log events gap s end follows rests whole healthy over earlier told =
-    subst (λ log. IsReplayed p log events gap s) earlier (record {
+pub replayed : (p : Setup) (log : Log) (events : List LogEntry) (gap : Option ToldGap) (whole : Log)
+    (s : State)
+    (end : Replaying) → Follows p s (Some (log_of end)) → Rests p (Some (log_of end))
+    → IsRepeating events end
+    → end.failed ≡ 0 → end.is_over ≡ true → end.earlier ≡ log → gap ≡ end.gap → whole ≡ log_of end
+    → IsReplayed p log events gap whole s
+replayed p log events gap whole s end follows rests known healthy over earlier told is =
+    subst (λ log. IsReplayed p log events gap whole s) earlier (record {
       news = end.news;
-      last = told ∙ whole.gap;
-      follows = follows;
-      rests = rests;
-      heard = sym (append-nil (events_of (log_of end)))
-          ∙ ap (λ is_over. events_of (log_of end) ++ events_left is_over end.coming) (sym over) ∙ whole.whole healthy;
+      behind = is;
+      last = told ∙ known.gap;
+      follows = subst (λ l. Follows p s (Some l)) (sym is) follows;
+      rests = subst (λ l. Rests p (Some l)) (sym is) rests;
+      heard = ap events_of is ∙ sym (append-nil (events_of (log_of end)))
+          ∙ ap (λ is_over. events_of (log_of end) ++ events_left is_over end.coming) (sym over)
+          ∙ known.whole healthy;
     })

@@ -1,14 +1,17 @@
 -- What a run begins with (profile).
-use Rattle.std.specs.Prelude.{◌≡◌, ℕ, ◌+◌, Bool, true, false, List, ◌∷◌, ◌++◌, drop, length, Option, Some, None, if◌then◌else◌}
+use Rattle.std.specs.Prelude.{◌≡◌, ℕ, ◌+◌, ◌<◌, Bool, true, false, not, ◌&&◌, List, ◌∷◌, ◌++◌, drop}
+use Rattle.std.specs.Prelude.{length, Option, Some, None, Ok, if◌then◌else◌}
 use Rattle.gateway.specs.Agrees.{Follows, Rests}
-use Rattle.gateway.specs.Carried.{without_commands}
+use Rattle.gateway.specs.Carried.{carried, without_commands}
 use Rattle.gateway.specs.Config.{Settings}
 use Rattle.gateway.specs.Log.{Log}
 use Rattle.gateway.specs.Restored.{IsSavable, state_lines}
 use Rattle.gateway.specs.Setups.{setup_of}
 use Rattle.gateway.specs.State.{State, with_serial}
+use Rattle.link.specs.Carried.{awaits_command}
 use Rattle.segments.specs.Starts.{IsFoundIn, before_zero}
 use Rattle.segments.specs.declared.head.Head.{Head}
+use Rattle.settings.specs.Settings.{IsReadOfText}
 use Rattle.statetext.specs.Text.{lines_in}
 use Rattle.state.specs.Replays.{IsReplayed, ToldGap, events_in_front, whole_lines}
 use Rattle.state.specs.declared.start.Beginning.{Beginning}
@@ -21,6 +24,13 @@ has_past beginnings.PutAside = false
 has_past beginnings.LinksReset = true
 has_past beginnings.GoesOn = true
 
+-- and its links too, since nothing is missing from it
+abbrev pub is_trusted : Beginning → Bool
+is_trusted beginnings.Anew = false
+is_trusted beginnings.PutAside = false
+is_trusted beginnings.LinksReset = false
+is_trusted beginnings.GoesOn = true
+
 -- where the clock goes on, if there was one
 abbrev pub moment_at : Beginning → ℕ → Option ℕ
 moment_at beginning moment = if has_past beginning then Some moment else None
@@ -29,19 +39,25 @@ moment_at beginning moment = if has_past beginning then Some moment else None
 abbrev pub given_up : State → State
 given_up s = with_serial (without_commands s.serial) s
 
+-- there is none
+abbrev pub HasNoCommand : State → Type 0
+HasNoCommand s = (station : ℕ) → station < length s.serial.line.stations →
+    awaits_command s.serial.line station ≡ false
+
 -- The gateway is in the state that some lines say, and follows this log if that state does.
 abbrev pub HasRead : Settings → Log → (lines : List (List ℕ)) → State → Type 0
 HasRead c log lines s =
     (first : State) (rest : List (List ℕ)) → lines ≡ state_lines first ++ rest → IsSavable first
     → Follows (setup_of c) first (Some log) → Follows (setup_of c) s (Some log)
 
--- The gateway has heard these events behind the state that some lines say, whose log was this one.
+-- The gateway has heard these events behind the state that some lines say, whose log was this one;
+-- the whole log has them too.
 abbrev pub IsRead : Settings → (log : Log) → (lines : List (List ℕ)) → (events : List ℕ)
-    → Option ToldGap → State → Type 0
-IsRead c log lines events gap s =
+    → Option ToldGap → (whole : Log) → State → Type 0
+IsRead c log lines events gap whole s =
     (first : State) (rest : List (List ℕ)) → lines ≡ state_lines first ++ rest → IsSavable first
     → Follows (setup_of c) first (Some log) → Rests (setup_of c) (Some log)
-    → IsReplayed (setup_of c) log (events_in_front (whole_lines events)) gap s
+    → IsReplayed (setup_of c) log (events_in_front (whole_lines events)) gap whole s
 
 -- These settings and these lines stand at the head of the log in a file, whose events begin there.
 pub record IsHeadOf (file : List ℕ) (begins : ℕ) (settings : List ℕ) (lines : List (List ℕ)) :
@@ -53,19 +69,47 @@ pub record IsHeadOf (file : List ℕ) (begins : ℕ) (settings : List ℕ) (line
   pub behind : begins ≡ 87 + length body
 
 -- It has heard the events behind the state that these lines say, and has then given up each command
--- without an answer.
+-- without an answer. Where there was none it follows the whole log.
 pub record WentOn (c : Settings) (log : Log) (lines : List (List ℕ)) (events : List ℕ)
-    (gap : Option ToldGap) (s : State) : Type 0 where
-  pub before : State
-  pub read : IsRead c log lines events gap before
-  pub given : s ≡ given_up before
+    (gap : Option ToldGap) (whole : Log) (s : State) : Type 0 where
+  pub left : State
+  pub read : IsRead c log lines events gap whole left
+  pub given : s ≡ given_up left
+  pub unless : HasNoCommand left → s ≡ left
+
+-- It went on so under the settings that wrote the log, and was then moved to these.
+pub record MovedOn (trusted : Bool) (c : Settings) (written : List ℕ) (log : Log)
+    (lines : List (List ℕ)) (events : List ℕ) (gap : Option ToldGap) (whole : Log) (s : State) :
+    Type 0 where
+  pub wrote : Settings
+  pub read : IsReadOfText written (Ok wrote)
+  pub left : State
+  pub went : WentOn wrote log lines events gap whole left
+  pub moved : s ≡ carried trusted wrote c left
+
+-- under the same settings with each link, or else moved
+abbrev pub GoesOnBy : (is_same : Bool) → (trusted : Bool) → Settings → (written : List ℕ)
+    → (log : Log) → (lines : List (List ℕ)) → (events : List ℕ) → Option ToldGap → (whole : Log)
+    → State → Type 0
+GoesOnBy true trusted c written log lines events gap whole s =
+    WentOn c log lines events gap whole s
+GoesOnBy false trusted c written log lines events gap whole s =
+    MovedOn trusted c written log lines events gap whole s
+
+-- whether settings have changed
+abbrev pub IsMoved : (written text : List ℕ) → Bool → Type 0
+IsMoved written text true = written ≡ text → ⊥
+IsMoved written text false = written ≡ text
 
 -- A gateway with these settings, which this text says, goes on with what stands in a file. Where
--- the log there was written under the same text, it went on from the state at its head.
-pub record GoesOnFrom (c : Settings) (text : List ℕ) (log : Log) (file : List ℕ)
-    (gap : Option ToldGap) (s : State) : Type 0 where
+-- the log there was written under another text it is moved, and also where its links aren't
+-- trusted: then each of them is reset.
+pub record GoesOnFrom (trusted : Bool) (c : Settings) (text : List ℕ) (log : Log) (file : List ℕ)
+    (is_moved : Bool) (gap : Option ToldGap) (whole : Log) (s : State) : Type 0 where
   pub begins : ℕ
   pub written : List ℕ
   pub lines : List (List ℕ)
   pub head : IsHeadOf file begins written lines
-  pub same : written ≡ text → WentOn c log lines (before_zero (drop begins file)) gap s
+  pub moved : IsMoved written text is_moved
+  pub goes : GoesOnBy (trusted && not is_moved) trusted c written log lines
+      (before_zero (drop begins file)) gap whole s

@@ -1,7 +1,8 @@
 -- What is done where the events of a run are kept on a disk, in one history: the gateway hears an
 -- event, its line goes to the log on the disk, the log is synced, an action is handed out
 -- (profile).
-use Rattle.std.specs.Prelude.{◌≡◌, ℕ, ◌-◌, ◌<◌, ◌⊎◌, Bool, true, false, List, [], ◌∷◌, map, Option, Some, None}
+use Rattle.std.specs.Prelude.{◌≡◌, ℕ, ◌-◌, ◌<◌, ◌⊎◌, Bool, true, false, List, [], ◌∷◌, map, Option}
+use Rattle.std.specs.Prelude.{Some, None}
 use Rattle.std.specs.Option.{is_some}
 use Rattle.gateway.specs.Log.{Log, LogEntry, Came, Went}
 use Rattle.gateway.specs.Ports.{told_by, output_of}

@@ -8,3 +8,5 @@ pub mod Replays
 pub mod Renewals
 pub mod Starts
 pub mod Beginnings
+pub mod Origins
+pub mod Directories

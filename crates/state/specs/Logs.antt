@@ -54,3 +54,10 @@ module _ {D : Type 0} {g : Ghosts D} where
   AreFilesOf opens.Neither newest spare = ⊥
   AreFilesOf (opens.Both n s) newest spare = (newest ≡ n) × (spare ≡ s)
   AreFilesOf (opens.Current c) newest spare = (newest ≡ file_of c.segment) × (spare ≡ c.spare)
+
+  -- the log that takes lines bears this number
+  abbrev pub Bears : ℕ → Opened D g → Type 0
+  Bears number opens.Neither = ⊥
+  Bears number (opens.Both newest spare) = ⊥
+  Bears number (opens.Current c) =
+      (body : List ℕ) × (take c.head (text_of c.segment) ≡ whole_text number body)

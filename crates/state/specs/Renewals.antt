@@ -1,5 +1,6 @@
 -- When a log is begun anew, and when it is told that none is kept (profile).
-use Rattle.std.specs.Prelude.{ℕ, ◌-◌, nat_le, nat_lt, Bool, true, false, if◌then◌else◌, Option, Some, None, [], ◌∷◌}
+use Rattle.std.specs.Prelude.{ℕ, ◌-◌, nat_le, nat_lt, Bool, true, false, if◌then◌else◌, Option}
+use Rattle.std.specs.Prelude.{Some, None, [], ◌∷◌}
 use Rattle.gateway.specs.Log.{Log}
 use Rattle.state.specs.Deeds.{moment_of}
 use Rattle.live.specs.declared.watched.Notice.{Notice}

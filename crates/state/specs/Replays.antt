@@ -1,7 +1,8 @@
 -- A gateway that hears again what it had heard (profile).
 use Rattle.std.specs.Prelude.{◌≡◌, ℕ, Bool, true, false, List, [], ◌∷◌, ◌++◌, Option, Some, None}
 use Rattle.gateway.specs.Agrees.{Follows, Rests}
-use Rattle.gateway.specs.Log.{Log, LogEntry, Came, Went, Output, LineOut, TcpOut, Closed, GapOut, events_of}
+use Rattle.gateway.specs.Log.{Log, LogEntry, Came, Went, Output, LineOut, TcpOut, Closed, GapOut}
+use Rattle.gateway.specs.Log.{events_of}
 use Rattle.gateway.specs.Ports.{FitsBuffer, faults_of, told_by}
 use Rattle.gateway.specs.Reports.{Setup}
 use Rattle.gateway.specs.State.{State}
@@ -96,12 +97,14 @@ pub record IsRepeating (events : List LogEntry) (r : Replaying) : Type 0 where
       events_of (log_of r) ++ events_left r.is_over r.coming ≡ events_of r.earlier ++ events
   pub gap : r.gap ≡ last_gap r.news
 
--- The gateway has heard these events behind this log: it follows a log that goes on from this one
--- with these events, and with the actions of their steps; and the last of these has told this gap.
+-- The gateway has heard these events behind this log: it follows a whole log that goes on from this
+-- one with these events, and with the actions of their steps; and the last of these has told this
+-- gap.
 pub record IsReplayed (p : Setup) (log : Log) (events : List LogEntry) (gap : Option ToldGap)
-    (s : State) : Type 0 where
+    (whole : Log) (s : State) : Type 0 where
   pub news : Log
+  pub behind : whole ≡ news ++ log
   pub last : gap ≡ last_gap news
-  pub follows : Follows p s (Some (news ++ log))
-  pub rests : Rests p (Some (news ++ log))
-  pub heard : events_of (news ++ log) ≡ events_of log ++ events
+  pub follows : Follows p s (Some whole)
+  pub rests : Rests p (Some whole)
+  pub heard : events_of whole ≡ events_of log ++ events

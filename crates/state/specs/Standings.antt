@@ -1,8 +1,10 @@
 -- How far the events that were heard are on the disk, as a keeper knows it (profile).
-use Rattle.std.specs.Prelude.{◌≡◌, ℕ, Bool, true, false, not, [], ◌∷◌, ◌++◌, map, Option, Some, None, ◌⊎◌}
+use Rattle.std.specs.Prelude.{◌≡◌, ℕ, Bool, true, false, not, [], ◌∷◌, ◌++◌, map, Option, Some}
+use Rattle.std.specs.Prelude.{None, ◌⊎◌}
 use Rattle.gateway.specs.Log.{Log}
 use Rattle.gateway.specs.State.{State}
-use Rattle.state.specs.Deeds.{Deeds, Begun, GivenUp, Heard, IsAllOnDisk, appended, heard, is_kept, loss_of, moment_of, oldest, waiting}
+use Rattle.state.specs.Deeds.{Deeds, Begun, GivenUp, Heard, IsAllOnDisk, appended, heard, is_kept}
+use Rattle.state.specs.Deeds.{loss_of, moment_of, oldest, waiting}
 use Rattle.state.specs.declared.loss.Loss.{Loss}
 use Rattle.state.specs.declared.loss.Loss.TheVariants.{Marked, Unmarked}
 use Rattle.state.specs.declared.standing.Standing.{Standing}

@@ -4,7 +4,8 @@ use Rattle.gateway.specs.Log.{Log}
 use Rattle.gateway.specs.Restored.{state_lines}
 use Rattle.gateway.specs.State.{State}
 use Rattle.traces.specs.Printed.{lines_of_log}
-use Rattle.state.specs.Deeds.{Deeds, Heard, Appended, Synced, Begun, GivenUp, PutOut, heard, is_kept, loss_of}
+use Rattle.state.specs.Deeds.{Deeds, Heard, Appended, Synced, Begun, GivenUp, PutOut, heard}
+use Rattle.state.specs.Deeds.{is_kept, loss_of}
 use Rattle.state.specs.declared.loss.Loss.TheVariants.{Marked}
 
 -- the state at the head of the log

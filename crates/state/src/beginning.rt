@@ -1,18 +1,21 @@
 //! What a run begins with.
-ghost use Rattle.std.specs.Prelude.{◌≡◌, None, Some, IfOk, IsTrue, true, false};
-ghost use Rattle.gateway.specs.State.{first_state};
-ghost use Rattle.segments.specs.Found.{begins_at, events_in, newest_of};
-ghost use Rattle.state.specs.Beginnings.{GoesOnFrom, HasRead, IsHeadOf, IsRead, WentOn, given_up, has_past, moment_at};
-ghost use Rattle.state.specs.Logs.{NewestIs};
+ghost use Rattle.std.specs.Prelude.{◌≡◌, ◌⊎◌, None, Some, IfOk, IsTrue, true, false};
+ghost use Rattle.std.specs.Option.{is_some};
+ghost use Rattle.segments.specs.Found.{AreClean, begins_at, events_in, newest_in, newest_of};
+ghost use Rattle.segments.specs.Found.{next_of, other_in, other_of};
+ghost use Rattle.segments.specs.Starts.{HasNoNewer, IsAbove, IsNewest, IsSound};
+ghost use Rattle.state.specs.Beginnings.{GoesOnFrom, HasNoCommand, HasRead, IsHeadOf, IsRead};
+ghost use Rattle.state.specs.Beginnings.{MovedOn, WentOn, given_up, has_past, is_trusted};
+ghost use Rattle.state.specs.Origins.{IsBegun, IsNew, IsNumbered};
 ghost use Rattle.state.specs.Starts.{beginning_of};
 
 use crate::disk_store::DiskStore;
 use crate::event_text::EventText;
 use crate::folder::{Folder, FolderFault};
-use crate::replaying::{Lineage, ToldGap, replay};
+use crate::replaying::{Lineage, Replayed, ToldGap, replay};
 use crate::start::{Beginning, Found, beginning_of};
 use checkpoint::{Lines, StateFault};
-use gateway::{Config, Gateway, NoMemory};
+use gateway::{Config, Gateway, History, NoMemory};
 use segments::{SegmentFault, Side, Start};
 use settings::{ConfigFault, read_config};
 use sqlite_disk::Disk;
@@ -22,7 +25,7 @@ use std::marker::Brand;
 
 /// What a run begins with.
 #[derive(Drop)]
-pub struct Begun<F: Folder + Drop> {
+pub struct Origin {
     pub gateway: Gateway,
     /// Where the clock goes on, in ms. `None`: the run begins anew, and there is no connection to
     /// cut.
@@ -31,14 +34,29 @@ pub struct Begun<F: Folder + Drop> {
     pub beginning: Beginning,
     /// The gap that the last step before the end told, if it did: it may not have been seen.
     pub gap: Option<ToldGap>,
+    /// What passed in the lives before, as far as the directory tells it.
+    pub before: History,
+    /// The state was kept under other settings.
+    pub is_moved: bool,
+}
+
+/// A run begins: with what, and where its state is kept.
+#[derive(Drop)]
+pub struct Begun<F: Folder + Drop> {
+    pub origin: Origin,
     pub store: DiskStore<F>,
 }
 
-/// A gateway that goes on, and the gap that its last step told.
+/// A gateway that goes on.
 #[derive(Drop)]
 struct Resumed {
     gateway: Gateway,
+    /// The gap that its last step told, if it did.
     gap: Option<ToldGap>,
+    /// What passed before.
+    before: History,
+    /// It was kept under other settings.
+    is_moved: bool,
 }
 
 impl From<SegmentFault> for FolderFault {
@@ -60,7 +78,13 @@ fn unread(fault: ConfigFault) -> StateFault {
 
 /// What the two files are, and their mark.
 fn found_in<D: Disk + Drop>(start: &Start<D>, is_stale: bool) -> Found
-    ensures { beginning_of result ≡ Beginning.GoesOn → is_stale ≡ false }
+    ensures trusted { beginning_of result ≡ Beginning.GoesOn → is_stale ≡ false }
+    ensures sure { beginning_of result ≡ Beginning.GoesOn →
+        (is_some start.now.checkpoint ≡ true) × (start.now.is_doubtful ≡ false) }
+    ensures empty { beginning_of result ≡ Beginning.Anew →
+        (is_some start.now.checkpoint ≡ false) × (start.now.is_doubtful ≡ false) }
+    ensures reset { beginning_of result ≡ Beginning.LinksReset →
+        (is_stale ≡ true) ⊎ (start.now.is_doubtful ≡ true) }
 {
     match (start.is_found(), start.is_doubtful()) {
         (false, false) => Found::Nothing,
@@ -92,11 +116,14 @@ fn replayed<K: Lineage, D: Disk + Drop>(
 ) -> Result<Resumed, StateFault>
     ensures read { IfOk result (λ r. IsTrue (D.Disk.is_clean (newest_of start.new)) →
         IsRead config.now K.log (⟦<TextLines as Lines>⟧.coming lines) (events_in start.new)
-        r.gap r.gateway) }
+        r.gap r.before.entries r.gateway) }
+    ensures moved { IfOk result (λ r. r.is_moved ≡ false) }
     ensures seen { D.Disk.seen (newest_of start.new) ≡ D.Disk.seen (newest_of start.old) }
     ensures clean { IsTrue (D.Disk.is_clean (newest_of start.new)) →
         IsTrue (D.Disk.is_clean (newest_of start.old)) }
     ensures same { begins_at start.new ≡ begins_at start.old }
+    ensures other { other_of start.new ≡ other_of start.old }
+    ensures next { next_of start.new ≡ next_of start.old }
 {
     // The checkpoint may be as long as the queue: its text goes before the events are read.
     let mut gateway = read::<K>(alloc, config, lines)?;
@@ -105,8 +132,13 @@ fn replayed<K: Lineage, D: Disk + Drop>(
         Err(SegmentFault::NoMemory) => return Err(StateFault::NoMemory),
         Err(SegmentFault::Full | SegmentFault::Device) => return Err(StateFault::Device),
     };
-    let gap = replay::<K, EventText>(alloc, &mut gateway, events)?;
-    Ok(Resumed { gateway, gap })
+    let Replayed { gap, log } = replay::<K, EventText>(alloc, &mut gateway, events)?;
+    Ok(Resumed {
+        gateway,
+        gap,
+        before: log,
+        is_moved: false,
+    })
 }
 
 /// What stands at the head of a log.
@@ -121,6 +153,9 @@ fn read_opening<D: Disk + Drop>(alloc: Global, start: &mut Start<D>) -> Result<O
     ensures head { IfOk result (λ o. IsTrue (D.Disk.is_clean (newest_of start.new)) →
         IsHeadOf (D.Disk.seen (newest_of start.new)) (begins_at start.new) o.settings.items
         (⟦<TextLines as Lines>⟧.coming o.lines)) }
+    ensures newest { newest_of start.new ≡ newest_of start.old }
+    ensures other { other_of start.new ≡ other_of start.old }
+    ensures next { next_of start.new ≡ next_of start.old }
 {
     let Some(checkpoint) = start.checkpoint() else {
         return Err(StateFault::Wrong);
@@ -142,11 +177,23 @@ fn are_same(first: &[u8], second: &[u8]) -> bool
 /// It has given up each command without an answer.
 fn without_commands(resumed: Resumed) -> Resumed
     ensures gateway { result.gateway ≡ given_up resumed.gateway }
-    ensures gap { result.gap ≡ resumed.gap }
+    // Where it had none it is as it was.
+    ensures same { HasNoCommand resumed.gateway → result.gateway ≡ resumed.gateway }
+    ensures others { result ≡ record resumed { gateway = result.gateway } }
 {
-    let Resumed { mut gateway, gap } = resumed;
+    let Resumed {
+        mut gateway,
+        gap,
+        before,
+        is_moved,
+    } = resumed;
     gateway.give_up_commands();
-    Resumed { gateway, gap }
+    Resumed {
+        gateway,
+        gap,
+        before,
+        is_moved,
+    }
 }
 
 /// The gateway goes on with the state that was found, under the settings that wrote it, which are
@@ -159,39 +206,60 @@ fn go_on<K: Lineage, D: Disk + Drop>(
 ) -> Result<Resumed, StateFault>
     ensures went { IfOk result (λ r. IsTrue (D.Disk.is_clean (newest_of start.new)) →
         WentOn config.now K.log (⟦<TextLines as Lines>⟧.coming lines) (events_in start.new)
-        r.gap r.gateway) }
+        r.gap r.before.entries r.gateway) }
+    ensures moved { IfOk result (λ r. r.is_moved ≡ false) }
     ensures seen { D.Disk.seen (newest_of start.new) ≡ D.Disk.seen (newest_of start.old) }
     ensures clean { IsTrue (D.Disk.is_clean (newest_of start.new)) →
         IsTrue (D.Disk.is_clean (newest_of start.old)) }
     ensures same { begins_at start.new ≡ begins_at start.old }
+    ensures other { other_of start.new ≡ other_of start.old }
+    ensures next { next_of start.new ≡ next_of start.old }
 {
     let resumed = replayed::<K, D>(alloc, config, lines, start)?;
     Ok(without_commands(resumed))
 }
 
 /// The gateway hears again what was kept, under the settings that wrote it, and is then moved to
-/// these.
-fn move_on<D: Disk + Drop>(
+/// these. `is_moved` says that they are others.
+fn move_on<K: Lineage, D: Disk + Drop>(
     alloc: Global,
     config: &Config,
     opening: Opening,
     start: &mut Start<D>,
     goes_on: bool,
+    is_moved: bool,
 ) -> Result<Resumed, StateFault>
+    ensures went { IfOk result (λ r. IsTrue (D.Disk.is_clean (newest_of start.new)) →
+        MovedOn goes_on config.now opening.settings.items K.log
+        (⟦<TextLines as Lines>⟧.coming opening.lines) (events_in start.new) r.gap
+        r.before.entries r.gateway) }
+    ensures moved { IfOk result (λ r. r.is_moved ≡ is_moved) }
     ensures seen { D.Disk.seen (newest_of start.new) ≡ D.Disk.seen (newest_of start.old) }
     ensures clean { IsTrue (D.Disk.is_clean (newest_of start.new)) →
         IsTrue (D.Disk.is_clean (newest_of start.old)) }
     ensures same { begins_at start.new ≡ begins_at start.old }
+    ensures other { other_of start.new ≡ other_of start.old }
+    ensures next { next_of start.new ≡ next_of start.old }
 {
     let Opening { settings, lines } = opening;
-    let before = match read_config(alloc, &settings, false) {
-        Ok(before) => before,
+    let wrote = match read_config(alloc, &settings, false) {
+        Ok(wrote) => wrote,
         Err(fault) => return Err(unread(fault)),
     };
-    let resumed = go_on::<Brand, D>(alloc, &before, lines, start)?;
-    let Resumed { gateway, gap } = resumed;
-    match gateway.carried(alloc, &before, config, goes_on) {
-        Ok(gateway) => Ok(Resumed { gateway, gap }),
+    let resumed = go_on::<K, D>(alloc, &wrote, lines, start)?;
+    let Resumed {
+        gateway,
+        gap,
+        before,
+        is_moved: _,
+    } = resumed;
+    match gateway.carried(alloc, &wrote, config, goes_on) {
+        Ok(gateway) => Ok(Resumed {
+            gateway,
+            gap,
+            before,
+            is_moved,
+        }),
         Err(NoMemory) => Err(StateFault::NoMemory),
     }
 }
@@ -204,15 +272,22 @@ fn resume<K: Lineage, D: Disk + Drop>(
     start: &mut Start<D>,
     goes_on: bool,
 ) -> Result<Resumed, StateFault>
-    ensures { goes_on ≡ true → IfOk result (λ r. IsTrue (D.Disk.is_clean (newest_of start.new)) →
-        GoesOnFrom config.now text.now K.log (D.Disk.seen (newest_of start.new)) r.gap r.gateway) }
+    ensures goes_on { IfOk result (λ r. IsTrue (D.Disk.is_clean (newest_of start.new)) →
+        GoesOnFrom goes_on config.now text.now K.log (D.Disk.seen (newest_of start.new))
+        r.is_moved r.gap r.before.entries r.gateway) }
+    ensures seen { D.Disk.seen (newest_of start.new) ≡ D.Disk.seen (newest_of start.old) }
+    ensures clean { IsTrue (D.Disk.is_clean (newest_of start.new)) →
+        IsTrue (D.Disk.is_clean (newest_of start.old)) }
+    ensures other { other_of start.new ≡ other_of start.old }
+    ensures next { next_of start.new ≡ next_of start.old }
 {
     let opening = read_opening(alloc, start)?;
-    if goes_on && are_same(&opening.settings, text) {
+    let is_same = are_same(&opening.settings, text);
+    if goes_on && is_same {
         let Opening { settings: _, lines } = opening;
         return go_on::<K, D>(alloc, config, lines, start);
     }
-    move_on(alloc, config, opening, start, goes_on)
+    move_on::<K, D>(alloc, config, opening, start, goes_on, !is_same)
 }
 
 /// Begins a run: with the state that the directory has, or anew. `text` is the file of settings
@@ -223,16 +298,11 @@ pub fn begin<F: Folder + Drop>(
     text: &[u8],
     folder: F,
 ) -> Result<Begun<F>, FolderFault>
-    ensures moment { IfOk result (λ b. b.moment ≡ moment_at b.beginning b.gateway.moment) }
-    ensures anew { IfOk result (λ b. has_past b.beginning ≡ false →
-        (b.gateway ≡ first_state config.now) × (b.gap ≡ None)) }
+    ensures begun { IfOk result (λ b. IsBegun config.now text.now F.lineage
+        (F.mark b.store.folder) b.store.opened b.origin) }
     ensures settings { IfOk result (λ b. b.store.settings.items ≡ text.now) }
-    // A state that is marked as stale is never gone on with.
-    ensures trusted { IfOk result (λ b. b.beginning ≡ Beginning.GoesOn →
-        F.mark b.store.folder ≡ Some false) }
-    ensures goes_on { IfOk result (λ b. b.beginning ≡ Beginning.GoesOn →
-        NewestIs (λ newest. IsTrue (F.File.is_clean newest) → GoesOnFrom config.now text.now
-        F.lineage (F.File.seen newest) b.gap b.gateway) b.store.opened) }
+    // The next log is newer than each that ever stood in a file: so a start finds that one.
+    ensures numbered { IfOk result (λ b. IsNumbered b.store.number b.store.opened) }
 {
     let mut folder = folder;
     let Ok(settings) = Vec::from_slice(alloc, text) else {
@@ -264,12 +334,39 @@ pub fn begin<F: Folder + Drop>(
 /// How a run begins that has a past.
 fn with_past(goes_on: bool) -> Beginning
     ensures past { has_past result ≡ true }
-    ensures goes_on { result ≡ Beginning.GoesOn → goes_on ≡ true }
+    ensures trusted { is_trusted result ≡ goes_on }
 {
     if goes_on {
         Beginning::GoesOn
     } else {
         Beginning::LinksReset
+    }
+}
+
+/// A run goes on with this.
+fn origin_of(resumed: Resumed, beginning: Beginning) -> Origin
+    ensures { result ≡ record {
+      gateway = resumed.gateway;
+      moment = Some resumed.gateway.moment;
+      beginning = beginning;
+      gap = resumed.gap;
+      before = resumed.before;
+      is_moved = resumed.is_moved;
+    } }
+{
+    let Resumed {
+        gateway,
+        gap,
+        before,
+        is_moved,
+    } = resumed;
+    Origin {
+        moment: Some(gateway.moment()),
+        gateway,
+        beginning,
+        gap,
+        before,
+        is_moved,
     }
 }
 
@@ -282,28 +379,26 @@ fn carry_on<F: Folder + Drop>(
     start: Start<F::File>,
     goes_on: bool,
 ) -> Result<Begun<F>, FolderFault>
-    requires { goes_on ≡ true → F.mark folder ≡ Some false }
-    ensures moment { IfOk result (λ b. b.moment ≡ moment_at b.beginning b.gateway.moment) }
-    ensures anew { IfOk result (λ b. has_past b.beginning ≡ false →
-        (b.gateway ≡ first_state config.now) × (b.gap ≡ None)) }
+    requires trusted { goes_on ≡ true → F.mark folder ≡ Some false }
+    requires newest { AreClean start → IsNewest (newest_in start) (other_in start) }
+    requires sure { goes_on ≡ true → AreClean start →
+        HasNoNewer (newest_in start) (other_in start) }
+    requires above { AreClean start → IsAbove start.number (newest_in start)
+        × IsAbove start.number (other_in start) }
+    requires reset { goes_on ≡ false → (F.mark folder ≡ Some true) ⊎ (AreClean start →
+        IsSound (newest_in start) → IsSound (other_in start) → ⊥) }
+    ensures begun { IfOk result (λ b. IsBegun config.now settings.items F.lineage
+        (F.mark b.store.folder) b.store.opened b.origin) }
     ensures settings { IfOk result (λ b. b.store.settings ≡ settings) }
-    ensures trusted { IfOk result (λ b. b.beginning ≡ Beginning.GoesOn →
-        F.mark b.store.folder ≡ Some false) }
-    ensures goes_on { IfOk result (λ b. b.beginning ≡ Beginning.GoesOn →
-        NewestIs (λ newest. IsTrue (F.File.is_clean newest) → GoesOnFrom config.now settings.items
-        F.lineage (F.File.seen newest) b.gap b.gateway) b.store.opened) }
+    ensures numbered { IfOk result (λ b. IsNumbered b.store.number b.store.opened) }
 {
     let mut start = start;
     match resume::<Brand, F::File>(alloc, config, &settings, &mut start, goes_on) {
         Ok(resumed) => {
-            let Resumed { gateway, gap } = resumed;
             let store = DiskStore::new(alloc, folder, settings, start.side(), start.next_number());
             let (newest, spare) = start.into_files();
             Ok(Begun {
-                moment: Some(gateway.moment()),
-                gateway,
-                beginning: with_past(goes_on),
-                gap,
+                origin: origin_of(resumed, with_past(goes_on)),
                 store: store.with_files(newest, spare),
             })
         }
@@ -324,20 +419,21 @@ fn anew<F: Folder + Drop>(
     beginning: Beginning,
 ) -> Result<Begun<F>, FolderFault>
     requires { has_past beginning ≡ false }
-    ensures { IfOk result (λ b. b ≡ record {
-      gateway = first_state config.now;
-      moment = None;
-      beginning = beginning;
-      gap = None;
-      store = store;
-    }) }
+    ensures new { IfOk result (λ b. IsNew config.now b.origin) }
+    ensures moment { IfOk result (λ b. b.origin.moment ≡ None) }
+    ensures beginning { IfOk result (λ b. b.origin.beginning ≡ beginning) }
+    ensures store { IfOk result (λ b. b.store ≡ store) }
 {
     match Gateway::new(alloc, config) {
         Ok(gateway) => Ok(Begun {
-            gateway,
-            moment: None,
-            beginning,
-            gap: None,
+            origin: Origin {
+                gateway,
+                moment: None,
+                beginning,
+                gap: None,
+                before: History::new(),
+                is_moved: false,
+            },
             store,
         }),
         Err(NoMemory) => Err(FolderFault::NoMemory),
@@ -352,10 +448,12 @@ fn put_aside<F: Folder + Drop>(
     settings: Vec<u8>,
     folder: F,
 ) -> Result<Begun<F>, FolderFault>
-    ensures anew { IfOk result (λ b. (b.gateway ≡ first_state config.now) × (b.gap ≡ None)
-        × (b.moment ≡ None)) }
-    ensures beginning { IfOk result (λ b. b.beginning ≡ Beginning.PutAside) }
+    ensures new { IfOk result (λ b. IsNew config.now b.origin) }
+    ensures moment { IfOk result (λ b. b.origin.moment ≡ None) }
+    ensures beginning { IfOk result (λ b. b.origin.beginning ≡ Beginning.PutAside) }
     ensures settings { IfOk result (λ b. b.store.settings ≡ settings) }
+    ensures marked { IfOk result (λ b. F.mark b.store.folder ≡ Some true) }
+    ensures numbered { IfOk result (λ b. IsNumbered b.store.number b.store.opened) }
 {
     let mut folder = folder;
     if !folder.mark_stale() || !folder.put_aside() {

@@ -1,6 +1,9 @@
 //! The log of a run in two files of a directory.
-ghost use Rattle.std.specs.Prelude.{◌≡◌, ◌++◌, ◌∷◌, [], IfOk, IfSome, IsTrue, OnOk, Some, length, true, false};
+ghost use Rattle.std.specs.Prelude.{◌≡◌, ◌+◌, ◌≤◌, ◌++◌, ◌∷◌, [], List, ℕ, IfOk, IfSome, IsTrue};
+ghost use Rattle.std.specs.Prelude.{OnOk};
+ghost use Rattle.std.specs.Prelude.{Some, length, min, true, false};
 ghost use Rattle.gateway.specs.Restored.{state_lines};
+ghost use Rattle.segments.specs.Head.{whole_text};
 ghost use Rattle.segments.specs.Segment.{durable_of, text_of};
 ghost use Rattle.segments.specs.Writer.{appended_to};
 ghost use Rattle.state.specs.Logs.{AreFilesOf, IsHeaded, in_order};
@@ -40,7 +43,7 @@ pub struct DiskStore<F: Folder + Drop> {
 
 impl<F: Folder + Drop> DiskStore<F> {
     ghost use Rattle.segments.specs.Starts.{other_side};
-    ghost use Rattle.state.specs.Logs.{SpareIs, stored_in};
+    ghost use Rattle.state.specs.Logs.{Bears, SpareIs, stored_in};
 
     /// One over a directory whose files aren't open. The newest segment stands in this file, and
     /// the next one has this number.
@@ -53,6 +56,9 @@ impl<F: Folder + Drop> DiskStore<F> {
     ) -> DiskStore<F>
         ensures settings { result.settings ≡ settings }
         ensures folder { result.folder ≡ folder }
+        ensures opened { result.opened ≡ Opened.Neither }
+        ensures side { result.side ≡ side }
+        ensures number { result.number ≡ number }
     {
         DiskStore {
             alloc,
@@ -70,6 +76,8 @@ impl<F: Folder + Drop> DiskStore<F> {
         ensures opened { result.opened ≡ Opened.Both newest spare }
         ensures folder { result.folder ≡ self.folder }
         ensures settings { result.settings ≡ self.settings }
+        ensures side { result.side ≡ self.side }
+        ensures number { result.number ≡ self.number }
     {
         let DiskStore {
             alloc,
@@ -96,6 +104,7 @@ impl<F: Folder + Drop> DiskStore<F> {
         ensures newest { IfSome result (λ files. IsTrue (F.File.is_usable files.0)) }
         ensures spare { IfSome result (λ files. IsTrue (F.File.is_usable files.1)) }
         ensures settings { self.new.settings ≡ self.old.settings }
+        ensures number { self.new.number ≡ self.old.number }
     {
         let opened = mem::replace(&mut self.opened, Opened::Neither);
         if let Some(files) = files_of(opened) {
@@ -118,6 +127,9 @@ impl<F: Folder + Drop> DiskStore<F> {
         ensures newest { result ≡ true → SpareIs newest self.new.opened }
         ensures side { result ≡ true → self.new.side ≡ other_side self.old.side }
         ensures mark { result ≡ true → F.mark self.new.folder ≡ Some false }
+        ensures bears { result ≡ true → Bears self.old.number self.new.opened }
+        ensures number { self.new.number ≡ min (self.old.number + 1) 18446744073709551615 }
+        ensures least { self.old.number ≤ self.new.number }
         ensures settings { self.new.settings ≡ self.old.settings }
     {
         let number = self.number;
@@ -142,6 +154,7 @@ impl<F: Folder + Drop> DiskStore<F> {
         ensures mark { result ≡ true → F.mark self.new.folder ≡ Some false }
         ensures opened { self.new.opened ≡ self.old.opened }
         ensures side { self.new.side ≡ self.old.side }
+        ensures number { self.new.number ≡ self.old.number }
         ensures settings { self.new.settings ≡ self.old.settings }
     {
         if self.is_unmarked {
@@ -242,6 +255,8 @@ fn write_segment<D: Disk + Drop>(
     ensures head { IfSome result
         (λ s. IsHeaded settings.now (state_lines gateway.now) (text_of s)) }
     ensures synced { IfSome result (λ s. durable_of s ≡ length (text_of s)) }
+    ensures number { IfSome result
+        (λ s. (body : List ℕ) × (text_of s ≡ whole_text number body)) }
 {
     let Ok(writer) = Writer::begin(alloc, spare) else {
         return None;
@@ -256,13 +271,17 @@ fn write_segment<D: Disk + Drop>(
 }
 
 impl<F: Folder + Drop> Store for DiskStore<F> {
-    ghost use Rattle.state.specs.Logs.{stored_in};
+    ghost use Rattle.state.specs.Logs.{Bears, stored_in};
 
     ghost stored = { λ s. stored_in s.opened };
 
     ghost settings = { λ s. s.settings.items };
 
     ghost mark = { λ s. F.mark s.folder };
+
+    ghost next = { λ s. s.number };
+
+    ghost bears = { λ s number. Bears number s.opened };
 
     fn append(&mut self, lines: &[u8]) -> bool {
         match &mut self.opened {

@@ -9,9 +9,12 @@ pub trait Ends {
     ghost use Rattle.gateway.specs.Log.{LogEntry, Went, tell};
     ghost use Rattle.gateway.specs.Ports.{FitsBuffer, faults_of, output_of, told_by};
     ghost use Rattle.gateway.specs.declared.ports.Next.TheVariants.{Done};
-    ghost use Rattle.state.specs.Deeds.{Appended, Begun, Deed, GivenUp, Heard, IsSafe, PutOut, Synced, is_kept};
+    ghost use Rattle.state.specs.Deeds.{Appended, Begun, Deed, GivenUp, Heard, IsSafe, PutOut};
+    ghost use Rattle.state.specs.Deeds.{Synced, is_kept};
+    ghost use Rattle.state.specs.Renewals.{is_renewal_due};
     ghost use Rattle.state.specs.Standings.{IsPortLeft};
-    ghost use Rattle.std.specs.Prelude.{◌≡◌, ℕ, ◌+◌, ◌<◌, Bool, true, List, [], ◌∷◌, ◌++◌, map, Option, if◌then◌else◌, MatchResult};
+    ghost use Rattle.std.specs.Prelude.{◌≡◌, ℕ, ◌+◌, ◌<◌, Bool, true, List, [], ◌∷◌, ◌++◌, map};
+    ghost use Rattle.std.specs.Prelude.{Option, if◌then◌else◌, MatchResult};
 
     /// The log of the port, as a port tells it.
     ghost log: { Self → Option (List LogEntry) };
@@ -75,8 +78,12 @@ pub trait Ends {
             (λ loss. deeds self.new ≡ GivenUp loss ∷ deeds self.old) }
         ensures port { IsPortLeft log failed ended script self.old self.new };
 
+    /// How many octets the lines behind the head of the log have.
+    ghost grown: { Self → ℕ };
+
     /// A new log is due, as the present one has grown.
-    fn is_full(&self) -> bool;
+    fn is_full(&self) -> bool
+        ensures { result ≡ is_renewal_due (grown self.now) };
 
     /// Begins a new log, with the state of the gateway at its head, which is the state that all
     /// events so far have led to. Where `Ok` is answered it stands on the disk. An `Err` as of

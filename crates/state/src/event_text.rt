@@ -1,5 +1,6 @@
 //! The lines of events in memory.
-ghost use Rattle.std.specs.Prelude.{◌≡◌, ◌∷◌, ◌≤◌, ◌==◌, ◌<◌, [], drop, length, position, IfSome, IsNone};
+ghost use Rattle.std.specs.Prelude.{◌≡◌, ◌∷◌, ◌≤◌, ◌==◌, ◌<◌, [], drop, length, position, IfSome};
+ghost use Rattle.std.specs.Prelude.{IsNone};
 ghost use Rattle.state.specs.Replays.{whole_lines};
 ghost use Rattle.traces.specs.Trace.{lines_of};
 

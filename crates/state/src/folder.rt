@@ -27,7 +27,8 @@ pub enum FolderFault {
 /// finds the mark trusts none of the links in them.
 pub trait Folder {
     ghost use Rattle.gateway.specs.Log.{LogEntry};
-    ghost use Rattle.std.specs.Prelude.{◌≡◌, List, [], Option, Some, Bool, true, false, IfOk, IsTrue};
+    ghost use Rattle.std.specs.Prelude.{◌≡◌, List, [], Option, Some, Bool, true, false, IfOk};
+    ghost use Rattle.std.specs.Prelude.{IsTrue};
 
     type File: Disk + Drop;
 

@@ -1,11 +1,13 @@
 //! A port whose events are kept on a disk before anything goes out on them.
-ghost use Rattle.std.specs.Prelude.{◌≡◌, ◌+◌, ◌<◌, ◌≤◌, ◌∷◌, [], ◌++◌, ◌⊎◌, true, false, if◌then◌else◌};
+ghost use Rattle.std.specs.Prelude.{◌≡◌, ◌+◌, ◌<◌, ◌≤◌, ◌∷◌, [], ◌++◌, ◌⊎◌, true, false};
+ghost use Rattle.std.specs.Prelude.{if◌then◌else◌};
 ghost use Rattle.gateway.specs.Log.{Went, tell};
 ghost use Rattle.gateway.specs.Ports.{FitsBuffer, faults_of, output_of, told_by};
 ghost use Rattle.gateway.specs.declared.ports.Next.TheVariants.{Done};
 ghost use Rattle.state.specs.Deeds.{passed};
 ghost use Rattle.state.specs.Keeping.{IsOrderly};
-ghost use Rattle.state.specs.Renewals.{after_notice, is_try_due, moment_after, notice_of};
+ghost use Rattle.state.specs.Renewals.{after_notice, is_renewal_due, is_try_due, moment_after};
+ghost use Rattle.state.specs.Renewals.{notice_of};
 ghost use Rattle.state.specs.Standings.{IsPortLeft, Renews, is_lost, is_stopped};
 
 use crate::ends::Ends;
@@ -84,6 +86,12 @@ impl<E: Ends + Drop> Keeper<E> {
             Renews (E.deeds self.old.ends) gateway.now (E.deeds self.new.ends) }
         ensures waits { is_lost self.old.standing ≡ true → is_try_due self.old.patience ≡ false →
             self.new ≡ self.old }
+        // Where it hasn't, a new log is begun where the present one has grown, and none otherwise.
+        ensures renews { is_lost self.old.standing ≡ false →
+            is_renewal_due (E.grown self.old.ends) ≡ true →
+            Renews (E.deeds self.old.ends) gateway.now (E.deeds self.new.ends) }
+        ensures keeps { is_lost self.old.standing ≡ false →
+            is_renewal_due (E.grown self.old.ends) ≡ false → self.new ≡ self.old }
         ensures looks { (self.new ≡ self.old)
             ⊎ Renews (E.deeds self.old.ends) gateway.now (E.deeds self.new.ends) }
     {

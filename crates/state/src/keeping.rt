@@ -3,7 +3,8 @@ ghost use Rattle.std.specs.Prelude.{◌≡◌, ℕ, Bool, false, List};
 ghost use Rattle.gateway.specs.Ports.{FitsBuffer, told_by};
 ghost use Rattle.state.specs.Deeds.{AreRight, IsSafe, passed};
 ghost use Rattle.state.specs.Keeping.{IsOrderly};
-ghost use Rattle.state.specs.Standings.{HasHeard, IsMomentOf, IsPortLeft, IsSettled, IsStanding, is_stopped};
+ghost use Rattle.state.specs.Standings.{HasHeard, IsMomentOf, IsPortLeft, IsSettled, IsStanding};
+ghost use Rattle.state.specs.Standings.{is_stopped};
 
 use crate::ends::Ends;
 use crate::loss::Loss;

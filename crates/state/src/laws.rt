@@ -1,7 +1,8 @@
 //! What holds of each history.
 ghost use Rattle.std.specs.Prelude.{◌≡◌, ◌++◌, ◌∷◌, Bool, false};
 ghost use Rattle.gateway.specs.Log.{LogEntry};
-ghost use Rattle.state.specs.Deeds.{AreRight, Deeds, IsAllOnDisk, IsSafe, PutOut, appended, on_disk};
+ghost use Rattle.state.specs.Deeds.{AreRight, Deeds, IsAllOnDisk, IsSafe, PutOut, appended};
+ghost use Rattle.state.specs.Deeds.{on_disk};
 ghost use Rattle.state.specs.Stores.{led_to_head, safe, written};
 
 /// Whatever action was handed out: when it was, all events that had been heard were on the disk, or

@@ -19,7 +19,7 @@ mod start;
 mod store;
 mod trail;
 
-pub use beginning::{Begun, begin};
+pub use beginning::{Begun, Origin, begin};
 pub use disk_store::DiskStore;
 pub use ends::Ends;
 pub use event_text::EventText;
@@ -29,7 +29,7 @@ pub use laws::{nothing_goes_out_before_it_is_on_disk, what_is_on_disk_is_in_the_
 pub use loss::Loss;
 pub use pair::Pair;
 pub use renewal::{Patience, is_renewal_due};
-pub use replaying::{EventLines, Lineage, ToldGap, replay};
+pub use replaying::{EventLines, Lineage, Replayed, ToldGap, replay};
 pub use standing::Standing;
 pub use start::{Beginning, Found, beginning_of};
 pub use store::Store;

@@ -1,5 +1,5 @@
 //! A port, and a store beside it.
-ghost use Rattle.std.specs.Prelude.{◌≡◌, ◌++◌, true, []};
+ghost use Rattle.std.specs.Prelude.{◌≡◌, ◌++◌, true, [], length};
 ghost use Rattle.gateway.specs.Ports.{FitsBuffer, told_by};
 ghost use Rattle.traces.specs.Printed.{lines_of_log};
 
@@ -90,6 +90,8 @@ impl<P: Watched + Drop, S: Store + Drop> Ends for Pair<P, S> {
     ghost script = { λ p. P.script p.port };
 
     ghost deeds = { λ p. p.deeds };
+
+    ghost grown = { λ p. length (S.stored p.store).text };
 
     fn next(&mut self, buf: &mut [u8; 1024]) -> Next {
         let next = self.port.next(buf);

@@ -1,6 +1,7 @@
 //! When a log is begun anew, and when it is told that none is kept.
 ghost use Rattle.std.specs.Prelude.{◌≡◌, ℕ, List};
-ghost use Rattle.state.specs.Renewals.{after_notice, has_passed, is_renewal_due, is_try_due, moment_after, notice_of};
+ghost use Rattle.state.specs.Renewals.{after_notice, has_passed, is_renewal_due, is_try_due};
+ghost use Rattle.state.specs.Renewals.{moment_after, notice_of};
 ghost use Rattle.gateway.specs.Ports.{told_by};
 
 use gateway::Next;

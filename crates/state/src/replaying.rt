@@ -1,9 +1,11 @@
 //! A gateway hears again what it had heard.
-ghost use Rattle.std.specs.Prelude.{◌≡◌, ◌∷◌, [], Some, None, IfOk, false};
+ghost use Rattle.std.specs.Prelude.{◌≡◌, ◌∷◌, [], List, Some, None, IfOk, false};
+ghost use Rattle.gateway.specs.Log.{LogEntry};
 ghost use Rattle.gateway.specs.Agrees.{Follows, Rests};
 ghost use Rattle.gateway.specs.Reports.{Setup};
 ghost use Rattle.gateway.specs.Ports.{output_of};
-ghost use Rattle.state.specs.Replays.{IsFirst, IsRepeating, IsReplayed, IsTold, events_in_front, gap_of};
+ghost use Rattle.state.specs.Replays.{IsFirst, IsRepeating, IsReplayed, IsTold, events_in_front};
+ghost use Rattle.state.specs.Replays.{gap_of};
 ghost use Rattle.traces.specs.Trace.{lines_of, told};
 
 use checkpoint::StateFault;
@@ -63,6 +65,15 @@ impl Script for Brand {
 /// numbered from 1.
 pub type ToldGap = (usize, u64);
 
+/// What a replay leaves.
+#[derive(Drop)]
+pub struct Replayed {
+    /// The gap that its last step told, if it did.
+    pub gap: Option<ToldGap>,
+    /// The log before it, with the events of the replay and what the gateway did on them.
+    pub log: History,
+}
+
 /// The gap that an action tells, if it is one.
 fn gap_of(action: &Action<'_>) -> Option<ToldGap>
     ensures { result ≡ gap_of (output_of action.now) }
@@ -114,6 +125,14 @@ impl<K: Script, L: EventLines + Drop> Model for Repeater<K, L> {
     }) };
 }
 
+/// A log that proofs know, behind which such news came.
+fn known(_news: &History) -> History
+    ghost log: { List LogEntry }
+    ensures { result.entries ≡ log }
+{
+    History::before()
+}
+
 /// Gives the event that a line tells, if it tells one, as a port does: its octets are put at the
 /// front of the buffer.
 #[tactic(auto, using(crate::proofs::Repeated::unannounced, crate::proofs::Repeated::wrongly_told))]
@@ -152,6 +171,8 @@ fn next_event<L: EventLines>(
 }
 
 impl<K: Script, L: EventLines + Drop> Repeater<K, L> {
+    ghost use Rattle.state.specs.Replays.{log_of};
+
     /// One over these lines.
     fn over(alloc: Global, lines: L) -> Repeater<K, L>
         requires { events_in_front (L.coming lines) ≡ K.events }
@@ -187,6 +208,13 @@ impl<K: Script, L: EventLines + Drop> Repeater<K, L> {
         ensures { result ≡ self.now.gap }
     {
         self.gap
+    }
+
+    /// The log before the replay, with what was heard and done in it.
+    fn log(&self) -> History
+        ensures { result.entries ≡ log_of self.now }
+    {
+        known(&self.history)
     }
 
     /// Whether no event comes any more.
@@ -254,17 +282,20 @@ fn repeat<K: Script, L: EventLines + Drop>(
     alloc: Global,
     gateway: &mut Gateway,
     lines: L,
-) -> Result<Option<ToldGap>, StateFault>
+) -> Result<Replayed, StateFault>
     requires { events_in_front (L.coming lines) ≡ K.events }
     ensures { (p : Setup) → Follows p gateway.old (Some K.log) → Rests p (Some K.log) →
-        IfOk result (λ gap. IsReplayed p K.log K.events gap gateway.new) }
+        IfOk result (λ r. IsReplayed p K.log K.events r.gap r.log.entries gateway.new) }
 {
     let mut port: Repeater<K, L> = Repeater::over(alloc, lines);
     let end = drive_on(gateway, &mut port, u64::MAX);
     match end {
         End::Finished => {
             let _is_over = port.is_over();
-            Ok(port.gap())
+            Ok(Replayed {
+                gap: port.gap(),
+                log: port.log(),
+            })
         }
         // No memory holds so many lines.
         End::Turns => Err(StateFault::NoMemory),
@@ -273,16 +304,15 @@ fn repeat<K: Script, L: EventLines + Drop>(
 }
 
 /// Brings a gateway to where these lines lead: it hears their events again, up to the first line
-/// that tells none, and what it does goes nowhere. Answers the gap that its last step told, if it
-/// did. After an `Err` the gateway is given up.
+/// that tells none, and what it does goes nowhere. After an `Err` the gateway is given up.
 pub fn replay<K: Lineage, L: EventLines + Drop>(
     alloc: Global,
     gateway: &mut Gateway,
     lines: L,
-) -> Result<Option<ToldGap>, StateFault>
+) -> Result<Replayed, StateFault>
     ensures { (p : Setup) → Follows p gateway.old (Some K.log) → Rests p (Some K.log) →
-        IfOk result (λ gap. IsReplayed p K.log (events_in_front (L.coming lines)) gap
-        gateway.new) }
+        IfOk result (λ r. IsReplayed p K.log (events_in_front (L.coming lines)) r.gap
+        r.log.entries gateway.new) }
 {
     repeat::<Brand, L>(alloc, gateway, lines)
 }

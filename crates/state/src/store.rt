@@ -8,7 +8,8 @@ use gateway::Gateway;
 pub trait Store {
     ghost use Rattle.gateway.specs.Restored.{state_lines};
     ghost use Rattle.state.specs.Stores.{Stored};
-    ghost use Rattle.std.specs.Prelude.{◌≡◌, ℕ, List, [], ◌∷◌, ◌++◌, Option, Some, Bool, true, false};
+    ghost use Rattle.std.specs.Prelude.{◌≡◌, ℕ, ◌+◌, ◌≤◌, min, length, List, [], ◌∷◌, ◌++◌, Option};
+    ghost use Rattle.std.specs.Prelude.{Some, Bool, true, false};
 
     ghost stored: { Self → Stored };
 
@@ -18,11 +19,18 @@ pub trait Store {
     /// Whether the state on the disk is marked as stale, where that is known.
     ghost mark: { Self → Option Bool };
 
+    /// The number of the next log. A start takes the log with the highest one.
+    ghost next: { Self → ℕ };
+
+    /// The log that takes lines bears this number.
+    ghost bears: { Self → ℕ → Type 0 };
+
     /// Appends lines, each with its line feed. `false` says that it failed.
     fn append(&mut self, lines: &[u8]) -> bool
         ensures appended { result ≡ true → stored self.new
             ≡ record (stored self.old) { text = (stored self.old).text ++ lines.now } }
         ensures mark { mark self.new ≡ mark self.old }
+        ensures next { next self.new ≡ next self.old }
         ensures settings { settings self.new ≡ settings self.old };
 
     /// Syncs all that was appended. `false` says that it failed: what is on the disk isn't known
@@ -31,22 +39,30 @@ pub trait Store {
         ensures synced { result ≡ true → stored self.new
             ≡ record (stored self.old) { safe = (stored self.old).text } }
         ensures mark { mark self.new ≡ mark self.old }
+        ensures next { next self.new ≡ next self.old }
         ensures settings { settings self.new ≡ settings self.old };
 
     /// Begins a new log behind the settings and this gateway's state. Where `true` is answered it
-    /// stands on the disk, takes the place of the one before, and isn't marked as stale.
+    /// stands on the disk, takes the place of the one before, and isn't marked as stale. Its number
+    /// is above that of each one before it.
     fn begin(&mut self, gateway: &Gateway) -> bool
         ensures begun { result ≡ true → stored self.new
             ≡ record { head = settings self.old ∷ state_lines gateway.now; text = []; safe = [] } }
         ensures mark { result ≡ true → mark self.new ≡ Some false }
+        ensures bears { result ≡ true → bears self.new (next self.old) }
+        ensures above { result ≡ true →
+            min (next self.old + 1) 18446744073709551615 ≤ next self.new }
+        ensures next { next self.old ≤ next self.new }
         ensures settings { settings self.new ≡ settings self.old };
 
     /// How many octets the lines behind the head of the log have.
-    fn event_octets(&self) -> u64;
+    fn event_octets(&self) -> u64
+        ensures { result ≡ length (stored self.now).text };
 
     /// It has failed, and marks the state on the disk as stale. Neither line nor sync comes until a
     /// new log is begun.
     fn give_up(&mut self) -> Loss
         ensures mark { result ≡ Loss.Marked → mark self.new ≡ Some true }
+        ensures next { next self.new ≡ next self.old }
         ensures settings { settings self.new ≡ settings self.old };
 }

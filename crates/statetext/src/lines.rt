@@ -1,8 +1,11 @@
 //! Lines are read of a text.
-ghost use Rattle.std.specs.Prelude.{◌≡◌, ◌==◌, ◌<◌, ◌≤◌, IfSome, IsNone, position, slice_index, ℕ, List, [], ◌∷◌, ◌++◌, length, drop, Some, None, OnOk, IfErr, Err};
+ghost use Rattle.std.specs.Prelude.{◌≡◌, ◌==◌, ◌<◌, ◌≤◌, IfSome, IsNone, position, slice_index, ℕ};
+ghost use Rattle.std.specs.Prelude.{List, [], ◌∷◌, ◌++◌, length, drop, Some, None, OnOk, IfErr};
+ghost use Rattle.std.specs.Prelude.{Err};
 ghost use Rattle.checkpoint.specs.Octets.{IsOctetLine};
 ghost use Rattle.checkpoint.specs.declared.StateFault.TheVariants.{Wrong, NoMemory};
-ghost use Rattle.statetext.specs.Text.{lines_in, line_in, before_lines, numbers_behind, with_digit, octets_told};
+ghost use Rattle.statetext.specs.Text.{lines_in, line_in, before_lines, numbers_behind, with_digit};
+ghost use Rattle.statetext.specs.Text.{octets_told};
 ghost use Rattle.hex.specs.Hex.{decode_of};
 
 use checkpoint::{Lines, StateFault};

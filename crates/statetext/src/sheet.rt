@@ -2,7 +2,8 @@
 ghost use Rattle.hex.specs.Hex.{encode_lower};
 ghost use Rattle.std.specs.Prelude.{◌≡◌, ◌*◌, length, ℕ, List, [], ◌∷◌, ◌++◌, OnOk, OnErr};
 ghost use Rattle.std.proofs.Props.{props};
-ghost use Rattle.statetext.specs.Text.{text_of_numbers, text_of_octets, text_behind, lines_in, IsWhole};
+ghost use Rattle.statetext.specs.Text.{text_of_numbers, text_of_octets, text_behind, lines_in};
+ghost use Rattle.statetext.specs.Text.{IsWhole};
 
 use checkpoint::{Sheet, StateFault};
 use hex::encode_to_slice;

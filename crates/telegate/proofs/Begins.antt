@@ -10,7 +10,8 @@ empty_text : IsText []
 empty_text = record { lines = refl; printable = tt }
 
 -- nothing is written on a new sheet
-pub new_is_written : (taken : Option (List ℕ)) (missed : Option Log) → IsNew taken missed → IsWritten taken
+pub new_is_written : (taken : Option (List ℕ)) (missed : Option Log) → IsNew taken missed
+    → IsWritten taken
 new_is_written None missed new = tt
 new_is_written (Some text) missed new = subst IsText (sym new.0) empty_text
 
@@ -30,10 +31,12 @@ told_nothing (Some text) (Some log) new = rw (new.0, new.1)
 pub new_tells_nothing : (r : Recording) → IsNew r.taken r.missed → r.held ≡ []
     → told_first (log_of r) (Some []) ≡ Some []
 new_tells_nothing r new none =
-    ap (λ held. told_first (told_behind (added r.taken held) r.missed) (Some [])) none ∙ told_nothing r.taken r.missed new
+    ap (λ held. told_first (told_behind (added r.taken held) r.missed) (Some [])) none
+    ∙ told_nothing r.taken r.missed new
 
 -- and all that was told is what passed before
-pub told_before : (before : Log) (pen : Recording) (told : Option Log) → told_first (log_of pen) (Some []) ≡ Some []
+pub told_before : (before : Log) (pen : Recording) (told : Option Log)
+    → told_first (log_of pen) (Some []) ≡ Some []
     → told ≡ Some [] → all_told before pen told ≡ Some before
 told_before before pen told new none =
     ap (λ t. behind before (told_first (log_of pen) t)) none ∙ ap (behind before) new

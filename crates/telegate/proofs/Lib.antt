@@ -15,3 +15,12 @@ pub mod SimLemmas
 pub mod Performed
 pub mod TextLemmas
 pub mod PartLemmas
+pub mod CheckLemmas
+pub mod KeptLemmas
+pub mod PipeLemmas
+pub mod TellingLemmas
+pub mod ToldSimLemmas
+pub mod Wished
+pub mod RanLemmas
+pub mod CaptureLemmas
+pub mod PlayLemmas

@@ -8,4 +8,5 @@ use Rattle.telegate.specs.Lives.{behind}
 pub told_behind : (before : Log) (old new : Option Log) (news : Log) → new ≡ tell old news
     → behind before new ≡ tell (behind before old) news
 told_behind before None new news is = rw is
-told_behind before (Some log) new news is = ap (behind before) is ∙ ap Some (append_assoc news log before)
+told_behind before (Some log) new news is = ap (behind before) is
+    ∙ ap Some (append_assoc news log before)

@@ -1,9 +1,8 @@
 -- Texts that are printed part by part.
-use Rattle.std.proofs.Common.{◌≡◌, ℕ, Bool, true, false, List, [], ◌++◌, Option, Some, None, refl, sym, ap, subst, ◌∙◌, append_assoc}
+use Rattle.std.proofs.Common.{◌≡◌, ℕ, Bool, true, false, List, [], ◌++◌, Option, Some, None, sym}
+use Rattle.std.proofs.Common.{ap, subst, ◌∙◌, append_assoc}
 use Rattle.std.proofs.lemmas.List.{append-nil}
-use Rattle.std.specs.Prelude.{Result, Ok, Err, OnOk, OnErr}
-use Rattle.std.specs.Result.{is_ok}
-use Rattle.std.specs.Io.KnownBytes.{Appends, Keeps}
+use Rattle.std.specs.Io.KnownBytes.{Appends}
 use Rattle.gateway.specs.Log.{Log}
 use Rattle.sim.specs.Runs.{IsBegun}
 use Rattle.traces.specs.Actions.{lines_of_actions}
@@ -24,9 +23,17 @@ appends_more (Some a) (Some b) (Some c) xs ys p q =
     q ∙ ap (λ zs. zs ++ ys) p ∙ append_assoc a xs ys
 
 -- a text behind a beginning
-pub begun_longer : (a b : Option (List ℕ)) (xs ys : List ℕ) → IsBegun a b xs → IsBegun a b (xs ++ ys)
-begun_longer a b xs ys begun =
-    (begun.0, (begun.1.0 ++ ys, sym (append_assoc begun.0 begun.1.0 ys) ∙ ap (λ zs. zs ++ ys) begun.1.1), begun.2)
+pub begun_longer : (a b : Option (List ℕ)) (xs ys : List ℕ) → IsBegun a b xs
+    → IsBegun a b (xs ++ ys)
+begun_longer a b xs ys begun = (
+  begun.0,
+  (
+    begun.1.0 ++ ys,
+    sym (append_assoc begun.0 begun.1.0 ys)
+        ∙ ap (λ zs. zs ++ ys) begun.1.1,
+  ),
+  begun.2,
+)
 
 pub begun_behind : (a b c : Option (List ℕ)) (xs ys : List ℕ) → Appends a b xs → IsBegun b c ys
     → IsBegun a c (xs ++ ys)
@@ -40,14 +47,17 @@ begun_behind a b c xs ys p begun = (
 pub appends_begun : (a b : Option (List ℕ)) (xs : List ℕ) → Appends a b xs → IsBegun a b xs
 appends_begun a b xs p = (xs, ([], append-nil xs), p)
 
-pub poured_begun : (is_whole : Bool) (a b : Option (List ℕ)) (xs : List ℕ) → IsPoured is_whole a b xs
+pub poured_begun : (is_whole : Bool) (a b : Option (List ℕ)) (xs : List ℕ)
+    → IsPoured is_whole a b xs
     → IsBegun a b xs
 poured_begun true a b xs p = appends_begun a b xs p
 poured_begun false a b xs p = p
 
 -- all lines of the log
-pub poured_all : (is_whole : Bool) (before after : Option (List ℕ)) (log poured : Log) → Some log ≡ Some poured
-    → IsPoured is_whole before after (lines_of_actions poured) → IsPoured is_whole before after (lines_of_actions log)
+pub poured_all : (is_whole : Bool) (before after : Option (List ℕ)) (log poured : Log) → Some log
+    ≡ Some poured
+    → IsPoured is_whole before after (lines_of_actions poured)
+    → IsPoured is_whole before after (lines_of_actions log)
 poured_all is_whole before after log poured all p =
     let same : poured ≡ log = cc in
     subst (λ (l : Log). IsPoured is_whole before after (lines_of_actions l)) same p

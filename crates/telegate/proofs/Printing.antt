@@ -1,5 +1,7 @@
 -- Writes of a text, one after another: what was written is a beginning of it.
-use Rattle.std.proofs.Common.{◌≡◌, ℕ, zero, suc, ◌+◌, ◌-◌, ◌++◌, List, [], ◌∷◌, length, take, drop, take-append-drop, Option, Some, None, refl, ap, subst, sym, ◌∙◌, arith}
+use Rattle.std.proofs.Common.{◌≡◌, ℕ, zero, suc, ◌+◌, ◌-◌, ◌++◌, List, [], ◌∷◌, length, take, drop}
+use Rattle.std.proofs.Common.{take-append-drop, Option, Some, None, refl, ap, subst, sym, ◌∙◌}
+use Rattle.std.proofs.Common.{arith}
 use Rattle.std.proofs.lemmas.List.{take_all, length-drop}
 use Rattle.std.specs.Prelude.{Result, Ok, Err}
 use Rattle.std.specs.Io.KnownBytes.{Appends, Keeps, WriteAppends}
@@ -29,21 +31,27 @@ kept_more (Some a) (Some b) None xs p q = absurd q
 kept_more (Some a) (Some b) (Some c) xs p q = q ∙ p
 
 -- the first octets of them all
-pub begun_so_far : (before after : Option (List ℕ)) (octets : List ℕ) (n : ℕ) → Appends before after (take n octets)
+pub begun_so_far : (before after : Option (List ℕ)) (octets : List ℕ) (n : ℕ)
+    → Appends before after (take n octets)
     → IsBegun before after octets
-begun_so_far before after octets n wrote = (take n octets, (drop n octets, take-append-drop n octets), wrote)
+begun_so_far before after octets n wrote =
+    (take n octets, (drop n octets, take-append-drop n octets), wrote)
 
 module _ {E : Type 0} where
   -- n octets more
-  pub taken : (a b c : Option (List ℕ)) (xs : List ℕ) (done n more : ℕ) (r : Result ℕ E) → r ≡ Ok n → more ≡ done + n
+  pub taken : (a b c : Option (List ℕ)) (xs : List ℕ) (done n more : ℕ) (r : Result ℕ E) → r ≡ Ok n
+      → more ≡ done + n
       → Appends a b (take done xs) → WriteAppends b c r (take (length xs - done) (drop done xs))
       → Appends a c (take more xs)
   taken a b c xs done n more r is all p q =
       subst (λ (k : ℕ). Appends a c (take k xs)) (sym all)
       (written_more a b c xs done n p
-      (subst (λ (x : Result ℕ E). WriteAppends b c x (take (length xs - done) (drop done xs))) is q))
+      (subst (λ (x : Result ℕ E). WriteAppends b c x (take (length xs - done) (drop done xs))) is
+      q))
 
   -- none, since the write failed
-  pub not_taken : (a b c : Option (List ℕ)) (xs buf : List ℕ) (r : Result ℕ E) (e : E) → r ≡ Err e → Appends a b xs
+  pub not_taken : (a b c : Option (List ℕ)) (xs buf : List ℕ) (r : Result ℕ E) (e : E) → r ≡ Err e
+      → Appends a b xs
       → WriteAppends b c r buf → Appends a c xs
-  not_taken a b c xs buf r e is p q = kept_more a b c xs p (subst (λ (x : Result ℕ E). WriteAppends b c x buf) is q)
+  not_taken a b c xs buf r e is p q =
+      kept_more a b c xs p (subst (λ (x : Result ℕ E). WriteAppends b c x buf) is q)

@@ -1,5 +1,6 @@
 -- Runs over a trace: what their ends say of the whole command.
-use Rattle.std.proofs.Common.{◌≡◌, ◌⊎◌, ℕ, List, [], ◌++◌, Option, Some, None, inl, inr, refl, subst, ◌∙◌}
+use Rattle.std.proofs.Common.{◌≡◌, ◌⊎◌, ℕ, List, [], ◌++◌, Option, Some, None, inl, inr, refl}
+use Rattle.std.proofs.Common.{subst, ◌∙◌}
 use Rattle.std.proofs.lemmas.List.{append-nil}
 use Rattle.std.specs.Prelude.{Result, Ok, Err}
 use Rattle.std.specs.Io.KnownBytes.{Keeps}
@@ -14,24 +15,32 @@ use Rattle.gateway.specs.Setups.{setup_of}
 use Rattle.gateway.specs.State.{State}
 use Rattle.gateway.specs.Traffic.{IsFaithful, HasRested}
 use Rattle.settings.specs.Settings.{IsReadOfText}
-use Rattle.traces.specs.Actions.{lines_of_actions}
 use Rattle.traces.specs.Progress.{script_in}
 use Rattle.traces.specs.Trace.{lines_of, first_wrong}
-use Rattle.telegate.specs.Answers.{HasRun, Runs, IsEndOf, IsRun, IsRunOf, IsStopOf, IsReplayed, IsConfigFault, WasJudged}
+use Rattle.telegate.specs.Answers.{HasRun, Runs, IsEndOf, IsRun, IsRunOf, IsStopOf, IsReplayed}
+use Rattle.telegate.specs.Answers.{WasJudged}
+use Rattle.telegate.specs.Given.{IsConfigFault}
 use Rattle.telegate.specs.Closing.{closing_lines}
+use Rattle.telegate.specs.Manners.{Tells}
 use Rattle.telegate.specs.Parts.{IsWant, IsJudgedFault, IsRightText, IsStoppedOver}
 use Rattle.telegate.specs.Source.{Gives}
 use Rattle.telegate.proofs.Kept.{keeps_same}
 use Rattle.telegate.specs.Printed.{IsClosedBy}
 use Rattle.telegate.specs.declared.closing.Closing.{Closing}
+use Rattle.telegate.specs.declared.manner.Manner.{Manner}
 use Rattle.telegate.specs.declared.fault.Fault.{Fault}
-use Rattle.telegate.specs.declared.fault.Fault.TheVariants.{Config, Trace, Script, Record, Sizes, Octets, Address, NoState, StateInUse, StateUnusable, Device, Unread, NoMemory}
+use Rattle.telegate.specs.declared.fault.Fault.TheVariants.{Config, Site, Trace, Script, Record}
+use Rattle.telegate.specs.declared.fault.Fault.TheVariants.{Sizes, Octets, Address, NoState}
+use Rattle.telegate.specs.declared.fault.Fault.TheVariants.{StateInUse, StateUnusable, Device}
+use Rattle.telegate.specs.declared.fault.Fault.TheVariants.{Unread, NoMemory}
 
-module _ (has : List ℕ → Type 0) (closing : Closing) (settings : Settings) (trace : List ℕ) (log : Log)
-    (old new : Option (List ℕ)) (is : has trace) (faithful : IsFaithful (setup_of settings) log) where
+module _ (manner : Manner) (has : List ℕ → Type 0) (closing : Closing) (settings : Settings)
+    (trace : List ℕ)
+    (log : Log) (lines : List ℕ) (old new : Option (List ℕ)) (is : has trace)
+    (faithful : IsFaithful (setup_of settings) log) (told : Tells manner settings log lines) where
   -- a run that stopped before its end
   pub stopped : (rest : List LogEntry) → events_of log ++ rest ≡ script_in trace
-      → IsBegun old new (lines_of_actions log) → IsStopOf settings has old new
+      → IsBegun old new lines → IsStopOf settings manner has old new
   stopped rest events begun = record {
     trace = trace;
     is = is;
@@ -39,22 +48,25 @@ module _ (has : List ℕ → Type 0) (closing : Closing) (settings : Settings) (
     rest = rest;
     events = events;
     faithful = faithful;
+    text = lines;
+    told = told;
     printed = begun;
   }
 
   -- a run that came to its end, with the state that the gateway then has
-  pub ended : (state : State) → first_wrong 1 (lines_of trace) ≡ None → events_of log ≡ script_in trace
+  pub ended : (state : State) → first_wrong 1 (lines_of trace) ≡ None → events_of log
+      ≡ script_in trace
       → HasRested (setup_of settings) log → KeepsOrder log → Delivers (setup_of settings) log
       → Follows (setup_of settings) state (Some log) → IsAccounted (setup_of settings) state log
       → (r : Result (Unit {0}) Fault)
-      → IsClosedBy old new (lines_of_actions log) (closing_lines closing.left closing.counts state) r
-      → IsEndOf settings has closing old new r
+      → IsClosedBy old new lines (closing_lines closing.left closing.counts state) r
+      → IsEndOf settings manner has closing old new r
   ended state right events rests ordered delivers follows accounts = by
     where
       text : List ℕ
-      text = lines_of_actions log ++ closing_lines closing.left closing.counts state
+      text = lines ++ closing_lines closing.left closing.counts state
 
-      run : IsRun settings trace closing text
+      run : IsRun settings manner trace closing text
       run = record {
         log = log;
         events = events;
@@ -65,18 +77,37 @@ module _ (has : List ℕ → Type 0) (closing : Closing) (settings : Settings) (
         state = state;
         follows = follows;
         accounts = accounts;
-        lines = refl;
+        lines = lines;
+        told = told;
+        joined = refl;
       }
 
       by : (r : Result (Unit {0}) Fault)
-          → IsClosedBy old new (lines_of_actions log) (closing_lines closing.left closing.counts state) r
-          → IsEndOf settings has closing old new r
-      by (Ok done) h = record { trace = trace; is = is; right = right; text = text; run = run; printed = h }
-      by (Err Device) h = record { trace = trace; is = is; right = right; text = text; run = run; printed = h }
+          → IsClosedBy old new lines (closing_lines closing.left closing.counts state) r
+          → IsEndOf settings manner has closing old new r
+      by (Ok done) h = record {
+        trace = trace;
+        is = is;
+        right = right;
+        text = text;
+        run =
+            run;
+        printed = h;
+      }
+      by (Err Device) h = record {
+        trace = trace;
+        is = is;
+        right = right;
+        text = text;
+        run =
+            run;
+        printed = h;
+      }
       by (Err NoMemory) h = inr (stopped [] (append-nil (events_of log) ∙ events) h)
       by (Err (Config why)) h = absurd h
       by (Err (Trace n)) h = absurd h
       by (Err (Script n)) h = absurd h
+      by (Err (Site why)) h = absurd h
       by (Err (Record n)) h = absurd h
       by (Err NoState) h = absurd h
       by (Err StateInUse) h = absurd h
@@ -87,24 +118,29 @@ module _ (has : List ℕ → Type 0) (closing : Closing) (settings : Settings) (
       by (Err Unread) h = absurd h
 
 -- a run that stopped in the text, or before it
-pub stopped_by : (closing : Closing) (settings : Settings) (known old new : Option (List ℕ)) (began : State)
-    → Follows (setup_of settings) began (Some []) → (fault : Fault) → IsWant fault
-    → Keeps old new ⊎ IsStoppedOver known began old new → IsEndOf settings (Gives known) closing old new (Err fault)
-stopped_by closing settings known old new began begins = by
+pub stopped_by : (manner : Manner) (closing : Closing) (settings : Settings)
+    (known old new : Option (List ℕ))
+    (began : State) → Follows (setup_of settings) began (Some []) → (fault : Fault) → IsWant fault
+    → Keeps old new ⊎ IsStoppedOver (Tells manner settings) known began old new
+    → IsEndOf settings manner (Gives known) closing old new (Err fault)
+stopped_by manner closing settings known old new began begins = by
   where
-    either : Keeps old new ⊎ IsStoppedOver known began old new
-        → Keeps old new ⊎ IsStopOf settings (Gives known) old new
+    either : Keeps old new ⊎ IsStoppedOver (Tells manner settings) known began old new
+        → Keeps old new ⊎ IsStopOf settings manner (Gives known) old new
     either (inl keeps) = inl keeps
-    either (inr s) = inr (stopped (Gives known) closing settings s.octets s.log old new s.given
-        (s.faithful (setup_of settings) begins tt) s.rest s.events s.begun)
+    either (inr s) =
+        inr (stopped manner (Gives known) closing settings s.octets s.log s.lines old new s.given
+        (s.faithful (setup_of settings) begins tt) s.told s.rest s.events s.begun)
 
-    by : (fault : Fault) → IsWant fault → Keeps old new ⊎ IsStoppedOver known began old new
-        → IsEndOf settings (Gives known) closing old new (Err fault)
+    by : (fault : Fault) → IsWant fault → Keeps old new
+        ⊎ IsStoppedOver (Tells manner settings) known began old new
+        → IsEndOf settings manner (Gives known) closing old new (Err fault)
     by NoMemory want stop = either stop
     by Unread want stop = either stop
     by (Config why) want stop = absurd want
     by (Trace n) want stop = absurd want
     by (Script n) want stop = absurd want
+    by (Site why) want stop = absurd want
     by (Record n) want stop = absurd want
     by NoState want stop = absurd want
     by StateInUse want stop = absurd want
@@ -115,18 +151,22 @@ stopped_by closing settings known old new began begins = by
     by Device want stop = absurd want
 
 -- memory was refused before the run began
-pub unbegun : (closing : Closing) (settings : Settings) (has : List ℕ → Type 0) (known : Option (List ℕ))
-    → IsEndOf settings has closing known known (Err NoMemory)
-unbegun closing settings has known = inl (keeps_same known)
+pub unbegun : (manner : Manner) (closing : Closing) (settings : Settings) (has : List ℕ
+    → Type 0) (known : Option (List ℕ))
+    → IsEndOf settings manner has closing known known (Err NoMemory)
+unbegun manner closing settings has known = inl (keeps_same known)
 
 -- the whole command, where its settings were read and its trace was judged
-pub replayed : (config : List ℕ) (has more : List ℕ → Type 0) (closing : Closing) (settings : Settings)
+pub replayed : (config : List ℕ) (manner : Manner) (has more : List ℕ → Type 0) (closing : Closing)
+    (settings : Settings)
     (old new : Option (List ℕ)) → IsReadOfText config (Ok settings) → WasJudged more
     → ((octets : List ℕ) → has octets → more octets) → (r : Result (Unit {0}) Fault)
-    → IsEndOf settings has closing old new r → IsReplayed config more closing old new r
-replayed config has more closing settings old new read judged wider = by
+    → IsEndOf settings manner has closing old new r
+    → IsReplayed config manner more closing old new r
+replayed config manner has more closing settings old new read judged wider = by
   where
-    run_of : {P : List ℕ → Type 0} → IsRunOf settings has closing P → IsRunOf settings more closing P
+    run_of : {P : List ℕ → Type 0} → IsRunOf settings manner has closing P
+        → IsRunOf settings manner more closing P
     run_of h = record {
       trace = h.trace;
       is = wider h.trace h.is;
@@ -136,7 +176,7 @@ replayed config has more closing settings old new read judged wider = by
       printed = h.printed;
     }
 
-    stop_of : IsStopOf settings has old new → IsStopOf settings more old new
+    stop_of : IsStopOf settings manner has old new → IsStopOf settings manner more old new
     stop_of h = record {
       trace = h.trace;
       is = wider h.trace h.is;
@@ -144,18 +184,21 @@ replayed config has more closing settings old new read judged wider = by
       rest = h.rest;
       events = h.events;
       faithful = h.faithful;
+      text = h.text;
+      told = h.told;
       printed = h.printed;
     }
 
     has_run : {P : Settings → Type 0} → P settings → HasRun config more P
     has_run h = record { settings = settings; read_config = read; judged = judged; end = h }
 
-    either : Keeps old new ⊎ IsStopOf settings has old new
-        → Keeps old new ⊎ HasRun config more (λ s. IsStopOf s more old new)
+    either : Keeps old new ⊎ IsStopOf settings manner has old new
+        → Keeps old new ⊎ HasRun config more (λ s. IsStopOf s manner more old new)
     either (inl keeps) = inl keeps
     either (inr h) = inr (has_run (stop_of h))
 
-    by : (r : Result (Unit {0}) Fault) → IsEndOf settings has closing old new r → IsReplayed config more closing old new r
+    by : (r : Result (Unit {0}) Fault) → IsEndOf settings manner has closing old new r
+        → IsReplayed config manner more closing old new r
     by (Ok done) h = has_run (run_of h)
     by (Err Device) h = has_run (run_of h)
     by (Err NoMemory) h = either h
@@ -163,6 +206,7 @@ replayed config has more closing settings old new read judged wider = by
     by (Err (Config why)) h = absurd h
     by (Err (Trace n)) h = absurd h
     by (Err (Script n)) h = absurd h
+    by (Err (Site why)) h = absurd h
     by (Err (Record n)) h = absurd h
     by (Err NoState) h = absurd h
     by (Err StateInUse) h = absurd h
@@ -172,79 +216,100 @@ replayed config has more closing settings old new read judged wider = by
     by (Err Address) h = absurd h
 
 -- a fault before anything was run
-pub wanted : (config : List ℕ) (has : List ℕ → Type 0) (closing : Closing) (known : Option (List ℕ)) (fault : Fault)
-    → IsWant fault → IsReplayed config has closing known known (Err fault)
-wanted config has closing known NoMemory want = inl (keeps_same known)
-wanted config has closing known Unread want = inl (keeps_same known)
-wanted config has closing known (Config why) want = absurd want
-wanted config has closing known (Trace n) want = absurd want
-wanted config has closing known (Script n) want = absurd want
-wanted config has closing known (Record n) want = absurd want
-wanted config has closing known NoState want = absurd want
-wanted config has closing known StateInUse want = absurd want
-wanted config has closing known StateUnusable want = absurd want
-wanted config has closing known Sizes want = absurd want
-wanted config has closing known Octets want = absurd want
-wanted config has closing known Address want = absurd want
-wanted config has closing known Device want = absurd want
+pub wanted : (config : List ℕ) (manner : Manner) (has : List ℕ → Type 0) (closing : Closing)
+    (known : Option (List ℕ)) (fault : Fault)
+    → IsWant fault → IsReplayed config manner has closing known known (Err fault)
+wanted config manner has closing known NoMemory want = inl (keeps_same known)
+wanted config manner has closing known Unread want = inl (keeps_same known)
+wanted config manner has closing known (Config why) want = absurd want
+wanted config manner has closing known (Trace n) want = absurd want
+wanted config manner has closing known (Script n) want = absurd want
+wanted config manner has closing known (Site why) want = absurd want
+wanted config manner has closing known (Record n) want = absurd want
+wanted config manner has closing known NoState want = absurd want
+wanted config manner has closing known StateInUse want = absurd want
+wanted config manner has closing known StateUnusable want = absurd want
+wanted config manner has closing known Sizes want = absurd want
+wanted config manner has closing known Octets want = absurd want
+wanted config manner has closing known Address want = absurd want
+wanted config manner has closing known Device want = absurd want
 
 -- settings are wrong
-pub misconfigured : (config : List ℕ) (has : List ℕ → Type 0) (closing : Closing) (known : Option (List ℕ))
-    (fault : Fault) → IsConfigFault config fault → IsReplayed config has closing known known (Err fault)
-misconfigured config has closing known (Config why) wrong = (wrong, keeps_same known)
-misconfigured config has closing known NoMemory wrong = inl (keeps_same known)
-misconfigured config has closing known Unread wrong = absurd wrong
-misconfigured config has closing known (Trace n) wrong = absurd wrong
-misconfigured config has closing known (Script n) wrong = absurd wrong
-misconfigured config has closing known (Record n) wrong = absurd wrong
-misconfigured config has closing known NoState wrong = absurd wrong
-misconfigured config has closing known StateInUse wrong = absurd wrong
-misconfigured config has closing known StateUnusable wrong = absurd wrong
-misconfigured config has closing known Sizes wrong = absurd wrong
-misconfigured config has closing known Octets wrong = absurd wrong
-misconfigured config has closing known Address wrong = absurd wrong
-misconfigured config has closing known Device wrong = absurd wrong
+pub misconfigured : (config : List ℕ) (manner : Manner) (has : List ℕ → Type 0) (closing : Closing)
+    (known : Option (List ℕ))
+    (fault : Fault) → IsConfigFault config fault
+    → IsReplayed config manner has closing known known (Err fault)
+misconfigured config manner has closing known (Config why) wrong = (wrong, keeps_same known)
+misconfigured config manner has closing known NoMemory wrong = inl (keeps_same known)
+misconfigured config manner has closing known Unread wrong = absurd wrong
+misconfigured config manner has closing known (Trace n) wrong = absurd wrong
+misconfigured config manner has closing known (Script n) wrong = absurd wrong
+misconfigured config manner has closing known (Site why) wrong = absurd wrong
+misconfigured config manner has closing known (Record n) wrong = absurd wrong
+misconfigured config manner has closing known NoState wrong = absurd wrong
+misconfigured config manner has closing known StateInUse wrong = absurd wrong
+misconfigured config manner has closing known StateUnusable wrong = absurd wrong
+misconfigured config manner has closing known Sizes wrong = absurd wrong
+misconfigured config manner has closing known Octets wrong = absurd wrong
+misconfigured config manner has closing known Address wrong = absurd wrong
+misconfigured config manner has closing known Device wrong = absurd wrong
 
 -- a trace is wrong
-pub misjudged : (config : List ℕ) (has : List ℕ → Type 0) (closing : Closing) (settings : Settings)
+pub misjudged : (config : List ℕ) (manner : Manner) (has : List ℕ → Type 0) (closing : Closing)
+    (settings : Settings)
     (known old : Option (List ℕ)) → IsReadOfText config (Ok settings)
     → ((octets : List ℕ) → Gives known octets → has octets)
-    → (fault : Fault) → IsJudgedFault known fault → IsReplayed config has closing old old (Err fault)
-misjudged config has closing settings known old read gives (Trace n) wrong =
+    → (fault : Fault) → IsJudgedFault known fault
+    → IsReplayed config manner has closing old old (Err fault)
+misjudged config manner has closing settings known old read gives (Trace n) wrong =
     ((settings, read), (wrong.octets, gives wrong.octets wrong.given, wrong.wrong), keeps_same old)
-misjudged config has closing settings known old read gives NoMemory wrong = inl (keeps_same old)
-misjudged config has closing settings known old read gives Unread wrong = inl (keeps_same old)
-misjudged config has closing settings known old read gives (Config why) wrong = absurd wrong
-misjudged config has closing settings known old read gives (Script n) wrong = absurd wrong
-misjudged config has closing settings known old read gives (Record n) wrong = absurd wrong
-misjudged config has closing settings known old read gives NoState wrong = absurd wrong
-misjudged config has closing settings known old read gives StateInUse wrong = absurd wrong
-misjudged config has closing settings known old read gives StateUnusable wrong = absurd wrong
-misjudged config has closing settings known old read gives Sizes wrong = absurd wrong
-misjudged config has closing settings known old read gives Octets wrong = absurd wrong
-misjudged config has closing settings known old read gives Address wrong = absurd wrong
-misjudged config has closing settings known old read gives Device wrong = absurd wrong
+misjudged config manner has closing settings known old read gives NoMemory wrong =
+    inl (keeps_same old)
+misjudged config manner has closing settings known old read gives Unread wrong =
+    inl (keeps_same old)
+misjudged config manner has closing settings known old read gives (Config why) wrong = absurd wrong
+misjudged config manner has closing settings known old read gives (Script n) wrong = absurd wrong
+misjudged config manner has closing settings known old read gives (Site why) wrong = absurd wrong
+misjudged config manner has closing settings known old read gives (Record n) wrong = absurd wrong
+misjudged config manner has closing settings known old read gives NoState wrong = absurd wrong
+misjudged config manner has closing settings known old read gives StateInUse wrong = absurd wrong
+misjudged config manner has closing settings known old read gives StateUnusable wrong = absurd wrong
+misjudged config manner has closing settings known old read gives Sizes wrong = absurd wrong
+misjudged config manner has closing settings known old read gives Octets wrong = absurd wrong
+misjudged config manner has closing settings known old read gives Address wrong = absurd wrong
+misjudged config manner has closing settings known old read gives Device wrong = absurd wrong
 
 -- a text that was judged is one of those that may be
-pub was_judged : (has : List ℕ → Type 0) (known : Option (List ℕ)) → ((octets : List ℕ) → Gives known octets → has octets)
+pub was_judged : (has : List ℕ → Type 0) (known : Option (List ℕ))
+    → ((octets : List ℕ) → Gives known octets → has octets)
     → IsRightText known → WasJudged has
-was_judged has known gives h = record { trace = h.octets; is = gives h.octets h.given; right = h.right }
+was_judged has known gives h = record {
+  trace = h.octets;
+  is = gives h.octets h.given;
+  right =
+      h.right;
+}
 
 -- a text that stands in memory is that of a file
-replayed_as : (config : List ℕ) (has more : List ℕ → Type 0) (closing : Closing) (old new : Option (List ℕ))
+replayed_as : (config : List ℕ) (manner : Manner) (has more : List ℕ → Type 0) (closing : Closing)
+    (old new : Option (List ℕ))
     (r : Result (Unit {0}) Fault) → ((octets : List ℕ) → has octets → more octets)
-    → IsReplayed config has closing old new r → IsReplayed config more closing old new r
-replayed_as config has more closing old new r wider = by r
+    → IsReplayed config manner has closing old new r
+    → IsReplayed config manner more closing old new r
+replayed_as config manner has more closing old new r wider = by r
   where
     judged : WasJudged has → WasJudged more
     judged h = record { trace = h.trace; is = wider h.trace h.is; right = h.right }
 
-    under : (r : Result (Unit {0}) Fault) (settings : Settings) → IsReadOfText config (Ok settings) → WasJudged has
-        → IsEndOf settings has closing old new r → IsReplayed config more closing old new r
+    under : (r : Result (Unit {0}) Fault) (settings : Settings) → IsReadOfText config (Ok settings)
+        → WasJudged has
+        → IsEndOf settings manner has closing old new r
+        → IsReplayed config manner more closing old new r
     under r settings read was =
-        replayed config has more closing settings old new read (judged was) wider r
+        replayed config manner has more closing settings old new read (judged was) wider r
 
-    by : (r : Result (Unit {0}) Fault) → IsReplayed config has closing old new r → IsReplayed config more closing old new r
+    by : (r : Result (Unit {0}) Fault) → IsReplayed config manner has closing old new r
+        → IsReplayed config manner more closing old new r
     by (Ok done) h = under (Ok done) h.settings h.read_config h.judged h.end
     by (Err Device) h = under (Err Device) h.settings h.read_config h.judged h.end
     by (Err NoMemory) (inl keeps) = inl keeps
@@ -254,6 +319,7 @@ replayed_as config has more closing old new r wider = by r
     by (Err (Config why)) h = h
     by (Err (Trace n)) h = (h.0, (h.1.0, wider h.1.0 h.1.1, h.1.2), h.2)
     by (Err (Script n)) h = absurd h
+    by (Err (Site why)) h = absurd h
     by (Err (Record n)) h = absurd h
     by (Err NoState) h = absurd h
     by (Err StateInUse) h = absurd h
@@ -262,11 +328,14 @@ replayed_as config has more closing old new r wider = by r
     by (Err Octets) h = absurd h
     by (Err Address) h = absurd h
 
-pub replayed_held : (config : List ℕ) (more : List ℕ → Type 0) (closing : Closing) (octets : List ℕ)
+pub replayed_held : (config : List ℕ) (manner : Manner) (more : List ℕ → Type 0) (closing : Closing)
+    (octets : List ℕ)
     (old new : Option (List ℕ)) (exit : ℕ) → more octets
-    → Runs (IsReplayed config (λ xs. octets ≡ xs) closing) old new exit → Runs (IsReplayed config more closing) old new exit
-replayed_held config more closing octets old new exit is h = record {
+    → Runs (IsReplayed config manner (λ xs. octets ≡ xs) closing) old new exit
+    → Runs (IsReplayed config manner more closing) old new exit
+replayed_held config manner more closing octets old new exit is h = record {
   result = h.result;
-  ran = replayed_as config (λ xs. octets ≡ xs) more closing old new h.result (λ xs e. subst more e is) h.ran;
+  ran = replayed_as config manner (λ xs. octets ≡ xs) more closing old new h.result
+      (λ xs e. subst more e is) h.ran;
   status = h.status;
 }

@@ -7,27 +7,33 @@ use Rattle.sim.specs.declared.directive.Directive.{Directive}
 use Rattle.sim.specs.Scripts.{IsScriptOf}
 use Rattle.telegate.specs.Answers.{IsSimulationOf, IsSimulatedBy}
 use Rattle.telegate.specs.declared.fault.Fault.{Fault}
-use Rattle.telegate.specs.declared.fault.Fault.TheVariants.{Config, Trace, Script, Record, Sizes, Octets, Address, NoState, StateInUse, StateUnusable, Device, Unread, NoMemory}
+use Rattle.telegate.specs.declared.manner.Manner.{Manner}
+use Rattle.telegate.specs.declared.fault.Fault.TheVariants.{Config, Site, Trace, Script, Record}
+use Rattle.telegate.specs.declared.fault.Fault.TheVariants.{Sizes, Octets, Address, NoState}
+use Rattle.telegate.specs.declared.fault.Fault.TheVariants.{StateInUse, StateUnusable, Device}
+use Rattle.telegate.specs.declared.fault.Fault.TheVariants.{Unread, NoMemory}
 
 -- the command, where its files were read
-pub scripted : (config text : List ℕ) (c : Settings) (ds : List Directive) (old new : Option (List ℕ))
+pub scripted : (manner : Manner) (config text : List ℕ) (c : Settings) (ds : List Directive)
+    (old new : Option (List ℕ))
     (r : Result (Unit {0}) Fault) → IsReadOfText config (Ok c) → IsScriptOf c text (Ok ds)
-    → IsSimulationOf c ds old new r → IsSimulatedBy config text old new r
-scripted config text c ds old new (Ok done) read said h =
+    → IsSimulationOf manner c ds old new r → IsSimulatedBy manner config text old new r
+scripted manner config text c ds old new (Ok done) read said h =
     record { settings = c; script = ds; read_config = read; read_script = said; so = h }
-scripted config text c ds old new (Err Device) read said h =
+scripted manner config text c ds old new (Err Device) read said h =
     record { settings = c; script = ds; read_config = read; read_script = said; so = h }
-scripted config text c ds old new (Err NoMemory) read said (inl h) = inl h
-scripted config text c ds old new (Err NoMemory) read said (inr h) =
+scripted manner config text c ds old new (Err NoMemory) read said (inl h) = inl h
+scripted manner config text c ds old new (Err NoMemory) read said (inr h) =
     inr (record { settings = c; script = ds; read_config = read; read_script = said; so = h })
-scripted config text c ds old new (Err (Config why)) read said h = absurd h
-scripted config text c ds old new (Err (Trace n)) read said h = absurd h
-scripted config text c ds old new (Err (Script n)) read said h = absurd h
-scripted config text c ds old new (Err (Record n)) read said h = absurd h
-scripted config text c ds old new (Err NoState) read said h = absurd h
-scripted config text c ds old new (Err StateInUse) read said h = absurd h
-scripted config text c ds old new (Err StateUnusable) read said h = absurd h
-scripted config text c ds old new (Err Sizes) read said h = absurd h
-scripted config text c ds old new (Err Octets) read said h = absurd h
-scripted config text c ds old new (Err Address) read said h = absurd h
-scripted config text c ds old new (Err Unread) read said h = absurd h
+scripted manner config text c ds old new (Err (Config why)) read said h = absurd h
+scripted manner config text c ds old new (Err (Trace n)) read said h = absurd h
+scripted manner config text c ds old new (Err (Script n)) read said h = absurd h
+scripted manner config text c ds old new (Err (Site why)) read said h = absurd h
+scripted manner config text c ds old new (Err (Record n)) read said h = absurd h
+scripted manner config text c ds old new (Err NoState) read said h = absurd h
+scripted manner config text c ds old new (Err StateInUse) read said h = absurd h
+scripted manner config text c ds old new (Err StateUnusable) read said h = absurd h
+scripted manner config text c ds old new (Err Sizes) read said h = absurd h
+scripted manner config text c ds old new (Err Octets) read said h = absurd h
+scripted manner config text c ds old new (Err Address) read said h = absurd h
+scripted manner config text c ds old new (Err Unread) read said h = absurd h

@@ -1,75 +1,16 @@
--- Texts that stand one behind the other, with a line feed between them: their lines and events.
-use Rattle.std.proofs.Common.{◌≡◌, ℕ, ◌+◌, ◌≤◌, Bool, true, false, cond, List, [], ◌∷◌, ◌++◌, length, map, Option, Some, None, refl, ap, sym, ◌∙◌, arith}
-use Rattle.std.specs.List.{filter_map, onto_first, count_by, cons_option}
+-- Texts that stand one behind the other, with a line feed between them: their events.
+use Rattle.std.proofs.Common.{◌≡◌, ℕ, ◌+◌, ◌≤◌, Bool, true, false, List, [], ◌∷◌, ◌++◌, length, map}
+use Rattle.std.proofs.Common.{Option, Some, None, ap, ◌∙◌, arith}
+use Rattle.std.specs.List.{count_by, cons_option}
 use Rattle.std.specs.Prelude.{◌==◌}
-use Rattle.std.proofs.lemmas.List.{map-append, length-append}
-use Rattle.std.proofs.lemmas.List.Elements.{filter_map-append}
+use Rattle.std.proofs.lemmas.List.{length-append}
 use Rattle.std.proofs.lemmas.List.Splits.{length-slice_split}
 use Rattle.std.proofs.lemmas.List.Sums.{count_by-le-length}
 use Rattle.gateway.specs.Log.{Came, Ticked}
 use Rattle.traces.specs.Event.{Event}
 use Rattle.traces.specs.Progress.{came, events_in, events_of_part}
-use Rattle.traces.specs.Trace.{lines_of, told, is_wrong, first_wrong}
-
--- Lines
-
-line_feed : ℕ → Bool
-line_feed x = x == 10
-
-onto_more : (x n : ℕ) (xs ys : List (List ℕ)) → length xs ≡ n + 1 → onto_first x (xs ++ ys) ≡ onto_first x xs ++ ys
-onto_more x n [] ys some = absurd (omega (arith, some))
-onto_more x n (l ∷ xs) ys some = refl
-
--- the lines of two texts are those of the one and of the other
-pub lines_joined : (a b : List ℕ) → lines_of (a ++ 10 ∷ b) ≡ lines_of a ++ lines_of b
-lines_joined [] b = refl
-lines_joined (x ∷ a) b = by (lines_joined a b) (x == 10)
-  where
-    by : lines_of (a ++ 10 ∷ b) ≡ lines_of a ++ lines_of b → (c : Bool) → cond c ([] ∷ lines_of (a ++ 10 ∷ b)) (onto_first x (lines_of (a ++ 10 ∷ b)))
-        ≡ cond c ([] ∷ lines_of a) (onto_first x (lines_of a)) ++ lines_of b
-    by rest true = ap (λ ls. [] ∷ ls) rest
-    by rest false = ap (onto_first x) rest
-        ∙ onto_more x (count_by (λ y. y == 10) a) (lines_of a) (lines_of b) (length-slice_split (λ y. y == 10) a)
-
--- Wrong lines
-
-none_some : {A : Type 0} {n : ℕ} → Some n ≡ None → A
-none_some h = cc
-
-pub wrong_behind : (n : ℕ) (xs ys : List (List ℕ)) → first_wrong n xs ≡ None
-    → first_wrong n (xs ++ ys) ≡ first_wrong (n + length xs) ys
-wrong_behind n [] ys right = ap (λ m. first_wrong m ys) (omega arith)
-wrong_behind n (x ∷ xs) ys right = by (wrong_behind (n + 1) xs ys) (is_wrong x) right
-  where
-    by : (first_wrong (n + 1) xs ≡ None → first_wrong (n + 1) (xs ++ ys) ≡ first_wrong (n + 1 + length xs) ys)
-        → (c : Bool) → cond c (Some n) (first_wrong (n + 1) xs) ≡ None
-        → cond c (Some n) (first_wrong (n + 1) (xs ++ ys)) ≡ first_wrong (n + length (x ∷ xs)) ys
-    by rest true h = none_some h
-    by rest false h = rest h ∙ ap (λ m. first_wrong m ys) (omega arith)
-
-pub wrong_before : (n k : ℕ) (xs ys : List (List ℕ)) → first_wrong n xs ≡ Some k → first_wrong n (xs ++ ys) ≡ Some k
-wrong_before n k [] ys wrong = none_some (sym wrong)
-wrong_before n k (x ∷ xs) ys wrong = by (wrong_before (n + 1) k xs ys) (is_wrong x) wrong
-  where
-    by : (first_wrong (n + 1) xs ≡ Some k → first_wrong (n + 1) (xs ++ ys) ≡ Some k) → (c : Bool) → cond c (Some n) (first_wrong (n + 1) xs) ≡ Some k
-        → cond c (Some n) (first_wrong (n + 1) (xs ++ ys)) ≡ Some k
-    by rest true h = h
-    by rest false h = rest h
-
--- wherever the count begins
-pub none_wrong_from : (m n : ℕ) (xs : List (List ℕ)) → first_wrong m xs ≡ None → first_wrong n xs ≡ None
-none_wrong_from m n [] right = refl
-none_wrong_from m n (x ∷ xs) right = by (none_wrong_from (m + 1) (n + 1) xs) (is_wrong x) right
-  where
-    by : (first_wrong (m + 1) xs ≡ None → first_wrong (n + 1) xs ≡ None) → (c : Bool) → cond c (Some m) (first_wrong (m + 1) xs) ≡ None
-        → cond c (Some n) (first_wrong (n + 1) xs) ≡ None
-    by rest true h = none_some h
-    by rest false h = rest h
-
--- Events
-
-pub events_joined : (xs ys : List (List ℕ)) → events_in (xs ++ ys) ≡ events_in xs ++ events_in ys
-events_joined xs ys = ap (map came) (filter_map-append told xs ys) ∙ map-append came (filter_map told xs) (filter_map told ys)
+use Rattle.traces.specs.Trace.{lines_of, told}
+use Rattle.traces.proofs.JoinedLemmas.{events_joined, lines_joined}
 
 pub part_joined : (is_first : Bool) (a b : List ℕ)
     → events_of_part is_first (a ++ 10 ∷ b) ≡ events_of_part is_first a ++ events_in (lines_of b)
@@ -87,7 +28,8 @@ one_most line = by (told line)
 events_most : (lines : List (List ℕ)) → length (events_in lines) ≤ length lines
 events_most [] = grind arith
 events_most (line ∷ lines) =
-    let both : length (events_in (line ∷ lines)) ≡ length (events_in (line ∷ []) ++ events_in lines) =
+    let both : length (events_in (line ∷ lines))
+    ≡ length (events_in (line ∷ []) ++ events_in lines) =
     ap length (events_joined (line ∷ []) lines) in
     let split = length-append (events_in (line ∷ [])) (events_in lines) in
     let one : length (events_in (line ∷ [])) ≤ 1 = one_most line in
@@ -96,14 +38,20 @@ events_most (line ∷ lines) =
 
 few_lines : (text : List ℕ) → length (events_in (lines_of text)) ≤ length text + 1
 few_lines text =
-    let events : length (events_in (lines_of text)) ≤ length (lines_of text) = events_most (lines_of text) in
-    let lines : length (lines_of text) ≡ count_by (λ y. y == 10) text + 1 = length-slice_split (λ y. y == 10) text in
-    let feeds : count_by (λ y. y == 10) text ≤ length text = count_by-le-length (λ y. y == 10) text in
+    let events : length (events_in (lines_of text)) ≤ length (lines_of text) =
+    events_most (lines_of text) in
+    let lines : length (lines_of text) ≡ count_by (λ y. y == 10) text + 1 =
+    length-slice_split (λ y. y == 10) text in
+    let feeds : count_by (λ y. y == 10) text ≤ length text =
+    count_by-le-length (λ y. y == 10) text in
     omega (arith, events, lines, feeds)
 
 -- there are no more events than octets, and two
-pub few_events : (is_first : Bool) (text : List ℕ) → length (events_of_part is_first text) ≤ length text + 2
-few_events true text = let most : length (events_in (lines_of text)) ≤ length text + 1 = few_lines text in
+pub few_events : (is_first : Bool) (text : List ℕ) → length (events_of_part is_first text)
+    ≤ length text + 2
+few_events true text = let most : length (events_in (lines_of text)) ≤ length text + 1 =
+    few_lines text in
     omega (arith, most)
-few_events false text = let most : length (events_in (lines_of text)) ≤ length text + 1 = few_lines text in
+few_events false text = let most : length (events_in (lines_of text)) ≤ length text + 1 =
+    few_lines text in
     omega (arith, most)

@@ -1,7 +1,8 @@
 -- A run turn by turn.
-use Rattle.std.proofs.Common.{◌≡◌, ℕ, ◌+◌, List, [], length, Option, Some, None, option_map, refl, sym, ap, subst, ◌∙◌, arith}
+use Rattle.std.proofs.Common.{◌≡◌, ℕ, ◌+◌, List, [], length, Option, Some, None, option_map, refl}
+use Rattle.std.proofs.Common.{sym, ap, subst, ◌∙◌, arith}
 use Rattle.gateway.specs.Agrees.{Follows, Rests}
-use Rattle.gateway.specs.Log.{Log, LogEntry, events_of}
+use Rattle.gateway.specs.Log.{Log, LogEntry}
 use Rattle.gateway.specs.Reports.{Setup}
 use Rattle.gateway.specs.Runs.{MoreEvents, events_told}
 use Rattle.gateway.specs.State.{State}
@@ -15,7 +16,8 @@ none_more (Some es) = ap Some (omega arith)
 pub no_events_yet : (told : Option Log) → MoreEvents 0 told told
 no_events_yet told = none_more (events_told told)
 
-plus_one : (events : Option (List LogEntry)) → option_map (λ (es : List LogEntry). length es + 1) events
+plus_one : (events : Option (List LogEntry))
+    → option_map (λ (es : List LogEntry). length es + 1) events
     ≡ option_map (λ (m : ℕ). m + 1) (option_map length events)
 plus_one None = refl
 plus_one (Some es) = refl
@@ -27,9 +29,12 @@ plus_more n None = refl
 plus_more n (Some es) = ap Some (omega arith)
 
 -- and with each turn one more event
-pub one_more_event : (n : ℕ) (a b c : Option Log) → MoreEvents n a b → MoreEvents 1 b c → MoreEvents (n + 1) a c
+pub one_more_event : (n : ℕ) (a b c : Option Log) → MoreEvents n a b → MoreEvents 1 b c
+    → MoreEvents (n + 1) a c
 one_more_event n a b c before turn =
-    turn ∙ (plus_one (events_told b) ∙ (ap (option_map (λ (m : ℕ). m + 1)) before ∙ plus_more n (events_told a)))
+    turn
+    ∙ (plus_one (events_told b) ∙ (ap (option_map (λ (m : ℕ). m + 1)) before
+    ∙ plus_more n (events_told a)))
 
 -- a gateway that may begin with an empty log
 pub begun : (p : Setup) (s : State) (told : Option Log) → Follows p s (Some []) → told ≡ Some []

@@ -1,21 +1,30 @@
 -- What literal words ask for.
-use Rattle.std.proofs.Common.{◌≡◌, Bool, true, false, List, Option, Some, None, refl, sym, ◌∙◌, ap, if◌then◌else◌}
+use Rattle.std.proofs.Common.{◌≡◌, Bool, true, false, List, Option, Some, None, refl, sym, ◌∙◌, ap}
+use Rattle.std.proofs.Common.{if◌then◌else◌}
 use Rattle.std.specs.Prelude.{codes}
 use Rattle.std.specs.Borrow.{Bor}
-use Rattle.clap.specs.Words.{Row, Text}
-use Rattle.telegate.specs.CommandLine.{AsksFor, text_of, texts_of}
-use Rattle.telegate.specs.Examples.{Agree, name_of}
+use Rattle.clap.specs.Words.{Row, Text, all_of, first_of, one_of}
+use Rattle.telegate.specs.CommandLine.{AreRunWords, AsksFor}
+use Rattle.telegate.specs.Examples.{Agree, Say, name_of}
+use Rattle.telegate.specs.Wishes.{Said}
+use Rattle.telegate.specs.declared.run_words.RunWords.{RunWords}
 use Rattle.telegate.specs.declared.command_line.Request.{Request}
-use Rattle.telegate.specs.declared.command_line.Request.TheVariants.{Show101, Show104, Check, Replay, Sim, Audit, Run}
+use Rattle.telegate.specs.declared.command_line.Request.TheVariants.{Show101, Show104, Check}
+use Rattle.telegate.specs.declared.command_line.Request.TheVariants.{Replay, Sim, Audit, Run}
+use Rattle.telegate.specs.declared.command_line.Request.TheVariants.{Status, Capture, Stations}
 
-pub names : (name : Text) (rows : List Row) (request : Request) → AsksFor name rows request → name ≡ name_of request
-names name rows (Show101 sizes hex) h = h.0
-names name rows (Show104 hex) h = h.0
-names name rows (Check config) h = h.0
-names name rows (Replay config trace left counts) h = h.0
-names name rows (Sim config script) h = h.0
+pub names : (name : Text) (rows : List Row) (request : Request) → AsksFor name rows request
+    → name ≡ name_of request
+names name rows (Show101 sizes hex words) h = h.0
+names name rows (Show104 hex words) h = h.0
+names name rows (Check config live explain) h = h.0
+names name rows (Replay config trace left counts words color) h = h.0
+names name rows (Sim config script words color) h = h.0
 names name rows (Audit config text) h = h.0
-names name rows (Run config redial log recorded state or_stop allow) h = h.0
+names name rows (Run config words) h = h.0
+names name rows (Status place json) h = h.0
+names name rows (Capture config text) h = h.0
+names name rows (Stations config script) h = h.0
 
 -- a word that is given, read from its row
 word_is : (text : Text) (given : Option Text) (word : Text) → given ≡ Some text
@@ -54,21 +63,46 @@ flag_is false given flag is = record {
   );
 }
 
--- one word, and two, by their rows
-pub one_is : (name text : Text) (given : Option Text) (word : Bor Text) → given ≡ Some text
-    → Agree ((name ≡ name) × (given ≡ Some word.now)) (word.now ≡ text)
-one_is name text given word is =
-    record {
-      there = λ h. (word_is text given word.now is).there h.1;
-      back = λ same. (refl, (word_is text given word.now is).back same);
-    }
+-- a word and a flag, two words and a flag, and two words, by their rows
+pub show104_is : (hex : Text) (words : Bool) (x u : Option Text) (h : Bor Text) (w : Bool)
+    → x ≡ Some hex → u ≡ Some (flag_text words)
+    → Agree ((codes "show104" ≡ codes "show104") × (x ≡ Some h.now) × IsFlagOf u w)
+    ((h.now ≡ hex) × (w ≡ words))
+show104_is hex words x u h w a b = record {
+  there = λ asked. ((word_is hex x h.now a).there asked.1, (flag_is words u w b).there asked.2);
+  back = λ same. (refl, (word_is hex x h.now a).back same.0, (flag_is words u w b).back same.1);
+}
 
-pub two_are : (name first second : Text) (one_given other_given : Option Text) (one other : Bor Text)
+pub show101_is : (sizes hex : Text) (words : Bool) (x y u : Option Text) (s h : Bor Text) (w : Bool)
+    → x ≡ Some sizes → y ≡ Some hex → u ≡ Some (flag_text words)
+    → Agree ((codes "show101" ≡ codes "show101") × (x ≡ Some s.now) × (y ≡ Some h.now)
+    × IsFlagOf u w)
+    ((s.now ≡ sizes) × (h.now ≡ hex) × (w ≡ words))
+show101_is sizes hex words x y u s h w a b d = record {
+  there = λ asked. (
+    (word_is sizes x s.now a).there asked.1,
+    (word_is hex y h.now b).there asked.2,
+    (flag_is words u w d).there asked.3,
+  );
+  back = λ same. (
+    refl,
+    (word_is sizes x s.now a).back same.0,
+    (word_is hex y h.now b).back same.1,
+    (flag_is words u w d).back same.2,
+  );
+}
+
+pub two_are : (name first second : Text) (one_given other_given : Option Text)
+    (one other : Bor Text)
     → one_given ≡ Some first → other_given ≡ Some second
     → Agree ((name ≡ name) × (one_given ≡ Some one.now) × (other_given ≡ Some other.now))
     ((one.now ≡ first) × (other.now ≡ second))
 two_are name first second one_given other_given one other a b = record {
-  there = λ h. ((word_is first one_given one.now a).there h.1, (word_is second other_given other.now b).there h.2);
+  there =
+      λ h. (
+        (word_is first one_given one.now a).there h.1,
+        (word_is second other_given other.now b).there h.2,
+      );
   back = λ same. (
     refl,
     (word_is first one_given one.now a).back same.0,
@@ -76,17 +110,44 @@ two_are name first second one_given other_given one other a b = record {
   );
 }
 
--- two words and two flags
-pub replay_is : (config trace : Text) (left counts : Bool) (x y u v : Option Text) (c t : Bor Text) (l n : Bool)
-    → x ≡ Some config → y ≡ Some trace → u ≡ Some (flag_text left) → v ≡ Some (flag_text counts)
-    → Agree ((codes "replay" ≡ codes "replay") × (x ≡ Some c.now) × (y ≡ Some t.now) × IsFlagOf u l × IsFlagOf v n)
-    ((c.now ≡ config) × (t.now ≡ trace) × (l ≡ left) × (n ≡ counts))
-replay_is config trace left counts x y u v c t l n a b d e = record {
+-- a word and two flags
+pub check_is : (config : Text) (live explain : Bool) (x u v : Option Text) (c : Bor Text)
+    (l e : Bool)
+    → x ≡ Some config → u ≡ Some (flag_text live) → v ≡ Some (flag_text explain)
+    → Agree ((codes "check" ≡ codes "check") × (x ≡ Some c.now) × IsFlagOf u l × IsFlagOf v e)
+    ((c.now ≡ config) × (l ≡ live) × (e ≡ explain))
+check_is config live explain x u v c l e a b d = record {
+  there = λ h. (
+    (word_is config x c.now a).there h.1,
+    (flag_is live u l b).there h.2,
+    (flag_is explain v e d).there h.3,
+  );
+  back = λ same. (
+    refl,
+    (word_is config x c.now a).back same.0,
+    (flag_is live u l b).back same.1,
+    (flag_is explain v e d).back same.2,
+  );
+}
+
+-- two words and four flags
+pub replay_is : (config trace : Text) (left counts words color : Bool) (x y u v p q : Option Text)
+    (c t : Bor Text)
+    (l n w o : Bool) → x ≡ Some config → y ≡ Some trace → u ≡ Some (flag_text left)
+    → v ≡ Some (flag_text counts)
+    → p ≡ Some (flag_text words) → q ≡ Some (flag_text color)
+    → Agree ((codes "replay" ≡ codes "replay") × (x ≡ Some c.now) × (y ≡ Some t.now) × IsFlagOf u l
+    × IsFlagOf v n
+    × IsFlagOf p w × IsFlagOf q o)
+    ((c.now ≡ config) × (t.now ≡ trace) × (l ≡ left) × (n ≡ counts) × (w ≡ words) × (o ≡ color))
+replay_is config trace left counts words color x y u v p q c t l n w o a b d e f g = record {
   there = λ h. (
     (word_is config x c.now a).there h.1,
     (word_is trace y t.now b).there h.2,
     (flag_is left u l d).there h.3,
     (flag_is counts v n e).there h.4,
+    (flag_is words p w f).there h.5,
+    (flag_is color q o g).there h.6,
   );
   back = λ same. (
     refl,
@@ -94,37 +155,86 @@ replay_is config trace left counts x y u v c t l n a b d e = record {
     (word_is trace y t.now b).back same.1,
     (flag_is left u l d).back same.2,
     (flag_is counts v n e).back same.3,
+    (flag_is words p w f).back same.4,
+    (flag_is color q o g).back same.5,
   );
 }
 
--- a word, three flags, a word that may be missing, a flag, and words that may be
-pub run_is : (config : Text) (redial log recorded : Bool) (state : Option Text) (or_stop : Bool)
-    (allow : Option (List Text)) (x u v w y : Option Text) (t : Option Text) (z : Option (List Text)) (c : Bor Text)
-    (r l k : Bool) (kept : Option (Bor Text)) (s : Bool) (guests : Option (Bor (List (Bor Text))))
-    → x ≡ Some config → u ≡ Some (flag_text redial) → v ≡ Some (flag_text log) → w ≡ Some (flag_text recorded)
-    → y ≡ state → t ≡ Some (flag_text or_stop) → z ≡ allow
-    → Agree ((codes "run" ≡ codes "run") × (x ≡ Some c.now) × IsFlagOf u r × IsFlagOf v l × IsFlagOf w k
-    × (text_of kept ≡ y) × IsFlagOf t s × (texts_of guests ≡ z))
-    ((c.now ≡ config) × (r ≡ redial) × (l ≡ log) × (k ≡ recorded) × (text_of kept ≡ state) × (s ≡ or_stop)
-    × (texts_of guests ≡ allow))
-run_is config redial log recorded state or_stop allow x u v w y t z c r l k kept s guests a b d e f i g = record {
+-- two words and two flags
+pub sim_is : (config script : Text) (words color : Bool) (x y p q : Option Text) (c t : Bor Text)
+    (w o : Bool)
+    → x ≡ Some config → y ≡ Some script → p ≡ Some (flag_text words) → q ≡ Some (flag_text color)
+    → Agree ((codes "sim" ≡ codes "sim") × (x ≡ Some c.now) × (y ≡ Some t.now) × IsFlagOf p w
+    × IsFlagOf q o)
+    ((c.now ≡ config) × (t.now ≡ script) × (w ≡ words) × (o ≡ color))
+sim_is config script words color x y p q c t w o a b f g = record {
   there = λ h. (
     (word_is config x c.now a).there h.1,
-    (flag_is redial u r b).there h.2,
-    (flag_is log v l d).there h.3,
-    (flag_is recorded w k e).there h.4,
-    h.5 ∙ f,
-    (flag_is or_stop t s i).there h.6,
-    h.7 ∙ g,
+    (word_is script y t.now b).there h.2,
+    (flag_is words p w f).there h.3,
+    (flag_is color q o g).there h.4,
   );
   back = λ same. (
     refl,
     (word_is config x c.now a).back same.0,
-    (flag_is redial u r b).back same.1,
-    (flag_is log v l d).back same.2,
-    (flag_is recorded w k e).back same.3,
-    same.4 ∙ sym f,
-    (flag_is or_stop t s i).back same.5,
-    same.6 ∙ sym g,
+    (word_is script y t.now b).back same.1,
+    (flag_is words p w f).back same.2,
+    (flag_is color q o g).back same.3,
+  );
+}
+
+pub status_is : (place : Text) (json : Bool) (x u : Option Text) (p : Bor Text) (j : Bool)
+    → x ≡ Some place → u ≡ Some (flag_text json)
+    → Agree ((codes "status" ≡ codes "status") × (x ≡ Some p.now) × IsFlagOf u j) ((p.now ≡ place)
+    × (j ≡ json))
+status_is place json x u p j a b = record {
+  there = λ asked. ((word_is place x p.now a).there asked.1, (flag_is json u j b).there asked.2);
+  back = λ same. (refl, (word_is place x p.now a).back same.0, (flag_is json u j b).back same.1);
+}
+
+-- a word, and what is said of a live run, by its rows
+pub run_is : (config : Text) (site : Option Text) (s : Said) (rows : List Row) (c : Bor Text)
+    (w : RunWords)
+    → first_of (codes "CONFIG") rows ≡ Some config → first_of (codes "site") rows ≡ site
+    → one_of (codes "redial") rows ≡ Some (flag_text s.redial) → one_of (codes "log") rows
+    ≡ Some (flag_text s.log)
+    → one_of (codes "log-severity") rows ≡ Some (flag_text s.log_severity)
+    → one_of (codes "record") rows ≡ Some (flag_text s.recorded) → first_of (codes "state") rows
+    ≡ s.state
+    → one_of (codes "state-or-stop") rows ≡ Some (flag_text s.or_stop) → all_of (codes "allow") rows
+    ≡ s.allow
+    → first_of (codes "status") rows ≡ s.status
+    → Agree ((codes "run" ≡ codes "run") × (first_of (codes "CONFIG") rows ≡ Some c.now)
+    × AreRunWords rows w)
+    ((c.now ≡ config) × Say w site s)
+run_is config site s rows c w a b d e f g h i j k = record {
+  there = λ x. (
+    (word_is config _ c.now a).there x.1,
+    record {
+      site = x.2.site ∙ b;
+      redial = (flag_is s.redial _ w.redial d).there x.2.redial;
+      log = (flag_is s.log _ w.log e).there x.2.log;
+      log_severity = (flag_is s.log_severity _ w.log_severity f).there x.2.log_severity;
+      recorded = (flag_is s.recorded _ w.«record» g).there x.2.recorded;
+      state = x.2.state ∙ h;
+      or_stop = (flag_is s.or_stop _ w.state_or_stop i).there x.2.or_stop;
+      allow = x.2.allow ∙ j;
+      status = x.2.status ∙ k;
+    },
+  );
+  back = λ same. (
+    refl,
+    (word_is config _ c.now a).back same.0,
+    record {
+      site = same.1.site ∙ sym b;
+      redial = (flag_is s.redial _ w.redial d).back same.1.redial;
+      log = (flag_is s.log _ w.log e).back same.1.log;
+      log_severity = (flag_is s.log_severity _ w.log_severity f).back same.1.log_severity;
+      recorded = (flag_is s.recorded _ w.«record» g).back same.1.recorded;
+      state = same.1.state ∙ sym h;
+      or_stop = (flag_is s.or_stop _ w.state_or_stop i).back same.1.or_stop;
+      allow = same.1.allow ∙ sym j;
+      status = same.1.status ∙ sym k;
+    },
   );
 }

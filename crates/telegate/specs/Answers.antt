@@ -1,15 +1,14 @@
 -- What the commands answer (this gateway's own profile).
-use Rattle.std.specs.Prelude.{◌≡◌, ◌⊎◌, ℕ, codes, List, [], ◌∷◌, ◌++◌, Option, Some, None, Result, Ok, Err, MatchResult, Vec}
+use Rattle.std.specs.Prelude.{◌≡◌, ◌⊎◌, ℕ, Bool, List, ◌++◌, Option, Some, None, Result, Ok, Err}
+use Rattle.std.specs.Prelude.{MatchResult, Vec}
 use Rattle.std.specs.Io.KnownBytes.{Appends, Keeps}
 use Rattle.std.specs.declared.alloc.Global.{Global}
 use Rattle.show.specs.Sizes.{sizes_of}
-use Rattle.show.specs.Line.{IsLineShown}
-use Rattle.show.specs.Tcp.{IsTcpShown}
 use Rattle.show.specs.declared.sizes.LineSizes.{LineSizes}
 use Rattle.show.specs.declared.outcome.Outcome.{Outcome}
 use Rattle.show.specs.declared.outcome.Outcome.TheVariants.{Good, Faulty}
 use Rattle.traces.specs.Fields.{octets_of}
-use Rattle.traces.specs.Actions.{lines_of_actions}
+use Rattle.words.specs.Told.{IsLineTold, IsTcpTold}
 use Rattle.traces.specs.Progress.{script_in}
 use Rattle.traces.specs.Trace.{lines_of, first_wrong}
 use Rattle.traces.specs.declared.reading.TextFault.TheVariants.{Line as WrongLine}
@@ -19,22 +18,27 @@ use Rattle.gateway.specs.Setups.{setup_of}
 use Rattle.gateway.specs.Traffic.{IsFaithful, HasRested}
 use Rattle.delivery.specs.Delivery.{Delivers}
 use Rattle.sim.specs.Scripts.{IsScriptOf}
-use Rattle.sim.specs.Runs.{IsBegun, IsSimulated, IsCutShort, IsStopped}
+use Rattle.sim.specs.Runs.{IsBegun}
 use Rattle.sim.specs.declared.directive.Directive.{Directive}
 use Rattle.settings.specs.Settings.{IsReadOfText}
 use Rattle.gateway.specs.Accounts.{IsAccounted}
 use Rattle.gateway.specs.Agrees.{Follows}
 use Rattle.gateway.specs.Order.{KeepsOrder}
 use Rattle.gateway.specs.State.{State}
-use Rattle.telegate.specs.Audits.{IsAuditedBy}
+use Rattle.telegate.specs.Checks.{IsCheckDone}
 use Rattle.telegate.specs.Closing.{closing_lines}
-use Rattle.telegate.specs.Faults.{status_of, status_of_end}
+use Rattle.telegate.specs.Faults.{status_of_end}
+use Rattle.telegate.specs.Given.{Gives}
+use Rattle.telegate.specs.Manners.{Tells}
+use Rattle.telegate.specs.SimulatedTold.{IsSimulatedIn, IsCutShortIn, IsStoppedIn}
 use Rattle.telegate.specs.declared.closing.Closing.{Closing}
 use Rattle.telegate.specs.declared.answer.Answer.{Answer}
 use Rattle.telegate.specs.declared.fault.Fault.{Fault}
-use Rattle.telegate.specs.declared.fault.Fault.TheVariants.{Config, Trace, Script, Sizes, Octets, Device, Unread, NoMemory}
+use Rattle.telegate.specs.declared.fault.Fault.TheVariants.{Config, Trace, Script, Sizes, Octets}
+use Rattle.telegate.specs.declared.fault.Fault.TheVariants.{Device, Unread, NoMemory}
+use Rattle.telegate.specs.declared.manner.Manner.{Manner}
 use Rattle.telegate.specs.declared.job.Job.{Job}
-use Rattle.telegate.specs.declared.job.Job.TheVariants.{Show101, Show104, Check, Sim, Audit}
+use Rattle.telegate.specs.declared.job.Job.TheVariants.{Show101, Show104, Check, Sim}
 
 -- octets that are as they should be, 0, or not, 1
 abbrev pub status_by : Outcome → ℕ
@@ -50,14 +54,14 @@ IsOctetsFault hex _ = ⊥
 abbrev pub IsReadOctets : List ℕ → Result (Vec ℕ Global) Fault → Type 0
 IsReadOctets hex result = MatchResult result (λ v. octets_of hex ≡ Some v.items) (IsOctetsFault hex)
 
--- the lines of the frame at the front, and a status that tells a fault in the octets
-pub record IsLineAnswer (sizes hex : List ℕ) (answer : Answer) : Type 0 where
+-- that is told, with a status that tells a fault in the octets
+pub record IsLineAnswer (words : Bool) (sizes hex : List ℕ) (answer : Answer) : Type 0 where
   pub line_sizes : LineSizes
   pub octets : List ℕ
   pub outcome : Outcome
   pub read_sizes : sizes_of sizes ≡ Some line_sizes
   pub read_octets : octets_of hex ≡ Some octets
-  pub shown : IsLineShown line_sizes octets (answer.text.items) outcome
+  pub shown : IsLineTold words line_sizes octets (answer.text.items) outcome
   pub status : answer.status ≡ status_by outcome
 
 -- sizes are judged before octets
@@ -68,50 +72,27 @@ IsLineFault sizes hex Octets = ((s : LineSizes) × (sizes_of sizes ≡ Some s))
 IsLineFault sizes hex NoMemory = Unit {0}
 IsLineFault sizes hex _ = ⊥
 
-abbrev pub IsShown101 : List ℕ → List ℕ → Result Answer Fault → Type 0
-IsShown101 sizes hex result = MatchResult result (IsLineAnswer sizes hex) (IsLineFault sizes hex)
+abbrev pub IsShown101 : (words : Bool) → List ℕ → List ℕ → Result Answer Fault → Type 0
+IsShown101 words sizes hex result =
+    MatchResult result (IsLineAnswer words sizes hex) (IsLineFault sizes hex)
 
-pub record IsTcpAnswer (hex : List ℕ) (answer : Answer) : Type 0 where
+pub record IsTcpAnswer (words : Bool) (hex : List ℕ) (answer : Answer) : Type 0 where
   pub octets : List ℕ
   pub outcome : Outcome
   pub read_octets : octets_of hex ≡ Some octets
-  pub shown : IsTcpShown octets (answer.text.items) outcome
+  pub shown : IsTcpTold words octets (answer.text.items) outcome
   pub status : answer.status ≡ status_by outcome
 
-abbrev pub IsShown104 : List ℕ → Result Answer Fault → Type 0
-IsShown104 hex result = MatchResult result (IsTcpAnswer hex) (IsOctetsFault hex)
+abbrev pub IsShown104 : (words : Bool) → List ℕ → Result Answer Fault → Type 0
+IsShown104 words hex result = MatchResult result (IsTcpAnswer words hex) (IsOctetsFault hex)
 
--- settings are refused by the first fault
-abbrev pub IsConfigFault : List ℕ → Fault → Type 0
-IsConfigFault config (Config why) = IsReadOfText config (Err why)
-IsConfigFault config NoMemory = Unit {0}
-IsConfigFault config _ = ⊥
-
-abbrev pub IsReadConfig : List ℕ → Result Settings Fault → Type 0
-IsReadConfig config result =
-    MatchResult result (λ c. IsReadOfText config (Ok c)) (IsConfigFault config)
-
--- it is told that settings are good
-pub record TellsGood (answer : Answer) : Type 0 where
-  pub text : answer.text.items ≡ codes "ok" ++ 10 ∷ []
-  pub status : answer.status ≡ 0
-
--- of settings that are read
-pub record IsCheckAnswer (config : List ℕ) (answer : Answer) : Type 0 where
-  pub settings : Settings
-  pub read_config : IsReadOfText config (Ok settings)
-  pub told : TellsGood answer
-
-abbrev pub IsChecked : List ℕ → Result Answer Fault → Type 0
-IsChecked config result = MatchResult result (IsCheckAnswer config) (IsConfigFault config)
-
--- The lines of the actions of the log of a run over this trace, and those with which the run ends:
--- the events of the log are a tick at moment 0 and those of the trace, the log keeps every promise
--- of a gateway with these settings, and so delivers what the outstations reported. What is left and
--- was counted is that of a gateway whose state agrees with this log: of the reports that went out
--- on the open connection the very ASDUs that aren't acknowledged, then as many pieces of the others
--- as have places.
-pub record IsRun (settings : Settings) (trace : List ℕ) (closing : Closing)
+-- The text of the log of a run over this trace, and the lines with which the run ends: the events
+-- of the log are a tick at moment 0 and those of the trace, the log keeps every promise of a
+-- gateway with these settings, and so delivers what the outstations reported. What is left and was
+-- counted is that of a gateway whose state agrees with this log: of the reports that went out on
+-- the open connection the very ASDUs that aren't acknowledged, then as many pieces of the others as
+-- have places.
+pub record IsRun (settings : Settings) (manner : Manner) (trace : List ℕ) (closing : Closing)
     (text : List ℕ) : Type 0 where
   pub log : Log
   pub events : events_of log ≡ script_in trace
@@ -122,8 +103,9 @@ pub record IsRun (settings : Settings) (trace : List ℕ) (closing : Closing)
   pub state : State
   pub follows : Follows (setup_of settings) state (Some log)
   pub accounts : IsAccounted (setup_of settings) state log
-  pub lines : text ≡ lines_of_actions log
-      ++ closing_lines closing.left closing.counts state
+  pub lines : List ℕ
+  pub told : Tells manner settings log lines
+  pub joined : text ≡ lines ++ closing_lines closing.left closing.counts state
 
 -- a text whose octets may be these was judged, and no line of it is wrong
 pub record WasJudged (has : List ℕ → Type 0) : Type 0 where
@@ -133,51 +115,47 @@ pub record WasJudged (has : List ℕ → Type 0) : Type 0 where
 
 -- a run over a trace whose octets may be these, of which no line is wrong, and so much of the run's
 -- text was printed
-pub record IsRunOf (settings : Settings) (has : List ℕ → Type 0) (closing : Closing)
-    (IsPrinted : List ℕ → Type 0) : Type 0 where
+pub record IsRunOf (settings : Settings) (manner : Manner) (has : List ℕ → Type 0)
+    (closing : Closing) (IsPrinted : List ℕ → Type 0) : Type 0 where
   pub trace : List ℕ
   pub is : has trace
   pub right : first_wrong 1 (lines_of trace) ≡ None
   pub text : List ℕ
-  pub run : IsRun settings trace closing text
+  pub run : IsRun settings manner trace closing text
   pub printed : IsPrinted text
 
 -- The same of a run that stopped before its end: the events of its log are the first of the trace,
--- and a beginning of the lines of its actions was printed.
-pub record IsStopOf (settings : Settings) (has : List ℕ → Type 0) (old new : Option (List ℕ))
-    : Type 0 where
+-- and a beginning of its text was printed.
+pub record IsStopOf (settings : Settings) (manner : Manner) (has : List ℕ → Type 0)
+    (old new : Option (List ℕ)) : Type 0 where
   pub trace : List ℕ
   pub is : has trace
   pub log : Log
   pub rest : List LogEntry
   pub events : events_of log ++ rest ≡ script_in trace
   pub faithful : IsFaithful (setup_of settings) log
-  pub printed : IsBegun old new (lines_of_actions log)
+  pub text : List ℕ
+  pub told : Tells manner settings log text
+  pub printed : IsBegun old new text
 
 -- How a run over a trace ends that was judged. Where the output failed, of the text of the whole
 -- run a beginning was printed. Where memory was refused, the trace can't be read on, or a line of
 -- it is wrong that wasn't, the run stops, or doesn't begin.
-abbrev pub IsEndFault : Settings → (has : List ℕ → Type 0) → Closing → (old new : Option (List ℕ))
-    → Fault → Type 0
-IsEndFault settings has closing old new Device = IsRunOf settings has closing (IsBegun old new)
-IsEndFault settings has closing old new NoMemory =
-    Keeps old new ⊎ IsStopOf settings has old new
-IsEndFault settings has closing old new Unread = Keeps old new ⊎ IsStopOf settings has old new
-IsEndFault settings has closing old new _ = ⊥
+abbrev pub IsEndFault : Settings → Manner → (has : List ℕ → Type 0) → Closing
+    → (old new : Option (List ℕ)) → Fault → Type 0
+IsEndFault settings manner has closing old new Device =
+    IsRunOf settings manner has closing (IsBegun old new)
+IsEndFault settings manner has closing old new NoMemory =
+    Keeps old new ⊎ IsStopOf settings manner has old new
+IsEndFault settings manner has closing old new Unread =
+    Keeps old new ⊎ IsStopOf settings manner has old new
+IsEndFault settings manner has closing old new _ = ⊥
 
-abbrev pub IsEndOf : Settings → (has : List ℕ → Type 0) → Closing → (old new : Option (List ℕ))
-    → Result (Unit {0}) Fault → Type 0
-IsEndOf settings has closing old new result =
-    MatchResult result (λ done. IsRunOf settings has closing (Appends old new))
-    (IsEndFault settings has closing old new)
-
--- a run that is started stops by want of memory alone
-abbrev pub IsMemory : Fault → Type 0
-IsMemory NoMemory = Unit {0}
-IsMemory _ = ⊥
-
-abbrev pub IsGood : Result Answer Fault → Type 0
-IsGood result = MatchResult result TellsGood IsMemory
+abbrev pub IsEndOf : Settings → Manner → (has : List ℕ → Type 0) → Closing
+    → (old new : Option (List ℕ)) → Result (Unit {0}) Fault → Type 0
+IsEndOf settings manner has closing old new result =
+    MatchResult result (λ done. IsRunOf settings manner has closing (Appends old new))
+    (IsEndFault settings manner has closing old new)
 
 -- Settings and trace are free of faults, and a run over the trace ended so. The trace is read
 -- twice, so that its octets may be others the second time.
@@ -189,29 +167,29 @@ pub record HasRun (config : List ℕ) (has : List ℕ → Type 0) (IsEnd : Setti
   pub end : IsEnd settings
 
 -- Settings are judged before the trace, and both before anything is printed.
-abbrev pub IsReplayFault : List ℕ → (has : List ℕ → Type 0) → Closing → (old new : Option (List ℕ))
-    → Fault → Type 0
-IsReplayFault config has closing old new (Config why) =
+abbrev pub IsReplayFault : List ℕ → Manner → (has : List ℕ → Type 0) → Closing
+    → (old new : Option (List ℕ)) → Fault → Type 0
+IsReplayFault config manner has closing old new (Config why) =
     IsReadOfText config (Err why) × Keeps old new
-IsReplayFault config has closing old new (Trace n) =
+IsReplayFault config manner has closing old new (Trace n) =
     ((s : Settings) × IsReadOfText config (Ok s))
     × ((trace : List ℕ) × has trace × (first_wrong 1 (lines_of trace) ≡ Some n))
     × Keeps old new
-IsReplayFault config has closing old new Device =
-    HasRun config has (λ s. IsRunOf s has closing (IsBegun old new))
-IsReplayFault config has closing old new NoMemory =
-    Keeps old new ⊎ HasRun config has (λ s. IsStopOf s has old new)
-IsReplayFault config has closing old new Unread =
-    Keeps old new ⊎ HasRun config has (λ s. IsStopOf s has old new)
-IsReplayFault config has closing old new _ = ⊥
+IsReplayFault config manner has closing old new Device =
+    HasRun config has (λ s. IsRunOf s manner has closing (IsBegun old new))
+IsReplayFault config manner has closing old new NoMemory =
+    Keeps old new ⊎ HasRun config has (λ s. IsStopOf s manner has old new)
+IsReplayFault config manner has closing old new Unread =
+    Keeps old new ⊎ HasRun config has (λ s. IsStopOf s manner has old new)
+IsReplayFault config manner has closing old new _ = ⊥
 
 -- a replay of a trace whose octets may be these
-abbrev pub IsReplayed : List ℕ → (has : List ℕ → Type 0) → Closing → (old new : Option (List ℕ))
-    → Result (Unit {0}) Fault → Type 0
-IsReplayed config has closing old new result =
+abbrev pub IsReplayed : List ℕ → Manner → (has : List ℕ → Type 0) → Closing
+    → (old new : Option (List ℕ)) → Result (Unit {0}) Fault → Type 0
+IsReplayed config manner has closing old new result =
     MatchResult result
-    (λ done. HasRun config has (λ s. IsRunOf s has closing (Appends old new)))
-    (IsReplayFault config has closing old new)
+    (λ done. HasRun config has (λ s. IsRunOf s manner has closing (Appends old new)))
+    (IsReplayFault config manner has closing old new)
 
 -- settings and script are free of faults, and this holds of a run of the script
 pub record IsScripted (config text : List ℕ)
@@ -225,52 +203,38 @@ pub record IsScripted (config text : List ℕ)
 -- The run of the script ended, and its whole text was printed, or, where the output failed, a
 -- beginning of that; or memory was refused: before anything was printed, or in mid-run, and then a
 -- beginning of the lines of its actions was.
-abbrev pub IsSimulationFault : Settings → List Directive → (old new : Option (List ℕ)) → Fault
-    → Type 0
-IsSimulationFault settings script old new Device = IsCutShort settings script old new
-IsSimulationFault settings script old new NoMemory =
-    Keeps old new ⊎ IsStopped settings script old new
-IsSimulationFault settings script old new _ = ⊥
+abbrev pub IsSimulationFault : Manner → Settings → List Directive → (old new : Option (List ℕ))
+    → Fault → Type 0
+IsSimulationFault manner settings script old new Device =
+    IsCutShortIn manner settings script old new
+IsSimulationFault manner settings script old new NoMemory =
+    Keeps old new ⊎ IsStoppedIn manner settings script old new
+IsSimulationFault manner settings script old new _ = ⊥
 
-abbrev pub IsSimulationOf : Settings → List Directive → (old new : Option (List ℕ))
+abbrev pub IsSimulationOf : Manner → Settings → List Directive → (old new : Option (List ℕ))
     → Result (Unit {0}) Fault → Type 0
-IsSimulationOf settings script old new result =
-    MatchResult result (λ done. IsSimulated settings script old new)
-    (IsSimulationFault settings script old new)
+IsSimulationOf manner settings script old new result =
+    MatchResult result (λ done. IsSimulatedIn manner settings script old new)
+    (IsSimulationFault manner settings script old new)
 
 -- Settings are judged before the script, and both before anything is printed.
-abbrev pub IsScriptFault : List ℕ → List ℕ → (old new : Option (List ℕ)) → Fault → Type 0
-IsScriptFault config text old new (Config why) =
+abbrev pub IsScriptFault : Manner → List ℕ → List ℕ → (old new : Option (List ℕ)) → Fault → Type 0
+IsScriptFault manner config text old new (Config why) =
     IsReadOfText config (Err why) × Keeps old new
-IsScriptFault config text old new (Script n) =
+IsScriptFault manner config text old new (Script n) =
     ((s : Settings) × (IsReadOfText config (Ok s) × IsScriptOf s text (Err (WrongLine n))))
     × Keeps old new
-IsScriptFault config text old new Device = IsScripted config text (λ c ds. IsCutShort c ds old new)
-IsScriptFault config text old new NoMemory =
-    Keeps old new ⊎ IsScripted config text (λ c ds. IsStopped c ds old new)
-IsScriptFault config text old new _ = ⊥
+IsScriptFault manner config text old new Device =
+    IsScripted config text (λ c ds. IsCutShortIn manner c ds old new)
+IsScriptFault manner config text old new NoMemory =
+    Keeps old new ⊎ IsScripted config text (λ c ds. IsStoppedIn manner c ds old new)
+IsScriptFault manner config text old new _ = ⊥
 
-abbrev pub IsSimulatedBy : List ℕ → List ℕ → (old new : Option (List ℕ))
+abbrev pub IsSimulatedBy : Manner → List ℕ → List ℕ → (old new : Option (List ℕ))
     → Result (Unit {0}) Fault → Type 0
-IsSimulatedBy config text old new result =
-    MatchResult result (λ done. IsScripted config text (λ c ds. IsSimulated c ds old new))
-    (IsScriptFault config text old new)
-
--- A command's answer was appended to the output, and the exit status is the answer's; or the output
--- failed, and a beginning of it was. A fault (which may be want of memory) was told before anything
--- was printed.
-abbrev pub IsGiven : Result Answer Fault → (old new : Option (List ℕ)) → (exit : ℕ) → Type 0
-IsGiven (Ok answer) old new exit =
-    (Appends old new (answer.text.items) × (exit ≡ answer.status))
-    ⊎ (IsBegun old new (answer.text.items) × (exit ≡ 3))
-IsGiven (Err fault) old new exit = Keeps old new × (exit ≡ status_of fault)
-
--- the command has this answer, or this fault, and that was given
-pub record Gives (IsAnswer : Result Answer Fault → Type 0) (old new : Option (List ℕ))
-    (exit : ℕ) : Type 0 where
-  pub answer : Result Answer Fault
-  pub answered : IsAnswer answer
-  pub given : IsGiven answer old new exit
+IsSimulatedBy manner config text old new result =
+    MatchResult result (λ done. IsScripted config text (λ c ds. IsSimulatedIn manner c ds old new))
+    (IsScriptFault manner config text old new)
 
 -- a run prints its text while it goes on, and ends so
 pub record Runs (IsRunning : (old new : Option (List ℕ)) → Result (Unit {0}) Fault → Type 0)
@@ -281,11 +245,10 @@ pub record Runs (IsRunning : (old new : Option (List ℕ)) → Result (Unit {0})
 
 -- what a command does to the output
 abbrev pub DoesJob : Job → (old new : Option (List ℕ)) → (exit : ℕ) → Type 0
-DoesJob (Show101 sizes hex) = Gives (IsShown101 sizes.now hex.now)
-DoesJob (Show104 hex) = Gives (IsShown104 hex.now)
-DoesJob (Check config) = Gives (IsChecked config.now)
-DoesJob (Sim config script) = Runs (IsSimulatedBy config.now script.now)
-DoesJob (Audit config text) = Gives (IsAuditedBy config.now text.now)
+DoesJob (Show101 sizes hex words) = Gives (IsShown101 words sizes.now hex.now)
+DoesJob (Show104 hex words) = Gives (IsShown104 words hex.now)
+DoesJob (Check config how) = IsCheckDone config.now how
+DoesJob (Sim config script manner) = Runs (IsSimulatedBy manner config.now script.now)
 
 -- the same, of an output whose octets are these before and after, and with this exit status
 pub record Performs (job : Job) (old new : Option (List ℕ)) (exit : ℕ) : Type 0 where

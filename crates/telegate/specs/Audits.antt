@@ -1,15 +1,16 @@
 -- What the audit of a recorded run answers (this gateway's own profile).
 use Rattle.std.specs.Prelude.{◌≡◌, ℕ, codes, List, [], ◌∷◌, ◌++◌, Result, Ok, Err, MatchResult}
 use Rattle.std.specs.Fmt.{decimal}
-use Rattle.audit.specs.Audit.{IsAudited}
+use Rattle.audit.specs.Audit.{IsAudit, IsWrongLine}
+use Rattle.audit.specs.declared.audit.RecordFault.{RecordFault}
+use Rattle.audit.specs.declared.audit.RecordFault.TheVariants as faults
 use Rattle.audit.specs.declared.audit.Verdict.{Verdict}
 use Rattle.audit.specs.declared.audit.Verdict.TheVariants.{Same, Differs}
 use Rattle.gateway.specs.Config.{Settings}
 use Rattle.settings.specs.Settings.{IsReadOfText}
-use Rattle.traces.specs.declared.reading.TextFault.TheVariants.{Line as WrongLine}
 use Rattle.telegate.specs.declared.answer.Answer.{Answer}
 use Rattle.telegate.specs.declared.fault.Fault.{Fault}
-use Rattle.telegate.specs.declared.fault.Fault.TheVariants.{Config, Record, NoMemory}
+use Rattle.telegate.specs.declared.fault.Fault.TheVariants.{Config, Record, Unread, NoMemory}
 
 abbrev pub verdict_line : Verdict → List ℕ
 verdict_line (Same events actions) =
@@ -29,21 +30,32 @@ abbrev pub IsMemory : Fault → Type 0
 IsMemory NoMemory = Unit {0}
 IsMemory _ = ⊥
 
-pub record IsAuditAnswer (config text : List ℕ) (answer : Answer) : Type 0 where
+-- a text whose octets may be these was audited by settings of these octets, and the verdict told
+pub record IsAuditAnswer (config : List ℕ) (has : List ℕ → Type 0) (answer : Answer) : Type 0 where
   pub settings : Settings
+  pub text : List ℕ
   pub verdict : Verdict
   pub read_config : IsReadOfText config (Ok settings)
-  pub audited : IsAudited settings text (Ok verdict)
+  pub is : has text
+  pub audited : IsAudit settings text verdict
   pub told : IsToldOf verdict answer
 
--- settings are judged before the record
-abbrev pub IsAuditFault : List ℕ → List ℕ → Fault → Type 0
-IsAuditFault config text (Config why) = IsReadOfText config (Err why)
-IsAuditFault config text (Record n) =
-    (s : Settings) × IsReadOfText config (Ok s) × IsAudited s text (Err (WrongLine n))
-IsAuditFault config text NoMemory = Unit {0}
-IsAuditFault config text _ = ⊥
+-- why a command stops whose record has no verdict
+abbrev pub fault_of_lem : RecordFault → Fault
+fault_of_lem (faults.Line n) = Record n
+fault_of_lem faults.Unread = Unread
+fault_of_lem faults.NoMemory = NoMemory
 
-abbrev pub IsAuditedBy : List ℕ → List ℕ → Result Answer Fault → Type 0
-IsAuditedBy config text result =
-    MatchResult result (IsAuditAnswer config text) (IsAuditFault config text)
+-- Settings are judged before the record.
+abbrev pub IsAuditFault : List ℕ → (has : List ℕ → Type 0) → Fault → Type 0
+IsAuditFault config has (Config why) = IsReadOfText config (Err why)
+IsAuditFault config has (Record n) =
+    ((s : Settings) × IsReadOfText config (Ok s))
+    × ((text : List ℕ) × has text × IsWrongLine text n)
+IsAuditFault config has Unread = Unit {0}
+IsAuditFault config has NoMemory = Unit {0}
+IsAuditFault config has _ = ⊥
+
+abbrev pub IsAuditedBy : List ℕ → (has : List ℕ → Type 0) → Result Answer Fault → Type 0
+IsAuditedBy config has result =
+    MatchResult result (IsAuditAnswer config has) (IsAuditFault config has)

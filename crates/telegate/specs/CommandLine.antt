@@ -1,13 +1,18 @@
 -- The words of the command line (this gateway's own profile): `telegate COMMAND WORD.. [--FLAG..]`.
-use Rattle.std.specs.Prelude.{◌≡◌, Bool, true, false, List, [], ◌∷◌, Option, Some, None, MatchOption, codes, map, option_map}
+use Rattle.std.specs.Prelude.{◌≡◌, Bool, true, false, List, [], ◌∷◌, Option, Some, None}
+use Rattle.std.specs.Prelude.{MatchOption, codes, map, option_map}
 use Rattle.std.specs.Borrow.{Bor}
-use Rattle.clap.specs.Words.{App, Rule, Row, Text, all_of, app_of, first_of, new_app, new_rule, one_of, rule_of, with_rule, with_subcommand}
+use Rattle.clap.specs.Words.{App, Rule, Row, Text, all_of, app_of, first_of, new_app, new_rule}
+use Rattle.clap.specs.Words.{one_of, rule_of, with_rule, with_subcommand}
 use Rattle.clap.specs.declared.builder.arg.Arg.{Arg}
 use Rattle.clap.specs.declared.builder.command.Command.{Command}
 use Rattle.clap.specs.declared.builder.command.Command.TheViews.{out-Command}
 use Rattle.clap.specs.declared.builder.action.ArgAction.TheVariants.{Append, Set, SetTrue}
+use Rattle.telegate.specs.declared.run_words.RunWords.{RunWords}
 use Rattle.telegate.specs.declared.command_line.Request.{Request}
-use Rattle.telegate.specs.declared.command_line.Request.TheVariants.{Show101, Show104, Check, Replay, Sim, Audit, Run}
+use Rattle.telegate.specs.declared.command_line.Request.TheVariants.{Show101, Show104, Check}
+use Rattle.telegate.specs.declared.command_line.Request.TheVariants.{Replay, Sim, Audit, Run}
+use Rattle.telegate.specs.declared.command_line.Request.TheVariants.{Status, Capture, Stations}
 
 -- What the commands take
 
@@ -20,8 +25,8 @@ abbrev pub flag : Text → Rule
 flag name = record (new_rule name) { long = Some name; action = Some SetTrue }
 
 -- `--name WORD`, anywhere behind the command, at most once
-abbrev pub directory : Text → Rule
-directory name = record (new_rule name) { long = Some name; action = Some Set }
+abbrev pub single : Text → Rule
+single name = record (new_rule name) { long = Some name; action = Some Set }
 
 -- `--name WORD`, anywhere behind the command, any number of times
 abbrev pub option : Text → Rule
@@ -36,28 +41,42 @@ abbrev pub command : Text → List Rule → App
 command name rules = with_all rules (new_app name)
 
 abbrev pub show101 : App
-show101 = command (codes "show101") (word (codes "SIZES") ∷ word (codes "HEX") ∷ [])
+show101 = command (codes "show101") (word (codes "SIZES") ∷ word (codes "HEX")
+    ∷ flag (codes "words") ∷ [])
 
 abbrev pub show104 : App
-show104 = command (codes "show104") (word (codes "HEX") ∷ [])
+show104 = command (codes "show104") (word (codes "HEX") ∷ flag (codes "words") ∷ [])
 
 abbrev pub check : App
-check = command (codes "check") (word (codes "CONFIG") ∷ [])
+check = command (codes "check") (word (codes "CONFIG") ∷ flag (codes "live")
+    ∷ flag (codes "explain") ∷ [])
 
 abbrev pub replay : App
 replay = command (codes "replay") (word (codes "CONFIG") ∷ word (codes "TRACE")
-    ∷ flag (codes "left") ∷ flag (codes "counts") ∷ [])
+    ∷ flag (codes "left") ∷ flag (codes "counts") ∷ flag (codes "words") ∷ flag (codes "color")
+    ∷ [])
 
 abbrev pub sim : App
-sim = command (codes "sim") (word (codes "CONFIG") ∷ word (codes "SCRIPT") ∷ [])
+sim = command (codes "sim") (word (codes "CONFIG") ∷ word (codes "SCRIPT")
+    ∷ flag (codes "words") ∷ flag (codes "color") ∷ [])
 
 abbrev pub audit : App
 audit = command (codes "audit") (word (codes "CONFIG") ∷ word (codes "RECORD") ∷ [])
 
 abbrev pub run : App
 run = command (codes "run") (word (codes "CONFIG") ∷ flag (codes "redial") ∷ flag (codes "log")
-    ∷ flag (codes "record") ∷ directory (codes "state") ∷ flag (codes "state-or-stop")
-    ∷ option (codes "allow") ∷ [])
+    ∷ flag (codes "record") ∷ single (codes "state") ∷ flag (codes "state-or-stop")
+    ∷ option (codes "allow") ∷ single (codes "status") ∷ single (codes "site")
+    ∷ flag (codes "log-severity") ∷ [])
+
+abbrev pub status : App
+status = command (codes "status") (word (codes "PLACE") ∷ flag (codes "json") ∷ [])
+
+abbrev pub capture : App
+capture = command (codes "capture") (word (codes "CONFIG") ∷ word (codes "RECORD") ∷ [])
+
+abbrev pub stations : App
+stations = command (codes "stations") (word (codes "CONFIG") ∷ word (codes "SCRIPT") ∷ [])
 
 -- the program, of whose commands one has to be named
 abbrev pub bare : App
@@ -76,7 +95,8 @@ with_commands [] above = above
 with_commands (below ∷ commands) above = with_commands commands (with_subcommand above below.top)
 
 abbrev pub program : App
-program = with_commands (show101 ∷ show104 ∷ check ∷ replay ∷ sim ∷ audit ∷ run ∷ []) bare
+program = with_commands (show101 ∷ show104 ∷ check ∷ replay ∷ sim ∷ audit ∷ run ∷ status
+    ∷ capture ∷ stations ∷ []) bare
 
 -- What the code builds is that
 
@@ -112,27 +132,46 @@ AreGiven rows name texts = texts ≡ all_of name rows
 abbrev pub texts_of : Option (Bor (List (Bor Text))) → Option (List Text)
 texts_of words = option_map (λ ws. map (λ word. word.now) ws.now) words
 
+-- this is said of a live run
+pub record AreRunWords (rows : List Row) (words : RunWords) : Type 0 where
+  pub site : IsNamed rows (codes "site") (text_of words.site)
+  pub redial : IsFlag rows (codes "redial") words.redial
+  pub log : IsFlag rows (codes "log") words.log
+  pub log_severity : IsFlag rows (codes "log-severity") words.log_severity
+  pub recorded : IsFlag rows (codes "record") words.«record»
+  pub state : IsNamed rows (codes "state") (text_of words.state)
+  pub or_stop : IsFlag rows (codes "state-or-stop") words.state_or_stop
+  pub allow : AreGiven rows (codes "allow") (texts_of words.allow)
+  pub status : IsNamed rows (codes "status") (text_of words.status)
+
 -- the command that was named, with what was given for it, asks for this
 abbrev pub AsksFor : (name : Text) → List Row → Request → Type 0
-AsksFor name rows (Show101 sizes hex) = (name ≡ codes "show101")
+AsksFor name rows (Show101 sizes hex words) = (name ≡ codes "show101")
     × IsGiven rows (codes "SIZES") sizes.now × IsGiven rows (codes "HEX") hex.now
-AsksFor name rows (Show104 hex) = (name ≡ codes "show104") × IsGiven rows (codes "HEX") hex.now
-AsksFor name rows (Check config) = (name ≡ codes "check") × IsGiven rows (codes "CONFIG") config.now
-AsksFor name rows (Replay config trace left counts) =
+    × IsFlag rows (codes "words") words
+AsksFor name rows (Show104 hex words) = (name ≡ codes "show104")
+    × IsGiven rows (codes "HEX") hex.now × IsFlag rows (codes "words") words
+AsksFor name rows (Check config live explain) =
+    (name ≡ codes "check") × IsGiven rows (codes "CONFIG") config.now
+    × IsFlag rows (codes "live") live × IsFlag rows (codes "explain") explain
+AsksFor name rows (Replay config trace left counts words color) =
     (name ≡ codes "replay") × IsGiven rows (codes "CONFIG") config.now
     × IsGiven rows (codes "TRACE") trace.now × IsFlag rows (codes "left") left
-    × IsFlag rows (codes "counts") counts
-AsksFor name rows (Sim config script) = (name ≡ codes "sim")
+    × IsFlag rows (codes "counts") counts × IsFlag rows (codes "words") words
+    × IsFlag rows (codes "color") color
+AsksFor name rows (Sim config script words color) = (name ≡ codes "sim")
     × IsGiven rows (codes "CONFIG") config.now × IsGiven rows (codes "SCRIPT") script.now
+    × IsFlag rows (codes "words") words × IsFlag rows (codes "color") color
 AsksFor name rows (Audit config text) = (name ≡ codes "audit")
     × IsGiven rows (codes "CONFIG") config.now × IsGiven rows (codes "RECORD") text.now
-AsksFor name rows (Run config redial log recorded state or_stop allow) =
-    (name ≡ codes "run") × IsGiven rows (codes "CONFIG") config.now
-    × IsFlag rows (codes "redial") redial × IsFlag rows (codes "log") log
-    × IsFlag rows (codes "record") recorded
-    × IsNamed rows (codes "state") (text_of state)
-    × IsFlag rows (codes "state-or-stop") or_stop
-    × AreGiven rows (codes "allow") (texts_of allow)
+AsksFor name rows (Run config words) =
+    (name ≡ codes "run") × IsGiven rows (codes "CONFIG") config.now × AreRunWords rows words
+AsksFor name rows (Status place json) = (name ≡ codes "status")
+    × IsGiven rows (codes "PLACE") place.now × IsFlag rows (codes "json") json
+AsksFor name rows (Capture config text) = (name ≡ codes "capture")
+    × IsGiven rows (codes "CONFIG") config.now × IsGiven rows (codes "RECORD") text.now
+AsksFor name rows (Stations config script) = (name ≡ codes "stations")
+    × IsGiven rows (codes "CONFIG") config.now × IsGiven rows (codes "SCRIPT") script.now
 
 -- the request, or none where none is asked for
 abbrev pub IsAsked : (name : Text) → List Row → Option Request → Type 0

@@ -1,13 +1,18 @@
 -- What the worked examples of the command line speak of: what words ask for, and how they end where
 -- they ask for nothing.
-use Rattle.std.specs.Prelude.{◌≡◌, ℕ, ◌==◌, ◌&&◌, not, Bool, List, [], ◌∷◌, length, Option, Some, codes, map}
+use Rattle.std.specs.Prelude.{◌≡◌, ℕ, ◌==◌, ◌&&◌, not, Bool, List, [], ◌∷◌, length, Option, Some}
+use Rattle.std.specs.Prelude.{codes, map}
 use Rattle.std.specs.Borrow.{Bor}
 use Rattle.std.specs.List.{list_all}
 use Rattle.clap.specs.Words.{Row, Text, fault_of, subcommand_of}
 use Rattle.telegate.specs.CommandLine.{IsRequestOf, program, text_of, texts_of}
 use Rattle.telegate.specs.Shell.{status_of_kind}
+use Rattle.telegate.specs.Wishes.{Said}
+use Rattle.telegate.specs.declared.run_words.RunWords.{RunWords}
 use Rattle.telegate.specs.declared.command_line.Request.{Request}
-use Rattle.telegate.specs.declared.command_line.Request.TheVariants.{Show101, Show104, Check, Replay, Sim, Audit, Run}
+use Rattle.telegate.specs.declared.command_line.Request.TheVariants.{Show101, Show104, Check}
+use Rattle.telegate.specs.declared.command_line.Request.TheVariants.{Replay, Sim, Audit, Run}
+use Rattle.telegate.specs.declared.command_line.Request.TheVariants.{Status, Capture, Stations}
 
 -- the command that these words behind the program's name name, with what they give for it
 abbrev pub named_by : List Text → Option (Text × List Row)
@@ -32,34 +37,68 @@ abbrev pub Ask : List Text → Request → Type 0 → Type 0
 Ask words request is =
     (statuses_of words ≡ []) × Agree (IsRequestOf (named_by words) (Some request)) is
 
--- they ask for a command of one word, and of two
-abbrev pub AskOne : List Text → (Bor Text → Request) → Text → Type 0
-AskOne words of text = (word : Bor Text) → Ask words (of word) (word.now ≡ text)
+-- they ask for a frame to be shown, of the line and of the connection
+abbrev pub AskShow101 : List Text → (sizes hex : Text) → (in_words : Bool) → Type 0
+AskShow101 words sizes hex in_words = (s h : Bor Text) (w : Bool) →
+    Ask words (Show101 s h w) ((s.now ≡ sizes) × (h.now ≡ hex) × (w ≡ in_words))
 
+abbrev pub AskShow104 : List Text → (hex : Text) → (in_words : Bool) → Type 0
+AskShow104 words hex in_words = (h : Bor Text) (w : Bool) →
+    Ask words (Show104 h w) ((h.now ≡ hex) × (w ≡ in_words))
+
+-- they ask for a command of two words
 abbrev pub AskTwo : List Text → (Bor Text → Bor Text → Request) → (first second : Text) → Type 0
 AskTwo words of first second = (one other : Bor Text)
     → Ask words (of one other) ((one.now ≡ first) × (other.now ≡ second))
 
--- for a run over a trace, with these closing lines
-abbrev pub AskReplay : List Text → (config trace : Text) → (left counts : Bool) → Type 0
-AskReplay words config trace left counts = (c t : Bor Text) (l n : Bool) →
-    Ask words (Replay c t l n) ((c.now ≡ config) × (t.now ≡ trace) × (l ≡ left) × (n ≡ counts))
+-- for the judgement of settings
+abbrev pub AskCheck : List Text → (config : Text) → (live explain : Bool) → Type 0
+AskCheck words config live explain = (c : Bor Text) (l e : Bool) →
+    Ask words (Check c l e) ((c.now ≡ config) × (l ≡ live) × (e ≡ explain))
+
+-- for a run over a trace, with these closing lines, in words and in colours
+abbrev pub AskReplay : List Text → (config trace : Text) → (left counts in_words color : Bool)
+    → Type 0
+AskReplay words config trace left counts in_words color = (c t : Bor Text) (l n w o : Bool) →
+    Ask words (Replay c t l n w o) ((c.now ≡ config) × (t.now ≡ trace) × (l ≡ left) × (n ≡ counts)
+    × (w ≡ in_words) × (o ≡ color))
+
+-- for a run of a script
+abbrev pub AskSim : List Text → (config script : Text) → (in_words color : Bool) → Type 0
+AskSim words config script in_words color = (c s : Bor Text) (w o : Bool) →
+    Ask words (Sim c s w o) ((c.now ≡ config) × (s.now ≡ script) × (w ≡ in_words) × (o ≡ color))
+
+-- how a live run stands
+abbrev pub AskStatus : List Text → (place : Text) → (json : Bool) → Type 0
+AskStatus words place json = (p : Bor Text) (j : Bool) →
+    Ask words (Status p j) ((p.now ≡ place) × (j ≡ json))
+
+-- the words of a live run name this file of a site, if any, and say this beside
+pub record Say (words : RunWords) (file : Option Text) (said : Said) : Type 0 where
+  pub site : text_of words.site ≡ file
+  pub redial : words.redial ≡ said.redial
+  pub log : words.log ≡ said.log
+  pub log_severity : words.log_severity ≡ said.log_severity
+  pub recorded : words.«record» ≡ said.recorded
+  pub state : text_of words.state ≡ said.state
+  pub or_stop : words.state_or_stop ≡ said.or_stop
+  pub allow : texts_of words.allow ≡ said.allow
+  pub status : text_of words.status ≡ said.status
 
 -- for a live run
-abbrev pub AskRun : List Text → (config : Text) → (redial log recorded : Bool)
-    → (state : Option Text) → (or_stop : Bool) → (allow : Option (List Text)) → Type 0
-AskRun words config redial log recorded state or_stop allow =
-    (c : Bor Text) (r l w : Bool) (kept : Option (Bor Text)) (stops : Bool)
-    (guests : Option (Bor (List (Bor Text)))) → Ask words (Run c r l w kept stops guests)
-    ((c.now ≡ config) × (r ≡ redial) × (l ≡ log) × (w ≡ recorded) × (text_of kept ≡ state)
-    × (stops ≡ or_stop) × (texts_of guests ≡ allow))
+abbrev pub AskRun : List Text → (config : Text) → (site : Option Text) → Said → Type 0
+AskRun words config site said = (c : Bor Text) (w : RunWords) →
+    Ask words (Run c w) ((c.now ≡ config) × Say w site said)
 
 -- the name of the command of a request
 abbrev pub name_of : Request → Text
-name_of (Show101 sizes hex) = codes "show101"
-name_of (Show104 hex) = codes "show104"
-name_of (Check config) = codes "check"
-name_of (Replay config trace left counts) = codes "replay"
-name_of (Sim config script) = codes "sim"
+name_of (Show101 sizes hex words) = codes "show101"
+name_of (Show104 hex words) = codes "show104"
+name_of (Check config live explain) = codes "check"
+name_of (Replay config trace left counts words color) = codes "replay"
+name_of (Sim config script words color) = codes "sim"
 name_of (Audit config text) = codes "audit"
-name_of (Run config redial log recorded state or_stop allow) = codes "run"
+name_of (Run config words) = codes "run"
+name_of (Status place json) = codes "status"
+name_of (Capture config text) = codes "capture"
+name_of (Stations config script) = codes "stations"

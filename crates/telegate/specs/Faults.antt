@@ -1,11 +1,15 @@
 -- The exit statuses of faults (this gateway's own profile).
 use Rattle.std.specs.Prelude.{ℕ, Result, Ok, Err}
 use Rattle.telegate.specs.declared.fault.Fault.{Fault}
-use Rattle.telegate.specs.declared.fault.Fault.TheVariants.{Config, Trace, Script, Record, Sizes, Octets, Address, NoState, StateInUse, StateUnusable, Device, Unread, NoMemory}
+use Rattle.telegate.specs.declared.fault.Fault.TheVariants.{Config, Site, Trace, Script, Record}
+use Rattle.telegate.specs.declared.fault.Fault.TheVariants.{Sizes, Octets, Address, NoState}
+use Rattle.telegate.specs.declared.fault.Fault.TheVariants.{StateInUse, StateUnusable, Device}
+use Rattle.telegate.specs.declared.fault.Fault.TheVariants.{Unread, NoMemory}
 
 -- 1 wrong content, 2 a wrong word, 3 a device that failed, 4 no memory
 abbrev pub status_of : Fault → ℕ
 status_of (Config why) = 1
+status_of (Site why) = 1
 status_of (Trace line) = 1
 status_of (Script line) = 1
 status_of (Record line) = 1

@@ -1,5 +1,7 @@
 pub mod Closing
 pub mod Faults
+pub mod Given
+pub mod Checks
 pub mod Answers
 pub mod Printed
 pub mod Running
@@ -13,3 +15,14 @@ pub mod Parts
 pub mod Lives
 pub mod Sites
 pub mod Living
+pub mod Told
+pub mod Kept
+pub mod Manners
+pub mod SimulatedTold
+pub mod Telling
+pub mod Piping
+pub mod Asking
+pub mod Ran
+pub mod Wishes
+pub mod Captures
+pub mod Playing

@@ -1,16 +1,13 @@
 -- What a live run came to (profile).
-use Rattle.std.specs.Prelude.{◌≡◌, ◌⊎◌, ℕ, Bool, List, Some, Result, Ok, Err}
+use Rattle.std.specs.Prelude.{◌≡◌, Bool, false, OnOk, Some, Result}
 use Rattle.gateway.specs.Config.{Settings}
 use Rattle.gateway.specs.Log.{Log}
 use Rattle.gateway.specs.Setups.{setup_of}
 use Rattle.live.specs.Ends.{Ends, fixed_of}
 use Rattle.live.specs.declared.guests.Guests.{Guests}
 use Rattle.record.specs.Recording.{Recording}
-use Rattle.settings.specs.Settings.{IsLiveReadOfText}
-use Rattle.settings.specs.declared.live.LiveSettings.{LiveSettings}
 use Rattle.telegate.specs.Lives.{all_told}
-use Rattle.telegate.specs.Running.{HasRunFaithfully, IsLiveConfigFault, IsRecorded}
-use Rattle.telegate.specs.declared.fault.Fault.{Fault}
+use Rattle.telegate.specs.Running.{HasEnded, HasRunFaithfully, IsRecorded}
 
 -- The port is that of a run with these settings and these guests; where it goes on after a restart
 -- it began with the cut of the connection of then.
@@ -22,23 +19,11 @@ IsPortOf settings guests goes_on port = fixed_of port ≡ record {
 }
 
 -- A live run is over. What passed at its port, behind the lives before, keeps every promise of a
--- gateway with these settings, and so does what is written of it.
+-- gateway with these settings, and so does what is written of it. A port between real ends has
+-- always another event, so it ended well only once all turns that can be counted were used up.
 pub record HasLived {E : Type 0} (settings : Settings) (guests : Guests) (goes_on : Bool)
     (before : Log) (port : Ends) (pen : Recording) (ended : Result (Unit {0}) E) : Type 0 where
   pub port_is : IsPortOf settings guests goes_on port
+  pub over : OnOk ended (HasEnded false (Some before) (all_told before pen (Some port.log)))
   pub faithful : HasRunFaithfully (setup_of settings) (all_told before pen (Some port.log)) ended
   pub recorded : IsRecorded (setup_of settings) before pen ended
-
--- the settings of a live run are those of its file
-pub record HasSettings (text : List ℕ) : Type 0 where
-  pub settings : Settings
-  pub places : LiveSettings
-  pub are : IsLiveReadOfText text (Ok (settings, places))
-
--- or the file is refused by the first fault, and nothing is run
-abbrev pub IsRefused : List ℕ → Result (Unit {0}) Fault → Type 0
-IsRefused text (Ok done) = ⊥
-IsRefused text (Err fault) = IsLiveConfigFault text fault
-
-abbrev pub HasRunBy : List ℕ → Result (Unit {0}) Fault → Type 0
-HasRunBy text ended = HasSettings text ⊎ IsRefused text ended

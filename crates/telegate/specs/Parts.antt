@@ -1,5 +1,6 @@
 -- A run over a text that is read part by part.
-use Rattle.std.specs.Prelude.{◌≡◌, ◌⊎◌, ℕ, Bool, true, not, List, [], ◌++◌, Option, Some, None, Result, MatchResult}
+use Rattle.std.specs.Prelude.{◌≡◌, ◌⊎◌, ℕ, Bool, true, not, List, [], ◌++◌, Option, Some, None}
+use Rattle.std.specs.Prelude.{Result, MatchResult}
 use Rattle.std.specs.Io.KnownBytes.{Keeps}
 use Rattle.gateway.specs.Accounts.{IsAccounted}
 use Rattle.gateway.specs.Agrees.{Follows}
@@ -8,7 +9,6 @@ use Rattle.gateway.specs.Reports.{Setup}
 use Rattle.gateway.specs.State.{State}
 use Rattle.gateway.specs.Traffic.{IsFaithful, HasRested}
 use Rattle.sim.specs.Runs.{IsBegun}
-use Rattle.traces.specs.Actions.{lines_of_actions}
 use Rattle.traces.specs.Progress.{Part, Standing, script_in, script_of}
 use Rattle.traces.specs.Trace.{lines_of, first_wrong}
 use Rattle.telegate.specs.Printed.{IsPoured}
@@ -85,41 +85,48 @@ pub record IsPartRun (s : Standing) (text : List ℕ) (began ended : State) (aft
   pub started : after.started ≡ true
   pub clear : IsClear after
 
--- a run stopped in a part, and a beginning of its lines was printed
-pub record IsPartStopped (s : Standing) (text : List ℕ) (began : State) (old new : Option (List ℕ))
-    : Type 0 where
+-- A run stopped in a part, and a beginning of its text was printed. (How a log is told in a text,
+-- the first argument says, here and below.)
+pub record IsPartStopped (Tells : Log → List ℕ → Type 0) (s : Standing) (text : List ℕ)
+    (began : State) (old new : Option (List ℕ)) : Type 0 where
   pub log : Log
   pub rest : List LogEntry
   pub events : events_of log ++ rest ≡ script_of (part_behind s text)
   pub faithful : StaysFaithful began s.log log
-  pub begun : IsBegun old new (lines_of_actions log)
+  pub lines : List ℕ
+  pub told : Tells log lines
+  pub begun : IsBegun old new lines
 
 -- A run over a whole text, of which no line is wrong; all lines of its log were printed, or, where
 -- the output failed, a beginning of them.
-pub record IsRunOver (known : Option (List ℕ)) (began ended : State) (old new : Option (List ℕ))
-    (is_whole : Bool) : Type 0 where
+pub record IsRunOver (Tells : Log → List ℕ → Type 0) (known : Option (List ℕ))
+    (began ended : State) (old new : Option (List ℕ)) (is_whole : Bool) : Type 0 where
   pub octets : List ℕ
   pub given : Gives known octets
   pub right : first_wrong 1 (lines_of octets) ≡ None
   pub log : Log
   pub events : events_of log ≡ script_in octets
   pub goes : GoesOn began [] ended log
-  pub poured : IsPoured is_whole old new (lines_of_actions log)
+  pub lines : List ℕ
+  pub told : Tells log lines
+  pub poured : IsPoured is_whole old new lines
 
 -- a run over a text stopped before its end, and a beginning of its lines was printed; or before
 -- its beginning, and nothing was
-pub record IsStoppedOver (known : Option (List ℕ)) (began : State) (old new : Option (List ℕ))
-    : Type 0 where
+pub record IsStoppedOver (Tells : Log → List ℕ → Type 0) (known : Option (List ℕ)) (began : State)
+    (old new : Option (List ℕ)) : Type 0 where
   pub octets : List ℕ
   pub given : Gives known octets
   pub log : Log
   pub rest : List LogEntry
   pub events : events_of log ++ rest ≡ script_in octets
   pub faithful : StaysFaithful began [] log
-  pub begun : IsBegun old new (lines_of_actions log)
+  pub lines : List ℕ
+  pub told : Tells log lines
+  pub begun : IsBegun old new lines
 
-abbrev pub RunsOver : Option (List ℕ) → (began ended : State) → (old new : Option (List ℕ))
-    → Result Bool Fault → Type 0
-RunsOver known began ended old new result =
-    MatchResult result (IsRunOver known began ended old new)
-    (λ fault. IsWant fault × (Keeps old new ⊎ IsStoppedOver known began old new))
+abbrev pub RunsOver : (Tells : Log → List ℕ → Type 0) → Option (List ℕ) → (began ended : State)
+    → (old new : Option (List ℕ)) → Result Bool Fault → Type 0
+RunsOver Tells known began ended old new result =
+    MatchResult result (IsRunOver Tells known began ended old new)
+    (λ fault. IsWant fault × (Keeps old new ⊎ IsStoppedOver Tells known began old new))

@@ -1,21 +1,32 @@
 -- What the program does with its words and with the files that they name (this gateway's own
 -- profile).
-use Rattle.std.specs.Prelude.{◌≡◌, ◌⊎◌, ℕ, Bool, true, false, not, List, [], ◌∷◌, ◌++◌, Option, Some, None, Result, codes}
+use Rattle.std.specs.Prelude.{◌≡◌, ◌⊎◌, ℕ, List, [], ◌∷◌, ◌++◌, Option, Some, None, Result, codes}
 use Rattle.std.specs.Io.KnownBytes.{Keeps}
 use Rattle.clap.specs.Words.{Text, HasKind, fault_of, kind_of, subcommand_of}
 use Rattle.clap.specs.declared.error.Error.{Error}
 use Rattle.clap.specs.declared.error.kind.ErrorKind.{ErrorKind}
 use Rattle.clap.specs.declared.error.kind.ErrorKind.TheVariants as kind
+use Rattle.sitefile.specs.declared.site.Site.{Site as SiteFile}
 use Rattle.telegate.specs.Answers.{IsReplayed, Performs, Runs}
-use Rattle.telegate.specs.CommandLine.{IsRequestOf, text_of, texts_of, program}
-use Rattle.telegate.specs.Faults.{status_of, status_of_end}
-use Rattle.telegate.specs.Guests.{AreGuests, IsGuestsFault}
+use Rattle.telegate.specs.Given.{Gives}
+use Rattle.telegate.specs.Asking.{ShowsStatus}
+use Rattle.telegate.specs.Audits.{IsAuditedBy}
+use Rattle.telegate.specs.Captures.{IsCapturedBy}
+use Rattle.telegate.specs.Faults.{status_of_end}
+use Rattle.telegate.specs.CommandLine.{IsRequestOf, text_of, program}
+use Rattle.telegate.specs.Wishes.{CameAt, HasRunAsSaid, HasRunLive, HasWrongSite, site_files}
+use Rattle.telegate.specs.Manners.{manner_of}
+use Rattle.telegate.specs.Piping.{HasPiped, PipesLine}
+use Rattle.telegate.specs.declared.manner.Manner.{Manner}
+use Rattle.telegate.specs.declared.piping.Piped.TheVariants.{Connection}
 use Rattle.telegate.specs.declared.closing.Closing.{Closing}
 use Rattle.telegate.specs.declared.host.Wishes.{Wishes}
+use Rattle.telegate.specs.declared.run_words.RunWords.{RunWords}
 use Rattle.telegate.specs.declared.command_line.Request.{Request}
-use Rattle.telegate.specs.declared.command_line.Request.TheVariants.{Show101, Show104, Check, Replay, Sim, Audit, Run}
+use Rattle.telegate.specs.declared.command_line.Request.TheVariants.{Show101, Show104, Check}
+use Rattle.telegate.specs.declared.command_line.Request.TheVariants.{Replay, Sim, Audit, Run}
+use Rattle.telegate.specs.declared.command_line.Request.TheVariants.{Status, Capture, Stations}
 use Rattle.telegate.specs.declared.fault.Fault.{Fault}
-use Rattle.telegate.specs.declared.fault.Fault.TheVariants.{NoState}
 use Rattle.telegate.specs.declared.host.Unread.{Unread}
 use Rattle.telegate.specs.declared.host.Unread.TheVariants.{Unreadable, NoMemory}
 use Rattle.telegate.specs.declared.job.Job.{Job}
@@ -25,22 +36,27 @@ use Rattle.telegate.specs.declared.job.Job.TheVariants as job
 
 -- the job of a request, with what its files have in place of their names
 abbrev pub IsJobOf : (has : Text → List ℕ → Type 0) → Request → Job → Type 0
-IsJobOf has (Show101 sizes hex) (job.Show101 s h) = (s.now ≡ sizes.now) × (h.now ≡ hex.now)
-IsJobOf has (Show104 hex) (job.Show104 h) = h.now ≡ hex.now
-IsJobOf has (Check config) (job.Check c) = has config.now c.now
-IsJobOf has (Sim config script) (job.Sim c s) = has config.now c.now × has script.now s.now
-IsJobOf has (Audit config text) (job.Audit c t) = has config.now c.now × has text.now t.now
+IsJobOf has (Show101 sizes hex words) (job.Show101 s h w) =
+    (s.now ≡ sizes.now) × (h.now ≡ hex.now) × (w ≡ words)
+IsJobOf has (Show104 hex words) (job.Show104 h w) = (h.now ≡ hex.now) × (w ≡ words)
+IsJobOf has (Check config live explain) (job.Check c how) =
+    has config.now c.now × (how ≡ record { live = live; explain = explain })
+IsJobOf has (Sim config script words color) (job.Sim c s manner) =
+    has config.now c.now × has script.now s.now × (manner ≡ manner_of words color)
 IsJobOf has _ _ = ⊥
 
 -- the names of a request's files, in the order of the words
 abbrev pub files_of : Request → List Text
-files_of (Show101 sizes hex) = []
-files_of (Show104 hex) = []
-files_of (Check config) = config.now ∷ []
-files_of (Replay config trace left counts) = config.now ∷ trace.now ∷ []
-files_of (Sim config script) = config.now ∷ script.now ∷ []
+files_of (Show101 sizes hex words) = []
+files_of (Show104 hex words) = []
+files_of (Check config live explain) = config.now ∷ []
+files_of (Replay config trace left counts words color) = config.now ∷ trace.now ∷ []
+files_of (Sim config script words color) = config.now ∷ script.now ∷ []
 files_of (Audit config text) = config.now ∷ text.now ∷ []
-files_of (Run config redial log recorded state or_stop allow) = config.now ∷ []
+files_of (Run config words) = site_files (text_of words.site) ++ config.now ∷ []
+files_of (Status place json) = []
+files_of (Capture config text) = config.now ∷ text.now ∷ []
+files_of (Stations config script) = config.now ∷ script.now ∷ []
 
 -- this is the first of the files that can't be read
 abbrev pub IsFirstUnread : (has : Text → List ℕ → Type 0) → (lacks : Text → Type 0) → List Text
@@ -83,97 +99,136 @@ pub record IsJobDone (has : Text → List ℕ → Type 0) (request : Request) (o
 -- A trace was replayed by settings of these octets; or it couldn't be read, and nothing was
 -- printed.
 abbrev pub ReplaysFile : (has : Text → List ℕ → Type 0) → (lacks : Text → Type 0) → (trace : Text)
-    → (config : List ℕ) → Closing → (old new : Option (List ℕ)) → (exit : ℕ) → Type 0
-ReplaysFile has lacks trace config closing old new exit =
-    Runs (IsReplayed config (has trace) closing) old new exit
+    → (config : List ℕ) → Manner → Closing → (old new : Option (List ℕ)) → (exit : ℕ) → Type 0
+ReplaysFile has lacks trace config manner closing old new exit =
+    Runs (IsReplayed config manner (has trace) closing) old new exit
     ⊎ (IsNotRead has lacks (trace ∷ []) exit × Keeps old new)
 
 -- the same by the octets of a file
-pub record HasReplayed (has : Text → List ℕ → Type 0) (config trace : Text) (closing : Closing)
+pub record HasReplayed (has : Text → List ℕ → Type 0) (config trace : Text) (manner : Manner)
+    (closing : Closing) (old new : Option (List ℕ)) (exit : ℕ) : Type 0 where
+  pub octets : List ℕ
+  pub read : has config octets
+  pub ran : Runs (IsReplayed octets manner (has trace) closing) old new exit
+
+-- the record of this name was audited by settings of these octets
+abbrev pub AuditsFile : (has : Text → List ℕ → Type 0) → (text : Text) → (config : List ℕ)
+    → (old new : Option (List ℕ)) → (exit : ℕ) → Type 0
+AuditsFile has text config = Gives (IsAuditedBy config (has text))
+
+-- the same by the octets of a file
+pub record HasAudited (has : Text → List ℕ → Type 0) (config text : Text)
     (old new : Option (List ℕ)) (exit : ℕ) : Type 0 where
   pub octets : List ℕ
   pub read : has config octets
-  pub ran : Runs (IsReplayed octets (has trace) closing) old new exit
+  pub audited : AuditsFile has text octets old new exit
 
--- The gateway ran live by settings of these octets, and the exit status says how that ended.
-pub record HasEndedLive (ran : List ℕ → Wishes → Result (Unit {0}) Fault → Type 0)
-    (config : List ℕ) (wishes : Wishes) (exit : ℕ) : Type 0 where
-  pub ended : Result (Unit {0}) Fault
-  pub run : ran config wishes ended
-  pub status : exit ≡ status_of_end ended
-
--- the same by the octets of a file
-pub record HasRunLive (has : Text → List ℕ → Type 0)
-    (ran : List ℕ → Wishes → Result (Unit {0}) Fault → Type 0)
-    (config : Text) (wishes : Wishes) (exit : ℕ) : Type 0 where
+-- the capture of a record was made by the octets of a file
+pub record HasCaptured (has : Text → List ℕ → Type 0) (config text : Text)
+    (old new : Option (List ℕ)) (exit : ℕ) : Type 0 where
   pub octets : List ℕ
   pub read : has config octets
-  pub live : HasEndedLive ran octets wishes exit
+  pub captured : Runs (IsCapturedBy octets (has text)) old new exit
 
--- the same, or the file couldn't be read
+-- The outstations of a script of these octets were played by settings of these, and the exit status
+-- says how that ended.
+pub record HaveEnded (played : List ℕ → List ℕ → Result (Unit {0}) Fault → Type 0)
+    (config script : List ℕ) (exit : ℕ) : Type 0 where
+  pub ended : Result (Unit {0}) Fault
+  pub play : played config script ended
+  pub status : exit ≡ status_of_end ended
+
+-- the same by the octets of two files
+pub record HavePlayedFiles (has : Text → List ℕ → Type 0)
+    (played : List ℕ → List ℕ → Result (Unit {0}) Fault → Type 0) (config script : Text)
+    (exit : ℕ) : Type 0 where
+  pub octets : List ℕ
+  pub text : List ℕ
+  pub read_config : has config octets
+  pub read_script : has script text
+  pub came : HaveEnded played octets text exit
+
+-- or one of them couldn't be read
+abbrev pub PlayFiles : (has : Text → List ℕ → Type 0) → (lacks : Text → Type 0)
+    → (played : List ℕ → List ℕ → Result (Unit {0}) Fault → Type 0) → (config script : Text)
+    → (exit : ℕ) → Type 0
+PlayFiles has lacks played config script exit =
+    HavePlayedFiles has played config script exit
+    ⊎ IsNotRead has lacks (config ∷ script ∷ []) exit
+
+-- the gateway ran live by the octets of a file, or the file couldn't be read
 abbrev pub RunsFile : (has : Text → List ℕ → Type 0) → (lacks : Text → Type 0)
     → (ran : List ℕ → Wishes → Result (Unit {0}) Fault → Type 0) →
     (config : Text) → (wishes : Wishes) → (exit : ℕ) → Type 0
 RunsFile has lacks ran config wishes exit =
     HasRunLive has ran config wishes exit ⊎ IsNotRead has lacks (config ∷ []) exit
 
--- the run is to stop where the state can't be kept, and none is named
-abbrev pub lacks_state : (state : Option Text) → (or_stop : Bool) → Bool
-lacks_state None or_stop = or_stop
-lacks_state (Some name) or_stop = false
+-- what came of the words of a live run at this site, or its settings couldn't be read
+abbrev pub RunsAtSite : (has : Text → List ℕ → Type 0) → (lacks : Text → Type 0)
+    → (ran : List ℕ → Wishes → Result (Unit {0}) Fault → Type 0) → (config : Text) → RunWords
+    → SiteFile → (exit : ℕ) → Type 0
+RunsAtSite has lacks ran config words site exit =
+    CameAt has ran config words site exit ⊎ IsNotRead has lacks (config ∷ []) exit
 
--- the wishes are those of the words
-pub record AreWishes (redial log recorded : Bool) (state : Option Text) (or_stop : Bool)
-    (allow : Option (List Text)) (wishes : Wishes) : Type 0 where
-  pub redials : wishes.redial ≡ redial
-  pub logs : wishes.log ≡ log
-  pub records : wishes.«record» ≡ recorded
-  pub keeps : text_of wishes.state ≡ state
-  pub bears : wishes.bears_loss ≡ not or_stop
-  pub is_named : lacks_state state or_stop ≡ false
-  pub guests : AreGuests allow wishes.guests
+-- there is no site: its file can't be read, or is refused
+abbrev pub IsNoSite : (has : Text → List ℕ → Type 0) → (lacks : Text → Type 0)
+    → (site : Option Text) → (exit : ℕ) → Type 0
+IsNoSite has lacks site exit =
+    HasWrongSite has site exit ⊎ IsNotRead has lacks (site_files site) exit
 
--- what the words wish for can't be: a state that isn't named, or guests that aren't addresses
-abbrev pub IsWishFault : (state : Option Text) → (or_stop : Bool) → (allow : Option (List Text))
-    → Fault → Type 0
-IsWishFault state or_stop allow fault =
-    ((fault ≡ NoState) × (lacks_state state or_stop ≡ true)) ⊎ IsGuestsFault allow fault
+-- what came of the words of a live run, or one of its files couldn't be read
+abbrev pub RunsAsSaid : (has : Text → List ℕ → Type 0) → (lacks : Text → Type 0)
+    → (ran : List ℕ → Wishes → Result (Unit {0}) Fault → Type 0) → (config : Text) → RunWords
+    → (exit : ℕ) → Type 0
+RunsAsSaid has lacks ran config words exit =
+    HasRunAsSaid has ran config words exit
+    ⊎ IsNotRead has lacks (site_files (text_of words.site) ++ config ∷ []) exit
 
--- the gateway ran live as the words wish
-pub record HasRunAsWished (has : Text → List ℕ → Type 0)
-    (ran : List ℕ → Wishes → Result (Unit {0}) Fault → Type 0) (config : Text)
-    (redial log recorded : Bool) (state : Option Text) (or_stop : Bool)
-    (allow : Option (List Text)) (exit : ℕ) : Type 0 where
-  pub wishes : Wishes
-  pub wished : AreWishes redial log recorded state or_stop allow wishes
-  pub live : HasRunLive has ran config wishes exit
+-- the name of standard input
+abbrev pub input : Text
+input = codes "-"
 
--- what the words wish for can't be, and no file was read
-pub record HasNoWishes (state : Option Text) (or_stop : Bool) (allow : Option (List Text))
-    (exit : ℕ) : Type 0 where
-  pub fault : Fault
-  pub is : IsWishFault state or_stop allow fault
-  pub status : exit ≡ status_of fault
+-- a frame is shown, or those of standard input are told where its name stands for octets
+pub record IsShownOrPiped (hex : Text) (IsShown IsPiped : Type 0) : Type 0 where
+  pub piped : hex ≡ input → IsPiped
+  pub shown : (hex ≡ input → ⊥) → IsShown
 
 -- What a command is to do where its files can be read; a live run prints nothing but its record,
 -- which the host writes.
 abbrev pub IsDone : (has : Text → List ℕ → Type 0)
-    → (ran : List ℕ → Wishes → Result (Unit {0}) Fault → Type 0) → Request →
-    (old new : Option (List ℕ)) → (exit : ℕ) → Type 0
-IsDone has ran (Run config redial log recorded state or_stop allow) old new exit =
-    (HasRunAsWished has ran config.now redial log recorded (text_of state) or_stop
-    (texts_of allow) exit
-    ⊎ HasNoWishes (text_of state) or_stop (texts_of allow) exit) × Keeps old new
-IsDone has ran (Replay config trace left counts) old new exit =
-    HasReplayed has config.now trace.now (record { left = left; counts = counts }) old new exit
-IsDone has ran request old new exit = IsJobDone has request old new exit
+    → (ran : List ℕ → Wishes → Result (Unit {0}) Fault → Type 0)
+    → (answered : Text → List ℕ → List ℕ → Type 0) → (silent : Text → Type 0)
+    → (played : List ℕ → List ℕ → Result (Unit {0}) Fault → Type 0) → Request
+    → (old new : Option (List ℕ)) → (exit : ℕ) → Type 0
+IsDone has ran answered silent played (Run config words) old new exit =
+    HasRunAsSaid has ran config.now words exit × Keeps old new
+IsDone has ran answered silent played (Replay config trace left counts words color) old new exit =
+    HasReplayed has config.now trace.now (manner_of words color)
+    (record { left = left; counts = counts }) old new exit
+IsDone has ran answered silent played (Audit config text) old new exit =
+    HasAudited has config.now text.now old new exit
+IsDone has ran answered silent played (Show101 sizes hex words) old new exit =
+    IsShownOrPiped hex.now (IsJobDone has (Show101 sizes hex words) old new exit)
+    (PipesLine sizes.now words (has input) old new exit)
+IsDone has ran answered silent played (Show104 hex words) old new exit =
+    IsShownOrPiped hex.now (IsJobDone has (Show104 hex words) old new exit)
+    (HasPiped Connection words (has input) old new exit)
+IsDone has ran answered silent played (Status place json) old new exit =
+    ShowsStatus answered silent place.now json old new exit
+IsDone has ran answered silent played (Capture config text) old new exit =
+    HasCaptured has config.now text.now old new exit
+IsDone has ran answered silent played (Stations config script) old new exit =
+    HavePlayedFiles has played config.now script.now exit × Keeps old new
+IsDone has ran answered silent played request old new exit = IsJobDone has request old new exit
 
 -- the command is done, or a file couldn't be read and nothing was printed
 abbrev pub Responds : (has : Text → List ℕ → Type 0) → (lacks : Text → Type 0)
-    → (ran : List ℕ → Wishes → Result (Unit {0}) Fault → Type 0) → Request
+    → (ran : List ℕ → Wishes → Result (Unit {0}) Fault → Type 0)
+    → (answered : Text → List ℕ → List ℕ → Type 0) → (silent : Text → Type 0)
+    → (played : List ℕ → List ℕ → Result (Unit {0}) Fault → Type 0) → Request
     → (old new : Option (List ℕ)) → (exit : ℕ) → Type 0
-Responds has lacks ran request old new exit =
-    IsDone has ran request old new exit
+Responds has lacks ran answered silent played request old new exit =
+    IsDone has ran answered silent played request old new exit
     ⊎ (IsNotRead has lacks (files_of request) exit × Keeps old new)
 
 -- Words
@@ -197,11 +252,13 @@ IsSilent _ old new = Keeps old new
 
 -- the words ask for a command, and it is done
 pub record IsAskedAndDone (has : Text → List ℕ → Type 0) (lacks : Text → Type 0)
-    (ran : List ℕ → Wishes → Result (Unit {0}) Fault → Type 0) (words : List Text)
+    (ran : List ℕ → Wishes → Result (Unit {0}) Fault → Type 0)
+    (answered : Text → List ℕ → List ℕ → Type 0) (silent : Text → Type 0)
+    (played : List ℕ → List ℕ → Result (Unit {0}) Fault → Type 0) (words : List Text)
     (old new : Option (List ℕ)) (exit : ℕ) : Type 0 where
   pub request : Request
   pub asked : IsRequestOf (subcommand_of program words) (Some request)
-  pub done : Responds has lacks ran request old new exit
+  pub done : Responds has lacks ran answered silent played request old new exit
 
 -- the words are wrong, or ask for help or the version; wrong ones print nothing
 pub record IsUsage (words : List Text) (old new : Option (List ℕ)) (exit : ℕ) : Type 0 where
@@ -216,8 +273,10 @@ IsNoRequest words old new exit =
     IsRequestOf (subcommand_of program words) None × (exit ≡ 2) × Keeps old new
 
 abbrev pub Obeys : (has : Text → List ℕ → Type 0) → (lacks : Text → Type 0)
-    → (ran : List ℕ → Wishes → Result (Unit {0}) Fault → Type 0) → (words : List Text)
+    → (ran : List ℕ → Wishes → Result (Unit {0}) Fault → Type 0)
+    → (answered : Text → List ℕ → List ℕ → Type 0) → (silent : Text → Type 0)
+    → (played : List ℕ → List ℕ → Result (Unit {0}) Fault → Type 0) → (words : List Text)
     → (old new : Option (List ℕ)) → (exit : ℕ) → Type 0
-Obeys has lacks ran words old new exit =
-    IsAskedAndDone has lacks ran words old new exit
+Obeys has lacks ran answered silent played words old new exit =
+    IsAskedAndDone has lacks ran answered silent played words old new exit
     ⊎ (IsUsage words old new exit ⊎ IsNoRequest words old new exit)

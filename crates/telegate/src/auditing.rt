@@ -1,24 +1,36 @@
 //! The command that audits a recorded run.
 ghost use Rattle.std.specs.Prelude.{◌≡◌, MatchResult};
-ghost use Rattle.telegate.specs.Audits.{IsAuditedBy, IsToldOf, IsMemory};
+ghost use Rattle.telegate.specs.Audits.{IsAuditedBy, IsToldOf, IsMemory, fault_of_lem};
 
 use crate::answer::Answer;
 use crate::check::read_config;
 use crate::fault::{BAD_CONTENT, DONE, Fault};
-use audit::{Verdict, audit_record};
+use crate::replay::open;
+use crate::source::Source;
+use audit::{RecordFault, Verdict, audit_text};
 use std::alloc::Global;
-use traces::TextFault;
 
 /// Runs the gateway over the events of a record, and answers whether its actions are the record's.
-/// The settings are judged before the record.
-pub(crate) fn audit(alloc: Global, config: &[u8], text: &[u8]) -> Result<Answer, Fault>
-    ensures { IsAuditedBy config.now text.now result }
+/// The settings are judged before the record, which is read once, block by block.
+pub(crate) fn audit<S: Source>(alloc: Global, config: &[u8], text: &S) -> Result<Answer, Fault>
+    ensures { IsAuditedBy config.now (S.has text.now) result }
 {
+    let text = open(text)?;
     let config = read_config(alloc, config)?;
-    match audit_record(alloc, &config, text) {
+    match audit_text(alloc, &config, text) {
         Ok(verdict) => tell_verdict(alloc, verdict),
-        Err(TextFault::Line(n)) => Err(Fault::Record(n)),
-        Err(TextFault::NoMemory) => Err(Fault::NoMemory),
+        Err(fault) => Err(fault_of(fault)),
+    }
+}
+
+/// Why a command stops whose record has no verdict.
+fn fault_of(fault: RecordFault) -> Fault
+    ensures { result ≡ fault_of_lem fault }
+{
+    match fault {
+        RecordFault::Line(n) => Fault::Record(n),
+        RecordFault::Unread => Fault::Unread,
+        RecordFault::NoMemory => Fault::NoMemory,
     }
 }
 

@@ -1,19 +1,119 @@
 //! The command that judges settings.
-ghost use Rattle.telegate.specs.Answers.{IsChecked, IsGood, IsReadConfig};
+ghost use Rattle.std.specs.Prelude.{MatchResult};
+ghost use Rattle.telegate.specs.Given.{IsGood, IsReadConfig};
+ghost use Rattle.telegate.specs.Checks.{IsCheckDone, IsCheckFault, IsExplanationGiven, IsGoodFor};
+ghost use Rattle.telegate.specs.Checks.{IsSettingsRefused};
 
 use crate::answer::Answer;
 use crate::fault::{DONE, Fault};
+use crate::living::read_live;
+use crate::performing::{give, print, tell};
 use gateway::Config;
-use settings::ConfigFault;
+use hints::explain;
+use settings::{ConfigFault, is_here};
 use std::alloc::Global;
+use std::io::Write;
 
-/// Judges a file of settings: `ok`, or the first fault.
-pub(crate) fn check(alloc: Global, config: &[u8]) -> Result<Answer, Fault>
-    ensures { IsChecked config.now result }
+/// How settings are judged.
+#[derive(Clone, Copy, Debug, PartialEq, Eq)]
+pub struct Checking {
+    /// As for a live run, which needs the keys of `live`.
+    pub live: bool,
+    /// What is wrong is told, and where.
+    pub explain: bool,
+}
+
+/// Judges a file of settings, and answers the exit status: `ok` is printed, or the first fault is
+/// told, with what is wrong and where behind it on `out`, if that is asked for. As for a live run
+/// it is told too where the line is on another machine.
+pub(crate) fn check<W: Write, E: Write>(
+    alloc: Global,
+    config: &[u8],
+    how: Checking,
+    out: &mut W,
+    err: &mut E,
+) -> u8
+    ensures { IsCheckDone config.now how (W.contents out.old) (W.contents out.new) result }
 {
-    match read_config(alloc, config) {
-        Ok(_settings) => good(alloc),
-        Err(fault) => Err(fault),
+    match judge(alloc, config, how.live) {
+        Ok(is_here) => {
+            if !is_here {
+                warn(err);
+            }
+            give(&good(alloc), out, err)
+        }
+        Err(Fault::Config(why)) => refuse(alloc, config, why, how.explain, out, err),
+        Err(fault) => tell(&fault, err),
+    }
+}
+
+/// Judges a file of settings, and answers whether the line is on this machine, as far as that is
+/// asked for.
+fn judge(alloc: Global, config: &[u8], live: bool) -> Result<bool, Fault>
+    ensures { MatchResult result (λ is_here. IsGoodFor live config.now)
+        (IsCheckFault live config.now) }
+{
+    if live {
+        match read_live(alloc, config) {
+            Ok(read) => Ok(is_here(read.1.line.as_bytes())),
+            Err(fault) => Err(fault),
+        }
+    } else {
+        match read_config(alloc, config) {
+            Ok(_settings) => Ok(true),
+            Err(fault) => Err(fault),
+        }
+    }
+}
+
+/// Tells that the line is on another machine, and what that means.
+fn warn<E: Write>(err: &mut E) {
+    let _ = writeln!(
+        err,
+        "warning: live.line is on another machine: a network that holds requests back brings stale \
+        answers"
+    );
+}
+
+/// Tells a fault of settings, and prints what is wrong and where, if that is asked for. Answers the
+/// exit status.
+fn refuse<W: Write, E: Write>(
+    alloc: Global,
+    config: &[u8],
+    why: ConfigFault,
+    explains: bool,
+    out: &mut W,
+    err: &mut E,
+) -> u8
+    ensures { IsSettingsRefused explains config.now why (W.contents out.old) (W.contents out.new)
+        result }
+{
+    if explains {
+        explain_fault(alloc, config, why, out, err)
+    } else {
+        tell(&Fault::Config(why), err)
+    }
+}
+
+/// Tells a fault of settings, and prints what is wrong and where. Answers the exit status.
+fn explain_fault<W: Write, E: Write>(
+    alloc: Global,
+    config: &[u8],
+    why: ConfigFault,
+    out: &mut W,
+    err: &mut E,
+) -> u8
+    ensures { IsExplanationGiven config.now why (W.contents out.old) (W.contents out.new) result }
+{
+    match explain(alloc, config, &why) {
+        Ok(lines) => {
+            let status = tell(&Fault::Config(why), err);
+            match print(lines.as_slice(), out) {
+                Ok(()) => status,
+                Err(_) => tell(&Fault::Device, err),
+            }
+        }
+        Err(_) => tell(&Fault::NoMemory, err),
     }
 }
 

@@ -2,7 +2,8 @@
 ghost use Rattle.std.specs.Prelude.{◌≡◌, ◌++◌, OnOk, string_bytes};
 ghost use Rattle.std.specs.List.{flat_map};
 ghost use Rattle.events.specs.Queue.{kept};
-ghost use Rattle.telegate.specs.Closing.{left_line, left_lines, skipped_text, others_text, counts_lines, closing_lines};
+ghost use Rattle.telegate.specs.Closing.{left_line, left_lines, skipped_text, others_text};
+ghost use Rattle.telegate.specs.Closing.{counts_lines, closing_lines};
 
 use gateway::Gateway;
 use std::alloc::{AllocError, Global};

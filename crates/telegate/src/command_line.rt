@@ -1,58 +1,93 @@
 //! The command line.
 ghost use Rattle.std.specs.Prelude.{◌≡◌, [], IfOk, codes, map, option_map, string_bytes};
-ghost use Rattle.clap.specs.Words.{App, FailsBy, fault_of, found_of, first_of, rows_of, subcommand_of, subcommand_rows_of, with_subcommand};
+ghost use Rattle.clap.specs.Words.{App, FailsBy, fault_of, found_of, first_of, rows_of};
+ghost use Rattle.clap.specs.Words.{subcommand_of, subcommand_rows_of, with_subcommand};
 ghost use Rattle.telegate.specs.CommandLine as line;
-ghost use Rattle.telegate.specs.CommandLine.{AreGiven, texts_of, IsArgument, IsAsked, IsCommand, IsFlag, IsRequestOf};
+ghost use Rattle.telegate.specs.CommandLine.{AreGiven, AreRunWords, texts_of, IsArgument, IsAsked};
+ghost use Rattle.telegate.specs.CommandLine.{IsCommand, IsFlag, IsRequestOf};
 
 use crate::help;
+use crate::run_words::RunWords;
 use clap::{Arg, ArgAction, ArgMatches, Command, Error};
 use std::alloc::{AllocError, Global};
 
 /// What the words ask for.
 #[derive(Clone, Copy, Debug, PartialEq, Eq)]
 pub(crate) enum Request<'m, 'a> {
+    /// The sizes of addresses, octets or `-`, and whether a frame is told in one line of words.
     Show101 {
         sizes: &'a str,
         hex: &'a str,
+        words: bool,
     },
+    /// Octets or `-`, and whether a frame is told in one line of words.
     Show104 {
         hex: &'a str,
+        words: bool,
     },
-    /// The name of a file.
+    /// The name of a file, whether it is judged as for a live run, and whether it is told what is
+    /// wrong and where.
     Check {
         config: &'a str,
+        live: bool,
+        explain: bool,
     },
-    /// The names of two files, and which lines the run ends with.
+    /// The names of two files, which lines the run ends with, and whether it is told in words, and
+    /// in colours.
     Replay {
         config: &'a str,
         trace: &'a str,
         left: bool,
         counts: bool,
+        words: bool,
+        color: bool,
     },
-    /// The names of two files.
+    /// The names of two files, and whether the run is told in words, and in colours.
     Sim {
         config: &'a str,
         script: &'a str,
+        words: bool,
+        color: bool,
     },
     /// The names of two files.
     Audit {
         config: &'a str,
         text: &'a str,
     },
-    /// The name of a file, whether a line that ends is reached again, whether it is told what
-    /// happens, whether it is recorded, the name of the directory in which its state is kept, if it
-    /// is, whether it stops where that can't be, and the addresses of the control centres that may
-    /// connect, if not all may.
+    /// The name of a file, and what else is said of the run.
     Run {
         config: &'a str,
-        redial: bool,
-        log: bool,
-        record: bool,
-        state: Option<&'a str>,
-        state_or_stop: bool,
-        allow: Option<&'m [&'a str]>,
+        words: RunWords<'m, 'a>,
+    },
+    /// Where a live run can be looked at, and whether the page that programs read is printed.
+    Status {
+        place: &'a str,
+        json: bool,
+    },
+    /// The names of two files.
+    Capture {
+        config: &'a str,
+        text: &'a str,
+    },
+    /// The names of two files.
+    Stations {
+        config: &'a str,
+        script: &'a str,
     },
 }
+
+/// What the flag `--words` does.
+const IN_WORDS: &str = "Prints the frame on one line, in the words of the standard";
+
+/// What it does for a run.
+const RUN_IN_WORDS: &str =
+    "Prints a line for each event and each action, with the frame in the words of the standard";
+
+/// What the flag `--color` does.
+const IN_COLORS: &str = "Prints the words in the colours of a terminal, one for each side";
+
+/// What octets are.
+const OCTETS: &str = "1 to 1,024 octets in hexadecimal; or - for lines of octets on standard input";
 
 fn word<'a>(alloc: Global, name: &'a str, help: &'a str) -> Arg<'a>
     ensures { IsArgument (line.word name.entry.now) result }
@@ -72,8 +107,8 @@ fn flag<'a>(alloc: Global, name: &'a str, help: &'a str) -> Arg<'a>
         .help(help)
 }
 
-fn directory<'a>(alloc: Global, name: &'a str, help: &'a str) -> Arg<'a>
-    ensures { IsArgument (line.directory name.entry.now) result }
+fn single<'a>(alloc: Global, name: &'a str, help: &'a str) -> Arg<'a>
+    ensures { IsArgument (line.single name.entry.now) result }
 {
     Arg::new(alloc, name)
         .long(name)
@@ -101,7 +136,8 @@ fn show101<'a>(alloc: Global) -> Result<Command<'a>, AllocError>
             "Four digits: how many octets the link address, the cause, the common address and the \
             object address have, as 1112",
         ))?
-        .arg(word(alloc, "HEX", "1 to 1,024 octets in hexadecimal"))
+        .arg(word(alloc, "HEX", OCTETS))?
+        .arg(flag(alloc, "words", IN_WORDS))
 }
 
 fn show104<'a>(alloc: Global) -> Result<Command<'a>, AllocError>
@@ -109,7 +145,8 @@ fn show104<'a>(alloc: Global) -> Result<Command<'a>, AllocError>
 {
     Command::new(alloc, "show104")
         .about("Shows the APDU at the front of octets")
-        .arg(word(alloc, "HEX", "1 to 1,024 octets in hexadecimal"))
+        .arg(word(alloc, "HEX", OCTETS))?
+        .arg(flag(alloc, "words", IN_WORDS))
 }
 
 fn check<'a>(alloc: Global) -> Result<Command<'a>, AllocError>
@@ -117,15 +154,33 @@ fn check<'a>(alloc: Global) -> Result<Command<'a>, AllocError>
 {
     Command::new(alloc, "check")
         .about("Checks a file of settings")
-        .arg(word(alloc, "CONFIG", "A file of settings"))
+        .after_help(help::CHECK)
+        .arg(word(alloc, "CONFIG", "A file of settings"))?
+        .arg(flag(
+            alloc,
+            "live",
+            "Judges the keys of `live` as `run` does, and tells where the line is elsewhere",
+        ))?
+        .arg(flag(
+            alloc,
+            "explain",
+            "Prints behind a fault where it is, and what is wanted there",
+        ))
+}
+
+/// The command of a replay, without its words.
+fn bare_replay<'a>(alloc: Global) -> Command<'a>
+    ensures { IsCommand (line.command (codes "replay") []) result }
+{
+    Command::new(alloc, "replay")
+        .about("Runs the gateway over the events of a trace, and prints what it puts out")
+        .after_help(help::REPLAY)
 }
 
 fn replay<'a>(alloc: Global) -> Result<Command<'a>, AllocError>
     ensures { IfOk result (IsCommand line.replay) }
 {
-    Command::new(alloc, "replay")
-        .about("Runs the gateway over the events of a trace, and prints what it puts out")
-        .after_help(help::REPLAY)
+    bare_replay(alloc)
         .arg(word(alloc, "CONFIG", "A file of settings"))?
         .arg(word(alloc, "TRACE", "A file of events, one a line"))?
         .arg(flag(
@@ -137,7 +192,9 @@ fn replay<'a>(alloc: Global) -> Result<Command<'a>, AllocError>
             alloc,
             "counts",
             "Prints a line with what was dropped, given up or spoilt",
-        ))
+        ))?
+        .arg(flag(alloc, "words", RUN_IN_WORDS))?
+        .arg(flag(alloc, "color", IN_COLORS))
 }
 
 fn sim<'a>(alloc: Global) -> Result<Command<'a>, AllocError>
@@ -154,7 +211,9 @@ fn sim<'a>(alloc: Global) -> Result<Command<'a>, AllocError>
             alloc,
             "SCRIPT",
             "A file of reports, losses, cuts and commands, one a line",
-        ))
+        ))?
+        .arg(flag(alloc, "words", RUN_IN_WORDS))?
+        .arg(flag(alloc, "color", IN_COLORS))
 }
 
 fn audit<'a>(alloc: Global) -> Result<Command<'a>, AllocError>
@@ -196,7 +255,7 @@ fn run<'a>(alloc: Global) -> Result<Command<'a>, AllocError>
             "Tells on standard error what happens, one line each",
         ))?
         .arg(flag(alloc, "record", "Prints each event and each action"))?
-        .arg(directory(
+        .arg(single(
             alloc,
             "state",
             "A directory in which the state is kept, from which the run goes on; it is made where \
@@ -211,7 +270,60 @@ fn run<'a>(alloc: Global) -> Result<Command<'a>, AllocError>
             alloc,
             "allow",
             "The address of a control centre that may connect; without it any may",
+        ))?
+        .arg(single(
+            alloc,
+            "status",
+            "Where the run can be looked at by HTTP, as 127.0.0.1:8104",
+        ))?
+        .arg(single(
+            alloc,
+            "site",
+            "A file of what belongs to this site: names, and what these words say too",
+        ))?
+        .arg(flag(
+            alloc,
+            "log-severity",
+            "Begins each line of the log with how severe it is, as systemd's journal takes it",
         ))
+}
+
+fn status<'a>(alloc: Global) -> Result<Command<'a>, AllocError>
+    ensures { IfOk result (IsCommand line.status) }
+{
+    Command::new(alloc, "status")
+        .about("Asks a live run how it stands, and ends as a monitor wants it")
+        .after_help(help::STATUS)
+        .arg(word(
+            alloc,
+            "PLACE",
+            "Where the run can be looked at (`run --status`), as 127.0.0.1:8104",
+        ))?
+        .arg(flag(alloc, "json", "Prints JSON in place of the table"))
+}
+
+fn capture<'a>(alloc: Global) -> Result<Command<'a>, AllocError>
+    ensures { IfOk result (IsCommand line.capture) }
+{
+    Command::new(alloc, "capture")
+        .about("Writes a recorded run as a capture (pcapng) that Wireshark reads")
+        .after_help(help::CAPTURE)
+        .arg(word(alloc, "CONFIG", "A file of settings"))?
+        .arg(word(alloc, "RECORD", "A file of events and actions, one a line"))
+}
+
+fn stations<'a>(alloc: Global) -> Result<Command<'a>, AllocError>
+    ensures { IfOk result (IsCommand line.stations) }
+{
+    Command::new(alloc, "stations")
+        .about("Plays outstations in real time, as behind a serial device server")
+        .after_help(help::STATIONS)
+        .arg(word(
+            alloc,
+            "CONFIG",
+            "A file of settings, whose key `live.line` says where to listen",
+        ))?
+        .arg(word(alloc, "SCRIPT", "A file of reports and losses, one a line"))
 }
 
 /// The program, of whose commands one has to be named.
@@ -249,7 +361,10 @@ fn program<'a>(alloc: Global) -> Result<Command<'a>, AllocError>
     let program = add_command(program, replay(alloc))?;
     let program = add_command(program, sim(alloc))?;
     let program = add_command(program, audit(alloc))?;
-    add_command(program, run(alloc))
+    let program = add_command(program, run(alloc))?;
+    let program = add_command(program, status(alloc))?;
+    let program = add_command(program, capture(alloc))?;
+    add_command(program, stations(alloc))
 }
 
 /// Reads the words, or gives the text that is to be printed in place of a run.
@@ -299,6 +414,7 @@ fn show101_of<'m, 'a>(matches: &'m ArgMatches<'a>) -> Option<Request<'m, 'a>>
     Some(Request::Show101 {
         sizes: given(matches, "SIZES")?,
         hex: given(matches, "HEX")?,
+        words: is_given(matches, "words"),
     })
 }
 
@@ -307,6 +423,7 @@ fn show104_of<'m, 'a>(matches: &'m ArgMatches<'a>) -> Option<Request<'m, 'a>>
 {
     Some(Request::Show104 {
         hex: given(matches, "HEX")?,
+        words: is_given(matches, "words"),
     })
 }
 
@@ -315,6 +432,8 @@ fn check_of<'m, 'a>(matches: &'m ArgMatches<'a>) -> Option<Request<'m, 'a>>
 {
     Some(Request::Check {
         config: given(matches, "CONFIG")?,
+        live: is_given(matches, "live"),
+        explain: is_given(matches, "explain"),
     })
 }
 
@@ -326,6 +445,8 @@ fn replay_of<'m, 'a>(matches: &'m ArgMatches<'a>) -> Option<Request<'m, 'a>>
         trace: given(matches, "TRACE")?,
         left: is_given(matches, "left"),
         counts: is_given(matches, "counts"),
+        words: is_given(matches, "words"),
+        color: is_given(matches, "color"),
     })
 }
 
@@ -335,6 +456,8 @@ fn sim_of<'m, 'a>(matches: &'m ArgMatches<'a>) -> Option<Request<'m, 'a>>
     Some(Request::Sim {
         config: given(matches, "CONFIG")?,
         script: given(matches, "SCRIPT")?,
+        words: is_given(matches, "words"),
+        color: is_given(matches, "color"),
     })
 }
 
@@ -347,17 +470,56 @@ fn audit_of<'m, 'a>(matches: &'m ArgMatches<'a>) -> Option<Request<'m, 'a>>
     })
 }
 
+/// What the words of a live run say.
+fn run_words_of<'m, 'a>(matches: &'m ArgMatches<'a>) -> RunWords<'m, 'a>
+    ensures { AreRunWords (rows_of (found_of matches.now)) result }
+{
+    RunWords {
+        site: given(matches, "site"),
+        redial: is_given(matches, "redial"),
+        log: is_given(matches, "log"),
+        log_severity: is_given(matches, "log-severity"),
+        record: is_given(matches, "record"),
+        state: given(matches, "state"),
+        state_or_stop: is_given(matches, "state-or-stop"),
+        allow: all_given(matches, "allow"),
+        status: given(matches, "status"),
+    }
+}
+
 fn run_of<'m, 'a>(matches: &'m ArgMatches<'a>) -> Option<Request<'m, 'a>>
     ensures { IsAsked (codes "run") (rows_of (found_of matches.now)) result }
 {
     Some(Request::Run {
         config: given(matches, "CONFIG")?,
-        redial: is_given(matches, "redial"),
-        log: is_given(matches, "log"),
-        record: is_given(matches, "record"),
-        state: given(matches, "state"),
-        state_or_stop: is_given(matches, "state-or-stop"),
-        allow: all_given(matches, "allow"),
+        words: run_words_of(matches),
+    })
+}
+
+fn status_of<'m, 'a>(matches: &'m ArgMatches<'a>) -> Option<Request<'m, 'a>>
+    ensures { IsAsked (codes "status") (rows_of (found_of matches.now)) result }
+{
+    Some(Request::Status {
+        place: given(matches, "PLACE")?,
+        json: is_given(matches, "json"),
+    })
+}
+
+fn capture_of<'m, 'a>(matches: &'m ArgMatches<'a>) -> Option<Request<'m, 'a>>
+    ensures { IsAsked (codes "capture") (rows_of (found_of matches.now)) result }
+{
+    Some(Request::Capture {
+        config: given(matches, "CONFIG")?,
+        text: given(matches, "RECORD")?,
+    })
+}
+
+fn stations_of<'m, 'a>(matches: &'m ArgMatches<'a>) -> Option<Request<'m, 'a>>
+    ensures { IsAsked (codes "stations") (rows_of (found_of matches.now)) result }
+{
+    Some(Request::Stations {
+        config: given(matches, "CONFIG")?,
+        script: given(matches, "SCRIPT")?,
     })
 }
 
@@ -374,6 +536,9 @@ pub(crate) fn request_of<'m, 'a>(matches: &'m ArgMatches<'a>) -> Option<Request<
         "sim" => sim_of(matches),
         "audit" => audit_of(matches),
         "run" => run_of(matches),
+        "status" => status_of(matches),
+        "capture" => capture_of(matches),
+        "stations" => stations_of(matches),
         _ => None,
     }
 }

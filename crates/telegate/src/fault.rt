@@ -4,6 +4,7 @@ ghost use Rattle.telegate.specs.Faults.{status_of};
 ghost use Rattle.telegate.specs.declared.fault.Fault.TheVariants as fault;
 
 use settings::ConfigFault;
+use sitefile::SiteFault;
 use std::alloc::AllocError;
 use thiserror::Error;
 
@@ -28,6 +29,9 @@ pub(crate) enum Fault {
     /// The settings are refused.
     #[error("{0}")]
     Config(ConfigFault),
+    /// The file of the site is refused.
+    #[error("{0}")]
+    Site(SiteFault),
     /// This line of the trace is wrong.
     #[error("trace: line {0}")]
     Trace(u64),
@@ -88,6 +92,7 @@ impl Fault {
     {
         match self {
             Fault::Config(_)
+            | Fault::Site(_)
             | Fault::Trace(_)
             | Fault::Script(_)
             | Fault::Record(_)

@@ -1,11 +1,11 @@
 //! The control centres that may connect, from words.
-ghost use Rattle.std.specs.Prelude.{IfOk, IfErr};
-ghost use Rattle.telegate.specs.CommandLine.{texts_of};
+ghost use Rattle.std.specs.Prelude.{IfOk, IfErr, map, option_map};
 ghost use Rattle.telegate.specs.Guests.{AreGuests, IsAddress, IsGuestsFault};
 
 use crate::fault::Fault;
 use live::Guests;
 use std::alloc::Global;
+use std::convert::AsStr;
 use std::net::IpAddr;
 
 /// The address that a word writes. An IPv4 address that is written as an IPv6 one is that IPv4
@@ -20,16 +20,17 @@ fn address_of(word: &str) -> Option<IpAddr>
 }
 
 /// Who may connect: whom the words name, or anyone where there are none.
-pub(crate) fn guests_of(alloc: Global, words: Option<&[&str]>) -> Result<Guests, Fault>
-    ensures guests { IfOk result (AreGuests (texts_of words.entry)) }
-    ensures fault { IfErr result (IsGuestsFault (texts_of words.entry)) }
+pub(crate) fn guests_of<S: AsStr>(alloc: Global, words: Option<&[S]>) -> Result<Guests, Fault>
+    ensures guests { IfOk result (AreGuests (option_map (λ ws. map S.text ws.now) words.entry)) }
+    ensures fault { IfErr result (IsGuestsFault (option_map (λ ws. map S.text ws.now)
+        words.entry)) }
 {
     let Some(words) = words else {
         return Ok(Guests::Anyone);
     };
     let mut addresses = Vec::new(alloc);
     for word in words {
-        let Some(address) = address_of(*word) else {
+        let Some(address) = address_of(word.as_str()) else {
             return Err(Fault::Address);
         };
         if addresses.push(address).is_err() {

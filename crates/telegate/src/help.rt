@@ -1,12 +1,19 @@
 //! The texts at the ends of help: what the files of a command hold, and the exit statuses.
 
 /// The number of this version, and the logic that its proofs are checked with.
-pub(crate) const VERSION: &str = "0.1.0 (rattle, logic dac8208d650f15bf)";
+pub(crate) const VERSION: &str = "1.0.0 (rattle, logic dac8208d650f15bf)";
 
 pub(crate) const PROGRAM: &str = "\
 `telegate COMMAND --help` tells what the files of a command hold.
 Exit status: 0 done, 1 a bad frame or a file with wrong content, 2 usage, 3 a file or a device
 failed, 4 no memory. A fault is one line on standard error.";
+
+pub(crate) const CHECK: &str = "\
+Printed: `ok`. A fault is one line on standard error: the first that there is. With --explain
+standard output then says where the fault is (line and column in CONFIG with the value as it is
+written, or below which line a missing key belongs), what is wanted, and where another station has
+the same number. With --live a line that is on another machine is told on standard error.
+Exit status: 0 good, 1 wrong settings, 2 usage, 3 a file or the output failed, 4 no memory";
 
 pub(crate) const REPLAY: &str = "\
 TRACE has one event a line; lines that are empty or begin with `#` are skipped. MS is a moment in
@@ -18,7 +25,8 @@ milliseconds (1 to 15 digits), HEX is 1 to 1,024 octets, and one space stands be
   MS C        its connection is cut
   MS W WALL   the wall clock shows WALL, in ms since 1970-01-01 UTC (1 to 15 digits)
 Printed, one action a line: `MS > S HEX` to the line, `MS > T HEX` to the control centre, and
-`MS > X CAUSE` where the gateway closes the connection.
+`MS > X CAUSE` where the gateway closes the connection. With --words each event and each action is a
+line: MS, the way, and the frame in words; with --color too the ways are coloured.
 Exit status: 0 done, 1 wrong settings or trace, 2 usage, 3 a file or the output failed, \
 4 no memory";
 
@@ -37,10 +45,10 @@ Exit status: 0 done, 1 wrong settings or script, 2 usage, 3 a file or the output
 4 no memory";
 
 pub(crate) const AUDIT: &str = "\
-RECORD has a line for each event, as a trace has it, and one for each action, as replay prints it,
-in the order in which they came and went out. A last line that was cut short, and one with `!`, is
-left out.
-Printed: `same, N events, M actions`, or `line N differs` with the first line that isn't the run's.
+RECORD has a line for each event, as a trace has it, and for each action, as replay prints it, in
+the order in which they came and went out. A last line that was cut short, and one with `!`, are
+left out. Printed: `same, N events, M actions`, or `line N differs`, with the first line that isn't
+the run's.
 Exit status: 0 the same, 1 another, or wrong settings or record, 2 usage, 3 a file or the output \
 failed, 4 no memory";
 
@@ -48,14 +56,52 @@ pub(crate) const RUN: &str = "\
 CONFIG has a table `live` with two keys:
   line = \"tcp:HOST:PORT\"    a serial device server, or \"unix:PATH\"
   listen = \"HOST:PORT\"      where control centres connect (the usual port is 2404)
-With --state DIR the run's state stands in that directory, on the disk before anything goes out that
-follows from it: the next run there goes on where this one ended, however that was. Without it a run
-begins with an empty queue: what no control centre had acknowledged is lost with the process. Where
-the state can't be kept any more the run goes on without it, tells that, and tries again; with
---state-or-stop it ends. Who connects takes the control centre's place, if --allow (given once for
-each address) lets it in; without --allow anyone is let in. With --redial the run lives on where the
-line ends or isn't there. With --log standard error has a line for what happens. Standard output
-stays empty without --record; with it each event is printed, as a trace has it, before the gateway
-hears of it, and each action, as replay prints it.
-Exit status: 1 wrong settings, 2 usage, 3 a file can't be read, the state is another process's or
-can't be kept there, the line can't be reached or ended, or listening failed, 4 no memory";
+With --state DIR the run keeps its state in that directory. Each event is on the disk before
+anything goes out that follows from it, and the next run there goes on where this one ended, however
+it ended. Without it a run begins with an empty queue, and what no control centre had acknowledged
+is lost with the process. If the state can't be kept any more, the run goes on without it, says so,
+and tries again; with --state-or-stop it ends. Whoever connects takes the control centre's place.
+--allow, once for each address, limits who may connect; without it anyone may. With --redial the run
+lives on if the line ends or isn't there. With --log standard error gets a line for each thing that
+happens; with --log-severity each begins with syslog's number, <3> to <6>. With --status HOST:PORT a
+browser sees there how the run stands. With --site SITE a file says what belongs to this site: names
+of the line and its stations, and keys that say what these words do. What words say wins, and a flag
+is set if either says so. Standard output stays empty unless --record is given: then each event is
+printed, as a trace has it, before the gateway takes it, and each action, as replay prints it.
+Exit status: 1 wrong settings or site, 2 usage, 3 a file can't be read, the state is another
+process's or can't be kept there, the line can't be reached or ended, or listening failed, 4 no
+memory";
+
+pub(crate) const STATUS: &str = "\
+PLACE is the HOST:PORT of `run --status`. Printed: the table, whose first word is OK, WARNING or
+CRITICAL, or with --json the page that programs read.
+Exit status: by the table, as a monitor wants it (Nagios), 0 ok, 1 warning, 2 critical; 3 nobody \
+answers as a live run does, or the output failed, 4 no memory";
+
+pub(crate) const CAPTURE: &str = "\
+RECORD is what `run --record` prints, as `audit` takes it; `-` is standard input, so that a live run
+can be followed: `telegate run --record CONFIG | telegate capture CONFIG - | wireshark -k -i -`.
+Printed: the capture. The connection is TCP between 192.0.2.1 (the control centre) and 192.0.2.2
+port 2404 (the gateway), the line an interface of its own, and each packet stands at its time. At
+the first line that is neither an event nor an action the capture ends. Wireshark and tshark show
+the frames of the line with
+  -d rtacser.data,iec60870_101
+and the sizes of its addresses by the preferences, each `1 octet` to `3 octet` as in CONFIG,
+  -o 'iec60870_101.linkaddr_len:1 octet'    `link`
+  -o 'iec60870_101.cot_len:1 octet'         `cause`
+  -o 'iec60870_101.asdu_addr_len:1 octet'   `ca`
+  -o 'iec60870_101.asdu_ioa_len:2 octet'    `ioa`
+Exit status: 0 done, 1 wrong settings or record, 2 usage, 3 a file or the output failed, \
+4 no memory";
+
+pub(crate) const STATIONS: &str = "\
+SCRIPT has the lines of a script of `sim`. Those of the outstations count:
+  report S CLASS HEX    station S, from 1, has this ASDU of class 1 or 2
+  lose request N        the Nth request since the start isn't heard
+  lose answer N         the answer to it is lost
+  spoil answer N P      the octet at place P of that answer is changed
+`turns` is required once, and means nothing here, as `ack`, `cut`, `wall` and `send` do. It listens
+at `live.line` of CONFIG (tcp:HOST:PORT or unix:PATH), where `run` finds the outstations, and goes
+on until it is ended. Commands are confirmed on the link and do nothing. Nothing is printed.
+Exit status: 1 wrong settings or script, 2 usage, 3 a file can't be read, or listening failed, \
+4 no memory";

@@ -1,28 +1,47 @@
 //! What the program needs of the system that it runs on.
 ghost use Rattle.std.specs.Prelude.{◌≡◌, ℕ, List, Result, IfOk, IfErr};
+ghost use Rattle.sim.specs.Scripts.{FitsSettings};
+ghost use Rattle.telegate.specs.Playing.{ArePlayed};
+ghost use Rattle.telegate.specs.Ran.{answer_to};
 ghost use Rattle.telegate.specs.Source.{Gives};
 ghost use Rattle.telegate.specs.declared.fault.Fault.{Fault};
 ghost use Rattle.telegate.specs.declared.host.Unread.TheVariants as unread;
 ghost use Rattle.telegate.specs.declared.host.Wishes.{Wishes};
 
 use crate::fault::Fault;
+use crate::inquiry::ask_at;
 use crate::living::{read_live, run_at};
+use crate::playing::{play_behind, script_of};
 use crate::running::DeviceFailed;
 use crate::site::Process;
 use crate::source::Source;
+use gateway::Config;
+use journal::{Name, Names};
 use live::Guests;
+use settings::LiveSettings;
+use sim::Script;
+use sitefile::Names as SiteNames;
+use sqlite_disk::Disk;
+use sqlite_std_file::File as DiskFile;
+use state::Folder;
+use state_files::Directory;
+use stations::LineListener;
+use std::alloc::{AllocError, Global};
 use std::fs::File;
 use std::io;
 use std::io::Read;
 use std::rt::Files;
 
+/// The name of standard input.
+pub(crate) const INPUT: &str = "-";
+
 /// A file that has nothing, which each system has.
 const NOWHERE: &str = "/dev/null";
 
-/// Why the octets of a file aren't had.
+/// Why the octets of a file, or of an answer, aren't had.
 #[derive(Clone, Copy, Debug, PartialEq, Eq)]
 pub(crate) enum Unread {
-    /// There is no such file, or it can't be read.
+    /// There is no such file, or it can't be read; or nobody answers.
     Unreadable,
     NoMemory,
 }
@@ -34,6 +53,8 @@ pub(crate) struct Wishes<'a> {
     pub(crate) redial: bool,
     /// What happens is told on standard error.
     pub(crate) log: bool,
+    /// Each line of that begins with how severe it is.
+    pub(crate) log_severity: bool,
     /// Each event and each action is printed.
     pub(crate) record: bool,
     /// The name of the directory in which the state is kept, if it is to be.
@@ -42,6 +63,10 @@ pub(crate) struct Wishes<'a> {
     pub(crate) bears_loss: bool,
     /// Who may connect.
     pub(crate) guests: Guests,
+    /// Where the run can be looked at, as HOST:PORT, if it can.
+    pub(crate) status: Option<&'a str>,
+    /// What the line and the stations are called.
+    pub(crate) names: &'a SiteNames,
 }
 
 /// A system with files, on which the gateway can run live.
@@ -55,6 +80,16 @@ pub(crate) trait Host {
     // The gateway ran live, by settings of these octets and these wishes, and this is how that
     // ended.
     ghost ran: { Self → List ℕ → Wishes → Result (Unit {0}) Fault → Type 0 };
+
+    // The outstations of a script of these octets were played, by settings of these, and this is
+    // how that ended.
+    ghost played: { Self → List ℕ → List ℕ → Result (Unit {0}) Fault → Type 0 };
+
+    // At this place this was answered to this request.
+    ghost answered: { Self → List ℕ → List ℕ → List ℕ → Type 0 };
+
+    // Nobody answers at this place.
+    ghost silent: { Self → List ℕ → Type 0 };
 
     /// What the text of a file is read from.
     type Text: Read + Drop;
@@ -78,6 +113,17 @@ pub(crate) trait Host {
     /// Runs the gateway live, by settings of these octets, until it ends.
     fn run(&self, config: &[u8], wishes: Wishes<'_>) -> Result<(), Fault>
         ensures { ran self.now config.now wishes.entry result };
+
+    /// Plays the outstations of a script, at the place where a live run with settings of these
+    /// octets looks for its line.
+    fn play(&self, config: &[u8], script: &[u8]) -> Result<(), Fault>
+        ensures { played self.now config.now script.now result };
+
+    /// What is answered to a request at a place, as HOST:PORT, within some seconds.
+    fn ask(&self, place: &str, request: &[u8]) -> Result<Vec<u8>, Unread>
+        ensures answer { IfOk result (λ octets.
+            answered self.now place.now request.now octets.items) }
+        ensures none { IfErr result (λ why. why ≡ unread.Unreadable → silent self.now place.now) };
 }
 
 /// The system of a process. Of what its files hold nothing is known.
@@ -93,14 +139,25 @@ impl Host for System<'_> {
 
     ghost lacks = { λ _ _. Unit {0} };
 
-    ghost use Rattle.telegate.specs.Living.{HasRunBy};
+    ghost use Rattle.state.specs.Directories.{BeginsIn};
+    ghost use Rattle.telegate.specs.Ran.{HasRunBy};
 
-    ghost ran = { λ _ text _ ended. HasRunBy text ended };
+    ghost ran = { λ _ text wishes ended. HasRunBy (λ settings kept. BeginsIn
+        ⟦<DiskFile as Disk>⟧ settings kept ⟦<Directory as Folder>⟧.lineage)
+        text wishes ended };
+
+    ghost use Rattle.telegate.specs.Playing.{ArePlayedBy};
+
+    ghost played = { λ _ config script answer. ArePlayedBy config script answer };
+
+    ghost answered = { λ _ _ _ _. Unit {0} };
+
+    ghost silent = { λ _ _. Unit {0} };
 
     type Text = File;
 
     fn read(&self, name: &str) -> Result<Vec<u8>, Unread> {
-        match std::fs::read(self.rt, name) {
+        match std::fs::read(self.rt, path_of(name)) {
             Ok(octets) => Ok(octets),
             Err(fault) if fault.kind() == io::ErrorKind::OutOfMemory => Err(Unread::NoMemory),
             Err(_) => Err(Unread::Unreadable),
@@ -108,7 +165,7 @@ impl Host for System<'_> {
     }
 
     fn open(&self, name: &str) -> Result<File, Unread> {
-        match File::open(self.rt, name) {
+        match File::open(self.rt, path_of(name)) {
             Ok(file) => Ok(file),
             Err(fault) if fault.kind() == io::ErrorKind::OutOfMemory => Err(Unread::NoMemory),
             Err(_) => Err(Unread::Unreadable),
@@ -116,7 +173,7 @@ impl Host for System<'_> {
     }
 
     fn can_reopen(&self, name: &str) -> bool {
-        match std::fs::metadata(self.rt, name) {
+        match std::fs::metadata(self.rt, path_of(name)) {
             Ok(metadata) => metadata.is_file(),
             Err(_) => false,
         }
@@ -128,19 +185,101 @@ impl Host for System<'_> {
 
     fn run(&self, config: &[u8], wishes: Wishes<'_>) -> Result<(), Fault> {
         let (settings, places) = read_live(self.rt.alloc(), config)?;
+        let Ok(stations) = names_of(self.rt.alloc(), wishes.names) else {
+            return Err(Fault::NoMemory);
+        };
         // Held until the run is over.
         let Ok(_held) = standard_descriptors(self.rt) else {
             return Err(Fault::Device);
         };
-        let site = Process {
-            rt: self.rt,
-            places: &places,
-        };
-        match run_at(&site, &settings, config, wishes)? {
-            Ok(()) => Ok(()),
-            Err(DeviceFailed) => Err(Fault::Device),
+        let names = named_by(wishes.names, stations.as_slice());
+        let site = process_of(self.rt, &places, names, wishes.log_severity);
+        match run_at(&site, &settings, config, wishes) {
+            Ok(ended) => answer_to(ended),
+            Err(fault) => Err(fault),
         }
     }
+
+    fn play(&self, config: &[u8], script: &[u8]) -> Result<(), Fault> {
+        let (settings, places) = read_live(self.rt.alloc(), config)?;
+        let script = script_of(self.rt.alloc(), &settings, script)?;
+        play_at(self.rt, &settings, script, places.line.as_str())
+    }
+
+    fn ask(&self, place: &str, request: &[u8]) -> Result<Vec<u8>, Unread> {
+        match ask_at(self.rt, self.rt.alloc(), place, request) {
+            Ok(answer) => Ok(answer),
+            Err(fault) if fault.kind() == io::ErrorKind::OutOfMemory => Err(Unread::NoMemory),
+            Err(_) => Err(Unread::Unreadable),
+        }
+    }
+}
+
+/// Plays the outstations of a script at a place: `tcp:HOST:PORT` or `unix:PATH`.
+fn play_at(rt: &HostRuntime, settings: &Config, script: Script, place: &str) -> Result<(), Fault>
+    requires { FitsSettings settings.now script }
+    ensures { ArePlayed settings.now script result }
+{
+    // Held until the play is over.
+    let Ok(_held) = standard_descriptors(rt) else {
+        return Err(Fault::Device);
+    };
+    match LineListener::listen(rt, place) {
+        Ok(door) => play_behind(rt, rt.alloc(), settings, script, door),
+        Err(fault) if fault.kind() == io::ErrorKind::OutOfMemory => Err(Fault::NoMemory),
+        Err(_) => Err(Fault::Device),
+    }
+}
+
+/// What is answered of a run that has ended so.
+fn answer_to(ended: Result<(), DeviceFailed>) -> Result<(), Fault>
+    ensures { result ≡ answer_to ended }
+{
+    match ended {
+        Ok(()) => Ok(()),
+        Err(DeviceFailed) => Err(Fault::Device),
+    }
+}
+
+/// A process with these settings, names and form of what it tells.
+fn process_of<'a>(
+    rt: &'a HostRuntime,
+    places: &'a LiveSettings,
+    names: Names<'a>,
+    has_severity: bool,
+) -> Process<'a> {
+    Process {
+        rt,
+        places,
+        names,
+        has_severity,
+    }
+}
+
+/// What the line and these stations are called.
+fn named_by<'a>(names: &'a SiteNames, stations: &'a [Name<'a>]) -> Names<'a> {
+    let line = match &names.line {
+        Some(line) => Some(line.as_str()),
+        None => None,
+    };
+    Names { line, stations }
+}
+
+/// What stations are called, for who tells and who shows it.
+fn names_of<'a>(alloc: Global, names: &'a SiteNames) -> Result<Vec<Name<'a>>, AllocError> {
+    let mut called = Vec::new(alloc);
+    for station in &names.stations {
+        called.push(Name {
+            link: station.link,
+            name: station.name.as_str(),
+        })?;
+    }
+    Ok(called)
+}
+
+/// Where the file of a name is: `-` is standard input.
+fn path_of(name: &str) -> &str {
+    if name == INPUT { "/dev/stdin" } else { name }
 }
 
 /// Files at those of the descriptors 0, 1 and 2 that were closed when the process began, since the

@@ -1,18 +1,20 @@
 //! The work of a command.
 
+use crate::check::Checking;
+use crate::manner::Manner;
+
 /// A command whose files are read whole, with their octets in place of their names.
 #[derive(Clone, Copy, Debug, PartialEq, Eq)]
 pub enum Job<'a> {
-    /// The frame at the front of octets of the line: the sizes of its addresses, and the octets in
-    /// hexadecimal.
-    Show101(&'a str, &'a str),
-    /// The APDU at the front of octets of the connection, in hexadecimal.
-    Show104(&'a str),
-    /// The judgement of a file of settings.
-    Check(&'a [u8]),
+    /// The frame at the front of octets of the line: the sizes of its addresses, the octets in
+    /// hexadecimal, and whether it is told in one line of words.
+    Show101(&'a str, &'a str, bool),
+    /// The APDU at the front of octets of the connection, in hexadecimal, and whether it is told in
+    /// one line of words.
+    Show104(&'a str, bool),
+    /// The judgement of a file of settings, and how it is judged.
+    Check(&'a [u8], Checking),
     /// A run of the gateway over simulated stations and a simulated control centre: the settings,
-    /// and the script.
-    Sim(&'a [u8], &'a [u8]),
-    /// The audit of a recorded run: the settings, and the record.
-    Audit(&'a [u8], &'a [u8]),
+    /// the script, and how it is printed.
+    Sim(&'a [u8], &'a [u8], Manner),
 }

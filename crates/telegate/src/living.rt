@@ -1,23 +1,33 @@
 //! The command that runs the gateway between a line and a control centre.
-ghost use Rattle.std.specs.Prelude.{◌≡◌, IfOk, Some, [], false};
-ghost use Rattle.std.specs.Option.{is_some};
-ghost use Rattle.gateway.specs.Agrees.{Follows, Rests};
+ghost use Rattle.std.specs.Prelude.{◌≡◌, IfOk, IfErr, Some, Option, [], false};
+ghost use Rattle.std.specs.declared.net.socket_addr.SocketAddr.{SocketAddr};
+ghost use Rattle.gateway.specs.Agrees.{Follows};
 ghost use Rattle.gateway.specs.Setups.{setup_of};
 ghost use Rattle.record.specs.Recording.{log_of, told_first};
+ghost use Rattle.state.specs.Directories.{BeginsIn};
+ghost use Rattle.state.specs.Origins.{IsBegun};
+ghost use Rattle.telegate.specs.Kept.{HasLivedFrom, HasLivedOn, IsEndFault, IsKeptFault};
+ghost use Rattle.telegate.specs.Kept.{first_moment};
 ghost use Rattle.telegate.specs.Living.{HasLived, IsPortOf};
+ghost use Rattle.telegate.specs.Ran.{HasLivedAs};
 ghost use Rattle.telegate.specs.Running.{IsReadLiveConfig};
+ghost use Rattle.telegate.specs.Told.{IsRefused, IsUnkept, NotesIf, TellsBeginning, TellsGap};
+ghost use Rattle.telegate.specs.Told.{note_of, note_of_address, note_of_queue, note_of_settings};
 
 use crate::fault::Fault;
+use crate::help::VERSION;
 use crate::host::Wishes;
 use crate::running::{DeviceFailed, Lived, Scribes, live};
 use crate::site::{Refusal, Site};
 use gateway::{Action, Config, Gateway, History};
 use journal::{Note, Sink, Teller, Trouble, Watch, taken_places};
-use live::{Door, Guests, Live, Reached, Wire};
+use live::{Door, Guests, Live, Wire};
+use lookout::Lookout;
 use record::{Pen, Sheet};
 use settings::{ConfigFault, LiveSettings, read_live_config};
-use state::{Beginning, Begun, Folder, FolderFault, Keeper, Pair, Store, begin};
+use state::{Beginning, Begun, DiskStore, FolderFault, Keeper, Origin, Pair, ToldGap, begin};
 use std::alloc::Global;
+use std::net::SocketAddr;
 
 /// The settings of a file for a live run.
 pub(crate) fn read_live(alloc: Global, config: &[u8]) -> Result<(Config, LiveSettings), Fault>
@@ -30,19 +40,50 @@ pub(crate) fn read_live(alloc: Global, config: &[u8]) -> Result<(Config, LiveSet
     }
 }
 
-/// Who tells of a run, if it is to be told, and writes it down, if it is to be recorded.
+/// Who tells of a run, if it is to be told, writes it down, if it is to be recorded, and shows it,
+/// if it is to be shown.
+#[tactic(auto, using(crate::proofs::KeptLemmas::memory_is_end))]
 fn scribes_of<T: Site>(
     site: &T,
     config: &Config,
     wishes: &Wishes<'_>,
-) -> Result<Scribes<T::Sink, T::Sheet>, Fault>
-    ensures { IfOk result (λ scribes. told_first (log_of scribes.pen) (Some []) ≡ Some []) }
+) -> Result<Scribes<T::Sink, T::Sheet, T::Glass>, Fault>
+    ensures new { IfOk result (λ scribes.
+        told_first (log_of scribes.pen) (Some []) ≡ Some []) }
+    ensures fault { IfErr result IsEndFault }
 {
     let watch = Watch::new(site.alloc(), config)?;
+    let mut teller = Teller::new(watch, site.sink(), wishes.log);
+    let lookout = lookout_of(site, config, wishes, &mut teller)?;
+    if lookout.is_some() {
+        teller = teller.watching();
+    }
     Ok(Scribes {
-        teller: Teller::new(watch, site.sink(), wishes.log),
+        teller,
         pen: pen_of(site, wishes.record),
+        lookout,
     })
+}
+
+/// Who looks at a run, if there is to be a door for it.
+fn lookout_of<T: Site>(
+    site: &T,
+    config: &Config,
+    wishes: &Wishes<'_>,
+    teller: &mut Teller<T::Sink>,
+) -> Result<Option<Lookout<T::Glass>>, Fault>
+    ensures fault { IfErr result IsEndFault }
+{
+    let Some(place) = wishes.status else {
+        return Ok(None);
+    };
+    let door = match site.status_door(place) {
+        Ok(door) => door,
+        Err(refusal) => return Err(refused(refusal, teller)),
+    };
+    let keeps = wishes.state.is_some();
+    let lookout = Lookout::new(site.alloc(), config, site.names(), VERSION, keeps, door)?;
+    Ok(Some(lookout))
 }
 
 /// What writes the record of a run, if it is to have one.
@@ -73,7 +114,10 @@ fn opened<T: Site>(
     redial: bool,
     moment: u64,
     teller: &mut Teller<T::Sink>,
-) -> Result<Ends<T::Line, T::Door, T::Clock>, Fault> {
+) -> Result<Ends<T::Line, T::Door, T::Clock>, Fault>
+    ensures clock { IfOk result (λ ends. T.begins_at ends.clock moment) }
+    ensures fault { IfErr result IsEndFault }
+{
     let door = door_of(site, teller)?;
     let line = match site.line(redial) {
         Ok(line) => line,
@@ -85,21 +129,47 @@ fn opened<T: Site>(
     }
 }
 
-/// The door, opened.
-fn door_of<T: Site>(site: &T, teller: &mut Teller<T::Sink>) -> Result<T::Door, Fault> {
+/// The door, opened. Its address is told, if that is known.
+fn door_of<T: Site>(site: &T, teller: &mut Teller<T::Sink>) -> Result<T::Door, Fault>
+    ensures told { IfOk result (λ _. (address : Option SocketAddr)
+        × NotesIf (note_of_address address) teller.old teller.new) }
+    ensures refused { IfErr result (λ fault. IsRefused fault teller.old teller.new) }
+    ensures fault { IfErr result IsEndFault }
+{
     match site.door() {
         Ok((door, address)) => {
-            if let Some(address) = address {
-                teller.note(Note::Listening(address));
-            }
+            tell(note_of_address(address), teller);
             Ok(door)
         }
         Err(refusal) => Err(refused(refusal, teller)),
     }
 }
 
+/// What tells where it is listened, if that is known.
+fn note_of_address(address: Option<SocketAddr>) -> Option<Note>
+    ensures { result ≡ note_of_address address }
+{
+    match address {
+        Some(address) => Some(Note::Listening(address)),
+        None => None,
+    }
+}
+
+/// Tells this, if there is anything to tell.
+fn tell<S: Sink + Drop>(note: Option<Note>, teller: &mut Teller<S>)
+    ensures { NotesIf note teller.old teller.new }
+{
+    if let Some(note) = note {
+        teller.note(note);
+    }
+}
+
 /// An end can't be had, which is told.
-fn refused<S: Sink + Drop>(refusal: Refusal, teller: &mut Teller<S>) -> Fault {
+#[tactic(auto, using(crate::proofs::KeptLemmas::refused_is_end))]
+fn refused<S: Sink + Drop>(refusal: Refusal, teller: &mut Teller<S>) -> Fault
+    ensures refused { IsRefused result teller.old teller.new }
+    ensures fault { IsEndFault result }
+{
     teller.note(Note::Trouble(refusal.trouble));
     Fault::from(refusal)
 }
@@ -123,49 +193,54 @@ fn port_between<L: Wire, D: Door + Drop, C: live::Clock + Drop>(
 
 /// Runs the gateway live with these settings, which were read from this text, and answers how that
 /// ended. An `Err` says why it didn't begin.
+#[tactic(auto, using(crate::proofs::KeptLemmas::end_is_kept))]
 pub(crate) fn run_at<T: Site>(
     site: &T,
     config: &Config,
     text: &[u8],
     wishes: Wishes<'_>,
-) -> Result<Result<(), DeviceFailed>, Fault> {
+) -> Result<Result<(), DeviceFailed>, Fault>
+    // A run as wished lived, and so it ended.
+    ensures lived { IfOk result (HasLivedAs
+        (BeginsIn T.Folder.File.Disk config.now text.now T.Folder.lineage) config.now
+        wishes.entry) }
+    ensures fault { IfErr result IsKeptFault }
+{
     match wishes.state {
         None => Ok(run_anew(site, config, wishes)?.ended),
-        Some(directory) => run_kept(site, config, text, directory, wishes),
+        Some(directory) => Ok(run_kept(site, config, text, directory, wishes)?.ended),
     }
 }
 
 /// Runs the gateway anew, without a state on the disk.
+#[tactic(auto, using(crate::proofs::KeptLemmas::memory_is_end))]
 fn run_anew<T: Site>(
     site: &T,
     config: &Config,
     wishes: Wishes<'_>,
 ) -> Result<Lived<Live<T::Line, T::Door, T::Clock>, T::Sheet, T::Sink>, Fault>
-    ensures { IfOk result (λ lived. HasLived config.now wishes.entry.guests false []
+    ensures lived { IfOk result (λ lived. HasLived config.now wishes.entry.guests false []
         lived.journal.port.port.port lived.journal.port.port.pen lived.ended) }
+    ensures fault { IfErr result IsEndFault }
 {
     let gateway = Gateway::new(site.alloc(), config)?;
     let mut scribes = scribes_of(site, config, &wishes)?;
     let ends = opened(site, wishes.redial, 0, &mut scribes.teller)?;
-    Ok(run_new(config, gateway, ends, wishes.guests, scribes))
+    Ok(run_new(site, config, gateway, ends, wishes.guests, scribes))
 }
 
-/// Runs a new gateway between these ends.
-fn run_new<L, D, C, W, S>(
+/// Runs a new gateway between these ends, whose clock begins at 0.
+fn run_new<T: Site>(
+    _site: &T,
     config: &Config,
     gateway: Gateway,
-    ends: Ends<L, D, C>,
+    ends: Ends<T::Line, T::Door, T::Clock>,
     guests: Guests,
-    scribes: Scribes<S, W>,
-) -> Lived<Live<L, D, C>, W, S>
-where
-    L: Wire + Reached,
-    D: Door + Drop,
-    C: live::Clock + Drop,
-    W: Sheet + Drop,
-    S: Sink + Drop,
+    scribes: Scribes<T::Sink, T::Sheet, T::Glass>,
+) -> Lived<Live<T::Line, T::Door, T::Clock>, T::Sheet, T::Sink>
     requires new { told_first (log_of scribes.pen) (Some []) ≡ Some [] }
     requires begins { Follows (setup_of config.now) gateway (Some []) }
+    requires clock { T.begins_at ends.clock 0 }
     ensures { HasLived config.now guests false [] result.journal.port.port.port
         result.journal.port.port.pen result.ended }
 {
@@ -173,87 +248,95 @@ where
     live(gateway, port, History::new(), scribes)
 }
 
-/// Where a run whose state is kept begins: the gateway, and, where it goes on, the moment, in ms;
-/// the lives before; and what keeps its state.
-#[derive(Drop)]
-struct Origin<K: Store + Drop> {
-    gateway: Gateway,
-    moment: Option<u64>,
-    before: History,
-    store: K,
-}
+/// A port between the ends of a site, whose events are kept in a directory of it.
+type Kept<T> = Keeper<
+    Pair<
+        Live<<T as Site>::Line, <T as Site>::Door, <T as Site>::Clock>,
+        DiskStore<<T as Site>::Folder>,
+    >,
+>;
 
 /// Runs the gateway with the state that this directory has, or anew, and keeps it there.
+#[tactic(auto, using(crate::proofs::KeptLemmas::end_is_kept, crate::proofs::KeptLemmas::unkept_is_kept))]
 fn run_kept<T: Site>(
     site: &T,
     config: &Config,
     text: &[u8],
     directory: &str,
     wishes: Wishes<'_>,
-) -> Result<Result<(), DeviceFailed>, Fault> {
+) -> Result<Lived<Kept<T>, T::Sheet, T::Sink>, Fault>
+    // It went on from what the directory had.
+    ensures lived { IfOk result (λ lived. HasLivedFrom
+        (BeginsIn T.Folder.File.Disk config.now text.now T.Folder.lineage) config.now
+        wishes.entry.guests lived.journal.port.before.entries
+        lived.journal.port.port.port.ends.port lived.journal.port.port.pen lived.ended) }
+    ensures fault { IfErr result IsKeptFault }
+{
     let mut scribes = scribes_of(site, config, &wishes)?;
     let begun = begun_in(site, config, text, directory, &mut scribes.teller)?;
-    let moment = begun.moment.unwrap_or(0);
+    let moment = first_moment(begun.origin.moment);
     let ends = opened(site, wishes.redial, moment, &mut scribes.teller)?;
-    let origin = Origin {
-        gateway: begun.gateway,
-        moment: begun.moment,
-        before: History::new(),
-        store: begun.store,
-    };
-    Ok(run_from(site.alloc(), config, origin, ends, wishes, scribes).ended)
+    Ok(run_from(site, config, begun, ends, wishes, scribes))
 }
 
-/// Runs the gateway between these ends from where a run begins, and keeps its state.
-fn run_from<L, D, C, K, W, S>(
-    alloc: Global,
-    config: &Config,
-    origin: Origin<K>,
-    ends: Ends<L, D, C>,
-    wishes: Wishes<'_>,
-    scribes: Scribes<S, W>,
-) -> Lived<Keeper<Pair<Live<L, D, C>, K>>, W, S>
-where
-    L: Wire + Reached,
-    D: Door + Drop,
-    C: live::Clock + Drop,
-    K: Store + Drop,
-    W: Sheet + Drop,
-    S: Sink + Drop,
-    requires { told_first (log_of scribes.pen) (Some []) ≡ Some [] }
-    ensures port { IsPortOf config.now wishes.entry.guests (is_some origin.moment)
-        result.journal.port.port.port.ends.port }
-    ensures before { result.journal.port.before.entries ≡ origin.before.entries }
-    // Where the gateway begins with the state that the lives before lead to, all lives together
-    // keep every promise of a gateway with these settings.
-    ensures lived { Follows (setup_of config.now) origin.gateway (Some origin.before.entries) →
-        Rests (setup_of config.now) (Some origin.before.entries) →
-        HasLived config.now wishes.entry.guests (is_some origin.moment) origin.before.entries
-        result.journal.port.port.port.ends.port result.journal.port.port.pen result.ended }
+/// Where the clock begins, in ms.
+fn first_moment(moment: Option<u64>) -> u64
+    ensures { result ≡ first_moment moment }
 {
+    moment.unwrap_or(0)
+}
+
+/// Runs the gateway between these ends from where a run begins, and keeps its state. Their clock
+/// goes on where the gateway does.
+fn run_from<T: Site>(
+    site: &T,
+    config: &Config,
+    begun: Begun<T::Folder>,
+    ends: Ends<T::Line, T::Door, T::Clock>,
+    wishes: Wishes<'_>,
+    scribes: Scribes<T::Sink, T::Sheet, T::Glass>,
+) -> Lived<Kept<T>, T::Sheet, T::Sink>
+    requires new { told_first (log_of scribes.pen) (Some []) ≡ Some [] }
+    requires clock { T.begins_at ends.clock (first_moment begun.origin.moment) }
+    ensures { HasLivedOn config.now wishes.entry.guests begun.origin
+        result.journal.port.before.entries result.journal.port.port.port.ends.port
+        result.journal.port.port.pen result.ended }
+{
+    let Begun { origin, store } = begun;
     let Origin {
         gateway,
         moment,
         before,
-        store,
+        ..
     } = origin;
     let port = port_between(config, ends, wishes.guests, moment.is_some());
-    let keeper = Keeper::new(Pair::new(alloc, port, store), &gateway, wishes.bears_loss);
+    let keeper = Keeper::new(
+        Pair::new(site.alloc(), port, store),
+        &gateway,
+        wishes.bears_loss,
+    );
     live(gateway, keeper, before, scribes)
 }
 
 /// What this directory has, or a new state, which is told.
+#[tactic(auto, using(crate::proofs::KeptLemmas::memory_is_unkept))]
 fn begun_in<T: Site>(
     site: &T,
     config: &Config,
     text: &[u8],
     directory: &str,
     teller: &mut Teller<T::Sink>,
-) -> Result<Begun<T::Folder>, Fault> {
+) -> Result<Begun<T::Folder>, Fault>
+    ensures begun { IfOk result (λ b. IsBegun config.now text.now T.Folder.lineage
+        (T.Folder.mark b.store.folder) b.store.opened b.origin) }
+    ensures settings { IfOk result (λ b. b.store.settings.items ≡ text.now) }
+    ensures told { IfOk result (λ b. TellsBeginning b.origin teller.old teller.new) }
+    ensures unkept { IfErr result (λ fault. IsUnkept fault teller.old teller.new) }
+{
     let folder = site.folder(directory)?;
     match begin(site.alloc(), config, text, folder) {
         Ok(begun) => {
-            tell_beginning(&begun, teller);
+            tell_beginning(&begun.origin, teller);
             Ok(begun)
         }
         Err(fault) => Err(unkept(fault, teller)),
@@ -261,7 +344,9 @@ fn begun_in<T: Site>(
 }
 
 /// The state can't be had, which is told.
-fn unkept<S: Sink + Drop>(fault: FolderFault, teller: &mut Teller<S>) -> Fault {
+fn unkept<S: Sink + Drop>(fault: FolderFault, teller: &mut Teller<S>) -> Fault
+    ensures { IsUnkept result teller.old teller.new }
+{
     match fault {
         FolderFault::InUse => {
             teller.note(Note::Trouble(Trouble::StateInUse));
@@ -275,18 +360,58 @@ fn unkept<S: Sink + Drop>(fault: FolderFault, teller: &mut Teller<S>) -> Fault {
     }
 }
 
+/// What tells what was made of the state in the directory, if there is anything to tell.
+fn note_of(beginning: Beginning) -> Option<Note>
+    ensures { result ≡ note_of beginning }
+{
+    match beginning {
+        Beginning::Anew => Some(Note::StateBegins),
+        Beginning::PutAside => Some(Note::StatePutAside),
+        Beginning::LinksReset => Some(Note::StateStale),
+        Beginning::GoesOn => None,
+    }
+}
+
+/// What tells that the state was kept under other settings, if it was.
+fn note_of_settings(is_moved: bool) -> Option<Note>
+    ensures { result ≡ note_of_settings is_moved }
+{
+    if is_moved {
+        Some(Note::SettingsChanged)
+    } else {
+        None
+    }
+}
+
+/// What tells with how many pieces a run goes on, if it does.
+fn note_of_queue(moment: Option<u64>, gateway: &Gateway) -> Option<Note>
+    ensures { result ≡ note_of_queue moment gateway.now }
+{
+    match moment {
+        Some(_) => Some(Note::StateGoesOn(taken_places(gateway))),
+        None => None,
+    }
+}
+
+/// Tells the gap that may not have been seen, at the moment at which the run goes on, in ms.
+fn tell_gap<S: Sink + Drop>(moment: Option<u64>, gap: Option<ToldGap>, teller: &mut Teller<S>)
+    ensures { TellsGap moment gap teller.old teller.new }
+{
+    let Some(moment) = moment else {
+        return;
+    };
+    let Some((station, session)) = gap else {
+        return;
+    };
+    teller.put(moment, &Action::Gap { station, session });
+}
+
 /// Tells how a run begins, and the gap that may not have been seen.
-fn tell_beginning<F: Folder + Drop, S: Sink + Drop>(begun: &Begun<F>, teller: &mut Teller<S>) {
-    match begun.beginning {
-        Beginning::Anew => teller.note(Note::StateBegins),
-        Beginning::PutAside => teller.note(Note::StatePutAside),
-        Beginning::LinksReset => teller.note(Note::StateStale),
-        Beginning::GoesOn => {}
-    }
-    if let Some(moment) = begun.moment {
-        teller.note(Note::StateGoesOn(taken_places(&begun.gateway)));
-        if let Some((station, session)) = begun.gap {
-            teller.put(moment, &Action::Gap { station, session });
-        }
-    }
+fn tell_beginning<S: Sink + Drop>(origin: &Origin, teller: &mut Teller<S>)
+    ensures { TellsBeginning origin.now teller.old teller.new }
+{
+    tell(note_of(origin.beginning), teller);
+    tell(note_of_settings(origin.is_moved), teller);
+    tell(note_of_queue(origin.moment, &origin.gateway), teller);
+    tell_gap(origin.moment, origin.gap, teller);
 }

@@ -12,13 +12,17 @@
 //! octets is the text of the command's answer and nothing else, nothing where a text is refused,
 //! and a beginning of the answer's text where the writer failed, or of a run's lines where memory
 //! was refused while they were printed; the exit status is that of the answer or of the first
-//! fault. Literal words, with what they ask for or how they end, are worked examples
-//! (`words_by_example`). What the system's files, terminals and sockets do, and the lines of
-//! faults, are tested.
+//! fault. A run that is told in words (`--words`) is the same run, and what is printed are the
+//! words of its log; frames that come by a pipe are told line by line; and `status` prints what a
+//! live run answers, and ends as its table says. Literal words, with what they ask for or how they
+//! end, are worked examples (`words_by_example`). What the system's files, terminals and sockets
+//! do, and the lines of faults, are tested.
 #![tactic(auto)]
 
 mod answer;
+mod asking;
 mod auditing;
+mod capturing;
 mod check;
 mod closing;
 mod command_line;
@@ -27,18 +31,26 @@ mod fault;
 mod guests;
 mod help;
 mod host;
+mod inquiry;
 mod job;
 mod life;
 mod living;
+mod manner;
 mod performing;
+mod piping;
+mod playing;
 mod printed;
 mod replay;
+mod run_words;
 mod running;
 mod shell;
 mod showing;
 mod simulating;
+mod simulating_told;
 mod site;
 mod source;
+mod telling;
+mod wishes;
 
 use fault::{Fault, USAGE};
 use host::{Host, System};

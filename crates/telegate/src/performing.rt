@@ -3,10 +3,10 @@ ghost use Rattle.std.specs.Prelude.{◌≡◌, OnErr, OnOk};
 ghost use Rattle.std.specs.Io.KnownBytes.{Appends};
 ghost use Rattle.sim.specs.Runs.{IsBegun};
 ghost use Rattle.telegate.specs.Faults.{status_of};
-ghost use Rattle.telegate.specs.Answers.{IsGiven, Performs};
+ghost use Rattle.telegate.specs.Answers.{Performs};
+ghost use Rattle.telegate.specs.Given.{IsGiven};
 
 use crate::answer::Answer;
-use crate::auditing::audit;
 use crate::check::check;
 use crate::fault::{DONE, Fault};
 use crate::job::Job;
@@ -32,21 +32,24 @@ pub fn perform<W: Write, E: Write>(
     ensures { Performs job.now (W.contents out.old) (W.contents out.new) result }
 {
     match job {
-        Job::Show101(sizes, hex) => give(&show101(alloc, *sizes, *hex), out, err),
-        Job::Show104(hex) => give(&show104(alloc, *hex), out, err),
-        Job::Check(config) => give(&check(alloc, *config), out, err),
-        Job::Sim(config, script) => {
-            match simulate(alloc, *config, *script, is_watched, out, err) {
+        Job::Show101(sizes, hex, words) => give(&show101(alloc, *sizes, *hex, *words), out, err),
+        Job::Show104(hex, words) => give(&show104(alloc, *hex, *words), out, err),
+        Job::Check(config, how) => check(alloc, *config, *how, out, err),
+        Job::Sim(config, script, manner) => {
+            match simulate(alloc, *config, *script, *manner, is_watched, out, err) {
                 Ok(()) => DONE,
                 Err(fault) => tell(&fault, err),
             }
         }
-        Job::Audit(config, record) => give(&audit(alloc, *config, *record), out, err),
     }
 }
 
 /// Prints an answer, or tells a fault, and answers the exit status.
-fn give<W: Write, E: Write>(answer: &Result<Answer, Fault>, out: &mut W, err: &mut E) -> u8
+pub(crate) fn give<W: Write, E: Write>(
+    answer: &Result<Answer, Fault>,
+    out: &mut W,
+    err: &mut E,
+) -> u8
     ensures { IsGiven answer.now (W.contents out.old) (W.contents out.new) result }
 {
     match answer {

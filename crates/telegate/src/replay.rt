@@ -1,21 +1,27 @@
 //! The command that runs the gateway over a trace.
-ghost use Rattle.std.specs.Prelude.{◌≡◌, ◌⊎◌, ◌+◌, ◌<◌, ℕ, List, Option, false, true, length, IfOk, IfErr, IfSome, OnOk, OnErr};
+ghost use Rattle.std.specs.Prelude.{◌≡◌, ◌⊎◌, ◌+◌, ◌<◌, ℕ, List, Option, false, true, length, IfOk};
+ghost use Rattle.std.specs.Prelude.{IfErr, IfSome, OnOk, OnErr};
 ghost use Rattle.blocks.specs.Reading.{IsGiven};
 ghost use Rattle.traces.specs.Actions.{lines_of_actions};
 ghost use Rattle.traces.specs.Progress.{AreRight};
 ghost use Rattle.traces.specs.Trace.{lines_of};
 ghost use Rattle.telegate.specs.Answers.{IsEndOf, IsReplayed};
 ghost use Rattle.telegate.specs.Closing.{closing_lines};
-ghost use Rattle.telegate.specs.Parts.{IsWant, IsJudged, IsLineFault, IsClear, IsPartRun, IsPartStopped, RunsOver};
+ghost use Rattle.telegate.specs.Manners.{AreLines};
+ghost use Rattle.telegate.specs.Parts.{IsWant, IsJudged, IsLineFault, IsClear, IsPartRun};
+ghost use Rattle.telegate.specs.Parts.{IsPartStopped, RunsOver};
 ghost use Rattle.telegate.specs.Printed.{IsPoured, IsClosedBy};
 ghost use Rattle.telegate.specs.Source.{Gives};
+ghost use Rattle.telegate.specs.declared.manner.Manner.TheVariants.{Lines};
 
 use crate::check::read_config;
 use crate::closing::{Closing, push_closing};
 use crate::fault::Fault;
 use crate::host::Unread;
+use crate::manner::Manner;
 use crate::printed::{blank_if, drive_printed, print_closing, tell_percent};
 use crate::source::Source;
+use crate::telling::run_told;
 use blocks::{BlockFault, Blocks};
 use delivery::nothing_is_lost;
 use gateway::{Config, End, Gateway, steps_keep_their_order};
@@ -32,6 +38,7 @@ const STRIDE: u64 = 33_554_432;
 pub(crate) struct Asked<'a> {
     /// The octets of the file of settings.
     pub(crate) config: &'a [u8],
+    pub(crate) manner: Manner,
     pub(crate) closing: Closing,
     /// Whether it is to be told on standard error how far a long run has come.
     pub(crate) is_watched: bool,
@@ -46,10 +53,11 @@ struct Course {
     is_watched: bool,
 }
 
-/// Runs the gateway over the events of a trace, and prints a line for each action as it is made,
-/// and then the closing lines. The settings are judged before the trace, and the whole trace before
-/// the run, so that nothing is printed where either is wrong. The trace is read twice, block by
-/// block. Where it is watched, a long run tells on standard error how far it has come.
+/// Runs the gateway over the events of a trace, and prints a line for each action as it is made, or
+/// one in words for each event and each action, and then the closing lines. The settings are judged
+/// before the trace, and the whole trace before the run, so that nothing is printed where either is
+/// wrong. The trace is read twice, block by block. Where it is watched, a long run tells on
+/// standard error how far it has come; one in words doesn't.
 pub(crate) fn replay<S: Source, W: Write, E: Write>(
     alloc: Global,
     asked: &Asked<'_>,
@@ -57,8 +65,8 @@ pub(crate) fn replay<S: Source, W: Write, E: Write>(
     out: &mut W,
     err: &mut E,
 ) -> Result<(), Fault>
-    ensures answer { IsReplayed asked.now.config.now (S.has trace.now) asked.now.closing
-        (W.contents out.old) (W.contents out.new) result }
+    ensures answer { IsReplayed asked.now.config.now asked.now.manner (S.has trace.now)
+        asked.now.closing (W.contents out.old) (W.contents out.new) result }
     ensures unwatched { asked.now.is_watched ≡ false → err.new ≡ err.old }
 {
     let text = open(trace)?;
@@ -70,11 +78,16 @@ pub(crate) fn replay<S: Source, W: Write, E: Write>(
         is_watched: asked.is_watched,
     };
     let text = open(trace)?;
-    run(alloc, &config, text, &course, out, err)
+    match asked.manner {
+        Manner::Lines => run(alloc, &config, text, &course, out, err),
+        Manner::Words { is_coloured } => {
+            run_told(alloc, &config, text, is_coloured, asked.closing, out)
+        }
+    }
 }
 
 /// A text from its beginning on.
-fn open<S: Source>(trace: &S) -> Result<S::Text, Fault>
+pub(crate) fn open<S: Source>(trace: &S) -> Result<S::Text, Fault>
     ensures text { IfOk result (λ text. (octets : List ℕ) →
         Gives (S.Text.remaining text) octets → S.has trace.now octets) }
     ensures fault { IfErr result IsWant }
@@ -87,7 +100,7 @@ fn open<S: Source>(trace: &S) -> Result<S::Text, Fault>
 }
 
 /// Goes on to the next block of a text, where there is one.
-fn advance<R: Read + Drop>(blocks: &mut Blocks<R>) -> Result<(), Fault>
+pub(crate) fn advance<R: Read + Drop>(blocks: &mut Blocks<R>) -> Result<(), Fault>
     requires { blocks.old.is_over ≡ false }
     ensures block { OnOk result (IfSome blocks.old.coming (λ text. IsGiven text blocks.new)) }
     ensures fault { IfErr result IsWant }
@@ -148,7 +161,7 @@ fn run<R: Read + Drop, W: Write, E: Write>(
     out: &mut W,
     err: &mut E,
 ) -> Result<(), Fault>
-    ensures answer { IsEndOf config.now (Gives (R.remaining text)) course.now.closing
+    ensures answer { IsEndOf config.now Lines (Gives (R.remaining text)) course.now.closing
         (W.contents out.old) (W.contents out.new) result }
     ensures unwatched { course.now.is_watched ≡ false → err.new ≡ err.old }
 {
@@ -179,7 +192,7 @@ fn run_parts<R: Read + Drop, W: Write, E: Write>(
     out: &mut W,
     err: &mut E,
 ) -> Result<bool, Fault>
-    ensures answer { RunsOver (R.remaining text) gateway.old gateway.new
+    ensures answer { RunsOver AreLines (R.remaining text) gateway.old gateway.new
         (W.contents out.old) (W.contents out.new) result }
     ensures unwatched { course.now.is_watched ≡ false → err.new ≡ err.old }
 {
@@ -222,7 +235,7 @@ fn run_part<W: Write, E: Write>(
     // Before the block, or in it.
     ensures begun { OnErr result ((out.new ≡ out.old) ⊎ ((before : Option (List ℕ)) →
         IsPoured was_whole before (W.contents out.old) (lines_of_actions pause.log) →
-        IsPartStopped pause lines.now gateway.old before (W.contents out.new))) }
+        IsPartStopped AreLines pause lines.now gateway.old before (W.contents out.new))) }
     ensures unwatched { err.new ≡ err.old }
 {
     let mut port = pause.over(lines);
@@ -240,14 +253,14 @@ fn run_part<W: Write, E: Write>(
 
 /// As many turns as a run over these lines takes at most: a line feed parts them, a tick may come
 /// before them, and behind them there is no more.
-fn turns_of(lines: &[u8]) -> Option<u64>
+pub(crate) fn turns_of(lines: &[u8]) -> Option<u64>
     ensures { IfSome result (λ turns. turns ≡ length lines.now + 3) }
 {
     (lines.len() as u64).checked_add(3)
 }
 
 /// Why a run stopped in a block: the page wanted memory, or the text isn't the one that was judged.
-fn fault_in(lines: &[u8]) -> Fault
+pub(crate) fn fault_in(lines: &[u8]) -> Fault
     ensures { IsWant result }
 {
     match judge(lines, 1) {
@@ -267,7 +280,7 @@ fn tell_between<E: Write>(course: &Course, before: u64, size: u64, err: &mut E)
 }
 
 /// Prints the lines with which a run ends, where all others were printed.
-fn close<W: Write>(
+pub(crate) fn close<W: Write>(
     alloc: Global,
     gateway: &Gateway,
     closing: Closing,

@@ -9,17 +9,21 @@ use crate::life::Life;
 use gateway::{End, Gateway, History, drive_on};
 use journal::{Journal, Sink, Teller};
 use live::Watched;
+use lookout::Lookout;
 use record::{Pen, Recorder, Sheet};
+use status::Door;
 
 /// A run has stopped: its line has ended, or its state can't be kept where that isn't borne.
 #[derive(Clone, Copy, Debug, PartialEq, Eq)]
 pub(crate) struct DeviceFailed;
 
-/// What is told of a run: what happens, and its record.
+/// What is told of a run: what happens, its record, and how it stands, to who looks.
 #[derive(Drop)]
-pub(crate) struct Scribes<S: Sink + Drop, W: Sheet + Drop> {
+pub(crate) struct Scribes<S: Sink + Drop, W: Sheet + Drop, D: Door + Drop> {
     pub(crate) teller: Teller<S>,
     pub(crate) pen: Pen<W>,
+    /// None where there is no door to look through.
+    pub(crate) lookout: Option<Lookout<D>>,
 }
 
 /// A run over a port that is over: the port, with what was told, and how it ended.
@@ -31,11 +35,12 @@ pub(crate) struct Lived<P: Watched + Drop, W: Sheet + Drop, S: Sink + Drop> {
 
 /// Runs the gateway over a port until its device fails, or has no more events, or all turns that
 /// can be counted are used up. Between two events the journal, and the port, may look at the
-/// gateway.
+/// gateway, and so may visitors. To these it is lent: whoever looks, every promise stays.
 #[tactic(auto, using(crate::proofs::Turning::no_events_yet))]
-fn serve<P: Watched + Drop, S: Sink + Drop>(
+fn serve<P: Watched + Drop, S: Sink + Drop, D: Door + Drop>(
     mut gateway: Gateway,
     journal: &mut Journal<P, S>,
+    mut lookout: Option<Lookout<D>>,
 ) -> Result<(), DeviceFailed>
     requires { P.failed journal.old.port < u64.MAX }
     ensures device { HasRun (P.failed journal.old.port) (P.failed journal.new.port) result }
@@ -51,7 +56,12 @@ fn serve<P: Watched + Drop, S: Sink + Drop>(
 {
     'turning: for _ in 0..u64::MAX {
         match drive_on(&mut gateway, journal, 1) {
-            End::Turns => journal.look(&gateway),
+            End::Turns => {
+                let notice = journal.look(&gateway);
+                if let Some(lookout) = &mut lookout {
+                    lookout.look(&gateway, journal.teller().watch(), notice);
+                }
+            }
             End::Finished => {
                 journal.close(&gateway);
                 return Ok(());
@@ -66,11 +76,11 @@ fn serve<P: Watched + Drop, S: Sink + Drop>(
 }
 
 /// Runs the gateway over a port, behind the lives in which it came to be as it is.
-pub(crate) fn live<P: Watched + Drop, W: Sheet + Drop, S: Sink + Drop>(
+pub(crate) fn live<P: Watched + Drop, W: Sheet + Drop, S: Sink + Drop, D: Door + Drop>(
     gateway: Gateway,
     port: P,
     before: History,
-    scribes: Scribes<S, W>,
+    scribes: Scribes<S, W, D>,
 ) -> Lived<P, W, S>
     requires { P.failed port < u64.MAX }
     ensures device { HasRun (P.failed port) (P.failed result.journal.port.port.port) result.ended }
@@ -95,7 +105,7 @@ pub(crate) fn live<P: Watched + Drop, W: Sheet + Drop, S: Sink + Drop>(
 {
     let recorder = Recorder::new(port, scribes.pen);
     let mut journal = Journal::new(Life::new(recorder, before), scribes.teller);
-    let ended = serve(gateway, &mut journal);
+    let ended = serve(gateway, &mut journal, scribes.lookout);
     let _is_over = journal.port().port().is_over();
     Lived { journal, ended }
 }

@@ -3,21 +3,35 @@
 ghost use Rattle.std.specs.Prelude.{◌≡◌, ◌⊎◌, ◌∷◌, [], IfErr, IfOk, OnOk, map, string_bytes};
 ghost use Rattle.std.specs.Io.KnownBytes.{Appends};
 ghost use Rattle.clap.specs.Words.{kind_of};
-ghost use Rattle.telegate.specs.CommandLine.{text_of, texts_of};
+ghost use Rattle.telegate.specs.CommandLine.{text_of};
 ghost use Rattle.telegate.specs.Answers.{IsReplayed, Runs};
-ghost use Rattle.telegate.specs.Shell.{AreWishes, HasEndedLive, IsNotRead, IsSilent, IsTold, IsWishFault, Obeys, ReplaysFile, Responds, RunsFile, unreadable_line};
+ghost use Rattle.telegate.specs.Captures.{IsCapturedBy};
+ghost use Rattle.telegate.specs.Piping.{HasPiped, PipesLine};
+ghost use Rattle.telegate.specs.Shell.{HaveEnded, PlayFiles};
+ghost use Rattle.telegate.specs.Shell.{AuditsFile, IsNoSite, IsNotRead, IsSilent, IsTold, Obeys};
+ghost use Rattle.telegate.specs.Shell.{ReplaysFile, Responds, RunsAsSaid, RunsAtSite, RunsFile};
+ghost use Rattle.telegate.specs.Shell.{input, unreadable_line};
+ghost use Rattle.telegate.specs.Wishes.{HasEndedLive, IsSiteIn};
 
+use crate::asking::ask_status;
+use crate::auditing::audit;
+use crate::capturing::capture;
+use crate::check::Checking;
 use crate::closing::Closing;
 use crate::command_line::{Request, parse, request_of};
 use crate::fault::{DEVICE_FAILED, DONE, Fault, USAGE};
-use crate::guests::guests_of;
-use crate::host::{Host, HostFile, Unread, Wishes};
+use crate::host::{Host, HostFile, INPUT, Unread, Wishes};
 use crate::job::Job;
-use crate::performing::{perform, tell};
+use crate::manner::manner_of;
+use crate::performing::{give, perform, tell};
+use crate::piping::{Piped, end_pipe, pipe};
 use crate::replay::{Asked, replay};
+use crate::run_words::RunWords;
 use crate::source::{Held, Source};
+use crate::wishes::{site_in, wishes_of};
 use clap::Error;
 use clap::error::ErrorKind;
+use sitefile::Site;
 use std::alloc::Global;
 use std::io;
 use std::io::Write;
@@ -32,8 +46,9 @@ pub(crate) fn obey<H: Host, W: Write, E: Write>(
     out: &mut W,
     err: &mut E,
 ) -> u8
-    ensures { Obeys (H.has host.now) (H.lacks host.now) (H.ran host.now)
-        (map string_bytes words.now) (W.contents out.old) (W.contents out.new) result }
+    ensures { Obeys (H.has host.now) (H.lacks host.now) (H.ran host.now) (H.answered host.now)
+        (H.silent host.now) (H.played host.now) (map string_bytes words.now)
+        (W.contents out.old) (W.contents out.new) result }
 {
     match parse(alloc, words) {
         Ok(matches) => match request_of(&matches) {
@@ -86,21 +101,43 @@ pub(crate) fn respond<H: Host, W: Write, E: Write>(
     out: &mut W,
     err: &mut E,
 ) -> u8
-    ensures { Responds (H.has host.now) (H.lacks host.now) (H.ran host.now) request.now
-        (W.contents out.old) (W.contents out.new) result }
+    ensures { Responds (H.has host.now) (H.lacks host.now) (H.ran host.now) (H.answered host.now)
+        (H.silent host.now) (H.played host.now) request.now (W.contents out.old)
+        (W.contents out.new) result }
 {
     let is_watched = host.is_watched();
     match request {
-        Request::Show101 { sizes, hex } => perform(
-            alloc,
-            &Job::Show101(*sizes, *hex),
-            is_watched,
-            out,
-            err,
-        ),
-        Request::Show104 { hex } => perform(alloc, &Job::Show104(*hex), is_watched, out, err),
-        Request::Check { config } => match read_file(host, *config, err) {
-            Ok(config) => perform(alloc, &Job::Check(config.as_slice()), is_watched, out, err),
+        Request::Show101 { sizes, hex, words } => {
+            if *hex == INPUT {
+                return pipe_line(alloc, host, *sizes, *words, out, err);
+            }
+            let job = Job::Show101(*sizes, *hex, *words);
+            perform(alloc, &job, is_watched, out, err)
+        }
+        Request::Show104 { hex, words } => {
+            if *hex == INPUT {
+                return pipe_frames(alloc, host, Piped::Connection, *words, out, err);
+            }
+            perform(alloc, &Job::Show104(*hex, *words), is_watched, out, err)
+        }
+        Request::Check {
+            config,
+            live,
+            explain,
+        } => match read_file(host, *config, err) {
+            Ok(config) => {
+                let how = Checking {
+                    live: *live,
+                    explain: *explain,
+                };
+                perform(
+                    alloc,
+                    &Job::Check(config.as_slice(), how),
+                    is_watched,
+                    out,
+                    err,
+                )
+            }
             Err(status) => status,
         },
         Request::Replay {
@@ -108,10 +145,13 @@ pub(crate) fn respond<H: Host, W: Write, E: Write>(
             trace,
             left,
             counts,
+            words,
+            color,
         } => match read_file(host, *config, err) {
             Ok(config) => {
                 let asked = Asked {
                     config: config.as_slice(),
+                    manner: manner_of(*words, *color),
                     closing: Closing {
                         left: *left,
                         counts: *counts,
@@ -122,72 +162,66 @@ pub(crate) fn respond<H: Host, W: Write, E: Write>(
             }
             Err(status) => status,
         },
-        Request::Sim { config, script } => match read_files(host, *config, *script, err) {
-            Ok((config, script)) => {
-                let job = Job::Sim(config.as_slice(), script.as_slice());
-                perform(alloc, &job, is_watched, out, err)
-            }
-            Err(status) => status,
-        },
-        Request::Audit { config, text } => match read_files(host, *config, *text, err) {
-            Ok((config, text)) => {
-                let job = Job::Audit(config.as_slice(), text.as_slice());
-                perform(alloc, &job, is_watched, out, err)
-            }
-            Err(status) => status,
-        },
-        Request::Run {
+        Request::Sim {
             config,
-            redial,
-            log,
-            record,
-            state,
-            state_or_stop,
-            allow,
-        } => match wishes_of(
-            alloc,
-            *redial,
-            *log,
-            *record,
-            *state,
-            *state_or_stop,
-            *allow,
-        ) {
-            Ok(wishes) => run_file(host, *config, wishes, err),
-            Err(fault) => tell(&fault, err),
+            script,
+            words,
+            color,
+        } => match read_files(host, *config, *script, err) {
+            Ok((config, script)) => {
+                let manner = manner_of(*words, *color);
+                let job = Job::Sim(config.as_slice(), script.as_slice(), manner);
+                perform(alloc, &job, is_watched, out, err)
+            }
+            Err(status) => status,
         },
+        Request::Audit { config, text } => match read_file(host, *config, err) {
+            Ok(config) => audit_file(alloc, host, *text, config.as_slice(), out, err),
+            Err(status) => status,
+        },
+        Request::Run { config, words } => run_wished(alloc, host, *config, words, err),
+        Request::Status { place, json } => ask_status(host, *place, *json, out, err),
+        Request::Capture { config, text } => match read_file(host, *config, err) {
+            Ok(config) => capture_file(alloc, host, *text, config.as_slice(), out, err),
+            Err(status) => status,
+        },
+        Request::Stations { config, script } => play_files(host, *config, *script, err),
     }
 }
 
-/// What the words of a live run wish for.
-fn wishes_of<'a>(
+/// Tells the frames of a line that come on standard input, and answers the exit status.
+fn pipe_line<H: Host, W: Write, E: Write>(
     alloc: Global,
-    redial: bool,
-    log: bool,
-    record: bool,
-    state: Option<&'a str>,
-    state_or_stop: bool,
-    allow: Option<&[&'a str]>,
-) -> Result<Wishes<'a>, Fault>
-    ensures wishes { IfOk result (AreWishes redial log «record» (text_of state.entry) state_or_stop
-        (texts_of allow.entry)) }
-    ensures fault { IfErr result (IsWishFault (text_of state.entry) state_or_stop
-        (texts_of allow.entry)) }
+    host: &H,
+    sizes: &str,
+    words: bool,
+    out: &mut W,
+    err: &mut E,
+) -> u8
+    ensures { PipesLine sizes.now words (H.has host.now input)
+        (W.contents out.old) (W.contents out.new) result }
 {
-    if state_or_stop && state.is_none() {
-        return Err(Fault::NoState);
+    match show::read_sizes(sizes) {
+        Some(sizes) => pipe_frames(alloc, host, Piped::Line(sizes), words, out, err),
+        None => tell(&Fault::Sizes, err),
     }
-    match guests_of(alloc, allow) {
-        Ok(guests) => Ok(Wishes {
-            redial,
-            log,
-            record,
-            state,
-            bears_loss: !state_or_stop,
-            guests,
-        }),
-        Err(fault) => Err(fault),
-    }
+}
+
+/// Tells the frames that come on standard input, and answers the exit status.
+fn pipe_frames<H: Host, W: Write, E: Write>(
+    alloc: Global,
+    host: &H,
+    piped: Piped,
+    words: bool,
+    out: &mut W,
+    err: &mut E,
+) -> u8
+    ensures { HasPiped piped words (H.has host.now input)
+        (W.contents out.old) (W.contents out.new) result }
+{
+    let text = HostFile { host, name: INPUT };
+    let ended = pipe(alloc, &text, piped, words, out, err);
+    end_pipe(&ended, err)
 }
 
 /// Replays a trace, and answers the exit status. A file that can't be opened again, as a pipe, is
@@ -201,7 +235,7 @@ fn replay_file<H: Host, W: Write, E: Write>(
     err: &mut E,
 ) -> u8
     ensures { ReplaysFile (H.has host.now) (H.lacks host.now) name.now asked.now.config.now
-        asked.now.closing (W.contents out.old) (W.contents out.new) result }
+        asked.now.manner asked.now.closing (W.contents out.old) (W.contents out.new) result }
 {
     if host.can_reopen(name) {
         return replay_text(alloc, &HostFile { host, name }, name, asked, out, err);
@@ -226,8 +260,8 @@ fn replay_text<S: Source, W: Write, E: Write>(
     out: &mut W,
     err: &mut E,
 ) -> u8
-    ensures { Runs (IsReplayed asked.now.config.now (S.has text.now) asked.now.closing)
-        (W.contents out.old) (W.contents out.new) result }
+    ensures { Runs (IsReplayed asked.now.config.now asked.now.manner (S.has text.now)
+        asked.now.closing) (W.contents out.old) (W.contents out.new) result }
 {
     match replay(alloc, asked, text, out, err) {
         Ok(()) => DONE,
@@ -235,6 +269,134 @@ fn replay_text<S: Source, W: Write, E: Write>(
             let _ = tell_unreadable(name, err);
             DEVICE_FAILED
         }
+        Err(fault) => tell(&fault, err),
+    }
+}
+
+/// Audits the record of this name by settings of these octets, and answers the exit status. It is
+/// read once.
+fn audit_file<H: Host, W: Write, E: Write>(
+    alloc: Global,
+    host: &H,
+    name: &str,
+    config: &[u8],
+    out: &mut W,
+    err: &mut E,
+) -> u8
+    ensures { AuditsFile (H.has host.now) name.now config.now
+        (W.contents out.old) (W.contents out.new) result }
+{
+    match audit(alloc, config, &HostFile { host, name }) {
+        Err(Fault::Unread) => {
+            let _ = tell_unreadable(name, err);
+            DEVICE_FAILED
+        }
+        answer => give(&answer, out, err),
+    }
+}
+
+/// Makes the capture of the record of this name by settings of these octets, and answers the exit
+/// status. It is read once.
+fn capture_file<H: Host, W: Write, E: Write>(
+    alloc: Global,
+    host: &H,
+    name: &str,
+    config: &[u8],
+    out: &mut W,
+    err: &mut E,
+) -> u8
+    ensures { Runs (IsCapturedBy config.now (H.has host.now name.now))
+        (W.contents out.old) (W.contents out.new) result }
+{
+    match capture(alloc, config, &HostFile { host, name }, out) {
+        Ok(()) => DONE,
+        Err(Fault::Unread) => {
+            let _ = tell_unreadable(name, err);
+            DEVICE_FAILED
+        }
+        Err(fault) => tell(&fault, err),
+    }
+}
+
+/// Plays the outstations of a script by settings, each the octets of a file, and answers the exit
+/// status.
+fn play_files<H: Host, E: Write>(host: &H, config: &str, script: &str, err: &mut E) -> u8
+    ensures { PlayFiles (H.has host.now) (H.lacks host.now) (H.played host.now) config.now
+        script.now result }
+{
+    match read_files(host, config, script, err) {
+        Ok((config, script)) => play_live(host, config.as_slice(), script.as_slice(), err),
+        Err(status) => status,
+    }
+}
+
+/// Plays the outstations of a script of these octets by settings of these, and answers the exit
+/// status.
+fn play_live<H: Host, E: Write>(host: &H, config: &[u8], script: &[u8], err: &mut E) -> u8
+    ensures { HaveEnded (H.played host.now) config.now script.now result }
+{
+    match host.play(config, script) {
+        Ok(()) => DONE,
+        Err(fault) => tell(&fault, err),
+    }
+}
+
+/// Runs the gateway live as words say, and the file of a site that they name, which is read and
+/// judged before the settings are. Answers the exit status.
+fn run_wished<H: Host, E: Write>(
+    alloc: Global,
+    host: &H,
+    config: &str,
+    words: &RunWords<'_, '_>,
+    err: &mut E,
+) -> u8
+    ensures { RunsAsSaid (H.has host.now) (H.lacks host.now) (H.ran host.now) config.now
+        words.now result }
+{
+    match site_of(alloc, host, words.site, err) {
+        Ok(site) => run_at_site(alloc, host, config, words, &site, err),
+        Err(status) => status,
+    }
+}
+
+/// What belongs to a site: what the file of this name says, or nothing where none is named. Or the
+/// exit status, where it can't be read or is refused, which is told then.
+fn site_of<H: Host, E: Write>(
+    alloc: Global,
+    host: &H,
+    name: Option<&str>,
+    err: &mut E,
+) -> Result<Site, u8>
+    ensures site { IfOk result (IsSiteIn (H.has host.now) (text_of name.entry)) }
+    ensures none { IfErr result (IsNoSite (H.has host.now) (H.lacks host.now)
+        (text_of name.entry)) }
+{
+    let Some(name) = name else {
+        return Ok(Site::empty(alloc));
+    };
+    match read_file(host, name, err) {
+        Ok(octets) => match site_in(alloc, octets.as_slice()) {
+            Ok(site) => Ok(site),
+            Err(fault) => Err(tell(&fault, err)),
+        },
+        Err(status) => Err(status),
+    }
+}
+
+/// Runs the gateway live as words and this site say, and answers the exit status.
+fn run_at_site<H: Host, E: Write>(
+    alloc: Global,
+    host: &H,
+    config: &str,
+    words: &RunWords<'_, '_>,
+    site: &Site,
+    err: &mut E,
+) -> u8
+    ensures { RunsAtSite (H.has host.now) (H.lacks host.now) (H.ran host.now) config.now
+        words.now site.now result }
+{
+    match wishes_of(alloc, words, site) {
+        Ok(wishes) => run_file(host, config, wishes, err),
         Err(fault) => tell(&fault, err),
     }
 }

@@ -6,27 +6,29 @@ use crate::answer::Answer;
 use crate::fault::{BAD_CONTENT, DONE, Fault};
 use show::{Outcome, Shown};
 use std::alloc::Global;
+use words::{tell_apdu, tell_line};
 
-/// Shows the line frame at the front of octets. The sizes are judged before the octets.
-pub(crate) fn show101(alloc: Global, sizes: &str, hex: &str) -> Result<Answer, Fault>
-    ensures { IsShown101 sizes.now hex.now result }
+/// Shows the line frame at the front of octets, in one line of words or with a fact a line. The
+/// sizes are judged before the octets.
+pub(crate) fn show101(alloc: Global, sizes: &str, hex: &str, words: bool) -> Result<Answer, Fault>
+    ensures { IsShown101 words sizes.now hex.now result }
 {
     let Some(sizes) = show::read_sizes(sizes) else {
         return Err(Fault::Sizes);
     };
     let octets = read_octets(alloc, hex)?;
-    match show::show_line(alloc, sizes, octets.as_slice()) {
+    match tell_line(alloc, sizes, octets.as_slice(), words) {
         Ok(shown) => Ok(answer_of(shown)),
         Err(_) => Err(Fault::NoMemory),
     }
 }
 
-/// Shows the APDU at the front of octets.
-pub(crate) fn show104(alloc: Global, hex: &str) -> Result<Answer, Fault>
-    ensures { IsShown104 hex.now result }
+/// Shows the APDU at the front of octets, in one line of words or with a fact a line.
+pub(crate) fn show104(alloc: Global, hex: &str, words: bool) -> Result<Answer, Fault>
+    ensures { IsShown104 words hex.now result }
 {
     let octets = read_octets(alloc, hex)?;
-    match show::show_tcp(alloc, octets.as_slice()) {
+    match tell_apdu(alloc, octets.as_slice(), words) {
         Ok(shown) => Ok(answer_of(shown)),
         Err(_) => Err(Fault::NoMemory),
     }

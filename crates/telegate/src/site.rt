@@ -1,7 +1,9 @@
 //! Where a live run finds its ends.
+ghost use Rattle.std.specs.Prelude.{◌≡◌, ℕ, IfOk};
+ghost use Rattle.telegate.specs.Told.{fault_of};
 
 use crate::fault::Fault;
-use journal::{Sink, StandardError, Trouble};
+use journal::{Names, Sink, StandardError, Trouble};
 use live::{
     CentreListener, Door, Got, LineDialler, LineSocket, Presence, Reached, Redialled, SystemClock,
     Wire,
@@ -10,6 +12,7 @@ use record::{Sheet, StandardOutput};
 use settings::LiveSettings;
 use state::Folder;
 use state_files::Directory;
+use status::VisitorListener;
 use std::alloc::{AllocError, Global};
 use std::io;
 use std::io::ErrorKind;
@@ -25,6 +28,8 @@ pub(crate) struct Refusal {
 }
 
 impl From<Refusal> for Fault {
+    ghost from_gives = { λ refusal fault. fault ≡ fault_of refusal.is_memory };
+
     fn from(refusal: Refusal) -> Fault {
         if refusal.is_memory {
             Fault::NoMemory
@@ -50,10 +55,19 @@ pub(crate) trait Site {
 
     type Sheet: Sheet + Drop;
 
+    /// Where visitors come in who look at a run.
+    type Glass: status::Door + Drop;
+
+    // This clock begins at this moment, in ms.
+    ghost begins_at: { Self.Clock → ℕ → Type 0 };
+
     fn alloc(&self) -> Global;
 
     /// Where the lines of the log go.
     fn sink(&self) -> Self::Sink;
+
+    /// What the line and the stations are called.
+    fn names(&self) -> Names<'_>;
 
     /// What the record is written on: nothing stands there yet.
     fn sheet(&self) -> Self::Sheet
@@ -62,11 +76,15 @@ pub(crate) trait Site {
     /// The door, open, and its address, if that is known.
     fn door(&self) -> Result<(Self::Door, Option<SocketAddr>), Refusal>;
 
+    /// The door of visitors at this place, open.
+    fn status_door(&self, place: &str) -> Result<Self::Glass, Refusal>;
+
     /// The line: one that is there, or one that is reached again where it ends.
     fn line(&self, redial: bool) -> Result<Self::Line, Refusal>;
 
     /// A clock that begins at this moment, in ms.
-    fn clock(&self, moment: u64) -> Result<Self::Clock, Refusal>;
+    fn clock(&self, moment: u64) -> Result<Self::Clock, Refusal>
+        ensures { IfOk result (λ clock. begins_at clock moment) };
 
     /// The directory of this name, in which a state is kept. Nothing in it is touched yet.
     fn folder(&self, name: &str) -> Result<Self::Folder, AllocError>;
@@ -77,6 +95,10 @@ pub(crate) trait Site {
 pub(crate) struct Process<'r> {
     pub(crate) rt: &'r HostRuntime,
     pub(crate) places: &'r LiveSettings,
+    /// What the line and the stations are called.
+    pub(crate) names: Names<'r>,
+    /// Each line of the log begins with how severe it is.
+    pub(crate) has_severity: bool,
 }
 
 /// The line of a process.
@@ -126,16 +148,31 @@ impl<'r> Site for Process<'r> {
 
     type Folder = Directory;
 
-    type Sink = StandardError<'r, HostRuntime>;
+    type Sink = StandardError<'r, 'r, HostRuntime>;
 
     type Sheet = StandardOutput<'r, HostRuntime>;
+
+    type Glass = VisitorListener;
+
+    ghost use Rattle.live.specs.Clocks.{BeginsAt};
+
+    ghost begins_at = { λ clock moment. BeginsAt moment clock.first clock.now };
 
     fn alloc(&self) -> Global {
         self.rt.alloc()
     }
 
-    fn sink(&self) -> StandardError<'r, HostRuntime> {
-        StandardError::new(self.rt)
+    fn sink(&self) -> StandardError<'r, 'r, HostRuntime> {
+        let lines = StandardError::new(self.rt, self.names);
+        if self.has_severity {
+            lines.with_severity()
+        } else {
+            lines
+        }
+    }
+
+    fn names(&self) -> Names<'_> {
+        self.names
     }
 
     fn sheet(&self) -> StandardOutput<'r, HostRuntime> {
@@ -149,6 +186,13 @@ impl<'r> Site for Process<'r> {
                 Ok((door, address))
             }
             Err(fault) => Err(refusal_by(port_trouble(&fault), &fault)),
+        }
+    }
+
+    fn status_door(&self, place: &str) -> Result<VisitorListener, Refusal> {
+        match VisitorListener::listen(self.rt, place) {
+            Ok(door) => Ok(door),
+            Err(fault) => Err(refusal_by(Trouble::StatusUnusable, &fault)),
         }
     }
 

@@ -1,5 +1,7 @@
 -- The end of a line of octets is found where its digits end.
-use Rattle.std.proofs.Common.{◌≡◌, ◌≢◌, ℕ, ◌+◌, ◌<◌, ◌==◌, Bool, true, false, List, [], ◌∷◌, ◌++◌, length, take, drop, get_or, None, refl, ap, sym, ◌∙◌, append_assoc, length-append, arith}
+use Rattle.std.proofs.Common.{◌≡◌, ◌≢◌, ℕ, ◌+◌, ◌<◌, ◌==◌, Bool, true, false, List, [], ◌∷◌, ◌++◌}
+use Rattle.std.proofs.Common.{length, take, drop, get_or, None, refl, ap, sym, ◌∙◌, append_assoc}
+use Rattle.std.proofs.Common.{length-append, arith}
 use Rattle.std.specs.Prelude.{slice_index}
 use Rattle.std.specs.List.{All, list_all}
 use Rattle.std.proofs.Math.Seq.{get_or-append_seam}
@@ -23,8 +25,10 @@ no_feed b digit = by (b == 10) refl
     by false e = refl
     by true e = absurd (false≢true (ap is_hex_digit (sym (eqb-true b 10 e)) ∙ digit))
 
-pub no_feeds : (digits : List ℕ) → list_all is_hex_digit digits ≡ true → All (λ b. (b == 10) ≡ false) digits
-no_feeds digits all k d lt = no_feed (get_or digits k d) (AllPass-from_list_all is_hex_digit digits all k d lt)
+pub no_feeds : (digits : List ℕ) → list_all is_hex_digit digits ≡ true
+    → All (λ b. (b == 10) ≡ false) digits
+no_feeds digits all k d lt =
+    no_feed (get_or digits k d) (AllPass-from_list_all is_hex_digit digits all k d lt)
 
 -- digits that end the text are its last line
 pub line_whole : (text : List ℕ) (i : ℕ) → DigitsEnd text i → i ≡ length text
@@ -35,17 +39,20 @@ line_whole text i ends is =
     (slice_split_none (λ b. b == 10) text (no_feeds text all), all)
 
 -- digits before a line feed are the first line
-pub line_ended : (text : List ℕ) (i : ℕ) → DigitsEnd text i → i < length text → slice_index text i ≡ 10
+pub line_ended : (text : List ℕ) (i : ℕ) → DigitsEnd text i → i < length text → slice_index text i
+    ≡ 10
     → lines_of text ≡ take i text ∷ lines_of (drop (i + 1) text)
 line_ended text i ends lt feed =
     let whole : text ≡ take i text ++ 10 ∷ drop (i + 1) text =
     sym (take-append-drop i text)
     ∙ ap (λ t. take i text ++ t) (drop_more text i 0 lt ∙ ap (λ b. b ∷ drop (i + 1) text) feed) in
     ap lines_of whole
-    ∙ slice_split_at (λ b. b == 10) (take i text) 10 (drop (i + 1) text) (no_feeds (take i text) ends.digits) refl
+    ∙ slice_split_at (λ b. b == 10) (take i text) 10 (drop (i + 1) text)
+    (no_feeds (take i text) ends.digits) refl
 
 -- another octet behind the digits stands in the first line
-pub line_other : (text : List ℕ) (i : ℕ) → DigitsEnd text i → i < length text → slice_index text i ≢ 10
+pub line_other : (text : List ℕ) (i : ℕ) → DigitsEnd text i → i < length text → slice_index text i
+    ≢ 10
     → octets_of (first_line text) ≡ None
 line_other text i ends lt other =
     let b : ℕ = slice_index text i in
@@ -56,7 +63,8 @@ line_other text i ends lt other =
     ∙ sym (append_assoc (take i text) (b ∷ []) rest) in
     let all : All (λ b. (b == 10) ≡ false) front =
     All-append (λ b. (b == 10) ≡ false) (take i text) (b ∷ []) (no_feeds (take i text) ends.digits)
-    (All-cons (λ b. (b == 10) ≡ false) b [] (by b (b == 10) refl other) (All-nil (λ b. (b == 10) ≡ false))) in
+    (All-cons (λ b. (b == 10) ≡ false) b [] (by b (b == 10) refl other)
+    (All-nil (λ b. (b == 10) ≡ false))) in
     let line : first_line text ≡ front ++ first_line rest =
     ap first_of (ap lines_of whole ∙ lines_behind front rest all) in
     let len : length (take i text) ≡ i = length-take-le i text (omega (arith, lt)) in
@@ -70,7 +78,8 @@ line_other text i ends lt other =
       length-append front (first_line rest),
       length-append (take i text) (b ∷ []),
     ) in
-    ap octets_of line ∙ other_octet (front ++ first_line rest) i long (ap is_hex_digit same ∙ ends.over lt)
+    ap octets_of line ∙ other_octet (front ++ first_line rest) i long (ap is_hex_digit same
+    ∙ ends.over lt)
   where
     by : (b : ℕ) → (is : Bool) → (b == 10) ≡ is → b ≢ 10 → is ≡ false
     by b false e other = refl

@@ -1,5 +1,7 @@
 -- A number spelled from its last digit on, at the end of a row.
-use Rattle.std.proofs.Common.{◌≡◌, ℕ, ◌+◌, ◌-◌, ◌/◌, ◌%◌, ◌^◌, ◌<◌, ◌≤◌, List, [], ◌∷◌, ◌++◌, length, drop, slice_set, ap, sym, ◌∙◌, arith, append_assoc, length-append, length-drop, length-set}
+use Rattle.std.proofs.Common.{◌≡◌, ℕ, ◌+◌, ◌-◌, ◌/◌, ◌%◌, ◌^◌, ◌<◌, ◌≤◌, List, [], ◌∷◌, ◌++◌}
+use Rattle.std.proofs.Common.{length, drop, slice_set, ap, sym, ◌∙◌, arith, append_assoc}
+use Rattle.std.proofs.Common.{length-append, length-drop, length-set}
 use Rattle.std.proofs.lemmas.List.{drop-set, drop-set-lt}
 use Rattle.std.proofs.lemmas.Fmt.{decimal_digit, decimal_nonempty, decimal_step, length-decimal-le}
 use Rattle.std.specs.Fmt.{decimal}
@@ -41,7 +43,8 @@ half_stays : (row : List ℕ) (start digit : ℕ) → 1 ≤ start → start ≤ 
 half_stays row start digit some within = drop-set-lt 20 row (start - 1) digit (omega arith)
 
 -- the last digit of what isn't spelled yet, where that has more
-pub last_spelled : (number left : ℕ) (row : List ℕ) (start : ℕ) → number < 2 ^ 64 → left < 2 ^ 64 → 10 ≤ left
+pub last_spelled : (number left : ℕ) (row : List ℕ) (start : ℕ) → number < 2 ^ 64 → left < 2 ^ 64
+    → 10 ≤ left
     → IsSpelling number left row start
     → IsSpelling number (left / 10) (slice_set row (start - 1) (48 + left % 10)) (start - 1)
 last_spelled number left row start fits small more is =
@@ -53,7 +56,8 @@ last_spelled number left row start fits small more is =
           ap (λ l. decimal (left / 10) ++ l) (digit_before row start (48 + left % 10) some place)
           ∙ sym (append_assoc (decimal (left / 10)) ((48 + left % 10) ∷ []) (drop start row))
           ∙ ap (λ l. l ++ drop start row) (sym (decimal_step left more small)) ∙ is.text
-          ∙ ap (λ l. decimal number ++ l) (sym (half_stays row start (48 + left % 10) some is.within));
+          ∙ ap (λ l. decimal number ++ l)
+          (sym (half_stays row start (48 + left % 10) some is.within));
     }
 
 -- the first digit of the number

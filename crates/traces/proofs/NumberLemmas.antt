@@ -1,5 +1,7 @@
 -- A number at the front of a text, digit by digit.
-use Rattle.std.proofs.Common.{◌≡◌, ◌≢◌, ℕ, zero, suc, ◌+◌, ◌-◌, ◌*◌, ◌^◌, ◌<◌, ◌≤◌, nat_le, ◌&&◌, Bool, true, false, List, [], ◌∷◌, ◌++◌, length, take, slice_index, Some, None, inl, inr, if◌then◌else◌, lit<, refl, sym, ap, ◌∙◌, arith}
+use Rattle.std.proofs.Common.{◌≡◌, ◌≢◌, ℕ, zero, suc, ◌+◌, ◌-◌, ◌*◌, ◌^◌, ◌<◌, ◌≤◌, nat_le, ◌&&◌}
+use Rattle.std.proofs.Common.{Bool, true, false, List, [], ◌∷◌, ◌++◌, length, take, slice_index}
+use Rattle.std.proofs.Common.{Some, None, inl, inr, if◌then◌else◌, lit<, refl, sym, ap, ◌∙◌, arith}
 use Rattle.std.proofs.Math.Nat.{pow-le-pow_right}
 use Rattle.std.proofs.lemmas.Bool.{cases_lt}
 use Rattle.std.proofs.lemmas.Nat.{pow-add}
@@ -13,10 +15,12 @@ pub below_limit : (n i : ℕ) → n < 10 ^ i → i ≤ 15 → n < 10 ^ 15
 below_limit n i lt le = let up : 10 ^ i ≤ 10 ^ 15 = pow-le-pow_right (lit< tt) le in omega arith
 
 pub small_more : (n d i : ℕ) → n < 10 ^ i → d < 10 → n * 10 + d < 10 ^ (i + 1)
-small_more n d i lt digit = let up : 10 ^ (i + 1) ≡ 10 ^ i * 10 = pow-add 10 i 1 in omega (arith, up)
+small_more n d i lt digit = let up : 10 ^ (i + 1) ≡ 10 ^ i * 10 = pow-add 10 i 1 in
+    omega (arith, up)
 
 -- octets that aren't digits alone are no number
-pub digits_none : (n : ℕ) (xs : List ℕ) (k : ℕ) → k < length xs → is_ascii_digit (slice_index xs k) ≡ false
+pub digits_none : (n : ℕ) (xs : List ℕ) (k : ℕ) → k < length xs → is_ascii_digit (slice_index xs k)
+    ≡ false
     → digits_after n xs ≡ None
 digits_none n [] k lt out = absurd (omega (arith, lt))
 digits_none n (x ∷ xs) zero lt out = rw out refl
@@ -42,7 +46,8 @@ too_long xs long =
     ap (λ (b : Bool). if b then digits_after 0 xs else None) off
 
 -- one digit more
-pub digits_more : (n v : ℕ) (xs : List ℕ) (d : ℕ) → digits_after n xs ≡ Some v → is_ascii_digit d ≡ true
+pub digits_more : (n v : ℕ) (xs : List ℕ) (d : ℕ) → digits_after n xs ≡ Some v → is_ascii_digit d
+    ≡ true
     → digits_after n (xs ++ d ∷ []) ≡ Some (v * 10 + (d - 48))
 digits_more n v [] d e is = let same : n ≡ v = cc in rw (is, same) refl
 digits_more n v (x ∷ xs) d e is =
@@ -51,7 +56,8 @@ digits_more n v (x ∷ xs) d e is =
     by : (b : Bool) → (digits_after (n * 10 + (x - 48)) xs ≡ Some v
         → digits_after (n * 10 + (x - 48)) (xs ++ d ∷ []) ≡ Some (v * 10 + (d - 48)))
         → (if b then digits_after (n * 10 + (x - 48)) xs else None) ≡ Some v
-        → (if b then digits_after (n * 10 + (x - 48)) (xs ++ d ∷ []) else None) ≡ Some (v * 10 + (d - 48))
+        → (if b then digits_after (n * 10 + (x - 48)) (xs ++ d ∷ []) else None)
+        ≡ Some (v * 10 + (d - 48))
     by true more h = more h
     by false more h = cc
 
@@ -77,7 +83,8 @@ decimal_digits xs v k e lt = number_digits 0 v xs k (some_digits xs v e) lt
 
 -- Digits up to a place, and none there.
 
-pub ended_at : (text : List ℕ) (i v : ℕ) → i ≤ 15 → NumberMayEnd text i → digits_after 0 (take i text) ≡ Some v
+pub ended_at : (text : List ℕ) (i v : ℕ) → i ≤ 15 → NumberMayEnd text i
+    → digits_after 0 (take i text) ≡ Some v
     → IsFrontNumber text (if nat_le 1 i && nat_le i 15 then Some (v, i) else None)
 ended_at text zero v most ends is = λ j at. by j at
   where
@@ -88,7 +95,8 @@ ended_at text zero v most ends is = λ j at. by j at
         let len : length (take (suc j) text) ≡ suc j = length-take-le (suc j) text le in
         let same : slice_index (take (suc j) text) 0 ≡ slice_index text 0 =
         get_or-take (suc j) text 0 0 (omega arith) in
-        no_number (take (suc j) text) 0 (omega (arith, len)) (ap is_ascii_digit same ∙ ends.over (omega (arith, le)))
+        no_number (take (suc j) text) 0 (omega (arith, len)) (ap is_ascii_digit same
+        ∙ ends.over (omega (arith, le)))
 ended_at text (suc i) v most ends is =
     let on : (nat_le 1 (suc i) && nat_le (suc i) 15) ≡ true = grind arith in
     let len : length (take (suc i) text) ≡ suc i = length-take-le (suc i) text ends.within in
@@ -96,7 +104,8 @@ ended_at text (suc i) v most ends is =
     rw on (ends, whole)
 
 -- digits up to the end, or one more than a number may have
-pub ended_near : (text : List ℕ) (near v : ℕ) → near ≤ length text → (near < 16 → near ≡ length text) → near ≤ 16
+pub ended_near : (text : List ℕ) (near v : ℕ) → near ≤ length text
+    → (near < 16 → near ≡ length text) → near ≤ 16
     → digits_after 0 (take near text) ≡ Some v
     → IsFrontNumber text (if nat_le 1 near && nat_le near 15 then Some (v, near) else None)
 ended_near text near v le all most is = elim (cases_lt near 16) [
@@ -109,11 +118,13 @@ ended_near text near v le all most is = elim (cases_lt near 16) [
 ]
   where
     too_many : (text : List ℕ) (near v j : ℕ) → near ≡ 16 → near ≤ length text
-        → digits_after 0 (take near text) ≡ Some v → NumberMayEnd text j → decimal_of (take j text) ≡ None
+        → digits_after 0 (take near text) ≡ Some v → NumberMayEnd text j → decimal_of (take j text)
+        ≡ None
     too_many text near v j e le is at = elim (cases_lt j near) [
       | inl before ↦
           let len : length (take near text) ≡ near = length-take-le near text le in
-          let same : slice_index (take near text) j ≡ slice_index text j = get_or-take near text j 0 before in
+          let same : slice_index (take near text) j ≡ slice_index text j =
+          get_or-take near text j 0 before in
           let here = number_digits 0 v (take near text) j is (omega (arith, len, before)) in
           let over = at.over (omega (arith, le, before)) in
           let odd : true ≡ false = sym here ∙ ap is_ascii_digit same ∙ over in
@@ -128,4 +139,5 @@ ended_near text near v le all most is = elim (cases_lt near 16) [
 pub number_in_front : (text : List ℕ) (v i : ℕ) → IsFrontNumber text (Some (v, i)) → i ≢ length text
     → None ≡ decimal_of text
 number_in_front text v i is other =
-    let lt : i < length text = omega (arith, is.0.within, other) in sym (no_number text i lt (is.0.over lt))
+    let lt : i < length text = omega (arith, is.0.within, other) in
+    sym (no_number text i lt (is.0.over lt))

@@ -1,6 +1,8 @@
 -- What is printed, octet by octet.
 use borrow.Rule.Slice.PartMut.{put_mid, same_len_mid}
-use Rattle.std.proofs.Common.{◌≡◌, ℕ, zero, suc, ◌+◌, ◌-◌, ◌*◌, ◌/◌, ◌%◌, ◌<◌, ◌≤◌, List, [], ◌∷◌, ◌++◌, length, take, drop, slice_index, slice_set, refl, sym, ap, ◌∙◌, arith, length-append, length-drop, zero-add}
+use Rattle.std.proofs.Common.{◌≡◌, ℕ, zero, suc, ◌+◌, ◌-◌, ◌*◌, ◌/◌, ◌%◌, ◌<◌, ◌≤◌, List, [], ◌∷◌}
+use Rattle.std.proofs.Common.{◌++◌, length, take, drop, slice_index, slice_set, refl, sym, ap, ◌∙◌}
+use Rattle.std.proofs.Common.{arith, length-append, length-drop, zero-add}
 use Rattle.std.specs.List.{range_with_len}
 use Rattle.std.proofs.Math.Seq.{take-append-add}
 use Rattle.std.proofs.lemmas.List.{length-take-le, take_more_set, take-append-le}
@@ -18,36 +20,42 @@ put_length i k row part within len =
 
 -- a line of three parts and its end, each put where the one before ends; so many octets of the
 -- first are of the line
-pub line_put : (row first_part letter octets : List ℕ) (a n : ℕ) → length first_part ≡ 20 → a ≤ 20
-    → length letter ≡ 5 → length octets ≡ n → a + 5 + n < length row → 20 ≤ length row
-    → take (a + 5 + n + 1) (slice_set (put_mid (a + 5) (a + 5 + n - (a + 5))
-    (put_mid a (a + 5 - a) (first_part ++ drop 20 row) letter) octets) (a + 5 + n) 10)
+pub line_put : (row first_part letter octets : List ℕ) (a m n : ℕ) → length first_part ≡ 20 → a ≤ 20
+    → length letter ≡ m → length octets ≡ n → a + m + n < length row → 20 ≤ length row
+    → take (a + m + n + 1) (slice_set (put_mid (a + m) (a + m + n - (a + m))
+    (put_mid a (a + m - a) (first_part ++ drop 20 row) letter) octets) (a + m + n) 10)
     ≡ take a first_part ++ letter ++ octets ++ 10 ∷ []
-line_put row first_part letter octets a n long short five many room whole =
+line_put row first_part letter octets a m n long short middling many room whole =
     let digits : List ℕ = take a first_part in
     let first : List ℕ = first_part ++ drop 20 row in
     let first_len : length first ≡ length row =
     omega (arith, length-append first_part (drop 20 row), length-drop 20 row, long, whole) in
-    let second : List ℕ = put_mid a (a + 5 - a) first letter in
+    let second : List ℕ = put_mid a (a + m - a) first letter in
     let second_len : length second ≡ length row =
-    put_length a (a + 5 - a) first letter (omega (arith, first_len, room)) (omega (arith, five)) ∙ first_len in
-    let third : List ℕ = put_mid (a + 5) (a + 5 + n - (a + 5)) second octets in
+    put_length a (a + m - a) first letter (omega (arith, first_len, room)) (omega (arith, middling))
+    ∙ first_len in
+    let third : List ℕ = put_mid (a + m) (a + m + n - (a + m)) second octets in
     let third_len : length third ≡ length row =
-    put_length (a + 5) (a + 5 + n - (a + 5)) second octets (omega (arith, second_len, room)) (omega (arith, many))
+    put_length (a + m) (a + m + n - (a + m)) second octets (omega (arith, second_len, room))
+    (omega (arith, many))
     ∙ second_len in
     let start : take a first ≡ digits =
     take-append-le a first_part (drop 20 row) (omega (arith, long, short)) in
-    let middle : take (a + 5) second ≡ digits ++ letter =
-    take-put_mid a (a + 5 - a) first letter (a + 5) (omega (arith, five)) (omega (arith, first_len, room))
+    let middle : take (a + m) second ≡ digits ++ letter =
+    take-put_mid a (a + m - a) first letter (a + m) (omega (arith, middling))
+    (omega (arith, first_len, room))
     ∙ ap (λ l. l ++ letter) start in
-    let most : take (a + 5 + n) third ≡ (digits ++ letter) ++ octets =
-    take-put_mid (a + 5) (a + 5 + n - (a + 5)) second octets (a + 5 + n) (omega (arith, many))
+    let most : take (a + m + n) third ≡ (digits ++ letter) ++ octets =
+    take-put_mid (a + m) (a + m + n - (a + m)) second octets (a + m + n) (omega (arith, many))
     (omega (arith, second_len, room)) ∙ ap (λ l. l ++ octets) middle in
-    take_more_set third (a + 5 + n) 10 (omega (arith, third_len, room)) ∙ ap (λ l. l ++ 10 ∷ []) most
+    take_more_set third (a + m + n) 10 (omega (arith, third_len, room))
+    ∙ ap (λ l. l ++ 10 ∷ []) most
 
 -- what is put behind octets that were put
-pub put_behind : (room line rest more : List ℕ) (end count : ℕ) → end ≤ length room → take count line ≡ more
-    → count ≤ length line → take (end + count) (take end room ++ (line ++ rest)) ≡ take end room ++ more
+pub put_behind : (room line rest more : List ℕ) (end count : ℕ) → end ≤ length room
+    → take count line ≡ more
+    → count ≤ length line → take (end + count) (take end room ++ (line ++ rest))
+    ≡ take end room ++ more
 put_behind room line rest more end count within is most =
     let len : length (take end room) ≡ end = length-take-le end room within in
     ap (λ (i : ℕ). take (i + count) (take end room ++ (line ++ rest))) (sym len)
@@ -63,8 +71,10 @@ table_is = refl
 
 -- the digits of the octet at a place
 pair_in : (octets : List ℕ) (i : ℕ) → i < length octets →
-    (slice_index (encode_upper octets) (2 * i) ≡ slice_index upper_digits (slice_index octets i / 16))
-    × (slice_index (encode_upper octets) (2 * i + 1) ≡ slice_index upper_digits (slice_index octets i % 16))
+    (slice_index (encode_upper octets) (2 * i)
+    ≡ slice_index upper_digits (slice_index octets i / 16))
+    × (slice_index (encode_upper octets) (2 * i + 1)
+    ≡ slice_index upper_digits (slice_index octets i % 16))
 unfolding encode_with
 pair_in [] i lt = absurd (omega (arith, lt))
 pair_in (b ∷ octets) zero lt = (refl, refl)
@@ -78,7 +88,10 @@ pub pair_at : (b : ℕ) → b < 256 →
     × (slice_index PAIRS (2 * b + 1) ≡ slice_index upper_digits (b % 16))
 pair_at b lt =
     let pair = pair_in (range_with_len 0 256) b (omega (arith, lt, length-range_with_len 0 256)) in
-    let same : slice_index (range_with_len 0 256) b ≡ b = get_or-range_with_len 0 256 b 0 lt ∙ zero-add b in (
-      ap (λ t. slice_index t (2 * b)) table_is ∙ pair.0 ∙ ap (λ n. slice_index upper_digits (n / 16)) same,
-      ap (λ t. slice_index t (2 * b + 1)) table_is ∙ pair.1 ∙ ap (λ n. slice_index upper_digits (n % 16)) same,
+    let same : slice_index (range_with_len 0 256) b ≡ b = get_or-range_with_len 0 256 b 0 lt
+    ∙ zero-add b in (
+      ap (λ t. slice_index t (2 * b)) table_is ∙ pair.0
+          ∙ ap (λ n. slice_index upper_digits (n / 16)) same,
+      ap (λ t. slice_index t (2 * b + 1)) table_is ∙ pair.1
+          ∙ ap (λ n. slice_index upper_digits (n % 16)) same,
     )

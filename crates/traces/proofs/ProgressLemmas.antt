@@ -1,7 +1,10 @@
 -- A port over the text of a trace, call by call.
-use Rattle.std.proofs.Common.{◌≡◌, ℕ, ◌+◌, Bool, true, false, not, length, arith, List, [], ◌∷◌, ◌++◌, take, Option, Some, None, refl, ap, sym, ◌∙◌, subst, append_assoc}
+use Rattle.std.proofs.Common.{◌≡◌, ℕ, ◌+◌, Bool, true, false, not, length, arith, List, [], ◌∷◌}
+use Rattle.std.proofs.Common.{◌++◌, take, Option, Some, None, refl, ap, sym, ◌∙◌, subst}
+use Rattle.std.proofs.Common.{append_assoc}
 use Rattle.std.specs.List.{AllByRecursion}
-use Rattle.gateway.specs.Log.{Log, Came, Went, Input, LineIn, Opened, TcpIn, CutOff, Ticked, WallIs, Output, events_of}
+use Rattle.gateway.specs.Log.{Log, Came, Went, Input, LineIn, Opened, TcpIn, CutOff, Ticked, WallIs}
+use Rattle.gateway.specs.Log.{Output, events_of}
 use Rattle.gateway.specs.Ports.{told_by}
 use Rattle.gateway.specs.Entries.{event_of as entry_event}
 use Rattle.gateway.specs.declared.entries.Entry.{Entry}
@@ -12,7 +15,9 @@ use Rattle.traces.specs.Actions.{line_of, lines_of_actions}
 use Rattle.traces.specs.Event.{Event, event_of, event_in}
 use Rattle.traces.specs.Fields.{parts_after}
 use Rattle.traces.specs.FirstLines.{first_line, later_lines}
-use Rattle.traces.specs.Progress.{came, events_in, script_in, IsRight, Progress, Standing, IsStanding, events_left, events_of_part, coming_in, IsProgress, tells_event}
+use Rattle.traces.specs.Progress.{came, events_in, script_in, IsRight, Progress, Standing}
+use Rattle.traces.specs.Progress.{IsStanding, events_left, events_of_part, coming_in, IsProgress}
+use Rattle.traces.specs.Progress.{tells_event}
 use Rattle.traces.specs.Trace.{lines_of, is_skipped, told, first_wrong}
 use Rattle.traces.proofs.FirstLineLemmas.{lines_first}
 
@@ -28,7 +33,8 @@ came_entry (Tick now) = refl
 came_entry (Wall now number) = refl
 
 -- a skipped line tells no event
-pub events_skip : (lines rest : List (List ℕ)) (line : List ℕ) → lines ≡ line ∷ rest → is_skipped line ≡ true
+pub events_skip : (lines rest : List (List ℕ)) (line : List ℕ) → lines ≡ line ∷ rest
+    → is_skipped line ≡ true
     → events_in rest ≡ events_in lines
 events_skip lines rest line is e = rw (is, e)
 
@@ -39,12 +45,14 @@ pub events_next : (entry : Entry) (lines rest : List (List ℕ)) (line : List �
 events_next entry lines rest line is e some = rw (is, e, some, came_entry)
 
 -- where each line is right, none is wrong
-pub none_wrong : (n : ℕ) (lines : List (List ℕ)) → AllByRecursion IsRight lines → first_wrong n lines ≡ None
+pub none_wrong : (n : ℕ) (lines : List (List ℕ)) → AllByRecursion IsRight lines
+    → first_wrong n lines ≡ None
 none_wrong n [] all = refl
 none_wrong n (line ∷ lines) all = rw all.0 (none_wrong (n + 1) lines all.1)
 
 -- a skipped line is right, and so is one that is an event
-pub right_skip : (lines rest : List (List ℕ)) (line : List ℕ) → lines ≡ line ∷ rest → is_skipped line ≡ true
+pub right_skip : (lines rest : List (List ℕ)) (line : List ℕ) → lines ≡ line ∷ rest
+    → is_skipped line ≡ true
     → AllByRecursion IsRight rest → AllByRecursion IsRight lines
 right_skip lines rest line is skipped all =
     let right : IsRight line = rw skipped refl in
@@ -91,7 +99,8 @@ begun text s earlier same holds = record {
   first = λ fresh. refl;
 }
   where
-    by : (b : Bool) → events_of s.log ++ events_left b text (Some text) ≡ events_of earlier ++ events_of_part (not b) text
+    by : (b : Bool) → events_of s.log ++ events_left b text (Some text) ≡ events_of earlier
+        ++ events_of_part (not b) text
     by true = ap (λ log. events_of log ++ events_in (lines_of text)) (sym same)
     by false = ap (λ log. events_of log ++ script_in text) (sym same)
 

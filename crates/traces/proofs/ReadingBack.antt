@@ -1,5 +1,7 @@
 -- A printed line is read as the entry that it was printed of.
-use Rattle.std.proofs.Common.{◌≡◌, ℕ, ◌+◌, ◌-◌, ◌*◌, ◌^◌, ◌<◌, ◌≤◌, ◌==◌, nat_le, ◌&&◌, ◌||◌, Bool, true, false, List, [], ◌∷◌, ◌++◌, length, reverse, Option, Some, None, option_map, if◌then◌else◌, refl, sym, ap, ◌∙◌, arith, append_assoc}
+use Rattle.std.proofs.Common.{◌≡◌, ℕ, ◌+◌, ◌-◌, ◌*◌, ◌^◌, ◌<◌, ◌≤◌, ◌==◌, nat_le, ◌&&◌, ◌||◌, Bool}
+use Rattle.std.proofs.Common.{true, false, List, [], ◌∷◌, ◌++◌, length, reverse, Option, Some, None}
+use Rattle.std.proofs.Common.{option_map, if◌then◌else◌, refl, sym, ap, ◌∙◌, arith, append_assoc}
 use Rattle.std.proofs.lemmas.List.{append-nil, reverse-append}
 use Rattle.std.proofs.lemmas.List.Elements.{All-append, All-cons, All-nil}
 use Rattle.std.proofs.lemmas.List.Folds.{list_any_none, list_any-append}
@@ -16,8 +18,10 @@ use Rattle.std.specs.Fmt.{decimal}
 use Rattle.hex.specs.Hex.{IsBytes, encode_upper, is_hex_digit}
 use Rattle.hex.proofs.HexLemmas.{decode_of-encode_upper, decode_of-ok}
 use Rattle.session.specs.declared.kinds.Close.{Close}
-use Rattle.session.specs.declared.kinds.Close.TheVariants.{Grammar, SendNumber, ReceiveNumber, Stopped, Timeout, OwnAnswers, Replaced}
-use Rattle.gateway.specs.Log.{Log, LogEntry, Came, Went, Input, LineIn, Opened, TcpIn, CutOff, Ticked, WallIs, Output, LineOut, TcpOut, Closed, GapOut, last_moment}
+use Rattle.session.specs.declared.kinds.Close.TheVariants.{Grammar, SendNumber, ReceiveNumber}
+use Rattle.session.specs.declared.kinds.Close.TheVariants.{Stopped, Timeout, OwnAnswers, Replaced}
+use Rattle.gateway.specs.Log.{Log, LogEntry, Came, Went, Input, LineIn, Opened, TcpIn, CutOff}
+use Rattle.gateway.specs.Log.{Ticked, WallIs, Output, LineOut, TcpOut, Closed, GapOut, last_moment}
 use Rattle.gateway.specs.Entries.{number_of, event_of as logged}
 use Rattle.gateway.specs.declared.entries.Entry.{Entry}
 use Rattle.gateway.specs.declared.entries.Entry.TheVariants as entries
@@ -25,7 +29,11 @@ use Rattle.traces.specs.Fields.{digits_after, decimal_of, octets_of, some_octets
 use Rattle.traces.specs.Event.{event_of, event_from, event_in, bare_at, octets_at, wall_at}
 use Rattle.traces.specs.Trace.{lines_of, is_skipped}
 use Rattle.traces.specs.Actions.{line_of, lines_of_actions}
-use Rattle.traces.specs.Printed.{FitsTrace, HasNoMark, IsFirstOf, IsPrintable, IsPrintableEvent, IsPrintableAction, line_of_event, line_of_entry, lines_of_log, number_in, octets_in_hex, cause_numbered, gap_at, came_at, went_at, entry_from, entry_in, before_those, entries_of_parts, entries_in, actions_of, ArePrinted}
+use Rattle.traces.specs.Printed.{FitsTrace, HasNoMark, IsFirstOf, IsPrintable, IsPrintableEvent}
+use Rattle.traces.specs.Printed.{IsPrintableAction, line_of_event, line_of_entry, lines_of_log}
+use Rattle.traces.specs.Printed.{number_in, octets_in_hex, cause_numbered, gap_at, came_at, went_at}
+use Rattle.traces.specs.Printed.{entry_from, entry_in, before_those, entries_of_parts, entries_in}
+use Rattle.traces.specs.Printed.{actions_of, ArePrinted}
 
 -- Fields without separators
 
@@ -46,29 +54,37 @@ spaced field [] = field
 spaced field (next ∷ fields) = field ++ 32 ∷ spaced next fields
 
 -- a line of such fields is cut into them
-spaced_fields : (field : List ℕ) (fields : List (List ℕ)) → IsPlain field → AllByRecursion IsPlain fields
+spaced_fields : (field : List ℕ) (fields : List (List ℕ)) → IsPlain field
+    → AllByRecursion IsPlain fields
     → slice_split (λ b. b == 32) (spaced field fields) ≡ field ∷ fields
-spaced_fields field [] plain all = slice_split_none (λ b. b == 32) field (plain_split 32 field (omega arith) plain)
+spaced_fields field [] plain all =
+    slice_split_none (λ b. b == 32) field (plain_split 32 field (omega arith) plain)
 spaced_fields field (next ∷ fields) plain all =
-    slice_split_at (λ b. b == 32) field 32 (spaced next fields) (plain_split 32 field (omega arith) plain) refl
+    slice_split_at (λ b. b == 32) field 32 (spaced next fields)
+    (plain_split 32 field (omega arith) plain) refl
     ∙ ap (λ (l : List (List ℕ)). field ∷ l) (spaced_fields next fields all.0 all.1)
 
 -- and of the octets up to `!` it has spaces alone
-spaced_without : (other : ℕ) (field : List ℕ) (fields : List (List ℕ)) → other ≤ 33 → (32 == other) ≡ false
-    → IsPlain field → AllByRecursion IsPlain fields → All (λ b. (b == other) ≡ false) (spaced field fields)
+spaced_without : (other : ℕ) (field : List ℕ) (fields : List (List ℕ)) → other ≤ 33 → (32 == other)
+    ≡ false
+    → IsPlain field → AllByRecursion IsPlain fields
+    → All (λ b. (b == other) ≡ false) (spaced field fields)
 spaced_without other field [] le differs plain all = plain_split other field le plain
 spaced_without other field (next ∷ fields) le differs plain all =
-    All-append (λ b. (b == other) ≡ false) field (32 ∷ spaced next fields) (plain_split other field le plain)
+    All-append (λ b. (b == other) ≡ false) field (32 ∷ spaced next fields)
+    (plain_split other field le plain)
     (All-cons (λ b. (b == other) ≡ false) 32 (spaced next fields) differs
     (spaced_without other next fields le differs all.0 all.1))
 
 -- so it has no line feed
-spaced_line : (field : List ℕ) (fields : List (List ℕ)) → IsPlain field → AllByRecursion IsPlain fields
+spaced_line : (field : List ℕ) (fields : List (List ℕ)) → IsPlain field
+    → AllByRecursion IsPlain fields
     → All (λ b. (b == 10) ≡ false) (spaced field fields)
 spaced_line field fields plain all = spaced_without 10 field fields (omega arith) refl plain all
 
 -- nor `!`, which no line feed is either
-line_unmarked : (field : List ℕ) (fields : List (List ℕ)) → IsPlain field → AllByRecursion IsPlain fields
+line_unmarked : (field : List ℕ) (fields : List (List ℕ)) → IsPlain field
+    → AllByRecursion IsPlain fields
     → HasNoMark (spaced field fields ++ 10 ∷ [])
 line_unmarked field fields plain all =
     list_any_none (λ b. b == 33) (spaced field fields ++ 10 ∷ [])
@@ -88,15 +104,18 @@ line_first : (line text : List ℕ) → All (λ b. (b == 10) ≡ false) line
     → entries_in (line ++ 10 ∷ text) ≡ before_those (entry_in line) (entries_in text)
 line_first line text whole =
     ap entries_of_parts (slice_split_at (λ b. b == 10) line 10 text whole refl)
-    ∙ parts_read line (slice_split (λ b. b == 10) text) (omega (arith, length-slice_split (λ (b : ℕ). b == 10) text))
+    ∙ parts_read line (slice_split (λ b. b == 10) text)
+    (omega (arith, length-slice_split (λ (b : ℕ). b == 10) text))
 
 -- a line of fields
 fields_first : (field : List ℕ) (fields : List (List ℕ)) (text : List ℕ) → IsPlain field
     → AllByRecursion IsPlain fields →
-    entries_in (spaced field fields ++ 10 ∷ text) ≡ before_those (entry_from (field ∷ fields)) (entries_in text)
+    entries_in (spaced field fields ++ 10 ∷ text) ≡ before_those (entry_from (field ∷ fields))
+    (entries_in text)
 fields_first field fields text plain all =
     line_first (spaced field fields) text (spaced_line field fields plain all)
-    ∙ ap (λ (l : List (List ℕ)). before_those (entry_from l) (entries_in text)) (spaced_fields field fields plain all)
+    ∙ ap (λ (l : List (List ℕ)). before_those (entry_from l) (entries_in text))
+    (spaced_fields field fields plain all)
 
 -- Numbers
 
@@ -105,9 +124,11 @@ digits_plain [] all = All-nil (λ b. 33 < b)
 digits_plain (d ∷ ds) all = All-cons (λ b. 33 < b) d ds (omega (arith, digit_from_value d all.0))
     (digits_plain ds all.1)
 
-digits_read : (n : ℕ) (ds : List ℕ) → AllDigits 10 ds → digits_after n ds ≡ Some (digits_value_after 10 n ds)
+digits_read : (n : ℕ) (ds : List ℕ) → AllDigits 10 ds → digits_after n ds
+    ≡ Some (digits_value_after 10 n ds)
 digits_read n [] all = refl
-digits_read n (d ∷ ds) all = go (digits_read (n * 10 + digit_value d) ds all.1) (nat_le 48 d && nat_le d 57) refl
+digits_read n (d ∷ ds) all = go (digits_read (n * 10 + digit_value d) ds all.1)
+    (nat_le 48 d && nat_le d 57) refl
   where
     k : digit_value d + 48 ≡ d
     k = digit_value_digit d (digit_from_value d all.0)
@@ -118,7 +139,8 @@ digits_read n (d ∷ ds) all = go (digits_read (n * 10 + digit_value d) ds all.1
         let high : d ≤ 57 = omega (arith, digit_from_value d all.0) in
         grind arith
 
-    go : digits_after (n * 10 + digit_value d) ds ≡ Some (digits_value_after 10 (n * 10 + digit_value d) ds) →
+    go : digits_after (n * 10 + digit_value d) ds
+        ≡ Some (digits_value_after 10 (n * 10 + digit_value d) ds) →
         (b : Bool) → (nat_le 48 d && nat_le d 57) ≡ b → digits_after n (d ∷ ds)
         ≡ Some (digits_value_after 10 n (d ∷ ds))
     go rest true is =
@@ -132,7 +154,8 @@ wide n lt = omega arith
 number_plain : (n : ℕ) → n < 2 ^ 64 + 1 → IsPlain (decimal n)
 number_plain n lt = digits_plain (decimal n) (decimal_is_IsNumeral_wide n (wide n lt)).0.1
 
-some_number : (ds : List ℕ) → 0 < length ds → AllDigits 10 ds → number_in ds ≡ Some (digits_value 10 ds)
+some_number : (ds : List ℕ) → 0 < length ds → AllDigits 10 ds → number_in ds
+    ≡ Some (digits_value 10 ds)
 some_number [] some all = absurd (omega arith)
 some_number (d ∷ ds) some all = digits_read 0 (d ∷ ds) all
 
@@ -157,7 +180,8 @@ hex_plain c is = go (nat_le 65 c && nat_le c 70) (nat_le 97 c && nat_le c 102) (
 
 octets_plain : (octets : List ℕ) → IsBytes octets → IsPlain (encode_upper octets)
 octets_plain octets bytes i x is =
-    hex_plain _ ((decode_of-ok (encode_upper octets) octets (decode_of-encode_upper octets bytes)).1 i x is)
+    hex_plain _ ((decode_of-ok (encode_upper octets) octets (decode_of-encode_upper octets bytes)).1
+    i x is)
 
 octets_read : (octets : List ℕ) → IsBytes octets → octets_in_hex (encode_upper octets) ≡ Some octets
 octets_read octets bytes = ap result_ok (decode_of-encode_upper octets bytes)
@@ -202,7 +226,8 @@ lined_gap : (a b c d text : List ℕ) → (((((a ++ b) ++ c) ++ 32 ∷ []) ++ d)
     ≡ (a ++ (b ++ (c ++ 32 ∷ d))) ++ 10 ∷ text
 lined_gap a b c d text =
     append_assoc ((((a ++ b) ++ c) ++ 32 ∷ []) ++ d) (10 ∷ []) text
-    ∙ ap (λ (l : List ℕ). l ++ 10 ∷ text) (append_assoc ((a ++ b) ++ c) (32 ∷ []) d ∙ append_assoc (a ++ b) c (32 ∷ d)
+    ∙ ap (λ (l : List ℕ). l ++ 10 ∷ text) (append_assoc ((a ++ b) ++ c) (32 ∷ []) d
+    ∙ append_assoc (a ++ b) c (32 ∷ d)
     ∙ append_assoc a b (c ++ 32 ∷ d))
 
 -- a line of fields that tells this entry
@@ -240,9 +265,11 @@ moment_plain : (now : ℕ) → now < 2 ^ 64 → IsPlain (decimal now)
 moment_plain now lt = number_plain now (omega arith)
 
 gap_read : (station session : ℕ) → station < 2 ^ 64 → session < 2 ^ 64
-    → gap_at (number_in (decimal (station + 1))) (number_in (decimal session)) ≡ Some (GapOut station session)
+    → gap_at (number_in (decimal (station + 1))) (number_in (decimal session))
+    ≡ Some (GapOut station session)
 gap_read station session lt less =
-    ap (λ (o : Option ℕ). gap_at o (number_in (decimal session))) (number_read (station + 1) (omega arith))
+    ap (λ (o : Option ℕ). gap_at o (number_in (decimal session)))
+    (number_read (station + 1) (omega arith))
     ∙ ap (gap_at (Some (station + 1))) (number_read session (omega arith))
     ∙ ap (λ (b : Bool). if b then Some (GapOut ((station + 1) - 1) session) else None) above
     ∙ ap (λ (n : ℕ). Some (GapOut n session)) same
@@ -300,32 +327,42 @@ event_shaped now (WallIs number) lt ok =
 action_shaped : (now : ℕ) (action : Output) → now < 2 ^ 64 → IsPrintableAction action
     → IsShaped (line_of now action) (Went now action)
 action_shaped now (LineOut octets) lt ok =
-    shaped (line_of now (LineOut octets)) (decimal now) ((62 ∷ []) ∷ (83 ∷ []) ∷ encode_upper octets ∷ [])
+    shaped (line_of now (LineOut octets)) (decimal now) ((62 ∷ []) ∷ (83 ∷ []) ∷ encode_upper octets
+    ∷ [])
     (Went now (LineOut octets))
     (lined (decimal now) (32 ∷ 62 ∷ 32 ∷ 83 ∷ 32 ∷ []) (encode_upper octets)) (moment_plain now lt)
     (word 62 (omega arith), (word 83 (omega arith), (octets_plain octets ok, tt)))
     (went now (option_map LineOut (octets_in_hex (encode_upper octets))) (LineOut octets) lt
     (ap (option_map LineOut) (octets_read octets ok)))
 action_shaped now (TcpOut octets) lt ok =
-    shaped (line_of now (TcpOut octets)) (decimal now) ((62 ∷ []) ∷ (84 ∷ []) ∷ encode_upper octets ∷ [])
+    shaped (line_of now (TcpOut octets)) (decimal now) ((62 ∷ []) ∷ (84 ∷ []) ∷ encode_upper octets
+    ∷ [])
     (Went now (TcpOut octets))
     (lined (decimal now) (32 ∷ 62 ∷ 32 ∷ 84 ∷ 32 ∷ []) (encode_upper octets)) (moment_plain now lt)
     (word 62 (omega arith), (word 84 (omega arith), (octets_plain octets ok, tt)))
     (went now (option_map TcpOut (octets_in_hex (encode_upper octets))) (TcpOut octets) lt
     (ap (option_map TcpOut) (octets_read octets ok)))
 action_shaped now (Closed cause) lt ok =
-    shaped (line_of now (Closed cause)) (decimal now) ((62 ∷ []) ∷ (88 ∷ []) ∷ decimal (number_of cause) ∷ [])
+    shaped (line_of now (Closed cause)) (decimal now) ((62 ∷ []) ∷ (88 ∷ [])
+    ∷ decimal (number_of cause) ∷ [])
     (Went now (Closed cause))
-    (lined (decimal now) (32 ∷ 62 ∷ 32 ∷ 88 ∷ 32 ∷ []) (decimal (number_of cause))) (moment_plain now lt)
-    (word 62 (omega arith), (word 88 (omega arith), (number_plain (number_of cause) (cause_small cause), tt)))
-    (went now (option_map Closed (option_and_then cause_numbered (number_in (decimal (number_of cause)))))
+    (lined (decimal now) (32 ∷ 62 ∷ 32 ∷ 88 ∷ 32 ∷ []) (decimal (number_of cause)))
+    (moment_plain now lt) (
+      word 62 (omega arith),
+      (word 88 (omega arith), (number_plain (number_of cause) (cause_small cause), tt)),
+    )
+    (went now
+    (option_map Closed (option_and_then cause_numbered (number_in (decimal (number_of cause)))))
     (Closed cause) lt
     (ap (λ (o : Option ℕ). option_map Closed (option_and_then cause_numbered o))
-    (number_read (number_of cause) (cause_small cause)) ∙ ap (option_map Closed) (cause_read cause)))
+    (number_read (number_of cause) (cause_small cause))
+    ∙ ap (option_map Closed) (cause_read cause)))
 action_shaped now (GapOut station session) lt ok =
-    shaped (line_of now (GapOut station session)) (decimal now) ((62 ∷ []) ∷ (71 ∷ []) ∷ decimal (station + 1)
+    shaped (line_of now (GapOut station session)) (decimal now) ((62 ∷ []) ∷ (71 ∷ [])
+    ∷ decimal (station + 1)
     ∷ decimal session ∷ []) (Went now (GapOut station session))
-    (lined_gap (decimal now) (32 ∷ 62 ∷ 32 ∷ 71 ∷ 32 ∷ []) (decimal (station + 1)) (decimal session))
+    (lined_gap (decimal now) (32 ∷ 62 ∷ 32 ∷ 71 ∷ 32 ∷ []) (decimal (station + 1))
+    (decimal session))
     (moment_plain now lt) (
       word 62 (omega arith),
       (
@@ -333,7 +370,8 @@ action_shaped now (GapOut station session) lt ok =
         (number_plain (station + 1) (omega (arith, ok.0)), (moment_plain session ok.1, tt)),
       ),
     )
-    (went now (gap_at (number_in (decimal (station + 1))) (number_in (decimal session))) (GapOut station session) lt
+    (went now (gap_at (number_in (decimal (station + 1))) (number_in (decimal session)))
+    (GapOut station session) lt
     (gap_read station session ok.0 ok.1))
 
 entry_shaped : (entry : LogEntry) → IsPrintable entry → IsShaped (line_of_entry entry) entry
@@ -376,7 +414,8 @@ log_unmarked (entry ∷ log) all =
     ∙ ap (λ b. b || list_any (λ b. b == 33) (line_of_entry entry)) (log_unmarked log all.1)
     ∙ entry_unmarked entry all.0
 
-told_reversed : (log : Log) (entries : List LogEntry) → told_before log (Some entries) ≡ Some (reverse log ++ entries)
+told_reversed : (log : Log) (entries : List LogEntry) → told_before log (Some entries)
+    ≡ Some (reverse log ++ entries)
 told_reversed [] entries = refl
 told_reversed (entry ∷ log) entries =
     told_reversed log (entry ∷ entries)
@@ -384,7 +423,8 @@ told_reversed (entry ∷ log) entries =
     (sym (ap (λ (l : List LogEntry). l ++ entries) (reverse-append (entry ∷ []) log)
     ∙ append_assoc (reverse log) (entry ∷ []) entries))
 
-pub log_read : (log : Log) → AllByRecursion IsPrintable log → entries_in (lines_of_log log) ≡ Some (reverse log)
+pub log_read : (log : Log) → AllByRecursion IsPrintable log → entries_in (lines_of_log log)
+    ≡ Some (reverse log)
 log_read log all =
     ap entries_in (sym (append-nil (lines_of_log log))) ∙ log_before log [] all
     ∙ told_reversed log [] ∙ ap (λ (l : List LogEntry). Some l) (append-nil (reverse log))
@@ -393,7 +433,8 @@ log_read log all =
 abbrev actions_before : Log → Option (List LogEntry) → Option (List LogEntry)
 actions_before [] after = after
 actions_before (Came now event ∷ log) after = actions_before log after
-actions_before (Went now action ∷ log) after = actions_before log (before_those (Some (Went now action)) after)
+actions_before (Went now action ∷ log) after =
+    actions_before log (before_those (Some (Went now action)) after)
 
 lines_before : (log : Log) (text : List ℕ) → ArePrinted log
     → entries_in (lines_of_actions log ++ text) ≡ actions_before log (entries_in text)
@@ -410,9 +451,11 @@ actions_told [] entries = refl
 actions_told (Came now event ∷ log) entries = actions_told log entries
 actions_told (Went now action ∷ log) entries =
     actions_told log (Went now action ∷ entries)
-    ∙ ap (λ (l : List LogEntry). Some l) (sym (append_assoc (actions_of log) (Went now action ∷ []) entries))
+    ∙ ap (λ (l : List LogEntry). Some l)
+    (sym (append_assoc (actions_of log) (Went now action ∷ []) entries))
 
-pub actions_printed : (log : Log) → ArePrinted log → entries_in (lines_of_actions log) ≡ Some (actions_of log)
+pub actions_printed : (log : Log) → ArePrinted log → entries_in (lines_of_actions log)
+    ≡ Some (actions_of log)
 actions_printed log all =
     ap entries_in (sym (append-nil (lines_of_actions log))) ∙ lines_before log [] all
     ∙ actions_told log [] ∙ ap (λ (l : List LogEntry). Some l) (append-nil (actions_of log))
@@ -441,7 +484,8 @@ decimal_read n le = go (nat_le 1 (length (decimal n)) && nat_le (length (decimal
     within : (nat_le 1 (length (decimal n)) && nat_le (length (decimal n)) 15) ≡ true
     within =
         let some : 0 < length (decimal n) = is.0.0 in
-        let most : length (decimal n) ≤ 15 = length-decimal-le_wide 15 n (omega arith) (omega arith) (omega arith) in
+        let most : length (decimal n) ≤ 15 = length-decimal-le_wide 15 n (omega arith) (omega arith)
+        (omega arith) in
         grind arith
 
     go : (b : Bool) → b ≡ true → (if b then digits_after 0 (decimal n) else None) ≡ Some n
@@ -459,9 +503,11 @@ octets_fit octets bytes least most =
     within = grind arith
 
 -- a line that begins with a number is neither empty nor a comment
-not_skipped : (digits rest : List ℕ) → 0 < length digits → AllDigits 10 digits → is_skipped (digits ++ rest) ≡ false
+not_skipped : (digits rest : List ℕ) → 0 < length digits → AllDigits 10 digits
+    → is_skipped (digits ++ rest) ≡ false
 not_skipped [] rest some all = absurd (omega arith)
-not_skipped (d ∷ ds) rest some all = let low : 48 ≤ d = omega (arith, digit_from_value d all.0) in other d low
+not_skipped (d ∷ ds) rest some all = let low : 48 ≤ d = omega (arith, digit_from_value d all.0) in
+    other d low
   where
     other : (b : ℕ) → 48 ≤ b → (b == 35) ≡ false
     other b le = grind arith
@@ -471,20 +517,24 @@ numbered now rest le =
     let is = decimal_is_IsNumeral_wide now (omega arith) in
     not_skipped (decimal now) rest is.0.0 is.0.1
 
-first_of : (entry : Entry) (whole text : List ℕ) (now : ℕ) (next : List ℕ) (fields : List (List ℕ)) → now ≤ last_moment
+first_of : (entry : Entry) (whole text : List ℕ) (now : ℕ) (next : List ℕ) (fields : List (List ℕ))
+    → now ≤ last_moment
     → whole ≡ spaced (decimal now) (next ∷ fields) ++ 10 ∷ text →
-    IsPlain next → AllByRecursion IsPlain fields → event_from (decimal now ∷ next ∷ fields) ≡ Some (event_of entry)
+    IsPlain next → AllByRecursion IsPlain fields → event_from (decimal now ∷ next ∷ fields)
+    ≡ Some (event_of entry)
     → IsFirstOf entry whole text
 first_of entry whole text now next fields le same plain all is = record {
   line = spaced (decimal now) (next ∷ fields);
   lines =
       ap lines_of same
       ∙ slice_split_at (λ b. b == 10) (spaced (decimal now) (next ∷ fields)) 10 text
-      (spaced_line (decimal now) (next ∷ fields) (moment_plain now (moment_small now le)) (plain, all)) refl;
+      (spaced_line (decimal now) (next ∷ fields) (moment_plain now (moment_small now le))
+      (plain, all)) refl;
   told =
       ap (λ (b : Bool). if b then None else event_in (spaced (decimal now) (next ∷ fields)))
       (numbered now (32 ∷ spaced next fields) le)
-      ∙ ap event_from (spaced_fields (decimal now) (next ∷ fields) (moment_plain now (moment_small now le)) (
+      ∙ ap event_from (spaced_fields (decimal now) (next ∷ fields)
+      (moment_plain now (moment_small now le)) (
         plain,
         all,
       ))
@@ -494,33 +544,43 @@ first_of entry whole text now next fields le same plain all is = record {
 pub event_told : (entry : Entry) (text : List ℕ) → FitsTrace entry
     → IsFirstOf entry (line_of_entry (logged entry) ++ text) text
 event_told (entries.Line now octets) text fits =
-    first_of (entries.Line now octets) (line_of_entry (logged (entries.Line now octets)) ++ text) text now (83 ∷ [])
+    first_of (entries.Line now octets) (line_of_entry (logged (entries.Line now octets)) ++ text)
+    text now (83 ∷ [])
     (encode_upper octets.items ∷ []) fits.0
-    (lined (decimal now) (32 ∷ 83 ∷ 32 ∷ []) (encode_upper octets.items) text) (word 83 (omega arith))
+    (lined (decimal now) (32 ∷ 83 ∷ 32 ∷ []) (encode_upper octets.items) text)
+    (word 83 (omega arith))
     (octets_plain octets.items fits.1, tt)
-    (ap (λ (o : Option ℕ). octets_at o (83 ∷ []) (octets_of (encode_upper octets.items))) (decimal_read now fits.0)
+    (ap (λ (o : Option ℕ). octets_at o (83 ∷ []) (octets_of (encode_upper octets.items)))
+    (decimal_read now fits.0)
     ∙ ap (octets_at (Some now) (83 ∷ [])) (octets_fit octets.items fits.1 fits.2 fits.3))
 event_told (entries.Bytes now octets) text fits =
-    first_of (entries.Bytes now octets) (line_of_entry (logged (entries.Bytes now octets)) ++ text) text now (82 ∷ [])
+    first_of (entries.Bytes now octets) (line_of_entry (logged (entries.Bytes now octets)) ++ text)
+    text now (82 ∷ [])
     (encode_upper octets.items ∷ []) fits.0
-    (lined (decimal now) (32 ∷ 82 ∷ 32 ∷ []) (encode_upper octets.items) text) (word 82 (omega arith))
+    (lined (decimal now) (32 ∷ 82 ∷ 32 ∷ []) (encode_upper octets.items) text)
+    (word 82 (omega arith))
     (octets_plain octets.items fits.1, tt)
-    (ap (λ (o : Option ℕ). octets_at o (82 ∷ []) (octets_of (encode_upper octets.items))) (decimal_read now fits.0)
+    (ap (λ (o : Option ℕ). octets_at o (82 ∷ []) (octets_of (encode_upper octets.items)))
+    (decimal_read now fits.0)
     ∙ ap (octets_at (Some now) (82 ∷ [])) (octets_fit octets.items fits.1 fits.2 fits.3))
 event_told (entries.Open now) text fits =
-    first_of (entries.Open now) (line_of_entry (logged (entries.Open now)) ++ text) text now (79 ∷ []) [] fits
+    first_of (entries.Open now) (line_of_entry (logged (entries.Open now)) ++ text) text now
+    (79 ∷ []) [] fits
     (lined_two (decimal now) (32 ∷ 79 ∷ []) text) (word 79 (omega arith)) tt
     (ap (λ (o : Option ℕ). bare_at o (79 ∷ [])) (decimal_read now fits))
 event_told (entries.Cut now) text fits =
-    first_of (entries.Cut now) (line_of_entry (logged (entries.Cut now)) ++ text) text now (67 ∷ []) [] fits
+    first_of (entries.Cut now) (line_of_entry (logged (entries.Cut now)) ++ text) text now (67 ∷ [])
+    [] fits
     (lined_two (decimal now) (32 ∷ 67 ∷ []) text) (word 67 (omega arith)) tt
     (ap (λ (o : Option ℕ). bare_at o (67 ∷ [])) (decimal_read now fits))
 event_told (entries.Tick now) text fits =
-    first_of (entries.Tick now) (line_of_entry (logged (entries.Tick now)) ++ text) text now (84 ∷ []) [] fits
+    first_of (entries.Tick now) (line_of_entry (logged (entries.Tick now)) ++ text) text now
+    (84 ∷ []) [] fits
     (lined_two (decimal now) (32 ∷ 84 ∷ []) text) (word 84 (omega arith)) tt
     (ap (λ (o : Option ℕ). bare_at o (84 ∷ [])) (decimal_read now fits))
 event_told (entries.Wall now number) text fits =
-    first_of (entries.Wall now number) (line_of_entry (logged (entries.Wall now number)) ++ text) text now (87 ∷ [])
+    first_of (entries.Wall now number) (line_of_entry (logged (entries.Wall now number)) ++ text)
+    text now (87 ∷ [])
     (decimal number ∷ []) fits.0
     (lined (decimal now) (32 ∷ 87 ∷ 32 ∷ []) (decimal number) text) (word 87 (omega arith))
     (moment_plain number (moment_small number fits.1), tt)

@@ -1,5 +1,6 @@
 -- Lines one by one.
-use Rattle.std.proofs.Common.{◌≡◌, ℕ, ◌+◌, List, [], ◌∷◌, ◌++◌, map, true, false, Some, None, append_assoc}
+use Rattle.std.proofs.Common.{◌≡◌, ℕ, ◌+◌, List, [], ◌∷◌, ◌++◌, map, true, false, Some, None}
+use Rattle.std.proofs.Common.{append_assoc}
 use Rattle.std.proofs.lemmas.List.{append-nil, map-append}
 use Rattle.std.specs.List.{filter_map, AllByRecursion}
 use Rattle.gateway.specs.declared.entries.Entry.{Entry}
@@ -16,21 +17,27 @@ pub told_skip : (es : List Entry) (lines rest : List (List ℕ)) (line : List �
     → is_skipped line ≡ true → with_told es rest ≡ with_told es lines
 told_skip es lines rest line is e = rw (is, e)
 
-pub wrong_skip : (n : ℕ) (lines rest : List (List ℕ)) (line : List ℕ) → lines ≡ line ∷ rest → is_skipped line ≡ true
+pub wrong_skip : (n : ℕ) (lines rest : List (List ℕ)) (line : List ℕ) → lines ≡ line ∷ rest
+    → is_skipped line ≡ true
     → first_wrong (n + 1) rest ≡ first_wrong n lines
 wrong_skip n lines rest line is e = rw (is, e)
 
 -- a line that is an event tells it and isn't wrong
-pub told_next : (es : List Entry) (x : Entry) (lines rest : List (List ℕ)) (line : List ℕ) → lines ≡ line ∷ rest
-    → is_skipped line ≡ false → event_in line ≡ Some (event_of x) → with_told (es ++ x ∷ []) rest ≡ with_told es lines
+pub told_next : (es : List Entry) (x : Entry) (lines rest : List (List ℕ)) (line : List ℕ)
+    → lines ≡ line ∷ rest
+    → is_skipped line ≡ false → event_in line ≡ Some (event_of x) → with_told (es ++ x ∷ []) rest
+    ≡ with_told es lines
 told_next es x lines rest line is e some = rw (is, e, some, map-append, append_assoc)
 
-pub wrong_next : (n : ℕ) (x : Event) (lines rest : List (List ℕ)) (line : List ℕ) → lines ≡ line ∷ rest
-    → is_skipped line ≡ false → event_in line ≡ Some x → first_wrong (n + 1) rest ≡ first_wrong n lines
+pub wrong_next : (n : ℕ) (x : Event) (lines rest : List (List ℕ)) (line : List ℕ)
+    → lines ≡ line ∷ rest
+    → is_skipped line ≡ false → event_in line ≡ Some x → first_wrong (n + 1) rest
+    ≡ first_wrong n lines
 wrong_next n x lines rest line is e some = rw (is, e, some)
 
 -- another line is wrong
-pub wrong_here : (n : ℕ) (lines rest : List (List ℕ)) (line : List ℕ) → lines ≡ line ∷ rest → is_skipped line ≡ false
+pub wrong_here : (n : ℕ) (lines rest : List (List ℕ)) (line : List ℕ) → lines ≡ line ∷ rest
+    → is_skipped line ≡ false
     → event_in line ≡ None → first_wrong n lines ≡ Some n
 wrong_here n lines rest line is e none = rw (is, e, none)
 

@@ -1,5 +1,6 @@
 -- A port over the entries of a trace, call by call.
-use Rattle.std.proofs.Common.{◌≡◌, ℕ, false, List, [], ◌∷◌, ◌++◌, map, reverse, Option, refl, ap, sym, ◌∙◌, subst, append_assoc}
+use Rattle.std.proofs.Common.{◌≡◌, ℕ, false, List, [], ◌∷◌, ◌++◌, map, reverse, Option, refl, ap}
+use Rattle.std.proofs.Common.{sym, ◌∙◌, subst, append_assoc}
 use Rattle.std.proofs.lemmas.List.{reverse-append}
 use Rattle.std.specs.Io.KnownBytes.{Appends}
 use Rattle.std.specs.Prelude.{is_err, Result, Ok, Err, OnOk}
@@ -12,7 +13,8 @@ use Rattle.gateway.specs.declared.entries.Told.{Told}
 use Rattle.traces.specs.Actions.{line_of, lines_of_actions}
 
 -- what is stored last is the newest
-stored_next : (xs : List Told) (x : Told) (log : Log) → stored_log (xs ++ x ∷ []) log ≡ told_of x ∷ stored_log xs log
+stored_next : (xs : List Told) (x : Told) (log : Log) → stored_log (xs ++ x ∷ []) log
+    ≡ told_of x ∷ stored_log xs log
 stored_next [] x log = refl
 stored_next (y ∷ xs) x log = stored_next xs x (told_of y ∷ log)
 
@@ -24,7 +26,8 @@ pub first_left : (xs : List Entry) (x : Entry) → reverse (xs ++ x ∷ []) ≡ 
 first_left xs x = reverse-append xs (x ∷ [])
 
 -- an event of an entry has no line
-pub no_line : (entry : Entry) (log : Log) → lines_of_actions (event_of entry ∷ log) ≡ lines_of_actions log
+pub no_line : (entry : Entry) (log : Log) → lines_of_actions (event_of entry ∷ log)
+    ≡ lines_of_actions log
 no_line (Line now octets) log = refl
 no_line (Open now) log = refl
 no_line (Bytes now octets) log = refl
@@ -34,27 +37,38 @@ no_line (Wall now number) log = refl
 
 -- an entry that came is no longer to come
 pub script_next : (entry : Entry) (log : Log) (left : List Entry)
-    → events_of (event_of entry ∷ log) ++ map event_of left ≡ events_of log ++ map event_of (entry ∷ left)
-script_next (Line now octets) log left = append_assoc (events_of log) (event_of (Line now octets) ∷ [])
+    → events_of (event_of entry ∷ log) ++ map event_of left
+    ≡ events_of log ++ map event_of (entry ∷ left)
+script_next (Line now octets) log left =
+    append_assoc (events_of log) (event_of (Line now octets) ∷ [])
     (map event_of left)
-script_next (Open now) log left = append_assoc (events_of log) (event_of (Open now) ∷ []) (map event_of left)
-script_next (Bytes now octets) log left = append_assoc (events_of log) (event_of (Bytes now octets) ∷ [])
+script_next (Open now) log left = append_assoc (events_of log) (event_of (Open now) ∷ [])
     (map event_of left)
-script_next (Cut now) log left = append_assoc (events_of log) (event_of (Cut now) ∷ []) (map event_of left)
-script_next (Tick now) log left = append_assoc (events_of log) (event_of (Tick now) ∷ []) (map event_of left)
-script_next (Wall now number) log left = append_assoc (events_of log) (event_of (Wall now number) ∷ [])
+script_next (Bytes now octets) log left =
+    append_assoc (events_of log) (event_of (Bytes now octets) ∷ [])
+    (map event_of left)
+script_next (Cut now) log left = append_assoc (events_of log) (event_of (Cut now) ∷ [])
+    (map event_of left)
+script_next (Tick now) log left = append_assoc (events_of log) (event_of (Tick now) ∷ [])
+    (map event_of left)
+script_next (Wall now number) log left =
+    append_assoc (events_of log) (event_of (Wall now number) ∷ [])
     (map event_of left)
 
 -- An action that was put: its line went out, and it is stored.
 
-pub log_put : (xs ys zs : List Told) (told : Told) (entry : LogEntry) → told_of told ≡ entry → ys ≡ xs
+pub log_put : (xs ys zs : List Told) (told : Told) (entry : LogEntry) → told_of told ≡ entry
+    → ys ≡ xs
     → zs ≡ ys ++ told ∷ [] → log_of zs ≡ entry ∷ log_of xs
-log_put xs ys zs told entry is same put = ap log_of put ∙ log_next ys told ∙ ap (λ e. e ∷ log_of ys) is
+log_put xs ys zs told entry is same put = ap log_of put ∙ log_next ys told
+    ∙ ap (λ e. e ∷ log_of ys) is
     ∙ ap (λ l. entry ∷ log_of l) same
 
-pub lines_put : (before old new : Option (List ℕ)) (xs ys zs : List Told) (told : Told) (line : List ℕ) (now : ℕ)
+pub lines_put : (before old new : Option (List ℕ)) (xs ys zs : List Told) (told : Told)
+    (line : List ℕ) (now : ℕ)
     (action : Output) →
-    Appends before old (lines_of_actions (log_of xs)) → Appends old new line → line ≡ line_of now action
+    Appends before old (lines_of_actions (log_of xs)) → Appends old new line
+    → line ≡ line_of now action
     → told_of told ≡ Went now action → ys ≡ xs → zs ≡ ys ++ told ∷ []
     → Appends before new (lines_of_actions (log_of zs))
 lines_put before old new xs ys zs told line now action had got text is same put =

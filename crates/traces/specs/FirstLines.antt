@@ -1,6 +1,8 @@
 -- How a text is read from its front (texts of this gateway's own profile): its first line, field by
 -- field, with octets that are still in hexadecimal.
-use Rattle.std.specs.Prelude.{◌≡◌, ◌<◌, ◌≤◌, ◌+◌, ◌*◌, ◌&&◌, nat_lt, ℕ, ◌==◌, ◌||◌, Bool, true, false, List, [], ◌∷◌, ◌++◌, length, take, drop, slice_index, Option, Some, None, is_some, option_map, Ok}
+use Rattle.std.specs.Prelude.{◌≡◌, ◌<◌, ◌≤◌, ◌+◌, ◌*◌, ◌&&◌, nat_lt, ℕ, ◌==◌, ◌||◌, Bool, true}
+use Rattle.std.specs.Prelude.{false, List, [], ◌∷◌, ◌++◌, length, take, drop, slice_index, Option}
+use Rattle.std.specs.Prelude.{Some, None, is_some, option_map, Ok}
 use Rattle.std.specs.Borrow.{Bor}
 use Rattle.std.specs.Char.{is_ascii_digit}
 use Rattle.std.specs.List.{slice_split, list_all}
@@ -12,7 +14,8 @@ use Rattle.traces.specs.declared.event.Spelled.TheVariants as spellings
 use Rattle.traces.specs.declared.event.FirstLine.{FirstLine}
 use Rattle.traces.specs.declared.event.FirstLine.TheVariants as firsts
 use Rattle.traces.specs.Fields.{decimal_of, octets_of, parts_after}
-use Rattle.traces.specs.Event.{Event, line, opening, received, cut, tick, wall, bare_event, valued_at, event_in}
+use Rattle.traces.specs.Event.{Event, line, opening, received, cut, tick, wall, bare_event}
+use Rattle.traces.specs.Event.{valued_at, event_in}
 use Rattle.traces.specs.Trace.{lines_of, is_skipped}
 
 abbrev pub first_of : List (List ℕ) → List ℕ

@@ -1,6 +1,7 @@
 -- The text of a log (texts of this gateway's own profile): a line for each event, as a trace has
 -- it, and one for each action, as a run prints it; and what such a text tells, line by line.
-use Rattle.std.specs.Prelude.{◌≡◌, ℕ, ◌-◌, ◌<◌, ◌≤◌, ◌^◌, ◌==◌, nat_le, ◌&&◌, false, if◌then◌else◌, List, [], ◌∷◌, ◌++◌, codes, length, Option, Some, None, option_map}
+use Rattle.std.specs.Prelude.{◌≡◌, ℕ, ◌-◌, ◌<◌, ◌≤◌, ◌^◌, ◌==◌, nat_le, ◌&&◌, false, if◌then◌else◌}
+use Rattle.std.specs.Prelude.{List, [], ◌∷◌, ◌++◌, codes, length, Option, Some, None, option_map}
 use Rattle.std.specs.Option.{option_and_then}
 use Rattle.std.specs.Result.{result_ok}
 use Rattle.std.specs.List.{list_any, slice_split}
@@ -8,7 +9,8 @@ use Rattle.std.specs.Str.{bytes_eq}
 use Rattle.std.specs.Fmt.{decimal}
 use Rattle.hex.specs.Hex.{encode_upper, decode_of, IsBytes}
 use Rattle.session.specs.declared.kinds.Close.{Close}
-use Rattle.gateway.specs.Log.{Log, LogEntry, Came, Went, Input, LineIn, Opened, TcpIn, CutOff, Ticked, WallIs, Output, LineOut, TcpOut, Closed, GapOut, last_moment}
+use Rattle.gateway.specs.Log.{Log, LogEntry, Came, Went, Input, LineIn, Opened, TcpIn, CutOff}
+use Rattle.gateway.specs.Log.{Ticked, WallIs, Output, LineOut, TcpOut, Closed, GapOut, last_moment}
 use Rattle.gateway.specs.Entries.{cause_of, told_of}
 use Rattle.gateway.specs.declared.entries.Entry.{Entry}
 use Rattle.gateway.specs.declared.entries.Entry.TheVariants as entries
@@ -20,6 +22,11 @@ use Rattle.traces.specs.Event.{event_of}
 use Rattle.traces.specs.Trace.{lines_of, told}
 
 -- Printing
+
+-- an event with octets, by its letter
+abbrev pub event_line : (now letter : ℕ) → (octets : List ℕ) → List ℕ
+event_line now letter octets =
+    decimal now ++ (32 ∷ letter ∷ 32 ∷ []) ++ encode_upper octets ++ 10 ∷ []
 
 -- octets from the line (S), a connection opens (O), octets from it (R), it is cut (C), a tick (T),
 -- or the wall clock (W)

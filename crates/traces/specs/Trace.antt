@@ -1,6 +1,7 @@
 -- The text of a trace (this gateway's own profile): lines ended by line feeds, each an event, empty
 -- or a comment.
-use Rattle.std.specs.Prelude.{◌≡◌, ℕ, ◌+◌, ◌==◌, ◌&&◌, not, Bool, true, if◌then◌else◌, List, [], ◌∷◌, map, Option, Some, None, Result, Vec, MatchResult}
+use Rattle.std.specs.Prelude.{◌≡◌, ℕ, ◌+◌, ◌==◌, ◌&&◌, not, Bool, true, if◌then◌else◌, List, []}
+use Rattle.std.specs.Prelude.{◌∷◌, map, Option, Some, None, Result, Vec, MatchResult}
 use Rattle.std.specs.List.{slice_split, filter_map}
 use Rattle.std.specs.Option.{is_none}
 use Rattle.std.specs.declared.alloc.Global.{Global}

@@ -1,11 +1,14 @@
 //! The first line of a text.
-ghost use Rattle.std.specs.Prelude.{◌≡◌, ◌≤◌, ◌∷◌, [], true, false, Some, IfOk, IfSome, OnSome, is_some, length, option_map};
+ghost use Rattle.std.specs.Prelude.{◌≡◌, ◌≤◌, ◌∷◌, [], true, false, Some, IfOk, IfSome, OnSome};
+ghost use Rattle.std.specs.Prelude.{is_some, length, option_map};
 ghost use Rattle.std.specs.Option.{option_copied};
 ghost use Rattle.gateway.specs.Entries.{FitsPort};
 ghost use Rattle.gateway.specs.Ports.{FitsBuffer, told_by};
 ghost use Rattle.traces.specs.Event.{event_of, bare_event};
 ghost use Rattle.traces.specs.Fields.{octets_of, parts_after};
-ghost use Rattle.traces.specs.FirstLines.{IsFirstLine, IsEventAt, IsEventBehind, IsMomentAt, IsValued, ends_field, first_line, later_lines, lines_in, octets_in, rest_of, spelled_by, spelled_event};
+ghost use Rattle.traces.specs.FirstLines.{IsFirstLine, IsEventAt, IsEventBehind, IsMomentAt};
+ghost use Rattle.traces.specs.FirstLines.{IsValued, ends_field, first_line, later_lines, lines_in};
+ghost use Rattle.traces.specs.FirstLines.{octets_in, rest_of, spelled_by, spelled_event};
 ghost use Rattle.traces.specs.Progress.{came, tells_event};
 ghost use Rattle.traces.specs.Trace.{is_skipped};
 

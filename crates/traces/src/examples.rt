@@ -1,7 +1,10 @@
 //! The lines of events and actions by worked examples: literal texts.
 ghost use Rattle.std.specs.Prelude.{◌≡◌, ◌++◌, ◌∷◌, [], codes};
-ghost use Rattle.gateway.specs.Log.{LineIn, Opened, TcpIn, CutOff, Ticked, WallIs, LineOut, TcpOut, Closed, GapOut};
-ghost use Rattle.session.specs.declared.kinds.Close.TheVariants.{Grammar, SendNumber, ReceiveNumber, Stopped, Timeout, OwnAnswers, Replaced};
+ghost use Rattle.gateway.specs.Log.{LineIn, Opened, TcpIn, CutOff, Ticked, WallIs, LineOut, TcpOut};
+ghost use Rattle.gateway.specs.Log.{Closed, GapOut};
+ghost use Rattle.session.specs.declared.kinds.Close.TheVariants.{Grammar, SendNumber};
+ghost use Rattle.session.specs.declared.kinds.Close.TheVariants.{ReceiveNumber, Stopped, Timeout};
+ghost use Rattle.session.specs.declared.kinds.Close.TheVariants.{OwnAnswers, Replaced};
 ghost use Rattle.traces.specs.Actions.{line_of};
 ghost use Rattle.traces.specs.Printed.{line_of_event};
 

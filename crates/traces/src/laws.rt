@@ -5,7 +5,8 @@ ghost use Rattle.gateway.specs.Entries.{event_of};
 ghost use Rattle.gateway.specs.Log.{Log, LogEntry};
 ghost use Rattle.gateway.specs.declared.entries.Entry.{Entry};
 ghost use Rattle.traces.specs.Actions.{lines_of_actions};
-ghost use Rattle.traces.specs.Printed.{HasNoMark, IsPrintable, FitsTrace, IsFirstOf, line_of_entry, lines_of_log, entries_in, before_those, actions_of};
+ghost use Rattle.traces.specs.Printed.{HasNoMark, IsPrintable, FitsTrace, IsFirstOf, line_of_entry};
+ghost use Rattle.traces.specs.Printed.{lines_of_log, entries_in, before_those, actions_of};
 
 /// What is printed reads back: the line of an event or an action, with its line feed, is read as
 /// that very entry, whatever text follows it; so a log is read back from its lines, and so are its

@@ -54,7 +54,7 @@ fn far_place(text: &[u8], separator: u8) -> Option<usize>
 /// The part of a text before its first separator, and what follows that, where there is one.
 #[tactic(auto, using(crate::proofs::LineLemmas::cut_here, crate::proofs::LineLemmas::cut_nowhere))]
 #[inline(always)]
-pub(crate) fn cut(text: &[u8], separator: u8) -> (&[u8], Option<&[u8]>)
+pub fn cut(text: &[u8], separator: u8) -> (&[u8], Option<&[u8]>)
     ensures { slice_split (λ b. b == separator) text.entry.now
         ≡ result.0.now ∷ parts_after separator (option_copied result.1) }
 {

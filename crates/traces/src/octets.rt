@@ -1,10 +1,13 @@
 //! Octets in hexadecimal.
-ghost use Rattle.std.specs.Prelude.{◌≡◌, ◌+◌, ◌<◌, false, slice_index, ◌==◌, ◌*◌, ◌%◌, ◌≤◌, ◌&&◌, nat_le, nat_lt, true, Some, None, Ok, IfOk, IfSome, if◌then◌else◌, is_some, length, option_map, string_bytes, take};
+ghost use Rattle.std.specs.Prelude.{◌≡◌, ◌+◌, ◌<◌, false, slice_index, ◌==◌, ◌*◌, ◌%◌, ◌≤◌, ◌&&◌};
+ghost use Rattle.std.specs.Prelude.{nat_le, nat_lt, true, Some, None, Ok, IfOk, IfSome};
+ghost use Rattle.std.specs.Prelude.{if◌then◌else◌, is_some, length, option_map, string_bytes, take};
 ghost use Rattle.hex.specs.Hex.{IsBytes, encode_upper, hex_digit_value, is_hex_digit};
 ghost use Rattle.std.specs.List.{list_all};
 ghost use Rattle.std.specs.Option.{option_copied};
 ghost use Rattle.traces.specs.Fields.{octets_of, parts_after};
-ghost use Rattle.traces.specs.FirstLines.{AreDigitsTo, ArePairs, DigitsEnd, IsDigitsLine, IsOctetsLine, IsPair, Paired, first_line, later_lines};
+ghost use Rattle.traces.specs.FirstLines.{AreDigitsTo, ArePairs, DigitsEnd, IsDigitsLine};
+ghost use Rattle.traces.specs.FirstLines.{IsOctetsLine, IsPair, Paired, first_line, later_lines};
 
 use crate::reading::LINE_FEED;
 use hex::FromHexError;
@@ -265,10 +268,86 @@ fn write_each(text: &[u8], buf: &mut [u8; 1024], from: usize, limit: usize) -> u
     limit
 }
 
+/// So many pairs are decoded by arithmetic at a time, where there are so many.
+const WIDE_PAIRS: usize = 16;
+
+/// Decodes on, for as many wide blocks of pairs of digits as follow, as far as the limit.
+#[inline(always)]
+fn write_wide(text: &[u8], buf: &mut [u8; 1024], from: usize, limit: usize) -> usize
+    requires so_far { Paired text.now buf.old from }
+    requires forward { from ≤ limit }
+    requires most { limit ≤ 1024 }
+    requires within { 2 * limit ≤ length text.now }
+    ensures pairs { Paired text.now buf.new result }
+    ensures within { result ≤ limit }
+{
+    let mut end = from;
+    'blocks: while WIDE_PAIRS <= limit - end {
+        if !write_wide_block(text, buf, end) {
+            return end;
+        }
+        end += WIDE_PAIRS;
+    }
+    end
+}
+
+/// Decodes one wide block of pairs more, and says whether all were of digits: else what it writes
+/// means nothing. The compiler takes the digits all at once.
+#[inline(always)]
+fn write_wide_block(text: &[u8], buf: &mut [u8; 1024], from: usize) -> bool
+    requires so_far { Paired text.now buf.old from }
+    requires most { from + 16 ≤ 1024 }
+    requires within { 2 * (from + 16) ≤ length text.now }
+    ensures { Paired text.now buf.new (if result then from + 16 else from) }
+{
+    let mut values = [0; 2 * WIDE_PAIRS];
+    let mut are = true;
+    'digits: for i in 0..2 * WIDE_PAIRS {
+        let digit = text[2 * from + i];
+        are = are & is_digit(digit);
+        values[i] = digit_value(digit);
+    }
+    'pairs: for i in 0..WIDE_PAIRS {
+        buf[from + i] = 16 * values[2 * i] + values[2 * i + 1];
+    }
+    are
+}
+
+/// The value of a digit; of another octet it means nothing. No look at the table, so that many
+/// digits are decoded at a time.
+#[inline(always)]
+fn digit_value(octet: u8) -> u8
+    ensures value { is_hex_digit octet ≡ true → hex_digit_value octet ≡ Some result }
+    ensures small { result < 16 }
+{
+    // A letter's low digit is 1 to 6, and bit 6 tells letters from decimal digits.
+    (octet % 16 + octet / 64 * 9) % 16
+}
+
 /// Decodes on, for as many whole blocks of pairs of digits as follow, as far as the limit. A call,
-/// since the loop needs more registers than a caller leaves it.
+/// since the loops need more registers than a caller leaves them.
 #[inline(never)]
 fn write_blocks(text: &[u8], buf: &mut [u8; 1024], from: usize, limit: usize) -> usize
+    requires so_far { Paired text.now buf.old from }
+    requires forward { from ≤ limit }
+    requires most { limit ≤ 1024 }
+    requires within { 2 * limit ≤ length text.now }
+    ensures pairs { Paired text.now buf.new result }
+    ensures within { result ≤ limit }
+{
+    // Short values, as most are, end before a wide block would.
+    let first = limit.min(from + WIDE_PAIRS);
+    let near = write_narrow(text, buf, from, first);
+    if near < from + WIDE_PAIRS {
+        return near;
+    }
+    let far = write_wide(text, buf, near, limit);
+    write_narrow(text, buf, far, limit)
+}
+
+/// Decodes on, for as many blocks of pairs of digits as follow, as far as the limit.
+#[inline(always)]
+fn write_narrow(text: &[u8], buf: &mut [u8; 1024], from: usize, limit: usize) -> usize
     requires so_far { Paired text.now buf.old from }
     requires forward { from ≤ limit }
     requires most { limit ≤ 1024 }

@@ -2,9 +2,10 @@
 ghost use Rattle.std.specs.Prelude.{◌≡◌, ◌+◌, ◌≤◌, ◌++◌, [], ◌*◌, length, take, OnOk, OnErr};
 ghost use Rattle.hex.specs.Hex.{IsBytes};
 ghost use Rattle.traces.specs.Actions.{octets_line};
+ghost use Rattle.traces.specs.Printed.{event_line};
 
 use crate::moments::Moment;
-use crate::printing::{put_line, room_for};
+use crate::printing::{put_event, put_line, room_for};
 use std::alloc::{AllocError, Global};
 use std::marker::Model;
 
@@ -57,6 +58,19 @@ fn put_behind(row: &mut [u8], end: usize, moment: &Moment, letter: u8, octets: &
     ensures octets { IsBytes octets.now }
 {
     end + put_line(&mut row[end..], moment, letter, octets)
+}
+
+/// Puts the line of an event with octets behind the first octets of a row, and answers where it
+/// ends.
+#[inline(always)]
+fn put_event_behind(row: &mut [u8], end: usize, moment: &Moment, letter: u8, octets: &[u8]) -> usize
+    requires { end + (2 * length octets.now + 26) ≤ length row.old }
+    ensures line { take result row.new
+        ≡ take end row.old ++ event_line moment.now letter octets.now }
+    ensures within { result ≤ length row.new }
+    ensures octets { IsBytes octets.now }
+{
+    end + put_event(&mut row[end..], moment, letter, octets)
 }
 
 impl Page {
@@ -121,6 +135,26 @@ impl Page {
         };
         make_room(&mut self.room, self.end, more)?;
         self.end = put_behind(self.room.as_mut_slice(), self.end, moment, letter, octets);
+        Ok(())
+    }
+
+    /// Puts the line of an event with octets. An `Err` is want of memory; then nothing was put.
+    pub(crate) fn put_event(
+        &mut self,
+        moment: &Moment,
+        letter: u8,
+        octets: &[u8],
+    ) -> Result<(), AllocError>
+        ensures line { OnOk result (self.new
+            ≡ self.old ++ event_line moment.now letter octets.now) }
+        ensures none { OnErr result (self.new ≡ self.old) }
+        ensures octets { OnOk result (IsBytes octets.now) }
+    {
+        let Some(more) = room_for(octets.len()) else {
+            return Err(AllocError);
+        };
+        make_room(&mut self.room, self.end, more)?;
+        self.end = put_event_behind(self.room.as_mut_slice(), self.end, moment, letter, octets);
         Ok(())
     }
 }

@@ -1,5 +1,7 @@
 //! The port over the entries of a trace.
-ghost use Rattle.std.specs.Prelude.{◌≡◌, ℕ, ◌+◌, ◌<◌, ◌≤◌, Bool, true, false, List, [], ◌∷◌, ◌++◌, vec_len, vec_capacity, string_bytes, IfOk, OnOk, OnErr, Option, Some, None, if◌then◌else◌};
+ghost use Rattle.std.specs.Prelude.{◌≡◌, ℕ, ◌+◌, ◌<◌, ◌≤◌, Bool, true, false, List, [], ◌∷◌, ◌++◌};
+ghost use Rattle.std.specs.Prelude.{vec_len, vec_capacity, string_bytes, IfOk, OnOk, OnErr, Option};
+ghost use Rattle.std.specs.Prelude.{Some, None, if◌then◌else◌};
 ghost use Rattle.std.specs.List.{AllByRecursion};
 ghost use Rattle.gateway.specs.Log.{Came, Went, Ticked, tell, events_of};
 ghost use Rattle.gateway.specs.Ports.{output_of};

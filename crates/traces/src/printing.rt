@@ -1,7 +1,9 @@
 //! The line of an action with octets, put where room was made before.
-ghost use Rattle.std.specs.Prelude.{◌≡◌, ◌+◌, ◌*◌, ◌/◌, ◌%◌, ◌≤◌, length, slice_index, take, IfSome};
+ghost use Rattle.std.specs.Prelude.{◌≡◌, ◌+◌, ◌*◌, ◌/◌, ◌%◌, ◌≤◌, length, slice_index, take};
+ghost use Rattle.std.specs.Prelude.{IfSome};
 ghost use Rattle.hex.specs.Hex.{IsBytes, encode_upper, upper_digits};
 ghost use Rattle.traces.specs.Actions.{octets_line};
+ghost use Rattle.traces.specs.Printed.{event_line};
 
 use crate::moments::Moment;
 
@@ -50,6 +52,24 @@ pub(crate) fn put_line(row: &mut [u8], moment: &Moment, letter: u8, octets: &[u8
     let end = octets_at + 2 * octets.len();
     row[..digits.len()].copy_from_slice(&digits);
     row[letter_at..octets_at].copy_from_slice(&[b' ', b'>', b' ', letter, b' ']);
+    spell(octets, &mut row[octets_at..end]);
+    row[end] = b'\n';
+    end + 1
+}
+
+/// Puts the line of an event with octets at the front of a row, and says how many octets it has.
+#[inline(always)]
+pub(crate) fn put_event(row: &mut [u8], moment: &Moment, letter: u8, octets: &[u8]) -> usize
+    requires { 2 * length octets.now + 26 ≤ length row.old }
+    ensures line { take result row.new ≡ event_line moment.now letter octets.now }
+    ensures within { result ≤ length row.new }
+    ensures octets { IsBytes octets.now }
+{
+    let (digits, letter_at) = moment.spelled();
+    let octets_at = letter_at + 3;
+    let end = octets_at + 2 * octets.len();
+    row[..digits.len()].copy_from_slice(&digits);
+    row[letter_at..octets_at].copy_from_slice(&[b' ', letter, b' ']);
     spell(octets, &mut row[octets_at..end]);
     row[end] = b'\n';
     end + 1

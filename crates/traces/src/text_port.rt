@@ -1,5 +1,6 @@
 //! The port over the text of a trace, or over one part of it after another.
-ghost use Rattle.std.specs.Prelude.{◌≡◌, ℕ, ◌+◌, ◌<◌, ◌++◌, ◌∷◌, [], Bool, true, false, not, List, Some, None, IfOk, OnOk, OnErr, if◌then◌else◌, string_bytes};
+ghost use Rattle.std.specs.Prelude.{◌≡◌, ℕ, ◌+◌, ◌<◌, ◌++◌, ◌∷◌, [], Bool, true, false, not, List};
+ghost use Rattle.std.specs.Prelude.{Some, None, IfOk, OnOk, OnErr, if◌then◌else◌, string_bytes};
 ghost use Rattle.std.specs.Option.{option_copied};
 ghost use Rattle.gateway.specs.Log.{events_of};
 ghost use Rattle.gateway.specs.Ports.{output_of};
@@ -172,9 +173,9 @@ impl<'a> Model for TextPort<'a> {
 }
 
 /// The first event of these lines, whose octets are put at the front of the buffer, and the lines
-/// behind it. A wrong line before it is a fault.
+/// behind it; `Done` where they have none. A wrong line before it is a fault.
 #[tactic(auto, using(crate::proofs::ProgressLemmas::events_skip, crate::proofs::ProgressLemmas::right_skip, crate::proofs::ProgressLemmas::right_event))]
-fn first_event<'a>(text: Option<&'a [u8]>, buf: &mut [u8; 1024]) -> (Next, Option<&'a [u8]>)
+pub fn first_event<'a>(text: Option<&'a [u8]>, buf: &mut [u8; 1024]) -> (Next, Option<&'a [u8]>)
     ensures { IsFirst (parts_after 10 (option_copied text.entry)) (option_copied result.1)
         result.0 buf.new }
 {

@@ -7,6 +7,7 @@ use Rattle.blocks.proofs.fill.Given as goal
 abbrev pub invariant-filling : goal.invariant-filling
 invariant-filling g l = record {
   within : l.filled ≤ length l.buf.items;
-  kept : Keeps (held_and_left l.initial.filled l.initial.buf.items (g.R.Read.remaining l.initial.reader))
+  kept : Keeps (held_and_left l.initial.filled l.initial.buf.items
+      (g.R.Read.remaining l.initial.reader))
       (held_and_left l.filled l.buf.items (g.R.Read.remaining l.reader));
 }

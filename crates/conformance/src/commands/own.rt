@@ -1,6 +1,5 @@
 //! Own answers, and commands whose connection has ended.
-use super::{EXECUTE, FOR_ALL, INTERROGATION, MIDDLE, SELECT, Script, Step, two_stations};
-use std::test::Fail;
+use super::{FOR_ALL, INTERROGATION, MIDDLE, Script, Step};
 
 /// The interrogation on the line of station 1, and the negative answer to it.
 const LINE: [u8; 7] = [0x64, 0x01, 0x06, 0x01, 0x00, 0x00, 0x14];
@@ -42,13 +41,3 @@ pub const SCRIPTS: &[Script<'static>] = &[
         ],
     ),
 ];
-
-#[test]
-fn own_answers_go_out_in_turn(rt: HostRuntime) -> Result<(), Fail> {
-    let mut commands = two_stations(rt.alloc(), MIDDLE)?;
-    assert!(rt; commands.own(&SELECT));
-    assert!(rt; commands.own(&EXECUTE));
-    commands.own_sent();
-    assert!(rt; commands.own_answer() == Some(EXECUTE.as_slice()));
-    Ok(())
-}

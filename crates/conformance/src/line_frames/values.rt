@@ -130,9 +130,6 @@ fn frames_of_a_line_and_refusals(rt: HostRuntime) {
     assert!(rt; are_refused());
     let poll = Front::Whole(Frame::Fixed { c: 0x7B, a: 1 }, 5);
     assert!(rt; front(LinkSize::One, &[0x10, 0x7B, 0x01, 0x7C, 0x16, 0xE5]) == poll);
-    let mut wrong_sum = REPORT;
-    wrong_sum[13] = 0x75;
-    assert!(rt; is_refused(LinkSize::One, &wrong_sum, 13, Why::Sum));
     for octet in 0..=255u8 {
         let expected = match octet {
             0xE5 => Front::Whole(Frame::Single, 1),

@@ -5,7 +5,8 @@ ghost use Rattle.std.specs.Prelude.{Some, None, IsTrue, ◌↔◌, take, option_
 ghost use Rattle.apci.specs.Spelling.{Fits, spelling};
 ghost use Rattle.apci.specs.Borrowed.{owned};
 ghost use Rattle.apci.specs.Short.{apdu_of};
-ghost use Rattle.session.specs.Session.{confirmed, pulled, may_send, is_open, is_transferring, outcome_of};
+ghost use Rattle.session.specs.Session.{confirmed, pulled, may_send, is_open, is_transferring};
+ghost use Rattle.session.specs.Session.{outcome_of};
 ghost use Rattle.session.specs.Session.{timed_out as answers_late};
 ghost use Rattle.session.specs.Ends.{IsConfirmed};
 ghost use Rattle.asdu.specs.Reading.{value_of};
@@ -131,6 +132,7 @@ impl CentreSide {
 
     /// A whole APDU at the front of octets that came, where none had come since the last one, and
     /// how many octets it has. Its ASDU is lent where it stands.
+    #[inline(always)]
     fn find_whole<'a>(&self, piece: &'a [u8]) -> Option<(ApduRef<'a>, usize)>
         requires { 0 < length piece.now }
         ensures { IfSome result (λ found.
@@ -255,6 +257,7 @@ impl Gateway {
 
     /// A whole APDU at the front of octets that came, where none had come since the last one, and
     /// how many octets it has.
+    #[inline(always)]
     pub(crate) fn find_whole<'a>(&self, piece: &'a [u8]) -> Option<(ApduRef<'a>, usize)>
         requires { 0 < length piece.now }
         ensures { IfSome result (λ found.
@@ -264,13 +267,15 @@ impl Gateway {
     }
 
     /// Takes an APDU, and judges its ASDU. Where it closes the connection, the cause is answered.
+    #[inline(always)]
     pub(crate) fn judge(&mut self, apdu: ApduRef<'_>) -> Option<Close>
         requires { Fits (owned apdu) }
         ensures { Judged self.old (owned apdu.entry) result self.new }
     {
         match self.take_frame(apdu) {
             Taken::Close(cause) => Some(cause),
-            Taken::Nothing => self.judge_data(apdu),
+            // It has no ASDU.
+            Taken::Nothing => None,
             Taken::Asdu => self.judge_data(apdu),
         }
     }
@@ -295,10 +300,11 @@ impl Gateway {
             self.old.serial.commands
             then None else Some Close.OwnAnswers) }
     {
-        let wall = self.wall();
-        let moment = self.moment;
         match apdu {
-            ApduRef::I { asdu, .. } => self.serial.judge(asdu, moment, wall),
+            ApduRef::I { asdu, .. } => {
+                let wall = self.wall();
+                self.serial.judge(asdu, self.moment, wall)
+            }
             ApduRef::S { .. } => None,
             ApduRef::U(_) => None,
         }

@@ -1,7 +1,8 @@
 //! The state that a gateway has between two steps, as lines.
 ghost use Rattle.std.specs.Prelude.{◌≡◌, ◌++◌, OnOk};
 ghost use Rattle.gateway.specs.State.{IsBetweenSteps};
-ghost use Rattle.gateway.specs.Restored.{clock_line, tally_line, serial_lines, centre_lines, state_lines};
+ghost use Rattle.gateway.specs.Restored.{clock_line, tally_line, serial_lines, centre_lines};
+ghost use Rattle.gateway.specs.Restored.{state_lines};
 ghost use Rattle.gateway.specs.Restored.{IsSavableSerial, IsSavableCentre, IsSavable};
 
 use super::Gateway;

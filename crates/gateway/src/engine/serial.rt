@@ -1,7 +1,8 @@
 //! The line's side: its primary station, what its octets bring, and the commands that go down to
 //! it.
 ghost use Rattle.std.specs.Prelude.{◌≡◌, ℕ, ◌<◌, ◌≤◌, true, false, List, [], length};
-ghost use Rattle.std.specs.Prelude.{Some, None, is_some, option_map, take, drop, if◌then◌else◌, ◌⊎◌, IfSome, IfNone};
+ghost use Rattle.std.specs.Prelude.{Some, None, is_some, option_map, take, drop, if◌then◌else◌};
+ghost use Rattle.std.specs.Prelude.{◌⊎◌, IfSome, IfNone};
 ghost use Rattle.std.specs.List.{AllByRecursion};
 ghost use Rattle.asdu.specs.Asdu.{IsAsdu};
 ghost use Rattle.asdu.specs.InformationObjects.{monitor_objects_of};
@@ -21,7 +22,8 @@ ghost use Rattle.session.specs.Session.{may_send};
 ghost use Rattle.gateway.specs.Polls.{has_room};
 ghost use Rattle.gateway.specs.Counting.{is_answer_type, one_skipped, one_mirrored, one_lost};
 ghost use Rattle.gateway.specs.Serial.{kept_until, all_kept, listed, refused, refusal_fits};
-ghost use Rattle.gateway.specs.Serial.{heard, heard_outcome, accepted, given_up, with_gap, without_gap, timed, settled};
+ghost use Rattle.gateway.specs.Serial.{heard, heard_outcome, accepted, given_up, with_gap};
+ghost use Rattle.gateway.specs.Serial.{without_gap, timed, settled};
 ghost use Rattle.gateway.specs.Serial.{cut, offered_by, offered, asked};
 ghost use Rattle.gateway.specs.State.{line_timed, settled as after_timers, after_request};
 ghost use Rattle.gateway.specs.State.{with_serial};
@@ -30,7 +32,7 @@ ghost use Rattle.gateway.specs.Works.{is_command_report};
 
 use super::Gateway;
 use super::centre::CentreSide;
-use super::tagging::with_tag;
+use super::tagging::tag_pieces;
 use crate::counts::Tally;
 use crate::gaps::Gap;
 use asdu::{Asdu, Piece, objects_are_those_of_the_asdu, pieces_carry_the_report, read, translate};
@@ -222,8 +224,8 @@ impl SerialSide {
     {
         objects_are_those_of_the_asdu();
         let tag = self.commands.mirror(asdu, moment);
-        let plain = translate(asdu);
-        let pieces = with_tag(plain, tag);
+        let mut pieces = translate(asdu);
+        tag_pieces(&mut pieces, tag);
         if is_transferring {
             return keep_all(&mut self.commands, &pieces);
         }

@@ -29,25 +29,24 @@ fn tagged_piece(piece: &[u8], tag: &Cp56) -> Option<Piece>
     Some(retag(&asdu, tag))
 }
 
-/// The pieces of a station's answer with the tag, if there is one, of the command that it answers.
-pub(super) fn with_tag(pieces: Pieces, tag: Option<Cp56>) -> Pieces
-    requires asdus { AllByRecursion (λ p. (u : AsduValue) × IsAsdu tcp u p.items) pieces.items }
+/// The pieces of a station's answer get the tag, if there is one, of the command that it answers.
+pub(super) fn tag_pieces(pieces: &mut Pieces, tag: Option<Cp56>)
+    requires asdus { AllByRecursion (λ p. (u : AsduValue) × IsAsdu tcp u p.items) pieces.old.items }
     requires long { AllByRecursion (λ p.
-        (9 ≤ length p.items) × (length p.items ≤ 249)) pieces.items }
-    ensures tagged { AreTagged tag (octets_of pieces.items) (octets_of result.items) }
+        (9 ≤ length p.items) × (length p.items ≤ 249)) pieces.old.items }
+    ensures tagged { AreTagged tag (octets_of pieces.old.items) (octets_of pieces.new.items) }
     ensures long { AllByRecursion (λ p.
-        (9 ≤ length p.items) × (length p.items ≤ 249)) result.items }
+        (9 ≤ length p.items) × (length p.items ≤ 249)) pieces.new.items }
 {
     let Some(tag) = tag else {
-        return pieces;
+        return;
     };
     if pieces.len() != 1 {
-        return pieces;
+        return;
     }
     let Some(piece) = tagged_piece(&pieces[0], &tag) else {
-        return pieces;
+        return;
     };
-    let mut tagged = Pieces::new();
-    tagged.push(piece);
-    tagged
+    pieces.clear();
+    pieces.push(piece);
 }

@@ -1,5 +1,6 @@
 //! A run over ends that tell what happens at them, and what the laws say of it.
-ghost use Rattle.std.specs.Prelude.{◌≡◌, ℕ, ◌+◌, ◌-◌, ◌<◌, ◌≤◌, List, [], ◌∷◌, Bool, false, All, Some};
+ghost use Rattle.std.specs.Prelude.{◌≡◌, ℕ, ◌+◌, ◌-◌, ◌<◌, ◌≤◌, List, [], ◌∷◌, Bool, false, All};
+ghost use Rattle.std.specs.Prelude.{Some};
 ghost use Rattle.live.specs.Walls.{is_wall};
 ghost use Rattle.live.specs.Law.{AtMoment, SomeRounds, first_of};
 ghost use Rattle.live.specs.Passed.{IsFresh, line_in, opened_in, given, handed, let_in_at};

@@ -1,5 +1,5 @@
 //! The ends on sockets of this host, their other ends served in this process. What a whole gateway
-//! does between them is shown by bench/passage.py, over the built program.
+//! does between them is shown by checks/passage.py, over the built program.
 use super::{CentreListener, LineDialler, LineSocket, SystemClock};
 use crate::guests::Guests;
 use crate::redial::Redialled;

@@ -1,6 +1,7 @@
 use Rattle.std.proofs.Common.{[], arith}
 use Rattle.apci.proofs.Fronts.{no_length}
-use Rattle.apci.proofs.assembling.length_step.Goals.{then-octet-lt4-via-then-octet-lt4, then-octet-lt4-via-else-octet-lt4+then-octet-gt253}
+use Rattle.apci.proofs.assembling.length_step.Goals.{then-octet-lt4-via-then-octet-lt4}
+use Rattle.apci.proofs.assembling.length_step.Goals.{then-octet-lt4-via-else-octet-lt4+then-octet-gt253}
 use Rattle.apci.proofs.assembling.length_step.Goals as goal
 
 pub returns-then-octet-lt4 : goal.returns-then-octet-lt4

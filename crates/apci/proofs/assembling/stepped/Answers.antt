@@ -16,13 +16,16 @@ pub returns-in-SSecond : goal.returns-in-SSecond
 returns-in-SSecond c = rw c.in-SSecond.is (s_second c.args.octet [] c.if-octet-ne0.true)
 
 pub returns-in-USecond : goal.returns-in-USecond
-returns-in-USecond c = rw c.in-USecond.is (u_second c.in-USecond.field-0 c.args.octet [] c.if-octet-ne0-2.true)
+returns-in-USecond c =
+    rw c.in-USecond.is (u_second c.in-USecond.field-0 c.args.octet [] c.if-octet-ne0-2.true)
 
 pub returns-in-SThird : goal.returns-in-SThird
 returns-in-SThird c = rw c.in-SThird.is (s_third c.args.octet [] c.if-octet-eq1-2.true)
 
 pub returns-in-UThird : goal.returns-in-UThird
-returns-in-UThird c = rw c.in-UThird.is (u_third c.in-UThird.field-0 c.args.octet [] c.if-octet-ne0-3.true)
+returns-in-UThird c =
+    rw c.in-UThird.is (u_third c.in-UThird.field-0 c.args.octet [] c.if-octet-ne0-3.true)
 
 pub returns-in-UFourth : goal.returns-in-UFourth
-returns-in-UFourth c = rw c.in-UFourth.is (u_fourth c.in-UFourth.field-0 c.args.octet [] c.if-octet-ne0-4.true)
+returns-in-UFourth c =
+    rw c.in-UFourth.is (u_fourth c.in-UFourth.field-0 c.args.octet [] c.if-octet-ne0-4.true)

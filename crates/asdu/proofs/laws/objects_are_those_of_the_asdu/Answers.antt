@@ -1,4 +1,5 @@
-use Rattle.asdu.proofs.Related.{is_read-IsAsdu, objects_of-IsAsdu, monitor_objects_of-IsAsdu, parts-IsAsdu, not_read, no_objects, no_monitor_objects, no_parts}
+use Rattle.asdu.proofs.Related.{is_read-IsAsdu, objects_of-IsAsdu, monitor_objects_of-IsAsdu}
+use Rattle.asdu.proofs.Related.{parts-IsAsdu, not_read, no_objects, no_monitor_objects, no_parts}
 use Rattle.asdu.proofs.laws.objects_are_those_of_the_asdu.Goals as goal
 
 pub returns-clause-read : goal.returns-clause-read

@@ -1,4 +1,5 @@
-use Rattle.asdu.proofs.Reports.{pieces_joined, pieces_monitored, pieces_some_monitored, pieces_are, pieces_lengths, pieces_full, pieces_number, pieces_few}
+use Rattle.asdu.proofs.Reports.{pieces_joined, pieces_monitored, pieces_some_monitored, pieces_are}
+use Rattle.asdu.proofs.Reports.{pieces_lengths, pieces_full, pieces_number, pieces_few}
 use Rattle.asdu.proofs.laws.pieces_carry_the_report.Goals as goal
 
 pub returns-clause-joined : goal.returns-clause-joined

@@ -1,4 +1,5 @@
-use Rattle.std.proofs.Common.{◌≡◌, ℕ, ◌+◌, ◌-◌, ◌++◌, List, [], ◌∷◌, length, take, drop, length-drop, sym, ap, subst, ◌∙◌, arith}
+use Rattle.std.proofs.Common.{◌≡◌, ℕ, ◌+◌, ◌-◌, ◌++◌, List, [], ◌∷◌, length, take, drop}
+use Rattle.std.proofs.Common.{length-drop, sym, ap, subst, ◌∙◌, arith}
 use Rattle.std.specs.Prelude.{slice_index}
 use Rattle.std.proofs.lemmas.List.{take_all}
 use Rattle.elements.specs.Octets.{AreOctets}
@@ -31,7 +32,8 @@ returns c =
     let rest = take (length xs - 1) (drop 1 xs) in
     let count = length-infos_at asdu.kind (ioa_len asdu.sizes.ioa) (is_sequence xs) (number_at xs)
     (drop (header_len asdu.sizes) xs) in
-    let whole : rest ≡ drop 1 xs = take_all (length xs - 1) (drop 1 xs) (omega (arith, length-drop 1 xs)) in
+    let whole : rest ≡ drop 1 xs =
+    take_all (length xs - 1) (drop 1 xs) (omega (arith, length-drop 1 xs)) in
     let text =
     c.append-3.ensures
     ∙ ap (λ ys. ys ++ c.octets_of.result) (c.append-2.ensures
@@ -44,4 +46,5 @@ returns c =
     (IsAsdu-tagged asdu.sizes (value_of asdu) xs c.append-3.new.out.items tag spells (count
     ∙ c.requires.one) c.requires.kind
     (ap (λ ys. length ys) (sym c.octets_of.ensures.value)
-    ∙ c.octets_of.ensures.seven) (subst O c.octets_of.ensures.value c.octets_of.ensures.are_octets) text)
+    ∙ c.octets_of.ensures.seven) (subst O c.octets_of.ensures.value c.octets_of.ensures.are_octets)
+    text)

@@ -1,4 +1,5 @@
-use Rattle.std.proofs.Common.{◌≡◌, ℕ, ◌≤◌, Bool, true, List, [], ◌∷◌, ◌++◌, length, map, sym, ap, subst, ◌∙◌, arith, append_assoc, length-append}
+use Rattle.std.proofs.Common.{◌≡◌, ℕ, ◌≤◌, Bool, true, List, [], ◌∷◌, ◌++◌, length, map, sym, ap}
+use Rattle.std.proofs.Common.{subst, ◌∙◌, arith, append_assoc, length-append}
 use Rattle.std.specs.Prelude.{◌==◌}
 use Rattle.std.specs.List.{flat_map, AllByRecursion}
 use Rattle.std.proofs.lemmas.Bool.{eqb-true}
@@ -12,7 +13,8 @@ use Rattle.asdu.specs.Reading.{value_of}
 use Rattle.asdu.specs.Translation.{AllButLast, IsLargest, IsPiece, report_pieces}
 use Rattle.asdu.proofs.Accepted.{IsAsdu-value_of}
 use Rattle.asdu.proofs.Joined.{All-of_map, AllButLast-of_map}
-use Rattle.asdu.proofs.Reports.{pieces_joined, pieces_monitored, pieces_some_monitored, pieces_are, pieces_lengths, pieces_full, pieces_number, pieces_few}
+use Rattle.asdu.proofs.Reports.{pieces_joined, pieces_monitored, pieces_some_monitored, pieces_are}
+use Rattle.asdu.proofs.Reports.{pieces_lengths, pieces_full, pieces_number, pieces_few}
 use Rattle.asdu.proofs.translation.translate.Goals as goal
 
 -- nothing is left to be written
@@ -21,7 +23,8 @@ written : (v : AsduValue) (ps : List (Stored ℕ)) (rest : List (List ℕ)) (b :
     → map (λ p. p.items) ps ≡ report_pieces v
 written v ps rest b all is over =
     let none : rest ≡ [] = nil_from_length rest (eqb-true (length rest) 0 (sym is ∙ over)) in
-    sym (append-nil (map (λ p. p.items) ps)) ∙ ap (λ qs. map (λ p. p.items) ps ++ qs) (sym none) ∙ all
+    sym (append-nil (map (λ p. p.items) ps)) ∙ ap (λ qs. map (λ p. p.items) ps ++ qs) (sym none)
+    ∙ all
 
 pub loop-left-init : goal.loop-left-init
 loop-left-init c =
@@ -33,7 +36,8 @@ push-requires c =
     let asdu = c.args.asdu.now in
     let v = value_of asdu in
     let pieces : List (Stored ℕ) = c.loop-left.pieces.items in
-    let few = pieces_few asdu.sizes v asdu.octets.now (IsAsdu-value_of asdu asdu.are_octets) c.requires in
+    let few = pieces_few asdu.sizes v asdu.octets.now (IsAsdu-value_of asdu asdu.are_octets)
+    c.requires in
     let all = ap (λ (ps : List (List ℕ)). length ps) c.loop-left.invariant in
     let sum = length-append (map (λ (p : Stored ℕ). p.items) pieces) c.loop-left.left in
     let same = length-map pieces (λ (p : Stored ℕ). p.items) in
@@ -53,7 +57,8 @@ loop-left-preserved c =
 
 pub returns-clause-spelled : goal.returns-clause-spelled
 returns-clause-spelled c =
-    written (value_of c.args.asdu.now) c.loop-left.pieces.items c.loop-left.left c.is_over.result c.loop-left.invariant
+    written (value_of c.args.asdu.now) c.loop-left.pieces.items c.loop-left.left c.is_over.result
+    c.loop-left.invariant
     c.is_over.ensures c.loop-left-test.false
 
 pub returns-clause-joined : goal.returns-clause-joined
@@ -86,8 +91,10 @@ returns-clause-some_monitored c = λ passed.
     let P : List ℕ → Type 0 = λ x. 1 ≤ length (monitor_objects_of tcp x) in
     let e = written v ps c.loop-left.left c.is_over.result c.loop-left.invariant c.is_over.ensures
     c.loop-left-test.false in
-    All-of_map (λ (p : Stored ℕ). p.items) P ps (subst (λ (xs : List (List ℕ)). AllByRecursion P xs) (sym e)
-    (pieces_some_monitored asdu.sizes v asdu.octets.now (IsAsdu-value_of asdu asdu.are_octets) passed))
+    All-of_map (λ (p : Stored ℕ). p.items) P ps (subst (λ (xs : List (List ℕ)). AllByRecursion P xs)
+    (sym e)
+    (pieces_some_monitored asdu.sizes v asdu.octets.now (IsAsdu-value_of asdu asdu.are_octets)
+    passed))
 
 pub returns-clause-pieces : goal.returns-clause-pieces
 returns-clause-pieces c =
@@ -97,7 +104,8 @@ returns-clause-pieces c =
     let P : List ℕ → Type 0 = λ x. IsPiece v x in
     let e = written v ps c.loop-left.left c.is_over.result c.loop-left.invariant c.is_over.ensures
     c.loop-left-test.false in
-    All-of_map (λ (p : Stored ℕ). p.items) P ps (subst (λ (xs : List (List ℕ)). AllByRecursion P xs) (sym e)
+    All-of_map (λ (p : Stored ℕ). p.items) P ps (subst (λ (xs : List (List ℕ)). AllByRecursion P xs)
+    (sym e)
     (pieces_are asdu.sizes v asdu.octets.now (IsAsdu-value_of asdu asdu.are_octets)))
 
 pub returns-clause-lengths : goal.returns-clause-lengths
@@ -108,7 +116,8 @@ returns-clause-lengths c =
     let P : List ℕ → Type 0 = λ x. (9 ≤ length x) × (length x ≤ 249) in
     let e = written v ps c.loop-left.left c.is_over.result c.loop-left.invariant c.is_over.ensures
     c.loop-left-test.false in
-    All-of_map (λ (p : Stored ℕ). p.items) P ps (subst (λ (xs : List (List ℕ)). AllByRecursion P xs) (sym e)
+    All-of_map (λ (p : Stored ℕ). p.items) P ps (subst (λ (xs : List (List ℕ)). AllByRecursion P xs)
+    (sym e)
     (pieces_lengths asdu.sizes v asdu.octets.now (IsAsdu-value_of asdu asdu.are_octets)))
 
 pub returns-clause-full : goal.returns-clause-full
@@ -119,7 +128,8 @@ returns-clause-full c =
     let P : List ℕ → Type 0 = λ x. IsLargest v x in
     let e = written v ps c.loop-left.left c.is_over.result c.loop-left.invariant c.is_over.ensures
     c.loop-left-test.false in
-    AllButLast-of_map (λ (p : Stored ℕ). p.items) P ps (subst (λ (xs : List (List ℕ)). AllButLast P xs) (sym e)
+    AllButLast-of_map (λ (p : Stored ℕ). p.items) P ps
+    (subst (λ (xs : List (List ℕ)). AllButLast P xs) (sym e)
     (pieces_full asdu.sizes v asdu.octets.now (IsAsdu-value_of asdu asdu.are_octets)))
 
 pub returns-clause-number : goal.returns-clause-number
@@ -141,5 +151,6 @@ returns-clause-few c =
     c.loop-left-test.false in
     let same = length-map ps (λ (p : Stored ℕ). p.items) in
     let all = ap (λ (xs : List (List ℕ)). length xs) e in
-    let few = pieces_few asdu.sizes v asdu.octets.now (IsAsdu-value_of asdu asdu.are_octets) c.requires in
+    let few = pieces_few asdu.sizes v asdu.octets.now (IsAsdu-value_of asdu asdu.are_octets)
+    c.requires in
     omega arith

@@ -10,4 +10,5 @@ single (x ∷ y ∷ xs) one = absurd (omega arith)
 pub returns-then-octets-eq1 : goal.returns-then-octets-eq1
 returns-then-octets-eq1 g c =
     let one : length c.args.octets.now ≡ 1 = omega arith in
-    c.push.ensures.items ∙ ap (λ (xs : List ℕ). c.args.out.now.items ++ xs) (single c.args.octets.now one)
+    c.push.ensures.items
+    ∙ ap (λ (xs : List ℕ). c.args.out.now.items ++ xs) (single c.args.octets.now one)

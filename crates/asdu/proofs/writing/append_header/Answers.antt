@@ -12,8 +12,10 @@ returns g c =
     let head = c.head-head.ensures in
     let h = c.head-head.result in
     let code = code-type_of (slice_index asdu.octets.now 0) asdu.kind asdu.named in
-    header-is c.args.sizes (value_of asdu) c.args.number h.kind c.vsq_octet.result h.cause h.originator h.ca
-    c.args.out.now.items c.append.new.out.items c.append_originator.new.out.items c.append_ca.new.out.items
+    header-is c.args.sizes (value_of asdu) c.args.number h.kind c.vsq_octet.result h.cause
+    h.originator h.ca
+    c.args.out.now.items c.append.new.out.items c.append_originator.new.out.items
+    c.append_ca.new.out.items
     (head.kind ∙ sym code)
     (c.vsq_octet.ensures ∙ ap (λ b. vsq b c.args.number) c.is_sequence.ensures)
     head.cause head.originator head.ca

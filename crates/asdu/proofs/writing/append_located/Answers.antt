@@ -23,7 +23,8 @@ append-requires g c =
     let o = c.args.objects in
     let size : ioa_len o.ioa ≡ ioa_len c.args.size =
     same_octets o.ioa c.args.size (sym c.eq.ensures ∙ c.if-eq.true) in
-    let text = text_kept o.kind (ioa_len c.args.size) (ioa_len o.ioa) o.next_address o.left o.octets.now size
+    let text = text_kept o.kind (ioa_len c.args.size) (ioa_len o.ioa) o.next_address o.left
+    o.octets.now size
     c.requires.mode o.enough o.are_octets in
     let same = ap (λ (xs : List ℕ). length xs) (text ∙ sym c.text.ensures) in
     let room = c.requires.room in
@@ -34,6 +35,7 @@ returns-then-eq g c =
     let o = c.args.objects in
     let size : ioa_len o.ioa ≡ ioa_len c.args.size =
     same_octets o.ioa c.args.size (sym c.eq.ensures ∙ c.if-eq.true) in
-    let text = text_kept o.kind (ioa_len c.args.size) (ioa_len o.ioa) o.next_address o.left o.octets.now size
+    let text = text_kept o.kind (ioa_len c.args.size) (ioa_len o.ioa) o.next_address o.left
+    o.octets.now size
     c.requires.mode o.enough o.are_octets in
     c.append.ensures ∙ ap (λ xs. c.args.out.now.items ++ xs) (c.text.ensures ∙ sym text)

@@ -8,7 +8,8 @@ pub append-requires : goal.append-requires
 append-requires g c =
     let o = c.args.objects in
     let counted : is_some o.next_address ≡ true = sym c.is_some.ensures ∙ c.if-is_some.true in
-    let text = text_counted o.kind (ioa_len c.args.size) (ioa_len o.ioa) o.next_address o.left o.octets.now counted in
+    let text = text_counted o.kind (ioa_len c.args.size) (ioa_len o.ioa) o.next_address o.left
+    o.octets.now counted in
     let same = ap (λ (xs : List ℕ). length xs) (text ∙ sym c.text.ensures) in
     let room = c.requires in
     (omega arith, omega arith)
@@ -17,5 +18,6 @@ pub returns-then-is_some : goal.returns-then-is_some
 returns-then-is_some g c =
     let o = c.args.objects in
     let counted : is_some o.next_address ≡ true = sym c.is_some.ensures ∙ c.if-is_some.true in
-    let text = text_counted o.kind (ioa_len c.args.size) (ioa_len o.ioa) o.next_address o.left o.octets.now counted in
+    let text = text_counted o.kind (ioa_len c.args.size) (ioa_len o.ioa) o.next_address o.left
+    o.octets.now counted in
     c.append.ensures ∙ ap (λ xs. c.args.out.now.items ++ xs) (c.text.ensures ∙ sym text)

@@ -10,7 +10,8 @@ use Rattle.asdu.proofs.writing.append_resized.Given as goal
 abbrev pub invariant-loop-left : goal.invariant-loop-left
 invariant-loop-left g l = record {
   text : l.out.items
-      ++ spelled_infos (ioa_len l.size) false (each_located l.objects.kind (ioa_len l.objects.ioa) l.left l.octets)
+      ++ spelled_infos (ioa_len l.size) false (each_located l.objects.kind (ioa_len l.objects.ioa)
+      l.left l.octets)
       ≡ l.fn.out.items ++ spelled_infos (ioa_len l.size) false (infos_left l.objects);
   fits : length l.out.items
       + length (spelled_infos (ioa_len l.size) false

@@ -19,4 +19,5 @@ returns c = λ addresses.
     let objects = c.body_octets.ensures.value
     ∙ ap (λ b. body_len asdu.kind (ioa_len sizes.ioa) b c.number.result) c.is_sequence.ensures
     ∙ ap (body_len asdu.kind (ioa_len sizes.ioa) v.sequence) c.number.ensures.counted in
-    ap (λ h. h + c.body_octets.result) c.header.ensures.value ∙ ap (λ b. header_len sizes + b) objects ∙ sym long
+    ap (λ h. h + c.body_octets.result) c.header.ensures.value
+    ∙ ap (λ b. header_len sizes + b) objects ∙ sym long

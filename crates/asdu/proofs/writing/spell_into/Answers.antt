@@ -16,12 +16,16 @@ pub append_objects-requires : goal.append_objects-requires
 append_objects-requires g c =
     let sizes = c.args.sizes in
     let chunk = c.args.chunk in
-    let P : TypeId → Type 0 = λ t. AllByRecursion (IsInfo t (ioa_len sizes.ioa)) (infos_left chunk) in
+    let P : TypeId → Type 0 = λ t. AllByRecursion (IsInfo t (ioa_len sizes.ioa))
+    (infos_left chunk) in
     let room : header_len sizes + body_len chunk.kind (ioa_len sizes.ioa)
-    (is_some chunk.next_address) chunk.left ≤ g.row.N = rw (c.requires.kind, c.requires.mode) c.requires.room in
+    (is_some chunk.next_address) chunk.left ≤ g.row.N =
+    rw (c.requires.kind, c.requires.mode) c.requires.room in
     let start = spell-start sizes (carried sizes (value_of c.args.asdu.now)) chunk.kind
-    (ioa_len chunk.ioa) chunk.next_address chunk.left g.row.N chunk.octets.now (is_some chunk.next_address)
-    (infos_left chunk) c.args.out.now.items c.append_header.new.out.items c.append_lead.new.out.items
+    (ioa_len chunk.ioa) chunk.next_address chunk.left g.row.N chunk.octets.now
+    (is_some chunk.next_address)
+    (infos_left chunk) c.args.out.now.items c.append_header.new.out.items
+    c.append_lead.new.out.items
     refl refl c.requires.empty c.append_header.ensures c.append_lead.ensures
     c.requires.some (subst P (sym c.requires.kind) c.requires.infos) room in
     (omega arith, start.1)
@@ -32,15 +36,21 @@ returns g c =
     let sizes = c.args.sizes in
     let chunk = c.args.chunk in
     let source = IsAsdu-value_of asdu asdu.are_octets in
-    let P : TypeId → Type 0 = λ t. AllByRecursion (IsInfo t (ioa_len sizes.ioa)) (infos_left chunk) in
+    let P : TypeId → Type 0 = λ t. AllByRecursion (IsInfo t (ioa_len sizes.ioa))
+    (infos_left chunk) in
     let room : header_len sizes + body_len chunk.kind (ioa_len sizes.ioa)
-    (is_some chunk.next_address) chunk.left ≤ g.row.N = rw (c.requires.kind, c.requires.mode) c.requires.room in
+    (is_some chunk.next_address) chunk.left ≤ g.row.N =
+    rw (c.requires.kind, c.requires.mode) c.requires.room in
     let start = spell-start sizes (carried sizes (value_of asdu)) chunk.kind
-    (ioa_len chunk.ioa) chunk.next_address chunk.left g.row.N chunk.octets.now (is_some chunk.next_address)
-    (infos_left chunk) c.args.out.now.items c.append_header.new.out.items c.append_lead.new.out.items
+    (ioa_len chunk.ioa) chunk.next_address chunk.left g.row.N chunk.octets.now
+    (is_some chunk.next_address)
+    (infos_left chunk) c.args.out.now.items c.append_header.new.out.items
+    c.append_lead.new.out.items
     refl refl c.requires.empty c.append_header.ensures c.append_lead.ensures
     c.requires.some (subst P (sym c.requires.kind) c.requires.infos) room in
     spell-spells asdu.sizes sizes (value_of asdu) chunk.kind
-    (ioa_len chunk.ioa) chunk.next_address chunk.left chunk.octets.now c.append_objects.new.out.items
-    source.value c.requires.ca c.requires.kind c.requires.mode c.requires.some c.requires.most c.requires.infos
+    (ioa_len chunk.ioa) chunk.next_address chunk.left chunk.octets.now
+    c.append_objects.new.out.items
+    source.value c.requires.ca c.requires.kind c.requires.mode c.requires.some c.requires.most
+    c.requires.infos
     (c.append_objects.ensures ∙ start.0)

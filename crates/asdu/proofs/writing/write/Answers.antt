@@ -22,7 +22,8 @@ spell-requires c =
     let P : List Info → Type 0 = λ is. AllByRecursion (IsInfo asdu.kind (ioa_len sizes.ioa)) is in
     let count : length v.infos ≡ objects.left =
     ap (λ is. length is) (sym c.objects.ensures.infos)
-    ∙ length-rest_at objects.kind (ioa_len objects.ioa) objects.next_address objects.left objects.octets.now in
+    ∙ length-rest_at objects.kind (ioa_len objects.ioa) objects.next_address objects.left
+    objects.octets.now in
     let long = length-spelled sizes (carried sizes v) source.some infos in
     let room = c.requires.room in (
       omega arith,
@@ -50,6 +51,7 @@ spell-requires c =
 pub returns-clause-again : goal.returns-clause-again
 returns-clause-again c = λ same.
     let asdu = c.args.asdu.now in
-    again asdu.sizes c.args.sizes (value_of asdu) (infos_left c.objects.result) asdu.octets.now c.spell.result.items
+    again asdu.sizes c.args.sizes (value_of asdu) (infos_left c.objects.result) asdu.octets.now
+    c.spell.result.items
     same
     (IsAsdu-value_of asdu asdu.are_octets) c.objects.ensures.infos c.spell.ensures.spells

@@ -7,11 +7,8 @@ returns-clause-lines c = (refl, refl)
 pub returns-clause-kinds : goal.returns-clause-kinds
 returns-clause-kinds c = (refl, refl, refl, refl, refl, refl)
 
-pub returns-clause-trace : goal.returns-clause-trace
-returns-clause-trace c = refl
+pub returns-clause-events : goal.returns-clause-events
+returns-clause-events c = refl
 
 pub returns-clause-differences : goal.returns-clause-differences
 returns-clause-differences c = (refl, refl, refl, refl)
-
-pub returns-clause-rests : goal.returns-clause-rests
-returns-clause-rests c = (refl, refl, refl, refl)

@@ -7,7 +7,8 @@ returns-in-Some-clause-block g c =
     rw (← c.self.view_is) (λ _. (
       c.if-self.false,
       block_before _ _ _ _ c.fill.new.buf.items c.fill.new.filled c.in-Some.place _ c.if-self.false
-          c.shift-self-inside.ensures.moved c.fill.ensures.within found.0 found.1 c.fill.ensures.kept,
+          c.shift-self-inside.ensures.moved c.fill.ensures.within found.0 found.1
+          c.fill.ensures.kept,
     ))
 
 pub returns-in-None-clause-block : goal.returns-in-None-clause-block

@@ -3,4 +3,5 @@ use Rattle.command.specs.State.{cut_off}
 use Rattle.command.proofs.keeping.cut_all.Given as goal
 
 abbrev pub invariant-loop-line : goal.invariant-loop-line
-invariant-loop-line l = take l.line-index l.lines ++ map cut_off (drop l.line-index l.lines) ≡ map cut_off l.fn.lines
+invariant-loop-line l = take l.line-index l.lines ++ map cut_off (drop l.line-index l.lines)
+    ≡ map cut_off l.fn.lines

@@ -9,9 +9,11 @@ loop-i-preserved c =
     let octets = c.args.octets.now in
     let stations = c.args.stations.now in
     record {
-      whole = copies_more c.args.sizes octets stations c.loop-i.i _ c.loop-i.waiting.items _ _ c.loop-i-test.true
+      whole = copies_more c.args.sizes octets stations c.loop-i.i _ c.loop-i.waiting.items _ _
+          c.loop-i-test.true
           c.push_copy.ensures.items c.loop-i.invariant.whole;
-      room = room_more (is_addressed (command_at octets)) stations c.loop-i.i _ _ _ _ _ c.loop-i-test.true
+      room = room_more (is_addressed (command_at octets)) stations c.loop-i.i _ _ _ _ _
+          c.loop-i-test.true
           c.push_copy.ensures.count c.push_copy.ensures.capacity c.loop-i.invariant.room;
       capacity = c.push_copy.ensures.capacity ∙ c.loop-i.invariant.capacity;
     }

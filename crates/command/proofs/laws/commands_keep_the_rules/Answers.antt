@@ -12,11 +12,14 @@ use Rattle.command.proofs.Wholes.{run_guarded, run_wholly}
 use Rattle.command.proofs.Bridge.{executes_selected}
 use Rattle.command.proofs.Tagged.{run_fresh, run_tags}
 use Rattle.command.proofs.OwnAnswers.{of_judging, of_busy}
-use Rattle.command.proofs.Staying.{judging_leaves_waiting, judging_leaves_answers, mirroring_leaves_waiting, mirroring_leaves_answers, sending_leaves_others, sending_leaves_answers}
+use Rattle.command.proofs.Staying.{judging_leaves_waiting, judging_leaves_answers}
+use Rattle.command.proofs.Staying.{mirroring_leaves_waiting, mirroring_leaves_answers}
+use Rattle.command.proofs.Staying.{sending_leaves_others, sending_leaves_answers}
 use Rattle.command.proofs.laws.commands_keep_the_rules.Goals as goal
 
 -- what holds after each list of calls holds of the state and the history that it leaves
-of_runs : (P : List StationInfo → Sizes → ℕ → ℕ → State → History → Type 0) → AfterEachRun P → OfEachRun P
+of_runs : (P : List StationInfo → Sizes → ℕ → ℕ → State → History → Type 0) → AfterEachRun P
+    → OfEachRun P
 of_runs P after stations sizes select_ms max_age_ms r is =
     subst (λ (x : Run). P stations sizes select_ms max_age_ms x.state x.history) is.1
     (after stations sizes select_ms max_age_ms is.0)
@@ -26,7 +29,8 @@ told = record {
   forwarded = λ stations sizes select_ms max_age_ms calls.
       (run_holds sizes stations select_ms max_age_ms calls).keeps.queue.sends;
   selected = λ stations sizes select_ms max_age_ms calls.
-      executes_selected sizes stations select_ms max_age_ms (run stations sizes select_ms max_age_ms calls).history
+      executes_selected sizes stations select_ms max_age_ms
+      (run stations sizes select_ms max_age_ms calls).history
       (run_holds sizes stations select_ms max_age_ms calls).keeps.rightly
       (run_holds sizes stations select_ms max_age_ms calls).keeps.executes;
   right = λ stations sizes select_ms max_age_ms calls.
@@ -35,8 +39,10 @@ told = record {
       (run_holds sizes stations select_ms max_age_ms calls).keeps.own.in_turn;
   kept = λ stations sizes select_ms max_age_ms calls. (run_holds sizes stations select_ms max_age_ms
       calls).keeps.own.kept;
-  fresh = λ stations sizes select_ms max_age_ms calls. run_fresh stations sizes select_ms max_age_ms calls;
-  tags = λ stations sizes select_ms max_age_ms calls v. run_tags stations sizes select_ms max_age_ms calls v;
+  fresh = λ stations sizes select_ms max_age_ms calls. run_fresh stations sizes select_ms max_age_ms
+      calls;
+  tags = λ stations sizes select_ms max_age_ms calls v. run_tags stations sizes select_ms max_age_ms
+      calls v;
   judged_waits = judging_leaves_waiting;
   mirrored_waits = mirroring_leaves_waiting;
   sent_waits = sending_leaves_others;
@@ -44,7 +50,8 @@ told = record {
   mirrored_answers = mirroring_leaves_answers;
   sent_answers = sending_leaves_answers;
   judged_plain = of_judging;
-  busy_plain = λ stations sizes select_ms max_age_ms calls. of_busy sizes stations select_ms max_age_ms calls;
+  busy_plain = λ stations sizes select_ms max_age_ms calls. of_busy sizes stations select_ms
+      max_age_ms calls;
 }
 
 pub returns-clause-calls : goal.returns-clause-calls

@@ -5,4 +5,5 @@ pub returns-clause-judged : goal.returns-clause-judged
 returns-clause-judged c = of_judging
 
 pub returns-clause-busy : goal.returns-clause-busy
-returns-clause-busy c = λ stations sizes select_ms max_age_ms calls. of_busy sizes stations select_ms max_age_ms calls
+returns-clause-busy c = λ stations sizes select_ms max_age_ms calls. of_busy sizes stations
+    select_ms max_age_ms calls

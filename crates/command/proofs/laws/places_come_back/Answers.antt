@@ -14,5 +14,6 @@ returns-clause-room c = λ stations sizes select_ms max_age_ms calls xs.
     has_room stations sizes select_ms max_age_ms calls xs
 
 pub returns-clause-forwarded : goal.returns-clause-forwarded
-returns-clause-forwarded c = λ stations sizes select_ms max_age_ms calls xs now wall faultless free room.
+returns-clause-forwarded c = λ stations sizes select_ms max_age_ms calls xs now wall faultless free
+    room.
     passes stations sizes select_ms max_age_ms calls xs now wall faultless free room

@@ -3,10 +3,12 @@ use Rattle.command.proofs.laws.selected_executes_pass.Goals as goal
 
 pub returns-clause-selected : goal.returns-clause-selected
 returns-clause-selected c =
-    λ stations sizes select_ms max_age_ms calls falls now later xs wall faultless executing selected. is_let stations
+    λ stations sizes select_ms max_age_ms calls falls now later xs wall faultless executing
+    selected. is_let stations
     sizes select_ms max_age_ms calls falls now later xs wall faultless executing selected
 
 pub returns-clause-forwarded : goal.returns-clause-forwarded
 returns-clause-forwarded c =
-    λ stations sizes select_ms max_age_ms calls falls now later xs wall faultless executing selected. is_forwarded
+    λ stations sizes select_ms max_age_ms calls falls now later xs wall faultless executing
+    selected. is_forwarded
     stations sizes select_ms max_age_ms calls falls now later xs wall faultless executing selected

@@ -1,4 +1,6 @@
-use Rattle.command.proofs.Staying.{judging_leaves_waiting, judging_leaves_answers, mirroring_leaves_waiting, mirroring_leaves_answers, sending_leaves_others, sending_leaves_answers}
+use Rattle.command.proofs.Staying.{judging_leaves_waiting, judging_leaves_answers}
+use Rattle.command.proofs.Staying.{mirroring_leaves_waiting, mirroring_leaves_answers}
+use Rattle.command.proofs.Staying.{sending_leaves_others, sending_leaves_answers}
 use Rattle.command.proofs.laws.waiting_commands_stay.Goals as goal
 
 pub returns-clause-judged : goal.returns-clause-judged

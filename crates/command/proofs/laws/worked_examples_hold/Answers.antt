@@ -1,4 +1,5 @@
-use Rattle.command.proofs.Examples.{octets_hold, rules_hold, selections_hold, lines_hold, tags_hold, mirrors_hold}
+use Rattle.command.proofs.Examples.{octets_hold, rules_hold, selections_hold, lines_hold, tags_hold}
+use Rattle.command.proofs.Examples.{mirrors_hold}
 use Rattle.command.proofs.laws.worked_examples_hold.Goals as goal
 
 pub returns-clause-octets : goal.returns-clause-octets

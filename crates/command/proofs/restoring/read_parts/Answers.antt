@@ -3,7 +3,8 @@ use Rattle.std.proofs.Common.{◌≤◌}
 use Rattle.command.specs.Fields.{octets_of}
 use Rattle.command.specs.Restored.{list_lines}
 use Rattle.command.specs.Saved.{waiting_numbers, line_numbers, selection_numbers, sending_numbers}
-use Rattle.command.proofs.SavedBack.{lists_of, answers_of, answers_back, answers_count, answers_savable}
+use Rattle.command.proofs.SavedBack.{lists_of, answers_of, answers_back, answers_count}
+use Rattle.command.proofs.SavedBack.{answers_savable}
 use Rattle.command.proofs.restoring.read_parts.Goals as goal
 
 pub returns-in_err-answers-clause-law : goal.returns-in_err-answers-clause-law
@@ -16,8 +17,10 @@ returns-in_err-answers-clause-law g c = λ s rest sav len e.
     let z = c.in_ok-selections.ensures.law s.selections _ sav.few_selections sav.selections l.1 in
     let d = c.in_ok-sendings.ensures.law s.sendings _ sav.few_sendings sav.sendings z.1 in
     let few = subst (λ (n : ℕ). n ≤ 16) (sym (answers_count s.answers)) sav.few_answers in
-    let h = c.in_err-answers.ensures.law (answers_of s.answers) rest few (answers_savable s.answers sav.answers)
-    (d.1 ∙ ap (λ (xs : List (List ℕ)). list_lines xs ++ rest) (sym (answers_back s.answers))) in search rules
+    let h = c.in_err-answers.ensures.law (answers_of s.answers) rest few
+    (answers_savable s.answers sav.answers)
+    (d.1 ∙ ap (λ (xs : List (List ℕ)). list_lines xs ++ rest) (sym (answers_back s.answers))) in
+    search rules
 
 pub returns-clause-law : goal.returns-clause-law
 returns-clause-law g c = λ s rest sav len e.
@@ -29,7 +32,8 @@ returns-clause-law g c = λ s rest sav len e.
     let z = c.in_ok-selections.ensures.law s.selections _ sav.few_selections sav.selections l.1 in
     let d = c.in_ok-sendings.ensures.law s.sendings _ sav.few_sendings sav.sendings z.1 in
     let few = subst (λ (n : ℕ). n ≤ 16) (sym (answers_count s.answers)) sav.few_answers in
-    let h = c.in_ok-answers.ensures.law (answers_of s.answers) rest few (answers_savable s.answers sav.answers)
+    let h = c.in_ok-answers.ensures.law (answers_of s.answers) rest few
+    (answers_savable s.answers sav.answers)
     (d.1 ∙ ap (λ (xs : List (List ℕ)). list_lines xs ++ rest) (sym (answers_back s.answers))) in (
       record {
         waiting = w.0;

@@ -23,7 +23,9 @@ returns-clause-accepted c = λ p log i turns f set within honest.
     (c.courses_keep_commands.ensures p log f.course f.course_runs).answered
     (commands (all_done turns))
     (accepted_are_sent (address_at p.addresses i) (exchanges_with p i log) turns
-    (c.sessions_are_known.ensures.done_there p.link (address_at p.addresses i) (exchanges_with p i log) turns
+    (c.sessions_are_known.ensures.done_there p.link (address_at p.addresses i)
+    (exchanges_with p i log) turns
     (f.links i within) honest)
-    (c.commands_are_accepted.ensures.each p.link (address_at p.addresses i) (exchanges_with p i log) turns
+    (c.commands_are_accepted.ensures.each p.link (address_at p.addresses i) (exchanges_with p i log)
+    turns
     (f.links i within) honest))

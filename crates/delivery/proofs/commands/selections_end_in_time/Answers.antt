@@ -7,6 +7,7 @@ returns c = λ p log course runs. record {
   moments = at_moments p log course runs;
   selected = (c.courses_keep_commands.ensures p log course runs).selected;
   ended = end_in_time p c.selections_are_selects_that_stand.ensures.in_time log course runs;
-  stayed = stay_in_time p c.selections_are_selects_that_stand.ensures.in_time c.settings_stay.ensures.select_ms
+  stayed = stay_in_time p c.selections_are_selects_that_stand.ensures.in_time
+      c.settings_stay.ensures.select_ms
       log course runs;
 }

@@ -38,5 +38,6 @@ returns c = λ p log course f set runs.
           ∙ confirmed_learnt p.link (address_at p.addresses k) 0 None (exchanges_with p k log);
       mirrored = j.mirrors;
       skipped = j.skips;
-      judged = judged_all c.one_front.ensures c.waiting_commands_stay.ensures.mirrored p log course runs;
+      judged = judged_all c.one_front.ensures c.waiting_commands_stay.ensures.mirrored p log course
+          runs;
     }

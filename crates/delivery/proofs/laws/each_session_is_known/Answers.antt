@@ -20,26 +20,31 @@ returns-clause-joined c = λ p log i turns f within honest.
 
 pub returns-clause-commands : goal.returns-clause-commands
 returns-clause-commands c = λ p log i turns f within honest.
-    c.commands_are_accepted.ensures.each p.link (address_at p.addresses i) (exchanges_with p i log) turns
+    c.commands_are_accepted.ensures.each p.link (address_at p.addresses i) (exchanges_with p i log)
+    turns
     (f.links i within) honest
 
 pub returns-clause-all_commands : goal.returns-clause-all_commands
 returns-clause-all_commands c = λ p log i turns f within honest.
-    c.commands_are_accepted.ensures.each_all p.link (address_at p.addresses i) (exchanges_with p i log) turns
+    c.commands_are_accepted.ensures.each_all p.link (address_at p.addresses i)
+    (exchanges_with p i log) turns
     (f.links i within) honest
 
 pub returns-clause-done : goal.returns-clause-done
 returns-clause-done c = λ p log i turns f within honest.
-    c.sessions_are_known.ensures.done_there p.link (address_at p.addresses i) (exchanges_with p i log) turns
+    c.sessions_are_known.ensures.done_there p.link (address_at p.addresses i)
+    (exchanges_with p i log) turns
     (f.links i within) honest
 
 pub returns-clause-before : goal.returns-clause-before
 returns-clause-before c = λ p log i turns f within honest. record {
   taken = none_learnt (address_at p.addresses i) (exchanges_with p i log) turns honest
-      (c.sessions_are_known.ensures.learnt_there p.link (address_at p.addresses i) (exchanges_with p i log) turns
+      (c.sessions_are_known.ensures.learnt_there p.link (address_at p.addresses i)
+      (exchanges_with p i log) turns
       (f.links i within) honest);
   done = none_done (address_at p.addresses i) (exchanges_with p i log) turns honest
-      (c.sessions_are_known.ensures.done_there p.link (address_at p.addresses i) (exchanges_with p i log) turns
+      (c.sessions_are_known.ensures.done_there p.link (address_at p.addresses i)
+      (exchanges_with p i log) turns
       (f.links i within) honest);
 }
 

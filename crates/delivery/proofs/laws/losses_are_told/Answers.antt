@@ -9,6 +9,8 @@ returns c = λ p log i turns f rests within honest.
     told_so (address_at p.addresses i) (sessions_of p log i turns) _
     (c.each_session_is_known.ensures.reports p log i turns f within honest)
     (gaps_rested p log i rests
-    ∙ c.gaps_are_ended_sessions.ensures.ended p.link (address_at p.addresses i) (exchanges_with p i log) turns
+    ∙ c.gaps_are_ended_sessions.ensures.ended p.link (address_at p.addresses i)
+    (exchanges_with p i log) turns
     (f.links i within)
-    (c.gaps_are_ended_sessions.ensures.honest (address_at p.addresses i) (exchanges_with p i log) turns honest))
+    (c.gaps_are_ended_sessions.ensures.honest (address_at p.addresses i) (exchanges_with p i log)
+    turns honest))

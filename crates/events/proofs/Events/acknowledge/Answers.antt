@@ -7,7 +7,8 @@ pub returns : goal.returns
 returns c =
     let e = c.self.inside in
     let le : c.args.count ≤ e.sent =
-    within_mark e.ring.items e.sent e.places c.args.count c.args.self.now c.self.view_is c.requires in
+    within_mark e.ring.items e.sent e.places c.args.count c.args.self.now c.self.view_is
+    c.requires in
     let gone : length e.ring.items - (c.len.result - c.args.count) ≡ c.args.count =
     omega (arith, c.len.ensures.len, c.self.invariant) in
     ap (λ r. queue_of r.items (e.sent - c.args.count) e.places) c.truncate_front.ensures

@@ -13,10 +13,12 @@ loop-left-preserved c =
     let places = ap (λ (q : Queue). q.places) c.append_next.ensures.queue in
     let room = loop.room in
     let same =
-    room-next c.loop-left.left c.append_next.new.left c.loop-left.self c.append_next.new.self unsent others sent in
+    room-next c.loop-left.left c.append_next.new.left c.loop-left.self c.append_next.new.self unsent
+    others sent in
     record {
       sent = sent ∙ loop.sent;
-      unsent = unsent-next c.loop-left.left c.append_next.new.left c.loop-left.self c.append_next.new.self unsent others
+      unsent = unsent-next c.loop-left.left c.append_next.new.left c.loop-left.self
+          c.append_next.new.self unsent others
           ∙ loop.unsent;
       places = places ∙ loop.places;
       room = omega arith;

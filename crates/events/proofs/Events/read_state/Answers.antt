@@ -16,8 +16,10 @@ read g c =
     c.in_ok-next.ensures.some
     (sym c.as_slice.ensures.value ∙ two_numbers line c.in-len2.len_at_least c.in-len2.len_below)
     c.in_ok-read_pieces.ensures.lines c.in_ok-read_pieces.ensures.number c.if-kept-sent.false
-    (c.narrow.ensures ∙ ap (in_places c.args.places) (c.mark_first.ensures ∙ ap (marked (get_or line 1 0))
-    (ap (λ (ps : List (List ℕ)). queue_from ps pieces c.read_pieces.new.self.places) c.in_ok-read_pieces.ensures.sent
+    (c.narrow.ensures ∙ ap (in_places c.args.places) (c.mark_first.ensures
+    ∙ ap (marked (get_or line 1 0))
+    (ap (λ (ps : List (List ℕ)). queue_from ps pieces c.read_pieces.new.self.places)
+    c.in_ok-read_pieces.ensures.sent
     ∙ ap (queue_from [] pieces)
     (c.in_ok-read_pieces.ensures.places ∙ ap (λ (q : Queue). q.places) begun))))
     c.in_ok-read_pieces.ensures.pieces.0 c.in_ok-read_pieces.ensures.pieces.1

@@ -7,7 +7,8 @@ pub returns-in_err-piece-clause-none : goal.returns-in_err-piece-clause-none
 returns-in_err-piece-clause-none c =
     let e = c.self.inside in
     rw c.from_residual.ensures
-    (sym (ap (λ (q : Queue). q.unsent) c.self.view_is) ∙ unsent_none e.ring.items e.sent (sym c.in_err-piece.ensures))
+    (sym (ap (λ (q : Queue). q.unsent) c.self.view_is)
+    ∙ unsent_none e.ring.items e.sent (sym c.in_err-piece.ensures))
 
 pub returns-clause-some : goal.returns-clause-some
 returns-clause-some c =

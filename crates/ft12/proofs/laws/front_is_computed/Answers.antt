@@ -1,6 +1,7 @@
 use Rattle.ft12.specs.Fronts.{front_of}
 use Rattle.ft12.proofs.Exact.{one_front}
-use Rattle.ft12.proofs.Computed.{front_is, front_of-nil, front_of-whole, front_of-never, front_of-spelling}
+use Rattle.ft12.proofs.Computed.{front_is, front_of-nil, front_of-whole, front_of-never}
+use Rattle.ft12.proofs.Computed.{front_of-spelling}
 use Rattle.ft12.proofs.laws.front_is_computed.Goals as goal
 
 pub returns : goal.returns

@@ -1,7 +1,8 @@
 use Rattle.std.proofs.Common.{All, take, arith, subst}
 use Rattle.std.proofs.lemmas.List.Elements.{All-from_get_or, All-take}
 use Rattle.ft12.specs.Spelling.{IsOctet}
-use Rattle.ft12.proofs.Returns.{variable_more, variable_sum, variable_end, variable_whole, octets_user}
+use Rattle.ft12.proofs.Returns.{variable_more, variable_sum, variable_end, variable_whole}
+use Rattle.ft12.proofs.Returns.{octets_user}
 use Rattle.ft12.proofs.reading.after_header.Goals as goal
 
 pub returns-in-Incomplete : goal.returns-in-Incomplete
@@ -29,7 +30,9 @@ returns-in-Complete c =
     (All-from_get_or IsOctet c.args.rest.now 0 (λ i lt. omega (arith, c.type_inv.rest i))) in
     let fits = octets_user c.args.size c.parts-c.result.0 c.parts-c.result.1 c.parts-c.result.2.now
     (subst (All IsOctet) c.parts-c.ensures.parts octets) in
-    rw (← c.from-len.ensures) (variable_whole c.args.size c.from-len.result c.parts-c.result.0 c.parts-c.result.1
+    rw (← c.from-len.ensures) (variable_whole c.args.size c.from-len.result c.parts-c.result.0
+    c.parts-c.result.1
     (record { items = c.parts-c.result.2.now }) c.args.rest.now (omega (arith, c.ranges.len.fits))
-    c.parts-c.ensures.parts c.in-Complete.ensures (record { control = fits.0; address = c.parts-c.ensures.address })
+    c.parts-c.ensures.parts c.in-Complete.ensures
+    (record { control = fits.0; address = c.parts-c.ensures.address })
     fits.1)

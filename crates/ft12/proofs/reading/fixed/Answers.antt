@@ -6,12 +6,15 @@ use Rattle.ft12.proofs.reading.fixed.Goals as goal
 
 pub returns-in-Incomplete : goal.returns-in-Incomplete
 returns-in-Incomplete c = fixed_more c.args.size _ c.args.rest.now (omega arith)
-    (All-from_get_or IsOctet c.args.rest.now 0 (λ i lt. omega (arith, c.type_inv.rest i))) c.in-Incomplete.ensures
+    (All-from_get_or IsOctet c.args.rest.now 0 (λ i lt. omega (arith, c.type_inv.rest i)))
+    c.in-Incomplete.ensures
 
 pub returns-in-WrongSum : goal.returns-in-WrongSum
 returns-in-WrongSum c = fixed_sum c.args.size _ c.args.rest.now (omega arith)
-    (All-from_get_or IsOctet c.args.rest.now 0 (λ i lt. omega (arith, c.type_inv.rest i))) c.in-WrongSum.ensures
+    (All-from_get_or IsOctet c.args.rest.now 0 (λ i lt. omega (arith, c.type_inv.rest i)))
+    c.in-WrongSum.ensures
 
 pub returns-in-WrongEnd : goal.returns-in-WrongEnd
 returns-in-WrongEnd c = fixed_end c.args.size _ c.args.rest.now (omega arith)
-    (All-from_get_or IsOctet c.args.rest.now 0 (λ i lt. omega (arith, c.type_inv.rest i))) c.in-WrongEnd.ensures
+    (All-from_get_or IsOctet c.args.rest.now 0 (λ i lt. omega (arith, c.type_inv.rest i)))
+    c.in-WrongEnd.ensures

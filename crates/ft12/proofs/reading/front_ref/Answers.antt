@@ -14,5 +14,6 @@ returns-in_default c = subst (IsProperBeginning c.args.size)
 pub returns-in_default-start : goal.returns-in_default-start
 returns-in_default-start c =
     subst (λ (x : List ℕ). IsFront c.args.size x (Never 0 Start)) (sym c.in-Some.ensures.cases.0)
-    (no_start c.args.size c.in-Some.start.now c.in-Some.rest.now (λ h. omega arith) (λ h. omega arith)
+    (no_start c.args.size c.in-Some.start.now c.in-Some.rest.now (λ h. omega arith)
+    (λ h. omega arith)
     (λ h. omega arith))

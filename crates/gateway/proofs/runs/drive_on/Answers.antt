@@ -6,14 +6,18 @@ use Rattle.gateway.specs.Traffic.{IsFaithful}
 use Rattle.gateway.specs.Setups.{setup_of}
 use Rattle.gateway.proofs.Starting.{of_told}
 use Rattle.gateway.proofs.Accounting.{accounted, ordered, ends_accounted, told_same, unless_device}
-use Rattle.gateway.proofs.Events.{come, more_events}
+use Rattle.gateway.proofs.Following.{come, more_events}
 use Rattle.gateway.proofs.runs.drive_on.Goals as goal
 
 pub loop-preserved : goal.loop-preserved
 loop-preserved g c = record {
-  kept = λ p t r. c.if-not-step.ensures.kept p (come p _ _ c.loop.gateway _ _ _ c.next-next.ensures.told
+  kept =
+      λ p t r. c.if-not-step.ensures.kept p
+      (come p _ _ c.loop.gateway _ _ _ c.next-next.ensures.told
       c.in-Ok.ensures.came (c.loop.invariant.kept p t r) (c.loop.invariant.rests p t r));
-  rests = λ p t r. c.if-not-step.ensures.rests p (come p _ _ c.loop.gateway _ _ _ c.next-next.ensures.told
+  rests =
+      λ p t r. c.if-not-step.ensures.rests p
+      (come p _ _ c.loop.gateway _ _ _ c.next-next.ensures.told
       c.in-Ok.ensures.came (c.loop.invariant.kept p t r) (c.loop.invariant.rests p t r));
   events = more_events c.loop.counter _ _ _ _ _ _ _ c.loop.invariant.events c.next-next.ensures.told
       c.in-Ok.ensures.came c.if-not-step.ensures.puts.events;
@@ -36,7 +40,8 @@ returns-clause-accounts g c = λ p t r. accounted p _ _ (c.loop.invariant.kept p
 
 pub returns-then-not-step-clause-faithful : goal.returns-then-not-step-clause-faithful
 returns-then-not-step-clause-faithful g c = λ p t r. c.if-not-step.ensures.faithful p
-    (come p _ _ c.loop.gateway _ _ _ c.next-next.ensures.told c.in-Ok.ensures.came (c.loop.invariant.kept p t r)
+    (come p _ _ c.loop.gateway _ _ _ c.next-next.ensures.told c.in-Ok.ensures.came
+    (c.loop.invariant.kept p t r)
     (c.loop.invariant.rests p t r))
 
 pub returns-then-not-step-clause-device : goal.returns-then-not-step-clause-device
@@ -60,7 +65,8 @@ returns-in-Err-clause-rests g c = λ p t r. unless_device c.in-Err.end _
 
 pub returns-in-Err-clause-kept : goal.returns-in-Err-clause-kept
 returns-in-Err-clause-kept g c = λ p t r. unless_device c.in-Err.end _
-    (subst (Follows p c.loop.gateway) (sym (told_same _ _ _ c.next-next.ensures.told c.in-Err.ensures.none))
+    (subst (Follows p c.loop.gateway)
+    (sym (told_same _ _ _ c.next-next.ensures.told c.in-Err.ensures.none))
     (c.loop.invariant.kept p t r))
 
 pub returns-in-Err-clause-script : goal.returns-in-Err-clause-script
@@ -74,13 +80,15 @@ pub returns-then-not-step-clause-order : goal.returns-then-not-step-clause-order
 returns-then-not-step-clause-order g c = λ s t r.
     let p = setup_of s in
     of_told (IsFaithful p) KeepsOrder _ (c.if-not-step.ensures.faithful p
-    (come p _ _ c.loop.gateway _ _ _ c.next-next.ensures.told c.in-Ok.ensures.came (c.loop.invariant.kept p t r)
+    (come p _ _ c.loop.gateway _ _ _ c.next-next.ensures.told c.in-Ok.ensures.came
+    (c.loop.invariant.kept p t r)
     (c.loop.invariant.rests p t r))) (c.steps_keep_their_order.ensures.settings s)
 
 pub returns-in-Err-clause-order : goal.returns-in-Err-clause-order
 returns-in-Err-clause-order g c = λ s t r.
     let p = setup_of s in
-    subst (λ told. IfSome told KeepsOrder) (sym (told_same _ _ _ c.next-next.ensures.told c.in-Err.ensures.none))
+    subst (λ told. IfSome told KeepsOrder)
+    (sym (told_same _ _ _ c.next-next.ensures.told c.in-Err.ensures.none))
     (ordered p _ _ (c.steps_keep_their_order.ensures.settings s) (c.loop.invariant.kept p t r))
 
 pub returns-clause-order : goal.returns-clause-order

@@ -4,5 +4,6 @@ use Rattle.journal.proofs.stations.note_asked.Given as goal
 
 abbrev pub invariant-loop-station : goal.invariant-loop-station
 invariant-loop-station l =
-    take l.station-index l.stations ++ map (after_request l.address l.asking l.now) (drop l.station-index l.stations)
+    take l.station-index l.stations ++ map (after_request l.address l.asking l.now)
+    (drop l.station-index l.stations)
     ≡ map (after_request l.address l.asking l.now) l.fn.stations

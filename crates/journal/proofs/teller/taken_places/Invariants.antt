@@ -6,5 +6,6 @@ use Rattle.journal.proofs.teller.taken_places.Given as goal
 abbrev pub invariant-loop-piece : goal.invariant-loop-piece
 invariant-loop-piece l = record {
   told : l.taken ≤ 2 ^ 64 - 1;
-  all : counted (l.taken + length l.piece-iterator) ≡ counted (length (kept l.gateway.centre.queue));
+  all : counted (l.taken + length l.piece-iterator)
+      ≡ counted (length (kept l.gateway.centre.queue));
 }

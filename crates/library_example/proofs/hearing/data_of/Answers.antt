@@ -6,7 +6,9 @@ use Rattle.ft12.specs.declared.frame.Frame.TheVariants.{Data}
 use Rattle.ft12.specs.declared.frame.LinkSize.TheVariants.{One}
 use Rattle.ft12.specs.Spelling.{IsLineFrame}
 use Rattle.library_example.proofs.hearing.data_of.Goals as goal
-use Rattle.library_example.proofs.hearing.data_of.Goals.{in_default-via-in-Whole-Data-default+else-len-octets, in_default-via-in-Whole+in_default, in_default-via-in_default}
+use Rattle.library_example.proofs.hearing.data_of.Goals.{in_default-via-in-Whole-Data-default+else-len-octets}
+use Rattle.library_example.proofs.hearing.data_of.Goals.{in_default-via-in-Whole+in_default}
+use Rattle.library_example.proofs.hearing.data_of.Goals.{in_default-via-in_default}
 
 -- The octets have one front. Where they are such a frame it is that one, whole.
 pub returns-in_default-clause-only : goal.returns-in_default-clause-only

@@ -14,5 +14,6 @@ invariant-loop-object l = record {
   finite : (goal.iterator-loop-object).is_finite l.object-iterator;
   all : l.points.items ++ map (point_of l.asdu.kind) (infos_left l.object-iterator)
       ≡ map (point_of l.asdu.kind) (value_of l.asdu).infos;
-  sized : AllByRecursion (IsInfo l.asdu.kind (ioa_len l.asdu.sizes.ioa)) (infos_left l.object-iterator);
+  sized : AllByRecursion (IsInfo l.asdu.kind (ioa_len l.asdu.sizes.ioa))
+      (infos_left l.object-iterator);
 }

@@ -5,10 +5,12 @@ use Rattle.link.proofs.Heeding.{sending_heeds}
 use Rattle.link.proofs.flags.flags_are_heeded.Goals as goal
 
 pub returns-clause-acd : goal.returns-clause-acd
-returns-clause-acd c = λ settings addresses p e station t. ap (λ (f : Flags). f.acd) (sym (t.flags station))
+returns-clause-acd c = λ settings addresses p e station t. ap (λ (f : Flags). f.acd)
+    (sym (t.flags station))
 
 pub returns-clause-dfc : goal.returns-clause-dfc
-returns-clause-dfc c = λ settings addresses p e station t. ap (λ (f : Flags). f.dfc) (sym (t.flags station))
+returns-clause-dfc c = λ settings addresses p e station t. ap (λ (f : Flags). f.dfc)
+    (sym (t.flags station))
 
 pub returns-clause-heeds : goal.returns-clause-heeds
 returns-clause-heeds c = λ settings addresses p e may_poll s t sent new. sending_heeds

@@ -22,5 +22,6 @@ returns-clause-due c = λ size addresses answer_ms at e station. due_gaps
     (front_of size) addresses answer_ms at e station
 
 pub returns-clause-next : goal.returns-clause-next
-returns-clause-next c = λ size addresses now s e station. next_gaps (front_of size) addresses now s e station
+returns-clause-next c = λ size addresses now s e station. next_gaps (front_of size) addresses now s
+    e station
     (c.front_is_computed.ensures.nothing size)

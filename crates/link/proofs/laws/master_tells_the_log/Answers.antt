@@ -1,6 +1,7 @@
 use Rattle.ft12.specs.Fronts.{front_of}
 use Rattle.link.specs.Telling.{IsStable}
-use Rattle.link.proofs.Called.{start_tells, hear_tells, due_tells, ask_tells, offer_tells, withdraw_tells}
+use Rattle.link.proofs.Called.{start_tells, hear_tells, due_tells, ask_tells, offer_tells}
+use Rattle.link.proofs.Called.{withdraw_tells}
 use Rattle.link.proofs.laws.master_tells_the_log.Goals as goal
 
 pub returns-clause-start : goal.returns-clause-start

@@ -17,7 +17,8 @@ returns-clause-octets c = λ settings addresses p e octets t.
     (hear_reports (front_of settings.size) settings addresses p e.ended e.current octets t)
 
 pub returns-clause-due : goal.returns-clause-due
-returns-clause-due c = λ size address answer_ms at e. due_reports (front_of size) address answer_ms at e
+returns-clause-due c = λ size address answer_ms at e. due_reports (front_of size) address answer_ms
+    at e
 
 pub returns-clause-next : goal.returns-clause-next
 returns-clause-next c = λ size address now s e. next_reports (front_of size) address now s e

@@ -19,4 +19,9 @@ pub returns-in-More : goal.returns-in-More
 returns-in-More c =
     let fed = fed_so c.front_is_computed.ensures.only _ _ _ _ _ _
     (record { listening = c.feed.ensures.listening; deaf = c.feed.ensures.deaf }) in
-    record { frame = sym (quiet _ c.in-More.is) ∙ fed.0; so_far = fed.1; size = c.feed.ensures.size }
+    record {
+      frame = sym (quiet _ c.in-More.is) ∙ fed.0;
+      so_far = fed.1;
+      size =
+          c.feed.ensures.size;
+    }

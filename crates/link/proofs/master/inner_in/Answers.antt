@@ -7,9 +7,11 @@ returns-then-is_single-clause-due c = λ lt. single_due c.front_is_computed.ensu
     (search (rules, c.is_empty.ensures, c.if-is_empty.true))
 
 pub returns-clause-all : goal.returns-clause-all
-returns-clause-all c = λ all. inner_fed c.front_is_computed.ensures.only _ _ _ _ _ _ _ c.feed_inner.ensures.listening
+returns-clause-all c = λ all. inner_fed c.front_is_computed.ensures.only _ _ _ _ _ _ _
+    c.feed_inner.ensures.listening
     c.feed_inner.ensures.deaf all
 
 pub returns-clause-due : goal.returns-clause-due
-returns-clause-due c = λ lt. inner_due c.front_is_computed.ensures.only _ _ _ _ _ _ _ c.feed_inner.ensures.listening
+returns-clause-due c = λ lt. inner_due c.front_is_computed.ensures.only _ _ _ _ _ _ _
+    c.feed_inner.ensures.listening
     c.feed_inner.ensures.deaf lt

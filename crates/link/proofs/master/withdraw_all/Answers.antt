@@ -7,7 +7,9 @@ use Rattle.link.proofs.master.withdraw_all.Goals as goal
 pub loop-station-preserved : goal.loop-station-preserved
 loop-station-preserved c =
     let within : c.loop-station.station-index < length c.args.stations.now = omega arith in
-    map_over_more without_offer c.args.stations.now c.loop-station.stations c.loop-station.station-index
-    (slice_index_or c.loop-station.stations c.loop-station.station-index c.station-item.result) within
+    map_over_more without_offer c.args.stations.now c.loop-station.stations
+    c.loop-station.station-index
+    (slice_index_or c.loop-station.stations c.loop-station.station-index c.station-item.result)
+    within
     c.loop-station.invariant
     (get_or_default c.loop-station.stations c.loop-station.station-index _ _ (omega arith))

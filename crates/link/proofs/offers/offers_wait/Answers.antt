@@ -1,4 +1,5 @@
-use Rattle.link.proofs.Offering.{octets_keep, due_keeps, offer_waits, withdraw_ends, quiet_keeps, sent_ends, begun_waited, offer_counts}
+use Rattle.link.proofs.Offering.{octets_keep, due_keeps, offer_waits, withdraw_ends, quiet_keeps}
+use Rattle.link.proofs.Offering.{sent_ends, begun_waited, offer_counts}
 use Rattle.link.proofs.offers.offers_wait.Goals as goal
 
 pub returns-clause-octets : goal.returns-clause-octets

@@ -6,7 +6,8 @@ use Rattle.link.proofs.refinement.sessions_are_known.Goals as goal
 
 pub returns-clause-each : goal.returns-clause-each
 returns-clause-each c = λ settings station xs turns keeps honest.
-    (known_from settings station Down None xs turns unreset honest.end [] refl keeps honest.run honest.fronts).each
+    (known_from settings station Down None xs turns unreset honest.end [] refl keeps honest.run
+    honest.fronts).each
 
 pub returns-clause-learnt_there : goal.returns-clause-learnt_there
 returns-clause-learnt_there c = λ settings station xs turns keeps honest.

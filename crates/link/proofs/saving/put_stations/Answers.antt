@@ -9,11 +9,15 @@ use Rattle.link.proofs.saving.put_stations.Goals as goal
 
 pub loop-station-preserved : goal.loop-station-preserved
 loop-station-preserved g c =
-    let more = (take_more c.args.stations.now c.loop-station.station-index c.station-item.result c.loop-station-test.true
-    ∙ ap (λ (x : StationState). take c.loop-station.station-index c.args.stations.now ++ x ∷ []) (sym c.station-item.is)) in
+    let more =
+    (take_more c.args.stations.now c.loop-station.station-index c.station-item.result
+    c.loop-station-test.true
+    ∙ ap (λ (x : StationState). take c.loop-station.station-index c.args.stations.now ++ x ∷ [])
+    (sym c.station-item.is)) in
     let P : List StationState → Type 0 = λ l. AllByRecursion FitsSavedStation l in (
       put_one_more _ _ c.args.stations.now c.loop-station.station-index c.station-item.result _
           c.loop-station.invariant.0 c.in_ok-put_station.ensures.lines more,
-      subst P (sym more) (all_push (take c.loop-station.station-index c.args.stations.now) c.station-item.result
+      subst P (sym more) (all_push (take c.loop-station.station-index c.args.stations.now)
+          c.station-item.result
           c.loop-station.invariant.1 c.in_ok-put_station.ensures.fits),
     )

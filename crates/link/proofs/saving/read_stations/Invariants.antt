@@ -6,6 +6,8 @@ use Rattle.link.proofs.saving.read_stations.Given as goal
 
 abbrev pub invariant-loop-i : goal.invariant-loop-i
 invariant-loop-i g l =
-    (ss : List StationState) (rest : List (List ℕ)) → length ss ≡ l.fn.count → AllByRecursion FitsSavedStation ss
+    (ss : List StationState) (rest : List (List ℕ)) → length ss ≡ l.fn.count
+    → AllByRecursion FitsSavedStation ss
     → g.L.Lines.coming l.fn.lines ≡ lines_of ss ++ rest
-    → (l.stations.items ≡ take l._i ss) × (g.L.Lines.coming l.lines ≡ lines_of (drop l._i ss) ++ rest)
+    → (l.stations.items ≡ take l._i ss)
+    × (g.L.Lines.coming l.lines ≡ lines_of (drop l._i ss) ++ rest)

@@ -12,4 +12,5 @@ returns c = λ settings addresses first later station some fit burst there may_f
           law.whole settings.size;
       never = law.never settings.size;
     } in
-    run_waits settings addresses stable first later station some fit burst there may_first may_later wants
+    run_waits settings addresses stable first later station some fit burst there may_first may_later
+    wants

@@ -20,7 +20,12 @@ returns-clause-visits c = λ settings addresses calls some fit burst may.
 
 pub returns-clause-most : goal.returns-clause-most
 returns-clause-most c = λ settings station link xs v.
-    omega (arith, visit_room settings station link (whole_visit settings link) xs v, whole_room settings link)
+    omega (
+      arith,
+      visit_room settings station link (whole_visit settings link) xs v,
+      whole_room
+          settings link,
+    )
 
 pub returns-clause-resets : goal.returns-clause-resets
 returns-clause-resets c = visit_resets

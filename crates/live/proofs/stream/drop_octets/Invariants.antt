@@ -6,5 +6,6 @@ use Rattle.live.proofs.stream.drop_octets.Given as goal
 
 abbrev pub invariant-loop : goal.invariant-loop
 invariant-loop g l =
-    (looks : List (Result ℕ Error)) × (g.S.Stream.calls l.stream ≡ looked looks (g.S.Stream.calls l.fn.stream))
+    (looks : List (Result ℕ Error))
+    × (g.S.Stream.calls l.stream ≡ looked looks (g.S.Stream.calls l.fn.stream))
     × All (λ a. brings a ≡ true) looks × (length looks + 1 ≡ l.counter)

@@ -19,13 +19,16 @@ pub returns-in_default-clause-rests : goal.returns-in_default-clause-rests
 returns-in_default-clause-rests g c = λ p begins rested.
     subst (λ (told : Option Log). UnlessDevice c.drive_on-end.result (IfSome told (HasRested p)))
     (sym c.pour-is_whole.ensures.log)
-    (c.drive_on-end.ensures.rests p (c.parts.invariant.kept p begins rested) (c.parts.invariant.rests p begins rested))
+    (c.drive_on-end.ensures.rests p (c.parts.invariant.kept p begins rested)
+    (c.parts.invariant.rests p begins rested))
 
 pub returns-in_default-clause-kept : goal.returns-in_default-clause-kept
 returns-in_default-clause-kept g c = λ p begins rested.
-    subst (λ (told : Option Log). UnlessDevice c.drive_on-end.result (Follows p c.drive_on-end.new.gateway told))
+    subst (λ (told : Option Log). UnlessDevice c.drive_on-end.result
+    (Follows p c.drive_on-end.new.gateway told))
     (sym c.pour-is_whole.ensures.log)
-    (c.drive_on-end.ensures.kept p (c.parts.invariant.kept p begins rested) (c.parts.invariant.rests p begins rested))
+    (c.drive_on-end.ensures.kept p (c.parts.invariant.kept p begins rested)
+    (c.parts.invariant.rests p begins rested))
 
 pub returns-in_default-clause-accounts : goal.returns-in_default-clause-accounts
 returns-in_default-clause-accounts g c = λ p begins rested.
@@ -46,8 +49,10 @@ returns-in_default-clause-all g c = c.pour-is_whole.ensures.log ∙ c.pour-is_wh
 pub returns-in_default-clause-poured : goal.returns-in_default-clause-poured
 returns-in_default-clause-poured g c = λ before poured.
     c.pour-is_whole.ensures.poured before
-    (subst (λ (log : Log). IsPoured c.parts.is_whole before (g.W.Write.contents c.parts.out) (lines_of_actions log))
-    (sym (g.met.P.Paged.poured_stays c.drive_on-end.new.port c.parts.port c.drive_on-end.ensures.script))
+    (subst (λ (log : Log). IsPoured c.parts.is_whole before (g.W.Write.contents c.parts.out)
+    (lines_of_actions log))
+    (sym (g.met.P.Paged.poured_stays c.drive_on-end.new.port c.parts.port
+    c.drive_on-end.ensures.script))
     (c.parts.invariant.poured before poured))
 
 pub parts-preserved : goal.parts-preserved
@@ -57,10 +62,13 @@ parts-preserved g c =
     let old = g.P.Port.log c.args.port.now in
     record {
       within = search rules;
-      more = subst (λ (told : Option Log). MoreEvents (c.parts.done + 256) old told) (sym c.pour-is_whole.ensures.log)
-          (turns_joined c.parts.done 256 (c.parts.done + 256) old (g.P.Port.log c.parts.port) (g.P.Port.log port) refl
+      more = subst (λ (told : Option Log). MoreEvents (c.parts.done + 256) old told)
+          (sym c.pour-is_whole.ensures.log)
+          (turns_joined c.parts.done 256 (c.parts.done + 256) old (g.P.Port.log c.parts.port)
+          (g.P.Port.log port) refl
           c.parts.invariant.more (c.drive_on-end.ensures.turns c.in-Turns.is));
-      kept = λ p begins rested. subst (λ (told : Option Log). Follows p c.drive_on-end.new.gateway told)
+      kept = λ p begins rested. subst (λ (told : Option Log). Follows p c.drive_on-end.new.gateway
+          told)
           (sym c.pour-is_whole.ensures.log)
           (at_turns end (Follows p c.drive_on-end.new.gateway (g.P.Port.log port)) c.in-Turns.is
           (c.drive_on-end.ensures.kept p (c.parts.invariant.kept p begins rested)
@@ -71,7 +79,8 @@ parts-preserved g c =
           (c.drive_on-end.ensures.rests p (c.parts.invariant.kept p begins rested)
           (c.parts.invariant.rests p begins rested)));
       course = c.pour-is_whole.ensures.course
-          ∙ g.met.P.Paged.course_stays port c.parts.port c.drive_on-end.ensures.script ∙ c.parts.invariant.course;
+          ∙ g.met.P.Paged.course_stays port c.parts.port c.drive_on-end.ensures.script
+          ∙ c.parts.invariant.course;
       healthy = search rules;
       poured = λ before poured. c.pour-is_whole.ensures.poured before
           (subst (λ (log : Log). IsPoured c.parts.is_whole before (g.W.Write.contents c.parts.out)
@@ -96,9 +105,11 @@ returns-clause-rests g c = λ p begins rested.
 
 pub returns-clause-kept : goal.returns-clause-kept
 returns-clause-kept g c = λ p begins rested.
-    subst (λ (told : Option Log). UnlessDevice c.drive_on-end-2.result (Follows p c.drive_on-end-2.new.gateway told))
+    subst (λ (told : Option Log). UnlessDevice c.drive_on-end-2.result
+    (Follows p c.drive_on-end-2.new.gateway told))
     (sym c.pour-is_whole-2.ensures.log)
-    (c.drive_on-end-2.ensures.kept p (c.parts.invariant.kept p begins rested) (c.parts.invariant.rests p begins rested))
+    (c.drive_on-end-2.ensures.kept p (c.parts.invariant.kept p begins rested)
+    (c.parts.invariant.rests p begins rested))
 
 pub returns-clause-accounts : goal.returns-clause-accounts
 returns-clause-accounts g c = λ p begins rested.
@@ -110,7 +121,8 @@ returns-clause-accounts g c = λ p begins rested.
 
 pub returns-clause-course : goal.returns-clause-course
 returns-clause-course g c = c.pour-is_whole-2.ensures.course
-    ∙ g.met.P.Paged.course_stays c.drive_on-end-2.new.port c.parts.port c.drive_on-end-2.ensures.script
+    ∙ g.met.P.Paged.course_stays c.drive_on-end-2.new.port c.parts.port
+    c.drive_on-end-2.ensures.script
     ∙ c.parts.invariant.course
 
 pub returns-clause-all : goal.returns-clause-all
@@ -119,6 +131,8 @@ returns-clause-all g c = c.pour-is_whole-2.ensures.log ∙ c.pour-is_whole-2.ens
 pub returns-clause-poured : goal.returns-clause-poured
 returns-clause-poured g c = λ before poured.
     c.pour-is_whole-2.ensures.poured before
-    (subst (λ (log : Log). IsPoured c.parts.is_whole before (g.W.Write.contents c.parts.out) (lines_of_actions log))
-    (sym (g.met.P.Paged.poured_stays c.drive_on-end-2.new.port c.parts.port c.drive_on-end-2.ensures.script))
+    (subst (λ (log : Log). IsPoured c.parts.is_whole before (g.W.Write.contents c.parts.out)
+    (lines_of_actions log))
+    (sym (g.met.P.Paged.poured_stays c.drive_on-end-2.new.port c.parts.port
+    c.drive_on-end-2.ensures.script))
     (c.parts.invariant.poured before poured))

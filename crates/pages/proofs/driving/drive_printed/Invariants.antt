@@ -12,15 +12,19 @@ abbrev pub invariant-parts : goal.invariant-parts
 invariant-parts g l = record {
   within : l.done ≤ l.turns;
   more : MoreEvents l.done (g.P.Port.log l.fn.port) (g.P.Port.log l.port);
-  kept : (p : Setup) → Follows p l.fn.gateway (g.P.Port.log l.fn.port) → Rests p (g.P.Port.log l.fn.port)
+  kept : (p : Setup) → Follows p l.fn.gateway (g.P.Port.log l.fn.port)
+      → Rests p (g.P.Port.log l.fn.port)
       → Follows p l.gateway (g.P.Port.log l.port);
-  rests : (p : Setup) → Follows p l.fn.gateway (g.P.Port.log l.fn.port) → Rests p (g.P.Port.log l.fn.port)
+  rests : (p : Setup) → Follows p l.fn.gateway (g.P.Port.log l.fn.port)
+      → Rests p (g.P.Port.log l.fn.port)
       → Rests p (g.P.Port.log l.port);
   course : g.P.Paged.course l.port ≡ g.P.Paged.course l.fn.port;
   healthy : g.P.Port.failed l.port ≡ 0;
   poured : (before : Option (List ℕ)) →
-      IsPoured l.fn.was_whole before (g.W.Write.contents l.fn.out) (lines_of_actions (g.P.Paged.poured l.fn.port)) →
-      IsPoured l.is_whole before (g.W.Write.contents l.out) (lines_of_actions (g.P.Paged.poured l.port));
+      IsPoured l.fn.was_whole before (g.W.Write.contents l.fn.out)
+      (lines_of_actions (g.P.Paged.poured l.fn.port)) →
+      IsPoured l.is_whole before (g.W.Write.contents l.out)
+      (lines_of_actions (g.P.Paged.poured l.port));
   unwatched : l.is_told ≡ false → l.err ≡ l.fn.err;
 }
 

@@ -18,14 +18,17 @@ returns-clause-poured g c = λ before poured.
     (sym c.clear_page.ensures.poured) c.page-page.ensures in
     elim c.if-is_whole.branch [
       | then-is_whole w ↦
-          poured_as g.W.Write.contents before zs c.if-is_whole.is_taken (is_ok w.print.result) c.if-is_whole.out
+          poured_as g.W.Write.contents before zs c.if-is_whole.is_taken (is_ok w.print.result)
+          c.if-is_whole.out
           w.print.new.out (w.is_taken-is ∙ w.is_ok-is_taken.ensures.value) w.out-is
           (poured_more before old (g.W.Write.contents w.print.new.out) xs ys zs w.print.result
           (subst (λ (b : Bool). IsPoured b before old xs) w.if-is_whole.true poured) lines
           w.print.ensures.all w.print.ensures.begun)
       | else-is_whole w ↦
-          poured_as g.W.Write.contents before zs c.if-is_whole.is_taken c.args.is_whole c.if-is_whole.out c.args.out.now
-          w.is_taken-is w.out-is (subst (λ (b : Bool). IsPoured b before old zs) (sym w.if-is_whole.false)
+          poured_as g.W.Write.contents before zs c.if-is_whole.is_taken c.args.is_whole
+          c.if-is_whole.out c.args.out.now
+          w.is_taken-is w.out-is (subst (λ (b : Bool). IsPoured b before old zs)
+          (sym w.if-is_whole.false)
           (subst (IsBegun before old) lines (begun_longer before old xs ys
           (subst (λ (b : Bool). IsPoured b before old xs) w.if-is_whole.false poured))))
     ]

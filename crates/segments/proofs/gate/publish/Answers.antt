@@ -6,8 +6,10 @@ pub returns-in_err-done-3-clause-crash : goal.returns-in_err-done-3-clause-crash
 returns-in_err-done-3-clause-crash g c =
     let r = c.requires in
     publish_crash c.args.head.now _ _ _ _ r.head r.first r.within c.write_at.ensures.others
-    (ok_of c.done.result c.write_at.result _ c.done.ensures c.in_ok-done.was c.write_at.ensures.written)
-    (ok_of c.done-2.result c.sync.result _ c.done-2.ensures c.in_ok-done-2.was c.sync.ensures.durable)
+    (ok_of c.done.result c.write_at.result _ c.done.ensures c.in_ok-done.was
+    c.write_at.ensures.written)
+    (ok_of c.done-2.result c.sync.result _ c.done-2.ensures c.in_ok-done-2.was
+    c.sync.ensures.durable)
     c.write_at-2.ensures.crash
 
 pub returns-clause-written : goal.returns-clause-written
@@ -15,14 +17,18 @@ returns-clause-written g c =
     let r = c.requires in
     on_ok c.done-4.result (c.sync-2.ensures.seen ∙
     publish_seen c.args.head.now _ _ _ _ r.head r.first r.within c.write_at.ensures.others
-    (ok_of c.done.result c.write_at.result _ c.done.ensures c.in_ok-done.was c.write_at.ensures.written) c.sync.ensures.seen
+    (ok_of c.done.result c.write_at.result _ c.done.ensures c.in_ok-done.was
+    c.write_at.ensures.written) c.sync.ensures.seen
     c.write_at-2.ensures.others
-    (ok_of c.done-3.result c.write_at-2.result _ c.done-3.ensures c.in_ok-done-3.was c.write_at-2.ensures.written))
+    (ok_of c.done-3.result c.write_at-2.result _ c.done-3.ensures c.in_ok-done-3.was
+    c.write_at-2.ensures.written))
 
 pub returns-clause-crash : goal.returns-clause-crash
 returns-clause-crash g c left may =
     let r = c.requires in
     publish_crash c.args.head.now _ _ _ _ r.head r.first r.within c.write_at.ensures.others
-    (ok_of c.done.result c.write_at.result _ c.done.ensures c.in_ok-done.was c.write_at.ensures.written)
-    (ok_of c.done-2.result c.sync.result _ c.done-2.ensures c.in_ok-done-2.was c.sync.ensures.durable)
+    (ok_of c.done.result c.write_at.result _ c.done.ensures c.in_ok-done.was
+    c.write_at.ensures.written)
+    (ok_of c.done-2.result c.sync.result _ c.done-2.ensures c.in_ok-done-2.was
+    c.sync.ensures.durable)
     c.write_at-2.ensures.crash left (c.sync-2.ensures.crash left may)

@@ -1,5 +1,6 @@
 use Rattle.std.proofs.Common.{◌∙◌, ◌≤◌, ap, List, ℕ, ◌++◌, drop, arith, length}
-use Rattle.segments.proofs.CrashLemmas.{whole_open, published_length, published_text, published_blank, ended_length, at_deref}
+use Rattle.segments.proofs.CrashLemmas.{whole_open, published_length, published_text}
+use Rattle.segments.proofs.CrashLemmas.{published_blank, ended_length, at_deref}
 use Rattle.segments.proofs.writer.fill.Goals as goal
 
 pub returns-in-Ok-clause-text : goal.returns-in-Ok-clause-text
@@ -7,24 +8,30 @@ returns-in-Ok-clause-text g c =
     let p = c.in_ok-end.ensures in
     let some : 87 ≤ c.in_ok-end.end = omega (arith, p.end, c.requires.behind) in
     let within : c.in_ok-end.end ≤ c.in_ok-end.size = omega (arith, p.size) in
-    published_text c.in_ok-end.head.items _ _ _ c.in_ok-end.size c.in_ok-end.end p.head some within p.sized
-    (c.in-Ok.ensures.written ∙ ap (λ (l : List ℕ). l ++ drop 87 (g.D.Disk.seen c.prepare.new.file)) c.deref.ensures.value) p.text
+    published_text c.in_ok-end.head.items _ _ _ c.in_ok-end.size c.in_ok-end.end p.head some within
+    p.sized
+    (c.in-Ok.ensures.written ∙ ap (λ (l : List ℕ). l ++ drop 87 (g.D.Disk.seen c.prepare.new.file))
+    c.deref.ensures.value) p.text
 
 pub returns-in-Ok-clause-sized : goal.returns-in-Ok-clause-sized
 returns-in-Ok-clause-sized g c =
     let p = c.in_ok-end.ensures in
     let some : 87 ≤ c.in_ok-end.end = omega (arith, p.end, c.requires.behind) in
     let within : c.in_ok-end.end ≤ c.in_ok-end.size = omega (arith, p.size) in
-    published_length c.in_ok-end.head.items _ _ c.in_ok-end.size c.in_ok-end.end p.head some within p.sized
-    (c.in-Ok.ensures.written ∙ ap (λ (l : List ℕ). l ++ drop 87 (g.D.Disk.seen c.prepare.new.file)) c.deref.ensures.value)
+    published_length c.in_ok-end.head.items _ _ c.in_ok-end.size c.in_ok-end.end p.head some within
+    p.sized
+    (c.in-Ok.ensures.written ∙ ap (λ (l : List ℕ). l ++ drop 87 (g.D.Disk.seen c.prepare.new.file))
+    c.deref.ensures.value)
 
 pub returns-in-Ok-clause-end : goal.returns-in-Ok-clause-end
 returns-in-Ok-clause-end g c =
     let p = c.in_ok-end.ensures in
     let some : 87 ≤ c.in_ok-end.end = omega (arith, p.end, c.requires.behind) in
     let within : c.in_ok-end.end ≤ c.in_ok-end.size = omega (arith, p.size) in
-    let long = published_length c.in_ok-end.head.items _ _ c.in_ok-end.size c.in_ok-end.end p.head some within p.sized
-    (c.in-Ok.ensures.written ∙ ap (λ (l : List ℕ). l ++ drop 87 (g.D.Disk.seen c.prepare.new.file)) c.deref.ensures.value) in
+    let long = published_length c.in_ok-end.head.items _ _ c.in_ok-end.size c.in_ok-end.end p.head
+    some within p.sized
+    (c.in-Ok.ensures.written ∙ ap (λ (l : List ℕ). l ++ drop 87 (g.D.Disk.seen c.prepare.new.file))
+    c.deref.ensures.value) in
     ended_length (g.D.Disk.seen c.publish.new.file) c.in_ok-end.end (omega (arith, long, within))
 
 pub returns-in-Ok-clause-blank : goal.returns-in-Ok-clause-blank
@@ -32,13 +39,17 @@ returns-in-Ok-clause-blank g c =
     let p = c.in_ok-end.ensures in
     let some : 87 ≤ c.in_ok-end.end = omega (arith, p.end, c.requires.behind) in
     published_blank c.in_ok-end.head.items _ _ c.in_ok-end.end p.head some p.blank
-    (c.in-Ok.ensures.written ∙ ap (λ (l : List ℕ). l ++ drop 87 (g.D.Disk.seen c.prepare.new.file)) c.deref.ensures.value)
+    (c.in-Ok.ensures.written ∙ ap (λ (l : List ℕ). l ++ drop 87 (g.D.Disk.seen c.prepare.new.file))
+    c.deref.ensures.value)
 
 pub returns-clause-crash : goal.returns-clause-crash
 returns-clause-crash g c =
     let p = c.in_ok-end.ensures in
     let some : 87 ≤ c.in_ok-end.end = omega (arith, p.end, c.requires.behind) in
-    let within : c.in_ok-end.end ≤ length (g.D.Disk.seen c.prepare.new.file) = omega (arith, p.size, p.sized) in
-    whole_open (g.D.Disk.may_leave c.publish.new.file) c.in_ok-end.end c.in_ok-end.head.items (g.D.Disk.seen c.prepare.new.file) _
+    let within : c.in_ok-end.end ≤ length (g.D.Disk.seen c.prepare.new.file) =
+    omega (arith, p.size, p.sized) in
+    whole_open (g.D.Disk.may_leave c.publish.new.file) c.in_ok-end.end c.in_ok-end.head.items
+    (g.D.Disk.seen c.prepare.new.file) _
     p.head some within p.blank p.text
-    (at_deref c.in_ok-end.head.items c.deref.result.now (g.D.Disk.seen c.prepare.new.file) (g.D.Disk.may_leave c.publish.new.file) c.deref.ensures.value c.publish.ensures.crash)
+    (at_deref c.in_ok-end.head.items c.deref.result.now (g.D.Disk.seen c.prepare.new.file)
+    (g.D.Disk.may_leave c.publish.new.file) c.deref.ensures.value c.publish.ensures.crash)

@@ -7,7 +7,8 @@ pub returns-clause-transferring : goal.returns-clause-transferring
 returns-clause-transferring c = λ p calls range. (run_keeps p calls range).transferring
 
 pub returns-clause-confirm : goal.returns-clause-confirm
-returns-clause-confirm c = λ p calls range. confirms p (run p calls).session (run p calls).history range
+returns-clause-confirm c = λ p calls range. confirms p (run p calls).session (run p calls).history
+    range
     (run_keeps p calls range)
 
 pub returns-clause-once : goal.returns-clause-once

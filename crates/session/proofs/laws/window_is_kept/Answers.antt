@@ -4,7 +4,8 @@ use Rattle.session.proofs.Standard.{at_most_k, sends}
 use Rattle.session.proofs.laws.window_is_kept.Goals as goal
 
 pub returns-clause-at_most_k : goal.returns-clause-at_most_k
-returns-clause-at_most_k c = λ p calls range. at_most_k p (run p calls).session (run p calls).history
+returns-clause-at_most_k c = λ p calls range. at_most_k p (run p calls).session
+    (run p calls).history
     (run_keeps p calls range)
 
 pub returns-clause-may_send : goal.returns-clause-may_send

@@ -18,4 +18,5 @@ pub returns-in-Some-clause-exact : goal.returns-in-Some-clause-exact
 returns-in-Some-clause-exact g c =
     let line = frame_only _ _ (sym c.frame_from.ensures ∙ c.in-Some.is) in
     c.in_ok-next.ensures.some
-    ∙ ap (λ (l : List ℕ). l ∷ g.L.Lines.coming c.next.new.self) (sym c.as_slice.ensures.value ∙ line)
+    ∙ ap (λ (l : List ℕ). l ∷ g.L.Lines.coming c.next.new.self) (sym c.as_slice.ensures.value
+    ∙ line)

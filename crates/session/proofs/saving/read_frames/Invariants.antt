@@ -10,6 +10,7 @@ invariant-loop-i g l = record {
       → g.L.Lines.coming l.fn.lines ≡ frame_lines fs ++ rest
       → (l.frames.items ≡ l.fn.frames.items ++ take l._i fs)
       × (g.L.Lines.coming l.lines ≡ frame_lines (drop l._i fs) ++ rest);
-  exact : Read l.fn.frames.items l.frames.items (g.L.Lines.coming l.fn.lines) (g.L.Lines.coming l.lines) l._i;
+  exact : Read l.fn.frames.items l.frames.items (g.L.Lines.coming l.fn.lines)
+      (g.L.Lines.coming l.lines) l._i;
   room : l.frames.capacity ≡ l.fn.frames.capacity;
 }

@@ -13,5 +13,6 @@ invariant-loop-object l = record {
   finite : (goal.iterator-loop-object).is_finite l.object-iterator;
   text : string_bytes l.lines ++ flat_map (object_line l.asdu.kind) (infos_left l.object-iterator)
       ≡ string_bytes l.initial.lines ++ flat_map (object_line l.asdu.kind) (value_of l.asdu).infos;
-  sized : AllByRecursion (IsInfo l.asdu.kind (ioa_len l.asdu.sizes.ioa)) (infos_left l.object-iterator);
+  sized : AllByRecursion (IsInfo l.asdu.kind (ioa_len l.asdu.sizes.ioa))
+      (infos_left l.object-iterator);
 }

@@ -18,11 +18,13 @@ returns-clause-heard c = (
 )
 
 pub returns-clause-unheard : goal.returns-clause-unheard
-returns-clause-unheard c = (λ given after h. h, neither_hears c.spoilt_lines_are_no_lines.ensures.beginning)
+returns-clause-unheard c =
+    (λ given after h. h, neither_hears c.spoilt_lines_are_no_lines.ensures.beginning)
 
 lived : Cancels → (plan : Plan) (answers : List (Option Frame)) (stations : List Secondary)
     → AreLived (with_two_stations plan (LoseRequest 2 ∷ []))
-    (Went 3 (LineOut reset_of_2) ∷ Came 2 Ticked ∷ Went 1 (LineOut reset_of_1) ∷ []) answers stations
+    (Went 3 (LineOut reset_of_2) ∷ Came 2 Ticked ∷ Went 1 (LineOut reset_of_1) ∷ []) answers
+    stations
     → (answers ≡ None ∷ Some Single ∷ []) × (stations ≡ was_reset 1 ∷ unreset 2 ∷ [])
 lived cancels plan [] stations h = absurd h
 lived cancels plan (a ∷ []) stations h = absurd h.2
@@ -30,7 +32,8 @@ lived cancels plan (a ∷ b ∷ c ∷ answers) stations h = absurd h.2.2
 lived cancels plan (a ∷ b ∷ []) stations h =
     let first : (b ≡ Some Single) × (h.0 ≡ was_reset 1 ∷ unreset 2 ∷ []) = both_hear_1 cancels b h.0
     (subst (λ (l : List Secondary). HeardByAll reset_of_1 l b h.0) h.2.2 h.2.1) in (
-      ap (λ (x : Option Frame). x ∷ b ∷ []) h.1.0 ∙ ap (λ (x : Option Frame). None ∷ x ∷ []) first.0,
+      ap (λ (x : Option Frame). x ∷ b ∷ []) h.1.0
+          ∙ ap (λ (x : Option Frame). None ∷ x ∷ []) first.0,
       h.1.1 ∙ first.1,
     )
 

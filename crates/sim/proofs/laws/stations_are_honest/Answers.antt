@@ -25,5 +25,6 @@ returns c =
     } in
     λ settings ds log answers stations tallies apart played are few faithful.
     all_served laws c.nothing_is_lost.ensures c.silence_is_no_reset.ensures known
-    c.each_session_is_known.ensures.before c.losses_have_gaps.ensures.lost settings ds log answers stations tallies
+    c.each_session_is_known.ensures.before c.losses_have_gaps.ensures.lost settings ds log answers
+    stations tallies
     apart played are few faithful

@@ -12,9 +12,11 @@ returns-in-Ok g c = λ settings ds before plan apart calls faithful rests poured
     let s = c.args.sim.now in
     let after = g.W.Write.contents c.print_closing.new.out in
     ended settings ds s.log (string_bytes c.in-Ok.lines) before after c.print_closing.result
-    (at_ok c.closing.result c.in-Ok.lines (λ text. IsRun settings ds s.log (string_bytes text)) c.in-Ok.is
+    (at_ok c.closing.result c.in-Ok.lines (λ text. IsRun settings ds s.log (string_bytes text))
+    c.in-Ok.is
     (c.closing.ensures settings ds plan apart calls faithful rests))
-    (subst (λ (closing : List ℕ). IsClosedBy before after (lines_of_actions s.log) closing c.print_closing.result)
+    (subst (λ (closing : List ℕ). IsClosedBy before after (lines_of_actions s.log) closing
+    c.print_closing.result)
     c.as_bytes.ensures.value (c.print_closing.ensures before (lines_of_actions s.log) poured))
 
 pub returns-in-Err : goal.returns-in-Err

@@ -14,4 +14,5 @@ returns-in-Err g c = λ before text poured.
     let old = g.W.Write.contents c.args.out.now in
     let new = g.W.Write.contents c.print.new.out in
     begun_behind before old new text c.args.lines.now
-    (subst (λ (b : Bool). IsPoured b before old text) c.if-not-is_whole.false poured) c.in-Err.ensures.begun
+    (subst (λ (b : Bool). IsPoured b before old text) c.if-not-is_whole.false poured)
+    c.in-Err.ensures.begun

@@ -8,12 +8,15 @@ pub returns-in-Finished : goal.returns-in-Finished
 returns-in-Finished g c =
     let start : Some (log_of c.over-port.result) ≡ Some g.K.Script.log
     = ap (λ (r : Replaying). Some (log_of r)) c.over-port.ensures in
-    let none : c.over-port.result.failed ≡ 0 = ap (λ (r : Replaying). r.failed) c.over-port.ensures in
-    let device : c.drive_on-end.new.port.failed ≡ c.over-port.result.failed + 0 = c.in-Finished.ensures.device in
+    let none : c.over-port.result.failed ≡ 0 =
+    ap (λ (r : Replaying). r.failed) c.over-port.ensures in
+    let device : c.drive_on-end.new.port.failed ≡ c.over-port.result.failed + 0 =
+    c.in-Finished.ensures.device in
     λ p follows rests.
     let first : Follows p c.args.gateway.now (Some (log_of c.over-port.result))
     = subst (Follows p c.args.gateway.now) (sym start) follows in
     let rested : Rests p (Some (log_of c.over-port.result)) = subst (Rests p) (sym start) rests in
-    replayed p _ _ _ _ c.drive_on-end.new.port (c.in-Finished.ensures.kept p first rested)
+    replayed p _ _ _ _ _ c.drive_on-end.new.port (c.in-Finished.ensures.kept p first rested)
     (c.in-Finished.ensures.rests p first rested) c.is_over-is_over.ensures.whole (omega arith)
     (c.in-Finished.ensures.finished refl) c.is_over-is_over.ensures.earlier c.gap.ensures
+    c.log.ensures

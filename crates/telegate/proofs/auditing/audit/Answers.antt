@@ -1,13 +1,20 @@
-use Rattle.telegate.proofs.AuditLemmas.{audited}
+use Rattle.std.proofs.Common.{sym, subst}
+use Rattle.telegate.specs.Audits.{IsAuditFault}
+use Rattle.telegate.specs.declared.fault.Fault.{Fault}
+use Rattle.telegate.proofs.AuditLemmas.{audited, unaudited}
 use Rattle.telegate.proofs.auditing.audit.Goals as goal
 
 pub returns-in-Ok : goal.returns-in-Ok
-returns-in-Ok c =
-    audited c.args.config.now c.args.text.now c.in_ok-config.config c.in-Ok.verdict c.tell_verdict.result
-    c.in_ok-config.ensures c.in-Ok.ensures c.tell_verdict.ensures
+returns-in-Ok g c =
+    audited c.args.config.now (g.S.Source.has c.args.text.now) c.in_ok-config.config
+    (g.S.Text.Read.remaining c.in_ok-text.text) c.in_ok-config.ensures c.in_ok-text.ensures.text
+    c.in-Ok.verdict
+    c.tell_verdict.result c.in-Ok.ensures c.tell_verdict.ensures
 
-pub returns-in-Err-Line : goal.returns-in-Err-Line
-returns-in-Err-Line c =
-    let said = rw c.in-Err-Line.field-0-is at c.in-Err-Line.ensures in
-    let number = c.in-Err-Line.n-is in
-    (c.in_ok-config.config, c.in_ok-config.ensures, (cc))
+pub returns : goal.returns
+returns g c =
+    let has = g.S.Source.has c.args.text.now in
+    subst (λ (f : Fault). IsAuditFault c.args.config.now has f) (sym c.fault_of.ensures)
+    (unaudited c.args.config.now has c.in_ok-config.config
+    (g.S.Text.Read.remaining c.in_ok-text.text)
+    c.in_ok-config.ensures c.in_ok-text.ensures.text c.in-Err.fault c.in-Err.ensures)

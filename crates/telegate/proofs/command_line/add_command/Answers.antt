@@ -11,5 +11,6 @@ pub returns : goal.returns
 returns c =
     IfOk-weaker c.subcommand.result _ _
     (λ r adds app below is added. with_command app below _ _ r is
-    (subst (λ (x : Result Command AllocError). IfOk x (IsCommand below)) c.in_ok-command.was added) adds)
+    (subst (λ (x : Result Command AllocError). IfOk x (IsCommand below)) c.in_ok-command.was added)
+    adds)
     c.subcommand.ensures

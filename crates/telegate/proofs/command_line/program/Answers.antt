@@ -1,5 +1,6 @@
 use Rattle.std.proofs.lemmas.Result.{IfOk-weaker}
-use Rattle.telegate.specs.CommandLine.{IsCommand, bare, show101, show104, check, replay, sim, audit, run, program}
+use Rattle.telegate.specs.CommandLine.{IsCommand, bare, show101, show104, check, replay, sim, audit}
+use Rattle.telegate.specs.CommandLine.{run, status, capture, stations, program}
 use Rattle.telegate.proofs.command_line.program.Goals as goal
 
 pub returns : goal.returns
@@ -10,5 +11,9 @@ returns c =
     let fourth = c.in_ok-program-4.ensures _ replay third c.replay.ensures in
     let fifth = c.in_ok-program-5.ensures _ sim fourth c.sim.ensures in
     let sixth = c.in_ok-program-6.ensures _ audit fifth c.audit.ensures in
-    IfOk-weaker c.add_command-7.result _ (IsCommand program) (λ r adds. adds _ run sixth c.run.ensures)
-    c.add_command-7.ensures
+    let seventh = c.in_ok-program-7.ensures _ run sixth c.run.ensures in
+    let eighth = c.in_ok-program-8.ensures _ status seventh c.status.ensures in
+    let ninth = c.in_ok-program-9.ensures _ capture eighth c.capture.ensures in
+    IfOk-weaker c.add_command-10.result _ (IsCommand program)
+    (λ r adds. adds _ stations ninth c.stations.ensures)
+    c.add_command-10.ensures

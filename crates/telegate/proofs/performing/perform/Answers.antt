@@ -9,11 +9,15 @@ returns-in-Show101 g c = performs_as c.in-Show101.is
 
 pub returns-in-Show104 : goal.returns-in-Show104
 returns-in-Show104 g c = performs_as c.in-Show104.is
-    (record { answer = c.show104.result; answered = c.show104.ensures; given = c.give-in-Show104.ensures })
+    (record {
+      answer = c.show104.result;
+      answered = c.show104.ensures;
+      given =
+          c.give-in-Show104.ensures;
+    })
 
 pub returns-in-Check : goal.returns-in-Check
-returns-in-Check g c = performs_as c.in-Check.is
-    (record { answer = c.check.result; answered = c.check.ensures; given = c.give-in-Check.ensures })
+returns-in-Check g c = performs_as c.in-Check.is c.check.ensures
 
 pub returns-in-Ok : goal.returns-in-Ok
 returns-in-Ok g c = performs_as c.in-Sim.is (record {
@@ -28,7 +32,3 @@ returns-in-Err g c = performs_as c.in-Sim.is (record {
   ran = c.simulate.ensures.answer;
   status = c.tell.ensures ∙ sym (ap status_of_end c.in-Err.is);
 })
-
-pub returns-in-Audit : goal.returns-in-Audit
-returns-in-Audit g c = performs_as c.in-Audit.is
-    (record { answer = c.audit.result; answered = c.audit.ensures; given = c.give-in-Audit.ensures })

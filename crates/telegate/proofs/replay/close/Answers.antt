@@ -5,8 +5,10 @@ use Rattle.telegate.proofs.replay.close.Goals as goal
 
 pub returns : goal.returns
 returns g c = λ before text poured.
-    let closing : List ℕ = closing_lines c.args.closing.left c.args.closing.counts c.args.gateway.now in
-    let lines : c.as_bytes.result.now ≡ closing = c.as_bytes.ensures.value ∙ c.in_ok-push_closing.ensures
+    let closing : List ℕ = closing_lines c.args.closing.left c.args.closing.counts
+    c.args.gateway.now in
+    let lines : c.as_bytes.result.now ≡ closing = c.as_bytes.ensures.value
+    ∙ c.in_ok-push_closing.ensures
     ∙ ap (λ (xs : List ℕ). xs ++ closing) c.new-lines.ensures.bytes in
     subst (λ (xs : List ℕ). IsClosedBy before
     (g.W.Write.contents c.print_closing.new.out) text xs c.print_closing.result)

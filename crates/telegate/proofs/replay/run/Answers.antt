@@ -1,7 +1,7 @@
 use Rattle.gateway.specs.Setups.{setup_of}
-use Rattle.traces.specs.Actions.{lines_of_actions}
 use Rattle.telegate.specs.Answers.{IsEndOf}
 use Rattle.telegate.specs.Source.{Gives}
+use Rattle.telegate.specs.declared.manner.Manner.TheVariants.{Lines}
 use Rattle.telegate.proofs.ReplayLemmas.{ended, stopped_by}
 use Rattle.telegate.proofs.RunLemmas.{as_err}
 use Rattle.telegate.proofs.replay.run.Goals as goal
@@ -14,9 +14,11 @@ returns-in_err-is_whole-clause-answer g c =
     let old = g.W.Write.contents c.args.out.now in
     let new = g.W.Write.contents c.run_parts-ran.new.out in
     let fault = c.in_err-is_whole.field-0.0 in
-    as_err (IsEndOf settings (Gives known) closing old new) c.from_residual-in_err-is_whole.result fault
+    as_err (IsEndOf settings Lines (Gives known) closing old new)
+    c.from_residual-in_err-is_whole.result fault
     c.from_residual-in_err-is_whole.ensures.1
-    (stopped_by closing settings known old new c.in_ok-gateway.gateway c.in_ok-gateway.ensures.begins fault
+    (stopped_by Lines closing settings known old new c.in_ok-gateway.gateway
+    c.in_ok-gateway.ensures.begins fault
     c.in_err-is_whole.ensures.answer.0 c.in_err-is_whole.ensures.answer.1)
 
 pub returns-clause-answer : goal.returns-clause-answer
@@ -26,8 +28,9 @@ returns-clause-answer g c =
     let run = c.in_ok-is_whole.ensures.answer in
     let old = g.W.Write.contents c.args.out.now in
     let done = run.goes (setup_of settings) c.in_ok-gateway.ensures.begins tt in
-    ended (Gives known) c.args.course.now.closing settings run.octets run.log old (g.W.Write.contents c.close.new.out)
-    run.given done.faithful c.run_parts-ran.new.gateway run.right run.events done.rests
+    ended Lines (Gives known) c.args.course.now.closing settings run.octets run.log run.lines old
+    (g.W.Write.contents c.close.new.out)
+    run.given done.faithful run.told c.run_parts-ran.new.gateway run.right run.events done.rests
     (c.steps_keep_their_order.ensures.settings settings run.log done.faithful)
     (c.nothing_is_lost.ensures (setup_of settings) run.log done.faithful) done.follows done.accounts
-    c.close.result (c.close.ensures old (lines_of_actions run.log) run.poured)
+    c.close.result (c.close.ensures old run.lines run.poured)

@@ -10,7 +10,8 @@ use Rattle.telegate.proofs.replay.run_part.Goals as goal
 
 pub unreachable-requires : goal.unreachable-requires
 unreachable-requires g c =
-    turns_left c.args.pause c.args.lines.now c.args.gateway.now c.over-port.result c.drive_printed-end.new.port
+    turns_left c.args.pause c.args.lines.now c.args.gateway.now c.over-port.result
+    c.drive_printed-end.new.port
     c.over-port.ensures c.drive_printed-end.ensures.course c.page-page_is_clear.ensures.whole
     c.in-Some.turns c.in-Some.ensures (c.drive_printed-end.ensures.turns c.in-Turns.is)
 
@@ -25,7 +26,8 @@ returns-in-Finished-clause-run g c =
     c.page-page_is_clear.ensures.right
     (λ p begins rested. record {
       faithful = c.drive_printed-end.ensures.faithful p begins rested;
-      rests = at_finish end (HasRested p port.log) c.in-Finished.is (c.drive_printed-end.ensures.rests p begins rested);
+      rests = at_finish end (HasRested p port.log) c.in-Finished.is
+          (c.drive_printed-end.ensures.rests p begins rested);
       follows = at_finish end (Follows p state (Some port.log)) c.in-Finished.is
           (c.drive_printed-end.ensures.kept p begins rested);
       accounts = at_finish end (IsAccounted p state port.log) c.in-Finished.is

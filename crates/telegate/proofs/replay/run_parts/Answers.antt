@@ -1,14 +1,19 @@
 use Rattle.std.proofs.Common.{refl, ap, sym, inl, inr, ◌∙◌}
 use Rattle.blocks.specs.Reading.{Reading}
 use Rattle.telegate.specs.Parts.{RunsOver}
+use Rattle.traces.specs.Actions.{lines_of_actions}
+use Rattle.telegate.specs.Manners.{AreLines}
 use Rattle.telegate.proofs.PartLemmas.{runs_begin, ran_to, block_run, all_run, block_left}
+use Rattle.telegate.proofs.PartLemmas.{poured_lines}
 use Rattle.telegate.proofs.RunLemmas.{as_err}
 use Rattle.telegate.proofs.replay.run_parts.Goals as goal
 
 pub running-init : goal.running-init
 running-init g c = record {
-  run = runs_begin (g.R.Read.remaining c.args.text) c.new-blocks.result.coming c.args.gateway.now c.new-pause.result
-      (g.W.Write.contents c.args.out.now) (ap (λ (r : Reading). r.coming) c.new-blocks.ensures) c.new-pause.ensures;
+  run = runs_begin AreLines (g.R.Read.remaining c.args.text) c.new-blocks.result.coming
+      c.args.gateway.now c.new-pause.result
+      (g.W.Write.contents c.args.out.now) (ap (λ (r : Reading). r.coming) c.new-blocks.ensures)
+      c.new-pause.ensures refl;
   goes_on = ap (λ (r : Reading). r.is_over) c.new-blocks.ensures;
   unwatched = λ unwatched. refl;
 }
@@ -18,10 +23,12 @@ returns-in_err-advance-clause-answer g c =
     let known = g.R.Read.remaining c.args.text in
     let old = g.W.Write.contents c.args.out.now in
     let new = g.W.Write.contents c.running.out in
-    as_err (RunsOver known c.args.gateway.now c.running.gateway old new) c.from_residual.result c.in_err-advance.field-0.0
+    as_err (RunsOver AreLines known c.args.gateway.now c.running.gateway old new)
+    c.from_residual.result c.in_err-advance.field-0.0
     c.from_residual.ensures.1 (
       c.in_err-advance.ensures.fault,
-      ran_to known c.running.blocks.coming c.args.gateway.now c.running.gateway c.running.pause c.running.is_whole old new
+      ran_to AreLines known c.running.blocks.coming c.args.gateway.now c.running.gateway
+          c.running.pause c.running.is_whole old new
           c.running.invariant.run,
     )
 
@@ -31,34 +38,60 @@ returns-in_err-pause-clause-answer g c =
     let old = g.W.Write.contents c.args.out.now in
     let mid = g.W.Write.contents c.running.out in
     let new = g.W.Write.contents c.run_part.new.out in
-    as_err (RunsOver known c.args.gateway.now c.run_part.new.gateway old new) c.from_residual-in_err-pause.result
+    as_err (RunsOver AreLines known c.args.gateway.now c.run_part.new.gateway old new)
+    c.from_residual-in_err-pause.result
     c.in_err-pause.field-0.0 c.from_residual-in_err-pause.ensures.1 (
       c.in_err-pause.ensures.stopped,
-      block_left known c.running.blocks.coming c.args.gateway.now c.running.gateway c.running.pause c.running.is_whole old
-          mid c.running.invariant.run c.advance.new.blocks c.lines-lines.result.now c.lines-lines.ensures
+      block_left AreLines known c.running.blocks.coming c.args.gateway.now c.running.gateway
+          c.running.pause c.running.is_whole old
+          mid c.running.invariant.run c.advance.new.blocks c.lines-lines.result.now
+          c.lines-lines.ensures
           c.in_ok-advance.ensures.block new (elim c.in_err-pause.ensures.begun [
             | inl unchanged ↦ inl (ap g.W.Write.contents unchanged)
-            | inr stop ↦ inr stop
+            | inr stop ↦
+                inr
+                (stop old (poured_lines known c.running.blocks.coming c.args.gateway.now
+                c.running.gateway
+                c.running.pause c.running.is_whole old mid c.running.invariant.run))
           ]),
     )
 
 pub returns-then-is_over-clause-answer : goal.returns-then-is_over-clause-answer
 returns-then-is_over-clause-answer g c =
-    all_run (g.R.Read.remaining c.args.text) c.running.blocks.coming c.args.gateway.now c.running.gateway c.running.pause
-    c.running.is_whole (g.W.Write.contents c.args.out.now) (g.W.Write.contents c.running.out) c.running.invariant.run
-    c.advance.new.blocks c.lines-lines.result.now c.lines-lines.ensures c.in_ok-advance.ensures.block
-    c.run_part.new.gateway c.in_ok-pause.field-0-0 c.in_ok-pause.field-0-1 (g.W.Write.contents c.run_part.new.out)
-    c.in_ok-pause.ensures.run c.in_ok-pause.ensures.printed (sym c.is_over.ensures ∙ c.if-is_over.true)
+    let known = g.R.Read.remaining c.args.text in
+    let old = g.W.Write.contents c.args.out.now in
+    let mid = g.W.Write.contents c.running.out in
+    let run = c.running.invariant.run in
+    all_run AreLines known c.running.blocks.coming c.args.gateway.now c.running.gateway
+    c.running.pause
+    c.running.is_whole old mid run
+    c.advance.new.blocks c.lines-lines.result.now c.lines-lines.ensures
+    c.in_ok-advance.ensures.block
+    c.run_part.new.gateway c.in_ok-pause.field-0-0 c.in_ok-pause.field-0-1
+    (g.W.Write.contents c.run_part.new.out)
+    c.in_ok-pause.ensures.run (lines_of_actions c.in_ok-pause.field-0-0.log) refl
+    (c.in_ok-pause.ensures.printed old (poured_lines known c.running.blocks.coming
+    c.args.gateway.now c.running.gateway
+    c.running.pause c.running.is_whole old mid run)) (sym c.is_over.ensures ∙ c.if-is_over.true)
 
 pub running-preserved : goal.running-preserved
 running-preserved g c =
     let goes_on = sym c.is_over.ensures ∙ c.if-is_over.false in
+    let known = g.R.Read.remaining c.args.text in
+    let old = g.W.Write.contents c.args.out.now in
+    let mid = g.W.Write.contents c.running.out in
     record {
-      run = block_run (g.R.Read.remaining c.args.text) c.running.blocks.coming c.args.gateway.now c.running.gateway
-          c.running.pause c.running.is_whole (g.W.Write.contents c.args.out.now) (g.W.Write.contents c.running.out)
-          c.running.invariant.run c.advance.new.blocks c.lines-lines.result.now c.lines-lines.ensures
-          c.in_ok-advance.ensures.block c.run_part.new.gateway c.in_ok-pause.field-0-0 c.in_ok-pause.field-0-1
-          (g.W.Write.contents c.run_part.new.out) c.in_ok-pause.ensures.run c.in_ok-pause.ensures.printed goes_on;
+      run = block_run AreLines known c.running.blocks.coming c.args.gateway.now c.running.gateway
+          c.running.pause c.running.is_whole old mid c.running.invariant.run
+          c.advance.new.blocks c.lines-lines.result.now c.lines-lines.ensures
+          c.in_ok-advance.ensures.block c.run_part.new.gateway c.in_ok-pause.field-0-0
+          c.in_ok-pause.field-0-1
+          (g.W.Write.contents c.run_part.new.out) c.in_ok-pause.ensures.run
+          (lines_of_actions c.in_ok-pause.field-0-0.log) refl
+          (c.in_ok-pause.ensures.printed old (poured_lines known c.running.blocks.coming
+          c.args.gateway.now
+          c.running.gateway c.running.pause c.running.is_whole old mid c.running.invariant.run))
+          goes_on;
       goes_on = goes_on;
       unwatched = λ unwatched. c.tell_between.ensures unwatched ∙ c.in_ok-pause.ensures.unwatched
           ∙ c.running.invariant.unwatched unwatched;
@@ -67,6 +100,8 @@ running-preserved g c =
 pub returns-clause-answer : goal.returns-clause-answer
 returns-clause-answer g c = (
   tt,
-  ran_to (g.R.Read.remaining c.args.text) c.running.blocks.coming c.args.gateway.now c.running.gateway c.running.pause
-      c.running.is_whole (g.W.Write.contents c.args.out.now) (g.W.Write.contents c.running.out) c.running.invariant.run,
+  ran_to AreLines (g.R.Read.remaining c.args.text) c.running.blocks.coming c.args.gateway.now
+      c.running.gateway c.running.pause
+      c.running.is_whole (g.W.Write.contents c.args.out.now) (g.W.Write.contents c.running.out)
+      c.running.invariant.run,
 )

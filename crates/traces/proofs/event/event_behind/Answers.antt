@@ -10,5 +10,6 @@ returns-in-32 c =
     let le : 2 ≤ length text = search rules in
     let space : slice_index text 1 ≡ 32 = search rules in
     valued_behind c.args.now text c.valued.result le space
-    (subst (λ (rest : List ℕ). IsValued c.args.now (slice_index text 0) rest c.valued.result) (take_rest text 2)
+    (subst (λ (rest : List ℕ). IsValued c.args.now (slice_index text 0) rest c.valued.result)
+    (take_rest text 2)
     c.valued.ensures)

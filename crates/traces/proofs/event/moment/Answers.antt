@@ -4,10 +4,12 @@ use Rattle.traces.specs.Event.{event_in}
 use Rattle.traces.specs.FirstLines.{event_behind, first_fields, first_line, later_lines}
 use Rattle.traces.proofs.FirstLineLemmas.{moment_here, no_number_here, no_space_here}
 use Rattle.traces.proofs.event.moment.Goals as goal
-use Rattle.traces.proofs.event.moment.Goals.{else-end-text-via-then-end-text+else-text-end-eq32, else-end-text-via-else-end-text}
+use Rattle.traces.proofs.event.moment.Goals.{else-end-text-via-then-end-text+else-text-end-eq32}
+use Rattle.traces.proofs.event.moment.Goals.{else-end-text-via-else-end-text}
 
 pub returns-in_err-now : goal.returns-in_err-now
-returns-in_err-now c = rw c.from_residual.ensures (no_number_here c.args.text.now c.in_err-now.ensures)
+returns-in_err-now c =
+    rw c.from_residual.ensures (no_number_here c.args.text.now c.in_err-now.ensures)
 
 pub returns-then-text-end-eq32 : goal.returns-then-text-end-eq32
 returns-then-text-end-eq32 c =

@@ -1,7 +1,7 @@
-use Rattle.std.proofs.Common.{rules, ◌≡◌, ◌+◌, length, subst, ap, sym, ◌∙◌}
+use Rattle.std.proofs.Common.{rules, ◌+◌, length, subst, ap, sym, ◌∙◌}
 use Rattle.std.specs.Option.{option_copied}
 use Rattle.traces.specs.Fields.{parts_after}
-use Rattle.traces.specs.FirstLines.{IsFirstLine, later_lines}
+use Rattle.traces.specs.FirstLines.{IsFirstLine}
 use Rattle.traces.specs.Trace.{lines_of}
 use Rattle.traces.proofs.ProgressLemmas.{judged_next}
 use Rattle.traces.proofs.judging.judge.Goals as goal
@@ -16,15 +16,18 @@ loop-number-preserved c =
       | in-Skipped w ↦
           let found = subst (IsFirstLine text) w.in-Skipped.is c.first_line.ensures in
           record {
-            counted = judged_next c.loop-number.number m left (option_copied c.match-first_line.left) text
-                (ap option_copied c.in-Some.is) (found.1 ∙ ap (λ rest. parts_after 10 (option_copied rest)) (sym w.left-is))
+            counted =
+                judged_next c.loop-number.number m left (option_copied c.match-first_line.left) text
+                (ap option_copied c.in-Some.is) (found.1
+                ∙ ap (λ rest. parts_after 10 (option_copied rest)) (sym w.left-is))
                 c.loop-number.invariant.counted;
             wrong = search rules;
           }
       | in-Event+in-Some-judged w ↦
           let found = subst (IsFirstLine text) w.in-Event.is c.first_line.ensures in
           record {
-            counted = judged_next c.loop-number.number m left (option_copied c.match-first_line.left) text
+            counted =
+                judged_next c.loop-number.number m left (option_copied c.match-first_line.left) text
                 (ap option_copied c.in-Some.is) (found.2 ∙ w.in-Some-judged.ensures.rest
                 ∙ ap (λ rest. parts_after 10 (option_copied rest)) (sym w.left-is))
                 c.loop-number.invariant.counted;

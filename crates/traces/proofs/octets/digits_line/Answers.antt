@@ -19,5 +19,6 @@ returns-then-text-end-eq-LINE_FEED c =
 
 pub returns : goal.returns
 returns c =
-    line_other c.args.text.now c.args.end c.requires (omega (arith, c.requires.within, c.if-end-text.false))
+    line_other c.args.text.now c.args.end c.requires
+    (omega (arith, c.requires.within, c.if-end-text.false))
     c.if-text-end-eq-LINE_FEED.false

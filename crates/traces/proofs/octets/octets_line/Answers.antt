@@ -6,8 +6,11 @@ use Rattle.traces.proofs.octets.octets_line.Goals as goal
 
 pub returns-then-may_be_octets : goal.returns-then-may_be_octets
 returns-then-may_be_octets c =
-    let found = c.in_ok-digits.ensures in
-    (found.0, sym (digits_right c.in_ok-digits.digits.now (sym c.if-may_be_octets.ensures)) ∙ found.1)
+    let found = c.in_ok-digits.ensures in (
+      found.0,
+      sym (digits_right c.in_ok-digits.digits.now (sym c.if-may_be_octets.ensures))
+          ∙ found.1,
+    )
 
 pub returns-else-may_be_octets : goal.returns-else-may_be_octets
 returns-else-may_be_octets c =

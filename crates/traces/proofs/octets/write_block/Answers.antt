@@ -11,7 +11,8 @@ pairs-preserved c =
     let place = from + c.pairs.i in
     let n = c.pair-octet.result in
     record {
-      all = λ small. block_more text buf from c.pairs.i n c.pairs.bits (omega arith) (omega arith) c.pair-octet.ensures
+      all = λ small. block_more text buf from c.pairs.i n c.pairs.bits (omega arith) (omega arith)
+          c.pair-octet.ensures
           small c.pairs.invariant.all;
       before = pairs_same text buf (slice_set buf place (n % 256)) from
           (take-set-le from buf place (n % 256) (omega arith)) c.pairs.invariant.before;

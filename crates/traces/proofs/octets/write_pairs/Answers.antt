@@ -4,8 +4,10 @@ use Rattle.traces.proofs.octets.write_pairs.Goals as goal
 
 pub returns-then-near-lt-NEAR_PAIRS : goal.returns-then-near-lt-NEAR_PAIRS
 returns-then-near-lt-NEAR_PAIRS c =
-    pairs_are c.args.text.now c.write_each-near.new.buf c.write_each-near.result (omega arith) (omega arith)
-    (λ few less. c.write_each-near.ensures.over (omega (arith, few, less))) c.write_each-near.ensures.pairs
+    pairs_are c.args.text.now c.write_each-near.new.buf c.write_each-near.result (omega arith)
+    (omega arith)
+    (λ few less. c.write_each-near.ensures.over (omega (arith, few, less)))
+    c.write_each-near.ensures.pairs
 
 pub returns : goal.returns
 returns c =

@@ -4,4 +4,5 @@ use Rattle.traces.proofs.printing.spell.Given as goal
 
 -- what is spelled, and the octets that are left, are all of them
 abbrev pub invariant-octets : goal.invariant-octets
-invariant-octets l = take (2 * l.i) l.out ++ encode_upper (drop l.i l.octets) ≡ encode_upper l.octets
+invariant-octets l = take (2 * l.i) l.out ++ encode_upper (drop l.i l.octets)
+    ≡ encode_upper l.octets

@@ -18,11 +18,16 @@ invariant_of-self c =
           subst Octets (sym c.split_content.ensures.rest)
           (AreOctets-drop (content_len self.kind) c.split_address-address.result.1.now
           (subst Octets (sym c.split_address-address.ensures.rest)
-          (AreOctets-drop (address_len (ioa_len self.ioa) self.next_address) self.octets.now self.are_octets)));
-      enough = rest_len-step self.kind (ioa_len self.ioa) self.next_address c.next_after-self.result self.left
-          self.octets.now c.split_address-address.result.1.now c.split_content.result.2.now some self.enough
-          c.split_address-address.ensures.rest c.split_content.ensures.rest c.next_after-self.ensures;
-      in_range = following-in_range self.next_address c.next_after-self.result self.left 16777216 some self.in_range
+          (AreOctets-drop (address_len (ioa_len self.ioa) self.next_address) self.octets.now
+          self.are_octets)));
+      enough = rest_len-step self.kind (ioa_len self.ioa) self.next_address c.next_after-self.result
+          self.left
+          self.octets.now c.split_address-address.result.1.now c.split_content.result.2.now some
+          self.enough
+          c.split_address-address.ensures.rest c.split_content.ensures.rest
+          c.next_after-self.ensures;
+      in_range = following-in_range self.next_address c.next_after-self.result self.left 16777216
+          some self.in_range
           c.next_after-self.ensures;
     }
 
@@ -39,7 +44,8 @@ returns-clause-steps c =
 pub returns-clause-goes : goal.returns-clause-goes
 returns-clause-goes c =
     let self = c.args.self.now in
-    let before = length-rest_at self.kind (ioa_len self.ioa) self.next_address self.left self.octets.now in
+    let before = length-rest_at self.kind (ioa_len self.ioa) self.next_address self.left
+    self.octets.now in
     let after = length-rest_at self.kind (ioa_len self.ioa) c.next_after-self.result
     (self.left - 1) c.split_content.result.2.now in
     record {

@@ -9,4 +9,5 @@ pub returns : goal.returns
 returns c =
     let t = c.self.inside in
     is_over (value_of t.asdu.now) (infos_left t.left) t.left.left c.args.self.now c.self.view_is
-    (length-rest_at t.left.kind (ioa_len t.left.ioa) t.left.next_address t.left.left t.left.octets.now)
+    (length-rest_at t.left.kind (ioa_len t.left.ioa) t.left.next_address t.left.left
+    t.left.octets.now)

@@ -12,7 +12,8 @@ returns-clause-lengths c =
     let asdu = c.args.asdu.now in
     let v = value_of asdu in
     let same = ap (λ is. report_pieces (with_infos v is)) c.objects.ensures.infos in
-    subst (λ (ps : List (List ℕ)). AllByRecursion (λ p. (9 ≤ length p) × (length p ≤ 249)) ps) (sym same)
+    subst (λ (ps : List (List ℕ)). AllByRecursion (λ p. (9 ≤ length p) × (length p ≤ 249)) ps)
+    (sym same)
     (pieces_lengths asdu.sizes v asdu.octets.now (IsAsdu-value_of asdu asdu.are_octets))
 
 pub returns-clause-few : goal.returns-clause-few

@@ -23,12 +23,15 @@ spell_into-requires c =
     let source = (IsAsdu-value_of asdu asdu.are_octets).value in
     let kind : chunk.kind ≡ asdu.kind = c.split_at.ensures.kinds.0 ∙ c.self.invariant.kind in
     let mode = c.split_at.ensures.modes.0 ∙ c.self.invariant.mode in
-    let infos = AreInfos-rest_at chunk.kind chunk.ioa chunk.next_address chunk.left chunk.octets.now chunk.enough
+    let infos = AreInfos-rest_at chunk.kind chunk.ioa chunk.next_address chunk.left chunk.octets.now
+    chunk.enough
     chunk.in_range chunk.are_octets in
     let P : TypeId → Type 0 = λ k. AllByRecursion (IsInfo k 3) (infos_left chunk) in
     let most = c.self.invariant.most in
-    let count = length-rest_at left.kind (ioa_len left.ioa) left.next_address left.left left.octets.now in
-    let more = some_left (value_of asdu) (infos_left left) c.args.self.now c.self.view_is c.requires in
+    let count = length-rest_at left.kind (ioa_len left.ioa) left.next_address left.left
+    left.octets.now in
+    let more = some_left (value_of asdu) (infos_left left) c.args.self.now c.self.view_is
+    c.requires in
     let size = piece_size-some asdu.kind (is_sequence asdu.octets.now) in
     let few : chunk.left ≤ piece_size asdu.kind (is_sequence asdu.octets.now) = omega arith in
     let short = body_len-piece asdu.kind (is_sequence asdu.octets.now) chunk.left few in
@@ -71,8 +74,11 @@ returns c =
     let asdu = t.asdu.now in
     let left = t.left in
     let v = value_of asdu in
-    let count = length-rest_at left.kind (ioa_len left.ioa) left.next_address left.left left.octets.now in
+    let count = length-rest_at left.kind (ioa_len left.ioa) left.next_address left.left
+    left.octets.now in
     let more = some_left v (infos_left left) c.args.self.now c.self.view_is c.requires in
     next_piece v t.most c.min.result left.left (infos_left left) (infos_left c.split_at.result.0)
-    (infos_left c.split_at.result.1) c.args.self.now c.spell_into.new.out.items c.self.view_is c.self.invariant.most
-    count more (omega arith) c.split_at.ensures.first c.split_at.ensures.others c.spell_into.ensures.octets
+    (infos_left c.split_at.result.1) c.args.self.now c.spell_into.new.out.items c.self.view_is
+    c.self.invariant.most
+    count more (omega arith) c.split_at.ensures.first c.split_at.ensures.others
+    c.spell_into.ensures.octets

@@ -6,7 +6,8 @@ use Rattle.command.proofs.commands.Commands.own_answer.Goals as goal
 
 pub returns-clause-some : goal.returns-clause-some
 returns-clause-some c =
-    ap first_answer (sym (ap (λ (s : State). s.answers) c.self.view_is)) ∙ first_some _ _ (sym c.in_ok-answer.ensures)
+    ap first_answer (sym (ap (λ (s : State). s.answers) c.self.view_is))
+    ∙ first_some _ _ (sym c.in_ok-answer.ensures)
     ∙ ap (λ (xs : List ℕ). Some xs) (sym c.as_slice.ensures.value)
 
 pub returns-clause-fits : goal.returns-clause-fits

@@ -15,21 +15,25 @@ returns-clause-savable g c =
     let P : State → Type 0 = λ s. IsSavable s in
     subst P c.self.view_is (record {
       few_waiting = c.self.invariant.few_waiting;
-      waiting = ap (λ (ws : List Waiting). list_all is_savable_waiting ws) (sym c.as_slice.ensures.value)
+      waiting = ap (λ (ws : List Waiting). list_all is_savable_waiting ws)
+          (sym c.as_slice.ensures.value)
           ∙ c.in_ok-put_list.ensures.savable;
       all_lines = c.self.invariant.lines;
       lines = ap (λ (ls : List Line). list_all is_savable_line ls) (sym c.as_slice-2.ensures.value)
           ∙ c.in_ok-put_items.ensures.savable;
       few_selections = subst (λ (zs : List Selection). length zs ≤ 16) c.as_slice-3.ensures.value
           c.as_slice-3.ensures.fits;
-      selections = ap (λ (zs : List Selection). list_all is_savable_selection zs) (sym c.as_slice-3.ensures.value)
+      selections = ap (λ (zs : List Selection). list_all is_savable_selection zs)
+          (sym c.as_slice-3.ensures.value)
           ∙ c.in_ok-put_list-2.ensures.savable;
       few_sendings = subst (λ (n : ℕ). length inside.sendings.items ≤ n) c.self.invariant.sent
           c.in_ok-put_ring.ensures.few;
       sendings = c.in_ok-put_ring.ensures.savable;
       few_answers =
           let few : length inside.answers.items ≤ 16 =
-          subst (λ (n : ℕ). length inside.answers.items ≤ n) c.self.invariant.room c.in_ok-put_ring-2.ensures.few in
+          subst (λ (n : ℕ). length inside.answers.items ≤ n) c.self.invariant.room
+          c.in_ok-put_ring-2.ensures.few in
           few_octets inside.answers.items few;
-      answers = answers_by inside.answers.items c.in_ok-put_ring-2.ensures.savable c.self.invariant.asdus;
+      answers = answers_by inside.answers.items c.in_ok-put_ring-2.ensures.savable
+          c.self.invariant.asdus;
     })

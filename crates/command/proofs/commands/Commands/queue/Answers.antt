@@ -14,7 +14,8 @@ invariant_of-self c =
     let inside = c.self.inside in
     let P : State → Type 0 = λ s.
     length s.waiting + count_by (is_addressed (command_at octets)) s.stations ≤ 64 in
-    let room : length inside.waiting.items + count_by (is_addressed (command_at octets)) inside.stations.items ≤ 64 =
+    let room : length inside.waiting.items + count_by (is_addressed (command_at octets))
+    inside.stations.items ≤ 64 =
     subst P (sym c.self.view_is) c.requires.room in
     let long : length c.push_copies.new.waiting.items
     ≡ length inside.waiting.items + length (copies inside.sizes octets 0 c.as_slice.result.now) =

@@ -5,6 +5,9 @@ use Rattle.command.proofs.commands.Commands.read_state.Goals as goal
 
 pub returns : goal.returns
 returns g c = λ s rest savable has e.
-    let h = c.in_ok-parts.ensures.law s rest savable (ap (λ (xs : List StationInfo). length xs) has.same_stations) e in
-    made_again c.of_parts.result c.args.stations.now c.args.sizes c.args.select_ms c.args.max_age_ms s
+    let h =
+    c.in_ok-parts.ensures.law s rest savable
+    (ap (λ (xs : List StationInfo). length xs) has.same_stations) e in
+    made_again c.of_parts.result c.args.stations.now c.args.sizes c.args.select_ms c.args.max_age_ms
+    s
     c.in_ok-parts.parts _ rest c.of_parts.ensures savable has h.0 h.1

@@ -11,5 +11,6 @@ returns-else-is_heard c =
     let what = c.args.sign in
     let P : State → Type 0 = λ s. list_any (hears s.select_ms what) s.selections ≡ false in
     unheard_told what c.args.self.now (subst P c.self.view_is
-    (ap (λ (zs : List Selection). list_any (hears c.self.inside.select_ms what) zs) (sym c.as_slice.ensures.value)
+    (ap (λ (zs : List Selection). list_any (hears c.self.inside.select_ms what) zs)
+    (sym c.as_slice.ensures.value)
     ∙ (sym c.is_heard.ensures ∙ c.if-is_heard.false)))

@@ -1,4 +1,5 @@
-use Rattle.std.proofs.Common.{◌≡◌, ◌∷◌, ◌++◌, ◌∙◌, ap, arith, subst, refl, sym, List, ℕ, [], take, length}
+use Rattle.std.proofs.Common.{◌≡◌, ◌∷◌, ◌++◌, ◌∙◌, ap, arith, subst, refl, sym, List, ℕ, [], take}
+use Rattle.std.proofs.Common.{length}
 use Rattle.ft12.specs.declared.frame.Front.TheVariants.{Never}
 use Rattle.ft12.specs.Reading.{IsFront, IsProperBeginning}
 use Rattle.ft12.specs.Assembly.{IsEndDue}
@@ -18,7 +19,8 @@ returns-then-is_end-clause-listening c =
       c.loop-i.invariant.joined,
       c.loop-i.invariant.looked,
       λ lt. subst (λ s. IsEndDue s now) c.loop-i.invariant.size (end_due size c.loop-i.stage
-          c.loop-i.self-inside.kept.items c.loop-i.invariant.is_stage (sym (sym c.if-is_end.true ∙ c.is_end.ensures))),
+          c.loop-i.self-inside.kept.items c.loop-i.invariant.is_stage
+          (sym (sym c.if-is_end.true ∙ c.is_end.ensures))),
     )
 
 -- the octet looked at last begins no frame
@@ -27,17 +29,20 @@ returns-in-Never-clause-listening c =
     let size = c.loop-i.self-inside.size in
     let now : List ℕ = so_far size c.loop-i.stage c.loop-i.self-inside.kept.items in
     let before : List ℕ = so_far c.self.inside.size c.in-Some.stage c.self.inside.kept.items in
-    let heard = heard_never size before c.args.piece.now now _ c.loop-i.i c.in-Never.field-0 c.in-Never.field-1
+    let heard = heard_never size before c.args.piece.now now _ c.loop-i.i c.in-Never.field-0
+    c.in-Never.field-1
     c.loop-i.invariant.joined c.loop-i-test.true
     (ap (λ (o : ℕ). now ++ o ∷ []) c.look-octet.ensures.value) c.in-Never.ensures.steps in
-    let counted = counted_refusal size before c.args.piece.now now c.loop-i.i c.look-octet.result c.in-Never.field-0
+    let counted = counted_refusal size before c.args.piece.now now c.loop-i.i c.look-octet.result
+    c.in-Never.field-0
     c.in-Never.field-1 _ _ _ c.loop-i.invariant.joined c.loop-i-test.true
     (stage_more size c.loop-i.stage c.loop-i.self-inside.kept.items c.loop-i.invariant.is_stage)
     c.in-Never.ensures.steps c.loop-i.invariant.looked c.look-octet.ensures.counted in
     rw (← c.self.view_is, c.in-Some.is) (
       c.in-Never.field-0,
       c.in-Never.field-1,
-      subst (λ s. IsFront s (before ++ c.args.piece.now) (Never c.in-Never.field-0 c.in-Never.field-1))
+      subst (λ s. IsFront s (before ++ c.args.piece.now)
+          (Never c.in-Never.field-0 c.in-Never.field-1))
           c.loop-i.invariant.size heard,
       refl,
       counted,

@@ -9,10 +9,12 @@ use Rattle.ft12.proofs.assembling.Assembler.is_resumable.Goals as goal
 pub returns-clause-beginning : goal.returns-clause-beginning
 returns-clause-beginning c =
     let P : Assembly → Type 0 = λ a. IfSome a.so_far (IsProperBeginning a.size) in
-    subst P c.self.view_is (resumable c.self.inside.size c.self.inside.stage c.self.inside.kept.items c.self.invariant)
+    subst P c.self.view_is (resumable c.self.inside.size c.self.inside.stage
+    c.self.inside.kept.items c.self.invariant)
 
 pub returns-clause-octets : goal.returns-clause-octets
 returns-clause-octets c =
     let P : Assembly → Type 0 = λ a. IfSome a.so_far (λ octets. All IsOctet octets) in
     subst P c.self.view_is
-    (resumable_octets c.self.inside.size c.self.inside.stage c.self.inside.kept.items c.self.invariant)
+    (resumable_octets c.self.inside.size c.self.inside.stage c.self.inside.kept.items
+    c.self.invariant)

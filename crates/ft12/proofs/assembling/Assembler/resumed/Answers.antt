@@ -7,11 +7,14 @@ use Rattle.ft12.proofs.Resuming.{is_more}
 use Rattle.ft12.proofs.assembling.Assembler.resumed.Goals as goal
 
 -- The beginning of a frame is heard as one.
-heard_as_more : (c : goal.In_default) → IsProperBeginning c.args.size c.args.octets.now → c.feed.result.1 ≡ heard.More
+heard_as_more : (c : goal.In_default) → IsProperBeginning c.args.size c.args.octets.now
+    → c.feed.result.1 ≡ heard.More
 heard_as_more c is =
     let P : LinkSize → Type 0 = λ s. IsProperBeginning s c.args.octets.now in
-    is_more c.new-assembler.result.size c.args.octets.now c.feed.result.0 c.feed.result.1 c.new-assembler.result.so_far
-    c.feed.new.self.so_far (subst P (sym c.new-assembler.ensures.size) is) c.new-assembler.ensures.so_far
+    is_more c.new-assembler.result.size c.args.octets.now c.feed.result.0 c.feed.result.1
+    c.new-assembler.result.so_far
+    c.feed.new.self.so_far (subst P (sym c.new-assembler.ensures.size) is)
+    c.new-assembler.ensures.so_far
     c.feed.ensures.listening
 
 pub returns-in_default-clause-taken : goal.returns-in_default-clause-taken

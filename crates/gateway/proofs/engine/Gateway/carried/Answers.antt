@@ -18,11 +18,16 @@ pub returns-clause-state : goal.returns-clause-state
 returns-clause-state c =
     let now = c.args.now.now in
     let inside = c.self.inside in
-    ap (λ (s : Serial). with_parts s c.in_ok-carried-2.field-0 c.line.result.now.sizes inside.moment inside.wall)
+    ap (λ (s : Serial). with_parts s c.in_ok-carried-2.field-0 c.line.result.now.sizes inside.moment
+    inside.wall)
     c.in_ok-carried.ensures
-    ∙ ap (λ (s : Centre). with_parts (serial_carried c.args.goes_on c.args.before.now now inside.serial) s
+    ∙ ap
+    (λ (s : Centre). with_parts (serial_carried c.args.goes_on c.args.before.now now inside.serial)
+    s
     c.line.result.now.sizes inside.moment inside.wall) c.in_ok-carried-2.ensures
-    ∙ ap (λ (l : LineSettings). with_parts (serial_carried c.args.goes_on c.args.before.now now inside.serial)
+    ∙ ap
+    (λ (l : LineSettings). with_parts (serial_carried c.args.goes_on c.args.before.now now
+    inside.serial)
     (centre_carried now inside.centre) l.sizes inside.moment inside.wall) c.line.ensures
     ∙ ap (λ (s : State). with_parts (serial_carried c.args.goes_on c.args.before.now now s.serial)
     (centre_carried now s.centre) now.line.sizes s.moment s.wall) c.self.view_is

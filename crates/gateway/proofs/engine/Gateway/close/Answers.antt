@@ -7,5 +7,6 @@ pub returns-then-went-clause-kept : goal.returns-then-went-clause-kept
 returns-then-went-clause-kept g c =
     let put : g.P.Port.log c.put-went.new.self ≡ tell (g.P.Port.log c.args.port.now)
     (Went c.moment.result (Closed c.args.cause) ∷ []) = c.if-went.ensures.told in
-    λ p phase h. rw (c.if-went.true) (told_closed c.line_keeps_the_procedures.ensures p _ _ c.args.self.now _
+    λ p phase h. rw (c.if-went.true) (told_closed c.line_keeps_the_procedures.ensures p _ _
+    c.args.self.now _
     c.args.cause _ phase put c.moment.ensures c.disconnect.ensures h)

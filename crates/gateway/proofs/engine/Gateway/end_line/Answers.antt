@@ -12,11 +12,15 @@ returns-then-fits-clause-kept g c =
 
 pub returns-then-not-is_open-clause-kept : goal.returns-then-not-is_open-clause-kept
 returns-then-not-is_open-clause-kept g c = λ p s now b h.
-    let shut : is_open c.args.self.now.centre.session ≡ false = sym c.is_open.ensures ∙ c.if-not-is_open.true in
-    told_line p _ s c.args.self.now now c.args.octets.now c.args.fits c.line_keeps_the_procedures.ensures
+    let shut : is_open c.args.self.now.centre.session ≡ false = sym c.is_open.ensures
+    ∙ c.if-not-is_open.true in
+    told_line p _ s c.args.self.now now c.args.octets.now c.args.fits
+    c.line_keeps_the_procedures.ensures
     (λ on. absurd (false≢true (sym shut ∙ on))) b h
 
 pub returns-clause-kept : goal.returns-clause-kept
 returns-clause-kept g c = λ p s now b h.
-    c.close.ensures.kept p Idle (told_overfull p _ s c.args.self.now now c.args.octets.now c.args.fits
-    c.line_keeps_the_procedures.ensures c.if-fits.false (sym c.is_open.ensures ∙ c.if-not-is_open.false) b h)
+    c.close.ensures.kept p Idle (told_overfull p _ s c.args.self.now now c.args.octets.now
+    c.args.fits
+    c.line_keeps_the_procedures.ensures c.if-fits.false (sym c.is_open.ensures
+    ∙ c.if-not-is_open.false) b h)

@@ -5,7 +5,11 @@ use Rattle.gateway.proofs.engine.Gateway.flush.Goals as goal
 pub returns-then-has_sent_all-clause-kept : goal.returns-then-has_sent_all-clause-kept
 returns-then-has_sent_all-clause-kept g c = λ p unjudged phase flushing h.
     c.send_dues.ensures.kept p unjudged phase flushing
-    (record { confirmed = c.if-not-send_confirmations.ensures.confirmed; spent = c.if-has_sent_all.ensures.0 refl })
+    (record {
+      confirmed = c.if-not-send_confirmations.ensures.confirmed;
+      spent =
+          c.if-has_sent_all.ensures.0 refl;
+    })
     (c.if-not-send_confirmations.ensures.kept p unjudged phase flushing h)
 
 pub returns-then-has_sent_all-clause-in_time : goal.returns-then-has_sent_all-clause-in_time

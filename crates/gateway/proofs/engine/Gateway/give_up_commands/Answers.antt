@@ -17,7 +17,8 @@ law c = record {
   number = c.giving_up_is_for_one_station.ensures.number;
 }
 
-serial_is : (c : goal.After-give_up_commands) → c.give_up_commands.new.self ≡ without_commands c.args.self.now.serial
+serial_is : (c : goal.After-give_up_commands) → c.give_up_commands.new.self
+    ≡ without_commands c.args.self.now.serial
 serial_is c =
     c.give_up_commands.ensures.state ∙ ap (λ (s : State). without_commands s.serial) c.self.view_is
 
@@ -52,7 +53,9 @@ returns-clause-unchanged c = λ none.
 
 pub returns-clause-between : goal.returns-clause-between
 returns-clause-between c = λ between. record {
-  silent = ap (λ (s : Serial). s.silent) (serial_is c) ∙ carrying.silent c.args.self.now.serial ∙ between.silent;
-  gap = ap (λ (s : Serial). s.gap) (serial_is c) ∙ carrying.gap c.args.self.now.serial ∙ between.gap;
+  silent = ap (λ (s : Serial). s.silent) (serial_is c) ∙ carrying.silent c.args.self.now.serial
+      ∙ between.silent;
+  gap = ap (λ (s : Serial). s.gap) (serial_is c) ∙ carrying.gap c.args.self.now.serial
+      ∙ between.gap;
   heard = ap (λ (s : State). s.centre.heard) c.self.view_is ∙ between.heard;
 }

@@ -17,7 +17,8 @@ returns-then-count-octets c =
           a.wall;
     } in
     let both = c.gather_inner-count.ensures.all c.if-count-octets.true in
-    subst (λ (x : State). Hears x c.args.octets.now true (with_serial c.gather_inner-count.new.self s)) c.self.view_is
+    subst (λ (x : State). Hears x c.args.octets.now true
+    (with_serial c.gather_inner-count.new.self s)) c.self.view_is
     (hears_none s c.gather_inner-count.new.self c.args.octets.now both.0 both.1)
 
 pub returns : goal.returns
@@ -34,7 +35,10 @@ returns c =
     let n = c.gather_inner-count.result in
     let both = c.gather_inner-count.ensures.rest
     (omega (arith, c.if-count-octets.false, c.gather_inner-count.ensures.within)) in
-    subst (λ (x : State). Hears x c.args.octets.now c.hear_end.result c.hear_end.new.self) c.self.view_is
-    (hears_rest s c.gather_inner-count.new.self c.args.octets.now n c.hear_end.result c.hear_end.new.self both.0 both.1
-    (subst (λ end. Hears (with_serial c.gather_inner-count.new.self s) end c.hear_end.result c.hear_end.new.self)
+    subst (λ (x : State). Hears x c.args.octets.now c.hear_end.result c.hear_end.new.self)
+    c.self.view_is
+    (hears_rest s c.gather_inner-count.new.self c.args.octets.now n c.hear_end.result
+    c.hear_end.new.self both.0 both.1
+    (subst (λ end. Hears (with_serial c.gather_inner-count.new.self s) end c.hear_end.result
+    c.hear_end.new.self)
     (rest_is n c.args.octets.now) c.hear_end.ensures))

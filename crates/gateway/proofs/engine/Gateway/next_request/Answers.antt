@@ -19,5 +19,6 @@ returns-clause-room c =
     let a = c.self.inside in
     subst (λ (s : State). (x : Sending) → sending s.serial.line (has_room s.centre.queue) ≡ Some x
     → is_poll_request x.request ≡ true → 3 ≤ free_places s.centre.queue) c.self.view_is
-    (λ x is poll. poll_room c.polls_wait_for_leave.ensures.without a.serial.line a.centre.queue x c.self.invariant is
+    (λ x is poll. poll_room c.polls_wait_for_leave.ensures.without a.serial.line a.centre.queue x
+    c.self.invariant is
     poll)

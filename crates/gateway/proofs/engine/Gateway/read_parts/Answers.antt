@@ -10,12 +10,16 @@ returns-clause-back g c = λ s rest savable has e.
     let m = c.in_ok-serial.ensures.back s.serial _ savable.serial has.serial
     (savable.between.silent, savable.between.gap)
     (k.1 ∙ append_assoc (serial_lines s.serial) (centre_lines s.centre) rest) in
-    let t = c.in_ok-centre.ensures.back s.centre rest savable.centre has.centre savable.between.heard m.1 in
-    state_back c.joined.result _ c.in_ok-clock.clock c.in_ok-serial.serial c.in_ok-centre.centre s _ c.joined.ensures
-    m.0 t.0 k.0 (ap (λ (l : LineSettings). l.sizes) c.line.ensures ∙ sym has.sizes) savable.places t.1
+    let t = c.in_ok-centre.ensures.back s.centre rest savable.centre has.centre
+    savable.between.heard m.1 in
+    state_back c.joined.result _ c.in_ok-clock.clock c.in_ok-serial.serial c.in_ok-centre.centre s _
+    c.joined.ensures
+    m.0 t.0 k.0 (ap (λ (l : LineSettings). l.sizes) c.line.ensures ∙ sym has.sizes) savable.places
+    t.1
 
 pub returns-clause-between : goal.returns-clause-between
-returns-clause-between g c = joined_between c.joined.result _ c.in_ok-clock.clock c.in_ok-serial.serial
+returns-clause-between g c = joined_between c.joined.result _ c.in_ok-clock.clock
+    c.in_ok-serial.serial
     c.in_ok-centre.centre c.joined.ensures c.in_ok-serial.ensures.told c.in_ok-centre.ensures.taken
 
 pub returns-in_err-serial-clause-back : goal.returns-in_err-serial-clause-back
@@ -31,5 +35,6 @@ returns-in_err-centre-clause-back g c = λ s rest savable has e.
     let m = c.in_ok-serial.ensures.back s.serial _ savable.serial has.serial
     (savable.between.silent, savable.between.gap)
     (k.1 ∙ append_assoc (serial_lines s.serial) (centre_lines s.centre) rest) in
-    let h = c.in_err-centre.ensures.back s.centre rest savable.centre has.centre savable.between.heard m.1 in
+    let h = c.in_err-centre.ensures.back s.centre rest savable.centre has.centre
+    savable.between.heard m.1 in
     search rules

@@ -13,7 +13,8 @@ loop-done-preserved g c =
     let put = put_by _ On is c.take_front-count.ensures.puts in
     record {
       kept = λ p h. goes_as p _ On _ _ _ is
-          (goes_from p _ c.loop-done.self _ _ _ c.take_front-count.result.0 c.loop-done.done c.args.octets.now
+          (goes_from p _ c.loop-done.self _ _ _ c.take_front-count.result.0 c.loop-done.done
+          c.args.octets.now
           (c.take_front-count.ensures.kept p) (c.loop-done.invariant.kept p h));
       on = onward _ _ is c.take_front-count.ensures.open;
       within =
@@ -35,12 +36,14 @@ loop-done-smaller g c =
     omega (arith, c.loop-done-test.true, more.0)
 
 pub take_front-count-requires-clause-ready : goal.take_front-count-requires-clause-ready
-take_front-count-requires-clause-ready g c = omega (arith, c.loop-done.invariant.cause, c.requires.ready)
+take_front-count-requires-clause-ready g c =
+    omega (arith, c.loop-done.invariant.cause, c.requires.ready)
 
 pub returns-in-Over-clause-kept : goal.returns-in-Over-clause-kept
 returns-in-Over-clause-kept g c = λ p h.
     goes_as p _ Over _ _ _ c.in-Over.is
-    (goes_from p _ c.loop-done.self _ _ _ c.take_front-count.result.0 c.loop-done.done c.args.octets.now
+    (goes_from p _ c.loop-done.self _ _ _ c.take_front-count.result.0 c.loop-done.done
+    c.args.octets.now
     (c.take_front-count.ensures.kept p) (c.loop-done.invariant.kept p h))
 
 pub returns-in-Over-clause-puts : goal.returns-in-Over-clause-puts
@@ -55,7 +58,8 @@ returns-in-Over-clause-puts g c =
 pub returns-in-Failed-clause-kept : goal.returns-in-Failed-clause-kept
 returns-in-Failed-clause-kept g c = λ p h.
     goes_as p _ Failed _ _ _ c.in-Failed.is
-    (goes_from p _ c.loop-done.self _ _ _ c.take_front-count.result.0 c.loop-done.done c.args.octets.now
+    (goes_from p _ c.loop-done.self _ _ _ c.take_front-count.result.0 c.loop-done.done
+    c.args.octets.now
     (c.take_front-count.ensures.kept p) (c.loop-done.invariant.kept p h))
 
 pub returns-in-Failed-clause-puts : goal.returns-in-Failed-clause-puts

@@ -13,7 +13,9 @@ returns-then-not-put-clause-kept g c = λ p s now fits b h.
 
 pub returns-clause-kept : goal.returns-clause-kept
 returns-clause-kept g c = λ p s now fits b h.
-    let put : g.P.Port.log c.put.new.self ≡ tell (g.P.Port.log c.args.port.now) (Went c.moment.result (Closed Replaced)
+    let put : g.P.Port.log c.put.new.self
+    ≡ tell (g.P.Port.log c.args.port.now) (Went c.moment.result (Closed Replaced)
     ∷ []) = c.if-not-put.ensures.told in
-    told_replaced p _ _ s c.args.self.now c.renew.new.self now _ fits c.line_keeps_the_procedures.ensures b
+    told_replaced p _ _ s c.args.self.now c.renew.new.self now _ fits
+    c.line_keeps_the_procedures.ensures b
     c.requires.open c.renew.ensures put c.moment.ensures h

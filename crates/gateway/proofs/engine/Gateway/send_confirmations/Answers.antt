@@ -11,8 +11,10 @@ returns-clause-in_time g c =
     let u = c.send_confirmation-2.new.self in
     let v = c.send_confirmation-3.new.self in
     on_map c.send_confirmation-3.result _ _
-    (λ last. stays_after s u v (stays_after s t u (confirm_in_time law s t c.if-not-send_confirmation.ensures.next)
-    (confirm_in_time law t u c.if-not-send_confirmation-2.ensures.next)) (confirm_in_time law u v last))
+    (λ last. stays_after s u v
+    (stays_after s t u (confirm_in_time law s t c.if-not-send_confirmation.ensures.next)
+    (confirm_in_time law t u c.if-not-send_confirmation-2.ensures.next))
+    (confirm_in_time law u v last))
     c.send_confirmation-3.ensures.next
 
 pub returns-then-is_confirmed-clause-kept : goal.returns-then-is_confirmed-clause-kept
@@ -28,6 +30,22 @@ returns-then-not-send_confirmation-clause-kept g c = c.if-not-send_confirmation.
 pub returns-then-not-send_confirmation-clause-puts :
     goal.returns-then-not-send_confirmation-clause-puts
 returns-then-not-send_confirmation-clause-puts g c = c.if-not-send_confirmation.ensures.puts
+
+pub returns-then-is_confirmed-2-clause-kept : goal.returns-then-is_confirmed-2-clause-kept
+returns-then-is_confirmed-2-clause-kept g c = c.if-not-send_confirmation.ensures.kept
+
+pub returns-then-is_confirmed-2-clause-open : goal.returns-then-is_confirmed-2-clause-open
+returns-then-is_confirmed-2-clause-open g c = c.if-not-send_confirmation.ensures.open
+
+pub returns-then-is_confirmed-2-clause-in_time :
+    goal.returns-then-is_confirmed-2-clause-in_time
+returns-then-is_confirmed-2-clause-in_time g c =
+    confirm_in_time c.calls_come_to_an_end.ensures.in_time_confirm c.args.self.now
+    c.send_confirmation.new.self
+    c.if-not-send_confirmation.ensures.next
+
+pub returns-then-is_confirmed-2-clause-puts : goal.returns-then-is_confirmed-2-clause-puts
+returns-then-is_confirmed-2-clause-puts g c = c.if-not-send_confirmation.ensures.puts
 
 pub send_confirmation-requires-2 : goal.send_confirmation-requires-2
 send_confirmation-requires-2 g c = puts_ready c.if-not-send_confirmation.ensures.puts c.requires
@@ -50,7 +68,8 @@ returns-then-not-send_confirmation-2-clause-puts g c =
 
 pub send_confirmation-requires-3 : goal.send_confirmation-requires-3
 send_confirmation-requires-3 g c =
-    puts_ready (puts_then c.if-not-send_confirmation.ensures.puts c.if-not-send_confirmation-2.ensures.puts) c.requires
+    puts_ready (puts_then c.if-not-send_confirmation.ensures.puts
+    c.if-not-send_confirmation-2.ensures.puts) c.requires
 
 pub returns-clause-kept : goal.returns-clause-kept
 returns-clause-kept g c = λ p unjudged phase flushing h.
@@ -68,10 +87,12 @@ returns-clause-confirmed g c =
     let law = c.calls_come_to_an_end.ensures.confirmations in
     on_map c.send_confirmation-3.result _ _
     (confirms_end law c.args.self.now c.send_confirmation.new.self c.send_confirmation-2.new.self
-    c.send_confirmation-3.new.self c.if-not-send_confirmation.ensures.next c.if-not-send_confirmation-2.ensures.next)
+    c.send_confirmation-3.new.self c.if-not-send_confirmation.ensures.next
+    c.if-not-send_confirmation-2.ensures.next)
     c.send_confirmation-3.ensures.next
 
 pub returns-clause-puts : goal.returns-clause-puts
 returns-clause-puts g c =
-    puts_then (puts_then c.if-not-send_confirmation.ensures.puts c.if-not-send_confirmation-2.ensures.puts)
+    puts_then (puts_then c.if-not-send_confirmation.ensures.puts
+    c.if-not-send_confirmation-2.ensures.puts)
     c.send_confirmation-3.ensures.puts

@@ -9,7 +9,8 @@ use Rattle.gateway.proofs.engine.Gateway.send_data.Given as goal
 
 abbrev pub invariant-loop-count : goal.invariant-loop-count
 invariant-loop-count g l = record {
-  kept : (p : Setup) (unjudged : List ℕ) (phase : Phase) → IsFlushing phase → IsConfirmed l.fn.self.centre.session
+  kept : (p : Setup) (unjudged : List ℕ) (phase : Phase) → IsFlushing phase
+      → IsConfirmed l.fn.self.centre.session
       → Tracks p l.fn.self (g.P.Port.log l.fn.port) unjudged phase
       → Tracks p l.self (g.P.Port.log l.port) unjudged phase;
   confirmed : IsConfirmed l.fn.self.centre.session → IsConfirmed l.self.centre.session;

@@ -2,7 +2,9 @@ use Rattle.std.proofs.Common.{ap, sym, subst, ◌∙◌, true, false, None}
 use Rattle.apci.specs.Short.{apdu_of}
 use Rattle.gateway.specs.State.{State}
 use Rattle.gateway.specs.Agrees.{Tracks}
-use Rattle.gateway.proofs.Put.{told_put, sends_pulled, pulled_open, pulled_next, pulled_spent, none_pulled, none_left, on_map, pull_in_time, pull_confirmed, pull_ends, pull_clear, pull_spent, stays_after}
+use Rattle.gateway.proofs.Put.{told_put, sends_pulled, pulled_open, pulled_next, pulled_spent}
+use Rattle.gateway.proofs.Put.{none_pulled, none_left, on_map, pull_in_time, pull_confirmed}
+use Rattle.gateway.proofs.Put.{pull_ends, pull_clear, pull_spent, stays_after}
 use Rattle.gateway.proofs.Putting.{puts_none, puts_then, puts_ready}
 use Rattle.gateway.proofs.engine.Gateway.send_dues.Goals as goal
 
@@ -34,13 +36,16 @@ returns-in-None-clause-in_time g c =
 
 pub returns-then-hand_short-clause-kept : goal.returns-then-hand_short-clause-kept
 returns-then-hand_short-clause-kept g c = λ p unjudged phase flushing clear h.
-    let next = pulled_next c.args.self.now c.pull.new.self _ c.pull.ensures.due c.pull.ensures.rest in
+    let next = pulled_next c.args.self.now c.pull.new.self _ c.pull.ensures.due
+    c.pull.ensures.rest in
     c.send_due.ensures.kept p unjudged phase flushing
-    (pull_clear c.calls_come_to_an_end.ensures.confirmed_pull c.args.self.now c.pull.new.self next clear)
+    (pull_clear c.calls_come_to_an_end.ensures.confirmed_pull c.args.self.now c.pull.new.self next
+    clear)
     (told_put true p _ _ c.args.self.now c.pull.new.self
     (apdu_of c.in-Some.apdu) _ unjudged phase c.if-hand_short.ensures.told
     (ap (λ (x : State). x.moment) c.pull.ensures.rest)
-    (sends_pulled c.args.self.now c.pull.new.self (apdu_of c.in-Some.apdu) clear c.in-Some.ensures.fits
+    (sends_pulled c.args.self.now c.pull.new.self (apdu_of c.in-Some.apdu) clear
+    c.in-Some.ensures.fits
     c.in-Some.ensures.due
     c.pull.ensures.rest p unjudged phase flushing) h)
 
@@ -56,7 +61,8 @@ returns-then-hand_short-clause-confirmed g c =
 pub returns-then-hand_short-clause-pulled : goal.returns-then-hand_short-clause-pulled
 returns-then-hand_short-clause-pulled g c =
     on_map c.send_due.result _ _
-    (pull_ends c.calls_come_to_an_end.ensures.pulls c.args.self.now c.pull.new.self c.send_due.new.self
+    (pull_ends c.calls_come_to_an_end.ensures.pulls c.args.self.now c.pull.new.self
+    c.send_due.new.self
     (pulled_next c.args.self.now c.pull.new.self _ c.pull.ensures.due c.pull.ensures.rest))
     c.send_due.ensures.next
 
@@ -75,7 +81,8 @@ returns-else-hand_short-clause-kept g c = λ p unjudged phase flushing clear h.
     told_put false p _ _ c.args.self.now c.pull.new.self
     (apdu_of c.in-Some.apdu) _ unjudged phase c.if-hand_short.ensures.told
     (ap (λ (x : State). x.moment) c.pull.ensures.rest)
-    (sends_pulled c.args.self.now c.pull.new.self (apdu_of c.in-Some.apdu) clear c.in-Some.ensures.fits
+    (sends_pulled c.args.self.now c.pull.new.self (apdu_of c.in-Some.apdu) clear
+    c.in-Some.ensures.fits
     c.in-Some.ensures.due
     c.pull.ensures.rest p unjudged phase flushing) h
 
@@ -86,7 +93,8 @@ pub send_due-requires : goal.send_due-requires
 send_due-requires g c = puts_ready c.if-hand_short.ensures.puts c.requires
 
 pub returns-then-hand_short-clause-open : goal.returns-then-hand_short-clause-open
-returns-then-hand_short-clause-open g c = c.send_due.ensures.open ∙ pulled_open _ _ _ _ c.pull.ensures.due
+returns-then-hand_short-clause-open g c = c.send_due.ensures.open
+    ∙ pulled_open _ _ _ _ c.pull.ensures.due
 
 pub returns-then-hand_short-clause-spent : goal.returns-then-hand_short-clause-spent
 returns-then-hand_short-clause-spent g c =
@@ -97,7 +105,8 @@ returns-then-hand_short-clause-spent g c =
     c.send_due.ensures.next
 
 pub returns-then-hand_short-clause-puts : goal.returns-then-hand_short-clause-puts
-returns-then-hand_short-clause-puts g c = puts_then c.if-hand_short.ensures.puts c.send_due.ensures.puts
+returns-then-hand_short-clause-puts g c =
+    puts_then c.if-hand_short.ensures.puts c.send_due.ensures.puts
 
 pub returns-else-hand_short-clause-open : goal.returns-else-hand_short-clause-open
 returns-else-hand_short-clause-open g c = pulled_open _ _ _ _ c.pull.ensures.due

@@ -1,46 +1,58 @@
 use Rattle.gateway.specs.Phases.{Asked}
 use Rattle.gateway.proofs.Put.{told_done, told_leaves, in_time_same}
 use Rattle.gateway.proofs.Accounting.{step_accounted}
-use Rattle.gateway.proofs.Events.{begins, told_settled, still_told, step_follows}
+use Rattle.gateway.proofs.Events.{begins, told_settled, still_told}
+use Rattle.gateway.proofs.Following.{step_follows}
 use Rattle.gateway.proofs.engine.Gateway.step.Goals as goal
 
 pub returns-clause-kept : goal.returns-clause-kept
 returns-clause-kept g c = λ p h.
-    let b = begins c.args.self.now c.advance_to.new.self c.hear_event-fits.new.self c.time.new.self c.args.now _
+    let b = begins c.args.self.now c.advance_to.new.self c.hear_event-fits.new.self c.time.new.self
+    c.args.now _
     c.hear_event-fits.result c.advance_to.ensures c.hear_event-fits.ensures c.time.ensures in
     let timed = told_settled p _ c.tell_gap.new.self c.settle.new.self c.settle.ensures
-    (c.if-not-tell_gap.ensures.kept p (c.if-not-take.ensures.kept p c.args.self.now c.args.now b h)) in
-    step_follows c.line_keeps_the_procedures.ensures p c.flush.result _ c.flush.new.self c.flush.ensures.confirmed
+    (c.if-not-tell_gap.ensures.kept p (c.if-not-take.ensures.kept p c.args.self.now c.args.now b
+    h)) in
+    step_follows c.line_keeps_the_procedures.ensures p c.flush.result _ c.flush.new.self
+    c.flush.ensures.confirmed
     c.flush.ensures.spent (c.flush.ensures.kept p _ Asked tt
     (c.if-not-ask.ensures.kept p (c.if-not-watch.ensures.kept p timed)))
 
 pub returns-clause-rests : goal.returns-clause-rests
 returns-clause-rests g c = λ p h.
-    let b = begins c.args.self.now c.advance_to.new.self c.hear_event-fits.new.self c.time.new.self c.args.now _
+    let b = begins c.args.self.now c.advance_to.new.self c.hear_event-fits.new.self c.time.new.self
+    c.args.now _
     c.hear_event-fits.result c.advance_to.ensures c.hear_event-fits.ensures c.time.ensures in
     let timed = told_settled p _ c.tell_gap.new.self c.settle.new.self c.settle.ensures
-    (c.if-not-tell_gap.ensures.kept p (c.if-not-take.ensures.kept p c.args.self.now c.args.now b h)) in
+    (c.if-not-tell_gap.ensures.kept p (c.if-not-take.ensures.kept p c.args.self.now c.args.now b
+    h)) in
     let asked = c.if-not-ask.ensures.kept p (c.if-not-watch.ensures.kept p timed) in
-    told_done c.line_keeps_the_procedures.ensures p c.flush.result _ _ c.ask.new.self c.flush.new.self
+    told_done c.line_keeps_the_procedures.ensures p c.flush.result _ _ c.ask.new.self
+    c.flush.new.self
     c.flush.ensures.puts.events
-    (in_time_same c.watch.new.self c.ask.new.self c.if-not-ask.ensures.session c.if-not-ask.ensures.moment
+    (in_time_same c.watch.new.self c.ask.new.self c.if-not-ask.ensures.session
+    c.if-not-ask.ensures.moment
     c.if-not-watch.ensures.in_time)
-    asked c.flush.ensures.spent c.flush.ensures.confirmed c.flush.ensures.pulled c.flush.ensures.in_time
+    asked c.flush.ensures.spent c.flush.ensures.confirmed c.flush.ensures.pulled
+    c.flush.ensures.in_time
     (c.flush.ensures.kept p _ Asked tt asked)
 
 pub returns-clause-faithful : goal.returns-clause-faithful
 returns-clause-faithful g c = λ p h.
-    let b = begins c.args.self.now c.advance_to.new.self c.hear_event-fits.new.self c.time.new.self c.args.now _
+    let b = begins c.args.self.now c.advance_to.new.self c.hear_event-fits.new.self c.time.new.self
+    c.args.now _
     c.hear_event-fits.result c.advance_to.ensures c.hear_event-fits.ensures c.time.ensures in
     let timed = told_settled p _ c.tell_gap.new.self c.settle.new.self c.settle.ensures
-    (c.if-not-tell_gap.ensures.kept p (c.if-not-take.ensures.kept p c.args.self.now c.args.now b h)) in
+    (c.if-not-tell_gap.ensures.kept p (c.if-not-take.ensures.kept p c.args.self.now c.args.now b
+    h)) in
     told_leaves p c.flush.result _ c.flush.new.self Asked
     (c.flush.ensures.kept p _ Asked tt (c.if-not-ask.ensures.kept p
     (c.if-not-watch.ensures.kept p timed)))
 
 pub returns-then-not-tell_gap-clause-faithful : goal.returns-then-not-tell_gap-clause-faithful
 returns-then-not-tell_gap-clause-faithful g c = λ p h.
-    let b = begins c.args.self.now c.advance_to.new.self c.hear_event-fits.new.self c.time.new.self c.args.now _
+    let b = begins c.args.self.now c.advance_to.new.self c.hear_event-fits.new.self c.time.new.self
+    c.args.now _
     c.hear_event-fits.result c.advance_to.ensures c.hear_event-fits.ensures c.time.ensures in
     c.if-not-tell_gap.ensures.kept p (c.if-not-take.ensures.kept p c.args.self.now c.args.now b h)
 
@@ -50,18 +62,23 @@ watch-requires-clause-told g c = still_told c.tell_gap.new.self c.settle.new.sel
 
 pub returns-then-not-watch-clause-faithful : goal.returns-then-not-watch-clause-faithful
 returns-then-not-watch-clause-faithful g c = λ p h.
-    let b = begins c.args.self.now c.advance_to.new.self c.hear_event-fits.new.self c.time.new.self c.args.now _
+    let b = begins c.args.self.now c.advance_to.new.self c.hear_event-fits.new.self c.time.new.self
+    c.args.now _
     c.hear_event-fits.result c.advance_to.ensures c.hear_event-fits.ensures c.time.ensures in
-    c.if-not-watch.ensures.kept p (told_settled p _ c.tell_gap.new.self c.settle.new.self c.settle.ensures
-    (c.if-not-tell_gap.ensures.kept p (c.if-not-take.ensures.kept p c.args.self.now c.args.now b h)))
+    c.if-not-watch.ensures.kept p (told_settled p _ c.tell_gap.new.self c.settle.new.self
+    c.settle.ensures
+    (c.if-not-tell_gap.ensures.kept p (c.if-not-take.ensures.kept p c.args.self.now c.args.now b
+    h)))
 
 pub returns-then-not-ask-clause-faithful : goal.returns-then-not-ask-clause-faithful
 returns-then-not-ask-clause-faithful g c = λ p h.
-    let b = begins c.args.self.now c.advance_to.new.self c.hear_event-fits.new.self c.time.new.self c.args.now _
+    let b = begins c.args.self.now c.advance_to.new.self c.hear_event-fits.new.self c.time.new.self
+    c.args.now _
     c.hear_event-fits.result c.advance_to.ensures c.hear_event-fits.ensures c.time.ensures in
     c.if-not-ask.ensures.kept p (c.if-not-watch.ensures.kept p
     (told_settled p _ c.tell_gap.new.self c.settle.new.self c.settle.ensures
-    (c.if-not-tell_gap.ensures.kept p (c.if-not-take.ensures.kept p c.args.self.now c.args.now b h))))
+    (c.if-not-tell_gap.ensures.kept p (c.if-not-take.ensures.kept p c.args.self.now c.args.now b
+    h))))
 
 pub returns-clause-accounts : goal.returns-clause-accounts
 returns-clause-accounts g c = λ p h. step_accounted _ p _ _ (returns-clause-kept g c p h)

@@ -7,7 +7,8 @@ use Rattle.gateway.proofs.engine.Gateway.take_apdu.Goals as goal
 pub returns-in-Some-clause-kept : goal.returns-in-Some-clause-kept
 returns-in-Some-clause-kept g c = λ p rest h.
     c.shut.ensures.kept p (judged_closes p _ c.args.self.now c.judge.new.self
-    (owned c.args.apdu) c.in-Some.cause rest c.requires.open c.requires.fits c.requires.whole c.in-Some.ensures h)
+    (owned c.args.apdu) c.in-Some.cause rest c.requires.open c.requires.fits c.requires.whole
+    c.in-Some.ensures h)
     rest
 
 pub returns-then-not-flush-clause-kept : goal.returns-then-not-flush-clause-kept

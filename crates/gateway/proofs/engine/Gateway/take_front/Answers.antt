@@ -11,7 +11,8 @@ returns-in-Some-clause-kept g c = λ p h.
     let f = c.in-Some.ensures in
     let s = c.args.self.now in
     let rest = drop c.in-Some.count c.args.octets.now in
-    c.take_apdu.ensures.kept p rest (told_fed p _ s s c.args.octets.now (spelling (owned c.in-Some.apdu) ++ rest) []
+    c.take_apdu.ensures.kept p rest
+    (told_fed p _ s s c.args.octets.now (spelling (owned c.in-Some.apdu) ++ rest) []
     c.in-Some.count f.1 f.0.1 f.0.2 f.0.3 (nothing_left s f.1 f.2) h)
 
 pub take_heard-requires-clause-heard : goal.take_heard-requires-clause-heard
@@ -24,19 +25,23 @@ returns-in-Whole-clause-kept g c = λ p h.
     let s = c.args.self.now in
     let rest = drop c.in-Whole.count c.args.octets.now in
     c.take_heard.ensures.kept p f.2.0 rest (ap (λ (x : Centre). x.heard) f.2.2)
-    (told_fed p _ s (with_octets (Some []) c.feed.new.self) c.args.octets.now (spelling f.2.0 ++ rest) f.0
-    c.in-Whole.count f.1 f.2.1.1 f.2.1.2 f.2.1.3 (ap (with_octets (Some [])) (c.in-Whole.ensures.rest
+    (told_fed p _ s (with_octets (Some []) c.feed.new.self) c.args.octets.now
+    (spelling f.2.0 ++ rest) f.0
+    c.in-Whole.count f.1 f.2.1.1 f.2.1.2 f.2.1.3
+    (ap (with_octets (Some [])) (c.in-Whole.ensures.rest
     ∙ ap (λ (x : Centre). with_centre x s) f.2.2)) h)
 
 pub returns-in-Refused-clause-kept : goal.returns-in-Refused-clause-kept
 returns-in-Refused-clause-kept g c = λ p h.
     let f = c.in-Refused.ensures.finds in
-    c.shut.ensures.kept p (garbled_closes p _ c.args.self.now c.feed.new.self c.args.octets.now f.0 c.requires.open f.1
+    c.shut.ensures.kept p (garbled_closes p _ c.args.self.now c.feed.new.self c.args.octets.now f.0
+    c.requires.open f.1
     f.2.0 (c.in-Refused.ensures.rest ∙ ap (λ (x : Centre). with_centre x c.args.self.now) f.2.1) h)
     c.args.octets.now
 
 pub returns-in-More-clause-kept : goal.returns-in-More-clause-kept
 returns-in-More-clause-kept g c = λ p h.
     let f = c.in-More.ensures.finds in
-    told_more p _ c.args.self.now c.feed.new.self c.args.octets.now f.0 f.1 f.2.0 (c.in-More.ensures.rest
+    told_more p _ c.args.self.now c.feed.new.self c.args.octets.now f.0 f.1 f.2.0
+    (c.in-More.ensures.rest
     ∙ ap (λ (x : Centre). with_centre x c.args.self.now) f.2.1) h

@@ -7,5 +7,6 @@ pub returns-clause-kept : goal.returns-clause-kept
 returns-clause-kept g c = λ p frame rest heard h.
     c.take_apdu.ensures.kept p rest (told_taken p _ c.args.self.now c.take_whole-apdu.new.self frame
     (owned c.as_ref.result) rest heard
-    (c.take_whole-apdu.ensures.frame ∙ ap Some (sym c.as_ref.ensures)) c.requires.whole c.take_whole-apdu.ensures.rest
+    (c.take_whole-apdu.ensures.frame ∙ ap Some (sym c.as_ref.ensures)) c.requires.whole
+    c.take_whole-apdu.ensures.rest
     h)

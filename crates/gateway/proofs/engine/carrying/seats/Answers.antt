@@ -13,10 +13,12 @@ returns-clause-fit c =
     let before = c.args.before.now.stations in
     let now = c.args.now.now in
     let all : length now.stations ≤ c.loop-station.station-index =
-    subst (λ (l : List Station). length l ≤ c.loop-station.station-index) c.stations-station-items.ensures.stations
+    subst (λ (l : List Station). length l ≤ c.loop-station.station-index)
+    c.stations-station-items.ensures.stations
     c.loop-station-test.false in
     let found : c.loop-station.found.items ≡ map (seat_of before) now.stations =
     c.loop-station.invariant ∙ ap (λ (l : List Station). map (seat_of before) l)
     (take_all c.loop-station.station-index now.stations all) in
     subst (λ (l : List Seat). All (λ (s : Seat). FitsAddress now.line.link s.address) l) (sym found)
-    (seats_fit now.line.link now.line.sizes.ca before now.stations c.stations-station-items.ensures.rules.each)
+    (seats_fit now.line.link now.line.sizes.ca before now.stations
+    c.stations-station-items.ensures.rules.each)

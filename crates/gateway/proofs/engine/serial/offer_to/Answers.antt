@@ -12,7 +12,8 @@ short_address : (size : LinkSize) → address_len size ≤ 2
 short_address One = omega arith
 short_address Two = omega arith
 
-user_data : (size : LinkSize) (octets : List ℕ) → 1 ≤ length octets → length octets ≤ 12 → All IsOctet octets
+user_data : (size : LinkSize) (octets : List ℕ) → 1 ≤ length octets → length octets ≤ 12
+    → All IsOctet octets
     → IsUserData size octets
 user_data size octets some short each = record {
   some = some;
@@ -31,7 +32,9 @@ pub returns-clause-tells : goal.returns-clause-tells
 returns-clause-tells c =
     let line = c.args.line.now in
     let octets = c.args.octets.now in
-    λ settings addresses e told. subst (λ p. Tells settings addresses p e) (sym c.offer-is_new.ensures.state)
-    (c.master_tells_the_log.ensures.offer settings addresses line e c.args.station octets c.requires.station
+    λ settings addresses e told. subst (λ p. Tells settings addresses p e)
+    (sym c.offer-is_new.ensures.state)
+    (c.master_tells_the_log.ensures.offer settings addresses line e c.args.station octets
+    c.requires.station
     (user_data line.settings.size octets c.requires.some c.requires.short
     (All-from_get_or IsOctet octets 0 (λ i lt. omega (arith, c.type_inv.octets i)))) told)

@@ -13,13 +13,15 @@ invariant_of-self-else-self-station c =
     let size = c.self.inside.settings.size in
     let ss = c.self.inside.stations.items in
     let s : StationState = station_given_up c.index_mut.result.now in
-    let within = subst (λ (p : Primary). c.args.station < length p.stations) (sym c.self.view_is) c.requires in
+    let within = subst (λ (p : Primary). c.args.station < length p.stations) (sym c.self.view_is)
+    c.requires in
     let there = subst (λ (s : StationState). FitsStation size s) (sym c.index_mut.ensures.value)
     (f.stations c.args.station c.index_mut.result.now within) in
     record {
       size = c.self.invariant.size;
       fits = record {
-        turn = subst (λ (n : ℕ). c.self.inside.turn < n) (sym (length-set ss c.args.station s)) f.turn;
+        turn = subst (λ (n : ℕ). c.self.inside.turn < n) (sym (length-set ss c.args.station s))
+            f.turn;
         stations = set_fits size ss c.args.station s within f.stations
             (record { address = there.address; link = tt; offered = there.offered });
         outstanding = f.outstanding;

@@ -14,10 +14,13 @@ invariant_of-self-in-Some c =
       size = c.self.invariant.size;
       fits = record {
         turn = subst (λ (n : ℕ). c.self.inside.turn < n)
-            (sym (length-set c.self.inside.stations.items c.self.inside.turn c.answer.new.self)) f.turn;
-        stations = set_fits size c.self.inside.stations.items c.self.inside.turn c.answer.new.self f.turn f.stations
+            (sym (length-set c.self.inside.stations.items c.self.inside.turn c.answer.new.self))
+            f.turn;
+        stations = set_fits size c.self.inside.stations.items c.self.inside.turn c.answer.new.self
+            f.turn f.stations
             (subst (λ (s : StationState). FitsStation size s) (sym c.answer.ensures)
-            (answered_fits size c.index_mut.result.now c.args.awaited.request (owned c.args.frame) c.in-Some.answer
+            (answered_fits size c.index_mut.result.now c.args.awaited.request (owned c.args.frame)
+            c.in-Some.answer
             (subst (λ (s : StationState). FitsStation size s) (sym c.index_mut.ensures.value)
             (f.stations c.self.inside.turn c.index_mut.result.now f.turn))));
         outstanding = f.outstanding;

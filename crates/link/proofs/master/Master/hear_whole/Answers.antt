@@ -21,6 +21,8 @@ returns-clause-whole c =
     c.in-Whole.ensures))) in
     let heard = heard_at_front (front_of p.settings.size) p octets frame free whole in
     let noted_is : c.note.new.self ≡ noted octets p = search (rules, c.note.ensures) in (
-      c.hear.ensures.state ∙ ap (λ (q : Primary). heard_from q q.outstanding frame) noted_is ∙ heard.0,
-      c.hear.ensures.outcome ∙ ap (λ (q : Primary). heard_outcome q q.outstanding frame) noted_is ∙ heard.1,
+      c.hear.ensures.state ∙ ap (λ (q : Primary). heard_from q q.outstanding frame) noted_is
+          ∙ heard.0,
+      c.hear.ensures.outcome ∙ ap (λ (q : Primary). heard_outcome q q.outstanding frame) noted_is
+          ∙ heard.1,
     )

@@ -18,10 +18,13 @@ invariant_of-self c =
       size = c.self.invariant.size;
       fits = record {
         turn = subst (λ (n : ℕ). c.self.inside.turn < n)
-            (sym (length-set c.self.inside.stations.items c.self.inside.turn c.miss.new.self)) f.turn;
-        stations = set_fits size c.self.inside.stations.items c.self.inside.turn c.miss.new.self f.turn f.stations
+            (sym (length-set c.self.inside.stations.items c.self.inside.turn c.miss.new.self))
+            f.turn;
+        stations = set_fits size c.self.inside.stations.items c.self.inside.turn c.miss.new.self
+            f.turn f.stations
             (subst (λ (s : StationState). FitsStation size s) (sym c.miss.ensures)
-            (unanswered_fits c.self.inside.settings size c.index_mut.result.now c.args.awaited.now.request asked
+            (unanswered_fits c.self.inside.settings size c.index_mut.result.now
+            c.args.awaited.now.request asked
             (subst (λ (s : StationState). FitsStation size s) (sym c.index_mut.ensures.value)
             (f.stations c.self.inside.turn c.index_mut.result.now f.turn))));
         outstanding = f.outstanding;

@@ -5,7 +5,9 @@ use Rattle.link.specs.Procedure.{LinkSettings}
 use Rattle.link.specs.Primary.{Primary}
 use Rattle.link.specs.Holding.{IsFitting}
 use Rattle.link.specs.Restored.{heard_from, awaited_from, head_from}
-use Rattle.link.proofs.RestoredBack.{next_line, found_is, head_back, awaited_back, heard_begins, restored_same, some_awaited_same, some_head_same, none_some, not_none}
+use Rattle.link.proofs.RestoredBack.{next_line, found_is, head_back, awaited_back, heard_begins}
+use Rattle.link.proofs.RestoredBack.{restored_same, some_awaited_same, some_head_same, none_some}
+use Rattle.link.proofs.RestoredBack.{not_none}
 use Rattle.link.proofs.master.Master.read_state.Goals as goal
 
 pub returns-in_default-awaited_from : goal.returns-in_default-awaited_from
@@ -17,7 +19,8 @@ returns-in_default-awaited_from g c = λ p rest sav set count e.
     let m = rw i at c.in-Ok.ensures in
     let h = found_is c.in-Some-found.deaf c.in-Some-found.octets.items p.outstanding sav.octets
     (m ∙ ap heard_from (c.as_slice-2.ensures.value ∙ b.0)) in
-    let w = c.awaited_from.ensures ∙ ap (λ (x : List ℕ). awaited_from c.in-Some-found.deaf x) (c.as_slice-3.ensures.value ∙ d.0)
+    let w = c.awaited_from.ensures ∙ ap (λ (x : List ℕ). awaited_from c.in-Some-found.deaf x)
+    (c.as_slice-3.ensures.value ∙ d.0)
     ∙ awaited_back p.outstanding sav.outstanding c.in-Some-found.deaf h.0 in
     absurd (c.in_default-awaited_from.not-Some _ w)
 
@@ -30,13 +33,16 @@ returns-in-Some-restored g c = λ p rest sav set count e.
     let m = rw i at c.in-Ok.ensures in
     let h = found_is c.in-Some-found.deaf c.in-Some-found.octets.items p.outstanding sav.octets
     (m ∙ ap heard_from (c.as_slice-2.ensures.value ∙ b.0)) in
-    let w = c.awaited_from.ensures ∙ ap (λ (x : List ℕ). awaited_from c.in-Some-found.deaf x) (c.as_slice-3.ensures.value ∙ d.0)
+    let w = c.awaited_from.ensures ∙ ap (λ (x : List ℕ). awaited_from c.in-Some-found.deaf x)
+    (c.as_slice-3.ensures.value ∙ d.0)
     ∙ awaited_back p.outstanding sav.outstanding c.in-Some-found.deaf h.0 in
-    let q = c.head_from.ensures ∙ ap head_from (c.as_slice.ensures.value ∙ a.0) ∙ head_back p sav.phase in
+    let q = c.head_from.ensures ∙ ap head_from (c.as_slice.ensures.value ∙ a.0)
+    ∙ head_back p sav.phase in
     let k = c.in-Ok-read_stations.ensures p.stations rest count sav.stations d.1 in
     let o = some_awaited_same _ _ (sym c.in-Some-awaited_from.is ∙ w) in
     let hd = some_head_same _ _ (sym c.in-Some.is ∙ q) in
-    let z = restored_same p c.args.settings c.in-Some.head c.in-Some-awaited_from.outstanding c.as_slice-4.result.now
+    let z = restored_same p c.args.settings c.in-Some.head c.in-Some-awaited_from.outstanding
+    c.as_slice-4.result.now
     c.in-Ok-read_stations.stations.items set hd o (c.as_slice-4.ensures.value ∙ h.1) k.0 in
     (c.in-Some-restored.ensures.made ∙ z, k.1)
 
@@ -49,18 +55,24 @@ returns g c = λ p rest sav set count e.
     let m = rw i at c.in-Ok.ensures in
     let h = found_is c.in-Some-found.deaf c.in-Some-found.octets.items p.outstanding sav.octets
     (m ∙ ap heard_from (c.as_slice-2.ensures.value ∙ b.0)) in
-    let w = c.awaited_from.ensures ∙ ap (λ (x : List ℕ). awaited_from c.in-Some-found.deaf x) (c.as_slice-3.ensures.value ∙ d.0)
+    let w = c.awaited_from.ensures ∙ ap (λ (x : List ℕ). awaited_from c.in-Some-found.deaf x)
+    (c.as_slice-3.ensures.value ∙ d.0)
     ∙ awaited_back p.outstanding sav.outstanding c.in-Some-found.deaf h.0 in
-    let q = c.head_from.ensures ∙ ap head_from (c.as_slice.ensures.value ∙ a.0) ∙ head_back p sav.phase in
+    let q = c.head_from.ensures ∙ ap head_from (c.as_slice.ensures.value ∙ a.0)
+    ∙ head_back p sav.phase in
     let k = c.in-Ok-read_stations.ensures p.stations rest count sav.stations d.1 in
     let o = some_awaited_same _ _ (sym c.in-Some-awaited_from.is ∙ w) in
     let hd = some_head_same _ _ (sym c.in-Some.is ∙ q) in
-    let z = restored_same p c.args.settings c.in-Some.head c.in-Some-awaited_from.outstanding c.as_slice-4.result.now
+    let z = restored_same p c.args.settings c.in-Some.head c.in-Some-awaited_from.outstanding
+    c.as_slice-4.result.now
     c.in-Ok-read_stations.stations.items set hd o (c.as_slice-4.ensures.value ∙ h.1) k.0 in
     let F : Primary → Type 0 = λ x. IsFitting x in
-    let B : LinkSettings → Type 0 = λ s. IsProperBeginning s.size c.as_slice-4.result.now ⊎ (c.as_slice-4.result.now ≡ []) in
+    let B : LinkSettings → Type 0 = λ s. IsProperBeginning s.size c.as_slice-4.result.now
+    ⊎ (c.as_slice-4.result.now ≡ []) in
     let X : List ℕ → Type 0 = λ x. IsProperBeginning p.settings.size x ⊎ (x ≡ []) in
-    let begins = subst B set (subst X (sym (c.as_slice-4.ensures.value ∙ h.1)) (heard_begins p p.outstanding sav.heard)) in
+    let begins =
+    subst B set (subst X (sym (c.as_slice-4.ensures.value ∙ h.1))
+    (heard_begins p p.outstanding sav.heard)) in
     let some = c.restored.ensures.taken (subst F (sym z) sav.fitting) begins in
     absurd (none_some _ c.in-None.is some)
 
@@ -69,4 +81,5 @@ returns-in_default-found g c = λ p rest sav set count e.
     let a = next_line _ _ _ _ _ e c.in_ok-next.ensures.some in
     let b = next_line _ _ _ _ _ a.1 c.in_ok-next-2.ensures.some in
     let m = rw c.in_default-found.is at c.in-Ok.ensures in
-    absurd (not_none p.outstanding sav.octets (m ∙ ap heard_from (c.as_slice-2.ensures.value ∙ b.0)))
+    absurd (not_none p.outstanding sav.octets (m ∙ ap heard_from (c.as_slice-2.ensures.value
+    ∙ b.0)))

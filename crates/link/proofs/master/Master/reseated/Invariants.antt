@@ -8,6 +8,7 @@ use Rattle.link.proofs.master.Master.reseated.Given as goal
 abbrev pub invariant-loop-seat : goal.invariant-loop-seat
 invariant-loop-seat l = record {
   stations : l.stations.items
-      ≡ map (λ (s : Seat). seated l.fn.settings.retries s.address l.fn.self.stations s.before) (take l.seat-index l.seats);
+      ≡ map (λ (s : Seat). seated l.fn.settings.retries s.address l.fn.self.stations s.before)
+      (take l.seat-index l.seats);
   fit : All (FitsStation l.fn.settings.size) l.stations.items;
 }

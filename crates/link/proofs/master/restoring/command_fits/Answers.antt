@@ -9,4 +9,5 @@ returns c =
     let A : List ℕ → Type 0 = λ x. All (λ n. n < 256) x in
     user_data c.args.size c.args.command.now c.is_empty.result
     (c.is_empty.ensures ∙ ap (λ (x : List ℕ). length x == 0) c.octets.ensures.octets)
-    (subst S c.octets.ensures.octets c.octets.ensures.small) (subst A c.octets.ensures.octets c.octets.ensures.bytes)
+    (subst S c.octets.ensures.octets c.octets.ensures.small)
+    (subst A c.octets.ensures.octets c.octets.ensures.bytes)

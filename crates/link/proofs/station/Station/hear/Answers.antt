@@ -5,7 +5,8 @@ use Rattle.link.proofs.Frames.{not_heard}
 use Rattle.link.proofs.station.Station.hear.Goals as goal
 
 pub returns-in_default-clause-heard : goal.returns-in_default-clause-heard
-returns-in_default-clause-heard c = subst (λ (s : Secondary). HearsOctets s c.args.octets.now None s) c.self.view_is
+returns-in_default-clause-heard c =
+    subst (λ (s : Secondary). HearsOctets s c.args.octets.now None s) c.self.view_is
     (not_heard _ c.args.octets.now c.front.result c.front.ensures.only
     (λ frame e. c.in_default.not-Whole frame (length c.args.octets.now) (sym e)))
 
@@ -13,6 +14,7 @@ pub returns-then-len-octets-clause-heard : goal.returns-then-len-octets-clause-h
 returns-then-len-octets-clause-heard c =
     subst (λ (s : Secondary). HearsOctets s c.args.octets.now None s) c.self.view_is
     (not_heard _ c.args.octets.now c.front.result c.front.ensures.only
-    (λ frame e. let same : Whole frame (length c.args.octets.now) ≡ Whole c.in-Whole.frame c.in-Whole.len =
+    (λ frame e. let same : Whole frame (length c.args.octets.now)
+    ≡ Whole c.in-Whole.frame c.in-Whole.len =
     e ∙ c.in-Whole.is in
     c.if-len-octets.true cc))

@@ -11,8 +11,10 @@ pub loop-preserved : goal.loop-preserved
 loop-preserved g c = record {
   quiet = quiet_more _ _ _ _ _ _ _ _ _ _ _ _ c.loop.invariant.quiet c.turn-found.ensures.turn
       (sym c.is_some.ensures ∙ c.if-is_some.false) (c.is_awaited-was_awaited.ensures
-      ∙ ap (λ (e : Ends). is_awaited e.timing) c.self.view_is) c.read_clock-now.ensures c.is_tick_due.ensures c.if-is_tick_due.false;
+      ∙ ap (λ (e : Ends). is_awaited e.timing) c.self.view_is) c.read_clock-now.ensures
+      c.is_tick_due.ensures c.if-is_tick_due.false;
   failed = ap (λ (e : Ends). e.failed) c.read_clock-now.ensures
-      ∙ (none_failed c.turn-found.result _ _ (sym c.is_some.ensures ∙ c.if-is_some.false) c.turn-found.ensures.failed
+      ∙ (none_failed c.turn-found.result _ _ (sym c.is_some.ensures ∙ c.if-is_some.false)
+      c.turn-found.ensures.failed
       ∙ c.loop.invariant.failed);
 }

@@ -1,4 +1,5 @@
-use Rattle.std.proofs.Common.{◌≡◌, ℕ, ◌+◌, ◌-◌, ◌<◌, ◌≤◌, Bool, true, List, [], ◌∷◌, ◌++◌, Some, None, is_some, refl, sym, ap, subst, ◌∙◌}
+use Rattle.std.proofs.Common.{◌≡◌, ℕ, ◌+◌, ◌-◌, ◌<◌, ◌≤◌, Bool, true, List, [], ◌∷◌, ◌++◌, Some}
+use Rattle.std.proofs.Common.{None, is_some, refl, sym, ap, subst, ◌∙◌}
 use Rattle.gateway.specs.Log.{Log, LineOut}
 use Rattle.gateway.specs.Ports.{told_by}
 use Rattle.gateway.specs.declared.ports.Next.{Next}
@@ -7,14 +8,16 @@ use Rattle.live.specs.Ends.{Ends, LogsTurn, LogsPut}
 use Rattle.live.specs.Law.{AtMoment, AtRounds, SomeRounds, first_of}
 use Rattle.std.specs.Prelude.{All}
 use Rattle.live.specs.Timing.{Moments}
-use Rattle.live.specs.Passed.{IsFresh, Run, Begun, Told, Put, TellsEnds, TellsLine, TellsDoor, TellsStill, opened_in, let_in_at, line_in, line_out, given, handed}
+use Rattle.live.specs.Passed.{IsFresh, Run, Begun, Told, Put, TellsEnds, TellsLine, TellsDoor}
+use Rattle.live.specs.Passed.{TellsStill, opened_in, let_in_at, line_in, line_out, given, handed}
 use Rattle.live.specs.Wires.{Happening, History, Visits}
 use Rattle.live.specs.declared.timing.Request.{Request}
 use Rattle.live.specs.declared.timing.Timing.{Timing}
 use Rattle.live.proofs.port.told.exchange.Goals as goal
 
 -- an event of a look brings no request
-told_out : (event : Next) (buf : List ℕ) (log : Log) → line_out (told_by event buf ++ log) ≡ line_out log
+told_out : (event : Next) (buf : List ℕ) (log : Log) → line_out (told_by event buf ++ log)
+    ≡ line_out log
 told_out (next.Line now len) buf log = refl
 told_out (next.Open now) buf log = refl
 told_out (next.Bytes now len) buf log = refl
@@ -34,20 +37,34 @@ record Ran (start first asked end : Ends) (moment : ℕ) (request : List ℕ) : 
   rest : List ℕ
   came : LogsTurn asked answer rest end
 
-abbrev ran : (start first asked end : Ends) (moment : ℕ) (request : List ℕ) (event : Next) (buf : List ℕ)
-    → LogsTurn start event buf first → LogsPut first moment (LineOut request) asked → (answer : Next) (rest : List ℕ)
+abbrev ran : (start first asked end : Ends) (moment : ℕ) (request : List ℕ) (event : Next)
+    (buf : List ℕ)
+    → LogsTurn start event buf first → LogsPut first moment (LineOut request) asked
+    → (answer : Next) (rest : List ℕ)
     → LogsTurn asked answer rest end → Ran start first asked end moment request
 ran start first asked end moment request event buf looked put answer rest came =
-    record { event = event; buf = buf; looked = looked; put = put; answer = answer; rest = rest; came = came }
+    record {
+      event = event;
+      buf = buf;
+      looked = looked;
+      put = put;
+      answer = answer;
+      rest =
+          rest;
+      came = came;
+    }
 
-run_of : (start first asked end : Ends) (moment : ℕ) (request : List ℕ) → Ran start first asked end moment request
+run_of : (start first asked end : Ends) (moment : ℕ) (request : List ℕ)
+    → Ran start first asked end moment request
     → Run start end
 run_of start first asked end moment request r =
     Told asked end r.answer r.rest
-    (Put first asked moment (LineOut request) (Told start first r.event r.buf Begun r.looked) r.put) r.came
+    (Put first asked moment (LineOut request) (Told start first r.event r.buf Begun r.looked) r.put)
+    r.came
 
 -- one request went out
-out_of : (start first asked end : Ends) (moment : ℕ) (request : List ℕ) → Ran start first asked end moment request
+out_of : (start first asked end : Ends) (moment : ℕ) (request : List ℕ)
+    → Ran start first asked end moment request
     → start.log ≡ [] → line_out end.log ≡ request ∷ []
 out_of start first asked end moment request r none =
     ap line_out r.came.logged ∙ (told_out r.answer r.rest asked.log
@@ -58,7 +75,8 @@ some_of : (h : History) → is_some h ≡ true → (happened : List Happening) �
 some_of None some = absurd (cc)
 some_of (Some happened) some = (happened, refl)
 
-line_of : (start first asked end : Ends) (moment : ℕ) (request : List ℕ) → Ran start first asked end moment request
+line_of : (start first asked end : Ends) (moment : ℕ) (request : List ℕ)
+    → Ran start first asked end moment request
     → IsFresh start → start.line ≡ Some [] → TellsEnds end.log end → TellsStill start end
     → (happened : List Happening) × (end.line ≡ Some happened) × (line_in end.log ≡ given happened)
     × (handed happened ≡ request ∷ [])
@@ -81,12 +99,14 @@ door_of start end door tells still =
 
 -- the clock's moments
 abbrev Within : Moments → Moments → Type 0
-Within old new = AtRounds old new (λ begun quiet now. All (λ m. m < first_of begun quiet + 100) (begun ∷ quiet))
+Within old new =
+    AtRounds old new (λ begun quiet now. All (λ m. m < first_of begun quiet + 100) (begun ∷ quiet))
 
 abbrev Told100 : Moments → Type 0
 Told100 new =
     (before after : List ℕ) × (new ≡ Some after)
-    × SomeRounds before after (λ begun quiet now. All (λ m. m < first_of begun quiet + 100) (begun ∷ quiet))
+    × SomeRounds before after (λ begun quiet now. All (λ m. m < first_of begun quiet + 100)
+    (begun ∷ quiet))
 
 within : (old new : Moments) → is_some old ≡ true → Within old new → Told100 new
 within None new some w = absurd (cc)
@@ -95,10 +115,12 @@ within (Some before) (Some after) some w = (before, after, refl, w)
 
 pub returns-clause-line : goal.returns-clause-line
 returns-clause-line g c =
-    let r = ran _ _ _ _ _ _ _ _ c.next-first.ensures.turns c.put-went.ensures.puts _ _ c.next.ensures.turns in
+    let r = ran _ _ _ _ _ _ _ _ c.next-first.ensures.turns c.put-went.ensures.puts _ _
+    c.next.ensures.turns in
     let run = run_of _ _ _ _ _ _ r in
     line_of _ _ _ _ _ _ r c.requires.fresh c.requires.line
-    (c.the_log_tells_what_passed.ensures _ _ c.requires.fresh run) (c.what_tells_goes_on_telling.ensures _ _ run)
+    (c.the_log_tells_what_passed.ensures _ _ c.requires.fresh run)
+    (c.what_tells_goes_on_telling.ensures _ _ run)
 
 -- the law of exchanges, and that looks ask nothing
 abbrev Unheard : Type 0
@@ -123,18 +145,22 @@ unheard_of start first asked end moment request r some unheard asks =
     let q : Request = record { moment = moment; written = written } in
     let asked_so : end.timing.request ≡ Some q = kept.0 ∙ ap (λ (k : Timing). k.request) timed in
     let same : end.timing.answer_ms ≡ start.timing.answer_ms =
-    kept.1 ∙ (ap (λ (k : Timing). k.answer_ms) timed ∙ (asks start first r.event r.buf r.looked).1) in
+    kept.1
+    ∙ (ap (λ (k : Timing). k.answer_ms) timed ∙ (asks start first r.event r.buf r.looked).1) in
     let P : ℕ → Type 0 = λ n. 0 < n in
     (written, unheard asked end r.answer r.rest q r.came asked_so (subst P (sym same) some))
 
 pub returns-clause-unheard : goal.returns-clause-unheard
 returns-clause-unheard g c =
-    let r = ran _ _ _ _ _ _ _ _ c.next-first.ensures.turns c.put-went.ensures.puts _ _ c.next.ensures.turns in
-    unheard_of _ _ _ _ _ _ r c.requires.waits c.no_exchange_ends_unheard.ensures c.looks_ask_nothing.ensures
+    let r = ran _ _ _ _ _ _ _ _ c.next-first.ensures.turns c.put-went.ensures.puts _ _
+    c.next.ensures.turns in
+    unheard_of _ _ _ _ _ _ r c.requires.waits c.no_exchange_ends_unheard.ensures
+    c.looks_ask_nothing.ensures
 
 pub returns-clause-door : goal.returns-clause-door
 returns-clause-door g c =
-    let r = ran _ _ _ _ _ _ _ _ c.next-first.ensures.turns c.put-went.ensures.puts _ _ c.next.ensures.turns in
+    let r = ran _ _ _ _ _ _ _ _ c.next-first.ensures.turns c.put-went.ensures.puts _ _
+    c.next.ensures.turns in
     let run = run_of _ _ _ _ _ _ r in
     door_of _ _ c.requires.door (c.the_log_tells_what_passed.ensures _ _ c.requires.fresh run)
     (c.what_tells_goes_on_telling.ensures _ _ run)
@@ -150,5 +176,6 @@ returns-clause-clock g c = λ dark.
     c.put-went.ensures.puts in
     within asked.clock c.next.new.self.clock
     ((c.what_tells_goes_on_telling.ensures start asked run).clock ∙ ap is_some c.requires.clock)
-    (c.looks_for_an_event_begin_within_100_ms.ensures asked c.next.new.self c.next.result c.next.new.buf
+    (c.looks_for_an_event_begin_within_100_ms.ensures asked c.next.new.self c.next.result
+    c.next.new.buf
     c.next.ensures.turns dark)

@@ -12,10 +12,18 @@ invariant_of-self-else-is_err g c =
     let line = line_of c.args.now (output_of c.args.action.now) in
     let held : c.print_action.new.page ≡ c.self.inside.held ++ line = search rules in
     let printable : IsPrintable went =
-    on_success _ _ (sym c.is_err.ensures.value ∙ c.if-is_err.false) c.print_action.ensures.printable in
+    on_success _ _ (sym c.is_err.ensures.value ∙ c.if-is_err.false)
+    c.print_action.ensures.printable in
     record {
-      written = rw held (more_written c.printed_lines_read_back.ensures.log (g.W.Sheet.taken c.self.inside.sheet)
-          c.self.inside.held line (record { news = went ∷ []; printable = (printable, tt); are = refl })
+      written =
+          rw held (more_written c.printed_lines_read_back.ensures.log
+          (g.W.Sheet.taken c.self.inside.sheet)
+          c.self.inside.held line (record {
+            news = went ∷ [];
+            printable = (printable, tt);
+            are =
+                refl;
+          })
           c.self.invariant.written);
       whole = c.self.invariant.whole;
     }

@@ -14,5 +14,7 @@ returns-else-not-hold_action-clause-log g c =
     let held : c.hold_action.new.self ≡ held_or_over true
     (line_of c.args.now (output_of c.args.action.now)) c.args.self.now
     = search rules in
-    held_told c.printed_lines_read_back.ensures.log c.args.self.now c.hold_action.new.self (went ∷ [])
-    (c.hold_action.ensures.printable taken, tt) (subst IsKept c.self.view_is c.self.invariant) goes held
+    held_told c.printed_lines_read_back.ensures.log c.args.self.now c.hold_action.new.self
+    (went ∷ [])
+    (c.hold_action.ensures.printable taken, tt) (subst IsKept c.self.view_is c.self.invariant) goes
+    held

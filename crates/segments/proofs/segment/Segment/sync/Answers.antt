@@ -11,10 +11,12 @@ invariant_of-self-clause-blank g c _ =
 pub invariant_of-self-clause-kept : goal.invariant_of-self-clause-kept
 invariant_of-self-clause-kept g c =
     let s = c.write.new.self in
-    all_begins _ _ _ _ s.stored c.in-Ok.ensures.durable c.sync.ensures.seen (omega (arith, s.sized, s.within)) c.in_ok-write.ensures.held
+    all_begins _ _ _ _ s.stored c.in-Ok.ensures.durable c.sync.ensures.seen
+    (omega (arith, s.sized, s.within)) c.in_ok-write.ensures.held
 
 pub invariant_of-self-clause-mixed : goal.invariant_of-self-clause-mixed
 invariant_of-self-clause-mixed g c _ =
     let s = c.write.new.self in
-    all_mixed _ _ _ _ s.stored c.in-Ok.ensures.durable c.sync.ensures.seen (omega (arith, s.sized, s.within)) c.in_ok-write.ensures.held
+    all_mixed _ _ _ _ s.stored c.in-Ok.ensures.durable c.sync.ensures.seen
+    (omega (arith, s.sized, s.within)) c.in_ok-write.ensures.held
     (s.blank c.in_ok-write.ensures.open)

@@ -1,6 +1,7 @@
 use Rattle.std.proofs.Common.{◌∙◌, subst, IsTrue}
 use Rattle.std.proofs.lemmas.Bool.{false≢true}
-use Rattle.segments.proofs.CrashLemmas.{failed_kept, failed_mixed, written_again, written_kept, written_mixed, long_again}
+use Rattle.segments.proofs.CrashLemmas.{failed_kept, failed_mixed, written_again, written_kept}
+use Rattle.segments.proofs.CrashLemmas.{written_mixed, long_again}
 use Rattle.segments.proofs.segment.Segment.write.Goals as goal
 
 pub invariant_of-self-in-Ok-clause-long : goal.invariant_of-self-in-Ok-clause-long
@@ -10,15 +11,19 @@ invariant_of-self-in-Ok-clause-long g c =
 pub invariant_of-self-in-Ok-clause-kept : goal.invariant_of-self-in-Ok-clause-kept
 invariant_of-self-in-Ok-clause-kept g c =
     let s = c.args.self.now in
-    written_kept _ _ _ _ _ s.stored s.durable s.size s.ordered s.sized s.long s.kept c.store.ensures.kept
-    (written_again s.stored _ _ _ _ _ _ c.deref.ensures.value c.in-Ok.ensures.end c.clear.ensures.items c.in-Ok.ensures.text)
+    written_kept _ _ _ _ _ s.stored s.durable s.size s.ordered s.sized s.long s.kept
+    c.store.ensures.kept
+    (written_again s.stored _ _ _ _ _ _ c.deref.ensures.value c.in-Ok.ensures.end
+    c.clear.ensures.items c.in-Ok.ensures.text)
 
 pub invariant_of-self-in-Ok-clause-mixed : goal.invariant_of-self-in-Ok-clause-mixed
 invariant_of-self-in-Ok-clause-mixed g c =
     let s = c.args.self.now in
-    written_mixed _ _ _ _ _ _ _ _ _ s.stored s.size c.deref.ensures.value s.sized s.long s.mixed c.both-self.ensures.first
+    written_mixed _ _ _ _ _ _ _ _ _ s.stored s.size c.deref.ensures.value s.sized s.long s.mixed
+    c.both-self.ensures.first
     (λ on. subst IsTrue c.mixes.ensures (c.both-self.ensures.second on)) c.store.ensures.mixed
-    (written_again s.stored _ _ _ _ _ _ c.deref.ensures.value c.in-Ok.ensures.end c.clear.ensures.items c.in-Ok.ensures.text)
+    (written_again s.stored _ _ _ _ _ _ c.deref.ensures.value c.in-Ok.ensures.end
+    c.clear.ensures.items c.in-Ok.ensures.text)
 
 pub invariant_of-self-in-Err-1 : goal.invariant_of-self-in-Err-1
 invariant_of-self-in-Err-1 g c =
@@ -30,9 +35,12 @@ invariant_of-self-in-Err-1 g c =
       usable = λ on. absurd (false≢true on);
       blank = λ on. absurd (false≢true on);
       long = long_again _ _ _ _ s.sized s.long c.store.ensures.long;
-      kept = failed_kept _ _ _ _ _ _ s.stored s.durable s.size c.deref.ensures.value s.ordered s.sized s.long s.kept
+      kept = failed_kept _ _ _ _ _ _ s.stored s.durable s.size c.deref.ensures.value s.ordered
+          s.sized s.long s.kept
           c.store.ensures.kept c.store.ensures.before;
-      mixed = failed_mixed _ _ _ _ _ _ _ _ _ s.stored s.size c.deref.ensures.value s.sized s.long s.mixed
-          c.both-self.ensures.first (λ on. subst IsTrue c.mixes.ensures (c.both-self.ensures.second on)) c.store.ensures.mixed
+      mixed = failed_mixed _ _ _ _ _ _ _ _ _ s.stored s.size c.deref.ensures.value s.sized s.long
+          s.mixed
+          c.both-self.ensures.first
+          (λ on. subst IsTrue c.mixes.ensures (c.both-self.ensures.second on)) c.store.ensures.mixed
           c.store.ensures.before;
     }

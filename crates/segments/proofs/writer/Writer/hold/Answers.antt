@@ -9,4 +9,5 @@ returns-in-Ok-clause-put g c =
 pub invariant_of-self-clause-summed : goal.invariant_of-self-clause-summed
 invariant_of-self-clause-summed g c =
     let s = c.args.self.now in
-    summed_more s.stored _ _ 0xffffffff _ _ _ _ (s.sized c.requires) s.behind c.in-Ok.ensures.items s.summed c.add.ensures
+    summed_more s.stored _ _ 0xffffffff _ _ _ _ (s.sized c.requires) s.behind c.in-Ok.ensures.items
+    s.summed c.add.ensures

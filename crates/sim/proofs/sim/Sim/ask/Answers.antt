@@ -15,8 +15,10 @@ use Rattle.sim.proofs.sim.Sim.ask.Goals as goal
 pub arriving-self-inside-requires : goal.arriving-self-inside-requires
 arriving-self-inside-requires c =
     c.put_out-answer.ensures.fits c.line.result.now.link
-    (subst (λ (l : LineSettings). AllByRecursion (λ s. s.size ≡ l.link) c.as_mut_slice.result.now) (sym c.line.ensures)
-    (subst (λ (ss : List Secondary). AllByRecursion (λ s. s.size ≡ c.self.inside.config.now.line.link) ss)
+    (subst (λ (l : LineSettings). AllByRecursion (λ s. s.size ≡ l.link) c.as_mut_slice.result.now)
+    (sym c.line.ensures)
+    (subst (λ (ss : List Secondary). AllByRecursion (λ s. s.size
+    ≡ c.self.inside.config.now.line.link) ss)
     (sym c.as_mut_slice.ensures.value) c.self.invariant.1.sizes))
 
 pub invariant_of-self-2 : goal.invariant_of-self-2
@@ -24,28 +26,37 @@ invariant_of-self-2 c =
     let more : c.in-Some.requests ≡ c.self.inside.requests + 1 = c.in-Some.ensures.next in
     let fate : c.fate-fate.result ≡ fate_of c.self.inside.script.now (c.self.inside.requests + 1) =
     c.fate-fate.ensures ∙ ap (fate_of c.self.inside.script.now) more in
-    let out : IsPutOut c.fate-fate.result c.args.octets.now c.self.inside.stations.items c.put_out-answer.result
+    let out : IsPutOut c.fate-fate.result c.args.octets.now c.self.inside.stations.items
+    c.put_out-answer.result
     c.put_out-answer.new.stations =
-    subst (λ (ss : List Secondary). IsPutOut c.fate-fate.result c.args.octets.now ss c.put_out-answer.result
+    subst (λ (ss : List Secondary). IsPutOut c.fate-fate.result c.args.octets.now ss
+    c.put_out-answer.result
     c.put_out-answer.new.stations) c.as_mut_slice.ensures.value c.put_out-answer.ensures.out in
     let same : length c.put_out-answer.new.stations ≡ length c.self.inside.stations.items =
-    length_out c.fate-fate.result c.args.octets.now c.self.inside.stations.items c.put_out-answer.new.stations
+    length_out c.fate-fate.result c.args.octets.now c.self.inside.stations.items
+    c.put_out-answer.new.stations
     c.put_out-answer.result out in (
       c.self.invariant.0,
       ask_kept c.station_is_an_outstation.ensures.size
           (plan_of c.self.inside.config.now c.self.inside.script.now) c.self.inside.page.log _
-          c.self.inside.stations.items c.put_out-answer.new.stations _ _ c.args.now c.args.octets.now
+          c.self.inside.stations.items c.put_out-answer.new.stations _ _ c.args.now
+          c.args.octets.now
           c.put_out-answer.result _ _ _
           (ap (λ (p : Printed). p.log) c.in_ok-went.ensures.ok) more c.in-Some.ensures.small
-          (subst (λ (f : Fate). IsPutOut f c.args.octets.now c.self.inside.stations.items c.put_out-answer.result
+          (subst (λ (f : Fate). IsPutOut f c.args.octets.now c.self.inside.stations.items
+          c.put_out-answer.result
           c.put_out-answer.new.stations) fate out)
-          (written c.self.inside.stations.items c.put_out-answer.new.stations c.self.inside.stations.len
+          (written c.self.inside.stations.items c.put_out-answer.new.stations
+          c.self.inside.stations.len
           (omega (arith, same, c.self.inside.stations.ok.0, c.self.inside.stations.ok.1)))
           (c.arriving-self-inside.ensures
-          ∙ ap (λ (l : LineSettings). arriving l.link c.fate-fate.result c.put_out-answer.result) c.line.ensures
-          ∙ ap (λ (f : Fate). arriving c.self.inside.config.now.line.link f c.put_out-answer.result) fate)
+          ∙ ap (λ (l : LineSettings). arriving l.link c.fate-fate.result c.put_out-answer.result)
+          c.line.ensures
+          ∙ ap (λ (f : Fate). arriving c.self.inside.config.now.line.link f c.put_out-answer.result)
+          fate)
           (c.put_out-answer.ensures.fits c.self.inside.config.now.line.link
-          (subst (λ (ss : List Secondary). AllByRecursion (λ s. s.size ≡ c.self.inside.config.now.line.link) ss)
+          (subst (λ (ss : List Secondary). AllByRecursion (λ s. s.size
+          ≡ c.self.inside.config.now.line.link) ss)
           (sym c.as_mut_slice.ensures.value) c.self.invariant.1.sizes))
           (c.ask.ensures ∙ ap (λ (ss : List Secondary). tallied_asked
           (setup_of c.self.inside.config.now) c.args.now c.args.octets.now ss c.self.inside.tallies)

@@ -7,5 +7,6 @@ pub invariant_of-self-2 : goal.invariant_of-self-2
 invariant_of-self-2 c = (
   c.self.invariant.0,
   close_kept _ c.self.inside.page.log _ _ _ c.args.now c.args.cause _
-      (ap (λ (p : Printed). p.log) c.in_ok-went.ensures.ok) c.shut-self-inside.ensures c.self.invariant.1,
+      (ap (λ (p : Printed). p.log) c.in_ok-went.ensures.ok) c.shut-self-inside.ensures
+      c.self.invariant.1,
 )

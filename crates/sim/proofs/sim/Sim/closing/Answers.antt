@@ -17,15 +17,20 @@ returns c = λ settings ds plan apart calls faithful rests.
     (λ text is. told_run settings ds s (string_bytes text) plan calls faithful rests
     (c.steps_keep_their_order.ensures.settings settings s.log faithful)
     (is
-    ∙ ap (λ (l : List Directive). closing_lines l c.stations.result.now (connection_lines 1 c.counts.result.now)
+    ∙ ap (λ (l : List Directive). closing_lines l c.stations.result.now
+    (connection_lines 1 c.counts.result.now)
     c.tallies.result.now) c.directives.ensures
-    ∙ ap (λ (l : List Secondary). closing_lines s.plan.directives l (connection_lines 1 c.counts.result.now)
+    ∙ ap (λ (l : List Secondary). closing_lines s.plan.directives l
+    (connection_lines 1 c.counts.result.now)
     c.tallies.result.now) c.stations.ensures
-    ∙ ap (λ l. closing_lines s.plan.directives s.stations (connection_lines 1 l) c.tallies.result.now) c.counts.ensures
-    ∙ ap (λ (l : List Tally). closing_lines s.plan.directives s.stations (connection_lines 1 s.standing.counts) l)
+    ∙ ap (λ l. closing_lines s.plan.directives s.stations (connection_lines 1 l)
+    c.tallies.result.now) c.counts.ensures
+    ∙ ap (λ (l : List Tally). closing_lines s.plan.directives s.stations
+    (connection_lines 1 s.standing.counts) l)
     c.tallies.ensures)
     c.page-page.ensures.stands (c.nothing_is_lost.ensures (setup_of settings) s.log faithful)
-    (λ answers ss ts played are few. c.stations_are_honest.ensures settings ds s.log answers ss ts apart played are few
+    (λ answers ss ts played are few. c.stations_are_honest.ensures settings ds s.log answers ss ts
+    apart played are few
     faithful)
     (λ d. c.connections_are_counted.ensures (setup_of settings) s.log faithful d))
     c.closing_lines.ensures

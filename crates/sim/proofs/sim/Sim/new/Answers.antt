@@ -12,8 +12,10 @@ vec_length v = omega (arith, v.ok.0, v.ok.1)
 pub invariant_of-result : goal.invariant_of-result
 invariant_of-result c = (
   c.turns.ensures,
-  stands_new _ _ _ _ _ _ (ap (λ (p : Printed). p.log) c.new-3.ensures) c.shut.ensures c.new-2.ensures
+  stands_new _ _ _ _ _ _ (ap (λ (p : Printed). p.log) c.new-3.ensures) c.shut.ensures
+      c.new-2.ensures
       c.in_ok-stations.ensures (begun_sizes _ 0 _ _) (c.in_ok-tallies.ensures ∙ ap
-      (λ (n : ℕ). let made : Tallied = record { awaited = None; each = replicate n fresh_tally } in made) (c.len.ensures
+      (λ (n : ℕ). let made : Tallied = record { awaited = None; each = replicate n fresh_tally } in
+      made) (c.len.ensures
       ∙ vec_length c.in_ok-stations.stations)),
 )

@@ -10,5 +10,7 @@ returns-clause-begun g c _ =
     let same : c.deref.result.now ≡ c.args.self.now.settings.items =
     c.deref.ensures.value in
     ap stored_in c.unmark.ensures.opened
-    ∙ begun_told _ _ _ _ _ (subst (λ (s : List ℕ). IsHeaded s (state_lines c.args.gateway.now) (text_of c.in-Some.segment)) same c.in-Some.ensures.head)
+    ∙ begun_told _ _ _ _ _
+    (subst (λ (s : List ℕ). IsHeaded s (state_lines c.args.gateway.now) (text_of c.in-Some.segment))
+    same c.in-Some.ensures.head)
     c.octets-head.ensures c.in-Some.ensures.synced

@@ -9,5 +9,6 @@ invariant_of-self-2 g c = record {
       c.self.invariant.orderly.time c.self.invariant.orderly.right);
   few = few_more _ _ _ _ _ c.keep-self-inside.ensures.port.cause c.next-next.ensures.cause
       (few_faults c.next-next.result)
-      (subst (λ (k : Keeping _). g.E.Ends.failed k.ends + k.stops < 18446744073709551615) (sym c.self.view_is) c.requires);
+      (subst (λ (k : Keeping _). g.E.Ends.failed k.ends + k.stops < 18446744073709551615)
+      (sym c.self.view_is) c.requires);
 }

@@ -10,5 +10,6 @@ returns g c =
 pub invariant_of-self-2 : goal.invariant_of-self-2
 invariant_of-self-2 g c = record {
   whole = numbers_whole c.append.result _ _ _ _ c.args.self.now.whole c.type_inv.line
-      (c.deref.ensures.value ∙ c.in_ok-spell_numbers.ensures) c.append.ensures.put c.append.ensures.none;
+      (c.deref.ensures.value ∙ c.in_ok-spell_numbers.ensures) c.append.ensures.put
+      c.append.ensures.none;
 }

@@ -1,4 +1,4 @@
-use Rattle.std.proofs.Common.{inl}
+use Rattle.std.proofs.Common.{inl, inr}
 use Rattle.telegate.proofs.host.SystemHost.run.Goals as goal
 
 pub returns-in_default : goal.returns-in_default
@@ -7,22 +7,29 @@ returns-in_default c =
       settings = c.in_ok-settings.settings;
       places = c.in_ok-settings.places;
       are = c.in_ok-settings.ensures;
+      came = inl tt;
     })
 
-pub returns-in_err-run_at : goal.returns-in_err-run_at
-returns-in_err-run_at c =
+pub returns-in_default-standard_descriptors : goal.returns-in_default-standard_descriptors
+returns-in_default-standard_descriptors c =
     inl (record {
       settings = c.in_ok-settings.settings;
       places = c.in_ok-settings.places;
       are = c.in_ok-settings.ensures;
+      came = inl tt;
     })
 
-pub returns-in-Ok-2 : goal.returns-in-Ok-2
-returns-in-Ok-2 c =
+pub returns-in-Ok-run_at : goal.returns-in-Ok-run_at
+returns-in-Ok-run_at c =
     inl (record {
       settings = c.in_ok-settings.settings;
       places = c.in_ok-settings.places;
       are = c.in_ok-settings.ensures;
+      came = inr (record {
+        ended = c.in-Ok-run_at.ended;
+        lived = c.in-Ok-run_at.ensures.lived;
+        told = c.answer_to.ensures;
+      });
     })
 
 pub returns : goal.returns
@@ -31,4 +38,5 @@ returns c =
       settings = c.in_ok-settings.settings;
       places = c.in_ok-settings.places;
       are = c.in_ok-settings.ensures;
+      came = inl c.in-Err.ensures.fault;
     })

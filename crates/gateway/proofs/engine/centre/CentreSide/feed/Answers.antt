@@ -8,18 +8,26 @@ pub returns-in-Whole : goal.returns-in-Whole
 returns-in-Whole c =
     let s = c.self.inside in
     let after = c.feed-count.new.self in
-    let found = found_apdu s.assembler.so_far c.args.piece.now c.feed-count.result.0 after c.self.invariant.listens
+    let found = found_apdu s.assembler.so_far c.args.piece.now c.feed-count.result.0 after
+    c.self.invariant.listens
     (rw c.in-Whole.is at c.feed-count.ensures.listening) in
     rw (← c.self.view_is) (
       found.0,
       found.1,
       (
         found.2.0,
-        (found.2.1, found.2.2, c.feed-count.ensures.progress c.requires, c.feed-count.ensures.within),
+        (
+          found.2.1,
+          found.2.2,
+          c.feed-count.ensures.progress c.requires,
+          c.feed-count.ensures.within,
+        ),
         ap (λ (o : Option (List ℕ)). let made : Centre =
-            record { session = s.session; so_far = o; heard = after.whole; queue = s.queue } in made) found.2.3
+            record { session = s.session; so_far = o; heard = after.whole; queue = s.queue } in
+            made) found.2.3
             ∙ ap (λ (h : Option Apdu). let made : Centre =
-            record { session = s.session; so_far = Some []; heard = h; queue = s.queue } in made) found.2.4,
+            record { session = s.session; so_far = Some []; heard = h; queue = s.queue } in
+            made) found.2.4,
       ),
     )
 
@@ -27,7 +35,8 @@ pub returns-in-Never : goal.returns-in-Never
 returns-in-Never c =
     let s = c.self.inside in
     let after = c.clear.new.self in
-    let found = found_never s.assembler.so_far c.args.piece.now c.feed-count.result.0 c.in-Never.field-0
+    let found = found_never s.assembler.so_far c.args.piece.now c.feed-count.result.0
+    c.in-Never.field-0
     c.in-Never.field-1 c.feed-count.new.self c.self.invariant.listens
     (rw c.in-Never.is at c.feed-count.ensures.listening) in
     rw (← c.self.view_is) (
@@ -39,6 +48,7 @@ returns-in-Never c =
             record { session = s.session; so_far = o; heard = after.whole; queue = s.queue } in
             made) c.clear.ensures.so_far
             ∙ ap (λ (h : Option Apdu). let made : Centre =
-            record { session = s.session; so_far = Some []; heard = h; queue = s.queue } in made) c.clear.ensures.whole,
+            record { session = s.session; so_far = Some []; heard = h; queue = s.queue } in
+            made) c.clear.ensures.whole,
       ),
     )

@@ -17,7 +17,8 @@ returns-clause-some c =
         rest = drop 1 s.queue.unsent;
         first = c.in_ok-asdu.ensures.some;
         frame = refl;
-        fits = subst (λ p. Fits (I p.0 p.1 (record { items = asdu }))) numbers c.write_information-count.ensures.fits;
+        fits = subst (λ p. Fits (I p.0 p.1 (record { items = asdu }))) numbers
+            c.write_information-count.ensures.fits;
         after = search rules;
       };
       spelled = c.write_information-count.ensures.spelled

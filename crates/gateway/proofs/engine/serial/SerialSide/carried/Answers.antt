@@ -21,7 +21,8 @@ abbrev line_with : Settings → List Seat → Primary → Primary
 line_with now seats line = reseated (link_of now.line) seats line
 
 abbrev commands_with : Settings → List Seat → tasks.State → tasks.State
-commands_with now seats s = commands.carried (map info_of now.stations) now.line.sizes now.tcp.select_ms
+commands_with now seats s = commands.carried (map info_of now.stations) now.line.sizes
+    now.tcp.select_ms
     now.tcp.max_age_ms (places seats) s
 
 pub returns : goal.returns
@@ -34,6 +35,8 @@ returns c =
     ap (λ (p : Primary). with_parts p c.in_ok-commands.commands inside.counts)
     (c.in_ok-line.ensures ∙ ap (λ (l : List Seat). line_with now l inside.line) there)
     ∙ ap (λ (t : tasks.State). with_parts (line_with now all inside.line) t inside.counts)
-    (c.in_ok-commands.ensures ∙ ap (λ (l : List Seat). commands_with now l inside.commands) there_too)
-    ∙ ap (λ (s : Serial). with_parts (line_with now all s.line) (commands_with now all s.commands) s.counts)
+    (c.in_ok-commands.ensures ∙ ap (λ (l : List Seat). commands_with now l inside.commands)
+    there_too)
+    ∙ ap (λ (s : Serial). with_parts (line_with now all s.line) (commands_with now all s.commands)
+    s.counts)
     (c.side.view_is ∙ c.start_links.ensures)

@@ -24,22 +24,25 @@ returns-then-is_transferring c =
     } in
     let asdu = c.args.asdu.now in
     let v : AsduValue = value_of asdu in
-    let ps = c.translate-plain.result.items in
-    let qs = c.with_tag-pieces.result.items in
+    let ps = c.translate-pieces.result.items in
+    let qs = c.tag_pieces.new.pieces.items in
     let tagged : AreTagged (tag_for v v.infos s.commands) (octets_of ps) (octets_of qs) =
     subst (λ tag. AreTagged tag (octets_of ps) (octets_of qs)) c.mirror-tag.ensures.tag
-    c.with_tag-pieces.ensures.tagged in
+    c.tag_pieces.ensures.tagged in
     let at = c.args.moment in
     rw (← c.self.view_is) (mirrors s _ at c.args.is_transferring asdu.sizes v asdu.octets.now ps
     (octets_of qs) c.keep_all.result c.objects_are_those_of_the_asdu.ensures.monitor_objects
-    (passed_on asdu.sizes v asdu.octets.now ps c.requires.found c.translate-plain.ensures.joined
-    c.translate-plain.ensures.pieces c.translate-plain.ensures.full c.translate-plain.ensures.number) tagged
-    c.translate-plain.ensures.monitored c.requires.plain
-    (ap (λ (k : tasks.State). let made : Serial = record s { commands = k } in made) (c.keep_all.ensures.state
+    (passed_on asdu.sizes v asdu.octets.now ps c.requires.found c.translate-pieces.ensures.joined
+    c.translate-pieces.ensures.pieces c.translate-pieces.ensures.full
+    c.translate-pieces.ensures.number) tagged
+    c.translate-pieces.ensures.monitored c.requires.plain
+    (ap (λ (k : tasks.State). let made : Serial = record s { commands = k } in
+    made) (c.keep_all.ensures.state
     ∙ ap (λ xs. kept_until (octets_of xs) c.mirror-tag.new.self) c.deref.ensures.0
     ∙ ap (λ k. kept_until (octets_of qs) k) c.mirror-tag.ensures.state)
     ∙ ap (λ b. mirrored at b v (octets_of qs) s) (sym c.if-is_transferring.true))
-    (c.keep_all.ensures.all ∙ ap (λ xs. all_kept (octets_of xs) c.mirror-tag.new.self) c.deref.ensures.0
+    (c.keep_all.ensures.all ∙ ap (λ xs. all_kept (octets_of xs) c.mirror-tag.new.self)
+    c.deref.ensures.0
     ∙ ap (λ k. all_kept (octets_of qs) k) c.mirror-tag.ensures.state
     ∙ ap (λ b. mirror_fits at b v (octets_of qs) s) (sym c.if-is_transferring.true)))
 
@@ -56,24 +59,28 @@ returns c =
     } in
     let asdu = c.args.asdu.now in
     let v : AsduValue = value_of asdu in
-    let ps = c.translate-plain.result.items in
-    let qs = c.with_tag-pieces.result.items in
+    let ps = c.translate-pieces.result.items in
+    let qs = c.tag_pieces.new.pieces.items in
     let tagged : AreTagged (tag_for v v.infos s.commands) (octets_of ps) (octets_of qs) =
     subst (λ tag. AreTagged tag (octets_of ps) (octets_of qs)) c.mirror-tag.ensures.tag
-    c.with_tag-pieces.ensures.tagged in
+    c.tag_pieces.ensures.tagged in
     let at = c.args.moment in
     rw (← c.self.view_is) (mirrors s _ at c.args.is_transferring asdu.sizes v asdu.octets.now ps
     (octets_of qs) _ c.objects_are_those_of_the_asdu.ensures.monitor_objects
-    (passed_on asdu.sizes v asdu.octets.now ps c.requires.found c.translate-plain.ensures.joined
-    c.translate-plain.ensures.pieces c.translate-plain.ensures.full c.translate-plain.ensures.number) tagged
-    c.translate-plain.ensures.monitored c.requires.plain
-    (ap (λ (k : tasks.State). let made : Serial = record s { commands = k; counts = c.mirror.new.self } in
+    (passed_on asdu.sizes v asdu.octets.now ps c.requires.found c.translate-pieces.ensures.joined
+    c.translate-pieces.ensures.pieces c.translate-pieces.ensures.full
+    c.translate-pieces.ensures.number) tagged
+    c.translate-pieces.ensures.monitored c.requires.plain
+    (ap (λ (k : tasks.State). let made : Serial =
+    record s { commands = k; counts = c.mirror.new.self } in
     made) c.mirror-tag.ensures.state
-    ∙ ap (λ (n : Tally). let made : Serial = record (mirrored at false v (octets_of qs) s) { counts = n } in
+    ∙ ap (λ (n : Tally). let made : Serial = record (mirrored at false v (octets_of qs) s)
+    { counts = n } in
     made) c.mirror.ensures
     ∙ ap (λ b. mirrored at b v (octets_of qs) s) (sym c.if-is_transferring.false))
     (ap (λ b. mirror_fits at b v (octets_of qs) s) (sym c.if-is_transferring.false)))
 
-pub with_tag-pieces-requires-clause-asdus : goal.with_tag-pieces-requires-clause-asdus
-with_tag-pieces-requires-clause-asdus c =
-    are_asdus (value_of c.args.asdu.now) c.translate-plain.result.items c.translate-plain.ensures.pieces
+pub tag_pieces-requires-clause-asdus : goal.tag_pieces-requires-clause-asdus
+tag_pieces-requires-clause-asdus c =
+    are_asdus (value_of c.args.asdu.now) c.translate-pieces.result.items
+    c.translate-pieces.ensures.pieces

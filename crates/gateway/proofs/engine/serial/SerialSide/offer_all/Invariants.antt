@@ -8,9 +8,13 @@ use Rattle.gateway.proofs.engine.serial.SerialSide.offer_all.Given as goal
 
 abbrev pub invariant-loop-station : goal.invariant-loop-station
 invariant-loop-station l = record {
-  state : l.self ≡ record l.fn.self { line = offered_upto l.station l.fn.self.commands.waiting l.fn.self.line };
+  state : l.self
+      ≡ record l.fn.self {
+        line = offered_upto l.station l.fn.self.commands.waiting l.fn.self.line;
+      };
   count : length l.self.line.stations ≡ length l.fn.self.line.stations;
-  tells : (settings : LinkSettings) (addresses : List ℕ) (e : Exchanges) → Tells settings addresses l.fn.self.line e
+  tells : (settings : LinkSettings) (addresses : List ℕ) (e : Exchanges)
+      → Tells settings addresses l.fn.self.line e
       → Tells settings addresses l.self.line e;
   polls : is_polling l.self.line ≡ true → is_polling l.fn.self.line ≡ true;
 }

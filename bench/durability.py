@@ -1,0 +1,349 @@
+#!/usr/bin/env python3
+"""Measures what `telegate run --state` costs: syncs, octets, time, and a start with a full queue.
+
+    bench/durability.py [--program FILE] [--seconds N] [--polls N] [--pieces N] [--folder DIR] [PART ..]
+
+Nothing in the gate depends on these figures (docs/PERFORMANCE.md has them). Parts, all by default:
+
+    polls   one outstation answers each poll with a report, so many polls a second (`--polls`, 25), for so long (`--seconds`, 60); a
+            control centre acknowledges each eighth. Told are syncs, writes and octets a poll, octets an event, and what a day of it is.
+    pace    the same as fast as it goes, without `--state` and with it in turn: what a sync adds to a poll.
+    start   so many pieces of 249 octets are queued (`--pieces`, the most that a queue of 65,535 places takes), the gateway is
+            killed, and started again three times: how long until a control centre is told that it may begin, the processor time
+            of that, the peak of its memory, and the size of the directory.
+
+A library in front of the C library's counts the calls that write and sync. The state is kept below `--folder`, since what a sync costs
+is the disk's. All else stays on the loopback. The program is the one that ./build makes.
+"""
+import argparse
+import os
+import signal
+import struct
+import subprocess
+import sys
+import tempfile
+import threading
+import time
+
+sys.path.append(os.path.join(os.path.dirname(os.path.dirname(os.path.abspath(__file__))), "checks"))
+import ends
+import frame
+
+# Numbers in a file that is mapped, so that they outlive a process that is killed: syncs, nanoseconds in them, writes, octets.
+LIBRARY = r"""
+#define _GNU_SOURCE
+#include <dlfcn.h>
+#include <fcntl.h>
+#include <stdlib.h>
+#include <sys/mman.h>
+#include <time.h>
+#include <unistd.h>
+
+static long unused[4], *counts = unused;
+
+__attribute__((constructor)) static void begin(void) {
+    int file = open(getenv("COUNTS"), O_RDWR);
+    void *page = mmap(NULL, sizeof unused, PROT_READ | PROT_WRITE, MAP_SHARED, file, 0);
+    if (page != MAP_FAILED) counts = page;
+    close(file);
+}
+
+#define REAL(type, name, ...) static type (*real)(__VA_ARGS__); if (!real) real = dlsym(RTLD_NEXT, name)
+
+static long now(void) {
+    struct timespec t;
+    clock_gettime(CLOCK_MONOTONIC, &t);
+    return t.tv_sec * 1000000000L + t.tv_nsec;
+}
+
+ssize_t pwrite64(int file, const void *octets, size_t count, off64_t at) {
+    REAL(ssize_t, "pwrite64", int, const void *, size_t, off64_t);
+    ssize_t n = real(file, octets, count, at);
+    if (n > 0) counts[2] += 1, counts[3] += n;
+    return n;
+}
+
+ssize_t pwrite(int file, const void *octets, size_t count, off_t at) { return pwrite64(file, octets, count, at); }
+
+int fdatasync(int file) {
+    REAL(int, "fdatasync", int);
+    long began = now();
+    int answer = real(file);
+    counts[0] += 1, counts[1] += now() - began;
+    return answer;
+}
+
+int fsync(int file) {
+    REAL(int, "fsync", int);
+    long began = now();
+    int answer = real(file);
+    counts[0] += 1, counts[1] += now() - began;
+    return answer;
+}
+"""
+
+SETTINGS = """[line]
+link = 1
+cause = 1
+ca = 1
+ioa = 1
+queue = {queue}
+[[station]]
+address = 1
+ca = 1
+[live]
+line = "tcp:127.0.0.1:{line}"
+listen = "127.0.0.1:{door}"
+"""
+
+# A single point, spontaneous; and 48 integrated totals at successive addresses, which are a piece of 249 octets.
+POINT = bytes.fromhex("01010301" "0A01")
+TOTALS = bytes.fromhex("0FB0030101") + bytes(5 * 48)
+# Three pieces: 124 single points of their own addresses.
+POINTS = bytes.fromhex("017C0301") + b"".join(bytes([n, 0]) for n in range(1, 125))
+
+
+class Counts:
+    """What the library counts."""
+
+    def __init__(self, folder):
+        self.path = os.path.join(folder, "counts")
+        with open(self.path, "wb") as file:
+            file.write(bytes(32))
+        self.environment = dict(os.environ, LD_PRELOAD=ends.library(folder, "counting", LIBRARY), COUNTS=self.path)
+
+    def now(self):
+        with open(self.path, "rb") as file:
+            return struct.unpack("4q", file.read(32))
+
+
+class Field(threading.Thread):
+    """One outstation behind a device server, which gives its reports in their order, at a pace; it serves one gateway after another."""
+
+    def __init__(self, reports, pause=0.0):
+        super().__init__(daemon=True)
+        self.server = ends.socket.create_server(("127.0.0.1", 0))
+        self.reports, self.pause = reports, pause
+        self.given, self.requests, self.last, self.bit = 0, 0, None, None
+        self.start()
+
+    def port(self):
+        return self.server.getsockname()[1]
+
+    def run(self):
+        while True:
+            try:
+                line = ends.Line(self.server.accept()[0])
+            except OSError:
+                return
+            line.stream.settimeout(None)
+            try:
+                while True:
+                    function, _, frame = line.request()
+                    line.answer(self.answer(function, frame[1]))
+            except (OSError, EOFError):
+                line.stream.close()
+
+    def answer(self, function, control):
+        if function == 9:
+            return ends.fixed(11, 1)
+        if function == 0:
+            self.bit = 0
+            return b"\xe5"
+        self.requests += 1
+        if self.bit != control & 0x20:
+            self.bit = control & 0x20
+            if self.pause:
+                time.sleep(self.pause)
+            report = self.reports(self.given)
+            self.last = b"\xe5" if report is None else ends.data(8, 1, report)
+            self.given += report is not None
+        return self.last
+
+
+class Centre(threading.Thread):
+    """A control centre that acknowledges each eighth I frame, and counts them."""
+
+    def __init__(self, door):
+        super().__init__(daemon=True)
+        self.door, self.is_over, self.frames = door, False, 0
+        self.start()
+
+    def run(self):
+        centre = connected(self.door)
+        centre.send(ends.START)
+        acknowledged = 0
+        while not self.is_over:
+            for apdu in centre.heard(0.2) or []:
+                if apdu == ends.TEST:
+                    centre.send(ends.TESTED)
+            self.frames = centre.received
+            if centre.received >= acknowledged + 8:
+                acknowledged = centre.received
+                centre.acknowledge()
+        centre.stream.close()
+
+
+def connected(door):
+    """A connection to the gateway, as soon as it listens."""
+    end = time.monotonic() + ends.PATIENCE
+    while True:
+        try:
+            return ends.Centre(ends.socket.create_connection(("127.0.0.1", door), timeout=ends.PATIENCE))
+        except ConnectionRefusedError:
+            if time.monotonic() > end:
+                raise
+            time.sleep(0.002)
+
+
+class Gateway:
+    """`telegate run`, with a state in this folder or none."""
+
+    def __init__(self, program, folder, field, queue=1000, state=True, environment=None):
+        self.door = ends.free_port()
+        self.state = os.path.join(folder, "state")
+        config = os.path.join(folder, "gateway.toml")
+        with open(config, "w") as file:
+            file.write(SETTINGS.format(queue=queue, line=field.port(), door=self.door))
+        self.words = [program, "run", "--redial", *(["--state", self.state] if state else []), config]
+        self.environment = environment
+        self.start()
+
+    def start(self):
+        self.process = subprocess.Popen(self.words, stdin=subprocess.DEVNULL, stderr=subprocess.DEVNULL, env=self.environment)
+
+    def kill(self):
+        self.process.send_signal(signal.SIGKILL)
+        self.process.wait()
+
+    def peak(self):
+        """The peak of the resident memory, in octets."""
+        with open(f"/proc/{self.process.pid}/status") as status:
+            return next(int(line.split()[1]) * 1024 for line in status if line.startswith("VmHWM:"))
+
+    def processor(self):
+        """The processor time so far, in seconds, which no other work stretches."""
+        with open(f"/proc/{self.process.pid}/stat") as stat:
+            fields = stat.read().rsplit(")", 1)[1].split()
+        return (int(fields[11]) + int(fields[12])) / os.sysconf("SC_CLK_TCK")
+
+    def size(self):
+        """The octets of the directory, and those that its files take on the disk."""
+        found = [os.stat(os.path.join(self.state, name)) for name in os.listdir(self.state)]
+        return sum(it.st_size for it in found), sum(it.st_blocks * 512 for it in found)
+
+
+def measure_polls(program, folder, seconds, polls):
+    """What is synced and written at so many polls a second."""
+    counts = Counts(folder)
+    field = Field(lambda n: POINT, 1 / polls)
+    gateway = Gateway(program, folder, field, environment=counts.environment)
+    centre = Centre(gateway.door)
+    time.sleep(2)
+    before, requests, began = counts.now(), field.requests, time.monotonic()
+    time.sleep(seconds)
+    after, asked, took = counts.now(), field.requests - requests, time.monotonic() - began
+    sizes = gateway.size()
+    centre.is_over = True
+    gateway.kill()
+    syncs, nanoseconds, writes, octets = (now - then for now, then in zip(after, before))
+    day = octets / took * 86400
+    print(f"polls: {asked} polls in {took:.1f} s, {asked / took:.1f} a second, {centre.frames} reports at the control centre")
+    print(f"polls: {syncs / asked:.3f} syncs a poll, {nanoseconds / max(1, syncs) / 1e6:.3f} ms each; {writes / asked:.3f} writes a poll")
+    print(f"polls: {octets / asked:.0f} octets a poll; a day is {day / 1e6:.0f} MB, the directory {sizes[0] / 1e6:.2f} MB", flush=True)
+
+
+def paced(program, folder, seconds, state):
+    """The time of a poll, in ms, as fast as it goes."""
+    field = Field(lambda n: POINT)
+    gateway = Gateway(program, folder, field, state=state)
+    centre = Centre(gateway.door)
+    time.sleep(1)
+    before, began = field.requests, time.monotonic()
+    time.sleep(seconds)
+    asked, took = field.requests - before, time.monotonic() - began
+    centre.is_over = True
+    gateway.kill()
+    return took / asked * 1000
+
+
+def measure_pace(program, folder, seconds):
+    """What a state adds to a poll."""
+    for turn in range(3):
+        without = paced(program, os.path.join(folder), seconds / 6, False)
+        with tempfile.TemporaryDirectory(dir=folder) as own:
+            kept = paced(program, own, seconds / 6, True)
+        print(f"pace: a poll takes {without:.3f} ms without a state, {kept:.3f} ms with one: {kept - without:.3f} ms more", flush=True)
+
+
+def until_started(gateway):
+    """Seconds until a control centre is told that it may begin, from now, and the connection."""
+    began = time.monotonic()
+    centre = connected(gateway.door)
+    centre.send(ends.START)
+    while ends.STARTED not in (centre.heard(0.05) or []):
+        if time.monotonic() > began + ends.PATIENCE:
+            sys.exit("durability: no control centre was let in")
+    return time.monotonic() - began, centre
+
+
+def measure_start(program, folder, pieces):
+    """A start with a full queue of the longest pieces."""
+
+    def reports(n):
+        if n < pieces - 3:
+            return TOTALS
+        return POINTS if n == pieces - 3 else None
+
+    field = Field(reports)
+    gateway = Gateway(program, folder, field, queue=max(3, pieces))
+    began, most = time.monotonic(), 0
+    while field.given < pieces - 2:
+        time.sleep(0.2)
+        most = max(most, gateway.size()[1])
+        if gateway.process.poll() is not None or time.monotonic() > began + 600:
+            sys.exit(f"durability: {field.given} reports were given, status {gateway.process.poll()}")
+    # The last answer is heard before the next look.
+    time.sleep(1)
+    print(f"start: {pieces} pieces were queued in {time.monotonic() - began:.0f} s, {gateway.peak() / 1e6:.1f} MB at the most")
+    print(f"start: the directory took {most / 1e6:.1f} MB at the most meanwhile, and {gateway.size()[0] / 1e6:.1f} MB at the end", flush=True)
+    for turn in range(3):
+        gateway.kill()
+        gateway.start()
+        seconds, centre = until_started(gateway)
+        processor = gateway.processor()
+        centre.stream.close()
+        sizes = gateway.size()
+        print(
+            f"start {turn + 1}: {seconds:.2f} s until a control centre may begin, {processor:.2f} s of the processor, "
+            f"{gateway.peak() / 1e6:.1f} MB at the most, "
+            f"the directory {sizes[0] / 1e6:.1f} MB, on the disk {sizes[1] / 1e6:.1f} MB",
+            flush=True,
+        )
+    gateway.kill()
+
+
+def main():
+    words = argparse.ArgumentParser(description=__doc__, formatter_class=argparse.RawDescriptionHelpFormatter)
+    words.add_argument("--program", default=frame.PROGRAM)
+    words.add_argument("--seconds", type=float, default=60)
+    words.add_argument("--polls", type=float, default=25)
+    words.add_argument("--pieces", type=int, default=65535)
+    words.add_argument("--folder", help="where the state is kept; by default where temporary files are")
+    words.add_argument("parts", nargs="*", help="polls, pace, start")
+    given = words.parse_args()
+    parts = {
+        "polls": lambda folder: measure_polls(given.program, folder, given.seconds, given.polls),
+        "pace": lambda folder: measure_pace(given.program, folder, given.seconds),
+        "start": lambda folder: measure_start(given.program, folder, given.pieces),
+    }
+    for part in given.parts or parts:
+        if part not in parts:
+            words.error(f"no part {part}: " + ", ".join(parts))
+        with tempfile.TemporaryDirectory(dir=given.folder) as folder:
+            parts[part](folder)
+    return 0
+
+
+if __name__ == "__main__":
+    sys.exit(main())

@@ -1,0 +1,211 @@
+#!/usr/bin/env python3
+"""Compares the documents with the built program and with the repository.
+
+    checks/documents.py [--program FILE] [--only NAME]
+
+- The script runs each block of docs/*.md and packaging/*.md that begins with ```console. A line
+  with `$` in front has a command of `telegate`. Below it stands what the command prints (standard
+  output, then standard error), and `(status N)` if its exit status isn't 0.
+- The table of docs/ARCHITECTURE.md has the crates of crates.txt, each below the crates that it
+  uses.
+- Lines of README.md and of the documents have at most 100 columns. The pages that are judged
+  sentence by sentence have no sentence of 30 words or more. Each file that a document names is
+  there.
+- The repository stands alone: no line of a document, of an example or of a crate cites a demand by
+  a letter and a number.
+- The program, the man page, CHANGELOG.md and each document that names a version name the same one.
+- Lines of src/ and specs/ have at most 100 columns, except imports and attributes.
+- The table of docs/TESTS.md has the scripts of checks/list.txt as those of the gate.
+- The pictures are those that docs/pictures/make.py makes.
+"""
+import glob
+import os
+import re
+import shlex
+import subprocess
+import sys
+
+import frame
+
+TOP = frame.TOP
+COLUMNS = 100
+SENTENCE = 30
+# The pages whose sentences are judged: none is long.
+PLAIN = ["README.md", "CONTRIBUTING.md", "SECURITY.md", "packaging/README.md", "docs/README.md"]
+PLAIN += [f"docs/{name}.md" for name in ("COMMISSIONING", "RUNNING", "TROUBLE", "GLOSSARY")]
+PLAIN += [f"docs/{name}.md" for name in ("SETTINGS", "SITE", "STATUS", "TEXTS", "STATIONS")]
+PLAIN += [f"docs/{name}.md" for name in ("PROFILE", "INTEROPERABILITY", "LIBRARY")]
+PLAIN += [f"docs/{name}.md" for name in ("PROOFS", "PARTS", "PROGRAM", "MISREADINGS", "PERFORMANCE")]
+PLAIN += [f"docs/{name}.md" for name in ("ARCHITECTURE", "CHANGING", "DECISIONS", "TESTS", "GATE")]
+# What a sentence names as a file: a path with one of these endings, or in one of these folders.
+NAMED = re.compile(r"`?(?<![\w/])((?:bench|checks|crates|docs|examples|packaging|tools|specs|src|\.ci)/[\w./*-]*\w|[\w-]+\.(?:md|txt|py))`?")
+
+# What cites a demand of another paper: a capital letter with a number (R32 is a type of the
+# standard), or a section or row of a paper that isn't here.
+CITED = re.compile(r"\b(?!R32)[DTRWPQ]\d{1,2}\b|\b(?:our|the|this) papers?\b|\brow \d+\b|\b0[1-4]-[a-z]+\.md\b")
+
+
+def read(name):
+    with open(os.path.join(TOP, name), encoding="utf-8") as file:
+        return file.read()
+
+
+def documents():
+    names = [*sorted(glob.glob("*.md", root_dir=TOP)), *sorted(glob.glob("docs/*.md", root_dir=TOP)), *sorted(glob.glob("packaging/*.md", root_dir=TOP))]
+    return {name: read(name) for name in names}
+
+
+def blocks(text):
+    """Commands and what is written under each, of the blocks for a console."""
+    for block in re.findall(r"^```console\n(.*?)^```$", text, re.M | re.S):
+        for part in re.split(r"^\$ ", block, flags=re.M)[1:]:
+            command, _, printed = part.partition("\n")
+            yield command, printed
+
+
+def judge_commands(judge, program, name, text):
+    for command, printed in blocks(text):
+        words = shlex.split(command)
+        if words[0] != "telegate":
+            continue
+        ran = subprocess.run([program, *words[1:]], cwd=TOP, capture_output=True, text=True, timeout=60, stdin=subprocess.DEVNULL)
+        got = ran.stdout + ran.stderr + (f"(status {ran.returncode})\n" if ran.returncode else "")
+        judge.case(got == printed, f"{name}: {command}\n-- printed:\n{got}-- written:\n{printed}")
+
+
+def judge_crates(judge, text):
+    """The table of crates has those of crates.txt, each below all that it stands on."""
+    stands_on = {}
+    for line in read("crates.txt").splitlines():
+        if line and not line.startswith("#"):
+            crate, _, others = line.partition(":")
+            stands_on[crate] = set(others.split())
+    told = re.findall(r"^\| `(\w+)` \|.*\|$", text, re.M)
+    judge.case(sorted(told) == sorted(stands_on), f"ARCHITECTURE.md has the crates {told}, crates.txt {list(stands_on)}")
+    for place, crate in enumerate(told):
+        early = stands_on.get(crate, set()) & set(told[place:])
+        judge.case(not early, f"ARCHITECTURE.md tells {crate} before {early}, which it stands on")
+
+
+def judge_layout(judge, name, text):
+    for number, line in enumerate(text.splitlines(), 1):
+        if len(line) > COLUMNS:
+            judge.case(False, f"{name}:{number} has {len(line)} columns")
+    judge.case(text.endswith("\n"), f"{name}: the last line isn't ended")
+
+
+def prose(text):
+    """The text without blocks, tables and headings."""
+    text = re.sub(r"^```.*?^```$", "", text, flags=re.M | re.S)
+    return "\n".join(line for line in text.splitlines() if not line.startswith(("|", "#")))
+
+
+def judge_sentences(judge, name, text):
+    for paragraph in re.split(r"\n\s*\n|\n\s*[-*] |\n\s*\d+\. ", prose(text)):
+        for sentence in re.split(r"[.:;?!]\s", paragraph.replace("\n", " ") + " "):
+            count = len([word for word in sentence.split() if re.search(r"\w", word)])
+            judge.case(count < SENTENCE, f"{name}: {count} words in: {sentence.strip()}")
+
+
+def judge_alone(judge, name, text):
+    """No line cites a demand of a paper that isn't part of the repository."""
+    for number, line in enumerate(text.splitlines(), 1):
+        if CITED.search(line):
+            judge.case(False, f"{name}:{number} cites {CITED.search(line)[0]}")
+
+
+def judge_version(judge, program, texts):
+    """The program, the man page and the newest numbered part of CHANGELOG.md have one version, and
+    so has what a document names."""
+    ran = subprocess.run([program, "--version"], capture_output=True, text=True, timeout=60, stdin=subprocess.DEVNULL)
+    version = ran.stdout.split()[1]
+    page = re.findall(r'^\.TH .*"telegate ([^"]*)"', read("packaging/telegate.1"), re.M)
+    judge.case(page == [version], f"packaging/telegate.1 is of {page}, the program of {version}")
+    newest = re.findall(r"^## (\d\S*)", texts["CHANGELOG.md"], re.M)[:1]
+    judge.case(newest == [version], f"CHANGELOG.md has {newest} as its newest version, the program is {version}")
+    for name, text in texts.items():
+        named = set(re.findall(r"\btelegate[ _](\d+\.\d+\.\d+)", text))
+        judge.case(name == "CHANGELOG.md" or named <= {version}, f"{name} names telegate {sorted(named)}, the program is {version}")
+
+
+def is_one_line(line):
+    """An import or an attribute, which the formatter keeps in one line."""
+    return re.match(r"\s*((pub |ghost |pub ghost )?use |#\[)", line) is not None
+
+
+def judge_sources(judge):
+    """What people read of the crates: its lines are short, and cite no paper."""
+    for crate in sorted(os.listdir(os.path.join(TOP, "crates"))):
+        wide = []
+        for name in sorted(glob.glob(f"crates/{crate}/src/**/*.rt", root_dir=TOP, recursive=True) + glob.glob(f"crates/{crate}/specs/**/*.antt", root_dir=TOP, recursive=True)):
+            text = read(name)
+            judge_alone(judge, name, text)
+            wide += [f"{name}:{number}" for number, line in enumerate(text.splitlines(), 1) if len(line) > COLUMNS and not is_one_line(line)]
+        judge.case(not wide, f"{crate}: more than {COLUMNS} columns in {len(wide)} lines, the first {wide[:1]}")
+
+
+def judge_names(judge, name, text):
+    """Each file that a document names is there: from the top, beside the document, or in some
+    crate."""
+    bare = re.sub(r"^```.*?^```$", "", text, flags=re.M | re.S)
+    for path in sorted(set(NAMED.findall(bare))):
+        if path.startswith("crates/telegate/out/"):
+            continue
+        places = [path, os.path.join(os.path.dirname(name), path), os.path.join("docs", path), os.path.join("crates/*", path), os.path.join("crates/*", path + ".*")]
+        judge.case(any(glob.glob(place, root_dir=TOP) for place in places), f"{name} names {path}, which isn't there")
+
+
+def judge_list(judge, text):
+    """docs/TESTS.md has the scripts of checks/list.txt, in its order and words, as those of the
+    gate."""
+    told = re.findall(r"^\| `checks/(\w+)\.py` \| yes \| (.*?) \|$", text, re.M)
+    wanted = list(frame.listed().items())
+    judge.case(told == wanted, f"docs/TESTS.md has {told}, checks/list.txt {wanted}")
+    scripts = [name for name in glob.glob("checks/**/*.py", root_dir=TOP, recursive=True) if "frame.main(" in read(name)]
+    unnamed = [name for name in scripts if name != "checks/frame.py" and f"`{name}`" not in text]
+    judge.case(not unnamed, f"docs/TESTS.md doesn't name {unnamed}")
+
+
+def pictures(count, _program, _folder):
+    """Each picture is what docs/pictures/make.py makes now, and the lines of the log on it are
+    those of docs/TEXTS.md."""
+    sys.path.append(os.path.join(TOP, "docs/pictures"))
+    import make
+
+    texts = read("docs/TEXTS.md")
+    for name, text in make.pictures().items():
+        path = f"docs/pictures/{name}.svg"
+        count.judge(path, os.path.exists(os.path.join(TOP, path)) and read(path) == text, "docs/pictures/make.py makes another one")
+    for line in sorted(set(re.findall(r"`((?:station A|queue) [^`]*)`", read("docs/pictures/make.py")))):
+        count.judge(f"docs/pictures: {line}", line.rstrip(":. ") in texts, "docs/TEXTS.md has no such line")
+
+
+def pages(count, program, _folder):
+    """Each document: its layout, its commands, the files that it names, and what it may not cite.
+    """
+    for name, text in documents().items():
+        judge_layout(count, name, text)
+        judge_commands(count, program, name, text)
+        judge_names(count, name, text)
+        judge_alone(count, name, text)
+
+
+def sources(count, _program, _folder):
+    for name in sorted(glob.glob("examples/**/*.*", root_dir=TOP, recursive=True)):
+        judge_alone(count, name, read(name))
+    judge_sources(count)
+
+
+def lists(count, program, _folder):
+    """What stands in two places: the version, the crates, and the scripts of the gate; and the
+    sentences of the pages."""
+    texts = documents()
+    judge_version(count, program, texts)
+    judge_crates(count, texts["docs/ARCHITECTURE.md"])
+    judge_list(count, texts["docs/TESTS.md"])
+    for name in PLAIN:
+        judge_sentences(count, name, texts[name])
+
+
+if __name__ == "__main__":
+    frame.main(pages, pictures, sources, lists)

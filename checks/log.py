@@ -1,0 +1,523 @@
+#!/usr/bin/env python3
+"""Runs `telegate run --log` between ends that come and go, and judges each line on standard error;
+and `--allow`.
+
+    checks/log.py [--program FILE] [--only NAME]
+
+- The lines of a run, in their order: a station is asked, the line isn't there, the line is reached,
+  and the station is up. A connection is opened, started, stopped and cut, and another one sends
+  what begins no APDU. The station falls silent and is asked again. The line is lost and reached
+  again.
+- A flood of connections has at most a line a second.
+- A silent station that is held is logged, and so is one that never answered.
+- Commands are logged: one that is selected, confirmed, executed and done, and those that are
+  refused, with the rule. Of many at once the last is logged, and how many came before it.
+- A skipped report is logged with its type and the reason.
+- With --allow a host of another address is sent away, and the open connection stays.
+- A run that can't begin says why. A second run by mistake ends at the port, and leaves the line of
+  the first alone.
+- If standard input, output or error is closed, nothing but requests goes out on the line.
+- A server that accepts and closes is tried more and more rarely.
+- Each line begins with a UTC time that Python reads.
+
+All of it is on the loopback.
+"""
+import datetime
+import os
+import re
+import socket
+import subprocess
+import threading
+import time
+
+import ends
+import frame
+
+# On a busy machine an answer may take a while, and a station that seems silent would spoil what is told of it.
+LINE = "[line]\nlink = 1\ncause = 1\nca = 1\nioa = 2\nanswer_ms = 150\nretries = 1\n"
+STATION = "[[station]]\naddress = 7\nca = 1\n"
+# A silent station is held, or its link is reset.
+HELD = LINE + STATION
+SETTINGS = LINE + 'silence = "reset"\n' + STATION
+# Where no station is to seem silent, however busy the machine is.
+PATIENT = HELD.replace("answer_ms = 150", "answer_ms = 3000")
+STOP = bytes.fromhex("680413000000")
+STOPPED = bytes.fromhex("680423000000")
+
+
+class Log:
+    """The lines of a process's standard error, without their time and moment."""
+
+    def __init__(self, stream):
+        self.lines, self.stamps, self.odd = [], [], []
+        self.thread = threading.Thread(target=self.read, args=(stream,), daemon=True)
+        self.thread.start()
+
+    def read(self, stream):
+        for octets in stream:
+            line = octets.decode().rstrip("\n")
+            parts = re.fullmatch(r"(\S+Z) (\d+) (.*)", line)
+            if parts:
+                self.stamps.append((datetime.datetime.fromisoformat(parts[1].replace("Z", "+00:00")), int(parts[2])))
+                self.lines.append(parts[3])
+            else:
+                self.odd.append(line)
+
+    def waits(self, words, since=0, seconds=10):
+        """The place behind the first line from `since` on that begins with these words, or None."""
+        end = time.monotonic() + seconds
+        while True:
+            for place in range(since, len(self.lines)):
+                if self.lines[place].startswith(words):
+                    return place + 1
+            if time.monotonic() > end:
+                return None
+            time.sleep(0.02)
+
+
+class Station:
+    """The outstation behind the line: it answers, or doesn't; its line can be lost and comes back."""
+
+    def __init__(self, is_there=True):
+        self.port = ends.free_port()
+        self.is_silent = False
+        self.stream = None
+        if is_there:
+            self.begin()
+
+    def begin(self):
+        """Its line can be reached from now on."""
+        self.server = socket.create_server(("127.0.0.1", self.port))
+        threading.Thread(target=self.run, daemon=True).start()
+
+    def run(self):
+        while True:
+            self.stream, _ = self.server.accept()
+            line = ends.Line(self.stream)
+            try:
+                while True:
+                    function, address, _ = line.request()
+                    if not self.is_silent:
+                        line.answer(ends.fixed(0x0B, address) if function == 9 else b"\xe5")
+            except OSError:
+                pass
+            except EOFError:
+                pass
+
+    def lose(self):
+        self.stream.shutdown(socket.SHUT_RDWR)
+
+
+class Operated(Station):
+    """An outstation that confirms and ends each command, and sends what reports it is given."""
+
+    def __init__(self):
+        self.reports = []
+        super().__init__()
+
+    def run(self):
+        self.stream, _ = self.server.accept()
+        line = ends.Line(self.stream)
+        try:
+            while True:
+                function, address, frame = line.request()
+                if function == 9:
+                    line.answer(ends.fixed(0x0B, address))
+                elif function == 3:
+                    self.reports += replies(frame[6:-2])
+                    line.answer(b"\xe5")
+                elif function in (10, 11) and self.reports:
+                    line.answer(ends.data(0x08, address, self.reports.pop(0)))
+                else:
+                    line.answer(b"\xe5")
+        except (OSError, EOFError):
+            pass
+
+
+def replies(asdu):
+    """What the outstation answers a command: activation con, and of an execute its termination."""
+    confirmed = asdu[:2] + b"\x07" + asdu[3:]
+    is_select = asdu[-1] >= 0x80
+    return [confirmed] if is_select else [confirmed, asdu[:2] + b"\x0a" + asdu[3:]]
+
+
+class Run:
+    def __init__(self, program, folder, station, *flags, host="127.0.0.1", settings=SETTINGS):
+        self.door = (host, ends.free_port())
+        config = os.path.join(folder, "live.toml")
+        with open(config, "w") as file:
+            place = f"tcp:127.0.0.1:{station.port}"
+            file.write(f'{settings}[live]\nline = "{place}"\nlisten = "{host}:{self.door[1]}"\n')
+        self.process = subprocess.Popen(
+            [program, "run", *flags, config], stdin=subprocess.DEVNULL, stdout=subprocess.PIPE, stderr=subprocess.PIPE
+        )
+        self.log = Log(self.process.stderr)
+
+    def __enter__(self):
+        return self
+
+    def __exit__(self, *_):
+        self.process.kill()
+        self.process.wait()
+
+    def connect(self, here="127.0.0.1"):
+        return socket.create_connection(self.door, timeout=ends.PATIENCE, source_address=(here, 0))
+
+
+def exchange(stream, octets, answer):
+    stream.sendall(octets)
+    return stream.recv(len(answer)) == answer
+
+
+def a_run(count, program, folder):
+    station = Station(is_there=False)
+    with Run(program, folder, station, "--redial", "--log") as run:
+        log, at = run.log, 0
+
+        def comes(words):
+            nonlocal at
+            found = log.waits(words, at)
+            count.judge(words, found is not None, (at, log.lines, log.odd))
+            at = found or at
+
+        comes("listening at 127.0.0.1:%d" % run.door[1])
+        comes("station 7 asked for its status")
+        comes("line not there")
+        station.begin()
+        comes("line reached")
+        comes("station 7 up")
+        first = run.connect()
+        comes("connection opened by 127.0.0.1")
+        count.judge("STARTDT", exchange(first, ends.START, ends.STARTED))
+        comes("connection started")
+        count.judge("STOPDT", exchange(first, STOP, STOPPED))
+        comes("connection stopped")
+        first.close()
+        comes("connection cut: its other end has gone")
+        time.sleep(1.1)
+        second = run.connect()
+        comes("connection opened by 127.0.0.1")
+        second.sendall(b"\x00")
+        comes("connection closed: octets that begin no APDU")
+        station.is_silent = True
+        comes("station 7 down")
+        station.is_silent = False
+        comes("station 7 up")
+        station.lose()
+        comes("line lost")
+        comes("line reached again")
+        flood(count, run, at)
+        out = run.process.stdout
+        os.set_blocking(out.fileno(), False)
+        count.judge("standard output", not out.read(), "isn't empty")
+        count.judge("each line has its time", not log.odd, log.odd)
+        stamps = log.stamps
+        is_ordered = all(a[0] <= b[0] and a[1] <= b[1] for a, b in zip(stamps, stamps[1:]))
+        now = datetime.datetime.now(datetime.timezone.utc)
+        is_now = abs((now - stamps[-1][0]).total_seconds()) < 20
+        count.judge("times", is_ordered and is_now, stamps)
+        count.judge("still up", run.process.poll() is None, run.process.poll())
+
+
+def flood(count, run, at):
+    """Some hundred connects: at most a line a second of each kind, with how many were left out."""
+    began = time.monotonic()
+    opened = []
+    while not any("left out" in line for line in opened) and time.monotonic() < began + 20:
+        for _ in range(400):
+            run.connect().close()
+        time.sleep(1.1)
+        run.connect().close()
+        time.sleep(0.3)
+        opened = [line for line in run.log.lines[at:] if line.startswith("connection opened")]
+    seconds = time.monotonic() - began
+    for kind in ("connection opened", "connection cut", "connection closed"):
+        lines = [line for line in run.log.lines[at:] if line.startswith(kind)]
+        count.judge(f"{kind} in a flood", len(lines) <= seconds + 2, (seconds, lines))
+    count.judge("how many were left out", any(re.search(r"\(\d+ left out\)", line) for line in opened), opened)
+
+
+def held(count, program, folder):
+    """A station that is held when it falls silent. That it doesn't answer is logged once a minute,
+    and then that it answers again."""
+    station = Station()
+    with Run(program, folder, station, "--log", settings=HELD) as run:
+        count.judge("a held station is asked", run.log.waits("station 7 asked for its status") is not None, run.log.lines)
+        up = run.log.waits("station 7 up")
+        count.judge("a held station is up", up is not None, run.log.lines)
+        time.sleep(1)
+        began = len(run.log.lines)
+        station.is_silent = True
+        silent = run.log.waits("station 7 doesn't answer", began)
+        time.sleep(1.5)
+        told = [line for line in run.log.lines[began:] if line.startswith("station 7 d")]
+        count.judge("its silence is told once", told == ["station 7 doesn't answer"], run.log.lines)
+        station.is_silent = False
+        count.judge("it answers again", silent and run.log.waits("station 7 answers again", silent), run.log.lines)
+
+
+def mute(count, program, folder):
+    """A station that never answered is logged, whether it is held or reset."""
+    for name, settings in (("held", HELD), ("reset", SETTINGS)):
+        station = Station()
+        station.is_silent = True
+        with Run(program, folder, station, "--log", settings=settings) as run:
+            asked = run.log.waits("station 7 asked for its status")
+            silent = run.log.waits("station 7 doesn't answer")
+            count.judge(f"a station that never answered, {name}", asked and silent and asked < silent, run.log.lines)
+            time.sleep(1.5)
+            told = run.log.lines.count("station 7 doesn't answer")
+            count.judge(f"it is told once a minute, {name}", told == 1, run.log.lines)
+
+
+def fickle(count, program, folder):
+    """A server that accepts and closes: the time between tries doubles each time, and there are few
+    lines on it."""
+    tries = []
+
+    def accept(server):
+        while True:
+            server.accept()[0].close()
+            tries.append(time.monotonic())
+
+    station = Station(is_there=False)
+    with socket.create_server(("127.0.0.1", station.port)) as server:
+        threading.Thread(target=accept, args=(server,), daemon=True).start()
+        with Run(program, folder, station, "--redial", "--log") as run:
+            time.sleep(8.5)
+            between = [b - a for a, b in zip(tries, tries[1:])]
+            # On a busy machine a try may come late, and none too early.
+            is_rare = 2 <= len(tries) <= 3 and all(gap > 1.9 * 2**n for n, gap in enumerate(between))
+            count.judge("a server that accepts and closes is tried rarely", is_rare, between)
+            lines = [line for line in run.log.lines if line.startswith("line")]
+            # Whether the first look finds the line away, there or neither is the system's.
+            told = (["line reached", "line lost"], ["line not there"], ["line not there", "line reached", "line lost"])
+            count.judge("few lines tell of it", lines in told, run.log.lines)
+
+
+def second(count, program, folder):
+    """A second run with the same settings ends at the port, and the first keeps its line."""
+    for flags in ((), ("--redial",)):
+        station = Station()
+        with Run(program, folder, station, "--log", *flags) as run:
+            count.judge("the first is up", run.log.waits("station 7 up") is not None, run.log.lines)
+            config = os.path.join(folder, "live.toml")
+            done = subprocess.run([program, "run", "--log", *flags, config], capture_output=True, timeout=ends.PATIENCE)
+            said = done.stderr.decode().splitlines()
+            is_right = done.returncode == 3 and len(said) == 2 and said[0].endswith(" 0 port in use") and said[1] == "device failed"
+            count.judge("a second run", is_right, (done.returncode, said))
+            time.sleep(0.3)
+            count.judge("the first keeps its line", not any(line.startswith("line lost") for line in run.log.lines), run.log.lines)
+            count.judge("the first stays", run.process.poll() is None, run.process.poll())
+
+
+def closed(count, program, folder):
+    """Standard descriptors that are closed at the start: nothing but requests goes out on the line."""
+    for numbers in ((0,), (1,), (2,), (1, 2), (0, 1, 2)):
+        with socket.create_server(("127.0.0.1", 0)) as server:
+            server.settimeout(ends.PATIENCE)
+            config = os.path.join(folder, "closed.toml")
+            with open(config, "w") as file:
+                line, listen = server.getsockname()[1], ends.free_port()
+                file.write(f'{HELD}[live]\nline = "tcp:127.0.0.1:{line}"\nlisten = "127.0.0.1:{listen}"\n')
+            process = subprocess.Popen(
+                [program, "run", "--record", "--log", config],
+                stdin=subprocess.DEVNULL,
+                stdout=subprocess.DEVNULL,
+                stderr=subprocess.DEVNULL,
+                preexec_fn=lambda: [os.close(number) for number in numbers],
+            )
+            stream = server.accept()[0]
+            stream.settimeout(ends.PATIENCE)
+            octets = b""
+            while len(octets) < 50:
+                octets += stream.recv(50)
+            # A silent station is asked for its status again and again.
+            count.judge(f"only requests on the line without {numbers}", octets == (ends.fixed(0x49, 7) * 20)[: len(octets)], octets)
+            count.judge(f"it is up without {numbers}", process.poll() is None, process.poll())
+            process.kill()
+            process.wait()
+            stream.close()
+
+
+# Single commands to object 100 of common address 1, as they come from the control centre: select on, execute on.
+SELECT = bytes.fromhex("2d0106000100 640000 81")
+EXECUTE = bytes.fromhex("2d0106000100 640000 01")
+
+
+def commands(count, program, folder):
+    """Each command is logged, with what becomes of it, and by which rule it is refused."""
+    station = Operated()
+    with Run(program, folder, station, "--log", settings=PATIENT + "select = true\n") as run:
+        log, at = run.log, run.log.waits("station 7 up")
+        count.judge("commands: the station is up", at is not None, log.lines)
+        stream = run.connect()
+        count.judge("commands: STARTDT", exchange(stream, ends.START, ends.STARTED))
+        centre = ends.Centre(stream)
+        threading.Thread(target=drain, args=(centre,), daemon=True).start()
+
+        def told(*lines):
+            for line in lines:
+                end = time.monotonic() + ends.PATIENCE
+                while line not in log.lines and time.monotonic() < end:
+                    time.sleep(0.02)
+                count.judge(line, line in log.lines, log.lines)
+
+        select, execute = "command C_SC_NA_1 select 1/100 on", "command C_SC_NA_1 execute 1/100 on"
+        centre.command(EXECUTE)
+        told(f"{execute} by 127.0.0.1 refused: not selected")
+        centre.command(SELECT)
+        told(f"{select} by 127.0.0.1", f"{select} sent to station 7", f"{select} confirmed by station 7")
+        time.sleep(1.2)
+        # Both in one piece: the second finds its select used up.
+        centre.command(EXECUTE, EXECUTE)
+        told(f"{execute} by 127.0.0.1", f"{execute} sent to station 7", f"{execute} confirmed by station 7")
+        told(f"{execute} terminated by station 7")
+        refusals = log.lines.count(f"{execute} by 127.0.0.1 refused: not selected")
+        count.judge("the second execute for one select is refused", refusals == 2, log.lines)
+        time.sleep(1.2)
+        rows = [
+            ("670106000100 000000 00000000000000", "command type 103 1/0 by 127.0.0.1 refused: type not known"),
+            ("2d0105000100 640000 01", f"{execute} by 127.0.0.1 refused: cause not known"),
+            ("2d0106000200 640000 01", "command C_SC_NA_1 execute 2/100 on by 127.0.0.1 refused: common address not known"),
+            ("2d0106000100 000001 01", "command C_SC_NA_1 execute 1/65536 on by 127.0.0.1 refused: object not known"),
+            ("2d0206000100 640000 01", f"{execute} by 127.0.0.1 refused: not one object"),
+            ("2e0106000100 640000 03", "command C_DC_NA_1 execute 1/100 3 by 127.0.0.1 refused: qualifier not permitted"),
+            ("3a0106000100 640000 01 00008000010100", "command C_SC_TA_1 execute 1/100 on by 127.0.0.1 refused: time tag invalid"),
+        ]
+        for octets, line in rows:
+            centre.command(bytes.fromhex(octets))
+            told(line)
+            time.sleep(1.1)
+        centre.command(tagged(datetime.timedelta(hours=-1)))
+        old = log.waits("command C_SC_TA_1 execute 1/100 on by 127.0.0.1 refused: time tag 3")
+        count.judge("an old tag", old and re.search(r"time tag 3[56]\d\d s old$", log.lines[old - 1]), log.lines)
+        time.sleep(1.1)
+        # Many at once: the last is told with how many came before it, and none is forgotten.
+        began = len(log.lines)
+        for object in range(1, 21):
+            centre.command(bytes.fromhex("2d0106000200") + object.to_bytes(3, "little") + b"\x01")
+        last = "command C_SC_NA_1 execute 2/20 on by 127.0.0.1 refused: common address not known"
+        log.waits(last, began)
+        lines = [line for line in log.lines[began:] if " refused: common address" in line]
+        told_of = sum(1 + int((re.search(r"\((\d+) left out\)", line) or [0, 0])[1]) for line in lines)
+        count.judge("of many at once each is told or counted", told_of == 20 and lines[-1].startswith(last), lines)
+        count.judge("of many at once few are told", len(lines) <= 3, lines)
+        # A closed connection: what came in the same piece goes nowhere.
+        time.sleep(1.1)
+        with centre.numbers:
+            centre.send(i_frame(centre, centre.sent, SELECT) + b"\x00")
+        told(f"{select} by 127.0.0.1 refused: its connection was closed")
+
+
+def i_frame(centre, number, asdu):
+    return bytes([0x68, len(asdu) + 4]) + centre.number(number) + centre.number(centre.received) + asdu
+
+
+def drain(centre):
+    """Takes what the gateway sends, and acknowledges each I frame at once."""
+    octets = b""
+    try:
+        while piece := centre.stream.recv(4096):
+            octets += piece
+            while len(octets) > 1 and len(octets) >= octets[1] + 2:
+                if octets[2] % 2 == 0:
+                    with centre.numbers:
+                        centre.received += 1
+                        centre.acknowledge()
+                octets = octets[octets[1] + 2 :]
+    except OSError:
+        pass
+
+
+def tagged(distance):
+    """A single command with a time tag (CP56Time2a, UTC) so far from now."""
+    now = datetime.datetime.now(datetime.timezone.utc) + distance
+    ms = now.second * 1000 + now.microsecond // 1000
+    tag = ms.to_bytes(2, "little") + bytes([now.minute, now.hour, now.day, now.month, now.year % 100])
+    return bytes.fromhex("3a0106000100 640000 01") + tag
+
+
+def skipped(count, program, folder):
+    """A report that isn't passed on is logged at once, with its station, its type and the reason;
+    and more of them each minute."""
+    # Type 2, and a single point in sizes that the settings don't say (three octets of object address).
+    for asdu, line in (
+        ("0201030164000100000000", "station 7 report skipped, type 2: type not known"),
+        ("0101030164000001", "station 7 report skipped, type 1 M_SP_NA_1: length doesn't fit, look at line.ioa"),
+    ):
+        station = Operated()
+        with Run(program, folder, station, "--log", settings=PATIENT) as run:
+            log = run.log
+            count.judge("skipped: the station is up", log.waits("station 7 up") is not None, log.lines)
+            station.reports += [bytes.fromhex(asdu)] * 5
+            count.judge(line, log.waits(line) is not None, log.lines)
+            time.sleep(2)
+            told = [words for words in log.lines if " skipped, " in words]
+            # Two may come within the ms at which a line is sought.
+            count.judge("skipped: told once a minute", len(told) == 1 and told[0].startswith(line), told)
+
+
+def sent_away(log):
+    """How many were sent away by the log's lines, once they count five, or no more come."""
+    end, told = time.monotonic() + ends.PATIENCE, 0
+    while told < 5 and time.monotonic() < end:
+        time.sleep(0.05)
+        lines = [re.fullmatch(r"(\d+) sent away, the last at 127\.0\.0\.2", line) for line in list(log.lines)]
+        told = sum(int(line[1]) for line in lines if line)
+    return told
+
+
+def guests(count, program, folder):
+    station = Station()
+    with Run(program, folder, station, "--log", "--allow", "192.0.2.7", "--allow", "127.0.0.1") as run:
+        count.judge("listening", run.log.waits("listening at") is not None, run.log.odd)
+        centre = run.connect()
+        count.judge("a guest's STARTDT", exchange(centre, ends.START, ends.STARTED))
+        strangers = [run.connect("127.0.0.2") for _ in range(5)]
+        for stranger in strangers:
+            try:
+                octets = stranger.recv(1)
+            except ConnectionError:
+                octets = b""
+            count.judge("a stranger is sent away", octets == b"", octets)
+        count.judge("the guest's connection stays", exchange(centre, ends.TEST, ends.TESTED))
+        # In one line or in several, as they come within a second or not.
+        count.judge("it is told", sent_away(run.log) == len(strangers), run.log.lines)
+        opened = [line for line in run.log.lines if line.startswith("connection opened")]
+        count.judge("no stranger opened one", len(opened) == 1, opened)
+        station.lose()
+        count.judge("the line's end", run.process.wait(ends.PATIENCE) == 3, run.process.returncode)
+        run.log.thread.join(ends.PATIENCE)
+        lines = run.log.lines[-2:]
+        is_right = lines[0] == "line lost" and re.fullmatch(r"counts skipped 0 .* of \d+ connections 1", lines[1])
+        count.judge("its last lines", is_right and run.log.odd == ["device failed"], (lines, run.log.odd))
+
+
+def troubles(count, program, folder):
+    with socket.create_server(("127.0.0.1", 0)) as taken:
+        here = "127.0.0.1:%d" % taken.getsockname()[1]
+        shut = "tcp:127.0.0.1:%d" % ends.free_port()
+        free = "127.0.0.1:%d" % ends.free_port()
+        rows = [
+            (shut, free, "line refused"),
+            ("tcp:no-such-host.invalid:1", free, "name unknown"),
+            ("unix:nowhere", free, "name unknown"),
+            # The door is opened first.
+            (shut, here, "port in use"),
+            (f"tcp:{here}", here, "port in use"),
+        ]
+        for line, listen, why in rows:
+            listens = [f"listening at {listen}"] if listen == free else []
+            config = os.path.join(folder, "trouble.toml")
+            with open(config, "w") as file:
+                file.write(f'{SETTINGS}[live]\nline = "{line}"\nlisten = "{listen}"\n')
+            done = subprocess.run([program, "run", "--log", config], capture_output=True, timeout=ends.PATIENCE, cwd=folder)
+            said = done.stderr.decode().splitlines()
+            words = [line.split(" ", 2)[2] if re.match(r"\S+Z 0 ", line) else line for line in said]
+            is_right = done.returncode == 3 and words == [*listens, why, "device failed"]
+            count.judge(why, is_right, (done.returncode, said))
+
+
+if __name__ == "__main__":
+    frame.main(a_run, held, mute, fickle, commands, skipped, guests, troubles, second, closed)

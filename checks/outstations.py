@@ -1,0 +1,225 @@
+"""The parts that scripts over restarts share: outstations behind a line that outlive the gateway,
+and a control centre that goes and comes.
+
+An outstation keeps the rules of IEC 60870-5-2 for a secondary station. If a request has the frame
+count bit of the one before, it repeats its last answer. If the bit is new, it gives the next
+report, or accepts the command. The line loses requests and answers at random.
+"""
+import collections
+import random
+import socket
+import threading
+import time
+
+import ends
+
+RESET, COMMAND, STATUS, CLASS1, CLASS2 = 0, 3, 9, 10, 11
+ACD, FCB = 0x20, 0x20
+SPONTANEOUS, ACTIVATED = 3, 7
+
+
+def asdu(kind, cause, station, number, value):
+    """An ASDU with one object, in the sizes that the scripts set: cause and common address of one octet, object address of two."""
+    return bytes([kind, 1, cause, station]) + number.to_bytes(2, "little") + bytes([value])
+
+
+class Outstation:
+    """One secondary station: reports are numbered from 1, and each command is known by its object address."""
+
+    def __init__(self, address, chance):
+        self.address = address
+        self.chance = chance
+        self.bit = None
+        self.last = None
+        self.urgent = collections.deque()
+        self.made = 0
+        self.given = 0
+        self.accepted = []
+        self.resets = 0
+
+    def report(self, count=1):
+        """It has so many more reports."""
+        self.made += count
+
+    def has_urgent(self):
+        return bool(self.urgent)
+
+    def short(self, function):
+        if function in (0, 9) and not self.has_urgent() and self.chance.random() < 0.5:
+            return b"\xe5"
+        return ends.fixed(function | (ACD if self.has_urgent() else 0), self.address)
+
+    def serve(self, function, octets):
+        """The answer to a service whose frame count bit is new."""
+        if function == COMMAND:
+            number = int.from_bytes(octets[4:6], "little")
+            self.accepted.append(number)
+            self.urgent.append(asdu(octets[0], ACTIVATED, self.address, number, octets[6]))
+            return self.short(0)
+        if function == CLASS1 and self.urgent:
+            report = self.urgent.popleft()
+        elif function == CLASS2 and self.given < self.made:
+            self.given += 1
+            report = asdu(1, SPONTANEOUS, self.address, self.given, 1)
+        else:
+            return self.short(9)
+        return ends.data(8 | (ACD if self.has_urgent() else 0), self.address, report)
+
+    def answer(self, control, octets):
+        """The answer to a request, or none."""
+        function = control % 16
+        if function == STATUS:
+            return ends.fixed(11 | (ACD if self.has_urgent() else 0), self.address)
+        if function == RESET:
+            self.bit, self.last = 0, None
+            self.resets += 1
+            return self.short(0)
+        if self.bit is None or control & FCB == self.bit:
+            return self.last
+        self.bit = control & FCB
+        self.last = self.serve(function, octets)
+        return self.last
+
+
+class Field(threading.Thread):
+    """The outstations of one line, behind a device server that serves one gateway after another."""
+
+    def __init__(self, addresses, chance, loss):
+        super().__init__(daemon=True)
+        self.server = socket.create_server(("127.0.0.1", 0))
+        self.stations = {address: Outstation(address, chance) for address in addresses}
+        self.chance = chance
+        self.loss = loss
+        # The stations that are silent altogether, and whether one is from its next command on.
+        self.silent = set()
+        self.mute_at_command = False
+        self.requests = 0
+        self.start()
+
+    def place(self):
+        return "tcp:127.0.0.1:{}".format(self.server.getsockname()[1])
+
+    def run(self):
+        while True:
+            try:
+                line = ends.Line(self.server.accept()[0])
+            except OSError:
+                return
+            line.stream.settimeout(None)
+            try:
+                while True:
+                    self.hear(line)
+            except (OSError, EOFError):
+                line.stream.close()
+
+    def hear(self, line):
+        _, address, frame = line.request()
+        self.requests += 1
+        control = frame[1] if frame[0] == 0x10 else frame[4]
+        if self.mute_at_command and control % 16 == COMMAND:
+            self.silent.add(address)
+        if address in self.silent or self.chance.random() < self.loss:
+            return
+        answer = self.stations[address].answer(control, frame[6:-2])
+        if answer is not None and self.chance.random() >= self.loss:
+            line.answer(answer)
+
+
+class Visitor(threading.Thread):
+    """A control centre that connects, takes what comes, acknowledges, sends commands, goes and comes again.
+
+    For each connection it has the reports that came, as (station, number). `sure` are those that it knows to be acknowledged: the
+    gateway has answered a test that was sent behind the acknowledgement."""
+
+    def __init__(self, door, stations, chance, *, commands=0.1, stays=0.97):
+        super().__init__(daemon=True)
+        self.door = door
+        self.stations = stations
+        self.chance = chance
+        self.commands = commands
+        self.stays = stays
+        self.connections = []
+        self.confirmed = []
+        self.sent = []
+        self.again = []
+        self.sure = set()
+        self.is_over = False
+        self.start()
+
+    def run(self):
+        while not self.is_over:
+            try:
+                stream = socket.create_connection(self.door, timeout=1)
+            except OSError:
+                time.sleep(0.01)
+                continue
+            with stream:
+                try:
+                    self.visit(ends.Centre(stream))
+                except OSError:
+                    pass
+
+    def visit(self, centre):
+        heard, tested, told = [], [], 0
+        self.connections.append(heard)
+        centre.send(ends.START)
+        while not self.is_over and self.chance.random() < self.stays:
+            apdus = centre.heard(0.02)
+            if apdus is None:
+                return
+            for apdu in apdus:
+                if apdu == ends.TESTED and tested:
+                    self.sure.update(tested.pop(0))
+                elif apdu[2] % 2 == 0:
+                    self.take(apdu[6:], heard)
+            if len(heard) > told and self.chance.random() < 0.5:
+                centre.acknowledge()
+                centre.send(ends.TEST)
+                tested.append(heard[:])
+                told = len(heard)
+            if self.chance.random() < self.commands:
+                number = 10_000 + len(self.sent)
+                self.sent.append(number)
+                # In the sizes of 104: cause and common address of two octets, object address of three.
+                station = self.chance.choice(self.stations)
+                centre.command(bytes([45, 1, 6, 0, station, 0]) + number.to_bytes(3, "little") + b"\x01")
+
+    def take(self, octets, heard):
+        cause, station, number = octets[2] % 64, octets[4], int.from_bytes(octets[6:9], "little")
+        if octets[0] == 1 and cause == SPONTANEOUS:
+            if (station, number) in self.sure:
+                self.again.append((station, number))
+            heard.append((station, number))
+        elif octets[0] == 45 and cause == ACTIVATED and not octets[2] & 0x40:
+            self.confirmed.append(number)
+
+
+def faults_of(field, visitor):
+    """What went wrong, in words: reports lost, out of order or given again, and commands that were operated twice or never."""
+    faults = []
+    for address, station in field.stations.items():
+        if len(set(station.accepted)) < len(station.accepted):
+            twice = [n for n, c in collections.Counter(station.accepted).items() if c > 1]
+            faults.append(f"station {address} operated commands twice: {twice}")
+        last = 0
+        for heard in visitor.connections:
+            numbers = [number for where, number in heard if where == address]
+            if numbers != list(range(numbers[0], numbers[0] + len(numbers))) if numbers else False:
+                faults.append(f"station {address}: not in order on one connection: {numbers}")
+            if numbers and numbers[0] > last + 1:
+                faults.append(f"station {address}: reports {last + 1} to {numbers[0] - 1} lost")
+            last = max([last, *numbers])
+        if last < station.made:
+            faults.append(f"station {address}: reports {last + 1} to {station.made} didn't come")
+    taken = {number for station in field.stations.values() for number in station.accepted}
+    untaken = sorted(set(visitor.confirmed) - taken)
+    if untaken:
+        faults.append(f"commands confirmed that no station took: {untaken}")
+    if visitor.again:
+        faults.append(f"sent again though known as acknowledged: {visitor.again}")
+    return faults
+
+
+def chances(seed):
+    """Chance of its own for each end, so that threads don't share one."""
+    return [random.Random(seed * 10 + n) for n in range(4)]

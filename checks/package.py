@@ -1,0 +1,289 @@
+#!/usr/bin/env python3
+"""Makes the Debian package of the built program, and installs, upgrades, removes and purges it.
+
+    checks/package.py [--program FILE] [--only NAME] [--chroot] [--base FOLDER]
+
+- Anywhere: packaging/install.sh twice into one folder, with an operator's edits between; and
+  `systemd-analyze verify` of both units, if systemd is there.
+- With dpkg-deb and binutils: the package, the same octets twice, and lintian without an error, if
+  it is there.
+- With `--chroot`, as root and with debootstrap: the package in a Debian of its own, with a second
+  package that is a version above it and has other settings and another unit. What an operator wrote
+  stays through each step: settings, words, a file of `systemctl edit`, the folder of a second line.
+
+A chroot takes a minute and fetches some 60 MB, so the gate leaves it out. FOLDER is where what
+debootstrap made is kept and taken again. If a part can't run here, a line `left out: ..` says so.
+"""
+import glob
+import os
+import re
+import shutil
+import subprocess
+
+import frame
+
+TOP = frame.TOP
+SUITE = "bookworm"
+OWN_SETTINGS = "# what an operator wrote\n"
+OWN_SITE = 'allow = ["192.0.2.20"]\n'
+OWN_WORDS = "TELEGATE_OPTIONS=--site /etc/telegate/site.toml --status 127.0.0.1:8104\n"
+# What an operator writes, and what is never to be changed by a step.
+OWN = {
+    "etc/telegate/gateway.toml": OWN_SETTINGS,
+    "etc/telegate/site.toml": OWN_SITE,
+    "etc/telegate/telegate.env": OWN_WORDS,
+    "etc/telegate/north/gateway.toml": OWN_SETTINGS,
+    "etc/systemd/system/telegate.service.d/override.conf": "[Service]\nIPAddressAllow=192.0.2.10 192.0.2.20\n",
+}
+# What a package has to bring.
+BROUGHT = [
+    "usr/bin/telegate",
+    "usr/lib/systemd/system/telegate.service",
+    "usr/lib/systemd/system/telegate@.service",
+    "usr/share/man/man1/telegate.1.gz",
+    "usr/share/doc/telegate/README.md",
+    "usr/share/doc/telegate/copyright",
+    "usr/share/bash-completion/completions/telegate",
+    "usr/share/zsh/vendor-completions/_telegate",
+    "usr/share/fish/vendor_completions.d/telegate.fish",
+    "etc/telegate/gateway.toml",
+    "etc/telegate/site.toml",
+    "etc/telegate/telegate.env",
+]
+
+
+def run(words, **more):
+    more = {"stdin": subprocess.DEVNULL, "capture_output": True, "text": True, "timeout": 600, **more}
+    return subprocess.run([str(word) for word in words], **more)
+
+
+def read(path):
+    if not os.path.isfile(path):
+        return None
+    with open(path, encoding="utf-8", errors="replace") as file:
+        return file.read()
+
+
+def write(path, text):
+    os.makedirs(os.path.dirname(path), exist_ok=True)
+    with open(path, "w", encoding="utf-8") as file:
+        file.write(text)
+
+
+def said(ran):
+    return (ran.stdout + ran.stderr).strip()[-600:]
+
+
+def write_own(root):
+    for name, text in OWN.items():
+        write(os.path.join(root, name), text)
+
+
+def judge_own(count, root, step, names=None):
+    """What the operator wrote is as it was."""
+    for name in names or OWN:
+        count.case(read(os.path.join(root, name)) == OWN[name], f"{step}: {name} isn't what the operator wrote: {read(os.path.join(root, name))!r}")
+
+
+def judge_install_script(count, program, folder):
+    """install.sh into a folder, twice: the second call is an upgrade, and leaves what stands in etc."""
+    root = os.path.join(folder, "root")
+    script, environment = os.path.join(TOP, "packaging/install.sh"), {**os.environ, "DESTDIR": root, "TELEGATE_PROGRAM": program}
+    first = run([script], env=environment)
+    count.case(first.returncode == 0, f"install.sh: {said(first)}")
+    count.case(read(os.path.join(root, "etc/telegate/gateway.toml")) == read(os.path.join(TOP, "examples/full.toml")), "install.sh: no settings to begin with")
+    tried = run([program, "run", "--site", os.path.join(root, "etc/telegate/site.toml"), "nowhere"])
+    count.case(said(tried) == "cannot read nowhere", f"install.sh: the site's file to begin with: {said(tried)}")
+    count.case("--site /etc/telegate/site.toml" in (read(os.path.join(root, "etc/telegate/telegate.env")) or ""), "install.sh: the words don't name the site's file")
+    write_own(root)
+    unit = os.path.join(root, "usr/local/lib/systemd/system/telegate.service")
+    fresh = read(unit)
+    write(unit, "an older unit\n")
+    second = run([script], env=environment)
+    count.case(second.returncode == 0, f"install.sh, again: {said(second)}")
+    count.case(fresh and read(unit) == fresh, "install.sh, again: the unit isn't the new one")
+    judge_own(count, root, "install.sh, again")
+    removed = run([script, "--remove"], env=environment)
+    count.case(removed.returncode == 0, f"install.sh --remove: {said(removed)}")
+    judge_own(count, root, "install.sh --remove")
+    left = [path for path in glob.glob(os.path.join(root, "usr/**"), recursive=True) if os.path.isfile(path)]
+    count.case(not left, f"install.sh --remove: it leaves {left[:3]}")
+
+
+def judge_units(count, program, folder):
+    """systemd finds nothing wrong with the units, as they are installed beside the program."""
+    if not shutil.which("systemd-analyze"):
+        print("left out: systemd-analyze isn't there")
+        return
+    root = os.path.join(folder, "verified")
+    run([os.path.join(TOP, "packaging/install.sh")], env={**os.environ, "DESTDIR": root, "TELEGATE_PROGRAM": program})
+    units = os.path.join(root, "usr/local/lib/systemd/system")
+    for name, instance in (("telegate.service", "telegate.service"), ("telegate@.service", "telegate@north.service")):
+        text = (read(os.path.join(units, name)) or "").replace("/usr/local/bin/telegate", program)
+        write(os.path.join(folder, "units", name), text)
+        verified = run(["systemd-analyze", "verify", "--man=no", os.path.join(folder, "units", instance)])
+        count.case(verified.returncode == 0 and not said(verified), f"systemd-analyze verify {instance}: {said(verified)}")
+    line = read(os.path.join(folder, "units/telegate@.service"))
+    count.case("/etc/telegate/%i/" in line and not re.search(r"/etc/telegate/(?!%i/)", line), "telegate@.service reads settings that aren't its line's")
+
+
+def make_package(program, into):
+    os.makedirs(into, exist_ok=True)
+    made = run([os.path.join(TOP, "packaging/deb"), into], env={**os.environ, "TELEGATE_PROGRAM": program})
+    found = glob.glob(os.path.join(into, "*.deb"))
+    return (found[0] if found and made.returncode == 0 else None), said(made)
+
+
+def judge_package(count, program, folder):
+    """The package itself; answers its file."""
+    package, told = make_package(program, os.path.join(folder, "first"))
+    count.case(package, f"packaging/deb: {told}")
+    if not package:
+        return None
+    again, _ = make_package(program, os.path.join(folder, "second"))
+    with open(package, "rb") as one, open(again, "rb") as other:
+        count.case(one.read() == other.read(), "packaging/deb: two calls make two packages")
+    version = run([program, "--version"]).stdout.split()[1]
+    field = run(["dpkg-deb", "-f", package, "Version"]).stdout.strip()
+    count.case(field == version, f"packaging/deb: the package is {field}, the program {version}")
+    if shutil.which("lintian"):
+        words = ["lintian", "--fail-on", "error", *(["--allow-root"] if os.geteuid() == 0 else []), package]
+        looked = run(words)
+        count.case(looked.returncode == 0, f"lintian: {said(looked)}")
+    else:
+        print("left out: lintian isn't there")
+    return package
+
+
+def next_package(package, folder):
+    """A version above it, which ships other settings and another unit."""
+    image = os.path.join(folder, "image")
+    run(["dpkg-deb", "-R", package, image])
+    control = os.path.join(image, "DEBIAN/control")
+    write(control, re.sub(r"^Version: (.*)$", r"Version: \1+1", read(control), flags=re.M))
+    for name in ("etc/telegate/gateway.toml", "usr/lib/systemd/system/telegate.service"):
+        write(os.path.join(image, name), read(os.path.join(image, name)) + "# of the next version\n")
+    os.remove(os.path.join(image, "DEBIAN/md5sums"))
+    made = os.path.join(folder, "next.deb")
+    run(["dpkg-deb", "--root-owner-group", "--build", image, made])
+    return made
+
+
+class Chroot:
+    """A Debian of its own, in which packages are installed."""
+
+    def __init__(self, base, folder):
+        self.root = os.path.join(folder, "chroot")
+        run(["cp", "-a", "--reflink=auto", base, self.root])
+
+    def dpkg(self, *words):
+        return run(["chroot", self.root, "env", "-i", "PATH=/usr/sbin:/usr/bin:/sbin:/bin", "DEBIAN_FRONTEND=noninteractive", "dpkg", *words])
+
+    def install(self, package, *words):
+        shutil.copy(package, os.path.join(self.root, "tmp/telegate.deb"))
+        return self.dpkg(*words, "-i", "/tmp/telegate.deb")
+
+    def path(self, name):
+        return os.path.join(self.root, name)
+
+    def files(self):
+        """All that stands in it, but for dpkg's own books and caches."""
+        found = set()
+        for folder, folders, names in os.walk(self.root):
+            folders[:] = [name for name in folders if os.path.join(folder, name) not in (self.path("var/lib/dpkg"), self.path("var/log"), self.path("tmp"), self.path("proc"), self.path("sys"), self.path("dev"))]
+            found |= {os.path.relpath(os.path.join(folder, name), self.root) for name in [*folders, *names]}
+        return found
+
+
+def judge_first_installation(count, chroot, package):
+    installed = chroot.install(package)
+    count.case(installed.returncode == 0, f"install: {said(installed)}")
+    for name in BROUGHT:
+        count.case(os.path.exists(chroot.path(name)), f"install: no {name}")
+    ran = run(["chroot", chroot.root, "/usr/bin/telegate", "--version"])
+    count.case(ran.returncode == 0 and ran.stdout.startswith("telegate "), f"install: telegate --version: {said(ran)}")
+    checked = run(["chroot", chroot.root, "/usr/bin/telegate", "check", "/etc/telegate/gateway.toml"])
+    count.case(checked.stdout == "ok\n", f"install: the settings to begin with: {said(checked)}")
+    conffiles = chroot.dpkg("-s", "telegate").stdout
+    count.case(all(f" /etc/telegate/{name} " in conffiles for name in ("gateway.toml", "site.toml", "telegate.env")), "install: settings aren't conffiles")
+    wanted = glob.glob(chroot.path("etc/systemd/system/*.wants/telegate*"))
+    count.case(not wanted, f"install: it enables the service: {wanted}")
+
+
+def judge_upgrades(count, chroot, package, above):
+    """Up and down again, with settings that the operator and the package have changed."""
+    plain = chroot.install(package)
+    count.case(plain.returncode == 0, f"the same version again, without an answer to any question: {said(plain)}")
+    judge_own(count, chroot.root, "the same version again")
+    upgraded = chroot.install(above, "--force-confdef", "--force-confold")
+    count.case(upgraded.returncode == 0, f"upgrade: {said(upgraded)}")
+    judge_own(count, chroot.root, "upgrade")
+    count.case("next version" in (read(chroot.path("etc/telegate/gateway.toml.dpkg-dist")) or ""), "upgrade: the new settings aren't beside the operator's")
+    count.case("next version" in read(chroot.path("usr/lib/systemd/system/telegate.service")), "upgrade: the unit isn't the new one")
+    back = chroot.install(package, "--force-confdef", "--force-confold")
+    count.case(back.returncode == 0, f"back to the version before: {said(back)}")
+    judge_own(count, chroot.root, "back to the version before")
+
+
+def judge_removal(count, chroot, package, before):
+    """What was enabled and written by a service goes with a purge, and nothing else of an operator's."""
+    wants = chroot.path("etc/systemd/system/multi-user.target.wants")
+    os.makedirs(wants, exist_ok=True)
+    for name, unit in (("telegate.service", "telegate.service"), ("telegate@north.service", "telegate@.service")):
+        os.symlink(f"/usr/lib/systemd/system/{unit}", os.path.join(wants, name))
+    for name in ("telegate", "telegate-north"):
+        write(chroot.path(f"var/lib/private/{name}/state"), "what a service wrote\n")
+        os.symlink(f"private/{name}", chroot.path(f"var/lib/{name}"))
+    removed = chroot.dpkg("-r", "telegate")
+    count.case(removed.returncode == 0, f"remove: {said(removed)}")
+    count.case(not os.path.exists(chroot.path("usr/bin/telegate")), "remove: the program is there")
+    judge_own(count, chroot.root, "remove")
+    again = chroot.install(package, "--force-confdef", "--force-confold")
+    count.case(again.returncode == 0, f"install again: {said(again)}")
+    judge_own(count, chroot.root, "install again")
+    purged = chroot.dpkg("-P", "telegate")
+    count.case(purged.returncode == 0, f"purge: {said(purged)}")
+    judge_own(count, chroot.root, "purge", [name for name in OWN if "north" in name or "override" in name])
+    own = {name[: place.end()].rstrip("/") for name in OWN for place in re.finditer(r"/|$", name) if "north" in name or "override" in name}
+    left = {name for name in chroot.files() - before - own if "__pycache__" not in name and "var/cache" not in name}
+    count.case(left <= {"etc/systemd/system/multi-user.target.wants", "var/lib/private"}, f"purge: it leaves {sorted(left)[:5]}")
+
+
+def judge_chroot(count, package, base, folder):
+    made = base or os.path.join(folder, "base")
+    if os.geteuid() != 0 or not (os.path.isdir(made) or shutil.which("debootstrap")):
+        print("left out: the chroot (it takes root and debootstrap)")
+        return
+    if not os.path.isdir(made):
+        bootstrapped = run(["debootstrap", "--variant=minbase", SUITE, made], timeout=1800)
+        if bootstrapped.returncode:
+            print(f"left out: the chroot (debootstrap: {said(bootstrapped)})")
+            return
+    chroot = Chroot(made, folder)
+    before = chroot.files()
+    judge_first_installation(count, chroot, package)
+    write_own(chroot.root)
+    judge_upgrades(count, chroot, package, next_package(package, folder))
+    judge_removal(count, chroot, package, before)
+
+
+def a_package(count, program, folder):
+    """The package, and with --chroot its whole life."""
+    lacks = [name for name in ("dpkg-deb", "objdump", "strip") if not shutil.which(name)]
+    if lacks:
+        raise frame.Skipped(f"no {', '.join(lacks)}")
+    package = judge_package(count, program, folder)
+    if package and (count.options.chroot or count.options.base):
+        judge_chroot(count, package, count.options.base, folder)
+
+
+if __name__ == "__main__":
+    frame.main(
+        judge_install_script,
+        judge_units,
+        a_package,
+        words={
+            "--chroot": {"action": "store_true", "help": "install, upgrade and purge it in a Debian of its own"},
+            "--base": {"metavar": "FOLDER", "help": "where what debootstrap made is kept"},
+        },
+    )

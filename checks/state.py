@@ -1,0 +1,608 @@
+#!/usr/bin/env python3
+"""Kills `telegate run --state`, cuts its power, fills its disk, and starts it again: nothing is
+lost, and nothing is operated twice.
+
+    checks/state.py [--program FILE] [--only NAME] [--lives N] [--calls N] [--seed N]
+                    [--stretch SECONDS]
+
+Outstations outlive the gateway: they answer, lose answers, report and take commands. A control
+centre goes and comes.
+
+- The gateway is killed (SIGKILL) at random moments. Every other time the power is cut: its
+  directory is put back to what it had synced, with any part of what it had written since. A library
+  in front of the C library's keeps such a copy.
+- In other lives that library ends the process in front of its first call that changes a file of the
+  state, then of its second, and so on.
+- At the end each report has come, in order. No report came again that was known as acknowledged. No
+  command was operated twice, or confirmed by nobody.
+- Then come a second process on the directory, a state that can't be read, a disk that is full (a
+  limit of file size), and settings that change between two runs, row by row.
+
+All of it is on the loopback.
+"""
+import os
+import random
+import resource
+import shutil
+import signal
+import subprocess
+import tempfile
+import time
+
+import ends
+import frame
+from outstations import Field, Visitor, chances, faults_of
+
+# What was synced stands in a second directory. Each write since is kept until the next sync of its file, and a file beside the copy has
+# them, so that a power cut can leave any part of them. A change of names counts once the directory is synced.
+LIBRARY = r"""
+#define _GNU_SOURCE
+#include <dlfcn.h>
+#include <fcntl.h>
+#include <stdio.h>
+#include <stdlib.h>
+#include <string.h>
+#include <sys/stat.h>
+#include <sys/types.h>
+#include <unistd.h>
+
+static const char *watched, *copy;
+// How many calls that change a watched file are left until the process ends in front of one; 0: it doesn't.
+static long left;
+
+__attribute__((constructor)) static void begin(void) {
+    watched = getenv("WATCHED");
+    copy = getenv("COPY");
+    const char *cut = getenv("CUT_AT");
+    left = cut ? atol(cut) : 0;
+}
+
+// The path of a file that is watched, in the copy; or nothing.
+static int place(int file, char *out, size_t room, const char *suffix) {
+    char link[64], path[4096];
+    snprintf(link, sizeof link, "/proc/self/fd/%d", file);
+    ssize_t n = watched ? readlink(link, path, sizeof path - 1) : -1;
+    if (n < 0) return 0;
+    path[n] = 0;
+    size_t front = strlen(watched);
+    if (strncmp(path, watched, front) || (path[front] && path[front] != '/')) return 0;
+    snprintf(out, room, "%s%s%s", copy, path + front, suffix);
+    return 1;
+}
+
+static void end_if_due(int file) {
+    char path[4200];
+    if (left > 0 && place(file, path, sizeof path, "") && --left == 0) _exit(137);
+}
+
+// A block of zeros, of which some thousand stand behind each checkpoint: they aren't counted.
+static int is_blank(const char *octets, size_t count) {
+    while (count && !octets[count - 1]) count--;
+    return !count;
+}
+
+static void note(int file, char kind, off_t at, const void *octets, size_t count) {
+    char path[4200];
+    if (!place(file, path, sizeof path, ".since")) return;
+    int to = open(path, O_WRONLY | O_CREAT | O_APPEND, 0600);
+    long head[3] = {kind, at, (long)count};
+    if (to < 0) return;
+    if (write(to, head, sizeof head) < 0 || (count && octets && write(to, octets, count) < 0)) perror("note");
+    close(to);
+}
+
+// What was written since is in the copy too.
+static void settle(int file) {
+    char path[4200], since[4200];
+    if (!place(file, path, sizeof path, "") || !place(file, since, sizeof since, ".since")) return;
+    int from = open(since, O_RDONLY), to = open(path, O_RDWR | O_CREAT, 0600);
+    long head[3];
+    while (from >= 0 && to >= 0 && read(from, head, sizeof head) == sizeof head) {
+        if (head[0] == 't') {
+            if (ftruncate64(to, head[1])) perror("settle");
+            continue;
+        }
+        char *octets = malloc(head[2]);
+        if (read(from, octets, head[2]) == head[2]) {
+            if (syscall(18 /* pwrite64 */, to, octets, head[2], head[1]) < 0) perror("settle");
+        }
+        free(octets);
+    }
+    if (from >= 0) close(from);
+    if (to >= 0) close(to);
+    unlink(since);
+}
+
+#define REAL(type, name, ...) static type (*real)(__VA_ARGS__); if (!real) real = dlsym(RTLD_NEXT, name)
+
+ssize_t pwrite64(int file, const void *octets, size_t count, off64_t at) {
+    REAL(ssize_t, "pwrite64", int, const void *, size_t, off64_t);
+    if (!is_blank(octets, count)) end_if_due(file);
+    ssize_t n = real(file, octets, count, at);
+    if (n > 0) note(file, 'w', at, octets, n);
+    return n;
+}
+
+ssize_t pwrite(int file, const void *octets, size_t count, off_t at) { return pwrite64(file, octets, count, at); }
+
+int ftruncate64(int file, off64_t size) {
+    REAL(int, "ftruncate64", int, off64_t);
+    end_if_due(file);
+    int answer = real(file, size);
+    char path[4200];
+    if (!answer && place(file, path, sizeof path, "")) note(file, 't', size, NULL, 0);
+    return answer;
+}
+
+int ftruncate(int file, off_t size) { return ftruncate64(file, size); }
+
+static int synced(int file, int answer) {
+    if (!answer) settle(file);
+    return answer;
+}
+
+int fdatasync(int file) {
+    REAL(int, "fdatasync", int);
+    end_if_due(file);
+    return synced(file, real(file));
+}
+
+int fsync(int file) {
+    REAL(int, "fsync", int);
+    end_if_due(file);
+    return synced(file, real(file));
+}
+"""
+
+SETTINGS = """[line]
+link = 1
+cause = 1
+ca = 1
+ioa = 2
+answer_ms = {answer_ms}
+retries = {retries}
+silence = "{silence}"
+burst = {burst}
+queue = {queue}
+[tcp]
+k = {k}
+w = 1
+{stations}[live]
+line = "{line}"
+listen = "{door[0]}:{door[1]}"
+"""
+
+USUAL = {"answer_ms": 60, "retries": 2, "silence": "hold", "burst": 8, "queue": 200, "k": 12}
+
+
+class Gateway:
+    """`telegate run --state` over settings, which is started, killed and started again."""
+
+    def __init__(self, program, folder, field, door, *, environment=None, flags=(), **settings):
+        self.program, self.folder, self.field, self.door = program, folder, field, door
+        self.config = os.path.join(folder, "gateway.toml")
+        self.state = os.path.join(folder, "state")
+        self.environment, self.flags, self.process = environment, list(flags), None
+        self.said = ""
+        self.set(**settings)
+
+    def set(self, stations=None, **settings):
+        """Writes the file of settings anew."""
+        listed = stations or [(address, address, "") for address in self.field.stations]
+        tables = "".join(f"[[station]]\naddress = {a}\nca = {ca}\n{more}" for a, ca, more in listed)
+        with open(self.config, "w") as file:
+            file.write(SETTINGS.format(**{**USUAL, **settings}, stations=tables, line=self.field.place(), door=self.door))
+
+    def start(self, **more):
+        words = [self.program, "run", "--redial", "--log", "--state", self.state, *self.flags, self.config]
+        self.errors = tempfile.TemporaryFile("w+")
+        self.process = subprocess.Popen(words, stdin=subprocess.DEVNULL, stderr=self.errors, env=self.environment, **more)
+
+    def kill(self):
+        """Kills it, and answers what it logged."""
+        self.process.kill()
+        self.process.wait()
+        self.errors.seek(0)
+        told = self.errors.read()
+        self.errors.close()
+        self.said += told
+        return told
+
+    def waits(self, text, seconds=ends.PATIENCE):
+        """Whether its log has this text soon."""
+        end = time.monotonic() + seconds
+        while time.monotonic() < end:
+            self.errors.seek(0)
+            if text in self.errors.read():
+                return True
+            time.sleep(0.02)
+        return False
+
+
+def shadowed(folder):
+    """The environment in which what is synced stands in a second directory, too."""
+    library = ends.library(folder, "synced", LIBRARY)
+    os.makedirs(os.path.join(folder, "copy"))
+    return dict(os.environ, LD_PRELOAD=library, WATCHED=os.path.join(folder, "state"), COPY=os.path.join(folder, "copy"))
+
+
+def cut_power(folder, chance):
+    """Puts the directory back to what was synced, with a part of what was written since."""
+    state, copy = os.path.join(folder, "state"), os.path.join(folder, "copy")
+    if not os.path.isdir(state):
+        return
+    for name in sorted(os.listdir(copy)):
+        if name.endswith(".since"):
+            tear(os.path.join(copy, name), chance)
+    for name in os.listdir(state):
+        # Files that were never synced by themselves are there by their names alone.
+        source, target = os.path.join(copy, name), os.path.join(state, name)
+        if os.path.exists(source):
+            shutil.copyfile(source, target)
+
+
+def tear(path, chance):
+    """Writes a part of what was written since the last sync: each sector old or new."""
+    name = path[: -len(".since")]
+    with open(path, "rb") as file:
+        octets = file.read()
+    at = 0
+    with open(name, "r+b" if os.path.exists(name) else "w+b") as copy:
+        while at + 24 <= len(octets):
+            kind, where, count = (int.from_bytes(octets[at + n : at + n + 8], "little") for n in (0, 8, 16))
+            at += 24
+            if kind == ord("t"):
+                if chance.random() < 0.5:
+                    copy.truncate(where)
+                continue
+            piece, at = octets[at : at + count], at + count
+            for begin in range(where - where % 512, where + len(piece), 512):
+                first, last = max(begin, where), min(begin + 512, where + len(piece))
+                if chance.random() < 0.5:
+                    copy.seek(first)
+                    copy.write(piece[first - where : last - where])
+    os.remove(path)
+
+
+def begins(field):
+    """A life begins with its first request, however long a busy machine lets it wait. (A full queue may let none go out.)"""
+    before, end = field.requests, time.monotonic() + 3
+    while field.requests == before and time.monotonic() < end:
+        time.sleep(0.01)
+
+
+class Lives:
+    """Many lives of one gateway, between outstations and a control centre that outlive it."""
+
+    def __init__(self, program, folder, seed, *, commands=0.1, **settings):
+        station_chance, visit_chance, self.kill_chance, self.report_chance = chances(seed)
+        self.folder = folder
+        self.field = Field([1, 2, 3], station_chance, 0.05)
+        door = ("127.0.0.1", ends.free_port())
+        self.gateway = Gateway(program, folder, self.field, door, environment=shadowed(folder), **settings)
+        self.visitor = Visitor(door, [1, 2, 3], visit_chance, commands=commands)
+        self.count = 0
+
+    def taken(self):
+        return sum(len(station.accepted) for station in self.field.stations.values())
+
+    def live(self, seconds):
+        """It runs so long, or until it ends by itself, and its stations have reports."""
+        end = time.monotonic() + seconds
+        while time.monotonic() < end and self.gateway.process.poll() is None:
+            time.sleep(0.02)
+            self.field.stations[self.report_chance.choice([1, 2, 3])].report(self.report_chance.choice([0, 0, 1, 3]))
+
+    def end(self):
+        """It is killed, and every other time its power is cut."""
+        self.gateway.kill()
+        if self.count % 2:
+            cut_power(self.folder, self.kill_chance)
+        self.count += 1
+
+    def judge(self, count, name):
+        """One more life without faults, in which all that is left has to come."""
+        field, visitor, gateway = self.field, self.visitor, self.gateway
+        visitor.commands, visitor.stays, field.loss = 0, 1, 0
+        gateway.start()
+        # Until all have come, as long as some come.
+        heard, end = 0, time.monotonic() + ends.PATIENCE
+        while time.monotonic() < end and any("didn't come" in fault for fault in faults_of(field, visitor)):
+            if heard < (now := sum(map(len, visitor.connections))):
+                heard, end = now, time.monotonic() + ends.PATIENCE
+            time.sleep(0.05)
+        time.sleep(0.2)
+        gateway.kill()
+        visitor.is_over = True
+        faults = faults_of(field, visitor)
+        made = sum(station.made for station in field.stations.values())
+        resets = [station.resets for station in field.stations.values()]
+        told = f"{self.count} lives, {made} reports, {self.taken()} commands, resets {resets}, {len(visitor.connections)} connections"
+        print(f"{name}: {told}", flush=True)
+        count.judge(name, not faults and made > self.count and self.taken() > 0, (faults, made, self.taken()))
+        told = gateway.said
+        count.judge(f"{name}: what it tells", "put aside" not in told and "isn't kept" not in told, told[-2000:])
+        field.server.close()
+
+
+def live_through(count, program, name, lives, seed, stretch, **settings):
+    """Many lives, each ended by a kill or a power cut."""
+    with tempfile.TemporaryDirectory() as folder:
+        all_lives = Lives(program, folder, seed, **settings)
+        chance = all_lives.kill_chance
+        # On a busy machine more lives may be needed until commands are taken.
+        while all_lives.count < lives or (not all_lives.taken() and all_lives.count < 5 * lives):
+            all_lives.gateway.start()
+            if all_lives.count % 4:
+                begins(all_lives.field)
+            all_lives.live(chance.choice([0.05, 0.15, 0.3, 0.6]) * chance.random() + 0.05 + stretch)
+            all_lives.end()
+        all_lives.judge(count, name)
+
+
+def ended_at_each_call(count, program, name, calls, seed, **settings):
+    """Lives that end in front of the first call that changes a file of the state, of the second, and so on; behind so many calls, in
+    which commands come through, in steps of three."""
+    with tempfile.TemporaryDirectory() as folder:
+        # The lives are short, so that commands have to come often.
+        all_lives = Lives(program, folder, seed, commands=0.8, **settings)
+        gateway, reached = all_lives.gateway, 0
+        usual = gateway.environment
+        chosen = [*range(1, calls + 1), *range(calls + 3, 4 * calls, 3)]
+        for call in chosen:
+            gateway.environment = dict(usual, CUT_AT=str(call))
+            gateway.start()
+            all_lives.live(ends.PATIENCE)
+            reached += gateway.process.poll() == 137
+            all_lives.end()
+        gateway.environment = usual
+        count.judge(f"{name}: each life ends at its call", reached == len(chosen), (reached, len(chosen)))
+        all_lives.judge(count, name)
+
+
+def quiet(program, folder, *, seed=1, loss=0, addresses=(1, 2), environment=None, flags=(), **settings):
+    """A gateway over outstations that lose nothing, not started yet."""
+    field = Field(list(addresses), random.Random(seed), loss)
+    door = ("127.0.0.1", ends.free_port())
+    return Gateway(program, folder, field, door, environment=environment, flags=flags, **settings)
+
+
+def queue_up(gateway, reports):
+    """So many reports of each station are polled, and nobody takes them."""
+    for station in gateway.field.stations.values():
+        station.report(reports)
+    end = time.monotonic() + ends.PATIENCE
+    while time.monotonic() < end and any(station.given < station.made for station in gateway.field.stations.values()):
+        time.sleep(0.02)
+    # The answer to the last report's poll is heard once the next poll has come.
+    heard = gateway.field.requests
+    while gateway.field.requests < heard + 2 * len(gateway.field.stations) and time.monotonic() < end:
+        time.sleep(0.02)
+
+
+def drained(gateway):
+    """The reports that a control centre gets now, by station, until as many came as the stations gave."""
+    visitor = Visitor(gateway.door, [], random.Random(1), commands=0, stays=1)
+    end = time.monotonic() + ends.PATIENCE
+    wanted = sum(station.given for station in gateway.field.stations.values())
+    while time.monotonic() < end and len({report for heard in visitor.connections for report in heard}) < wanted:
+        time.sleep(0.05)
+    time.sleep(0.3)
+    visitor.is_over = True
+    visitor.join()
+    got = {address: [n for heard in visitor.connections for where, n in heard if where == address] for address in gateway.field.stations}
+    return got
+
+
+def all_came(gateway):
+    return {address: list(range(1, station.given + 1)) for address, station in gateway.field.stations.items()}
+
+
+def a_second_process(count, program):
+    with tempfile.TemporaryDirectory() as folder:
+        gateway = quiet(program, folder)
+        gateway.start()
+        gateway.waits("station 2 up")
+        before = {name: os.path.getsize(os.path.join(gateway.state, name)) for name in os.listdir(gateway.state)}
+        second = subprocess.run(
+            [program, "run", "--redial", "--log", "--state", gateway.state, gateway.config], capture_output=True, text=True, timeout=60
+        )
+        count.judge("a second process ends with 3", second.returncode == 3 and "in use" in second.stderr, (second.returncode, second.stderr))
+        after = {name: os.path.getsize(os.path.join(gateway.state, name)) for name in os.listdir(gateway.state)}
+        count.judge("and touches nothing", before == after, (before, after))
+        queue_up(gateway, 5)
+        got = drained(gateway)
+        count.judge("the first goes on", got == all_came(gateway), got)
+        gateway.kill()
+        gateway.field.server.close()
+
+
+def a_state_that_is_no_state(count, program):
+    with tempfile.TemporaryDirectory() as folder:
+        gateway = quiet(program, folder)
+        gateway.start()
+        gateway.waits("listening")
+        queue_up(gateway, 3)
+        gateway.kill()
+        for name in os.listdir(gateway.state):
+            path = os.path.join(gateway.state, name)
+            if os.path.getsize(path) > 100:
+                with open(path, "r+b") as file:
+                    file.seek(90)
+                    file.write(b"\xff" * 8)
+        gateway.start()
+        count.judge("a state that can't be read is put aside", gateway.waits("put aside"), gateway.said)
+        count.judge("its files stay", any("unread" in name for name in os.listdir(gateway.state)), os.listdir(gateway.state))
+        queue_up(gateway, 3)
+        got = drained(gateway)
+        count.judge("and the run begins anew", all(numbers[-3:] == [4, 5, 6] for numbers in got.values()), got)
+        gateway.kill()
+        gateway.field.server.close()
+
+
+def limit_files(size):
+    """In a child: no file may grow beyond this, and who tries gets an error."""
+
+    def limit():
+        signal.signal(signal.SIGXFSZ, signal.SIG_IGN)
+        resource.setrlimit(resource.RLIMIT_FSIZE, (size, resource.RLIM_INFINITY))
+
+    return limit
+
+
+def a_full_disk(count, program):
+    """The disk is full from the start: by default the run goes on and says so; what it has goes out; the next start trusts nothing."""
+    with tempfile.TemporaryDirectory() as folder:
+        gateway = quiet(program, folder)
+        gateway.start()
+        gateway.waits("listening")
+        queue_up(gateway, 4)
+        gateway.kill()
+        gateway.start(preexec_fn=limit_files(1_000_000))
+        count.judge("a full disk is told", gateway.waits("isn't kept"), gateway.said)
+        queue_up(gateway, 2)
+        gateway.kill()
+        resets = [station.resets for station in gateway.field.stations.values()]
+        gateway.start()
+        count.judge("the next start knows it", gateway.waits("stale"), gateway.said)
+        got = drained(gateway)
+        # What was polled while the state wasn't kept is lost, and a gap tells it; what was kept comes.
+        kept = all(numbers[:4] == [1, 2, 3, 4] and numbers == sorted(set(numbers)) for numbers in got.values())
+        count.judge("what was kept comes", kept, got)
+        told = gateway.kill()
+        anew = [station.resets for station in gateway.field.stations.values()]
+        count.judge("each link is reset once", anew == [n + 1 for n in resets], (resets, anew))
+        count.judge("and the gaps are told", all(f"station {a} gap" in told for a in gateway.field.stations), told)
+        gateway.flags = ["--state-or-stop"]
+        gateway.start(preexec_fn=limit_files(1_000_000))
+        try:
+            status = gateway.process.wait(timeout=ends.PATIENCE)
+        except subprocess.TimeoutExpired:
+            status = None
+        count.judge("with --state-or-stop it ends with 3", status == 3, status)
+        gateway.kill()
+        gateway.field.server.close()
+
+
+CHANGES = [
+    # the settings that change, and how often each link is reset by it
+    ({"answer_ms": 90}, 0),
+    ({"retries": 0}, 0),
+    ({"burst": 1}, 0),
+    ({"silence": "reset"}, 0),
+    ({"k": 3}, 0),
+    ({"queue": 6}, 0),
+    ({"stations": [(2, 2, ""), (1, 1, "")]}, 0),
+    ({"stations": [(1, 1, "select = true\n"), (2, 2, "select = true\n")]}, 1),
+]
+
+
+def settings_that_change(count, program, settings, resets):
+    with tempfile.TemporaryDirectory() as folder:
+        gateway = quiet(program, folder)
+        gateway.start()
+        gateway.waits("listening")
+        queue_up(gateway, 10)
+        before = [station.resets for station in gateway.field.stations.values()]
+        gateway.kill()
+        gateway.set(**settings)
+        gateway.start()
+        told = gateway.waits("goes on")
+        got = drained(gateway)
+        queue_up(gateway, 2)
+        more = drained(gateway)
+        both = {address: got[address] + [n for n in more[address] if n > 10] for address in got}
+        after = [station.resets for station in gateway.field.stations.values()]
+        said = gateway.kill()
+        places = [said.find(text) for text in ("state: settings have changed", "state: goes on")]
+        count.judge(f"{settings}: told", told and 0 <= places[0] < places[1], said)
+        count.judge(f"{settings}: nothing is lost", both == all_came(gateway), both)
+        count.judge(f"{settings}: links", after == [n + resets for n in before], (before, after))
+        gateway.start()
+        told = gateway.waits("goes on")
+        said = gateway.kill()
+        count.judge(f"{settings}: not told again", told and "settings have changed" not in said, said)
+        gateway.field.server.close()
+
+
+def a_command_at_a_restart(count, program):
+    """A command on the line of a silent station is given up at a restart, and its station's link is reset without a gap."""
+    with tempfile.TemporaryDirectory() as folder:
+        gateway = quiet(program, folder)
+        gateway.start()
+        gateway.waits("listening")
+        queue_up(gateway, 2)
+        gateway.field.mute_at_command = True
+        visitor = Visitor(gateway.door, [1], random.Random(1), commands=1, stays=1)
+        end = time.monotonic() + ends.PATIENCE
+        while not gateway.field.silent and time.monotonic() < end:
+            time.sleep(0.02)
+        visitor.commands = 0
+        time.sleep(0.5)
+        gateway.kill()
+        visitor.is_over = True
+        gateway.field.mute_at_command = False
+        gateway.field.silent.clear()
+        station = gateway.field.stations[1]
+        resets = station.resets
+        gateway.start()
+        queue_up(gateway, 2)
+        count.judge("a command isn't sent behind a restart", not station.accepted, station.accepted)
+        count.judge("the station's link was reset", station.resets == resets + 1, (resets, station.resets))
+        count.judge("and no other", gateway.field.stations[2].resets == 1, gateway.field.stations[2].resets)
+        got = drained(gateway)
+        told = gateway.kill()
+        for heard in visitor.connections:
+            for where, number in heard:
+                got[where].append(number)
+        count.judge("no report is lost by it", all(sorted(set(n)) == [1, 2, 3, 4] for n in got.values()), got)
+        count.judge("and no gap told", "gap" not in told, told)
+        gateway.field.server.close()
+
+
+def lives(name, place, **settings):
+    """The part that lives through many lives of a gateway with these settings."""
+
+    def judged(count, program, _folder):
+        given = count.options
+        live_through(count, program, name, given.lives, given.seed + place, given.stretch, **settings)
+
+    return name, judged
+
+
+def calls(name, place, **settings):
+    """The part whose lives end in front of each call that changes a file of the state."""
+
+    def judged(count, program, _folder):
+        given = count.options
+        ended_at_each_call(count, program, name, given.calls, given.seed + place, **settings)
+
+    return name, judged
+
+
+def alone(name, part, *more):
+    """The part of this name, which makes its folder itself."""
+    return name, lambda count, program, _folder: part(count, program, *more)
+
+
+if __name__ == "__main__":
+    # Most of the time they wait, so they run side by side.
+    frame.main(
+        lives("hold", 0),
+        lives("reset", 1, silence="reset", retries=10),
+        lives("full queue", 2, queue=6, k=2),
+        calls("each call", 3),
+        calls("each call, reset", 4, silence="reset", retries=10),
+        alone("second", a_second_process),
+        alone("unread", a_state_that_is_no_state),
+        alone("full disk", a_full_disk),
+        alone("command", a_command_at_a_restart),
+        *(alone(f"settings {n}", settings_that_change, *row) for n, row in enumerate(CHANGES)),
+        side_by_side=True,
+        words={
+            "--lives": {"type": int, "default": 60},
+            "--calls": {"type": int, "default": 60, "help": "up to how many calls a life ends in front of each"},
+            "--seed": {"type": int, "default": 1},
+            "--stretch": {"type": float, "default": 0.0, "help": "how much longer each life is, in s, for a program that starts slowly"},
+        },
+    )

@@ -1,0 +1,464 @@
+#!/usr/bin/env python3
+"""Looks at the status door of `telegate run --status`, and judges each page, what visitors may do,
+and what they cost.
+
+    checks/status.py [--program FILE] [--only NAME] [--door HOST:PORT]
+
+- Outstations play behind a line while pages are fetched. Each page's numbers have to be those of
+  what the stations did.
+- Then comes the door itself: any path, any method, garbage, octets one at a time, a request of 10
+  KB, a hundred connections at once, readers that read nothing, and readers that read slowly.
+- Settings of 32 stations fit a page.
+- Python reads the JSON and the HTML. Prometheus' own `promtool` reads the metrics. Headless
+  Chromium shows the page, on a screen of a telephone and on a large one, light and dark. The last
+  two are skipped if Debian's package isn't installed.
+- With a flood of visitors a station is polled at least 0.9 times as often as without.
+
+With --door the script judges only the door, of whatever listens there. All of it is on the
+loopback.
+"""
+import html.parser
+import json
+import os
+import random
+import re
+import shutil
+import socket
+import subprocess
+import sys
+import tempfile
+import threading
+import time
+
+import ends
+import frame
+import outstations
+
+LINE = "[line]\nlink = 1\ncause = 1\nca = 1\nioa = 2\nanswer_ms = 50\nretries = 1\nqueue = 1000\n"
+PATHS = {
+    "/": "text/html; charset=utf-8",
+    "/status.json": "application/json",
+    "/metrics": "text/plain; version=0.0.4; charset=utf-8",
+    "/status.txt": "text/plain; charset=utf-8",
+}
+
+
+class Answer:
+    """What came over a connection, in its parts."""
+
+    def __init__(self, octets):
+        self.octets = octets
+        head, _, self.body = octets.partition(b"\r\n\r\n")
+        lines = head.decode("latin-1").split("\r\n")
+        self.status = lines[0]
+        self.fields = dict(line.split(": ", 1) for line in lines[1:])
+
+    def code(self):
+        return int(self.status.split(" ")[1]) if self.status.startswith("HTTP/1.1 ") else 0
+
+
+def all_of(stream):
+    octets = b""
+    try:
+        while piece := stream.recv(65536):
+            octets += piece
+    except ConnectionResetError:
+        pass
+    return octets
+
+
+def ask(door, request, pause=0.0):
+    """The answer to these octets, which go out at once, or one at a time with a pause."""
+    with socket.create_connection(door, timeout=ends.PATIENCE) as stream:
+        for piece in [request] if not pause else [request[i : i + 1] for i in range(len(request))]:
+            stream.sendall(piece)
+            time.sleep(pause)
+        return Answer(all_of(stream))
+
+
+def get(door, path, method="GET", version="HTTP/1.1"):
+    return ask(door, f"{method} {path} {version}\r\nHost: {door[0]}\r\n\r\n".encode())
+
+
+class Page(html.parser.HTMLParser):
+    """The rows of an HTML page, each a list of its cells; its elements, in their order; and each address in it."""
+
+    def __init__(self, text):
+        super().__init__()
+        self.rows, self.open, self.odd, self.links, self.tags = [], [], [], [], set()
+        self.feed(text)
+
+    def handle_starttag(self, tag, attributes):
+        self.tags.add(tag)
+        self.links += [value for name, value in attributes if name in ("src", "href", "action", "srcset")]
+        if tag == "tr":
+            self.rows.append([])
+        if tag in ("td", "th"):
+            self.rows[-1].append("")
+        if tag not in ("meta", "path"):
+            self.open.append(tag)
+
+    def handle_startendtag(self, tag, attributes):
+        self.handle_starttag(tag, attributes)
+
+    def handle_endtag(self, tag):
+        if not self.open or self.open.pop() != tag:
+            self.odd.append(tag)
+
+    def handle_data(self, text):
+        if self.open and self.open[-1] in ("td", "th"):
+            self.rows[-1][-1] += text
+
+
+def metrics_of(text):
+    """The samples of a text in Prometheus' format, by name and labels."""
+    samples = {}
+    for line in text.splitlines():
+        if not line.startswith("#"):
+            name, value = line.rsplit(" ", 1)
+            samples[name] = float(value)
+    return samples
+
+
+def pages(count, door):
+    """The four pages, as they are for whoever asks."""
+    for path, kind in PATHS.items():
+        for version in ("HTTP/1.0", "HTTP/1.1"):
+            answer = get(door, path, version=version)
+            name = f"GET {path} {version}"
+            count.judge(name, answer.status == "HTTP/1.1 200 OK", answer.status)
+            count.judge(f"{name}: type", answer.fields.get("Content-Type") == kind, answer.fields)
+            count.judge(f"{name}: length", int(answer.fields.get("Content-Length", -1)) == len(answer.body), answer.fields)
+            count.judge(f"{name}: close", answer.fields.get("Connection") == "close", answer.fields)
+            count.judge(f"{name}: no-store", answer.fields.get("Cache-Control") == "no-store", answer.fields)
+        head = get(door, path, "HEAD")
+        count.judge(f"HEAD {path}", head.code() == 200 and not head.body, head.octets)
+        count.judge(f"HEAD {path}: length", abs(int(head.fields["Content-Length"]) - len(answer.body)) < 100, head.fields)
+        with_query = get(door, path + "?a=b&c")
+        count.judge(f"{path} with a query", with_query.code() == 200, with_query.status)
+    stations = json.loads(get(door, "/status.json").body)["stations"]
+    page = Page(get(door, "/").body.decode())
+    count.judge("HTML: each element is closed", not page.open and not page.odd, (page.open, page.odd))
+    count.judge("HTML: no script, nothing from elsewhere", "script" not in page.tags and not page.links, (page.tags, page.links))
+    names = [row[0] for row in page.rows if len(row) == 10][1:]
+    count.judge("HTML: the names", names == [station["name"] for station in stations], names)
+    samples = metrics_of(get(door, "/metrics").body.decode())
+    for station in stations:
+        label = '{station="%d"}' % station["address"]
+        right = samples.get("telegate_station_up" + label) == (station["standing"] == "up")
+        count.judge(f"metrics: station {station['address']} up", right, samples)
+    table = get(door, "/status.txt").body.decode()
+    count.judge("table: its first word", table.split(":")[0] in ("OK", "WARNING", "CRITICAL"), table[:80])
+    rows = [line for line in table.splitlines() if re.match(r" *\d+ +\d+  ", line)]
+    count.judge("table: a row a station", len(rows) == len(stations), table)
+
+
+def promtool(count, door):
+    tool = shutil.which("promtool")
+    if tool is None:
+        print("skipped: promtool isn't there (Debian's package prometheus)")
+        return
+    text = get(door, "/metrics").body
+    judged = subprocess.run([tool, "check", "metrics"], input=text, capture_output=True)
+    count.judge("promtool", judged.returncode == 0 and not judged.stderr, (judged.returncode, judged.stderr.decode()))
+
+
+def chromium(count, door, folder):
+    program = shutil.which("chromium") or shutil.which("chromium-browser")
+    if program is None:
+        print("skipped: chromium isn't there (Debian's package chromium)")
+        return
+    for name, size, flags in (
+        ("telephone-light", "400,800", []),
+        ("large-light", "1300,900", []),
+        ("large-dark", "1300,900", ["--force-dark-mode", "--enable-features=WebContentsForceDark"]),
+    ):
+        file = os.path.join(folder, f"status-{name}.png")
+        command = [program, "--headless", "--no-sandbox", "--disable-gpu", f"--user-data-dir={folder}/chromium", f"--window-size={size}", *flags]
+        shown = subprocess.run([*command, f"--screenshot={file}", f"http://{door[0]}:{door[1]}/"], capture_output=True, timeout=120)
+        is_there = os.path.exists(file) and os.path.getsize(file) > 5000
+        count.judge(f"Chromium, {name}", is_there, (shown.returncode, shown.stderr.decode()[-300:]))
+        print(f"{name}: {file}")
+
+
+def refusals(count, door):
+    """What is no look at a page."""
+    for path in ("/status", "/status.json/", "//", "/../etc/passwd", "*", "/%2e"):
+        answer = get(door, path)
+        count.judge(f"GET {path}", answer.code() == 404, answer.status)
+    for method in ("POST", "PUT", "DELETE", "OPTIONS", "TRACE", "get"):
+        answer = get(door, "/", method)
+        count.judge(method, answer.code() == 405 and answer.fields.get("Allow") == "GET, HEAD", (answer.status, answer.fields))
+    for name, octets in (
+        ("an APDU", ends.START),
+        ("a line frame", ends.fixed(9, 1)),
+        ("zeros", bytes(40)),
+        ("TLS", bytes.fromhex("16030100") + bytes(60)),
+        ("no version", b"GET /\r\n\r\n"),
+        ("HTTP/2", b"PRI * HTTP/2.0\r\n\r\nSM\r\n\r\n"),
+        ("a name with a space", b"GET / HTTP/1.1\r\nHo st: a\r\n\r\n"),
+    ):
+        answer = ask(door, octets)
+        count.judge(name, answer.code() == 400, answer.octets[:80])
+    chance = random.Random(44)
+    for _ in range(50):
+        octets = bytes([0x80 + chance.randrange(128)]) + chance.randbytes(chance.randrange(1, 2000))
+        count.judge("garbage", ask(door, octets).code() == 400, octets)
+    long = b"GET / HTTP/1.1\r\n" + b"X-Long: " + b"a" * 10_000 + b"\r\n\r\n"
+    count.judge("a request of 10 KB", ask(door, long).code() == 431, ask(door, long).status)
+    fits = b"GET / HTTP/1.1\r\nX-Long: " + b"a" * (8192 - 28) + b"\r\n\r\n"
+    count.judge("a request of 8,192 octets", len(fits) == 8192 and ask(door, fits).code() == 200, len(fits))
+    count.judge("one of 8,193 octets", ask(door, fits.replace(b"a", b"aa", 1)).code() == 431, "")
+    many = b"GET / HTTP/1.1\r\n" + b"".join(b"X-%d: a\r\n" % i for i in range(65)) + b"\r\n"
+    count.judge("65 header fields", ask(door, many).code() == 431, ask(door, many).status)
+    slow = ask(door, b"GET /status.txt HTTP/1.1\r\n\r\n", pause=0.01)
+    count.judge("an octet at a time", slow.code() == 200, slow.status)
+
+
+def visitors(count, door):
+    """Slow readers, readers that read nothing, those who say nothing, and many at once."""
+    with socket.create_connection(door, timeout=ends.PATIENCE) as stream:
+        stream.setsockopt(socket.SOL_SOCKET, socket.SO_RCVBUF, 2048)
+        stream.sendall(b"GET / HTTP/1.1\r\n\r\n")
+        octets = b""
+        while piece := stream.recv(1500):
+            octets += piece
+            time.sleep(0.01)
+    slow = Answer(octets)
+    count.judge("a slow reader", slow.code() == 200 and len(slow.body) == int(slow.fields["Content-Length"]), len(octets))
+    began = time.monotonic()
+    with socket.create_connection(door, timeout=ends.PATIENCE) as mute:
+        count.judge("who says nothing is sent away", all_of(mute) == b"", "")
+    passed = time.monotonic() - began
+    count.judge("after two seconds", 1.5 < passed < 4, passed)
+    sitting = [socket.create_connection(door, timeout=ends.PATIENCE) for _ in range(4)]
+    time.sleep(0.3)
+    began = time.monotonic()
+    fifth = ask_or_none(door)
+    count.judge("a fifth is closed at once", not fifth and time.monotonic() - began < 1, fifth)
+    time.sleep(2.5)
+    count.judge("the seats are free again", get(door, "/status.txt").code() == 200, "")
+    for stream in sitting:
+        stream.close()
+    answers = []
+    threads = [threading.Thread(target=lambda: answers.append(ask_or_none(door))) for _ in range(100)]
+    for thread in threads:
+        thread.start()
+    for thread in threads:
+        thread.join()
+    whole = [a for a in answers if a and Answer(a).code() == 200 and len(Answer(a).body) == int(Answer(a).fields["Content-Length"])]
+    count.judge("of a hundred at once some are served", len(whole) >= 4, len(whole))
+    count.judge("and the others get nothing", all(not a or a in whole for a in answers), [a[:60] for a in answers if a and a not in whole])
+    time.sleep(2.5)
+    count.judge("and it goes on", get(door, "/").code() == 200, "")
+
+
+def ask_or_none(door):
+    try:
+        with socket.create_connection(door, timeout=ends.PATIENCE) as stream:
+            stream.sendall(b"GET /status.json HTTP/1.1\r\n\r\n")
+            return all_of(stream)
+    except OSError:
+        return b""
+
+
+class Stations:
+    """Outstations behind a line on the loopback, and how often each is polled."""
+
+    def __init__(self, addresses):
+        chance = random.Random(1)
+        self.stations = {address: outstations.Outstation(address, chance) for address in addresses}
+        self.silent = set()
+        self.polls = 0
+        self.server = socket.create_server(("127.0.0.1", 0))
+        threading.Thread(target=self.run, daemon=True).start()
+
+    def run(self):
+        while True:
+            stream, _ = self.server.accept()
+            line = ends.Line(stream)
+            try:
+                while True:
+                    _, address, octets = line.request()
+                    self.polls += 1
+                    control = octets[1] if octets[0] == 0x10 else octets[4]
+                    if address in self.silent:
+                        continue
+                    answer = self.stations[address].answer(control, octets[6:] if octets[0] == 0x68 else b"")
+                    if answer:
+                        line.answer(answer)
+            except (OSError, EOFError):
+                pass
+
+
+class Run:
+    """`telegate run --status` over stations."""
+
+    def __init__(self, program, folder, stations, *flags, more=""):
+        self.door = ("127.0.0.1", ends.free_port())
+        self.status = ("127.0.0.1", ends.free_port())
+        config = os.path.join(folder, "status.toml")
+        with open(config, "w") as file:
+            file.write(LINE + more)
+            for address in stations.stations:
+                file.write(f"[[station]]\naddress = {address}\nca = {address}\n")
+            port = stations.server.getsockname()[1]
+            file.write(f'[live]\nline = "tcp:127.0.0.1:{port}"\nlisten = "127.0.0.1:{self.door[1]}"\n')
+        command = [program, "run", "--redial", "--status", f"127.0.0.1:{self.status[1]}", *flags, config]
+        self.process = subprocess.Popen(command, stdin=subprocess.DEVNULL, stderr=subprocess.PIPE)
+
+    def __enter__(self):
+        end = time.monotonic() + ends.PATIENCE
+        while time.monotonic() < end and self.process.poll() is None:
+            try:
+                socket.create_connection(self.status, timeout=1).close()
+                return self
+            except OSError:
+                time.sleep(0.05)
+        raise RuntimeError(f"the status door doesn't open: {self.process.communicate()[1].decode()}")
+
+    def __exit__(self, *_):
+        self.process.kill()
+        self.process.communicate()
+
+    def json(self):
+        return json.loads(get(self.status, "/status.json").body)
+
+    def waits(self, is_so, seconds=15):
+        """Whether the JSON comes to be so."""
+        end = time.monotonic() + seconds
+        while time.monotonic() < end:
+            if is_so(self.json()):
+                return True
+            time.sleep(0.1)
+        return False
+
+
+def standing(state, address):
+    return next(station for station in state["stations"] if station["address"] == address)
+
+
+def a_run(count, program, folder):
+    """The pages show what the stations did."""
+    stations = Stations([1, 2, 3])
+    stations.silent.add(3)
+    with Run(program, folder, stations) as run:
+        state = run.json()
+        count.judge("no control centre yet", state["centre"]["peer"] is None and state["judgement"] == "CRITICAL", state)
+        up = run.waits(lambda s: standing(s, 1)["standing"] == "up" and standing(s, 2)["standing"] == "up")
+        count.judge("stations 1 and 2 come up", up, run.json())
+        count.judge("station 3 isn't up", standing(run.json(), 3)["standing"] != "up", run.json())
+        centre = socket.create_connection(run.door, timeout=ends.PATIENCE)
+        centre.sendall(ends.START)
+        count.judge("STARTDT", centre.recv(6) == ends.STARTED)
+        count.judge("the control centre is told", run.waits(lambda s: s["centre"]["peer"] == "127.0.0.1" and s["centre"]["started"]), run.json())
+        stations.stations[1].report(7)
+        stations.stations[2].report(5)
+        told = run.waits(lambda s: (standing(s, 1)["reports"], standing(s, 2)["reports"]) == (7, 5))
+        count.judge("reports", told, run.json())
+        count.judge("taken places", run.waits(lambda s: s["queue"]["taken"] == 12), run.json()["queue"])
+        samples = metrics_of(get(run.status, "/metrics").body.decode())
+        count.judge("reports in the metrics", samples['telegate_station_reports_total{station="1"}'] == 7, samples)
+        count.judge("the control centre in the metrics", samples["telegate_centre_connected"] == 1, samples)
+        page = Page(get(run.status, "/").body.decode())
+        row = next(row for row in page.rows if len(row) == 10 and row[1] == "1")
+        count.judge("the row of station 1", (row[3], row[6]) == ("up", "7"), row)
+        stations.silent.add(2)
+        count.judge("station 2 falls silent", run.waits(lambda s: standing(s, 2)["standing"] in ("silent", "down")), run.json())
+        client(count, run, "WARNING")
+        centre.close()
+        count.judge("the control centre goes", run.waits(lambda s: s["centre"]["peer"] is None), run.json())
+        client(count, run, "CRITICAL")
+        promtool(count, run.status)
+        pages(count, run.status)
+        refusals(count, run.status)
+        visitors(count, run.status)
+        chromium(count, run.status, folder)
+        count.judge("still up", run.process.poll() is None, run.process.poll())
+
+
+def client(count, run, word):
+    table = get(run.status, "/status.txt").body.decode()
+    count.judge(f"the table: {word}", table.startswith(f"{word}: "), table)
+    count.judge(f"the JSON: {word}", run.json()["judgement"] == word, run.json())
+
+
+def taken_port(count, program, folder):
+    """A run doesn't begin if another process has its status door."""
+    with socket.create_server(("127.0.0.1", 0)) as other:
+        config = os.path.join(folder, "taken.toml")
+        with open(config, "w") as file:
+            file.write(LINE + '[[station]]\naddress = 1\nca = 1\n[live]\nline = "tcp:127.0.0.1:%d"\nlisten = "127.0.0.1:%d"\n' % (ends.free_port(), ends.free_port()))
+        words = [program, "run", "--log", "--status", "{}:{}".format(*other.getsockname()), config]
+        ran = subprocess.run(words, capture_output=True, timeout=ends.PATIENCE)
+        count.judge("a status port that is taken", ran.returncode == 3 and b"status port can't be used" in ran.stderr, (ran.returncode, ran.stderr))
+
+
+def largest(count, program, folder):
+    """32 stations."""
+    stations = Stations(range(1, 33))
+    with Run(program, folder, stations) as run:
+        for path in PATHS:
+            answer = get(run.status, path)
+            count.judge(f"the largest {path}", answer.code() == 200, answer.status)
+            print(f"the largest {path}: {len(answer.body)} octets")
+        addresses = [station["address"] for station in run.json()["stations"]]
+        count.judge("the stations, in the order of the settings", addresses == list(range(1, 33)), addresses)
+
+
+def polls_in(stations, door, visitors):
+    """How often the station is polled in five seconds, while so many visitors ask on and on."""
+    is_over = threading.Event()
+
+    def ask_on():
+        while not is_over.is_set():
+            ask_or_none(door)
+
+    threads = [threading.Thread(target=ask_on, daemon=True) for _ in range(visitors)]
+    for thread in threads:
+        thread.start()
+    time.sleep(0.5)
+    before = stations.polls
+    time.sleep(5)
+    polls = stations.polls - before
+    is_over.set()
+    for thread in threads:
+        thread.join()
+    return polls
+
+
+def passage(count, program, folder):
+    """How often a station is polled, with a flood of visitors and without. What else the machine does
+    changes the rates from one moment to the next, so one of three rounds has to do."""
+    stations = Stations([1])
+    with Run(program, folder, stations) as run:
+        run.waits(lambda s: standing(s, 1)["standing"] == "up")
+        rounds = []
+        while len(rounds) < 3:
+            alone, flooded, again = (polls_in(stations, run.status, number) for number in (0, 8, 0))
+            rounds.append({"alone": alone, "flooded": flooded, "alone again": again})
+            is_as_fast = flooded >= 0.9 * min(alone, again)
+            if is_as_fast:
+                break
+        print(f"polls in 5 s: {rounds}")
+        count.judge("polls with visitors", is_as_fast, rounds)
+
+
+def a_door(count, _program, _folder):
+    """The door of whatever listens at --door."""
+    host, port = count.options.door.rsplit(":", 1)
+    door = (host, int(port))
+    pages(count, door)
+    promtool(count, door)
+    refusals(count, door)
+    visitors(count, door)
+    chromium(count, door, tempfile.mkdtemp(prefix="telegate-status-"))
+
+
+if __name__ == "__main__":
+    is_elsewhere = any(word.startswith("--door") for word in sys.argv)
+    frame.main(
+        *((a_door,) if is_elsewhere else (a_run, largest, taken_port, passage)),
+        needs_program=not is_elsewhere,
+        words={"--door": {"metavar": "HOST:PORT", "help": "judge the door of what listens there, and nothing else"}},
+    )

@@ -1,0 +1,10 @@
+pub mod Octets
+pub mod Blocks
+pub mod Segments
+pub mod Connections
+pub mod Wires
+pub mod Clocks
+pub mod Recorded
+pub mod Entries
+pub mod Captures
+pub mod Texts

@@ -1,0 +1,30 @@
+//! What the control centre has received, over closes and new connections.
+ghost use Rattle.std.specs.Prelude.{List, ◌∷◌};
+ghost use Rattle.gateway.specs.Connections.{present, past};
+ghost use Rattle.gateway.specs.Course.{here_of};
+ghost use Rattle.gateway.specs.Frames.{Sent};
+ghost use Rattle.gateway.specs.Log.{Log};
+ghost use Rattle.gateway.specs.Reports.{Setup, taken_objects};
+ghost use Rattle.delivery.specs.Delivery.{Delivers};
+ghost use Rattle.delivery.specs.Received.{AcknowledgeWhatCame, AreRuns, HaveCome, IsOneRun};
+
+use apci::spellings_cancel;
+
+/// What comes to the control centre is one run. Of what is handed to TCP on a connection a
+/// beginning comes, wherever TCP is cut: the I frames that stand whole in it are numbered from 0,
+/// none of them missing, and their monitor objects are a contiguous run of the objects taken, which
+/// begins at the same place, the first that no connection before acknowledged. And where the
+/// control centre acknowledges only what has come to it, what came on all connections of the log,
+/// put together at these places, is a beginning of the objects taken: over all closes and new
+/// connections none is missing, none stands twice, and each that was acknowledged has come.
+pub fn what_has_come_is_one_run()
+    ensures each { (p : Setup) (log : Log) (came : List (List Sent)) (d : Delivers p log) →
+        HaveCome (present log ∷ past log) came →
+        AreRuns (taken_objects p log) (here_of d.course ∷ d.course.earlier) came }
+    ensures one { (p : Setup) (log : Log) (came : List (List Sent)) (d : Delivers p log) →
+        HaveCome (present log ∷ past log) came →
+        AcknowledgeWhatCame (here_of d.course ∷ d.course.earlier) came →
+        IsOneRun (taken_objects p log) (here_of d.course ∷ d.course.earlier) came }
+{
+    spellings_cancel();
+}

@@ -1,0 +1,77 @@
+-- Each step follows its log, where a port may tell none.
+use Rattle.std.proofs.Common.{◌≡◌, ℕ, ◌+◌, Bool, true, false, List, [], ◌∷◌}
+use Rattle.std.proofs.Common.{length, refl, ap, sym, ◌∙◌, subst, arith, Option, Some, None}
+use Rattle.std.proofs.Common.{length-append}
+use Rattle.std.specs.Prelude.{IfSome, option_map}
+use Rattle.std.specs.Bool.{OnTrue}
+use Rattle.session.specs.Ends.{IsConfirmed}
+use Rattle.gateway.specs.Log.{Log, LogEntry, events_of, Input}
+use Rattle.gateway.specs.Log.{Came, tell}
+use Rattle.gateway.specs.Reports.{Setup}
+use Rattle.gateway.specs.Serial as serial
+use Rattle.gateway.specs.Course.{Course, first_course}
+use Rattle.gateway.specs.Phases.{Fresh, Asked, IsOut}
+use Rattle.link.specs.LineLaws.{LineLaws}
+use Rattle.gateway.specs.Runs.{events_told, MoreEvents}
+use Rattle.gateway.specs.State.{State}
+use Rattle.gateway.specs.Agrees.{Agrees, Tracks, Leaves}
+use Rattle.gateway.specs.Agrees.{Follows, HasCome, Rests, IsClear, IsSpent}
+
+-- Runs
+
+-- after a step some event has come, so a log without entries has works that nothing is due of
+started : (p : Setup) (s : State) → Agrees p s [] [] Asked → Agrees p s [] [] Fresh
+started p s a =
+    let first : a.course ≡ first_course p = a.talk.course_runs in
+    let none : a.course.works.is_due ≡ false = ap (λ (c : Course). c.works.is_due) first in
+    absurd (subst (λ (c : Course). IsOut c.works.serial.line.outstanding) first
+    (a.stands.asks.1 none))
+
+pub follows : (laws : LineLaws) (p : Setup) (told : Option Log) (s : State) → IsClear s
+    → Tracks p s told [] Asked
+    → Follows p s told
+follows laws p None s last h = tt
+follows laws p (Some []) s last a = (started p s a, last)
+follows laws p (Some (entry ∷ log)) s last a = (a, last)
+
+pub step_follows : (laws : LineLaws) (p : Setup) (result : Bool) (told : Option Log) (s : State)
+    → OnTrue result (IsConfirmed s.centre.session) → OnTrue result (IsSpent s)
+    → Leaves result p s told [] Asked
+    → OnTrue result (Follows p s told)
+step_follows laws p true told s last spent h =
+    follows laws p told s (record { confirmed = last; spent = spent }) h
+step_follows laws p false told s last spent h = tt
+
+-- an event that a port told has come
+pub come : (p : Setup) (told after : Option Log) (s : State) (now : ℕ) (event : Input)
+    (news : List LogEntry)
+    → after ≡ tell told news → news ≡ Came now event ∷ [] → Follows p s told → Rests p told
+    → IfSome after (HasCome p s now event)
+come p None after s now event news e is h rest = subst (λ l. IfSome l (HasCome p s now event))
+    (sym e) tt
+come p (Some log) after s now event news e is h rest =
+    subst (λ l. IfSome l (HasCome p s now event)) (sym (e ∙ ap (λ n. tell (Some log) n) is))
+    (record { before = log; is = refl; agrees = h.0; clear = h.1; rested = rest })
+
+-- and is one event more
+pub more_events : (n now : ℕ) (event : Input) (news : List LogEntry)
+    (first told after last : Option Log)
+    → MoreEvents n first told → after ≡ tell told news → news ≡ Came now event ∷ []
+    → events_told last ≡ events_told after → MoreEvents (n + 1) first last
+more_events n now event news first told after last h e is same =
+    ap (option_map length) (same ∙ ap events_told (e ∙ ap (tell told) is)) ∙ by_logs first told h
+  where
+    by_logs : (first told : Option Log) → MoreEvents n first told
+        → option_map length (events_told (tell told (Came now event ∷ [])))
+        ≡ option_map (λ (events : List LogEntry). length events + (n + 1)) (events_told first)
+    by_logs None None h = refl
+    by_logs None (Some log) h = cc
+    by_logs (Some log) None h = cc
+    by_logs (Some first) (Some log) h =
+        let count : ℕ = length (events_of log) in
+        let was : count ≡ length (events_of first) + n = ap value h in
+        ap Some (omega (arith, length-append (events_of log) (Came now event ∷ []), was))
+      where
+        value : Option ℕ → ℕ
+        value None = 0
+        value (Some k) = k

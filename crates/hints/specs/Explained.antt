@@ -1,0 +1,110 @@
+-- What is said of a fault of settings (texts of this gateway's own profile).
+use Rattle.std.specs.Prelude.{◌≡◌, ◌≤◌, ◌==◌, ◌⊎◌, ℕ, codes, List, [], ◌∷◌, ◌++◌, length, take}
+use Rattle.std.specs.Prelude.{slice_range, fold, Option, Some, None, string_bytes}
+use Rattle.std.specs.Borrow.{Bor}
+use Rattle.std.specs.Fmt.{decimal}
+use Rattle.std.specs.List.{after_first, before_first}
+use Rattle.settings.specs.declared.fault.ConfigFault.{ConfigFault}
+use Rattle.settings.specs.declared.fault.ConfigFault.TheVariants.{NotToml, Key, Unknown, NoMemory}
+use Rattle.settings.specs.Wanted.{wanted_values}
+use Rattle.toml_places.specs.Changes.{IsGapFound, IsValueFound}
+use Rattle.toml_places.specs.Lines.{first_place, next_place}
+use Rattle.toml_places.specs.declared.changes.Spot.{Spot}
+use Rattle.toml_places.specs.declared.place.Place.{Place}
+use Rattle.toml_places.specs.declared.spans.Span.{Span}
+use Rattle.hints.specs.declared.finding.Found.{Found}
+use Rattle.hints.specs.declared.finding.Found.TheVariants.{Value, Gap, Nowhere}
+
+-- the place of the octet behind the first so many
+abbrev pub place_of : List ℕ → ℕ → Place
+place_of text at = fold next_place first_place (take at text)
+
+-- `line L, column C`
+abbrev pub place_words : Place → List ℕ
+place_words p = codes "line " ++ decimal p.line ++ codes ", column " ++ decimal p.column
+
+-- What is told of where a value stands: its place and the value as it is written; or, where the key
+-- isn't there, the line of the header that it belongs below.
+abbrev pub value_line : List ℕ → Span → List ℕ
+value_line text s =
+    ((place_words (place_of text s.from) ++ codes ": ") ++ slice_range text s.from s.to) ++ 10 ∷ []
+
+abbrev pub gap_line : List ℕ → ℕ → List ℕ
+gap_line text at =
+    codes "no value: it belongs below line " ++ decimal ((place_of text at).line) ++ 10 ∷ []
+
+abbrev pub found_line : List ℕ → Found → List ℕ
+found_line text (Value s) = value_line text s
+found_line text (Gap s) = gap_line text s.from
+found_line text Nowhere = []
+
+-- the value stands there, or the key belongs there, or neither place is known
+abbrev pub IsPlace : Spot → List ℕ → Found → Type 0
+IsPlace spot text (Value s) = IsValueFound spot text (Some s)
+IsPlace spot text (Gap s) = IsValueFound spot text None × IsGapFound spot text (Some s)
+IsPlace spot text Nowhere = IsValueFound spot text None × IsGapFound spot text None
+
+-- what is wanted, where there is such a key
+abbrev pub wanted_line : Option (List ℕ) → List ℕ
+wanted_line None = codes "wanted: a key of the table in docs/SETTINGS.md" ++ 10 ∷ []
+wanted_line (Some values) = codes "wanted: " ++ values ++ 10 ∷ []
+
+-- where another station has the number
+abbrev pub twin_line : List ℕ → Option Span → List ℕ
+twin_line text None = []
+twin_line text (Some s) = (codes "taken at " ++ place_words (place_of text s.from)) ++ 10 ∷ []
+
+-- the octets of what was found are some of the text
+abbrev pub IsInside : List ℕ → Found → Type 0
+IsInside text (Value s) = (s.from ≤ s.to) × (s.to ≤ length text)
+IsInside text (Gap s) = (s.from ≤ s.to) × (s.to ≤ length text)
+IsInside text Nowhere = Unit {0}
+
+-- the key under a table, if any
+abbrev pub IsKeyOf : (path : List ℕ) → Option (Bor (List ℕ)) → (key : List ℕ) → Type 0
+IsKeyOf path None key = (key ≡ path) ⊎ (key ≡ before_first (λ b. b == 46) path)
+IsKeyOf path (Some table) key = (table.now ≡ before_first (λ b. b == 46) path)
+    × (key ≡ after_first (λ b. b == 46) path)
+
+-- The key of a dotted path: what stands behind its first dot, 46, under the table that stands
+-- before it; a path without one names a key of the document, and where that table is none the table
+-- itself is meant.
+abbrev pub IsSpotOf : List ℕ → Spot → Type 0
+IsSpotOf path spot = IsKeyOf path spot.table spot.key.now
+
+-- the same number under this key of another station, which may be none
+abbrev pub IsTwin : Spot → List ℕ → Option Span → Type 0
+IsTwin spot text None = Unit {0}
+IsTwin spot text (Some s) =
+    (other : ℕ) × IsValueFound (record spot { item = Some other }) text (Some s)
+
+-- the lines of a fault of this key; none, where the octets aren't a document
+pub record AreKeyLines (text path lines : List ℕ) : Type 0 where
+  pub spot : Spot
+  pub of : IsSpotOf path spot
+  pub found : Found
+  pub place : IsPlace spot text found
+  pub twin : Option Span
+  pub taken : IsTwin spot text twin
+  pub are : lines ≡ (found_line text found ++ wanted_line (wanted_values path))
+      ++ twin_line text twin
+
+abbrev pub IsKeyExplained : (text path lines : List ℕ) → Type 0
+IsKeyExplained text path lines = (lines ≡ []) ⊎ AreKeyLines text path lines
+
+-- where reading stopped, and why, in the reader's words
+pub record AreTextLines (text lines : List ℕ) : Type 0 where
+  pub at : ℕ
+  pub within : at ≤ length text
+  pub why : List ℕ
+  pub are : lines ≡ ((place_words (place_of text at) ++ codes ": ") ++ why) ++ 10 ∷ []
+
+abbrev pub IsTextExplained : (text lines : List ℕ) → Type 0
+IsTextExplained text lines = (lines ≡ []) ⊎ AreTextLines text lines
+
+-- what is said of a fault
+abbrev pub IsExplained : List ℕ → ConfigFault → (lines : List ℕ) → Type 0
+IsExplained text NotToml lines = IsTextExplained text lines
+IsExplained text (Key path) lines = IsKeyExplained text path.now lines
+IsExplained text (Unknown path) lines = IsKeyExplained text (string_bytes path) lines
+IsExplained text NoMemory lines = lines ≡ []

@@ -1,0 +1,138 @@
+//! A fault of settings, explained.
+ghost use Rattle.std.specs.Prelude.{IfOk};
+ghost use Rattle.hints.specs.Explained.{IsExplained, IsKeyExplained, IsSpotOf, IsTextExplained};
+ghost use Rattle.hints.specs.Explained.{IsTwin};
+ghost use Rattle.toml_places.specs.Changes.{IsWithin};
+
+use crate::finding::find;
+use crate::lines::{found_line, place_words, twin_line, wanted_line};
+use crate::stations::{twin_station, wrong_station};
+use settings::{ConfigFault, wanted_values};
+use std::alloc::{AllocError, Global};
+use toml::Table;
+use toml_places::{Span, Spot, find_value};
+
+/// The lines behind a fault of the settings that these octets are: where the value stands, or the
+/// key belongs; what is wanted; and where another station has the number. Of octets that are no
+/// document: where reading stopped, and why. None, where memory was refused to the reader.
+pub fn explain(alloc: Global, text: &[u8], fault: &ConfigFault) -> Result<Vec<u8>, AllocError>
+    ensures { IfOk result (λ lines. IsExplained text.now fault.now lines.items) }
+{
+    match fault {
+        ConfigFault::NotToml => explain_text(alloc, text),
+        ConfigFault::Key(path) => explain_key(alloc, text, *path),
+        ConfigFault::Unknown(path) => explain_key(alloc, text, path.as_str()),
+        ConfigFault::NoMemory => Ok(Vec::new(alloc)),
+    }
+}
+
+/// Where octets are no document, and why.
+fn explain_text(alloc: Global, text: &[u8]) -> Result<Vec<u8>, AllocError>
+    ensures { IfOk result (λ lines. IsTextExplained text.now lines.items) }
+{
+    let Err(fault) = toml::table_from_slice(alloc, text) else {
+        return Ok(Vec::new(alloc));
+    };
+    let Some(span) = fault.span() else {
+        return Err(AllocError);
+    };
+    let mut line = place_words(alloc, text, span.start)?;
+    line.push_str(": ")?;
+    line.push_str(fault.message())?;
+    line.push_str("\n")?;
+    Ok(line.into_bytes())
+}
+
+/// Where the value of a key stands, or the key belongs, and what is wanted.
+fn explain_key(alloc: Global, text: &[u8], path: &str) -> Result<Vec<u8>, AllocError>
+    ensures { IfOk result (λ lines. IsKeyExplained text.now path.now lines.items) }
+{
+    match toml::table_from_slice(alloc, text) {
+        Ok(root) => explain_under(alloc, text, &root, path),
+        Err(fault) if fault.is_memory() => Err(AllocError),
+        Err(_) => Ok(Vec::new(alloc)),
+    }
+}
+
+fn explain_under(
+    alloc: Global,
+    text: &[u8],
+    root: &Table,
+    path: &str,
+) -> Result<Vec<u8>, AllocError>
+    ensures { IfOk result (λ lines. IsKeyExplained text.now path.now lines.items) }
+{
+    let spot = spot_of(root, path);
+    let found = find(alloc, text, &spot)?;
+    let twin = twin_of(alloc, text, root, &spot)?;
+    let mut lines = found_line(alloc, text, found)?;
+    let wanted = wanted_line(alloc, wanted_values(path))?;
+    lines.extend_from_slice(wanted.as_bytes())?;
+    let taken = twin_line(alloc, text, twin)?;
+    lines.extend_from_slice(taken.as_bytes())?;
+    Ok(lines)
+}
+
+/// The key of a dotted path; of a station's the first that is wrong. Where its table is none, the
+/// key of that.
+fn spot_of<'a>(root: &Table, path: &'a str) -> Spot<'a>
+    ensures { IsSpotOf path.entry.now result }
+{
+    let Some((table, key)) = path.split_once('.') else {
+        return Spot {
+            table: None,
+            item: None,
+            key: path,
+        };
+    };
+    if is_scalar(root, table) {
+        return Spot {
+            table: None,
+            item: None,
+            key: table,
+        };
+    }
+    Spot {
+        table: Some(table),
+        item: if table == "station" {
+            wrong_station(root, key)
+        } else {
+            None
+        },
+        key,
+    }
+}
+
+/// Whether there is such a key, whose value is neither a table nor an array.
+fn is_scalar(root: &Table, key: &str) -> bool {
+    match root.get(key) {
+        Some(value) => !value.is_table() && !value.is_array(),
+        None => false,
+    }
+}
+
+/// Where another station has the number of this one, if one has.
+fn twin_of(
+    alloc: Global,
+    text: &[u8],
+    root: &Table,
+    spot: &Spot<'_>,
+) -> Result<Option<Span>, AllocError>
+    ensures twin { IfOk result (IsTwin spot.now text.now) }
+    ensures within { IfOk result (IsWithin text.now) }
+{
+    let Some(item) = spot.item else {
+        return Ok(None);
+    };
+    match twin_station(root, item, spot.key) {
+        Some(other) => {
+            let twin = Spot {
+                table: spot.table,
+                item: Some(other),
+                key: spot.key,
+            };
+            find_value(alloc, text, &twin)
+        }
+        None => Ok(None),
+    }
+}

@@ -1,0 +1,82 @@
+//! The lines that are told.
+ghost use Rattle.std.specs.Prelude.{◌≡◌, ◌≤◌, length, IfOk, option_map, string_bytes};
+ghost use Rattle.hints.specs.Explained.{IsInside, found_line, gap_line, place_of, place_words};
+ghost use Rattle.hints.specs.Explained.{twin_line, value_line, wanted_line};
+ghost use Rattle.toml_places.specs.Changes.{IsWithin};
+
+use crate::finding::Found;
+use std::alloc::{AllocError, Global};
+use toml_places::{Span, place_at};
+
+/// The place of the octet behind the first `at`, in words.
+pub(crate) fn place_words(alloc: Global, text: &[u8], at: usize) -> Result<String, AllocError>
+    requires { at ≤ length text.now }
+    ensures { IfOk result (λ s. string_bytes s ≡ place_words (place_of text.now at)) }
+{
+    let place = place_at(text, at);
+    let words = format!(in alloc; "line {}, column {}", place.line, place.column)?;
+    Ok(words)
+}
+
+/// Where a value stands, with the value as it is written, or where it belongs.
+pub(crate) fn found_line(alloc: Global, text: &[u8], found: Found) -> Result<Vec<u8>, AllocError>
+    requires { IsInside text.now found }
+    ensures { IfOk result (λ line. line.items ≡ found_line text.now found) }
+{
+    match found {
+        Found::Value(span) => value_line(alloc, text, span),
+        Found::Gap(span) => gap_line(alloc, text, span.from),
+        Found::Nowhere => Ok(Vec::new(alloc)),
+    }
+}
+
+fn value_line(alloc: Global, text: &[u8], span: Span) -> Result<Vec<u8>, AllocError>
+    requires order { span.from ≤ span.to }
+    requires within { span.to ≤ length text.now }
+    ensures { IfOk result (λ line. line.items ≡ value_line text.now span) }
+{
+    let mut line = place_words(alloc, text, span.from)?.into_bytes();
+    line.extend_from_slice(b": ")?;
+    line.extend_from_slice(&text[span.from..span.to])?;
+    line.push(b'\n')?;
+    Ok(line)
+}
+
+fn gap_line(alloc: Global, text: &[u8], at: usize) -> Result<Vec<u8>, AllocError>
+    requires { at ≤ length text.now }
+    ensures { IfOk result (λ line. line.items ≡ gap_line text.now at) }
+{
+    let place = place_at(text, at);
+    let line = format!(in alloc; "no value: it belongs below line {}\n", place.line)?;
+    Ok(line.into_bytes())
+}
+
+/// What is wanted, where there is such a key.
+pub(crate) fn wanted_line(alloc: Global, values: Option<&str>) -> Result<String, AllocError>
+    ensures { IfOk result (λ s. string_bytes s
+        ≡ wanted_line (option_map (λ v. v.now) values.entry)) }
+{
+    match values {
+        Some(values) => format!(in alloc; "wanted: {values}\n"),
+        None => String::from_str(alloc, "wanted: a key of the table in docs/SETTINGS.md\n"),
+    }
+}
+
+/// Where another station has the number, if one has.
+pub(crate) fn twin_line(
+    alloc: Global,
+    text: &[u8],
+    twin: Option<Span>,
+) -> Result<String, AllocError>
+    requires { IsWithin text.now twin }
+    ensures { IfOk result (λ s. string_bytes s ≡ twin_line text.now twin) }
+{
+    match twin {
+        Some(span) => {
+            let words = place_words(alloc, text, span.from)?;
+            let line = format!(in alloc; "taken at {words}\n")?;
+            Ok(line)
+        }
+        None => Ok(String::new(alloc)),
+    }
+}

@@ -1,0 +1,29 @@
+//! What becomes of a command.
+
+use command::Refusal;
+
+/// Why a command of the control centre doesn't go on to its station.
+#[derive(Clone, Copy, Debug, PartialEq, Eq)]
+pub enum Reason {
+    /// It is refused by this rule.
+    Rule(Refusal),
+    /// Its connection was closed in the step in which it came.
+    Closed,
+}
+
+/// What became of a command at its station.
+#[derive(Clone, Copy, Debug, PartialEq, Eq)]
+pub enum Fate {
+    /// It went out to the station for the first time.
+    Sent,
+    /// The station confirmed it (causes 7 and 9, positive).
+    Confirmed,
+    /// The station answered it negatively.
+    Denied,
+    /// The station has done it (cause 10).
+    Terminated,
+    /// The station's link was busy, and the gateway answered it negatively.
+    Busy,
+    /// The station didn't answer, or its link was reset.
+    GivenUp,
+}

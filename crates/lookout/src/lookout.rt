@@ -1,0 +1,195 @@
+//! Who looks at a run.
+ghost use Rattle.std.specs.Prelude.{◌≡◌};
+
+use crate::known::{Known, known_of};
+use crate::setting::{Chosen, chosen_of, settings_of};
+use crate::shown::{centre_of, keeping_after, line_of, rows_of};
+use gateway::{Config, Gateway};
+use journal::{Names, Watch, taken_places};
+use live::Notice;
+use status::{Door, Hour, Keeping, Queue, Snapshot, Visitors};
+use std::alloc::{AllocError, Global};
+
+/// How long after a turn of the visitors the next one follows, in ms of the run.
+// A visitor's page takes some four turns; the way of a report is to stay as short as without them.
+const TURN_MS: u64 = 20;
+
+/// How long a count of the queue's pieces stands, in ms of the run.
+// Counting goes over all that is kept.
+const COUNT_MS: u64 = 1000;
+
+/// What is shown of a run beside what the gateway and the watch know.
+#[derive(Drop)]
+struct Shown {
+    version: &'static str,
+    /// What the line is called; empty where it has no name.
+    name: String,
+    known: Vec<Known>,
+    chosen: Vec<Chosen>,
+    /// How many places the queue has.
+    places: u64,
+    /// When the run began, in ms; none before its first event.
+    began: Option<u64>,
+    keeping: Keeping,
+    hour: Hour,
+    /// How many places were taken when they were counted last.
+    taken: u64,
+    /// When that was, in ms.
+    counted: Option<u64>,
+    /// The address of the latest connection's other end, and how many connections there were then.
+    peer: String,
+    opened: u64,
+    /// Since when no connection is open, in ms.
+    gone_since: u64,
+    was_open: bool,
+}
+
+/// Who looks at a run through this door.
+#[derive(Drop)]
+pub struct Lookout<D: Door + Drop> {
+    visitors: Visitors<D>,
+    shown: Shown,
+    /// When the visitors had a turn last, in ms.
+    turned: Option<u64>,
+}
+
+impl<D: Door + Drop> Lookout<D> {
+    /// Who looks through this door at a run with these settings. All memory is taken here.
+    ///
+    /// # Errors
+    ///
+    /// Want of memory.
+    pub fn new(
+        alloc: Global,
+        config: &Config,
+        names: Names<'_>,
+        version: &'static str,
+        keeps_state: bool,
+        door: D,
+    ) -> Result<Lookout<D>, AllocError> {
+        Ok(Lookout {
+            visitors: Visitors::new(alloc, door)?,
+            shown: Shown::new(alloc, config, names, version, keeps_state)?,
+            turned: None,
+        })
+    }
+
+    /// Gives the visitors a turn, if that is due, between two events of the run. The gateway and
+    /// the watch are lent for reading, so who looks changes neither.
+    pub fn look(&mut self, gateway: &Gateway, watch: &Watch, notice: Option<Notice>) {
+        self.shown.note(watch, notice);
+        let now = watch.moment();
+        if !is_over(self.turned, now, TURN_MS) {
+            return;
+        }
+        self.turned = Some(now);
+        self.shown.count(gateway, now);
+        turn(&mut self.visitors, &self.shown, watch);
+    }
+}
+
+/// Whether so many ms have passed since then.
+fn is_over(since: Option<u64>, now: u64, ms: u64) -> bool {
+    match since {
+        Some(since) => ms <= now.saturating_sub(since),
+        None => true,
+    }
+}
+
+impl Shown {
+    fn new(
+        alloc: Global,
+        config: &Config,
+        names: Names<'_>,
+        version: &'static str,
+        keeps_state: bool,
+    ) -> Result<Shown, AllocError> {
+        Ok(Shown {
+            version,
+            name: String::from_str(alloc, names.line.unwrap_or(""))?,
+            known: known_of(alloc, config.stations(), names.stations)?,
+            chosen: chosen_of(alloc, config)?,
+            places: u64::from(config.line().queue),
+            began: None,
+            keeping: if keeps_state {
+                Keeping::Kept
+            } else {
+                Keeping::Off
+            },
+            hour: Hour::new(),
+            taken: 0,
+            counted: None,
+            peer: String::with_capacity(alloc, 64)?,
+            opened: 0,
+            gone_since: 0,
+            was_open: false,
+        })
+    }
+
+    /// Notes what is told once: of the state on the disk, and of connections.
+    fn note(&mut self, watch: &Watch, notice: Option<Notice>) {
+        if self.began.is_none() {
+            self.began = Some(watch.moment());
+            self.gone_since = watch.moment();
+        }
+        if let Some(notice) = notice {
+            self.keeping = keeping_after(notice);
+        }
+        let is_open = watch.opening().is_some();
+        if self.was_open && !is_open {
+            self.gone_since = watch.moment();
+        }
+        self.was_open = is_open;
+        if self.opened != watch.connections() {
+            self.opened = watch.connections();
+            self.name_peer(watch);
+        }
+    }
+
+    /// Notes the address of the connection's other end.
+    fn name_peer(&mut self, watch: &Watch) {
+        self.peer.clear();
+        let named = match watch.peer() {
+            Some(address) => write!(self.peer, "{address}"),
+            None => write!(self.peer, "unknown"),
+        };
+        if named.is_err() {
+            self.peer.clear();
+        }
+    }
+
+    /// Counts the pieces of the queue, if that is due.
+    fn count(&mut self, gateway: &Gateway, now: u64) {
+        if !is_over(self.counted, now, COUNT_MS) {
+            return;
+        }
+        self.counted = Some(now);
+        self.taken = taken_places(gateway);
+        self.hour.note(now, self.taken);
+    }
+}
+
+/// Gives the visitors a turn at what is shown.
+fn turn<D: Door + Drop>(visitors: &mut Visitors<D>, shown: &Shown, watch: &Watch) {
+    let rows = rows_of(shown.known.as_slice(), watch);
+    let settings = settings_of(shown.chosen.as_slice());
+    let now = watch.moment();
+    let snapshot = Snapshot {
+        version: shown.version,
+        now_ms: now,
+        started_ms: shown.began.unwrap_or(now),
+        wall_ms: watch.wall(),
+        name: shown.name.as_str(),
+        line: line_of(watch),
+        centre: centre_of(watch, shown.peer.as_str(), shown.gone_since, shown.taken),
+        queue: Queue {
+            taken: shown.taken,
+            places: shown.places,
+            hour: shown.hour.numbers(),
+        },
+        keeping: shown.keeping,
+        stations: rows.as_slice(),
+        settings: settings.as_slice(),
+    };
+    visitors.turn(now, &snapshot);
+}

@@ -1,0 +1,65 @@
+//! The settings that a page shows.
+
+use arrayvec::ArrayVec;
+use gateway::{Config, Silence};
+use status::Setting;
+use std::alloc::{AllocError, Global};
+
+/// The most settings that a page shows.
+const MOST_SETTINGS: usize = 16;
+
+/// A setting in force.
+#[derive(Debug, Drop)]
+pub(crate) struct Chosen {
+    key: &'static str,
+    value: String,
+}
+
+/// The settings in force that tell how line and connection behave.
+pub(crate) fn chosen_of(alloc: Global, config: &Config) -> Result<Vec<Chosen>, AllocError> {
+    let line = config.line();
+    let tcp = config.tcp();
+    let silence = match line.silence {
+        Silence::Hold => "hold",
+        Silence::Reset => "reset",
+    };
+    let mut chosen = Vec::new(alloc);
+    chosen.push(number(alloc, "line.answer_ms", line.answer_ms)?)?;
+    chosen.push(number(alloc, "line.retries", u64::from(line.retries))?)?;
+    chosen.push(Chosen {
+        key: "line.silence",
+        value: String::from_str(alloc, silence)?,
+    })?;
+    chosen.push(number(alloc, "line.burst", u64::from(line.burst))?)?;
+    chosen.push(number(alloc, "line.queue", u64::from(line.queue))?)?;
+    chosen.push(number(alloc, "tcp.k", u64::from(tcp.k))?)?;
+    chosen.push(number(alloc, "tcp.w", u64::from(tcp.w))?)?;
+    chosen.push(number(alloc, "tcp.t1_ms", tcp.t1_ms)?)?;
+    chosen.push(number(alloc, "tcp.t2_ms", tcp.t2_ms)?)?;
+    chosen.push(number(alloc, "tcp.t3_ms", tcp.t3_ms)?)?;
+    chosen.push(number(alloc, "tcp.select_ms", tcp.select_ms)?)?;
+    chosen.push(number(alloc, "tcp.max_age_ms", tcp.max_age_ms)?)?;
+    Ok(chosen)
+}
+
+/// A setting that is a number.
+fn number(alloc: Global, key: &'static str, value: u64) -> Result<Chosen, AllocError> {
+    let mut text = String::new(alloc);
+    write!(text, "{value}")?;
+    Ok(Chosen { key, value: text })
+}
+
+/// The settings as a page has them.
+pub(crate) fn settings_of(chosen: &[Chosen]) -> ArrayVec<Setting<'_>, MOST_SETTINGS> {
+    let mut settings = ArrayVec::new();
+    for one in chosen {
+        if settings.is_full() {
+            break;
+        }
+        settings.push(Setting {
+            key: one.key,
+            value: one.value.as_str(),
+        });
+    }
+    settings
+}

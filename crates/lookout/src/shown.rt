@@ -1,0 +1,122 @@
+//! Stations, line and control centre as they are shown.
+ghost use Rattle.std.specs.Prelude.{◌≡◌, ◌≤◌, vec_len};
+ghost use Rattle.lookout.specs.Shown as spec;
+
+use crate::known::Known;
+use arrayvec::ArrayVec;
+use journal::{Standing as Told, StationWatch, Traffic, Watch};
+use live::{Notice, Presence};
+use status::{Centre, Keeping, Line, Standing, Station};
+
+/// The most stations that a line has.
+const MOST_STATIONS: usize = 32;
+
+/// The rows of a page.
+pub(crate) type Rows<'a> = ArrayVec<Station<'a>, MOST_STATIONS>;
+
+/// How a station stands, in the words of a page.
+fn standing_of(told: Told) -> Standing
+    ensures { result ≡ spec.standing_of told }
+{
+    match told {
+        Told::NotAsked => Standing::NotAsked,
+        Told::Asked => Standing::Asked,
+        Told::Up => Standing::Up,
+        Told::Silent => Standing::Silent,
+        Told::Down => Standing::Down,
+    }
+}
+
+/// A station's row.
+fn station_of<'a>(known: &'a Known, watch: &StationWatch, traffic: &Traffic) -> Station<'a>
+    ensures { spec.IsStation known.entry.now watch.now traffic.now result }
+{
+    Station {
+        name: known.name.as_str(),
+        address: watch.address(),
+        common_address: known.common_address,
+        standing: standing_of(watch.standing()),
+        since_ms: watch.since(),
+        last_report_ms: traffic.last_report(),
+        reports: traffic.reports(),
+        skipped: traffic.skipped(),
+        gaps: watch.gaps(),
+        commands: traffic.commands(),
+    }
+}
+
+/// The rows of the stations, in the order of the settings.
+pub(crate) fn rows_of<'a>(known: &'a [Known], watch: &Watch) -> Rows<'a> {
+    let mut rows = ArrayVec::new();
+    let mut stations = watch.stations();
+    let mut traffics = watch.traffic();
+    for one in known {
+        let [station, more_stations @ ..] = stations else {
+            break;
+        };
+        let [traffic, more_traffics @ ..] = traffics else {
+            break;
+        };
+        if rows.is_full() {
+            break;
+        }
+        rows.push(station_of(one, station, traffic));
+        stations = more_stations;
+        traffics = more_traffics;
+    }
+    rows
+}
+
+/// Whether the line is there.
+fn is_there(presence: Presence) -> bool
+    ensures { result ≡ spec.is_there presence }
+{
+    match presence {
+        Presence::Untried | Presence::Away => false,
+        Presence::There | Presence::Heard => true,
+    }
+}
+
+/// The line.
+pub(crate) fn line_of(watch: &Watch) -> Line
+    ensures there { result.is_there ≡ spec.is_there watch.now.line.presence }
+    ensures since { result.since_ms ≡ watch.now.line.since }
+{
+    Line {
+        is_there: is_there(watch.line_presence()),
+        since_ms: watch.line_since(),
+    }
+}
+
+/// The control centre, whose address this is, or which isn't there since this moment, in ms.
+pub(crate) fn centre_of<'a>(
+    watch: &Watch,
+    peer: &'a str,
+    gone_since: u64,
+    unacknowledged: u64,
+) -> Centre<'a> {
+    match watch.opening() {
+        Some(opening) => Centre {
+            peer: Some(peer),
+            is_started: opening.is_started,
+            since_ms: opening.since,
+            unacknowledged,
+        },
+        None => Centre {
+            peer: None,
+            is_started: false,
+            since_ms: gone_since,
+            unacknowledged,
+        },
+    }
+}
+
+/// What a notice says of the state on the disk.
+pub(crate) fn keeping_after(notice: Notice) -> Keeping
+    ensures { result ≡ spec.keeping_after notice }
+{
+    match notice {
+        Notice::NotKept => Keeping::NotKept,
+        Notice::KeptAgain => Keeping::Kept,
+    }
+}

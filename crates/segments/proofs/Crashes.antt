@@ -1,0 +1,295 @@
+-- A start finds what a crash left of a segment, and nothing else.
+use Rattle.std.proofs.Common.{◌≡◌, ◌⊎◌, inl, inr, ℕ, zero, suc, ◌+◌, ◌-◌, ◌<◌, ◌≤◌, ◌^◌, List, []}
+use Rattle.std.proofs.Common.{◌∷◌, ◌++◌, length, get_or, take, drop, slice_index, Ok, Some, refl}
+use Rattle.std.proofs.Common.{sym, ap, subst, ◌∙◌, append_assoc, length-append, zero-add, arith}
+use Rattle.std.proofs.lemmas.Bool.{cases_lt}
+use Rattle.std.proofs.lemmas.List.{append-nil, get_or_append_left, get_or-append_right, get_or-drop}
+use Rattle.std.proofs.lemmas.List.{get_or-take, length-take}
+use Rattle.std.proofs.lemmas.Nat.{from_be_bytes-to_be_bytes_4, from_be_bytes-to_be_bytes_8}
+use Rattle.std.specs.Int.{w32, w64, from_be_bytes, to_be_bytes}
+use Rattle.hex.specs.Hex.{decode_sized, encode_lower}
+use Rattle.hex.proofs.HexLemmas.{decode_sized-encode_lower}
+use Rattle.sqlite_disk.specs.Disk.{Holds}
+use Rattle.segments.specs.Crash.{BeginsWith, HasLength, HasNoOther, IsOldIfOpen, IsShut}
+use Rattle.segments.specs.Crash.{IsTextIfOpen}
+use Rattle.segments.specs.Crashes.{AreBoth, AreOlder, HasNoZero, IsThatOf, Survives, head_for}
+use Rattle.segments.specs.Crashes.{lines_behind}
+use Rattle.segments.specs.Head.{Fits, head_of, whole_text}
+use Rattle.segments.specs.Starts.{IsFoundIn, IsNewest}
+use Rattle.segments.specs.declared.head.Head.{Head}
+use Rattle.segments.proofs.Fronts.{head_letter, head_within, not_shut, same_octets}
+use Rattle.segments.proofs.HeadLemmas.{eight_bytes, four_bytes, head_length, number_at, octets_at}
+use Rattle.segments.proofs.HeadLemmas.{same_head, sum_at}
+use Rattle.segments.proofs.Zeros.{kept_before_zero, others_before_zero}
+
+-- A first line tells its numbers
+
+number_told : (a b : ℕ) → a < 2 ^ 64 → b < 2 ^ 64
+    → encode_lower (to_be_bytes w64 a) ≡ encode_lower (to_be_bytes w64 b) → a ≡ b
+number_told a b fits fits' e =
+    let read : Ok (to_be_bytes w64 a) ≡ Ok (to_be_bytes w64 b) =
+    sym (decode_sized-encode_lower (to_be_bytes w64 a) 8 refl (eight_bytes a))
+    ∙ ap (λ (t : List ℕ). decode_sized t 8) e
+    ∙ decode_sized-encode_lower (to_be_bytes w64 b) 8 refl (eight_bytes b) in
+    let octets : to_be_bytes w64 a ≡ to_be_bytes w64 b = cc in
+    sym (from_be_bytes-to_be_bytes_8 a fits) ∙ ap (from_be_bytes w64) octets
+    ∙ from_be_bytes-to_be_bytes_8 b fits'
+
+sum_told : (a b : ℕ) → a < 2 ^ 32 → b < 2 ^ 32
+    → encode_lower (to_be_bytes w32 a) ≡ encode_lower (to_be_bytes w32 b) → a ≡ b
+sum_told a b fits fits' e =
+    let read : Ok (to_be_bytes w32 a) ≡ Ok (to_be_bytes w32 b) =
+    sym (decode_sized-encode_lower (to_be_bytes w32 a) 4 refl (four_bytes a))
+    ∙ ap (λ (t : List ℕ). decode_sized t 4) e
+    ∙ decode_sized-encode_lower (to_be_bytes w32 b) 4 refl (four_bytes b) in
+    let octets : to_be_bytes w32 a ≡ to_be_bytes w32 b = cc in
+    sym (from_be_bytes-to_be_bytes_4 a fits) ∙ ap (from_be_bytes w32) octets
+    ∙ from_be_bytes-to_be_bytes_4 b fits'
+
+same_line : (a b : Head) → Fits a → Fits b → head_of a ≡ head_of b → a ≡ b
+same_line a b fits fits' e =
+    let number : a.number ≡ b.number = number_told a.number b.number fits.number fits'.number
+    (sym (number_at a) ∙ ap (λ (l : List ℕ). take 16 (drop 33 l)) e ∙ number_at b) in
+    let octets : a.octets ≡ b.octets = number_told a.octets b.octets fits.octets fits'.octets
+    (sym (octets_at a) ∙ ap (λ (l : List ℕ). take 16 (drop 57 l)) e ∙ octets_at b) in
+    let sum : a.sum ≡ b.sum = sum_told a.sum b.sum fits.sum fits'.sum
+    (sym (sum_at a) ∙ ap (λ (l : List ℕ). take 8 (drop 78 l)) e ∙ sum_at b) in
+    same_head a.number a.octets a.sum b (ap (λ (n : ℕ). Some n) number)
+    (ap (λ (n : ℕ). Some n) octets) (ap (λ (n : ℕ). Some n) sum)
+
+-- A file has one segment
+
+empty : (l : List ℕ) → length l ≡ 0 → l ≡ []
+empty [] is = refl
+empty (x ∷ l) is = absurd (omega arith)
+
+same_first : (file : List ℕ) (a b : Head) → Fits a → Fits b → Holds file 0 (head_of a)
+    → Holds file 0 (head_of b) → a ≡ b
+same_first file a b fits fits' one other =
+    same_line a b fits fits' (same_octets file 0 (head_of a) (head_of b) one other
+    (head_length a ∙ sym (head_length b)))
+
+same_text : (file : List ℕ) (a b : Head) (one other : List ℕ) → a ≡ b → IsFoundIn file a one
+    → IsFoundIn file b other → one ≡ other
+same_text file a b one other same found found' =
+    let long : length one ≡ length other =
+    found.octets ∙ ap (λ (h : Head). h.octets) same ∙ sym found'.octets in
+    elim (cases_lt 0 (length one)) [
+      | inl some ↦ same_octets file 87 one other (found.behind some)
+          (found'.behind (omega (arith, some, long))) long
+      | inr none ↦ empty one (omega (arith, none)) ∙ sym (empty other (omega (arith, none, long)))
+    ]
+
+that : (file : List ℕ) (number : ℕ) (body newest : List ℕ) (head : Head) (text : List ℕ)
+    → Fits (head_for number body) → Fits head → newest ≡ file
+    → IsFoundIn file (head_for number body) body → IsFoundIn newest head text
+    → IsThatOf file number body newest head text
+that file number body newest head text fits fits' same mine found =
+    let here : IsFoundIn file head text =
+    subst (λ (l : List ℕ). IsFoundIn l head text) same found in
+    let first : head ≡ head_for number body =
+    same_first file head (head_for number body) fits' fits here.first mine.first in
+    record {
+      same = same;
+      first = first;
+      checkpoint = same_text file head (head_for number body) text body first here mine;
+    }
+
+-- What stands in the text of a segment
+
+whole_is : (number : ℕ) (body lines : List ℕ) → whole_text number body ++ lines
+    ≡ head_of (head_for number body) ++ (body ++ lines)
+unfolding whole_text
+whole_is number body lines = append_assoc (head_of (head_for number body)) body lines
+
+whole_length : (number : ℕ) (body : List ℕ) → length (whole_text number body) ≡ 87 + length body
+unfolding whole_text
+whole_length number body = length-append (head_of (head_for number body)) body
+    ∙ ap (λ (n : ℕ). n + length body) (head_length (head_for number body))
+
+-- a file that begins as this text does has that segment
+module _ (c : List ℕ) (number : ℕ) (body lines : List ℕ) (n : ℕ)
+    (begins : (i : ℕ) → i < 87 + length body + n →
+    slice_index c i ≡ slice_index (whole_text number body ++ lines) i)
+    (long : 87 + length body ≤ length c) where
+  at_octet : (i : ℕ) → i < 87 + length body + n →
+      slice_index c i ≡ slice_index (head_of (head_for number body) ++ (body ++ lines)) i
+  at_octet i lt = begins i lt ∙ ap (λ (l : List ℕ). slice_index l i) (whole_is number body lines)
+
+  behind_first : (j : ℕ) → j < length body + n →
+      slice_index c (87 + j) ≡ slice_index (body ++ lines) j
+  behind_first j lt =
+      let back : 87 + j - 87 ≡ j = omega arith in
+      let above : 87 ≤ 87 + j = omega arith in
+      at_octet (87 + j) (omega (arith, lt))
+      ∙ get_or-append_right (head_of (head_for number body)) (body ++ lines) 87 (87 + j) 0
+      (head_length (head_for number body)) above
+      ∙ ap (λ (k : ℕ). slice_index (body ++ lines) k) back
+
+  line_octet : (j : ℕ) → j < n →
+      slice_index (drop (87 + length body) c) j ≡ slice_index lines j
+  line_octet j lt =
+      let place : 87 + length body + j ≡ 87 + (length body + j) = omega arith in
+      let back : length body + j - length body ≡ j = omega arith in
+      let above : length body ≤ length body + j = omega arith in
+      get_or-drop (87 + length body) c j 0
+      ∙ ap (λ (k : ℕ). slice_index c k) place
+      ∙ behind_first (length body + j) (omega (arith, lt))
+      ∙ get_or-append_right body lines (length body) (length body + j) 0 refl above
+      ∙ ap (λ (k : ℕ). slice_index lines k) back
+
+  found_so : IsFoundIn c (head_for number body) body
+  found_so = record {
+    first = record {
+      within = omega (arith, long, head_length (head_for number body));
+      each = λ i lt.
+          let low : i < 87 + length body + n =
+          omega (arith, lt, head_length (head_for number body)) in
+          ap (λ (k : ℕ). slice_index c k) (zero-add i) ∙ at_octet i low
+          ∙ get_or_append_left (head_of (head_for number body)) (body ++ lines) 0 i lt;
+    };
+    octets = refl;
+    sum = refl;
+    behind = λ some. record {
+      within = long;
+      each = λ j lt.
+          let low : j < length body + n = omega (arith, lt) in
+          behind_first j low ∙ get_or_append_left body lines 0 j lt;
+    };
+  }
+
+-- What a crash leaves of a segment
+
+module _ (outcomes : List ℕ → Type 0) (number : ℕ) (body lines : List ℕ) (synced : ℕ)
+    (c : List ℕ) (s : Survives outcomes number body lines synced) (is : outcomes c) where
+  left_begins : (i : ℕ) → i < 87 + length body + synced →
+      slice_index c i ≡ slice_index (whole_text number body ++ lines) i
+  left_begins i lt = s.kept c is i (omega (arith, lt, whole_length number body))
+
+  left_long : 87 + length body ≤ length c
+  left_long = omega (
+    arith,
+    s.long c is,
+    s.room,
+    whole_length number body,
+    length-append (whole_text number body) lines,
+  )
+
+  pub whole_left : IsFoundIn c (head_for number body) body
+  whole_left = found_so c number body lines synced left_begins left_long
+
+  pub synced_left : take synced (lines_behind body c) ≡ take synced lines
+  synced_left = kept_before_zero synced (drop (87 + length body) c) lines
+      (line_octet c number body lines synced left_begins left_long)
+      (λ j lt. s.some j (omega (arith, lt, s.within)))
+
+  pub nothing_else_left : HasNoOther outcomes (whole_text number body ++ lines)
+      → lines_behind body c ≡ take (length (lines_behind body c)) lines
+  nothing_else_left none = others_before_zero (drop (87 + length body) c) lines by
+    where
+      by : (i : ℕ) → (slice_index (drop (87 + length body) c) i ≡ 0 → ⊥)
+          → slice_index (drop (87 + length body) c) i ≡ slice_index lines i
+      by i some =
+          let place = get_or-drop (87 + length body) c i 0 in
+          let back : 87 + length body + i - (87 + length body) ≡ i = omega arith in
+          let above : 87 + length body ≤ 87 + length body + i = omega arith in
+          place ∙ none c is (87 + length body + i) (λ zero. some (place ∙ zero))
+          ∙ get_or-append_right (whole_text number body) lines (87 + length body)
+          (87 + length body + i) 0 (whole_length number body) above
+          ∙ ap (λ (k : ℕ). slice_index lines k) back
+
+-- Two files
+
+pub newest_left : (mine others : List ℕ → Type 0) (number : ℕ) (body lines : List ℕ) (synced : ℕ)
+    (c d newest other : List ℕ) (head : Head) (text : List ℕ)
+    → Survives mine number body lines synced → AreOlder others number → mine c → others d
+    → AreBoth c d newest other → IsNewest newest other → Fits head
+    → IsFoundIn newest head text → IsThatOf c number body newest head text
+newest_left mine others number body lines synced c d newest other head text s older is is'
+    (inl both)
+    wins fits found = that c number body newest head text s.fits fits both.0
+    (whole_left mine number body lines synced c s is) found
+newest_left mine others number body lines synced c d newest other head text s older is is'
+    (inr both)
+    wins fits found =
+    let whole = whole_left mine number body lines synced c s is in
+    let least : number ≤ head.number = wins head (head_for number body) text body fits s.fits found
+    (subst (λ (l : List ℕ). IsFoundIn l (head_for number body) body) (sym both.1) whole) in
+    let below : head.number < number = older d is' head text fits
+    (subst (λ (l : List ℕ). IsFoundIn l head text) both.0 found) in
+    absurd (omega (arith, least, below))
+
+-- The other file
+
+pub survived_older : (outcomes : List ℕ → Type 0) (number next : ℕ) (body lines : List ℕ)
+    (synced : ℕ) → Survives outcomes number body lines synced → number < next
+    → AreOlder outcomes next
+survived_older outcomes number next body lines synced s less c is head text fits found =
+    let whole = whole_left outcomes number body lines synced c s is in
+    let same = same_first c head (head_for number body) fits s.fits found.first whole.first in
+    let number_is : head.number ≡ number = ap (λ (h : Head). h.number) same in
+    omega (arith, number_is, less)
+
+pub shut_older : (outcomes : List ℕ → Type 0) (number : ℕ) → IsShut outcomes
+    → AreOlder outcomes number
+shut_older outcomes number shut c is head text fits found =
+    absurd (not_shut c head found.first (inr (shut c is)))
+
+pub unshut_older : (old new : List ℕ → Type 0) (number : ℕ) → IsOldIfOpen old new
+    → AreOlder old number → AreOlder new number
+unshut_older old new number open_only older c is head text fits found =
+    let long : 1 < length c = omega (arith, head_within c head found.first) in
+    older c (open_only c is long (head_letter c head found.first)) head text fits found
+
+pub finished_whole : (outcomes : List ℕ → Type 0) (number : ℕ) (body c : List ℕ) (head : Head)
+    (text : List ℕ) → Fits (head_for number body) → Fits head
+    → IsTextIfOpen outcomes (whole_text number body) → outcomes c → IsFoundIn c head text
+    → IsThatOf c number body c head text
+finished_whole outcomes number body c head text fits fits' only is found =
+    that c number body c head text fits fits' refl
+    (found_so c number body [] 0 begins long) found
+  where
+    size : ℕ
+    size = length (whole_text number body)
+
+    front : take (length (whole_text number body)) c ≡ whole_text number body
+    front = (only c is (head_letter c head found.first)).0
+
+    begins : (i : ℕ) → i < 87 + length body + 0 →
+        slice_index c i ≡ slice_index (whole_text number body ++ []) i
+    begins i lt =
+        let low : i < length (whole_text number body) =
+        omega (arith, lt, whole_length number body) in
+        sym (get_or-take (length (whole_text number body)) c i 0 low)
+        ∙ ap (λ (l : List ℕ). slice_index l i) (front ∙ sym (append-nil (whole_text number body)))
+
+    long : 87 + length body ≤ length c
+    long = omega (
+      arith,
+      whole_length number body,
+      ap (λ (l : List ℕ). length l) front,
+      length-take (length (whole_text number body)) c,
+    )
+
+-- A segment whose head is synced
+
+pub survives : (outcomes : List ℕ → Type 0) (number : ℕ) (body lines : List ℕ) (durable size : ℕ)
+    (text : List ℕ)
+    → Fits (head_for number body) → text ≡ whole_text number body ++ lines → HasNoZero lines
+    → length (whole_text number body) ≤ durable → durable ≤ length text → length text ≤ size
+    → HasLength outcomes size → BeginsWith outcomes durable text
+    → Survives outcomes number body lines (durable - length (whole_text number body))
+survives outcomes number body lines durable size text fits is some head synced room long kept =
+    record {
+      fits = fits;
+      within = omega (arith, head, synced, count, length-append (whole_text number body) lines);
+      some = some;
+      size = size;
+      long = long;
+      room = omega (arith, room, count);
+      kept = λ c left i lt. kept c left i (omega (arith, lt, head))
+          ∙ ap (λ (l : List ℕ). slice_index l i) is;
+    }
+  where
+    count : length text ≡ length (whole_text number body ++ lines)
+    count = ap (λ (l : List ℕ). length l) is

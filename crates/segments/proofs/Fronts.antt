@@ -1,0 +1,255 @@
+-- How a file begins.
+use Rattle.std.proofs.Common.{◌≡◌, ◌∙◌, Bool, inl, inr, ℕ, ◌+◌, ◌<◌, ◌≤◌, List, [], ◌∷◌, length}
+use Rattle.std.proofs.Common.{min, slice_index, IfOk, IfNone, IfSome, Option, Some, None, Result}
+use Rattle.std.proofs.Common.{Ok, Err, OnOk, is_err, true, false, refl, ap, sym, subst, arith}
+use Rattle.std.proofs.lemmas.Bool.{cases_lt}
+use Rattle.std.proofs.lemmas.List.{ext_get_or}
+use Rattle.sqlite_disk.specs.Disk.{Holds}
+use Rattle.statetext.specs.Sum.{sum_of}
+use Rattle.segments.specs.Head.{Fits, head_of}
+use Rattle.std.specs.Option.{is_some}
+use Rattle.std.specs.Prelude.{not, ◌||◌}
+use Rattle.segments.specs.Starts.{ArePlaced, BeginsSo, HasNoNewer, HasNone, IsAbove, IsFoundIn}
+use Rattle.segments.specs.Starts.{IsHeadIn, IsNewest, IsShut, IsSound, is_doubtful, is_other}
+use Rattle.segments.specs.Starts.{is_shut, number_in, other_side}
+use Rattle.segments.specs.declared.head.Head.{Head}
+use Rattle.segments.specs.declared.start.Front.{Front}
+use Rattle.segments.specs.declared.start.Front.TheVariants as fronts
+use Rattle.segments.specs.declared.start.Side.{Side}
+use Rattle.segments.specs.declared.start.Side.TheVariants as sides
+use Rattle.segments.proofs.HeadLemmas.{head_first, head_length}
+
+-- what stands at one place is one thing
+pub same_octets : (file : List ℕ) (at : ℕ) (a b : List ℕ) → Holds file at a → Holds file at b
+    → length a ≡ length b
+    → a ≡ b
+same_octets file at a b one other long =
+    ext_get_or 0 a b long (λ i lt. sym (one.each i lt) ∙ other.each i (omega (arith, lt, long)))
+
+-- a first line has 87 octets, the first of which is a letter
+pub head_within : (file : List ℕ) (head : Head) → Holds file 0 (head_of head) → 87 ≤ length file
+head_within file head holds = omega (arith, holds.within, head_length head)
+
+pub head_letter : (file : List ℕ) (head : Head) → Holds file 0 (head_of head) → slice_index file 0
+    ≡ 116
+head_letter file head holds = holds.each 0 (omega (arith, head_length head)) ∙ head_first head
+
+pub not_shut : (file : List ℕ) (head : Head) → Holds file 0 (head_of head) → IsShut file → ⊥
+not_shut file head holds (inl short) = omega (arith, short, head_within file head holds)
+not_shut file head holds (inr zero) = let no : 0 ≡ 116 = sym zero ∙ head_letter file head holds in
+    absurd (omega (arith, no))
+
+pub shut_short : (file : List ℕ) → length file < 2 → IsHeadIn file fronts.Shut
+shut_short file short = record {
+  begins = inl short;
+  heads = λ head fits holds. absurd (not_shut file head holds (inl short));
+}
+
+pub shut_zero : (file first : List ℕ) → Holds file 0 first → length first ≡ 1 → slice_index first 0
+    ≡ 0
+    → IsHeadIn file fronts.Shut
+shut_zero file first held one zero =
+    let is : slice_index file 0 ≡ 0 = held.each 0 (omega (arith, one)) ∙ zero in record {
+      begins = inr is;
+      heads = λ head fits holds. absurd (not_shut file head holds (inr is));
+    }
+
+-- a file that isn't shut
+open_file : (file first : List ℕ) → Holds file 0 first → length first ≡ 1
+    → (slice_index first 0 ≡ 0 → ⊥)
+    → 2 ≤ length file → IsShut file → ⊥
+open_file file first held one some long (inl short) = omega (arith, short, long)
+open_file file first held one some long (inr zero) = some (sym (held.each 0 (omega (arith, one)))
+    ∙ zero)
+
+pub other_short : (file first : List ℕ) → Holds file 0 first → length first ≡ 1
+    → (slice_index first 0 ≡ 0 → ⊥)
+    → 2 ≤ length file → length file < 87 → IsHeadIn file fronts.Other
+other_short file first held one some long short = record {
+  begins = open_file file first held one some long;
+  heads = λ head fits holds. absurd (omega (arith, short, head_within file head holds));
+}
+
+line_of : (file row : List ℕ) (head : Head) → Holds file 0 row → length row ≡ 87
+    → Holds file 0 (head_of head)
+    → row ≡ head_of head
+line_of file row head held long holds = same_octets file 0 row (head_of head) held holds (long
+    ∙ sym (head_length head))
+
+pub other_line : (file first row : List ℕ) → Holds file 0 first → length first ≡ 1
+    → (slice_index first 0 ≡ 0 → ⊥)
+    → 2 ≤ length file → Holds file 0 row → length row ≡ 87
+    → ((head : Head) → Fits head → row ≡ head_of head → None ≡ Some head)
+    → IsHeadIn file fronts.Other
+other_line file first row held one some long line count none = record {
+  begins = open_file file first held one some long;
+  heads = λ head fits holds. let no = none head fits (line_of file row head line count holds) in
+      absurd (cc);
+}
+
+pub head_line : (file row : List ℕ) (h : Head) → Holds file 0 row → length row ≡ 87
+    → row ≡ head_of h
+    → ((head : Head) → Fits head → row ≡ head_of head → Some h ≡ Some head)
+    → IsHeadIn file (fronts.Head h)
+head_line file row h line count is all = record {
+  begins = subst (λ (l : List ℕ). Holds file 0 l) is line;
+  heads = λ head fits holds. let one = all head fits (line_of file row head line count holds) in
+      let same : h ≡ head = cc in ap fronts.Head same;
+}
+
+-- what a call promises that has gone well
+pub gone_well : {T E P : Type 0} (r : Result T E) → false ≡ is_err r → OnOk r P → P
+gone_well (Ok x) well p = p
+gone_well (Err e) well p = cc
+
+-- A segment that is whole
+
+pub found_within : (file : List ℕ) (head : Head) (text : List ℕ) → IsFoundIn file head text
+    → 87 + head.octets ≤ length file
+found_within file head text found = elim (cases_lt 0 (length text)) [
+  | inl some ↦ omega (arith, found.octets, (found.behind some).within)
+  | inr none ↦ omega (arith, found.octets, head_within file head found.first)
+]
+
+-- what was read behind the first line is its text
+pub found_sum : (file : List ℕ) (head : Head) (text read : List ℕ) → length read ≡ head.octets
+    → (0 < length read → Holds file 87 read) → IsFoundIn file head text → sum_of read ≡ head.sum
+found_sum file head text read long holds found = elim (cases_lt 0 (length text)) [
+  | inl some ↦
+      ap sum_of (same_octets file 87 read text (holds (omega (arith, some, found.octets, long)))
+      (found.behind some)
+      (long ∙ sym found.octets)) ∙ found.sum
+  | inr none ↦ ap sum_of (empty read (omega (arith, none, found.octets, long))
+      ∙ sym (empty text (omega (arith, none)))) ∙ found.sum
+]
+  where
+    empty : (l : List ℕ) → length l ≡ 0 → l ≡ []
+    empty [] is = refl
+    empty (x ∷ l) is = absurd (omega arith)
+
+-- A number above that of a first line
+pub above_front : (file : List ℕ) (front : Front) (number : ℕ) → IsHeadIn file front
+    → min (number_in front + 1) 18446744073709551615 ≤ number → IsAbove number file
+above_front file front number begins le head fits holds =
+    let e : number_in front ≡ head.number = ap number_in (begins.heads head fits holds) in
+    omega (arith, le, e)
+
+-- Two files
+
+pub first_newest : (newer older : List ℕ) (front other : Front) → IsHeadIn newer front
+    → IsHeadIn older other
+    → number_in other ≤ number_in front → IsNewest newer older
+first_newest newer older front other begins behind order own head text others fits fits' found
+    found' =
+    let a : number_in front ≡ own.number = ap number_in (begins.heads own fits found.first) in
+    let b : number_in other ≡ head.number = ap number_in (behind.heads head fits' found'.first) in
+    omega (arith, order, a, b)
+
+pub second_newest : (newest other : List ℕ) → HasNone other → IsNewest newest other
+second_newest newest other none own head text others fits fits' found found' =
+    absurd (none head others fits' found')
+
+-- a file that no crash leaves otherwise begins with a segment or is shut
+pub not_other : (file : List ℕ) (front : Front) → IsHeadIn file front → IsSound file
+    → is_other front ≡ false
+not_other file fronts.Shut begins sound = refl
+not_other file (fronts.Head head) begins sound = refl
+not_other file fronts.Other begins (inl shut) = absurd (begins.begins shut)
+not_other file fronts.Other begins (inr found) =
+    let no = begins.heads found.0 found.2 found.3.first in absurd (cc)
+
+shut_front : (file : List ℕ) (front : Front) → IsHeadIn file front → IsShut file → is_shut front
+    ≡ true
+shut_front file fronts.Shut begins shut = refl
+shut_front file (fronts.Head head) begins shut = absurd (not_shut file head begins.begins shut)
+shut_front file fronts.Other begins shut = absurd (begins.begins shut)
+
+-- where it has no segment it is shut
+pub sound_shut : (file : List ℕ) (front : Front) → IsHeadIn file front → HasNone file → IsSound file
+    → is_shut front ≡ true
+sound_shut file front begins none (inl shut) = shut_front file front begins shut
+sound_shut file front begins none (inr found) = absurd (none found.0 found.1 found.2 found.3)
+
+pub by_shut : (file : List ℕ) (front : Front) → IsHeadIn file front → is_shut front ≡ true
+    → IsShut file
+by_shut file fronts.Shut begins is = begins.begins
+by_shut file (fronts.Head head) begins is = absurd (cc)
+by_shut file fronts.Other begins is = absurd (cc)
+
+pub not_doubtful : (front behind : Front) (is_found : Bool) → is_shut front ≡ true
+    → (is_found ≡ false → is_shut behind ≡ true)
+    → is_doubtful front is_found behind ≡ false
+not_doubtful front behind true shut unless = ap not shut
+not_doubtful front behind false shut unless =
+    ap (λ (a : Bool). not a || not (is_shut behind)) shut ∙ ap not (unless refl)
+
+pub of_none : {A P : Type 0} (o : Option A) → o ≡ None → IfNone o P → P
+of_none None is p = p
+of_none (Some x) is p = absurd (cc)
+
+pub of_missing : {A P : Type 0} (o : Option A) → is_some o ≡ false → IfNone o P → P
+of_missing None is p = p
+of_missing (Some x) is p = absurd (cc)
+
+-- what two promises of an answer give
+pub of_both : {T E : Type 0} {P Q R : T → Type 0} (r : Result T E) → IfOk r P → IfOk r Q
+    → ((x : T) → P x → Q x → R x) → IfOk r R
+of_both (Ok x) p q all = all x p q
+of_both (Err e) p q all = tt
+
+pub of_three : {T E : Type 0} {P Q S R : T → Type 0} (r : Result T E) → IfOk r P → IfOk r Q
+    → IfOk r S
+    → ((x : T) → P x → Q x → S x → R x) → IfOk r R
+of_three (Ok x) p q s all = all x p q s
+of_three (Err e) p q s all = tt
+
+pub of_four : {T E : Type 0} {P Q S U R : T → Type 0} (r : Result T E) → IfOk r P → IfOk r Q
+    → IfOk r S
+    → IfOk r U → ((x : T) → P x → Q x → S x → U x → R x) → IfOk r R
+of_four (Ok x) p q s u all = all x p q s u
+of_four (Err e) p q s u all = tt
+
+-- Where the files stand
+
+pub placed_as : (side now : Side) (log db a b newest other : List ℕ) → now ≡ side → newest ≡ a
+    → other ≡ b
+    → ArePlaced side log db a b → ArePlaced now log db newest other
+placed_as side now log db a b newest other is first second h =
+    subst (λ (s : Side). ArePlaced s log db newest other) (sym is)
+    (subst (λ (l : List ℕ). ArePlaced side log db l other) (sym first)
+    (subst (λ (l : List ℕ). ArePlaced side log db a l) (sym second) h))
+
+pub placed_other : (side : Side) (log db a b : List ℕ) → ArePlaced side log db a b
+    → ArePlaced (other_side side) log db b a
+placed_other sides.Log log db a b h = (h.1, h.0)
+placed_other sides.Db log db a b h = (h.1, h.0)
+
+-- No newer segment stood in the other file
+
+pub sure_first : (newer older : List ℕ) (front other : Front) (own : Head) → IsHeadIn newer front
+    → IsHeadIn older other → number_in other ≤ number_in front → front ≡ fronts.Head own
+    → is_other other ≡ false
+    → HasNoNewer newer older
+sure_first newer older front fronts.Shut own begins behind order is sure = inl behind.begins
+sure_first newer older front (fronts.Head head) own begins behind order is sure =
+    let mine : Holds newer 0 (head_of own) =
+    subst (λ (f : Front). BeginsSo newer f) is begins.begins in
+    let number : number_in front ≡ own.number = ap number_in is in
+    inr (own, head, mine, behind.begins, omega (arith, order, number))
+sure_first newer older front fronts.Other own begins behind order is sure = absurd (cc)
+
+pub sure_second : (newer older : List ℕ) (front behind : Front) (is_found : Bool)
+    → IsHeadIn newer front
+    → is_found ≡ true → is_doubtful front is_found behind ≡ false → HasNoNewer older newer
+sure_second newer older front behind true begins some sure =
+    inl (by_shut newer front begins (shut_of front sure))
+  where
+    shut_of : (f : Front) → not (is_shut f) ≡ false → is_shut f ≡ true
+    shut_of fronts.Shut e = refl
+    shut_of (fronts.Head head) e = absurd (cc)
+    shut_of fronts.Other e = absurd (cc)
+sure_second newer older front behind false begins some sure = absurd (cc)
+
+pub of_some : {A : Type 0} (P : A → Type 0) (o : Option A) (x : A) → o ≡ Some x → IfSome o P → P x
+of_some P None x is h = absurd (cc)
+of_some P (Some y) x is h = let same : y ≡ x = cc in subst P same h

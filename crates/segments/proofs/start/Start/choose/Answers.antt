@@ -1,0 +1,143 @@
+use Rattle.std.proofs.Common.{◌≡◌, List, ℕ, IsTrue, ap, subst, sym, true, ◌∙◌, arith}
+use Rattle.std.specs.Option.{is_some}
+use Rattle.segments.specs.Starts.{HasNoNewer, IsAbove, IsHeadIn, IsNewest, IsSound, other_side}
+use Rattle.segments.specs.declared.start.Found.{Found}
+use Rattle.segments.specs.declared.start.Front.TheVariants as fronts
+use Rattle.segments.proofs.Fronts.{above_front, first_newest, not_doubtful, of_both, of_four}
+use Rattle.segments.proofs.Fronts.{of_missing, of_none, of_some, of_three, placed_as, placed_other}
+use Rattle.segments.proofs.Fronts.{sound_shut, sure_first, sure_second}
+use Rattle.segments.proofs.start.Start.choose.Goals as goal
+
+pub returns-in-Some-clause-newest : goal.returns-in-Some-clause-newest
+returns-in-Some-clause-newest g c =
+    of_both c.made.result c.made.ensures.newest c.made.ensures.other (λ s is other clean.
+    let newer : IsTrue (g.D.Disk.is_clean c.found_in.new.file) =
+    subst (λ d. IsTrue (g.D.Disk.is_clean d)) is clean.0 in
+    let older : IsTrue (g.D.Disk.is_clean c.args.older) =
+    subst (λ d. IsTrue (g.D.Disk.is_clean d)) other clean.1 in
+    let wins : IsNewest (g.D.Disk.seen c.found_in.new.file) (g.D.Disk.seen c.args.older) =
+    first_newest (g.D.Disk.seen c.found_in.new.file) (g.D.Disk.seen c.args.older) c.args.front
+    c.args.other_front
+    (subst (λ (file : List ℕ). IsHeadIn file c.args.front) (sym c.found_in.ensures.seen)
+    (c.requires.head (c.found_in.ensures.clean newer)))
+    (c.requires.other older) c.requires.order in
+    subst (λ d. IsNewest (g.D.Disk.seen s.newest) (g.D.Disk.seen d)) (sym other)
+    (subst (λ d. IsNewest (g.D.Disk.seen d) (g.D.Disk.seen c.args.older)) (sym is) wins))
+
+pub returns-clause-sound : goal.returns-clause-sound
+returns-clause-sound g c =
+    of_three c.made-2.result c.made-2.ensures.newest c.made-2.ensures.other
+    c.made-2.ensures.doubtful
+    (λ s is other told clean first second.
+    let older : IsTrue (g.D.Disk.is_clean c.found_in-2.new.file) =
+    subst (λ d. IsTrue (g.D.Disk.is_clean d)) is clean.0 in
+    let newer : IsTrue (g.D.Disk.is_clean c.found_in.new.file) =
+    subst (λ d. IsTrue (g.D.Disk.is_clean d)) other clean.1 in
+    told ∙ c.is_doubtful-is_doubtful.ensures ∙ not_doubtful c.args.front c.args.other_front _
+    (sound_shut (g.D.Disk.seen c.found_in.new.file) c.args.front
+    (subst (λ (file : List ℕ). IsHeadIn file c.args.front) (sym c.found_in.ensures.seen)
+    (c.requires.head (c.found_in.ensures.clean newer)))
+    (of_none c.in_ok-found.field-0 c.in_default.is c.in_ok-found.ensures.none newer)
+    (subst (λ d. IsSound (g.D.Disk.seen d)) other second))
+    (λ missing. sound_shut (g.D.Disk.seen c.found_in-2.new.file) c.args.other_front
+    (subst (λ (file : List ℕ). IsHeadIn file c.args.other_front) (sym c.found_in-2.ensures.seen)
+    (c.requires.other (c.found_in-2.ensures.clean older)))
+    (of_missing c.in_ok-found-2.found (sym c.is_some.ensures ∙ missing) c.in_ok-found-2.ensures.none
+    older)
+    (subst (λ d. IsSound (g.D.Disk.seen d)) is first)))
+
+pub returns-in-Some-clause-placed : goal.returns-in-Some-clause-placed
+returns-in-Some-clause-placed g c = λ log db placed.
+    of_three c.made.result c.made.ensures.newest c.made.ensures.other c.made.ensures.side
+    (λ s is other side.
+    placed_as c.args.side s.side log db (g.D.Disk.seen c.args.newer) (g.D.Disk.seen c.args.older)
+    (g.D.Disk.seen s.newest) (g.D.Disk.seen s.other) side
+    (ap (λ d. g.D.Disk.seen d) is ∙ c.found_in.ensures.seen) (ap (λ d. g.D.Disk.seen d) other)
+    placed)
+
+pub returns-clause-placed : goal.returns-clause-placed
+returns-clause-placed g c = λ log db placed.
+    of_three c.made-2.result c.made-2.ensures.newest c.made-2.ensures.other c.made-2.ensures.side
+    (λ s is other side.
+    placed_as (other_side c.args.side) s.side log db (g.D.Disk.seen c.args.older)
+    (g.D.Disk.seen c.args.newer)
+    (g.D.Disk.seen s.newest) (g.D.Disk.seen s.other) (side ∙ c.other.ensures)
+    (ap (λ d. g.D.Disk.seen d) is ∙ c.found_in-2.ensures.seen)
+    (ap (λ d. g.D.Disk.seen d) other ∙ c.found_in.ensures.seen)
+    (placed_other c.args.side log db (g.D.Disk.seen c.args.newer) (g.D.Disk.seen c.args.older)
+    placed))
+
+pub returns-in-Some-clause-above : goal.returns-in-Some-clause-above
+returns-in-Some-clause-above g c =
+    of_three c.made.result c.made.ensures.newest c.made.ensures.other c.made.ensures.number
+    (λ s is other number clean.
+    let newer : IsTrue (g.D.Disk.is_clean c.found_in.new.file) =
+    subst (λ d. IsTrue (g.D.Disk.is_clean d)) is clean.0 in
+    let older : IsTrue (g.D.Disk.is_clean c.args.older) =
+    subst (λ d. IsTrue (g.D.Disk.is_clean d)) other clean.1 in (
+      subst (λ n. IsAbove n (g.D.Disk.seen s.newest)) (sym number)
+          (subst (λ (l : List ℕ). IsAbove c.args.number l) (sym (ap (λ d. g.D.Disk.seen d) is
+          ∙ c.found_in.ensures.seen))
+          (above_front (g.D.Disk.seen c.args.newer) c.args.front c.args.number
+          (c.requires.head (c.found_in.ensures.clean newer)) c.requires.above)),
+      subst (λ n. IsAbove n (g.D.Disk.seen s.other)) (sym number)
+          (subst (λ (l : List ℕ). IsAbove c.args.number l) (sym (ap (λ d. g.D.Disk.seen d) other))
+          (above_front (g.D.Disk.seen c.args.older) c.args.other_front c.args.number
+          (c.requires.other older)
+          (omega (arith, c.requires.order, c.requires.above)))),
+    ))
+
+pub returns-clause-above : goal.returns-clause-above
+returns-clause-above g c =
+    of_three c.made-2.result c.made-2.ensures.newest c.made-2.ensures.other c.made-2.ensures.number
+    (λ s is other number clean.
+    let older : IsTrue (g.D.Disk.is_clean c.found_in-2.new.file) =
+    subst (λ d. IsTrue (g.D.Disk.is_clean d)) is clean.0 in
+    let newer : IsTrue (g.D.Disk.is_clean c.found_in.new.file) =
+    subst (λ d. IsTrue (g.D.Disk.is_clean d)) other clean.1 in (
+      subst (λ n. IsAbove n (g.D.Disk.seen s.newest)) (sym number)
+          (subst (λ (l : List ℕ). IsAbove c.args.number l) (sym (ap (λ d. g.D.Disk.seen d) is
+          ∙ c.found_in-2.ensures.seen))
+          (above_front (g.D.Disk.seen c.args.older) c.args.other_front c.args.number
+          (c.requires.other (c.found_in-2.ensures.clean older))
+          (omega (arith, c.requires.order, c.requires.above)))),
+      subst (λ n. IsAbove n (g.D.Disk.seen s.other)) (sym number)
+          (subst (λ (l : List ℕ). IsAbove c.args.number l) (sym (ap (λ d. g.D.Disk.seen d) other
+          ∙ c.found_in.ensures.seen))
+          (above_front (g.D.Disk.seen c.args.newer) c.args.front c.args.number
+          (c.requires.head (c.found_in.ensures.clean newer)) c.requires.above)),
+    ))
+
+pub returns-in-Some-clause-sure : goal.returns-in-Some-clause-sure
+returns-in-Some-clause-sure g c =
+    of_three c.made.result c.made.ensures.newest c.made.ensures.other c.made.ensures.doubtful
+    (λ s is other told clean some sure.
+    let newer : IsTrue (g.D.Disk.is_clean c.found_in.new.file) =
+    subst (λ d. IsTrue (g.D.Disk.is_clean d)) is clean.0 in
+    let older : IsTrue (g.D.Disk.is_clean c.args.older) =
+    subst (λ d. IsTrue (g.D.Disk.is_clean d)) other clean.1 in
+    subst (λ (l : List ℕ). HasNoNewer l (g.D.Disk.seen s.other)) (sym (ap (λ d. g.D.Disk.seen d) is
+    ∙ c.found_in.ensures.seen))
+    (subst (λ (l : List ℕ). HasNoNewer (g.D.Disk.seen c.args.newer) l)
+    (sym (ap (λ d. g.D.Disk.seen d) other))
+    (sure_first (g.D.Disk.seen c.args.newer) (g.D.Disk.seen c.args.older) c.args.front
+    c.args.other_front _
+    (c.requires.head (c.found_in.ensures.clean newer)) (c.requires.other older) c.requires.order
+    (of_some (λ (x : Found). c.args.front ≡ fronts.Head x.head) c.in_ok-found.field-0 _ c.in-Some.is
+    c.in_ok-found.ensures.head)
+    (sym c.is_other-is_doubtful.ensures ∙ sym told ∙ sure))))
+
+pub returns-clause-sure : goal.returns-clause-sure
+returns-clause-sure g c =
+    of_four c.made-2.result c.made-2.ensures.newest c.made-2.ensures.other c.made-2.ensures.doubtful
+    c.made-2.ensures.found
+    (λ s is other told found clean some sure.
+    let newer : IsTrue (g.D.Disk.is_clean c.found_in.new.file) =
+    subst (λ d. IsTrue (g.D.Disk.is_clean d)) other clean.1 in
+    subst (λ (l : List ℕ). HasNoNewer (g.D.Disk.seen s.newest) l)
+    (sym (ap (λ d. g.D.Disk.seen d) other ∙ c.found_in.ensures.seen))
+    (sure_second (g.D.Disk.seen c.args.newer) (g.D.Disk.seen s.newest) c.args.front
+    c.args.other_front _
+    (c.requires.head (c.found_in.ensures.clean newer)) (c.is_some.ensures ∙ sym (ap is_some found)
+    ∙ some)
+    (sym c.is_doubtful-is_doubtful.ensures ∙ sym told ∙ sure)))

@@ -1,0 +1,49 @@
+-- What a start finds where there was a crash (profile).
+use Rattle.std.specs.Prelude.{◌≡◌, ◌⊎◌, ℕ, ◌+◌, ◌-◌, ◌<◌, ◌≤◌, List, ◌++◌, length, take, drop}
+use Rattle.std.specs.Prelude.{slice_index}
+use Rattle.statetext.specs.Sum.{sum_of}
+use Rattle.segments.specs.Crash.{BeginsWith, HasLength}
+use Rattle.segments.specs.Head.{Fits, whole_text}
+use Rattle.segments.specs.Starts.{IsFoundIn, before_zero}
+use Rattle.segments.specs.declared.head.Head.{Head}
+
+-- the first line of the segment with this number and this checkpoint
+abbrev pub head_for : ℕ → List ℕ → Head
+head_for number body = record { number = number; octets = length body; sum = sum_of body }
+
+-- no octet of these lines is 0
+abbrev pub HasNoZero : List ℕ → Type 0
+HasNoZero lines = (i : ℕ) → i < length lines → slice_index lines i ≡ 0 → ⊥
+
+-- Whatever a crash leaves of a segment's file: the segment has this number and this checkpoint, and
+-- behind that these lines, of which so many octets are synced. No octet of a line is 0.
+pub record Survives (outcomes : List ℕ → Type 0) (number : ℕ) (body lines : List ℕ)
+    (synced : ℕ) : Type 0 where
+  pub fits : Fits (head_for number body)
+  pub within : synced ≤ length lines
+  pub some : HasNoZero lines
+  pub size : ℕ
+  pub long : HasLength outcomes size
+  pub room : length (whole_text number body ++ lines) ≤ size
+  pub kept : BeginsWith outcomes (length (whole_text number body) + synced)
+      (whole_text number body ++ lines)
+
+-- each segment that a crash may leave in a file has a number below this one
+abbrev pub AreOlder : (List ℕ → Type 0) → ℕ → Type 0
+AreOlder outcomes number = (c : List ℕ) → outcomes c → (head : Head) (text : List ℕ) → Fits head →
+    IsFoundIn c head text → head.number < number
+
+-- the lines that a start reads behind the checkpoint of a file
+abbrev pub lines_behind : (body file : List ℕ) → List ℕ
+lines_behind body file = before_zero (drop (87 + length body) file)
+
+-- these are the two files
+abbrev pub AreBoth : (one two newest other : List ℕ) → Type 0
+AreBoth one two newest other = ((newest ≡ one) × (other ≡ two)) ⊎ ((newest ≡ two) × (other ≡ one))
+
+-- a start has found this segment, and no other
+pub record IsThatOf (file : List ℕ) (number : ℕ) (body newest : List ℕ) (head : Head)
+    (text : List ℕ) : Type 0 where
+  pub same : newest ≡ file
+  pub first : head ≡ head_for number body
+  pub checkpoint : text ≡ body

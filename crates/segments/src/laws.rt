@@ -1,0 +1,57 @@
+//! What holds of both files over a crash.
+ghost use Rattle.std.specs.Prelude.{◌≡◌, ◌<◌, ℕ, List, ◌++◌, length, take};
+ghost use Rattle.segments.specs.Crash.{HasNoOther, IsOldIfOpen, IsShut, IsTextIfOpen};
+ghost use Rattle.segments.specs.Crashes.{AreBoth, AreOlder, IsThatOf, Survives, head_for};
+ghost use Rattle.segments.specs.Crashes.{lines_behind};
+ghost use Rattle.segments.specs.Head.{Fits, whole_text};
+ghost use Rattle.segments.specs.Starts.{IsFoundIn, IsNewest};
+ghost use Rattle.segments.specs.declared.head.Head.{Head};
+
+use sqlite_disk::Disk;
+
+/// Over any crash a start finds the segment that took lines, and no other: what a crash may leave
+/// of its file ([`crate::Segment::survives`]) has the segment whole, and where each segment that it
+/// may leave in the other file is older, what [`crate::Start::open`] promises of the newest one
+/// speaks of this one. The lines that the start reads behind the checkpoint begin with all that was
+/// synced; and where a crash leaves each octet old or new, they are a beginning of those that were
+/// appended.
+pub fn a_start_finds_what_was_synced<D: Disk>()
+    ensures whole { (mine : D) (number : ℕ) (body lines : List ℕ) (synced : ℕ) (c : List ℕ) →
+        Survives (D.Disk.may_leave mine) number body lines synced → D.Disk.may_leave mine c →
+        IsFoundIn c (head_for number body) body }
+    ensures newest { (mine spare : D) (number : ℕ) (body lines : List ℕ) (synced : ℕ)
+        (c d newest other : List ℕ) (head : Head) (text : List ℕ) →
+        Survives (D.Disk.may_leave mine) number body lines synced →
+        AreOlder (D.Disk.may_leave spare) number → D.Disk.may_leave mine c →
+        D.Disk.may_leave spare d → AreBoth c d newest other → IsNewest newest other → Fits head →
+        IsFoundIn newest head text → IsThatOf c number body newest head text }
+    ensures synced { (mine : D) (number : ℕ) (body lines : List ℕ) (synced : ℕ) (c : List ℕ) →
+        Survives (D.Disk.may_leave mine) number body lines synced → D.Disk.may_leave mine c →
+        take synced (lines_behind body c) ≡ take synced lines }
+    ensures no_other { (mine : D) (number : ℕ) (body lines : List ℕ) (synced : ℕ) (c : List ℕ) →
+        Survives (D.Disk.may_leave mine) number body lines synced →
+        HasNoOther (D.Disk.may_leave mine) (whole_text number body ++ lines) →
+        D.Disk.may_leave mine c →
+        lines_behind body c ≡ take (length (lines_behind body c)) lines }
+{}
+
+/// What the other file may have while the next segment is begun there: nothing but older segments,
+/// from the one that stood there to the moment at which the new one stands whole. A segment that
+/// took lines is older than the next. A file that is shut has none, and one that couldn't be shut
+/// has those that it had. Where the last octet was written, or that failed, it has the new segment,
+/// or none.
+pub fn the_other_file_has_older_segments<D: Disk>()
+    ensures survived { (spare : D) (number next : ℕ) (body lines : List ℕ) (synced : ℕ) →
+        Survives (D.Disk.may_leave spare) number body lines synced → number < next →
+        AreOlder (D.Disk.may_leave spare) next }
+    ensures shut { (spare : D) (number : ℕ) → IsShut (D.Disk.may_leave spare) →
+        AreOlder (D.Disk.may_leave spare) number }
+    ensures unshut { (old new : D) (number : ℕ) →
+        IsOldIfOpen (D.Disk.may_leave old) (D.Disk.may_leave new) →
+        AreOlder (D.Disk.may_leave old) number → AreOlder (D.Disk.may_leave new) number }
+    ensures finished { (spare : D) (number : ℕ) (body c : List ℕ) (head : Head)
+        (text : List ℕ) → Fits (head_for number body) → Fits head →
+        IsTextIfOpen (D.Disk.may_leave spare) (whole_text number body) →
+        D.Disk.may_leave spare c → IsFoundIn c head text →
+        IsThatOf c number body c head text }
+{}

@@ -1,6 +1,0 @@
-use Rattle.std.proofs.Common.{◌≡◌, drop}
-use Rattle.sim.specs.Losses.{first_said, turns_said}
-use Rattle.sim.proofs.script.Script.turns.Given as goal
-
-abbrev pub invariant-loop-directive : goal.invariant-loop-directive
-invariant-loop-directive l = first_said (turns_said) (drop l.directive-index l.self) ≡ first_said (turns_said) l.self

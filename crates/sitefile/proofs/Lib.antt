@@ -1,0 +1,4 @@
+pub mod KeyLemmas
+pub mod NameLemmas
+pub mod SiteLemmas
+pub mod UnknownLemmas

@@ -1,0 +1,5 @@
+pub mod Faults
+pub mod Keys
+pub mod Names
+pub mod Site
+pub mod Unknown

@@ -1,0 +1,18 @@
+//! What belongs to a site: a TOML file beside the settings, with the names of the line and of its
+//! stations, and what the words of a live run may say too (this gateway's own profile).
+//!
+//! [`read_site`] reads a file's octets, or answers the first fault. Proved: each value is that of
+//! its key; a wrong key is the first wrong one in the definition's order (`specs/Site.antt`); an
+//! unknown key is told only where no key is wrong; a file without fault is never refused but for
+//! want of memory.
+#![tactic(auto)]
+
+mod fault;
+mod keys;
+mod names;
+mod site;
+mod unknown;
+
+pub use fault::SiteFault;
+pub use names::{Names, StationName};
+pub use site::{Flags, Places, Site, read_site};

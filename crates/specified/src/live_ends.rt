@@ -1,0 +1,145 @@
+//! Live ends: the crate `live`.
+ghost use Rattle.std.specs.Prelude.{None};
+
+use gateway::{Next, Port};
+use live::{Clock, Door, Got, Guests, Live, SentAway, Visitor, Wire};
+use settings::read_config;
+use std::net::{IpAddr, Ipv4Addr};
+use std::test::Fail;
+
+/// One station.
+const CONFIG: &[u8] = b"[line]
+link = 1
+cause = 1
+ca = 1
+ioa = 2
+[[station]]
+address = 1
+ca = 1
+";
+
+/// A wire on which one octet stands. It takes one write, and tells nothing.
+#[derive(Drop)]
+struct Stub {
+    octet: Option<u8>,
+    is_free: bool,
+}
+
+/// A wire on which this octet stands.
+fn wire_with(octet: u8) -> Stub {
+    Stub {
+        octet: Some(octet),
+        is_free: true,
+    }
+}
+
+impl Wire for Stub {
+    ghost history = { λ wire. None };
+
+    fn read(&mut self, buf: &mut [u8; 1024]) -> Got {
+        let Some(octet) = self.octet.take() else {
+            return Got::Quiet;
+        };
+        buf[0] = octet;
+        Got::Octets(1)
+    }
+
+    fn write(&mut self, _octets: &[u8]) -> bool {
+        let was_free = self.is_free;
+        self.is_free = false;
+        was_free
+    }
+}
+
+/// A door at which one visitor of this machine waits. It tells nothing.
+#[derive(Drop)]
+struct Hall {
+    visitor: Option<Stub>,
+}
+
+impl Door for Hall {
+    type Wire = Stub;
+
+    ghost visits = { λ door. None };
+
+    fn accept(&mut self, guests: &Guests) -> Option<Visitor<Stub>> {
+        let wire = self.visitor.take()?;
+        let address = IpAddr::V4(Ipv4Addr::LOCALHOST);
+        if guests.lets_in(address) {
+            Some(Visitor { address, wire })
+        } else {
+            None
+        }
+    }
+
+    fn sent_away(&self) -> SentAway {
+        SentAway {
+            count: 0,
+            last: None,
+        }
+    }
+}
+
+/// A clock that goes on by 1 ms at each reading, and begins at 7. It tells nothing.
+#[derive(Drop)]
+struct Steps {
+    now: u64,
+}
+
+impl Clock for Steps {
+    ghost moments = { λ clock. None };
+
+    ghost walls = { λ clock. None };
+
+    fn now_ms(&mut self) -> u64 {
+        self.now = self.now.saturating_add(1);
+        self.now
+    }
+
+    fn wall_ms(&mut self) -> u64 {
+        1_709_210_096_789
+    }
+}
+
+#[test]
+fn ends_of_a_live_run(rt: HostRuntime) -> Result<(), Fail> {
+    let config = read_config(rt.alloc(), CONFIG, false)?;
+    let hall = Hall {
+        visitor: Some(wire_with(0x68)),
+    };
+    // The wall clock is told first. Then the door is looked at, then the connection, then the line.
+    let mut port = Live::new(
+        wire_with(0xE5),
+        hall,
+        Steps { now: 0 },
+        Guests::Anyone,
+        &config,
+    );
+    let mut buf = [0; 1024];
+    let are_told = matches!(port.next(&mut buf), Next::Wall(_, 1_709_210_096_789))
+        && matches!(port.next(&mut buf), Next::Open(_))
+        && matches!(port.next(&mut buf), Next::Bytes(_, 1))
+        && buf[0] == 0x68
+        && matches!(port.next(&mut buf), Next::Line(_, 1))
+        && buf[0] == 0xE5;
+    assert!(rt; are_told);
+    Ok(())
+}
+
+#[test]
+fn ends_one_by_one(rt: HostRuntime) {
+    let mut buf = [0; 1024];
+    let mut wire = wire_with(0xE5);
+    assert_eq!(rt; wire.read(&mut buf), Got::Octets(1));
+    assert_eq!(rt; wire.read(&mut buf), Got::Quiet);
+    assert!(rt; wire.write(&[0xE5]));
+    assert!(rt; !wire.write(&[0xE5]));
+    let mut hall = Hall {
+        visitor: Some(wire_with(0x68)),
+    };
+    assert!(rt; hall.accept(&Guests::Anyone).is_some());
+    assert!(rt; hall.accept(&Guests::Anyone).is_none());
+    let mut clock = Steps { now: 6 };
+    assert_eq!(rt; clock.now_ms(), 7);
+    assert_eq!(rt; clock.wall_ms(), 1_709_210_096_789);
+}

@@ -1,0 +1,124 @@
+//! Link procedures: the crate `link` (IEC 60870-5-2).
+ghost use Rattle.std.specs.Prelude.{◌≡◌, ◌<◌, length};
+ghost use Rattle.ft12.specs.declared.frame.LinkSize.TheVariants.{One};
+
+use ft12::{Frame, LinkSize};
+use link::{LinkSettings, Master, NoMemory, Outcome, OwnedOutcome, Request, Station};
+use std::process::Abort;
+
+/// One-octet addresses, no repeats; a service that isn't answered is held.
+const SETTINGS: LinkSettings = LinkSettings {
+    size: LinkSize::One,
+    answer_ms: 200,
+    retries: 0,
+    hold: true,
+    burst: 8,
+};
+
+const STATUS: [u8; 5] = [0x10, 0x49, 0x01, 0x4A, 0x16];
+
+const RESET: [u8; 5] = [0x10, 0x40, 0x01, 0x41, 0x16];
+
+const POLL: [u8; 5] = [0x10, 0x7B, 0x01, 0x7C, 0x16];
+
+/// A single command, on, to object 10; and it on the line, as the service after the first poll.
+const EXECUTE: [u8; 7] = [0x2D, 0x01, 0x06, 0x01, 0x0A, 0x00, 0x01];
+
+const COMMAND: [u8; 15] = [
+    0x68, 0x09, 0x09, 0x68, 0x53, 0x01, 0x2D, 0x01, 0x06, 0x01, 0x0A, 0x00, 0x01, 0x94, 0x16,
+];
+
+/// Whether this request goes out.
+fn sends(request: Option<Request>, octets: &[u8]) -> bool {
+    request.is_some_and(|request| request.octets.as_slice() == octets)
+}
+
+#[test]
+fn a_primary_station(rt: HostRuntime) -> Result<(), NoMemory> {
+    let mut master = Master::new(rt.alloc(), SETTINGS, &[1, 2])?;
+    starts_the_second(&rt, &mut master);
+    let mut master = Master::new(rt.alloc(), SETTINGS, &[1])?;
+    sends_a_command(&rt, &mut master);
+    Ok(())
+}
+
+/// The second station is asked once the first one's time is over, and started.
+fn starts_the_second(rt: &impl Abort, master: &mut Master) {
+    assert!(rt; sends(master.next(0, true), &STATUS));
+    assert!(rt; matches!(master.due(200), Outcome::None));
+    assert!(rt; sends(master.next(200, true), &[0x10, 0x49, 0x02, 0x4B, 0x16]));
+    assert!(rt; master.octets(&[0x10, 0x0B, 0x02, 0x0D, 0x16]) == OwnedOutcome::None);
+    assert!(rt; sends(master.next(201, true), &[0x10, 0x40, 0x02, 0x42, 0x16]));
+    assert!(rt; master.octets(&[0xE5]) == OwnedOutcome::Started(1));
+    assert!(rt; sends(master.next(202, true), &STATUS));
+}
+
+/// The one station is started and polled. A command goes down to it, and its answer is spoilt.
+fn sends_a_command(rt: &impl Abort, master: &mut Master)
+    requires some { 0 < length master.old.stations }
+    requires size { master.old.settings.size ≡ One }
+{
+    let _ = master.next(0, true);
+    let _ = master.octets(&[0x10, 0x0B, 0x01, 0x0C, 0x16]);
+    let _ = master.next(10, true);
+    assert!(rt; master.octets(&[0xE5]) == OwnedOutcome::Started(0));
+    assert!(rt; sends(master.next(20, true), &POLL));
+    assert!(rt; matches!(master.due(219), Outcome::None));
+    // One command of a station at a time; what never went out is taken back.
+    assert!(rt; 0 < master.count());
+    assert!(rt; master.offer(0, &EXECUTE));
+    assert!(rt; 0 < master.count());
+    assert!(rt; !master.offer(0, &EXECUTE));
+    master.withdraw();
+    assert!(rt; 0 < master.count());
+    assert!(rt; master.offer(0, &EXECUTE));
+    assert!(rt; master.octets(&[0xE5]) == OwnedOutcome::Empty(0));
+    assert!(rt; sends(master.next(40, true), &COMMAND));
+    // An exchange that had octets and no answer is spoilt.
+    assert!(rt; master.octets(&[0x00]) == OwnedOutcome::None);
+    assert!(rt; matches!(master.due(240), Outcome::None));
+    assert_eq!(rt; master.spoilt(), 1);
+}
+
+/// Whether the answer is a report of station 1, with ACD clear.
+fn gives(answer: Option<Frame>, report: &[u8]) -> bool {
+    match answer {
+        Some(
+            Frame::Data {
+                c: 0x08,
+                a: 1,
+                body,
+            },
+        ) => body.as_slice() == report,
+        _ => false,
+    }
+}
+
+#[test]
+fn an_outstation(rt: HostRuntime) -> Result<(), NoMemory> {
+    let mut station = Station::new(rt.alloc(), LinkSize::One, 1);
+    station.report1(&[7])?;
+    assert!(rt; matches!(station.size(), LinkSize::One));
+    station.report2(&[1, 2, 3])?;
+    answers(&rt, &mut station);
+    Ok(())
+}
+
+/// It gives a report of each class and takes a command.
+fn answers(rt: &impl Abort, station: &mut Station) {
+    // A poll before a reset isn't answered. ACD is set while class 1 waits.
+    assert!(rt; station.hear(&POLL).is_none());
+    assert_eq!(rt; station.hear(&STATUS), Some(Frame::Fixed { c: 0x2B, a: 1 }));
+    assert_eq!(rt; station.hear(&RESET), Some(Frame::Fixed { c: 0x20, a: 1 }));
+    assert!(rt; gives(station.hear(&[0x10, 0x7A, 0x01, 0x7B, 0x16]), &[7]));
+    // The bit changes with each new service; a repeat gets the same answer.
+    let class2 = [0x10, 0x5B, 0x01, 0x5C, 0x16];
+    assert!(rt; gives(station.hear(&class2), &[1, 2, 3]));
+    assert!(rt; gives(station.hear(&class2), &[1, 2, 3]));
+    let command = [
+        0x68, 0x09, 0x09, 0x68, 0x73, 0x01, 0x2D, 0x01, 0x06, 0x01, 0x0A, 0x00, 0x01, 0xB4, 0x16,
+    ];
+    assert_eq!(rt; station.hear(&command), Some(Frame::Single));
+    assert!(rt; matches!(station.accepted(), [asdu] if asdu.as_slice() == EXECUTE.as_slice()));
+    assert_eq!(rt; station.given(), 2);
+}

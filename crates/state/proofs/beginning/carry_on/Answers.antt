@@ -1,0 +1,50 @@
+use Rattle.std.proofs.Common.{◌≡◌, IsTrue, true, List, Some, ℕ, ◌∙◌, ap, sym, subst}
+use Rattle.std.specs.Prelude.{◌⊎◌}
+use Rattle.segments.specs.Starts.{IsSound}
+use Rattle.state.specs.Beginnings.{GoesOnFrom, has_past, is_trusted}
+use Rattle.state.specs.declared.beginning.Origin.{Origin}
+use Rattle.state.proofs.BegunLemmas.{begun_from, numbered_from}
+use Rattle.state.proofs.beginning.carry_on.Goals as goal
+
+pub returns-in-Ok-clause-begun : goal.returns-in-Ok-clause-begun
+returns-in-Ok-clause-begun g c =
+    let is = c.origin_of.ensures in
+    let folder = c.with_files.ensures.folder ∙ c.new-store.ensures.folder in
+    begun_from c.args.config.now c.args.settings.items g.F.Folder.lineage
+    (g.F.Folder.mark c.with_files.result.folder)
+    c.with_files.result.opened c.into_files-newest.result.0 c.into_files-newest.result.1
+    c.resume.new.start.newest
+    c.args.start.newest c.args.start.other c.origin_of.result c.args.goes_on
+    c.with_files.ensures.opened c.into_files-newest.ensures.newest
+    (c.into_files-newest.ensures.other ∙ c.resume.ensures.other)
+    c.resume.ensures.seen c.resume.ensures.clean
+    (ap (λ (o : Origin). o.moment) is ∙ sym (ap (λ (o : Origin). Some o.gateway.moment) is))
+    (ap (λ (o : Origin). has_past o.beginning) is ∙ c.with_past.ensures.past)
+    (ap (λ (o : Origin). is_trusted o.beginning) is ∙ c.with_past.ensures.trusted)
+    (λ trusted. ap (λ f. g.F.Folder.mark f) folder ∙ c.requires.trusted trusted)
+    c.requires.newest c.requires.sure
+    (λ none. subst (λ f. (g.F.Folder.mark f ≡ Some true)
+    ⊎ (IsTrue (g.F.File.Disk.is_clean c.args.start.newest)
+    × IsTrue (g.F.File.Disk.is_clean c.args.start.other)
+    → IsSound (g.F.File.Disk.seen c.args.start.newest)
+    → IsSound (g.F.File.Disk.seen c.args.start.other) → ⊥)) (sym folder) (c.requires.reset none))
+    (λ clean. subst (λ (o : Origin). GoesOnFrom c.args.goes_on c.args.config.now
+    c.args.settings.items g.F.Folder.lineage
+    (g.F.File.Disk.seen c.resume.new.start.newest) o.is_moved o.gap o.before.entries o.gateway)
+    (sym is)
+    (subst (λ (text : List ℕ). GoesOnFrom c.args.goes_on c.args.config.now text g.F.Folder.lineage
+    (g.F.File.Disk.seen c.resume.new.start.newest) c.in-Ok.resumed.is_moved c.in-Ok.resumed.gap
+    c.in-Ok.resumed.before.entries c.in-Ok.resumed.gateway) c.deref.ensures.value
+    (c.in-Ok.ensures.goes_on clean)))
+
+pub returns-in-Ok-clause-numbered : goal.returns-in-Ok-clause-numbered
+returns-in-Ok-clause-numbered g c =
+    numbered_from c.with_files.result.opened c.into_files-newest.result.0
+    c.into_files-newest.result.1
+    c.resume.new.start.newest c.args.start.newest c.args.start.other c.with_files.result.number
+    c.args.start.number
+    c.with_files.ensures.opened c.into_files-newest.ensures.newest
+    (c.into_files-newest.ensures.other ∙ c.resume.ensures.other)
+    (c.with_files.ensures.number ∙ c.new-store.ensures.number ∙ c.next_number.ensures
+    ∙ ap (λ n. n.1) c.resume.ensures.next)
+    c.resume.ensures.seen c.resume.ensures.clean c.requires.above

@@ -1,0 +1,16 @@
+-- With what a run begins in some directory (profile).
+use Rattle.std.specs.Prelude.{ℕ, Bool, List, Option}
+use Rattle.gateway.specs.Config.{Settings}
+use Rattle.gateway.specs.Log.{Log}
+use Rattle.sqlite_disk.specs.declared.Disk.{Ghosts}
+use Rattle.state.specs.Origins.{IsBegun}
+use Rattle.state.specs.declared.beginning.Origin.{Origin}
+use Rattle.state.specs.declared.opened.Opened.{Opened}
+
+-- With these settings, which this text says, it begins so where the directory has some mark and
+-- some files, whose log so far was this one.
+pub record BeginsIn {D : Type 0} (g : Ghosts D) (c : Settings) (text : List ℕ) (log : Log)
+    (o : Origin) : Type 0 where
+  pub mark : Option Bool
+  pub opened : Opened D g
+  pub begun : IsBegun {D = D} {g = g} c text log mark opened o

@@ -1,0 +1,4 @@
+pub mod Sizes
+pub mod Hearings
+pub mod Placing
+pub mod Requesting

@@ -1,0 +1,144 @@
+-- What comes over a line to its outstations, and what goes out (profile).
+use Rattle.std.specs.Prelude.{◌||◌, ◌≡◌, ℕ, ◌+◌, ◌-◌, ◌^◌, ◌≤◌, min, Bool, true, false, List, []}
+use Rattle.std.specs.Prelude.{◌∷◌, ◌++◌, drop, length, Option, Some, None}
+use Rattle.std.specs.List.{flat_map, list_all}
+use Rattle.std.specs.Option.{is_none}
+use Rattle.ft12.specs.Reading.{IsFront}
+use Rattle.ft12.specs.Spelling.{spelling}
+use Rattle.ft12.specs.declared.frame.Frame.{Frame}
+use Rattle.ft12.specs.declared.frame.Front.TheVariants.{Whole, More, Never}
+use Rattle.ft12.specs.declared.frame.LinkSize.{LinkSize}
+use Rattle.ft12.specs.declared.frame.Why.{Why}
+use Rattle.gateway.specs.Config.{Settings}
+use Rattle.link.specs.Secondary.{Secondary}
+use Rattle.live.specs.Wires.{History, Wrote, noted}
+use Rattle.stations.specs.declared.outstations.Heard.{Heard}
+use Rattle.stations.specs.declared.outstations.Heard.TheVariants.{Answered, NotTaken, Rest}
+use Rattle.sim.specs.Lives.{IsPutOut, arriving, begun_from}
+use Rattle.sim.specs.Losses.{fate_of}
+use Rattle.sim.specs.declared.directive.Directive.{Directive}
+
+-- The outstations of a line: the size of link addresses, what the script says, how each stands, how
+-- many requests came, as far as 64 bits count, and the octets that came since the last frame.
+pub record Standing : Type 0 where
+  pub size : LinkSize
+  pub directives : List Directive
+  pub stations : List Secondary
+  pub requests : ℕ
+  pub so_far : List ℕ
+
+-- before the first request: each was never reset, and has the reports that the script gives it
+abbrev pub first_standing : Settings → List Directive → Standing
+first_standing c ds = record {
+  size = c.line.link;
+  directives = ds;
+  stations = begun_from c.line.link 0 ds c.stations;
+  requests = 0;
+  so_far = [];
+}
+
+-- the number of the next request
+abbrev pub next_number : Standing → ℕ
+next_number s = min (s.requests + 1) (2 ^ 64 - 1)
+
+-- A request is put out to the stations as the script says of its number, of which each hears it or
+-- none does; what comes back is what the script leaves of the answer.
+pub record IsAnswered (old : Standing) (request : Frame) (answer : Option (List ℕ))
+    (new : Standing) : Type 0 where
+  pub reply : Option Frame
+  pub stations : List Secondary
+  pub heard : IsPutOut (fate_of old.directives (next_number old)) (spelling old.size request)
+      old.stations reply stations
+  pub answered : answer ≡ arriving old.size (fate_of old.directives (next_number old)) reply
+  pub new_is : new ≡ record old { stations = stations; requests = next_number old }
+
+-- a request, what was written for it, and whether the wire took that
+pub record Exchange : Type 0 where
+  pub request : Frame
+  pub answer : Option (List ℕ)
+  pub is_taken : Bool
+
+-- the wire took what was written, or nothing was
+abbrev pub took : Exchange → Bool
+took x = is_none x.answer || x.is_taken
+
+-- requests, one after another
+abbrev pub Exchanged : (old : Standing) → List Exchange → (new : Standing) → Type 0
+Exchanged old [] new = new ≡ old
+Exchanged old (x ∷ xs) new =
+    (mid : Standing) × IsAnswered old x.request x.answer mid × Exchanged mid xs new
+
+-- an answer is written in one piece, and nothing where there is none
+abbrev pub answer_written : History → Option (List ℕ) → (is_taken : Bool) → History
+answer_written before None is_taken = before
+answer_written before (Some octets) is_taken = noted before (Wrote octets is_taken)
+
+abbrev pub written : History → List Exchange → History
+written before [] = before
+written before (x ∷ xs) = written (answer_written before x.answer x.is_taken) xs
+
+-- Octets come behind those that came since the last frame. These are the requests of the whole
+-- frames at their front, one after another (IEC 60870-5-1, 6.2.4.2); behind the last one these are
+-- its octets so far, and these are left.
+abbrev pub Brings : LinkSize → (so_far octets : List ℕ) → List Exchange → (last left : List ℕ)
+    → Type 0
+Brings size so_far octets [] last left = (last ≡ so_far) × (left ≡ octets)
+Brings size so_far octets (x ∷ xs) last left =
+    (n : ℕ) × IsFront size (so_far ++ octets) (Whole x.request (length so_far + n))
+    × Brings size [] (drop n octets) xs last left
+
+-- the octets of requests, one after another
+abbrev pub requests_joined : LinkSize → List Exchange → List ℕ
+requests_joined size xs = flat_map (λ (x : Exchange). spelling size x.request) xs
+
+-- What is kept of octets that are left behind those so far, and aren't a whole frame: where none
+-- are left those so far, else the beginning of a frame, or nothing where they begin none.
+pub data IsKept (size : LinkSize) (last left : List ℕ) : (kept : List ℕ) → Type 0 where
+  NoneLeft : left ≡ [] → IsKept size last left last
+  Begun : IsFront size (last ++ left) More → IsKept size last left (last ++ left)
+  Spoilt : (place : ℕ) (why : Why) → IsFront size (last ++ left) (Never place why)
+      → IsKept size last left []
+
+-- What is heard at the front of octets that came: a whole frame, which ends behind so many of them,
+-- and is answered; or else all are kept, or dropped.
+pub record IsFrameHeard (old : Standing) (octets : List ℕ) (before after : History) (n : ℕ)
+    (is_taken : Bool) (new : Standing) : Type 0 where
+  pub exchange : Exchange
+  pub mid : Standing
+  pub front : IsFront old.size (old.so_far ++ octets)
+      (Whole exchange.request (length old.so_far + n))
+  pub answered : IsAnswered old exchange.request exchange.answer mid
+  pub wrote : after ≡ answer_written before exchange.answer exchange.is_taken
+  pub taken : is_taken ≡ took exchange
+  pub new_is : new ≡ record mid { so_far = [] }
+
+pub record IsRestKept (old : Standing) (octets : List ℕ) (before after : History)
+    (new : Standing) : Type 0 where
+  pub kept : List ℕ
+  pub is_kept : IsKept old.size old.so_far octets kept
+  pub nothing_wrote : after ≡ before
+  pub new_is : new ≡ record old { so_far = kept }
+
+abbrev pub IsHeard : (old : Standing) → (octets : List ℕ) → (before after : History) → Heard
+    → (new : Standing) → Type 0
+IsHeard old octets before after (Answered n) new =
+    IsFrameHeard old octets before after n true new × (n ≤ length octets) × (1 ≤ n)
+IsHeard old octets before after NotTaken new =
+    (n : ℕ) × IsFrameHeard old octets before after n false new
+IsHeard old octets before after Rest new = IsRestKept old octets before after new
+
+-- Octets came: the stations answered each whole frame among them, and each answer was written,
+-- once, in their order, up to the first that the wire didn't take. Where it took all, what is kept
+-- begins the next frame.
+pub record HasHeard (old : Standing) (octets : List ℕ) (before after : History)
+    (is_taken : Bool) (new : Standing) : Type 0 where
+  pub exchanges : List Exchange
+  pub last : List ℕ
+  pub left : List ℕ
+  pub mid : Standing
+  pub brought : Brings old.size old.so_far octets exchanges last left
+  pub answered : Exchanged old exchanges mid
+  pub wrote : after ≡ written before exchanges
+  pub taken : is_taken ≡ list_all took exchanges
+  pub whole : is_taken ≡ true → IsKept old.size last left new.so_far
+  pub new_is : new ≡ record mid { so_far = new.so_far }

@@ -1,0 +1,71 @@
+-- The outstations behind a door, as behind a serial device server (profile).
+use Rattle.std.specs.Prelude.{◌≡◌, ℕ, zero, suc, Bool, true, false, if◌then◌else◌, List, [], take}
+use Rattle.std.specs.Prelude.{Option, Some, None}
+use Rattle.live.specs.Wires.{History, IsNew, Visits, looked, noted, visited}
+use Rattle.live.specs.declared.wires.Got.{Got}
+use Rattle.live.specs.declared.wires.Got.TheVariants.{Octets, Quiet, Gone}
+use Rattle.gateway.specs.Config.{Settings}
+use Rattle.sim.specs.declared.directive.Directive.{Directive}
+use Rattle.stations.specs.Exchanges.{HasHeard, Standing, first_standing}
+
+-- the outstations, what happened at the wire of the gateway that is connected, if one is, and
+-- whether someone came in at each look at the door
+pub record Place : Type 0 where
+  pub standing : Standing
+  pub wire : Option History
+  pub door : Visits
+
+-- before the first look: the outstations of a script, behind this door, and no gateway
+abbrev pub first_place : Settings → List Directive → Visits → Place
+first_place c ds door = record { standing = first_standing c ds; wire = None; door = door }
+
+-- a look at the door: who comes takes the place of the gateway that was there, and of its octets
+abbrev pub after_visit : Place → Option History → Place
+after_visit p None = record p { door = visited p.door false }
+after_visit p (Some wire) = record p {
+  standing = record p.standing { so_far = [] };
+  wire = Some wire;
+  door = visited p.door true;
+}
+
+-- the wire of a visitor is new
+abbrev pub IsVisitor : Option History → Type 0
+IsVisitor None = Unit {0}
+IsVisitor (Some wire) = IsNew wire
+
+-- A look at the wire found this, in this buffer: octets, which the outstations answered; nothing;
+-- or that it is gone. A gateway that doesn't take an answer is let go.
+abbrev pub IsAnsweredAt : (before : History) → (old : Place) → Got → (buf : List ℕ) → (new : Place)
+    → Type 0
+IsAnsweredAt before old (Octets len) buf new =
+    (is_taken : Bool) × (after : History)
+    × HasHeard old.standing (take len buf) (noted before (looked (Octets len) buf)) after is_taken
+    new.standing
+    × (new ≡ record old {
+      standing = new.standing;
+      wire = if is_taken then Some after else None;
+    })
+IsAnsweredAt before old Quiet buf new =
+    new ≡ record old { wire = Some (noted before (looked Quiet buf)) }
+IsAnsweredAt before old Gone buf new = new ≡ record old { wire = None }
+
+-- where no gateway is connected nothing is heard
+abbrev pub IsHeardAt : Option History → (old new : Place) → Type 0
+IsHeardAt None old new = new ≡ old
+IsHeardAt (Some before) old new =
+    (got : Got) × (buf : List ℕ) × IsAnsweredAt before old got buf new
+
+-- One look at each end.
+pub record Looks (old new : Place) : Type 0 where
+  pub visitor : Option History
+  pub is_visitor : IsVisitor visitor
+  pub heard : IsHeardAt (after_visit old visitor).wire (after_visit old visitor) new
+
+-- so many looks, one after another
+abbrev pub LooksOn : ℕ → (old new : Place) → Type 0
+LooksOn zero old new = new ≡ old
+LooksOn (suc n) old new = (mid : Place) × LooksOn n old mid × Looks mid new
+
+-- the same, as one word: however many looks these are, it is read and not computed
+unfoldable pub PlaysOn : ℕ → (old new : Place) → Type 0
+PlaysOn looks old new = LooksOn looks old new

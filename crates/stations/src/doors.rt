@@ -1,0 +1,137 @@
+//! A door at the place where a live run looks for its line.
+ghost use Rattle.live.specs.Wires.{FitsBuffer};
+
+use live::{CentreListener, CentreSocket, Door, Got, Guests, SentAway, Visitor, Wire};
+use std::io;
+use std::io::{Eprint, ErrorKind, Read, Write};
+use std::net::{IpAddr, Ipv4Addr, Net, TcpListener, TcpStream};
+use std::os::unix::net::{UnixListener, UnixStream};
+use std::rt::Files;
+
+/// Where a gateway comes in as to a serial device server.
+#[derive(Drop)]
+pub enum LineListener<'a, R> {
+    /// By TCP.
+    Tcp(CentreListener<'a, R>),
+    /// By a Unix socket.
+    Unix(UnixListener),
+}
+
+impl<'a, R: Net<Listener = TcpListener, Stream = TcpStream> + Eprint + Files> LineListener<'a, R> {
+    /// Listens at `tcp:HOST:PORT` or `unix:PATH`.
+    ///
+    /// # Errors
+    ///
+    /// Those of the system, and `InvalidInput` where the text is neither.
+    pub fn listen(rt: &'a R, place: &str) -> io::Result<LineListener<'a, R>> {
+        if let Some(address) = place.strip_prefix("tcp:") {
+            return Ok(LineListener::Tcp(CentreListener::listen(rt, address)?));
+        }
+        let Some(path) = place.strip_prefix("unix:") else {
+            return Err(io::Error::from(ErrorKind::InvalidInput));
+        };
+        let listener = UnixListener::bind(rt, path)?;
+        listener.set_nonblocking(true)?;
+        Ok(LineListener::Unix(listener))
+    }
+}
+
+/// The connection of a gateway. Its reads don't wait.
+#[derive(Drop)]
+pub enum LineGuest {
+    /// By TCP.
+    Tcp(CentreSocket),
+    /// By a Unix socket.
+    Unix(UnixStream),
+}
+
+impl Wire for LineGuest {
+    ghost use Rattle.std.specs.Prelude.{None};
+
+    ghost history = { λ _. None };
+
+    fn read(&mut self, buf: &mut [u8; 1024]) -> Got {
+        match self {
+            LineGuest::Tcp(socket) => socket.read(buf),
+            LineGuest::Unix(stream) => read_once(stream, buf),
+        }
+    }
+
+    fn write(&mut self, octets: &[u8]) -> bool {
+        match self {
+            LineGuest::Tcp(socket) => socket.write(octets),
+            LineGuest::Unix(stream) => write_once(stream, octets),
+        }
+    }
+}
+
+/// Reads once: an interruption is quiet, an end and every other failure are the wire's end.
+fn read_once(stream: &mut UnixStream, buf: &mut [u8; 1024]) -> Got
+    ensures { FitsBuffer result }
+{
+    match stream.read(buf) {
+        Ok(0) => Got::Gone,
+        Ok(len) => Got::Octets(len),
+        Err(fault) => match fault.kind() {
+            ErrorKind::WouldBlock | ErrorKind::TimedOut | ErrorKind::Interrupted => Got::Quiet,
+            _ => Got::Gone,
+        },
+    }
+}
+
+/// Writes in one call, and answers whether all octets were taken.
+fn write_once(stream: &mut UnixStream, octets: &[u8]) -> bool {
+    match stream.write(octets) {
+        Ok(count) => count == octets.len(),
+        Err(_) => false,
+    }
+}
+
+/// Who waits at a Unix socket. There is no address at its other end: it is on this machine.
+fn accept_local(listener: &UnixListener) -> Option<UnixStream> {
+    let (stream, _) = listener.accept().ok()?;
+    stream.set_nonblocking(true).ok()?;
+    Some(stream)
+}
+
+impl<R: Net<Listener = TcpListener, Stream = TcpStream> + Eprint + Files> Door
+    for LineListener<'_, R> {
+    ghost use Rattle.std.specs.Prelude.{None};
+
+    type Wire = LineGuest;
+
+    ghost visits = { λ _. None };
+
+    fn accept(&mut self, guests: &Guests) -> Option<Visitor<LineGuest>> {
+        match self {
+            LineListener::Tcp(listener) => {
+                let Visitor { address, wire } = listener.accept(guests)?;
+                Some(Visitor {
+                    address,
+                    wire: LineGuest::Tcp(wire),
+                })
+            }
+            LineListener::Unix(listener) => {
+                let stream = accept_local(listener)?;
+                let address = IpAddr::V4(Ipv4Addr::LOCALHOST);
+                if !guests.lets_in(address) {
+                    return None;
+                }
+                Some(Visitor {
+                    address,
+                    wire: LineGuest::Unix(stream),
+                })
+            }
+        }
+    }
+
+    fn sent_away(&self) -> SentAway {
+        match self {
+            LineListener::Tcp(listener) => listener.sent_away(),
+            LineListener::Unix(_) => SentAway {
+                count: 0,
+                last: None,
+            },
+        }
+    }
+}

@@ -1,0 +1,158 @@
+//! The outstations of a script at their line.
+ghost use Rattle.std.specs.Prelude.{◌≡◌, ◌||◌, ◌≤◌, [], ℕ, List, Option, IfOk, length, option_map};
+ghost use Rattle.std.specs.Option.{is_none};
+ghost use Rattle.ft12.specs.Spelling.{Fits};
+ghost use Rattle.sim.specs.Scripts.{FitsSettings};
+ghost use Rattle.stations.specs.Exchanges.{HasHeard, IsAnswered, IsHeard, answer_written};
+ghost use Rattle.stations.specs.Exchanges.{first_standing};
+
+use arrayvec::ArrayVec;
+use ft12::{Assembler, Frame, LinkSize, encode};
+use gateway::Config;
+use link::{NoMemory, Station, station_is_an_outstation};
+use live::Wire;
+use sim::{Script, arriving, begin, put_out};
+use std::alloc::Global;
+use std::marker::Model;
+
+/// The outstations of a line, with the reports that a script gives them. They hear requests, of
+/// which the script loses some, and some of whose answers it loses or spoils.
+#[derive(Drop)]
+pub struct Outstations {
+    size: LinkSize,
+    script: Script,
+    stations: Vec<Station>,
+    /// How many requests came.
+    requests: u64,
+    /// What came since the last frame.
+    line: Assembler,
+}
+
+/// What the front of octets that came was.
+#[derive(Clone, Copy)]
+enum Heard {
+    /// A frame that ends behind so many of them, which was answered.
+    Answered(usize),
+    /// A frame whose answer the wire didn't take.
+    NotTaken,
+    /// No whole frame.
+    Rest,
+}
+
+impl Model for Outstations {
+    ghost use Rattle.std.specs.Prelude.{◌≡◌, [], Some, unwrap_or};
+    ghost use Rattle.std.specs.List.{AllByRecursion};
+    ghost use Rattle.stations.specs.Exchanges.{Standing};
+
+    ghost Value = { Standing };
+
+    ghost view = { λ o. record {
+      size = o.size;
+      directives = o.script;
+      stations = o.stations.items;
+      requests = o.requests;
+      so_far = unwrap_or o.line.so_far [];
+    } };
+
+    ghost invariant = { λ o. record {
+      sizes : AllByRecursion (λ s. s.size ≡ o.size) o.stations.items;
+      line : o.line.size ≡ o.size;
+      listening : o.line.so_far ≡ Some (unwrap_or o.line.so_far []);
+    } };
+}
+
+impl Outstations {
+    /// Those of these settings, which were never reset, with the reports that the script gives
+    /// them. An `Err` is want of memory.
+    pub fn new(alloc: Global, config: &Config, script: Script) -> Result<Outstations, NoMemory>
+        requires { FitsSettings config.now script }
+        ensures { IfOk result (λ o. o ≡ first_standing config.now script) }
+    {
+        let stations = begin(alloc, config, &script)?;
+        let size = config.line().link;
+        Ok(Outstations {
+            size,
+            script,
+            stations,
+            requests: 0,
+            line: Assembler::new(size),
+        })
+    }
+
+    /// The stations hear a request, unless the script loses it. What comes back is what the script
+    /// leaves of the answer.
+    fn answer(&mut self, request: &Frame) -> Option<ArrayVec<u8, 261>>
+        requires { Fits self.old.size request.now }
+        ensures { IsAnswered self.old request.now (option_map (λ v. v.items) result) self.new }
+    {
+        station_is_an_outstation();
+        self.requests = self.requests.saturating_add(1);
+        let fate = self.script.fate(self.requests);
+        let octets = encode(self.size, request);
+        let reply = put_out(self.stations.as_mut_slice(), fate, octets.as_slice());
+        arriving(self.size, fate, reply)
+    }
+
+    /// The stations answer a request, and the wire is given what comes back. `false` says that it
+    /// didn't take that.
+    fn reply<W: Wire>(&mut self, request: &Frame, wire: &mut W) -> bool
+        requires { Fits self.old.size request.now }
+        ensures { (answer : Option (List ℕ)) × IsAnswered self.old request.now answer self.new
+            × (W.history wire.new ≡ answer_written (W.history wire.old) answer result)
+            × (result ≡ (is_none answer || result)) }
+    {
+        match self.answer(request) {
+            Some(octets) => wire.write(octets.as_slice()),
+            None => true,
+        }
+    }
+
+    /// Hears the front of octets that came, up to the end of a frame.
+    fn hear_front<W: Wire>(&mut self, octets: &[u8], wire: &mut W) -> Heard
+        requires { 1 ≤ length octets.now }
+        ensures { IsHeard self.old octets.now (W.history wire.old) (W.history wire.new) result
+            self.new }
+    {
+        let (taken, heard) = self.line.feed(octets);
+        match heard {
+            ft12::Heard::Frame(request) => {
+                if self.reply(&request, wire) {
+                    Heard::Answered(taken)
+                } else {
+                    Heard::NotTaken
+                }
+            }
+            ft12::Heard::More => Heard::Rest,
+            ft12::Heard::Never(..) | ft12::Heard::Deaf => {
+                self.line.clear();
+                Heard::Rest
+            }
+        }
+    }
+
+    /// Octets came over the line, in any piece. The stations answer each whole frame among them,
+    /// and each answer is written at once. Octets that begin no frame are dropped, with those
+    /// behind them in the piece. `false` says that the wire didn't take an answer; what is behind
+    /// that request isn't heard.
+    pub fn hear<W: Wire>(&mut self, octets: &[u8], wire: &mut W) -> bool
+        ensures { HasHeard self.old octets.now (W.history wire.old) (W.history wire.new) result
+            self.new }
+    {
+        let mut left = octets;
+        'frames: while !left.is_empty() {
+            match self.hear_front(left, wire) {
+                Heard::Answered(taken) => left = &left[taken..],
+                Heard::NotTaken => return false,
+                Heard::Rest => return true,
+            }
+        }
+        true
+    }
+
+    /// A connection begins: what came over the one before is forgotten.
+    pub fn begin(&mut self)
+        ensures { self.new ≡ record self.old { so_far = [] } }
+    {
+        self.line.clear();
+    }
+}

@@ -1,0 +1,84 @@
+//! The outstations behind a door.
+ghost use Rattle.std.specs.Prelude.{◌≡◌, [], None, Option};
+ghost use Rattle.live.specs.Wires.{History};
+ghost use Rattle.stations.specs.Places.{IsHeardAt, IsVisitor, Looks, after_visit};
+
+use crate::outstations::Outstations;
+use live::{Door, Got, Guests, Visitor, Wire};
+use std::marker::Model;
+
+/// The outstations behind a door, through which a gateway comes as to a serial device server.
+#[derive(Drop)]
+pub struct Place<D: Door + Drop> {
+    outstations: Outstations,
+    door: D,
+    guests: Guests,
+    connection: Option<Visitor<D::Wire>>,
+}
+
+impl<D: Door + Drop> Model for Place<D> {
+    ghost use Rattle.std.specs.Prelude.{option_map};
+    ghost use Rattle.stations.specs.Places.{Place as AsPlace};
+
+    ghost Value = { AsPlace };
+
+    ghost view = { λ p. record {
+      standing = p.outstations;
+      wire = option_map (λ v. D.Wire.history v.wire) p.connection;
+      door = D.visits p.door;
+    } };
+}
+
+impl<D: Door + Drop> Place<D> {
+    /// These outstations behind this door, with no gateway yet. Whoever comes is let in.
+    pub fn new(outstations: Outstations, door: D) -> Place<D>
+        ensures { result ≡ record { standing = outstations; wire = None; door = D.visits door } }
+    {
+        Place {
+            outstations,
+            door,
+            guests: Guests::Anyone,
+            connection: None,
+        }
+    }
+
+    /// Looks at each end once, without a long wait. Who comes through the door takes the place of
+    /// the gateway that was there; what came from it is answered. A gateway that is gone, or
+    /// doesn't take an answer, is let go.
+    pub fn look(&mut self)
+        ensures { Looks self.old self.new }
+    {
+        self.let_in();
+        self.hear();
+    }
+
+    /// Looks at the door.
+    fn let_in(&mut self)
+        ensures { (visitor : Option History) × IsVisitor visitor
+            × (self.new ≡ after_visit self.old visitor) }
+    {
+        if let Some(visitor) = self.door.accept(&self.guests) {
+            self.outstations.begin();
+            self.connection = Some(visitor);
+        }
+    }
+
+    /// Looks at the wire of the gateway.
+    fn hear(&mut self)
+        ensures { IsHeardAt self.old.wire self.old self.new }
+    {
+        let Some(mut visitor) = self.connection.take() else {
+            return;
+        };
+        let mut buf = [0; 1024];
+        match visitor.wire.read(&mut buf) {
+            Got::Octets(len) => {
+                if self.outstations.hear(&buf[..len], &mut visitor.wire) {
+                    self.connection = Some(visitor);
+                }
+            }
+            Got::Quiet => self.connection = Some(visitor),
+            Got::Gone => {}
+        }
+    }
+}

@@ -1,0 +1,233 @@
+-- What a visitor was written is a beginning of the answer.
+use Rattle.std.proofs.Common.{◌≡◌, ℕ, ◌+◌, ◌-◌, ◌<◌, ◌≤◌, List, [], ◌∷◌, ◌++◌, length, take, drop}
+use Rattle.std.proofs.Common.{set, suc, min, inl, inr, Some, None, refl, sym, ap, subst, ◌∙◌, arith}
+use Rattle.std.proofs.Common.{append_assoc, length-append, length-drop}
+use Rattle.std.proofs.Math.Nat.{eq-or-lt_of_le}
+use Rattle.std.proofs.Math.Seq.{take-add, take-suc-set, drop-append-add}
+use Rattle.std.proofs.lemmas.List.{take-append-le, drop-append-le, take-append-drop, append-nil}
+use Rattle.std.proofs.lemmas.List.{take_rest, take_all, length-take-le}
+use Rattle.std.proofs.lemmas.List.Elements.{All-append, All-cons, All-nil}
+use Rattle.std.specs.List.{All}
+use Rattle.status.specs.Page.{Sheet, empty, put, text_with}
+use Rattle.status.specs.Seats.{IsNext, IsKept, Hears, answer_on, cleared}
+use Rattle.status.specs.Streams.{Told, IsNew, more_told}
+use Rattle.status.specs.declared.seat.Desk.{Desk}
+use Rattle.status.specs.declared.seat.Stage.{Stage}
+use Rattle.status.specs.declared.seat.Stage.TheVariants.{Hearing, Answering, Leaving}
+use Rattle.status.proofs.Sheets.{text_with_append}
+
+-- one piece more
+pub more_taken : (all : List ℕ) (sent count : ℕ) (piece : List ℕ) → IsNext all sent piece
+    → count ≤ length piece
+    → take (sent + count) all ≡ take sent all ++ take count piece
+more_taken all sent count piece (rest, cut, goes) le =
+    take-add sent count all
+    ∙ ap (λ (l : List ℕ). take sent all ++ take count l) cut
+    ∙ ap (λ (l : List ℕ). take sent all ++ l) (take-append-le count piece rest le)
+
+-- there is so much to take
+pub within_all : (all : List ℕ) (sent count : ℕ) (piece : List ℕ) → IsNext all sent piece
+    → sent ≤ length all
+    → count ≤ length piece → sent + count ≤ length all
+within_all all sent count piece (rest, cut, goes) le fits =
+    let size : length all - sent ≡ length piece + length rest =
+    sym (length-drop sent all) ∙ ap length cut ∙ length-append piece rest in
+    omega arith
+
+-- the front of what is left goes out next
+front_is_next : (all xs ys : List ℕ) (sent count : ℕ) → count ≤ length xs
+    → (0 < length xs → 0 < count)
+    → drop sent all ≡ xs ++ ys → (sent < length all → 0 < length xs)
+    → IsNext all sent (take count xs)
+front_is_next all xs ys sent count le some is goes = (
+  drop count xs ++ ys,
+  is ∙ ap (λ (l : List ℕ). l ++ ys) (sym (take-append-drop count xs))
+      ∙ append_assoc (take count xs) (drop count xs) ys,
+  λ lt. let size : length (take count xs) ≡ count = length-take-le count xs le in
+      let more : 0 < count = some (goes lt) in omega arith,
+)
+
+-- in the head
+pub next_in_head : (h b piece : List ℕ) (sent most : ℕ) → sent < length h → 0 < most
+    → (let xs = take (length h - sent) (drop sent h) in piece ≡ take (min (length xs) most) xs)
+    → IsNext (h ++ b) sent piece
+next_in_head h b piece sent most lt some is =
+    let cut : drop sent (h ++ b) ≡ drop sent h ++ b = drop-append-le sent h b (omega arith) in
+    let size : length (drop sent h) ≡ length h - sent = length-drop sent h in
+    let same = is ∙ ap (λ (l : List ℕ). take (min (length l) most) l) (take_rest h sent) in
+    subst (IsNext (h ++ b) sent) (sym same)
+    (front_is_next (h ++ b) (drop sent h) b sent (min (length (drop sent h)) most) (omega arith)
+    (λ left. omega arith) cut (λ _. omega arith))
+
+-- in the body
+pub next_in_body : (h b piece : List ℕ) (sent most : ℕ) → length h ≤ sent → 0 < most
+    → (let xs = take (length b - (sent - length h)) (drop (sent - length h) b) in
+    piece ≡ take (min (length xs) most) xs)
+    → IsNext (h ++ b) sent piece
+next_in_body h b piece sent most le some is =
+    let n = sent - length h in
+    let split : length h + n ≡ sent = omega arith in
+    let cut : drop sent (h ++ b) ≡ drop n b ++ [] =
+    ap (λ (k : ℕ). drop k (h ++ b)) (sym split) ∙ drop-append-add h b n
+    ∙ sym (append-nil (drop n b)) in
+    let size : length (drop n b) ≡ length b - n = length-drop n b in
+    let all : length (h ++ b) ≡ length h + length b = length-append h b in
+    let same = is ∙ ap (λ (l : List ℕ). take (min (length l) most) l) (take_rest b n) in
+    subst (IsNext (h ++ b) sent) (sym same)
+    (front_is_next (h ++ b) (drop n b) [] sent (min (length (drop n b)) most) (omega arith)
+    (λ left. omega arith) cut (λ less. omega arith))
+
+-- What is known of a visitor, from one turn to the next
+
+none_some : {A : Type 0} {x : A} → None ≡ Some x → ⊥
+none_some e = cc
+
+some_same : {A : Type 0} {x y : A} → Some x ≡ Some y → x ≡ y
+some_same e = cc
+
+-- what tells nothing goes on so; what tells has told the beginning of what it tells now
+told_before : (t : Told) (octets all : List ℕ) → more_told t octets ≡ Some all
+    → (before : List ℕ) × (t ≡ Some before) × (all ≡ before ++ octets)
+told_before None octets all is = absurd (none_some is)
+told_before (Some before) octets all is = (before, refl, some_same (sym is))
+
+answering_hearing : Answering ≡ Hearing → ⊥
+answering_hearing e = cc
+
+answering_leaving : Answering ≡ Leaving → ⊥
+answering_leaving e = cc
+
+leaving_hearing : Leaving ≡ Hearing → ⊥
+leaving_hearing e = cc
+
+heard_more : (page page' : Sheet) (before octets : List ℕ)
+    → page.text ≡ (put before (empty page.room)).text
+    → page' ≡ put octets page → page'.text ≡ (put (before ++ octets) (empty page'.room)).text
+unfolding put
+heard_more page page' before octets had puts =
+    let room : page'.room ≡ page.room = ap (λ (s : Sheet). s.room) puts in
+    let text : page'.text ≡ text_with page.room octets page.text =
+    ap (λ (s : Sheet). s.text) puts in
+    text ∙ ap (text_with page.room octets) had
+    ∙ sym (text_with_append page.room before octets (Some []))
+    ∙ ap (λ (r : ℕ). text_with r (before ++ octets) (Some [])) (sym room)
+
+-- more of the request came
+pub kept_heard : (heard taken heard' taken' : Told) (stage : Stage) (sent : ℕ) (d : Desk)
+    (page' : Sheet)
+    → IsKept heard taken stage sent d → stage ≡ Hearing → Hears heard d.request heard' page'
+    → taken' ≡ taken
+    → let d' : Desk = record { request = page'; head = d.head; body = d.body } in
+    IsKept heard' taken' stage sent d'
+kept_heard heard taken heard' taken' stage sent d page' k is (octets, more, puts) same = record {
+  hears = λ _ all tells.
+      let told = told_before heard octets all (sym more ∙ tells) in
+      heard_more d.request page' told.0 octets (k.hears is told.0 told.1) puts
+      ∙ ap (λ (l : List ℕ). (put l (empty page'.room)).text) (sym told.2);
+  unsent = k.unsent;
+  begun = λ all tells. k.begun all (sym same ∙ tells);
+  within = k.within;
+  whole = k.whole;
+}
+
+-- the request has come whole, and the answer lies on the desk
+pub kept_answered : (heard taken : Told) (stage : Stage) (sent : ℕ) (d d' : Desk)
+    → IsKept heard taken stage sent d → stage ≡ Hearing → IsKept heard taken Answering sent d'
+kept_answered heard taken stage sent d d' k is =
+    let none : sent ≡ 0 = k.unsent is in
+    record {
+      hears = λ e. absurd (answering_hearing e);
+      unsent = λ e. none;
+      begun = λ all tells. k.begun all tells ∙ ap (λ (n : ℕ). take n (answer_on d)) none
+          ∙ sym (ap (λ (n : ℕ). take n (answer_on d')) none);
+      within = omega arith;
+      whole = λ e. absurd (answering_leaving e);
+    }
+
+-- more of the answer was taken
+pub kept_sent : (heard taken heard' taken' : Told) (stage : Stage) (sent count : ℕ) (d : Desk)
+    (piece : List ℕ)
+    → IsKept heard taken stage sent d → stage ≡ Answering → IsNext (answer_on d) sent piece
+    → count ≤ length piece
+    → taken' ≡ more_told taken (take count piece) → IsKept heard' taken' stage (sent + count) d
+kept_sent heard taken heard' taken' stage sent count d piece k is next le more = record {
+  hears = λ e. absurd (answering_hearing (sym is ∙ e));
+  unsent = λ e. absurd (answering_hearing (sym is ∙ e));
+  begun = λ all tells.
+      let told = told_before taken (take count piece) all (sym more ∙ tells) in
+      told.2 ∙ ap (λ (l : List ℕ). l ++ take count piece) (k.begun told.0 told.1)
+      ∙ sym (more_taken (answer_on d) sent count piece next le);
+  within = within_all (answer_on d) sent count piece next k.within le;
+  whole = λ e. absurd (answering_leaving (sym is ∙ e));
+}
+
+-- all of it was taken
+pub kept_left : (heard taken heard' taken' : Told) (stage : Stage) (sent : ℕ) (d : Desk)
+    (piece : List ℕ)
+    → IsKept heard taken stage sent d → IsNext (answer_on d) sent piece → length piece ≡ 0
+    → taken' ≡ taken
+    → IsKept heard' taken' Leaving sent d
+kept_left heard taken heard' taken' stage sent d piece k (rest, cut, goes) none same = record {
+  hears = λ e. absurd (leaving_hearing e);
+  unsent = λ e. absurd (leaving_hearing e);
+  begun = λ all tells. k.begun all (sym same ∙ tells);
+  within = k.within;
+  whole = λ e. all_sent sent (length (answer_on d)) (length piece) k.within goes none;
+}
+  where
+    all_sent : (sent len left : ℕ) → sent ≤ len → (sent < len → 0 < left) → left ≡ 0 → sent ≡ len
+    all_sent sent len left le goes none =
+        elim (eq-or-lt_of_le le) [
+          | inl same ↦ same
+          | inr less ↦
+              absurd (omega (arith, goes less, none))
+        ]
+
+-- what still came was dropped
+pub kept_drained : (heard taken heard' taken' : Told) (sent : ℕ) (d : Desk) (stage : Stage)
+    → IsKept heard taken stage sent d → stage ≡ Leaving → taken' ≡ taken
+    → IsKept heard' taken' stage sent d
+kept_drained heard taken heard' taken' sent d stage k is same = record {
+  hears = λ e. absurd (leaving_hearing (sym is ∙ e));
+  unsent = k.unsent;
+  begun = λ all tells. k.begun all (sym same ∙ tells);
+  within = k.within;
+  whole = k.whole;
+}
+
+told_new : (t : Told) (all : List ℕ) → IsNew t → t ≡ Some all → all ≡ []
+told_new None all new tells = absurd (none_some tells)
+told_new (Some before) all new tells = some_same (sym tells) ∙ new
+
+-- somebody comes to a desk that is cleared
+pub kept_new : (heard taken : Told) (d d' : Desk) → IsNew heard → IsNew taken → d' ≡ cleared d
+    → IsKept heard taken Hearing 0 d'
+unfolding put
+kept_new heard taken d d' new none is = record {
+  hears = λ _ all tells.
+      ap (λ (e : Desk). e.request.text) is
+      ∙ sym (ap (λ (l : List ℕ). (put l (empty d'.request.room)).text)
+      (told_new heard all new tells));
+  unsent = λ _. refl;
+  begun = λ all tells. told_new taken all none tells;
+  within = omega arith;
+  whole = λ e. absurd (leaving_hearing (sym e));
+}
+
+pub for_some : {A : Type 0} (P : A → Type 0) (a : A) → P a → (x : A) → Some a ≡ Some x → P x
+for_some P a p x is = subst P (some_same is) p
+
+-- What holds of each
+
+pub all_more : {X : Type 0} (P : X → Type 0) (xs : List X) (i : ℕ) (x : X) → i < length xs
+    → All P (take i xs) → P x
+    → All P (take (i + 1) (set xs i x))
+all_more P xs i x lt before here =
+    let next : suc i ≡ i + 1 = omega arith in
+    subst (λ (n : ℕ). All P (take n (set xs i x))) next
+    (subst (All P) (sym (take-suc-set xs i x lt))
+    (All-append P (take i xs) (x ∷ []) before (All-cons P x [] here (All-nil P))))
+
+pub all_done : {X : Type 0} (P : X → Type 0) (xs : List X) (i : ℕ) → length xs ≤ i
+    → All P (take i xs) → All P xs
+all_done P xs i le all = subst (All P) (take_all i xs le) all

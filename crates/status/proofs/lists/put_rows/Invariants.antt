@@ -1,0 +1,9 @@
+use Rattle.std.proofs.Common.{◌≡◌, drop}
+use Rattle.status.specs.Page.{put}
+use Rattle.status.specs.Words.{rows}
+use Rattle.status.proofs.lists.put_rows.Given as goal
+
+abbrev pub invariant-loop-thing : goal.invariant-loop-thing
+invariant-loop-thing g l =
+    put (rows (g.F.Form.text l.form) (drop l.thing-index l.things)) l.page
+    ≡ put (rows (g.F.Form.text l.form) l.things) l.fn.page

@@ -1,0 +1,92 @@
+-- The snapshot as a page for a person (this gateway's own profile).
+use Rattle.std.specs.Prelude.{ℕ, ◌-◌, ◌*◌, ◌/◌, ◌==◌, min, List, [], ◌∷◌, codes, if◌then◌else◌}
+use Rattle.std.specs.Fmt.{decimal}
+use Rattle.status.specs.Judge.{judgement_of}
+use Rattle.status.specs.Labels.{judgement_text, keeping_text, standing_text}
+use Rattle.status.specs.Texts.{age_or, age_text, comma_behind, summary}
+use Rattle.status.specs.Words.{escaped, escaped_or, joined, rows}
+use Rattle.status.specs.declared.html.TheConstants.{HEAD, STATIONS, SETTINGS, END}
+use Rattle.status.specs.declared.words.Marks.TheVariants.{Html}
+use Rattle.status.specs.declared.snapshot.Setting.{Setting}
+use Rattle.status.specs.declared.snapshot.Station.{Station}
+use Rattle.status.specs.declared.snapshot.Snapshot.{Snapshot}
+
+-- what stands between two cells
+abbrev pub cell : List ℕ
+cell = codes "</td><td class=\"n\">"
+
+-- whose row it is, and how it stands
+abbrev pub row_head : Station → List ℕ
+row_head s = joined (
+    codes "<tr class=\"" ∷ standing_text s.standing ∷ codes "\"><td>" ∷ escaped Html s.name.now
+    ∷ cell ∷ decimal s.address ∷ cell ∷ decimal s.common_address
+    ∷ codes "</td><td class=\"s\">" ∷ standing_text s.standing ∷ cell ∷ [])
+
+-- what was counted of a station
+abbrev pub row_counts : Station → List ℕ
+row_counts s = joined (
+    cell ∷ decimal s.reports ∷ cell ∷ decimal s.skipped ∷ cell ∷ decimal s.gaps
+    ∷ cell ∷ decimal s.commands ∷ codes "</td></tr>\n" ∷ [])
+
+abbrev pub row_parts : (now : ℕ) → Station → List (List ℕ)
+row_parts now s =
+    row_head s ∷ age_text 0 now s.since_ms ∷ cell ∷ age_or 0 now s.last_report_ms (codes "none")
+    ∷ row_counts s ∷ []
+
+abbrev pub text_of_row : (now : ℕ) → Station → List ℕ
+text_of_row now s = joined (row_parts now s)
+
+abbrev pub text_of_setting : Setting → List ℕ
+text_of_setting s = joined (
+    codes "<tr><th>" ∷ escaped Html s.key.now ∷ codes "</th><td>" ∷ escaped Html s.value.now
+    ∷ codes "</td></tr>\n" ∷ [])
+
+-- how far from the top the number of taken places is, in percent of the height
+abbrev pub depth : (places taken : ℕ) → ℕ
+depth places taken = if places == 0 then 100 else 100 - min taken places * 100 / places
+
+-- a step of a path: down to that, and one to the right (SVG, 9.3)
+abbrev pub text_of_step : (places taken : ℕ) → List ℕ
+text_of_step places taken = joined (codes "V" ∷ decimal (depth places taken) ∷ codes "h1" ∷ [])
+
+abbrev pub head_text : Snapshot → List ℕ
+head_text s = joined (
+    HEAD.now ∷ escaped Html s.version.now ∷ codes "</h1>\n<p class=\""
+    ∷ judgement_text (judgement_of s) ∷ codes "\">" ∷ [])
+
+abbrev pub line_text : Snapshot → List ℕ
+line_text s = joined (
+    codes "</td></tr>\n<tr><th>line</th><td>" ∷ escaped Html s.name.now
+    ∷ comma_behind s.name.now
+    ∷ (if s.line.is_there then codes "there" else codes "away") ∷ codes " for " ∷ [])
+
+abbrev pub centre_text : Snapshot → List ℕ
+centre_text s = joined (
+    codes "</td></tr>\n<tr><th>control centre</th><td>"
+    ∷ escaped_or Html s.centre.peer (codes "not connected")
+    ∷ (if s.centre.is_started then codes ", started" else codes "") ∷ codes " for " ∷ [])
+
+-- the queue and the state, with what stands before the last hour
+abbrev pub queue_text : Snapshot → List ℕ
+queue_text s = joined (
+    codes "</td></tr>\n<tr><th>unacknowledged</th><td>" ∷ decimal s.centre.unacknowledged
+    ∷ codes "</td></tr>\n<tr><th>state</th><td>" ∷ keeping_text s.keeping
+    ∷ codes "</td></tr>\n<tr><th>queue</th><td>" ∷ decimal s.queue.taken
+    ∷ codes " of " ∷ decimal s.queue.places
+    ∷ codes " <meter min=\"0\" max=\"" ∷ decimal s.queue.places
+    ∷ codes "\" value=\"" ∷ decimal s.queue.taken
+    ∷ codes "\"></meter></td></tr>\n</table>\n<h2>Queue in the last hour</h2>\n"
+    ∷ codes "<svg viewBox=\"0 0 60 100\" preserveAspectRatio=\"none\">"
+    ∷ codes "<path d=\"M0 100" ∷ [])
+
+abbrev pub html_parts : Snapshot → List (List ℕ)
+html_parts s =
+    head_text s ∷ summary s ∷ codes "</p>\n<table>\n<tr><th>running for</th><td>"
+    ∷ age_text 0 s.now_ms s.started_ms ∷ line_text s ∷ age_text 0 s.now_ms s.line.since_ms
+    ∷ centre_text s ∷ age_text 0 s.now_ms s.centre.since_ms ∷ queue_text s
+    ∷ rows (text_of_step s.queue.places) s.queue.hour.now ∷ codes "V100z\"/></svg>\n"
+    ∷ STATIONS.now ∷ rows (text_of_row s.now_ms) s.stations.now
+    ∷ SETTINGS.now ∷ rows text_of_setting s.settings.now ∷ END.now ∷ []
+
+abbrev pub html_of : Snapshot → List ℕ
+html_of s = joined (html_parts s)

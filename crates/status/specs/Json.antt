@@ -1,0 +1,72 @@
+-- The snapshot as JSON (RFC 8259; the keys are this gateway's own).
+use Rattle.std.specs.Prelude.{ℕ, List, [], ◌∷◌, Bool, Option, Some, None, codes, if◌then◌else◌}
+use Rattle.std.specs.Fmt.{decimal}
+use Rattle.std.specs.Borrow.{Bor}
+use Rattle.status.specs.Words.{escaped, joined, number_or, listed}
+use Rattle.status.specs.Judge.{judgement_of}
+use Rattle.status.specs.Labels.{judgement_text, keeping_text, standing_text}
+use Rattle.status.specs.declared.words.Marks.TheVariants.{Json}
+use Rattle.status.specs.declared.snapshot.Station.{Station}
+use Rattle.status.specs.declared.snapshot.Setting.{Setting}
+use Rattle.status.specs.declared.snapshot.Snapshot.{Snapshot}
+
+abbrev pub flag : Bool → List ℕ
+flag b = if b then codes "true" else codes "false"
+
+-- an address as a string, or null
+abbrev pub json_of_peer : Option (Bor (List ℕ)) → List ℕ
+json_of_peer (Some peer) = joined (codes "\"" ∷ escaped Json peer.now ∷ codes "\"" ∷ [])
+json_of_peer None = codes "null"
+
+abbrev pub json_of_station : Station → List ℕ
+json_of_station s = joined (
+    codes "{\"name\":\"" ∷ escaped Json s.name.now ∷ codes "\",\"address\":" ∷ decimal s.address
+    ∷ codes ",\"common_address\":" ∷ decimal s.common_address
+    ∷ codes ",\"standing\":\"" ∷ standing_text s.standing
+    ∷ codes "\",\"since_ms\":" ∷ decimal s.since_ms
+    ∷ codes ",\"last_report_ms\":" ∷ number_or s.last_report_ms (codes "null")
+    ∷ codes ",\"reports\":" ∷ decimal s.reports ∷ codes ",\"skipped\":" ∷ decimal s.skipped
+    ∷ codes ",\"gaps\":" ∷ decimal s.gaps ∷ codes ",\"commands\":" ∷ decimal s.commands
+    ∷ codes "}" ∷ [])
+
+-- a setting as a member of an object
+abbrev pub json_of_setting : Setting → List ℕ
+json_of_setting s = joined (
+    codes "\"" ∷ escaped Json s.key.now ∷ codes "\":\"" ∷ escaped Json s.value.now
+    ∷ codes "\"" ∷ [])
+
+-- what stands before the address of the control centre
+abbrev pub json_before_peer : Snapshot → List ℕ
+json_before_peer s = joined (
+    codes "{\"version\":\"" ∷ escaped Json s.version.now
+    ∷ codes "\",\"judgement\":\"" ∷ judgement_text (judgement_of s)
+    ∷ codes "\",\"now_ms\":" ∷ decimal s.now_ms ∷ codes ",\"started_ms\":" ∷ decimal s.started_ms
+    ∷ codes ",\"wall_ms\":" ∷ number_or s.wall_ms (codes "null")
+    ∷ codes ",\"line\":{\"name\":\"" ∷ escaped Json s.name.now
+    ∷ codes "\",\"there\":" ∷ flag s.line.is_there
+    ∷ codes ",\"since_ms\":" ∷ decimal s.line.since_ms
+    ∷ codes "},\"centre\":{\"peer\":" ∷ [])
+
+-- what stands between that and the numbers of the last hour
+abbrev pub json_before_hour : Snapshot → List ℕ
+json_before_hour s = joined (
+    codes ",\"started\":" ∷ flag s.centre.is_started
+    ∷ codes ",\"since_ms\":" ∷ decimal s.centre.since_ms
+    ∷ codes ",\"unacknowledged\":" ∷ decimal s.centre.unacknowledged
+    ∷ codes "},\"queue\":{\"taken\":" ∷ decimal s.queue.taken
+    ∷ codes ",\"places\":" ∷ decimal s.queue.places ∷ codes ",\"hour\":[" ∷ [])
+
+-- what stands between that and the stations
+abbrev pub json_before_stations : Snapshot → List ℕ
+json_before_stations s = joined (
+    codes "]},\"state\":\"" ∷ keeping_text s.keeping ∷ codes "\",\"stations\":[" ∷ [])
+
+abbrev pub json_parts : Snapshot → List (List ℕ)
+json_parts s =
+    json_before_peer s ∷ json_of_peer s.centre.peer
+    ∷ json_before_hour s ∷ listed decimal s.queue.hour.now
+    ∷ json_before_stations s ∷ listed json_of_station s.stations.now
+    ∷ codes "],\"settings\":{" ∷ listed json_of_setting s.settings.now ∷ codes "}}\n" ∷ []
+
+abbrev pub json_of : Snapshot → List ℕ
+json_of s = joined (json_parts s)

@@ -1,0 +1,46 @@
+-- The words for how things stand (this gateway's own profile).
+use Rattle.std.specs.Prelude.{ℕ, List, codes, if◌then◌else◌}
+use Rattle.status.specs.Judge.{is_up}
+use Rattle.status.specs.declared.judging.Judgement.{Judgement}
+use Rattle.status.specs.declared.judging.Judgement.TheVariants as judgement
+use Rattle.status.specs.declared.snapshot.Keeping.{Keeping}
+use Rattle.status.specs.declared.snapshot.Keeping.TheVariants.{Off, Kept, NotKept}
+use Rattle.status.specs.declared.snapshot.Station.{Station}
+use Rattle.status.specs.declared.words.Count.{Count}
+use Rattle.status.specs.declared.words.Count.TheVariants as count
+use Rattle.status.specs.declared.snapshot.Standing.{Standing}
+use Rattle.status.specs.declared.snapshot.Standing.TheVariants.{NotAsked, Asked, Up, Silent, Down}
+
+abbrev pub standing_text : Standing → List ℕ
+standing_text NotAsked = codes "not asked yet"
+standing_text Asked = codes "asked"
+standing_text Up = codes "up"
+standing_text Silent = codes "silent"
+standing_text Down = codes "down"
+
+-- the same with spaces behind it up to the longest text
+abbrev pub wide_text : Standing → List ℕ
+wide_text NotAsked = codes "not asked yet"
+wide_text Asked = codes "asked        "
+wide_text Up = codes "up           "
+wide_text Silent = codes "silent       "
+wide_text Down = codes "down         "
+
+-- what is counted of a station
+abbrev pub value_of : Count → Station → ℕ
+value_of count.Up s = if is_up s then 1 else 0
+value_of count.Reports s = s.reports
+value_of count.Skipped s = s.skipped
+value_of count.Gaps s = s.gaps
+value_of count.Commands s = s.commands
+
+abbrev pub keeping_text : Keeping → List ℕ
+keeping_text Off = codes "none"
+keeping_text Kept = codes "kept"
+keeping_text NotKept = codes "not kept"
+
+-- the first word of a plugin's line (Nagios)
+abbrev pub judgement_text : Judgement → List ℕ
+judgement_text judgement.Ok = codes "OK"
+judgement_text judgement.Warning = codes "WARNING"
+judgement_text judgement.Critical = codes "CRITICAL"

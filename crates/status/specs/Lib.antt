@@ -1,0 +1,15 @@
+pub mod Answer
+pub mod Hour
+pub mod Html
+pub mod Json
+pub mod Judge
+pub mod Labels
+pub mod Metrics
+pub mod Page
+pub mod Reply
+pub mod Request
+pub mod Seats
+pub mod Streams
+pub mod Table
+pub mod Texts
+pub mod Words

@@ -1,0 +1,76 @@
+-- A visitor's seat (this gateway's own profile).
+use Rattle.std.specs.Prelude.{◌≡◌, ◌≢◌, ℕ, ◌-◌, ◌<◌, ◌≤◌, List, ◌++◌, length, take, drop, Option}
+use Rattle.std.specs.Prelude.{Some, None}
+use Rattle.status.specs.Answer.{body_sent, head_of}
+use Rattle.status.specs.Page.{Sheet, empty, put, shown}
+use Rattle.status.specs.Request.{Asks}
+use Rattle.status.specs.Streams.{Told, more_told}
+use Rattle.status.specs.declared.request.Asked.{Asked}
+use Rattle.status.specs.declared.request.Asked.TheVariants.{Nothing, TooLong}
+use Rattle.status.specs.declared.seat.Desk.{Desk}
+use Rattle.status.specs.declared.seat.Stage.{Stage}
+use Rattle.status.specs.declared.seat.Stage.TheVariants.{Hearing, Answering, Leaving}
+use Rattle.status.specs.declared.seat.TheConstants.{REQUEST_ROOM, HEAD_ROOM, BODY_ROOM}
+use Rattle.status.specs.declared.snapshot.Snapshot.{Snapshot}
+
+abbrev pub fresh_desk : Desk
+fresh_desk = record { request = empty REQUEST_ROOM; head = empty HEAD_ROOM; body = empty BODY_ROOM }
+
+abbrev pub cleared : Desk → Desk
+cleared d = record {
+  request = empty d.request.room;
+  head = empty d.head.room;
+  body = empty d.body.room;
+}
+
+-- the answer that lies on a desk
+abbrev pub answer_on : Desk → List ℕ
+answer_on d = shown d.head ++ shown d.body
+
+-- what is asked by a request; none is one that found no room
+abbrev pub IsAsked : Option (List ℕ) → Asked → Type 0
+IsAsked (Some octets) asked = Asks octets asked
+IsAsked None asked = asked ≡ TooLong
+
+-- what lies on a desk then is the answer to the request on it, of this moment, in its room
+abbrev pub IsAnswer : Snapshot → (before after : Desk) → Type 0
+IsAnswer s before after =
+    (asked : Asked) × IsAsked after.request.text asked × (asked ≢ Nothing)
+    × (after.head ≡ head_of before.head.room before.body.room asked s)
+    × (after.body ≡ body_sent before.body.room asked s)
+
+-- a stream gave octets, and they were put on a sheet
+abbrev pub Hears : Told → Sheet → Told → Sheet → Type 0
+Hears heard page heard_then page_then =
+    (octets : List ℕ) × (heard_then ≡ more_told heard octets) × (page_then ≡ put octets page)
+
+-- octets that go out next, where so many have gone out: some, unless all have
+abbrev pub IsNext : (all : List ℕ) → (sent : ℕ) → List ℕ → Type 0
+IsNext all sent piece =
+    (rest : List ℕ) × (drop sent all ≡ piece ++ rest) × (sent < length all → 0 < length piece)
+
+-- What is known of who sits there, by what the stream told. While the request comes, what it gave
+-- is the request. What it took is a beginning of the answer on the desk, and all of it at the end.
+pub record IsKept (heard taken : Told) (stage : Stage) (sent : ℕ) (d : Desk) : Type 0 where
+  pub hears : stage ≡ Hearing → (octets : List ℕ) → heard ≡ Some octets
+      → d.request.text ≡ (put octets (empty d.request.room)).text
+  pub unsent : stage ≡ Hearing → sent ≡ 0
+  pub begun : (octets : List ℕ) → taken ≡ Some octets → octets ≡ take sent (answer_on d)
+  pub within : sent ≤ length (answer_on d)
+  pub whole : stage ≡ Leaving → sent ≡ length (answer_on d)
+
+-- The request hasn't come whole; or the answer has been made, and is that of this moment.
+abbrev pub Answers : Stage → Snapshot → (before after : Desk) → Type 0
+Answers Hearing s before after = IsAsked after.request.text Nothing
+Answers Answering s before after = IsAnswer s before after
+Answers Leaving s before after = Unit {0}
+
+-- what a turn does to the desk: nothing but while the request comes
+abbrev pub Turned : Stage → Stage → Snapshot → Desk → Desk → Type 0
+Turned Hearing now s before after = Answers now s before after
+Turned Answering now s before after = after ≡ before
+Turned Leaving now s before after = after ≡ before
+
+-- somebody who came then has been there for less than two seconds
+abbrev pub IsYoung : (now since : ℕ) → Type 0
+IsYoung now since = now - since < 2000

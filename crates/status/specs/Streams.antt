@@ -1,0 +1,41 @@
+-- What a stream gives and takes, and what it tells of it (this gateway's own profile).
+use Rattle.std.specs.Prelude.{◌≡◌, ℕ, ◌≤◌, List, [], ◌++◌, take, Option, Some, None}
+use Rattle.status.specs.declared.door.Got.{Got}
+use Rattle.status.specs.declared.door.Got.TheVariants as got
+use Rattle.status.specs.declared.door.Took.{Took}
+use Rattle.status.specs.declared.door.Took.TheVariants as took
+
+-- octets are at least one, and within the buffer
+abbrev pub FitsBuffer : Got → Type 0
+FitsBuffer (got.Octets len) = (1 ≤ len) × (len ≤ 1024)
+FitsBuffer got.Quiet = Unit {0}
+FitsBuffer got.Gone = Unit {0}
+
+-- the octets that a look found
+abbrev pub got_of : Got → (buf : List ℕ) → List ℕ
+got_of (got.Octets len) buf = take len buf
+got_of got.Quiet buf = []
+got_of got.Gone buf = []
+
+abbrev pub took_count : Took → ℕ
+took_count (took.Octets count) = count
+took_count took.Nothing = 0
+
+-- octets in the order in which they passed, where they are told
+abbrev pub Told : Type 0
+Told = Option (List ℕ)
+
+-- with more; what tells nothing goes on telling nothing
+abbrev pub more_told : Told → List ℕ → Told
+more_told None octets = None
+more_told (Some before) octets = Some (before ++ octets)
+
+-- nothing has passed yet
+abbrev pub IsNew : Told → Type 0
+IsNew None = Unit {0}
+IsNew (Some before) = before ≡ []
+
+-- what is told is that
+abbrev pub Tells : Told → List ℕ → Type 0
+Tells None octets = Unit {0}
+Tells (Some before) octets = before ≡ octets

@@ -1,0 +1,61 @@
+-- The snapshot as a table for a terminal (this gateway's own profile).
+use Rattle.std.specs.Prelude.{ℕ, List, [], ◌∷◌, codes, if◌then◌else◌}
+use Rattle.std.specs.Fmt.{decimal}
+use Rattle.status.specs.Labels.{keeping_text, wide_text}
+use Rattle.status.specs.Texts.{age_or, age_text, comma_behind, summary}
+use Rattle.status.specs.Words.{escaped, escaped_or, joined, right, rows}
+use Rattle.status.specs.declared.words.Marks.TheVariants.{Plain}
+use Rattle.status.specs.declared.snapshot.Station.{Station}
+use Rattle.status.specs.declared.snapshot.Snapshot.{Snapshot}
+
+-- whose row it is
+abbrev pub row_head : Station → List ℕ
+row_head s = joined (
+    right 7 s.address ∷ right 7 s.common_address ∷ codes "  " ∷ wide_text s.standing ∷ [])
+
+-- what was counted of a station, and its name
+abbrev pub row_counts : Station → List ℕ
+row_counts s = joined (
+    right 9 s.reports ∷ right 9 s.skipped ∷ right 6 s.gaps ∷ right 10 s.commands ∷ codes "  "
+    ∷ escaped Plain s.name.now ∷ codes "\n" ∷ [])
+
+abbrev pub row_parts : (now : ℕ) → Station → List (List ℕ)
+row_parts now s =
+    row_head s ∷ age_text 6 now s.since_ms
+    ∷ age_or 10 now s.last_report_ms (codes "         -    ") ∷ row_counts s ∷ []
+
+abbrev pub text_of_row : (now : ℕ) → Station → List ℕ
+text_of_row now s = joined (row_parts now s)
+
+abbrev pub version_text : Snapshot → List ℕ
+version_text s = joined (
+    codes "\n\nversion         " ∷ escaped Plain s.version.now ∷ codes "\nrunning for     " ∷ [])
+
+abbrev pub line_text : Snapshot → List ℕ
+line_text s = joined (
+    codes "\nline            " ∷ escaped Plain s.name.now ∷ comma_behind s.name.now
+    ∷ (if s.line.is_there then codes "there" else codes "away")
+    ∷ codes " for " ∷ [])
+
+abbrev pub centre_text : Snapshot → List ℕ
+centre_text s = joined (
+    codes "\ncontrol centre  " ∷ escaped_or Plain s.centre.peer (codes "not connected")
+    ∷ (if s.centre.is_started then codes ", started" else codes "") ∷ codes " for " ∷ [])
+
+abbrev pub queue_text : Snapshot → List ℕ
+queue_text s = joined (
+    codes "\nunacknowledged  " ∷ decimal s.centre.unacknowledged
+    ∷ codes "\nqueue           " ∷ decimal s.queue.taken ∷ codes " of " ∷ decimal s.queue.places
+    ∷ codes "\nstate           " ∷ keeping_text s.keeping
+    ∷ codes "\n\naddress     ca  standing       since   last report  reports"
+    ∷ codes "  skipped  gaps  commands  name\n" ∷ [])
+
+abbrev pub table_parts : Snapshot → List (List ℕ)
+table_parts s =
+    summary s ∷ version_text s ∷ age_text 0 s.now_ms s.started_ms
+    ∷ line_text s ∷ age_text 0 s.now_ms s.line.since_ms
+    ∷ centre_text s ∷ age_text 0 s.now_ms s.centre.since_ms
+    ∷ queue_text s ∷ rows (text_of_row s.now_ms) s.stations.now ∷ []
+
+abbrev pub table_of : Snapshot → List ℕ
+table_of s = joined (table_parts s)

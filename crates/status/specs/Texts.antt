@@ -1,0 +1,48 @@
+-- Texts that more than one page has (this gateway's own profile).
+use Rattle.std.specs.Prelude.{ℕ, ◌-◌, ◌/◌, ◌==◌, nat_lt, List, [], ◌∷◌, length, count_by, Option}
+use Rattle.std.specs.Prelude.{Some, None, codes, if◌then◌else◌}
+use Rattle.std.specs.Option.{is_some}
+use Rattle.std.specs.Fmt.{decimal}
+use Rattle.status.specs.Words.{joined, right}
+use Rattle.status.specs.Judge.{judgement_of, is_up}
+use Rattle.status.specs.Labels.{judgement_text, keeping_text}
+use Rattle.status.specs.declared.snapshot.Snapshot.{Snapshot}
+
+-- one line in words
+abbrev pub summary : Snapshot → List ℕ
+summary s = joined (
+    judgement_text (judgement_of s) ∷ codes ": " ∷ decimal (count_by is_up s.stations.now)
+    ∷ codes " of " ∷ decimal (length s.stations.now) ∷ codes " stations up, line "
+    ∷ (if s.line.is_there then codes "there" else codes "away") ∷ codes ", control centre "
+    ∷ (if is_some s.centre.peer then codes "connected" else codes "not connected")
+    ∷ codes ", queue " ∷ decimal s.queue.taken ∷ codes " of " ∷ decimal s.queue.places
+    ∷ codes ", state " ∷ keeping_text s.keeping ∷ [])
+
+-- what stands behind a name, if there is one
+abbrev pub comma_behind : (name : List ℕ) → List ℕ
+comma_behind name = if length name == 0 then [] else codes ", "
+
+-- whole seconds between two moments in ms
+abbrev pub seconds : (now since : ℕ) → ℕ
+seconds now since = (now - since) / 1000
+
+-- how many seconds, minutes, hours or days that is
+abbrev pub age_count : ℕ → ℕ
+age_count s =
+    if nat_lt s 120 then s else if nat_lt s 7200 then s / 60
+    else if nat_lt s 172800 then s / 3600 else s / 86400
+
+abbrev pub age_unit : ℕ → List ℕ
+age_unit s =
+    if nat_lt s 120 then codes " s  " else if nat_lt s 7200 then codes " min"
+    else if nat_lt s 172800 then codes " h  " else codes " d  "
+
+-- how long ago a moment is, in a column of this width
+abbrev pub age_text : (width now since : ℕ) → List ℕ
+age_text width now since =
+    joined (right width (age_count (seconds now since)) ∷ age_unit (seconds now since) ∷ [])
+
+-- the same of a moment that may not be
+abbrev pub age_or : (width now : ℕ) → Option ℕ → (other : List ℕ) → List ℕ
+age_or width now (Some since) other = age_text width now since
+age_or width now None other = other

@@ -1,0 +1,64 @@
+//! Where visitors come from.
+
+/// What one look at a stream finds.
+#[derive(Clone, Copy, Debug, PartialEq, Eq)]
+pub enum Got {
+    /// So many octets, at the front of the buffer: 1 to 1,024.
+    Octets(usize),
+    /// Nothing yet.
+    Quiet,
+    /// The stream is at its end, or broken.
+    Gone,
+}
+
+/// What a stream did with octets.
+#[derive(Clone, Copy, Debug, PartialEq, Eq)]
+pub enum Took {
+    /// It took so many, from the front; 0 where it has no room now.
+    Octets(usize),
+    /// It is broken.
+    Nothing,
+}
+
+/// Octets both ways. No call waits. Dropping it closes it.
+pub trait Stream: Drop {
+    ghost use Rattle.std.specs.Prelude.{◌≡◌, ◌≤◌, length, take};
+    ghost use Rattle.status.specs.Streams.{Told, FitsBuffer, got_of, more_told, took_count};
+
+    /// The octets that it gave, where it tells them.
+    ghost heard: { Self → Told };
+
+    /// The octets that it took, where it tells them.
+    ghost taken: { Self → Told };
+
+    /// Looks once. Octets are put at the front of the buffer.
+    fn read(&mut self, buf: &mut [u8; 1024]) -> Got
+        ensures fits { FitsBuffer result }
+        ensures heard { heard self.new ≡ more_told (heard self.old) (got_of result buf.new) }
+        ensures taken { taken self.new ≡ taken self.old };
+
+    /// Hands it octets.
+    fn write(&mut self, octets: &[u8]) -> Took
+        ensures fits { took_count result ≤ length octets.now }
+        ensures taken { taken self.new
+            ≡ more_told (taken self.old) (take (took_count result) octets.now) }
+        ensures heard { heard self.new ≡ heard self.old };
+
+    /// Tells the other end that nothing more will be written.
+    fn finish(&mut self)
+        ensures heard { heard self.new ≡ heard self.old }
+        ensures taken { taken self.new ≡ taken self.old };
+}
+
+/// Where streams come from.
+pub trait Door {
+    ghost use Rattle.std.specs.Prelude.{IfSome};
+    ghost use Rattle.status.specs.Streams.{IsNew};
+
+    type Stream: Stream;
+
+    /// Looks once for somebody who has come, without a wait. Nothing has been read or written yet.
+    fn accept(&mut self) -> Option<Self::Stream>
+        ensures heard { IfSome result (λ stream. IsNew (Self.Stream.heard stream)) }
+        ensures taken { IfSome result (λ stream. IsNew (Self.Stream.taken stream)) };
+}

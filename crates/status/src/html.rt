@@ -1,0 +1,256 @@
+//! The snapshot as a page for a person: HTML without a script, and with nothing from elsewhere.
+ghost use Rattle.std.specs.Prelude.{◌≡◌};
+ghost use Rattle.status.specs.Html as spec;
+ghost use Rattle.status.specs.Page.{put};
+
+use crate::judging::judge;
+use crate::lists::{Form, put_rows};
+use crate::page::Page;
+use crate::snapshot::{Setting, Snapshot, Station};
+use crate::texts::{put_age, put_age_or, put_summary};
+use crate::words::{Marks, Word, put_words};
+
+/// What the page begins with. It fits a telephone, is light or dark as its reader has it, and is
+/// fetched anew every five seconds.
+const HEAD: &str = "<!doctype html>\n<html lang=\"en\">\n<head>\n<meta charset=\"utf-8\">\n\
+<meta name=\"viewport\" content=\"width=device-width, initial-scale=1\">\n\
+<meta http-equiv=\"refresh\" content=\"5\">\n<title>telegate</title>\n<style>\n\
+:root { color-scheme: light dark; --line: #ccc; --good: #1a7f37; --bad: #c62828; --soft: #666 }\n\
+@media (prefers-color-scheme: dark) {\n\
+:root { --line: #444; --good: #4ac26b; --bad: #ff7b72; --soft: #aaa } }\n\
+body { font: 15px/1.4 system-ui, sans-serif; margin: 1rem auto; max-width: 72rem;\
+ padding: 0 1rem }\n\
+h1 { font-size: 1.3rem } h2 { font-size: 1rem; margin: 1.5rem 0 .3rem }\n\
+p.OK { color: var(--good) } p.WARNING, p.CRITICAL { color: var(--bad) }\n\
+.scroll { overflow-x: auto }\n\
+table { border-collapse: collapse; white-space: nowrap }\n\
+th, td { border-bottom: 1px solid var(--line); padding: .25rem .8rem .25rem 0; text-align: left }\n\
+th { color: var(--soft); font-weight: 500 }\n\
+td.n { font-variant-numeric: tabular-nums; text-align: right }\n\
+tr.up td.s { color: var(--good) } tr.silent td.s, tr.down td.s { color: var(--bad) }\n\
+meter { width: 7rem }\n\
+svg { border: 1px solid var(--line); display: block; height: 5rem; max-width: 30rem;\
+ width: 100% }\n\
+path { fill: var(--soft) }\n\
+</style>\n</head>\n<body>\n<h1>telegate ";
+
+/// What the table of stations begins with.
+const STATIONS: &str = "<h2>Stations</h2>\n<div class=\"scroll\"><table>\n<tr><th>name</th>\
+<th>address</th><th>common address</th><th>standing</th><th>since</th><th>last report</th>\
+<th>reports</th><th>skipped</th><th>gaps</th><th>commands</th></tr>\n";
+
+/// What the table of settings begins with.
+const SETTINGS: &str =
+    "</table></div>\n<h2>Settings in force</h2>\n<div class=\"scroll\"><table>\n";
+
+/// What the page ends with.
+const END: &str = "</table></div>\n</body>\n</html>\n";
+
+/// A station as a row.
+#[derive(Drop)]
+struct RowForm {
+    now_ms: u64,
+}
+
+/// Puts whose row it is, and how it stands.
+fn put_row_head(page: &mut Page, station: &Station<'_>)
+    ensures { page.new ≡ put (spec.row_head station.now) page.old }
+{
+    put_words(
+        page,
+        &[
+            Word::Text("<tr class=\""),
+            Word::Stands(station.standing),
+            Word::Text("\"><td>"),
+            Word::Escaped(Marks::Html, station.name),
+            Word::Text("</td><td class=\"n\">"),
+            Word::Address(station.address),
+            Word::Text("</td><td class=\"n\">"),
+            Word::Address(station.common_address),
+            Word::Text("</td><td class=\"s\">"),
+            Word::Stands(station.standing),
+            Word::Text("</td><td class=\"n\">"),
+        ],
+    );
+}
+
+/// Puts what was counted of a station.
+fn put_row_counts(page: &mut Page, station: &Station<'_>)
+    ensures { page.new ≡ put (spec.row_counts station.now) page.old }
+{
+    put_words(
+        page,
+        &[
+            Word::Text("</td><td class=\"n\">"),
+            Word::Number(station.reports),
+            Word::Text("</td><td class=\"n\">"),
+            Word::Number(station.skipped),
+            Word::Text("</td><td class=\"n\">"),
+            Word::Number(station.gaps),
+            Word::Text("</td><td class=\"n\">"),
+            Word::Number(station.commands),
+            Word::Text("</td></tr>\n"),
+        ],
+    );
+}
+
+impl Form<Station<'_>> for RowForm {
+    ghost text = { λ form station. spec.text_of_row form.now_ms station };
+
+    fn put(&self, page: &mut Page, station: &Station<'_>) {
+        put_row_head(page, station);
+        put_age(page, 0, self.now_ms, station.since_ms);
+        page.put(b"</td><td class=\"n\">");
+        put_age_or(page, 0, self.now_ms, station.last_report_ms, "none");
+        put_row_counts(page, station);
+    }
+}
+
+/// A setting as a row.
+#[derive(Drop)]
+struct SettingForm;
+
+impl Form<Setting<'_>> for SettingForm {
+    ghost text = { λ _ setting. spec.text_of_setting setting };
+
+    fn put(&self, page: &mut Page, setting: &Setting<'_>) {
+        put_words(
+            page,
+            &[
+                Word::Text("<tr><th>"),
+                Word::Escaped(Marks::Html, setting.key),
+                Word::Text("</th><td>"),
+                Word::Escaped(Marks::Html, setting.value),
+                Word::Text("</td></tr>\n"),
+            ],
+        );
+    }
+}
+
+/// How full a queue with these places was, as a step of a path: the number of its pieces.
+#[derive(Drop)]
+struct StepForm {
+    places: u64,
+}
+
+/// How far from the top a step is, in percent of the height.
+fn depth(places: u64, taken: u64) -> u64
+    ensures { result ≡ spec.depth places taken }
+{
+    if places == 0 {
+        return 100;
+    }
+    100 - (u128::from(taken.min(places)) * 100 / u128::from(places)) as u64
+}
+
+impl Form<u64> for StepForm {
+    ghost text = { λ form taken. spec.text_of_step form.places taken };
+
+    fn put(&self, page: &mut Page, taken: &u64) {
+        put_words(
+            page,
+            &[
+                Word::Text("V"),
+                Word::Number(depth(self.places, *taken)),
+                Word::Text("h1"),
+            ],
+        );
+    }
+}
+
+/// Puts what the page begins with, up to its line in words.
+fn put_head(page: &mut Page, snapshot: &Snapshot<'_>)
+    ensures { page.new ≡ put (spec.head_text snapshot.now) page.old }
+{
+    put_words(
+        page,
+        &[
+            Word::Text(HEAD),
+            Word::Escaped(Marks::Html, snapshot.version),
+            Word::Text("</h1>\n<p class=\""),
+            Word::Judged(judge(snapshot)),
+            Word::Text("\">"),
+        ],
+    );
+}
+
+/// Puts how the line is, with what stands before since when.
+fn put_line(page: &mut Page, snapshot: &Snapshot<'_>)
+    ensures { page.new ≡ put (spec.line_text snapshot.now) page.old }
+{
+    put_words(
+        page,
+        &[
+            Word::Text("</td></tr>\n<tr><th>line</th><td>"),
+            Word::Escaped(Marks::Html, snapshot.name),
+            Word::Either(snapshot.name.is_empty(), "", ", "),
+            Word::Either(snapshot.line.is_there, "there", "away"),
+            Word::Text(" for "),
+        ],
+    );
+}
+
+/// The same of the control centre.
+fn put_centre(page: &mut Page, snapshot: &Snapshot<'_>)
+    ensures { page.new ≡ put (spec.centre_text snapshot.now) page.old }
+{
+    put_words(
+        page,
+        &[
+            Word::Text("</td></tr>\n<tr><th>control centre</th><td>"),
+            Word::EscapedOr(Marks::Html, snapshot.centre.peer, "not connected"),
+            Word::Either(snapshot.centre.is_started, ", started", ""),
+            Word::Text(" for "),
+        ],
+    );
+}
+
+/// Puts the queue and the state, with what stands before the last hour.
+fn put_queue(page: &mut Page, snapshot: &Snapshot<'_>)
+    ensures { page.new ≡ put (spec.queue_text snapshot.now) page.old }
+{
+    put_words(
+        page,
+        &[
+            Word::Text("</td></tr>\n<tr><th>unacknowledged</th><td>"),
+            Word::Number(snapshot.centre.unacknowledged),
+            Word::Text("</td></tr>\n<tr><th>state</th><td>"),
+            Word::Keeps(snapshot.keeping),
+            Word::Text("</td></tr>\n<tr><th>queue</th><td>"),
+            Word::Number(snapshot.queue.taken),
+            Word::Text(" of "),
+            Word::Number(snapshot.queue.places),
+            Word::Text(" <meter min=\"0\" max=\""),
+            Word::Number(snapshot.queue.places),
+            Word::Text("\" value=\""),
+            Word::Number(snapshot.queue.taken),
+            Word::Text("\"></meter></td></tr>\n</table>\n<h2>Queue in the last hour</h2>\n"),
+            Word::Text("<svg viewBox=\"0 0 60 100\" preserveAspectRatio=\"none\">"),
+            Word::Text("<path d=\"M0 100"),
+        ],
+    );
+}
+
+/// Puts the snapshot as a page for a person.
+pub(crate) fn put_html(page: &mut Page, snapshot: &Snapshot<'_>)
+    ensures { page.new ≡ put (spec.html_of snapshot.now) page.old }
+{
+    let now_ms = snapshot.now_ms;
+    put_head(page, snapshot);
+    put_summary(page, snapshot);
+    page.put(b"</p>\n<table>\n<tr><th>running for</th><td>");
+    put_age(page, 0, now_ms, snapshot.started_ms);
+    put_line(page, snapshot);
+    put_age(page, 0, now_ms, snapshot.line.since_ms);
+    put_centre(page, snapshot);
+    put_age(page, 0, now_ms, snapshot.centre.since_ms);
+    put_queue(page, snapshot);
+    let places = snapshot.queue.places;
+    put_rows(page, &StepForm { places }, snapshot.queue.hour);
+    page.put(b"V100z\"/></svg>\n");
+    page.put(STATIONS.as_bytes());
+    put_rows(page, &RowForm { now_ms }, snapshot.stations);
+    page.put(SETTINGS.as_bytes());
+    put_rows(page, &SettingForm, snapshot.settings);
+    page.put(END.as_bytes());
+}

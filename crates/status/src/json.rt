@@ -1,0 +1,174 @@
+//! The snapshot as JSON (RFC 8259).
+ghost use Rattle.std.specs.Prelude.{◌≡◌};
+ghost use Rattle.std.specs.Fmt.{decimal};
+ghost use Rattle.status.specs.Page.{put};
+ghost use Rattle.status.specs.Json as spec;
+
+use crate::judging::judge;
+use crate::lists::{Form, put_listed};
+use crate::page::Page;
+use crate::snapshot::{Setting, Snapshot, Station};
+use crate::words::{Marks, Word, put_words};
+
+/// Numbers as they are.
+#[derive(Drop)]
+struct NumberForm;
+
+impl Form<u64> for NumberForm {
+    ghost text = { λ _ n. decimal n };
+
+    fn put(&self, page: &mut Page, number: &u64) {
+        put_words(page, &[Word::Number(*number)]);
+    }
+}
+
+/// A station as an object.
+#[derive(Drop)]
+struct StationForm;
+
+impl Form<Station<'_>> for StationForm {
+    ghost text = { λ _ station. spec.json_of_station station };
+
+    fn put(&self, page: &mut Page, station: &Station<'_>) {
+        put_words(
+            page,
+            &[
+                Word::Text("{\"name\":\""),
+                Word::Escaped(Marks::Json, station.name),
+                Word::Text("\",\"address\":"),
+                Word::Address(station.address),
+                Word::Text(",\"common_address\":"),
+                Word::Address(station.common_address),
+                Word::Text(",\"standing\":\""),
+                Word::Stands(station.standing),
+                Word::Text("\",\"since_ms\":"),
+                Word::Number(station.since_ms),
+                Word::Text(",\"last_report_ms\":"),
+                Word::NumberOr(station.last_report_ms, "null"),
+                Word::Text(",\"reports\":"),
+                Word::Number(station.reports),
+                Word::Text(",\"skipped\":"),
+                Word::Number(station.skipped),
+                Word::Text(",\"gaps\":"),
+                Word::Number(station.gaps),
+                Word::Text(",\"commands\":"),
+                Word::Number(station.commands),
+                Word::Text("}"),
+            ],
+        );
+    }
+}
+
+/// A setting as a member of an object.
+#[derive(Drop)]
+struct SettingForm;
+
+impl Form<Setting<'_>> for SettingForm {
+    ghost text = { λ _ setting. spec.json_of_setting setting };
+
+    fn put(&self, page: &mut Page, setting: &Setting<'_>) {
+        put_words(
+            page,
+            &[
+                Word::Text("\""),
+                Word::Escaped(Marks::Json, setting.key),
+                Word::Text("\":\""),
+                Word::Escaped(Marks::Json, setting.value),
+                Word::Text("\""),
+            ],
+        );
+    }
+}
+
+/// Puts an address as a string, or null.
+fn put_peer(page: &mut Page, peer: Option<&str>)
+    ensures { page.new ≡ put (spec.json_of_peer peer.entry) page.old }
+{
+    match peer {
+        Some(peer) => put_words(
+            page,
+            &[
+                Word::Text("\""),
+                Word::Escaped(Marks::Json, peer),
+                Word::Text("\""),
+            ],
+        ),
+        None => page.put(b"null"),
+    }
+}
+
+fn put_before_peer(page: &mut Page, snapshot: &Snapshot<'_>)
+    ensures { page.new ≡ put (spec.json_before_peer snapshot.now) page.old }
+{
+    put_words(
+        page,
+        &[
+            Word::Text("{\"version\":\""),
+            Word::Escaped(Marks::Json, snapshot.version),
+            Word::Text("\",\"judgement\":\""),
+            Word::Judged(judge(snapshot)),
+            Word::Text("\",\"now_ms\":"),
+            Word::Number(snapshot.now_ms),
+            Word::Text(",\"started_ms\":"),
+            Word::Number(snapshot.started_ms),
+            Word::Text(",\"wall_ms\":"),
+            Word::NumberOr(snapshot.wall_ms, "null"),
+            Word::Text(",\"line\":{\"name\":\""),
+            Word::Escaped(Marks::Json, snapshot.name),
+            Word::Text("\",\"there\":"),
+            Word::Either(snapshot.line.is_there, "true", "false"),
+            Word::Text(",\"since_ms\":"),
+            Word::Number(snapshot.line.since_ms),
+            Word::Text("},\"centre\":{\"peer\":"),
+        ],
+    );
+}
+
+fn put_before_hour(page: &mut Page, snapshot: &Snapshot<'_>)
+    ensures { page.new ≡ put (spec.json_before_hour snapshot.now) page.old }
+{
+    put_words(
+        page,
+        &[
+            Word::Text(",\"started\":"),
+            Word::Either(snapshot.centre.is_started, "true", "false"),
+            Word::Text(",\"since_ms\":"),
+            Word::Number(snapshot.centre.since_ms),
+            Word::Text(",\"unacknowledged\":"),
+            Word::Number(snapshot.centre.unacknowledged),
+            Word::Text("},\"queue\":{\"taken\":"),
+            Word::Number(snapshot.queue.taken),
+            Word::Text(",\"places\":"),
+            Word::Number(snapshot.queue.places),
+            Word::Text(",\"hour\":["),
+        ],
+    );
+}
+
+fn put_before_stations(page: &mut Page, snapshot: &Snapshot<'_>)
+    ensures { page.new ≡ put (spec.json_before_stations snapshot.now) page.old }
+{
+    put_words(
+        page,
+        &[
+            Word::Text("]},\"state\":\""),
+            Word::Keeps(snapshot.keeping),
+            Word::Text("\",\"stations\":["),
+        ],
+    );
+}
+
+/// Puts the snapshot as JSON.
+pub(crate) fn put_json(page: &mut Page, snapshot: &Snapshot<'_>)
+    ensures { page.new ≡ put (spec.json_of snapshot.now) page.old }
+{
+    put_before_peer(page, snapshot);
+    put_peer(page, snapshot.centre.peer);
+    put_before_hour(page, snapshot);
+    put_listed(page, &NumberForm, snapshot.queue.hour);
+    put_before_stations(page, snapshot);
+    put_listed(page, &StationForm, snapshot.stations);
+    page.put(b"],\"settings\":{");
+    put_listed(page, &SettingForm, snapshot.settings);
+    page.put(b"}}\n");
+}

@@ -1,0 +1,94 @@
+//! What the state of the gateway calls for, as a monitor asks (0 ok, 1 warning, 2 critical).
+ghost use Rattle.std.specs.Prelude.{◌≡◌};
+ghost use Rattle.std.specs.List.{list_any};
+ghost use Rattle.status.specs.Judge as spec;
+
+use crate::snapshot::{Keeping, Line, Queue, Snapshot, Standing, Station};
+
+/// How long a line may be away before that is critical, in ms.
+const LINE_MS: u64 = 60_000;
+
+/// The most places of the queue that a report takes: where fewer are free nothing is polled.
+const REPORT_PLACES: u64 = 3;
+
+/// What the state calls for.
+#[derive(Clone, Copy, Debug, PartialEq, Eq)]
+pub enum Judgement {
+    Ok,
+    Warning,
+    Critical,
+}
+
+/// The line is away, and has been for a minute.
+fn is_lost(line: &Line, now_ms: u64) -> bool
+    ensures { result ≡ spec.is_lost line.now now_ms }
+{
+    !line.is_there && LINE_MS <= now_ms.saturating_sub(line.since_ms)
+}
+
+/// Fewer places are free than a report may take, so nothing is polled.
+fn is_full(queue: &Queue<'_>) -> bool
+    ensures { result ≡ spec.is_full queue.now }
+{
+    queue.places.saturating_sub(queue.taken) < REPORT_PLACES
+}
+
+/// It doesn't answer.
+fn is_unheard(station: &Station<'_>) -> bool
+    ensures { result ≡ spec.is_unheard station.now }
+{
+    matches!(station.standing, Standing::Silent | Standing::Down)
+}
+
+/// One of them doesn't answer.
+fn has_unheard(stations: &[Station<'_>]) -> bool
+    ensures { result ≡ list_any spec.is_unheard stations.now }
+{
+    stations.iter().any(|station| is_unheard(station))
+}
+
+/// It is up.
+pub(crate) fn is_up(station: &Station<'_>) -> bool
+    ensures { result ≡ spec.is_up station.now }
+{
+    matches!(station.standing, Standing::Up)
+}
+
+/// The state is to be kept on the disk, and can't be.
+pub(crate) fn cannot_keep(keeping: Keeping) -> bool
+    ensures { result ≡ spec.cannot_keep keeping }
+{
+    matches!(keeping, Keeping::NotKept)
+}
+
+/// Reports don't get through, or would be lost.
+fn is_critical(snapshot: &Snapshot<'_>) -> bool
+    ensures { result ≡ spec.is_critical snapshot.now }
+{
+    is_lost(&snapshot.line, snapshot.now_ms)
+        || snapshot.centre.peer.is_none()
+        || is_full(&snapshot.queue)
+        || cannot_keep(snapshot.keeping)
+}
+
+/// It may come to that.
+fn is_warning(snapshot: &Snapshot<'_>) -> bool
+    ensures { result ≡ spec.is_warning snapshot.now }
+{
+    !snapshot.line.is_there
+        || snapshot.queue.places / 2 < snapshot.queue.taken
+        || has_unheard(snapshot.stations)
+}
+
+/// What the state calls for.
+pub fn judge(snapshot: &Snapshot<'_>) -> Judgement
+    ensures { result ≡ spec.judgement_of snapshot.now }
+{
+    if is_critical(snapshot) {
+        Judgement::Critical
+    } else if is_warning(snapshot) {
+        Judgement::Warning
+    } else {
+        Judgement::Ok
+    }
+}

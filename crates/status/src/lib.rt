@@ -1,0 +1,55 @@
+//! A door for looking at the state as it is now: pages for a person, JSON, Prometheus' text format
+//! and a table for a terminal, over HTTP/1.0 and HTTP/1.1 (RFC 9110, RFC 9112).
+//!
+//! [`Visitors`] come through a [`Door`]: four at once at the most, each for two seconds at the
+//! most. [`Visitors::turn`] is called between two events. At most one visitor comes then, and each
+//! gets one read or one write, which never waits. What is shown is a [`Snapshot`], plain data that
+//! the caller fills in and lends. This crate doesn't know the gateway, so who looks changes
+//! nothing. All memory is taken by [`Visitors::new`]. [`VisitorListener`] is the door on the
+//! system's sockets.
+//!
+//! Proved: the body of each page is a small function of the snapshot, text for text, with what is
+//! written in place of octets that would mean something else. The status, the fields and the body
+//! of an answer are functions of what is asked. What is asked is read by the grammar of `httparse`:
+//! a request that isn't whole, one that is too long, and what is none are told apart. What a
+//! visitor was written is a beginning of the answer on the desk of that seat, in its order, nothing
+//! twice and nothing left out, however the stream takes it. After a turn nobody has been there for
+//! two seconds. A page goes out whole or not at all ([`a_text_stands_whole_or_not_at_all`]). Of
+//! escapes, ages, answers and the judgement there are literal examples ([`texts_by_example`],
+//! [`answers_by_example`]).
+//!
+//! Tested alone: that the largest pages find room, that streams are read and written at all, and
+//! what browsers and monitors make of a page (checks/status.py).
+#![tactic(auto)]
+
+mod answer;
+mod door;
+mod examples;
+mod hour;
+mod html;
+mod json;
+mod judging;
+mod labels;
+mod laws;
+mod lists;
+mod metrics;
+mod page;
+mod reply;
+mod request;
+mod seat;
+mod snapshot;
+mod sockets;
+mod table;
+mod texts;
+mod visitors;
+mod words;
+
+pub use door::{Door, Got, Stream, Took};
+pub use examples::{answers_by_example, texts_by_example};
+pub use hour::Hour;
+pub use judging::{Judgement, judge};
+pub use laws::a_text_stands_whole_or_not_at_all;
+pub use reply::{UNKNOWN, body_of, exit_status};
+pub use snapshot::{Centre, Keeping, Line, Queue, Setting, Snapshot, Standing, Station};
+pub use sockets::{VisitorListener, VisitorSocket};
+pub use visitors::Visitors;

@@ -1,0 +1,276 @@
+//! A visitor's seat: what was heard of who sits there, and the answer on its way.
+ghost use Rattle.std.specs.Prelude.{◌≡◌, ◌≤◌, ◌<◌, ◌^◌, length, min, take, IfOk, IfSome, None};
+ghost use Rattle.std.proofs.Props.{props};
+ghost use Rattle.std.specs.Bool.{OnTrue};
+ghost use Rattle.std.specs.Option.{ForSome, is_none};
+ghost use Rattle.status.specs.Page.{shown};
+ghost use Rattle.status.specs.Seats.{Answers, Turned, Hears, IsAsked, IsKept, IsNext, IsYoung};
+ghost use Rattle.status.specs.Seats.{answer_on, cleared, fresh_desk};
+ghost use Rattle.status.specs.Streams.{IsNew, more_told};
+
+use crate::answer::make_answer;
+use crate::door::{Got, Stream, Took};
+use crate::page::Page;
+use crate::request::{Asked, asked_of};
+use crate::snapshot::Snapshot;
+use std::alloc::{AllocError, Global};
+
+/// How many octets a request may have.
+const REQUEST_ROOM: usize = 8_192;
+
+/// How many octets the head of an answer may have. The longest has fewer than 400.
+const HEAD_ROOM: usize = 512;
+
+/// How many octets the body of an answer may have.
+// 32 stations with names of 40 characters, each of which is `&quot;`, and 40 settings need less.
+const BODY_ROOM: usize = 65_536;
+
+/// How many octets are handed to a stream at once at the most.
+const PIECE: usize = 16_384;
+
+/// How long a visitor may stay, in ms.
+const STAY_MS: u64 = 2_000;
+
+/// How far a visitor has come.
+#[derive(Clone, Copy, Debug, PartialEq, Eq)]
+pub(crate) enum Stage {
+    /// The request is coming.
+    Hearing,
+    /// The answer is going out.
+    Answering,
+    /// The answer has gone out. What still comes is dropped until the visitor goes: a stream that
+    /// is closed while octets wait in it takes the answer away from its reader.
+    Leaving,
+}
+
+/// What lies on the desk: the request so far, and the answer. Its room is made once.
+#[derive(Drop)]
+pub(crate) struct Desk {
+    request: Page,
+    head: Page,
+    body: Page,
+}
+
+/// The front of octets, as much as is handed to a stream at once.
+fn piece_of(octets: &[u8]) -> &[u8]
+    ensures { result.now ≡ take (min (length octets.entry.now) PIECE) octets.entry.now }
+{
+    &octets[..octets.len().min(PIECE)]
+}
+
+impl Desk {
+    fn new(alloc: Global) -> Result<Desk, AllocError>
+        ensures { IfOk result (λ desk. desk ≡ fresh_desk) }
+    {
+        Ok(Desk {
+            request: Page::new(alloc, REQUEST_ROOM)?,
+            head: Page::new(alloc, HEAD_ROOM)?,
+            body: Page::new(alloc, BODY_ROOM)?,
+        })
+    }
+
+    /// Takes all off the desk.
+    fn clear(&mut self)
+        ensures { self.new ≡ cleared self.old }
+    {
+        self.request.clear();
+        self.head.clear();
+        self.body.clear();
+    }
+
+    /// What is asked so far.
+    fn asked(&self) -> Asked
+        ensures { IsAsked self.now.request.text result }
+    {
+        match self.request.text() {
+            Some(octets) => asked_of(octets),
+            None => Asked::TooLong,
+        }
+    }
+
+    /// What goes out next, where so many octets of the answer have gone out.
+    fn next(&self, sent: usize) -> &[u8]
+        requires { sent ≤ length (answer_on self.now) }
+        ensures { IsNext (answer_on self.entry.now) sent result.now }
+    {
+        let head = self.head.octets();
+        if sent < head.len() {
+            piece_of(&head[sent..])
+        } else {
+            piece_of(&self.body.octets()[sent - head.len()..])
+        }
+    }
+}
+
+/// Hears more of a request. `false` says that the visitor has gone.
+fn hear<S: Stream>(stream: &mut S, request: &mut Page) -> bool
+    ensures heard { Hears (S.heard stream.old) request.old (S.heard stream.new) request.new }
+    ensures taken { S.taken stream.new ≡ S.taken stream.old }
+{
+    let mut octets = [0; 1024];
+    match stream.read(&mut octets) {
+        Got::Octets(len) => {
+            request.put(&octets[..len]);
+            true
+        }
+        Got::Quiet => true,
+        Got::Gone => false,
+    }
+}
+
+/// Drops what still comes. `false` says that the visitor has gone.
+fn drain<S: Stream>(stream: &mut S) -> bool
+    ensures taken { S.taken stream.new ≡ S.taken stream.old }
+{
+    let mut octets = [0; 1024];
+    !matches!(stream.read(&mut octets), Got::Gone)
+}
+
+/// Hands a stream octets, and answers how many it took; none where it is broken.
+fn send<S: Stream>(stream: &mut S, octets: &[u8]) -> Option<usize>
+    ensures fits { IfSome result (λ count. count ≤ length octets.now) }
+    ensures taken { IfSome result (λ count.
+        S.taken stream.new ≡ more_told (S.taken stream.old) (take count octets.now)) }
+    ensures heard { S.heard stream.new ≡ S.heard stream.old }
+{
+    match stream.write(octets) {
+        Took::Octets(count) => Some(count),
+        Took::Nothing => None,
+    }
+}
+
+/// Who sits there.
+#[derive(Drop)]
+struct Guest<S: Stream> {
+    stream: S,
+    /// When the visitor came.
+    since_ms: u64,
+    stage: Stage,
+    /// How many octets of the answer the stream has taken.
+    sent: usize,
+}
+
+/// Hears more of the request, and makes its answer where it has come whole.
+fn hear_more<S: Stream>(guest: &mut Guest<S>, desk: &mut Desk, snapshot: &Snapshot<'_>) -> bool
+    requires stage { guest.old.stage ≡ Stage.Hearing }
+    requires kept { IsKept (S.heard guest.old.stream) (S.taken guest.old.stream)
+        guest.old.stage guest.old.sent desk.old }
+    ensures kept { OnTrue result (IsKept (S.heard guest.new.stream) (S.taken guest.new.stream)
+        guest.new.stage guest.new.sent desk.new) }
+    ensures since { guest.new.since_ms ≡ guest.old.since_ms }
+    ensures answers { OnTrue result (Answers guest.new.stage snapshot.now desk.old desk.new) }
+{
+    if !hear(&mut guest.stream, &mut desk.request) {
+        return false;
+    }
+    match desk.asked() {
+        Asked::Nothing => {}
+        asked => {
+            make_answer(&mut desk.head, &mut desk.body, asked, snapshot);
+            guest.stage = Stage::Answering;
+        }
+    }
+    true
+}
+
+/// Sends more of the answer.
+fn send_more<S: Stream>(guest: &mut Guest<S>, desk: &Desk) -> bool
+    requires stage { guest.old.stage ≡ Stage.Answering }
+    requires kept { IsKept (S.heard guest.old.stream) (S.taken guest.old.stream)
+        guest.old.stage guest.old.sent desk.now }
+    ensures kept { OnTrue result (IsKept (S.heard guest.new.stream) (S.taken guest.new.stream)
+        guest.new.stage guest.new.sent desk.now) }
+    ensures since { guest.new.since_ms ≡ guest.old.since_ms }
+{
+    let piece = desk.next(guest.sent);
+    if piece.is_empty() {
+        guest.stream.finish();
+        guest.stage = Stage::Leaving;
+        return true;
+    }
+    let Some(count) = send(&mut guest.stream, piece) else {
+        return false;
+    };
+    if usize::MAX - guest.sent < count {
+        // No answer is that long.
+        return false;
+    }
+    guest.sent += count;
+    true
+}
+
+/// Reads once, or writes once. `false` says that the visitor has gone.
+fn take_turn<S: Stream>(guest: &mut Guest<S>, desk: &mut Desk, snapshot: &Snapshot<'_>) -> bool
+    requires kept { IsKept (S.heard guest.old.stream) (S.taken guest.old.stream)
+        guest.old.stage guest.old.sent desk.old }
+    ensures kept { OnTrue result (IsKept (S.heard guest.new.stream) (S.taken guest.new.stream)
+        guest.new.stage guest.new.sent desk.new) }
+    ensures since { guest.new.since_ms ≡ guest.old.since_ms }
+    ensures answers { OnTrue result (Turned guest.old.stage guest.new.stage snapshot.now
+        desk.old desk.new) }
+{
+    match guest.stage {
+        Stage::Hearing => hear_more(guest, desk, snapshot),
+        Stage::Answering => send_more(guest, desk),
+        Stage::Leaving => drain(&mut guest.stream),
+    }
+}
+
+/// A seat, and who sits there, if anybody does. What a visitor was written is a beginning of the
+/// answer on the desk of that seat, in its order.
+#[derive(Drop)]
+pub(crate) struct Seat<S: Stream> {
+    guest: Option<Guest<S>>,
+    desk: Desk,
+    ghost kept: { ForSome guest (λ g. IsKept (S.Stream.heard g.stream) (S.Stream.taken g.stream)
+        g.stage g.sent desk) } by { Prim.hlevel props },
+}
+
+impl<S: Stream> Seat<S> {
+    /// A free seat.
+    pub(crate) fn new(alloc: Global) -> Result<Seat<S>, AllocError>
+        ensures { IfOk result (λ seat. seat.guest ≡ None) }
+    {
+        Ok(Seat {
+            guest: None,
+            desk: Desk::new(alloc)?,
+        })
+    }
+
+    /// Nobody sits there.
+    pub(crate) fn is_free(&self) -> bool
+        ensures { result ≡ is_none self.now.guest }
+    {
+        self.guest.is_none()
+    }
+
+    /// Somebody comes.
+    pub(crate) fn admit(&mut self, stream: S, now_ms: u64)
+        requires heard { IsNew (S.heard stream) }
+        requires taken { IsNew (S.taken stream) }
+    {
+        self.guest = None;
+        self.desk.clear();
+        self.guest = Some(Guest {
+            stream,
+            since_ms: now_ms,
+            stage: Stage::Hearing,
+            sent: 0,
+        });
+    }
+
+    /// Reads once, or writes once. Who has been there for two seconds goes.
+    pub(crate) fn turn(&mut self, now_ms: u64, snapshot: &Snapshot<'_>)
+        ensures young { ForSome self.new.guest (λ g. IsYoung now_ms g.since_ms) }
+    {
+        let Some(mut guest) = self.guest.take() else {
+            return;
+        };
+        if STAY_MS <= now_ms.saturating_sub(guest.since_ms) {
+            return;
+        }
+        if take_turn(&mut guest, &mut self.desk, snapshot) {
+            self.guest = Some(guest);
+        }
+    }
+}

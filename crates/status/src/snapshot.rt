@@ -1,0 +1,108 @@
+//! What a page shows: plain data that the caller fills in and lends.
+
+/// How a station stands.
+#[derive(Clone, Copy, Debug, Default, PartialEq, Eq)]
+pub enum Standing {
+    /// Nothing has been asked of it yet.
+    #[default]
+    NotAsked,
+    /// It was asked for the status of its link, and hasn't answered yet.
+    Asked,
+    Up,
+    /// It was up, and doesn't answer any more.
+    Silent,
+    /// It is asked for the status of its link, and doesn't answer.
+    Down,
+}
+
+/// A station. Moments are those of the run, in ms.
+#[derive(Clone, Copy, Debug, Default)]
+pub struct Station<'a> {
+    /// Up to 40 characters; empty where it has none.
+    pub name: &'a str,
+    /// Its link address.
+    pub address: u16,
+    pub common_address: u16,
+    pub standing: Standing,
+    /// Since when it stands so.
+    pub since_ms: u64,
+    /// When its last report came; none where none has come.
+    pub last_report_ms: Option<u64>,
+    /// How many reports it has given.
+    pub reports: u64,
+    /// How many of them couldn't be used.
+    pub skipped: u64,
+    /// How often reports of it may be lost.
+    pub gaps: u64,
+    /// How many commands went to it.
+    pub commands: u64,
+}
+
+/// The line.
+#[derive(Clone, Copy, Debug)]
+pub struct Line {
+    pub is_there: bool,
+    /// Since when it is there or away.
+    pub since_ms: u64,
+}
+
+/// The control centre.
+#[derive(Clone, Copy, Debug)]
+pub struct Centre<'a> {
+    /// The address that it connects from; none where it isn't connected.
+    pub peer: Option<&'a str>,
+    /// Data transfer is started (IEC 60870-5-104, 5.3).
+    pub is_started: bool,
+    /// Since when it is connected or not.
+    pub since_ms: u64,
+    /// How many pieces it hasn't acknowledged.
+    pub unacknowledged: u64,
+}
+
+/// The queue of pieces that no connection has acknowledged.
+#[derive(Clone, Copy, Debug)]
+pub struct Queue<'a> {
+    /// How many of its places are taken.
+    pub taken: u64,
+    /// How many places it has.
+    pub places: u64,
+    /// How many were taken in the last hour, one number a minute, the oldest first.
+    pub hour: &'a [u64],
+}
+
+/// Whether the state is kept on the disk.
+#[derive(Clone, Copy, Debug, PartialEq, Eq)]
+pub enum Keeping {
+    /// It isn't to be kept.
+    Off,
+    Kept,
+    /// It is to be kept, and can't be.
+    NotKept,
+}
+
+/// A setting in force.
+#[derive(Clone, Copy, Debug, Default)]
+pub struct Setting<'a> {
+    pub key: &'a str,
+    pub value: &'a str,
+}
+
+/// What a page shows. Moments are those of the run, in ms.
+#[derive(Clone, Copy, Debug)]
+pub struct Snapshot<'a> {
+    pub version: &'a str,
+    /// The moment that it shows.
+    pub now_ms: u64,
+    /// When this process began; a run that goes on after a restart is older.
+    pub started_ms: u64,
+    /// What the wall clock shows, in ms since 1970-01-01 UTC, if that is known.
+    pub wall_ms: Option<u64>,
+    /// What the line is called: up to 40 characters; empty where it has no name.
+    pub name: &'a str,
+    pub line: Line,
+    pub centre: Centre<'a>,
+    pub queue: Queue<'a>,
+    pub keeping: Keeping,
+    pub stations: &'a [Station<'a>],
+    pub settings: &'a [Setting<'a>],
+}

@@ -1,0 +1,87 @@
+//! The door on the system's sockets. No call waits.
+ghost use Rattle.std.specs.Prelude.{None};
+
+use crate::door::{Door, Got, Stream, Took};
+use std::io;
+use std::io::{ErrorKind, Read, Write};
+use std::net::{Net, OpenListener, OpenStream, Shutdown, SocketAddr, TcpListener, TcpStream};
+
+/// The connection of a visitor.
+#[derive(Drop)]
+pub struct VisitorSocket(TcpStream);
+
+impl Stream for VisitorSocket {
+    ghost heard = { λ _. None };
+
+    ghost taken = { λ _. None };
+
+    fn read(&mut self, buf: &mut [u8; 1024]) -> Got {
+        match self.0.read(buf) {
+            Ok(0) => Got::Gone,
+            Ok(len) => Got::Octets(len),
+            Err(fault) if is_quiet(&fault) => Got::Quiet,
+            Err(_) => Got::Gone,
+        }
+    }
+
+    fn write(&mut self, octets: &[u8]) -> Took {
+        match self.0.write(octets) {
+            Ok(count) => Took::Octets(count),
+            Err(fault) if is_quiet(&fault) => Took::Octets(0),
+            Err(_) => Took::Nothing,
+        }
+    }
+
+    fn finish(&mut self) {
+        // Where the other end has gone already, the next look tells.
+        let _ = self.0.shutdown(Shutdown::Write);
+    }
+}
+
+/// Nothing has happened yet.
+fn is_quiet(fault: &io::Error) -> bool {
+    matches!(fault.kind(), ErrorKind::WouldBlock | ErrorKind::Interrupted)
+}
+
+/// The door: a TCP listener that doesn't wait.
+#[derive(Drop)]
+pub struct VisitorListener {
+    listener: TcpListener,
+}
+
+impl VisitorListener {
+    /// Listens at `HOST:PORT`.
+    ///
+    /// # Errors
+    ///
+    /// Those of the system.
+    pub fn listen<R: Net<Listener = TcpListener, Stream = TcpStream>>(
+        rt: &R,
+        address: &str,
+    ) -> io::Result<VisitorListener> {
+        let listener = TcpListener::bind(rt, address)?;
+        listener.set_nonblocking(true)?;
+        Ok(VisitorListener { listener })
+    }
+
+    /// Where it listens.
+    ///
+    /// # Errors
+    ///
+    /// Those of the system.
+    pub fn address(&self) -> io::Result<SocketAddr> {
+        self.listener.local_addr()
+    }
+}
+
+impl Door for VisitorListener {
+    type Stream = VisitorSocket;
+
+    fn accept(&mut self) -> Option<VisitorSocket> {
+        let (stream, _) = self.listener.accept().ok()?;
+        stream.set_nonblocking(true).ok()?;
+        // Head and body go out in two writes; the system would hold the second one back.
+        stream.set_nodelay(true).ok()?;
+        Some(VisitorSocket(stream))
+    }
+}

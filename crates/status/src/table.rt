@@ -1,0 +1,150 @@
+//! The snapshot as a table for a terminal.
+ghost use Rattle.std.specs.Prelude.{◌≡◌};
+ghost use Rattle.status.specs.Page.{put};
+ghost use Rattle.status.specs.Table as spec;
+
+use crate::lists::{Form, put_rows};
+use crate::page::Page;
+use crate::snapshot::{Snapshot, Station};
+use crate::texts::{put_age, put_age_or, put_summary};
+use crate::words::{Marks, Word, put_words};
+
+/// A station as a row.
+#[derive(Drop)]
+struct RowForm {
+    now_ms: u64,
+}
+
+/// Puts whose row it is.
+fn put_row_head(page: &mut Page, station: &Station<'_>)
+    ensures { page.new ≡ put (spec.row_head station.now) page.old }
+{
+    put_words(
+        page,
+        &[
+            Word::Right(7, u64::from(station.address)),
+            Word::Right(7, u64::from(station.common_address)),
+            Word::Text("  "),
+            Word::Wide(station.standing),
+        ],
+    );
+}
+
+/// Puts what was counted of a station, and its name.
+fn put_row_counts(page: &mut Page, station: &Station<'_>)
+    ensures { page.new ≡ put (spec.row_counts station.now) page.old }
+{
+    put_words(
+        page,
+        &[
+            Word::Right(9, station.reports),
+            Word::Right(9, station.skipped),
+            Word::Right(6, station.gaps),
+            Word::Right(10, station.commands),
+            Word::Text("  "),
+            Word::Escaped(Marks::Plain, station.name),
+            Word::Text("\n"),
+        ],
+    );
+}
+
+impl Form<Station<'_>> for RowForm {
+    ghost text = { λ form station. spec.text_of_row form.now_ms station };
+
+    fn put(&self, page: &mut Page, station: &Station<'_>) {
+        put_row_head(page, station);
+        put_age(page, 6, self.now_ms, station.since_ms);
+        put_age_or(
+            page,
+            10,
+            self.now_ms,
+            station.last_report_ms,
+            "         -    ",
+        );
+        put_row_counts(page, station);
+    }
+}
+
+/// Puts how the line is, with what stands before since when.
+fn put_line(page: &mut Page, snapshot: &Snapshot<'_>)
+    ensures { page.new ≡ put (spec.line_text snapshot.now) page.old }
+{
+    put_words(
+        page,
+        &[
+            Word::Text("\nline            "),
+            Word::Escaped(Marks::Plain, snapshot.name),
+            Word::Either(snapshot.name.is_empty(), "", ", "),
+            Word::Either(snapshot.line.is_there, "there", "away"),
+            Word::Text(" for "),
+        ],
+    );
+}
+
+/// The same of the control centre.
+fn put_centre(page: &mut Page, snapshot: &Snapshot<'_>)
+    ensures { page.new ≡ put (spec.centre_text snapshot.now) page.old }
+{
+    put_words(
+        page,
+        &[
+            Word::Text("\ncontrol centre  "),
+            Word::EscapedOr(Marks::Plain, snapshot.centre.peer, "not connected"),
+            Word::Either(snapshot.centre.is_started, ", started", ""),
+            Word::Text(" for "),
+        ],
+    );
+}
+
+/// Puts the queue and the state, with what stands before the rows.
+fn put_queue(page: &mut Page, snapshot: &Snapshot<'_>)
+    ensures { page.new ≡ put (spec.queue_text snapshot.now) page.old }
+{
+    put_words(
+        page,
+        &[
+            Word::Text("\nunacknowledged  "),
+            Word::Number(snapshot.centre.unacknowledged),
+            Word::Text("\nqueue           "),
+            Word::Number(snapshot.queue.taken),
+            Word::Text(" of "),
+            Word::Number(snapshot.queue.places),
+            Word::Text("\nstate           "),
+            Word::Keeps(snapshot.keeping),
+            Word::Text("\n\naddress     ca  standing       since   last report  reports"),
+            Word::Text("  skipped  gaps  commands  name\n"),
+        ],
+    );
+}
+
+/// Puts the version, with what stands before since when it runs.
+fn put_version(page: &mut Page, snapshot: &Snapshot<'_>)
+    ensures { page.new ≡ put (spec.version_text snapshot.now) page.old }
+{
+    put_words(
+        page,
+        &[
+            Word::Text("\n\nversion         "),
+            Word::Escaped(Marks::Plain, snapshot.version),
+            Word::Text("\nrunning for     "),
+        ],
+    );
+}
+
+/// Puts the snapshot as a table for a terminal.
+pub(crate) fn put_table(page: &mut Page, snapshot: &Snapshot<'_>)
+    ensures { page.new ≡ put (spec.table_of snapshot.now) page.old }
+{
+    put_summary(page, snapshot);
+    put_version(page, snapshot);
+    put_age(page, 0, snapshot.now_ms, snapshot.started_ms);
+    put_line(page, snapshot);
+    put_age(page, 0, snapshot.now_ms, snapshot.line.since_ms);
+    put_centre(page, snapshot);
+    put_age(page, 0, snapshot.now_ms, snapshot.centre.since_ms);
+    put_queue(page, snapshot);
+    let form = RowForm {
+        now_ms: snapshot.now_ms,
+    };
+    put_rows(page, &form, snapshot.stations);
+}

@@ -1,0 +1,106 @@
+//! Texts that more than one page has.
+ghost use Rattle.std.specs.Prelude.{◌≡◌};
+ghost use Rattle.std.specs.Prelude.{count_by};
+ghost use Rattle.status.specs.Judge.{is_up as is_up_of};
+ghost use Rattle.status.specs.Page.{put};
+ghost use Rattle.status.specs.Texts as spec;
+
+use crate::judging::{is_up, judge};
+use crate::page::Page;
+use crate::snapshot::{Snapshot, Station};
+use crate::words::{Word, put_words};
+
+/// How many stations are up.
+pub(crate) fn count_up(stations: &[Station<'_>]) -> u64
+    ensures { result ≡ count_by is_up_of stations.now }
+{
+    stations.iter().filter(|station| is_up(*station)).count() as u64
+}
+
+/// Puts one line in words.
+pub(crate) fn put_summary(page: &mut Page, snapshot: &Snapshot<'_>)
+    ensures { page.new ≡ put (spec.summary snapshot.now) page.old }
+{
+    let is_connected = snapshot.centre.peer.is_some();
+    put_words(
+        page,
+        &[
+            Word::Judged(judge(snapshot)),
+            Word::Text(": "),
+            Word::Number(count_up(snapshot.stations)),
+            Word::Text(" of "),
+            Word::Number(snapshot.stations.len() as u64),
+            Word::Text(" stations up, line "),
+            Word::Either(snapshot.line.is_there, "there", "away"),
+            Word::Text(", control centre "),
+            Word::Either(is_connected, "connected", "not connected"),
+            Word::Text(", queue "),
+            Word::Number(snapshot.queue.taken),
+            Word::Text(" of "),
+            Word::Number(snapshot.queue.places),
+            Word::Text(", state "),
+            Word::Keeps(snapshot.keeping),
+        ],
+    );
+}
+
+/// How many seconds, minutes, hours or days so many seconds are.
+fn age_count(seconds: u64) -> u64
+    ensures { result ≡ spec.age_count seconds }
+{
+    match seconds {
+        0..120 => seconds,
+        120..7200 => seconds / 60,
+        7200..172_800 => seconds / 3600,
+        _ => seconds / 86_400,
+    }
+}
+
+/// The unit of that, as wide as each other one.
+fn age_unit(seconds: u64) -> &'static str
+    ensures { result.now ≡ spec.age_unit seconds }
+{
+    match seconds {
+        0..120 => " s  ",
+        120..7200 => " min",
+        7200..172_800 => " h  ",
+        _ => " d  ",
+    }
+}
+
+/// Whole seconds between two moments in ms.
+pub(crate) fn seconds(now_ms: u64, since_ms: u64) -> u64
+    ensures { result ≡ spec.seconds now_ms since_ms }
+{
+    now_ms.saturating_sub(since_ms) / 1000
+}
+
+/// Puts how long ago a moment is, in a column of this width.
+pub(crate) fn put_age(page: &mut Page, width: usize, now_ms: u64, since_ms: u64)
+    ensures { page.new ≡ put (spec.age_text width now_ms since_ms) page.old }
+{
+    let seconds = seconds(now_ms, since_ms);
+    put_words(
+        page,
+        &[
+            Word::Right(width, age_count(seconds)),
+            Word::Text(age_unit(seconds)),
+        ],
+    );
+}
+
+/// The same of a moment that may not be.
+pub(crate) fn put_age_or(
+    page: &mut Page,
+    width: usize,
+    now_ms: u64,
+    since_ms: Option<u64>,
+    other: &str,
+)
+    ensures { page.new ≡ put (spec.age_or width now_ms since_ms other.now) page.old }
+{
+    match since_ms {
+        Some(since_ms) => put_age(page, width, now_ms, since_ms),
+        None => page.put(other.as_bytes()),
+    }
+}

@@ -1,0 +1,30 @@
+-- What came of a live run as it was wished.
+use Rattle.std.proofs.Common.{◌≡◌, [], false, Option, Some, None, Result}
+use Rattle.std.specs.Borrow.{Bor}
+use Rattle.clap.specs.Words.{Text}
+use Rattle.gateway.specs.Config.{Settings}
+use Rattle.gateway.specs.Log.{Log}
+use Rattle.live.specs.Ends.{Ends}
+use Rattle.record.specs.Recording.{Recording}
+use Rattle.state.specs.declared.beginning.Origin.{Origin}
+use Rattle.telegate.specs.Kept.{HasLivedFrom}
+use Rattle.telegate.specs.Living.{HasLived}
+use Rattle.telegate.specs.Ran.{HasLivedAs}
+use Rattle.telegate.specs.declared.host.Wishes.{Wishes}
+
+pub lived_anew : {E : Type 0} (begins : Origin → Type 0) (settings : Settings) (wishes : Wishes)
+    (port : Ends)
+    (pen : Recording) (ended : Result (Unit {0}) E) → wishes.state ≡ None
+    → HasLived settings wishes.guests false [] port pen ended
+    → HasLivedAs begins settings wishes ended
+lived_anew begins settings wishes port pen ended none lived =
+    rw none (record { port = port; pen = pen; lived = lived })
+
+pub lived_kept : {E : Type 0} (begins : Origin → Type 0) (settings : Settings) (wishes : Wishes)
+    (directory : Bor Text)
+    (before : Log) (port : Ends) (pen : Recording) (ended : Result (Unit {0}) E) → wishes.state
+    ≡ Some directory
+    → HasLivedFrom begins settings wishes.guests before port pen ended
+    → HasLivedAs begins settings wishes ended
+lived_kept begins settings wishes directory before port pen ended named lived =
+    rw named (record { before = before; port = port; pen = pen; lived = lived })

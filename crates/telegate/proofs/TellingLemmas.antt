@@ -1,0 +1,89 @@
+-- Runs over parts of a text that are told in words.
+use Rattle.std.proofs.Common.{◌≡◌, ℕ, Bool, true, false, List, [], ◌∷◌, ◌++◌, Option, refl, sym}
+use Rattle.std.proofs.Common.{subst, ap, ◌∙◌, append_assoc}
+use Rattle.std.proofs.lemmas.List.{append-nil}
+use Rattle.gateway.specs.Log.{Log, LogEntry, Came, Went, events_of}
+use Rattle.gateway.specs.State.{State}
+use Rattle.ladder.specs.Scribing.{Scribing}
+use Rattle.ladder.specs.Told.{IsLadder, first_remembered}
+use Rattle.ladder.specs.declared.rungs.Style.{Style}
+use Rattle.sim.specs.Runs.{IsBegun}
+use Rattle.std.specs.Io.KnownBytes.{Appends}
+use Rattle.traces.specs.Progress.{Progress, Standing, coming_in, script_of}
+use Rattle.telegate.specs.Parts.{IsPartStopped, StaysFaithful}
+use Rattle.telegate.specs.Printed.{IsPoured}
+use Rattle.telegate.specs.Telling.{HasWritten}
+use Rattle.telegate.proofs.PartLemmas.{RunsTo, part_start, runs_begin}
+use Rattle.telegate.proofs.Poured.{appends_none}
+
+-- nothing is told of nothing
+pub no_words : (style : Style) → IsLadder style [] []
+no_words style = record { mind = first_remembered style.sizes.link; told = (refl, refl) }
+
+-- the events of news come behind those before
+pub events_behind : (news log : Log) → events_of (news ++ log) ≡ events_of log ++ events_of news
+events_behind [] log = sym (append-nil (events_of log))
+events_behind (Came now event ∷ news) log =
+    ap (λ (es : List LogEntry). es ++ Came now event ∷ []) (events_behind news log)
+    ∙ append_assoc (events_of log) (events_of news) (Came now event ∷ [])
+events_behind (Went now action ∷ news) log = events_behind news log
+
+-- how far a run over a text has come, with a scribe that has written of all
+pub record TellsTo (style : Style) (known coming : Option (List ℕ)) (began state : State)
+    (s : Standing)
+    (scribe : Scribing) (is_whole : Bool) (old new : Option (List ℕ)) : Type 0 where
+  pub run : RunsTo (IsLadder style) known coming began state s is_whole old new
+  pub written : HasWritten style s.log scribe
+  pub poured : IsPoured is_whole old new scribe.told
+
+abbrev pub blank : Style → Scribing
+blank style = record {
+  style = style;
+  remembered = first_remembered style.sizes.link;
+  log = [];
+  poured = [];
+  told = [];
+  page = [];
+  is_noted = true;
+}
+
+abbrev pub unbegun : Standing
+unbegun = record { started = false; log = []; poured = []; page = []; failed = 0 }
+
+pub tells_begin : (style : Style) (known coming : Option (List ℕ)) (began : State) (s : Standing)
+    (scribe : Scribing)
+    (old : Option (List ℕ)) → coming ≡ known → s ≡ unbegun → scribe ≡ blank style
+    → TellsTo style known coming began began s scribe true old old
+tells_begin style known coming began s scribe old all fresh new = record {
+  run = runs_begin (IsLadder style) known coming began s old all fresh (no_words style);
+  written = subst (λ (x : Scribing). HasWritten style s.log x) (sym new)
+      (subst (λ (x : Standing). HasWritten style x.log (blank style)) (sym fresh) (record {
+        style_is = refl;
+        log_is = refl;
+        poured = refl;
+        noted = refl;
+        told = no_words style;
+      }));
+  poured = subst (λ (x : Scribing). Appends old old x.told) (sym new) (appends_none old);
+}
+
+module _ (style : Style) (s : Standing) (text : List ℕ) (began : State) (start port : Progress)
+    (fresh : start ≡ part_start s text) (course : port.part ≡ start.part)
+    (whole : events_of port.log ++ coming_in port ≡ script_of port.part) where
+  -- a part was left, of whose first entries so much was told
+  pub telling_stopped : (first news : Log) (words : List ℕ) (old new : Option (List ℕ))
+      → port.log ≡ news ++ first
+      → StaysFaithful began start.log first → IsLadder style first words → IsBegun old new words
+      → IsPartStopped (IsLadder style) s text began old new
+  telling_stopped first news words old new behind faithful told begun = record {
+    log = first;
+    rest = events_of news ++ coming_in port;
+    events = sym (append_assoc (events_of first) (events_of news) (coming_in port))
+        ∙ ap (λ (es : List LogEntry). es ++ coming_in port)
+        (sym (ap events_of behind ∙ events_behind news first))
+        ∙ whole ∙ ap script_of (course ∙ ap (λ (t : Progress). t.part) fresh);
+    faithful = subst (λ (t : Progress). StaysFaithful began t.log first) fresh faithful;
+    lines = words;
+    told = told;
+    begun = begun;
+  }

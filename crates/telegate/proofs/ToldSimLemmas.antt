@@ -1,0 +1,85 @@
+-- Runs over a simulated line that are told in words: what their ends say.
+use Rattle.std.proofs.Common.{◌≡◌, ◌≤◌, ℕ, ◌++◌, subst, Bool, List, [], Option, Some, inr, refl}
+use Rattle.std.specs.Prelude.{Result, Ok, Err}
+use Rattle.gateway.specs.Config.{Settings}
+use Rattle.gateway.specs.Log.{Log}
+use Rattle.gateway.specs.Setups.{setup_of}
+use Rattle.gateway.specs.Traffic.{IsFaithful}
+use Rattle.ladder.specs.Scribing.{Scribing}
+use Rattle.ladder.specs.Told.{IsLadder}
+use Rattle.ladder.specs.declared.rungs.Style.{Style}
+use Rattle.sim.specs.Lives.{Plan, plan_of}
+use Rattle.sim.specs.Losses.{turns_of}
+use Rattle.sim.specs.Played.{IsPlayed, Simulated, Stands}
+use Rattle.sim.specs.Runs.{IsBegun, IsRun}
+use Rattle.sim.specs.declared.directive.Directive.{Directive}
+use Rattle.telegate.specs.Answers.{IsSimulationOf}
+use Rattle.telegate.specs.Manners.{style_of}
+use Rattle.telegate.specs.Printed.{IsClosedBy}
+use Rattle.telegate.specs.declared.fault.Fault.{Fault}
+use Rattle.telegate.specs.declared.fault.Fault.TheVariants.{Config, Site, Trace, Script, Record}
+use Rattle.telegate.specs.declared.fault.Fault.TheVariants.{Sizes, Octets, Address, NoState}
+use Rattle.telegate.specs.declared.fault.Fault.TheVariants.{StateInUse, StateUnusable, Device}
+use Rattle.telegate.specs.declared.fault.Fault.TheVariants.{Unread, NoMemory}
+use Rattle.telegate.specs.declared.manner.Manner.TheVariants.{Words}
+
+-- what was taken off a page is the text of the whole log, where that was all of it
+pub words_of_all : (style : Style) (s : Scribing) (log : Log) → s.style ≡ style
+    → Some log ≡ Some s.poured
+    → IsLadder s.style s.poured s.told → IsLadder style log s.told
+words_of_all style s log is all told =
+    let same : s.poured ≡ log = cc in
+    subst (λ (l : Log). IsLadder style l s.told) same
+    (subst (λ (x : Style). IsLadder x s.poured s.told) is told)
+
+module _ (c : Settings) (ds : List Directive) (is_coloured : Bool) (s : Simulated) (plan : s.plan
+    ≡ plan_of c ds)
+    (stands : Stands s.plan s.log s.stations s.standing)
+    (faithful : IsFaithful (setup_of c) s.log) where
+  -- a run that stopped, of whose first entries so much was told
+  pub words_stopped : (first news : Log) (words : List ℕ) (old new : Option (List ℕ))
+      → s.log ≡ news ++ first
+      → IsLadder (style_of c is_coloured) first words → IsBegun old new words
+      → IsSimulationOf (Words is_coloured) c ds old new (Err NoMemory)
+  words_stopped first news words old new behind told begun = inr (record {
+    log = s.log;
+    stop = let most : s.standing.call ≤ turns_of s.plan.directives = stands.in_turns in record {
+      stations = s.stations;
+      answers = stands.answers;
+      played = subst (λ (q : Plan). IsPlayed q s.log stands.answers s.stations) plan stands.played;
+      calls = subst (λ (n : ℕ). n ≤ turns_of ds) stands.call
+          (subst (λ (q : Plan). s.standing.call ≤ turns_of q.directives) plan most);
+      faithful = faithful;
+    };
+    first = first;
+    news = news;
+    behind = behind;
+    words = words;
+    told = told;
+    printed = begun;
+  })
+
+  -- one that came to its end
+  pub words_ended : (closing words : List ℕ) (old new : Option (List ℕ))
+      (r : Result (Unit {0}) Fault)
+      → IsRun c ds s.log closing → IsLadder (style_of c is_coloured) s.log words
+      → IsClosedBy old new words closing r
+      → IsSimulationOf (Words is_coloured) c ds old new r
+  words_ended closing words old new (Ok done) run told h =
+      record { log = s.log; closing = closing; run = run; words = words; told = told; printed = h }
+  words_ended closing words old new (Err Device) run told h =
+      record { log = s.log; closing = closing; run = run; words = words; told = told; printed = h }
+  words_ended closing words old new (Err NoMemory) run told h =
+      words_stopped s.log [] words old new refl told h
+  words_ended closing words old new (Err (Config why)) run told h = absurd h
+  words_ended closing words old new (Err (Trace n)) run told h = absurd h
+  words_ended closing words old new (Err (Script n)) run told h = absurd h
+  words_ended closing words old new (Err (Site why)) run told h = absurd h
+  words_ended closing words old new (Err (Record n)) run told h = absurd h
+  words_ended closing words old new (Err NoState) run told h = absurd h
+  words_ended closing words old new (Err StateInUse) run told h = absurd h
+  words_ended closing words old new (Err StateUnusable) run told h = absurd h
+  words_ended closing words old new (Err Sizes) run told h = absurd h
+  words_ended closing words old new (Err Octets) run told h = absurd h
+  words_ended closing words old new (Err Address) run told h = absurd h
+  words_ended closing words old new (Err Unread) run told h = absurd h

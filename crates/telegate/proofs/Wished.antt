@@ -1,0 +1,49 @@
+-- What is wished of a live run.
+use Rattle.std.proofs.Common.{◌≡◌, Bool, true, false, List, Option, Some, None, option_map, refl}
+use Rattle.std.proofs.Common.{sym, subst, ◌∙◌, ap}
+use Rattle.std.specs.Prelude.{codes, map, string_bytes, String, Vec}
+use Rattle.std.specs.Borrow.{Bor}
+use Rattle.std.specs.declared.alloc.Global.{Global}
+use Rattle.clap.specs.Words.{Text}
+use Rattle.live.specs.declared.guests.Guests.{Guests}
+use Rattle.sitefile.specs.Site.{texts_in}
+use Rattle.sitefile.specs.declared.fault.SiteFault.TheVariants as why
+use Rattle.telegate.specs.Guests.{AreGuests, IsGuestsFault}
+use Rattle.telegate.specs.Wishes.{AreNoSiteGuests}
+use Rattle.telegate.specs.declared.fault.Fault.{Fault}
+use Rattle.telegate.specs.declared.fault.Fault.TheVariants.{Address, NoMemory, Site}
+
+-- a text of the site's file that writes no address is a fault of its key
+pub no_address : (texts : Option (List Text)) (path : Bor Text) → path.now ≡ codes "allow"
+    → IsGuestsFault texts Address → AreNoSiteGuests texts (Site (why.Key path))
+no_address texts path is none = (is, none)
+
+-- any other fault is want of memory
+pub no_memory : (texts : Option (List Text)) (fault : Fault) → IsGuestsFault texts fault
+    → (fault ≡ Address → ⊥)
+    → AreNoSiteGuests texts fault
+no_memory texts Address fault other = absurd (other refl)
+no_memory texts NoMemory fault other = tt
+no_memory texts _ fault other = absurd fault
+
+-- who is named by the texts of the site's file
+pub are_guests : (allow : Option (Vec (String Global) Global))
+    (addresses : Vec (String Global) Global)
+    (texts : Bor (List (String Global))) (guests : Guests) → allow ≡ Some addresses → texts.now
+    ≡ addresses.items
+    → AreGuests (Some (map string_bytes texts.now)) guests
+    → AreGuests (option_map texts_in allow) guests
+are_guests allow addresses texts guests named same are =
+    rw named (subst (λ (ts : List (String Global)). AreGuests (Some (map string_bytes ts)) guests)
+    same are)
+
+-- why these name nobody
+pub why_not : (allow : Option (Vec (String Global) Global)) (addresses : Vec (String Global) Global)
+    (texts : Bor (List (String Global))) (fault : Fault) → allow ≡ Some addresses
+    → texts.now ≡ addresses.items
+    → IsGuestsFault (Some (map string_bytes texts.now)) fault
+    → IsGuestsFault (option_map texts_in allow) fault
+why_not allow addresses texts fault named same none =
+    rw named
+    (subst (λ (ts : List (String Global)). IsGuestsFault (Some (map string_bytes ts)) fault) same
+    none)

@@ -1,0 +1,32 @@
+use Rattle.std.proofs.Common.{inl}
+use Rattle.telegate.specs.Playing.{ArePlayedBy}
+use Rattle.telegate.proofs.PlayLemmas.{unscripted, unset}
+use Rattle.telegate.proofs.RunLemmas.{as_err}
+use Rattle.telegate.proofs.host.SystemHost.play.Goals as goal
+
+pub returns-in_err-settings : goal.returns-in_err-settings
+returns-in_err-settings c =
+    as_err (ArePlayedBy c.args.config.now c.args.script.now) c.from_residual.result
+    c.in_err-settings.field-0.0 c.from_residual.ensures.1
+    (unset c.args.config.now c.args.script.now c.in_err-settings.field-0.0
+    c.in_err-settings.ensures)
+
+pub returns-in_err-script : goal.returns-in_err-script
+returns-in_err-script c =
+    as_err (ArePlayedBy c.args.config.now c.args.script.now)
+    c.from_residual-in_err-script.result c.in_err-script.field-0.0
+    c.from_residual-in_err-script.ensures.1
+    (unscripted c.args.config.now c.args.script.now c.in_ok-settings.settings
+    c.in_ok-settings.places c.in_err-script.field-0.0 c.in_ok-settings.ensures
+    c.in_err-script.ensures.script)
+
+pub returns : goal.returns
+returns c =
+    inl (record {
+      settings = c.in_ok-settings.settings;
+      places = c.in_ok-settings.places;
+      script = c.in_ok-script.script;
+      read_config = c.in_ok-settings.ensures;
+      read_script = c.in_ok-script.ensures.script;
+      played = c.play_at.ensures;
+    })

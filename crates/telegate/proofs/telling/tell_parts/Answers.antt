@@ -1,0 +1,128 @@
+use Rattle.std.proofs.Common.{ap, sym, subst, inl, inr, ◌∙◌}
+use Rattle.blocks.specs.Reading.{Reading}
+use Rattle.ladder.specs.Told.{IsLadder}
+use Rattle.ladder.specs.declared.rungs.Style.{Style}
+use Rattle.telegate.specs.Parts.{IsPartStopped, RunsOver}
+use Rattle.telegate.specs.Telling.{HasWritten}
+use Rattle.telegate.proofs.PartLemmas.{ran_to, block_run, all_run, block_left}
+use Rattle.telegate.proofs.RunLemmas.{as_err}
+use Rattle.telegate.proofs.TellingLemmas.{tells_begin}
+use Rattle.telegate.proofs.telling.tell_parts.Goals as goal
+
+pub telling-init : goal.telling-init
+telling-init g c = record {
+  run = tells_begin c.args.style (g.R.Read.remaining c.args.text) c.new-blocks.result.coming
+      c.args.gateway.now
+      c.new-pause.result c.new-scribe.result (g.W.Write.contents c.args.out.now)
+      (ap (λ (r : Reading). r.coming) c.new-blocks.ensures) c.new-pause.ensures
+      c.new-scribe.ensures;
+  goes_on = ap (λ (r : Reading). r.is_over) c.new-blocks.ensures;
+}
+
+pub returns-in_err-advance : goal.returns-in_err-advance
+returns-in_err-advance g c =
+    let known = g.R.Read.remaining c.args.text in
+    let old = g.W.Write.contents c.args.out.now in
+    let new = g.W.Write.contents c.telling.out in
+    let tells = IsLadder c.args.style in
+    as_err (RunsOver tells known c.args.gateway.now c.telling.gateway old new)
+    c.from_residual.result
+    c.in_err-advance.field-0.0 c.from_residual.ensures.1 (
+      c.in_err-advance.ensures.fault,
+      ran_to tells known c.telling.blocks.coming c.args.gateway.now c.telling.gateway
+          c.telling.pause c.telling.is_whole
+          old new c.telling.invariant.run.run,
+    )
+
+pub returns-in_err-pause : goal.returns-in_err-pause
+returns-in_err-pause g c =
+    let known = g.R.Read.remaining c.args.text in
+    let old = g.W.Write.contents c.args.out.now in
+    let mid = g.W.Write.contents c.telling.out in
+    let new = g.W.Write.contents c.tell_part.new.out in
+    let tells = IsLadder c.args.style in
+    as_err (RunsOver tells known c.args.gateway.now c.tell_part.new.gateway old new)
+    c.from_residual-in_err-pause.result
+    c.in_err-pause.field-0.0 c.from_residual-in_err-pause.ensures.1 (
+      c.in_err-pause.ensures.stopped,
+      block_left tells known c.telling.blocks.coming c.args.gateway.now c.telling.gateway
+          c.telling.pause
+          c.telling.is_whole old mid c.telling.invariant.run.run c.advance.new.blocks
+          c.lines-lines.result.now
+          c.lines-lines.ensures c.in_ok-advance.ensures.block new
+          (elim c.in_err-pause.ensures.begun [
+            | inl unchanged ↦ inl (ap g.W.Write.contents unchanged)
+            | inr stop ↦ inr (subst
+                (λ (st : Style). IsPartStopped (IsLadder st) c.telling.pause
+                c.lines-lines.result.now c.telling.gateway old new)
+                c.telling.invariant.run.written.style_is (stop old c.telling.invariant.run.poured))
+          ]),
+    )
+
+pub returns-then-is_over : goal.returns-then-is_over
+returns-then-is_over g c =
+    let known = g.R.Read.remaining c.args.text in
+    let old = g.W.Write.contents c.args.out.now in
+    let mid = g.W.Write.contents c.telling.out in
+    let new = g.W.Write.contents c.tell_part.new.out in
+    let run = c.telling.invariant.run in
+    let written : HasWritten c.args.style c.in_ok-pause.field-0-0.log c.in_ok-pause.field-0-1 =
+    subst (λ (st : Style). HasWritten st c.in_ok-pause.field-0-0.log c.in_ok-pause.field-0-1)
+    run.written.style_is
+    c.in_ok-pause.ensures.written in
+    all_run (IsLadder c.args.style) known c.telling.blocks.coming c.args.gateway.now
+    c.telling.gateway c.telling.pause
+    c.telling.is_whole old mid run.run
+    c.advance.new.blocks c.lines-lines.result.now c.lines-lines.ensures
+    c.in_ok-advance.ensures.block
+    c.tell_part.new.gateway c.in_ok-pause.field-0-0 c.in_ok-pause.field-0-2 new
+    c.in_ok-pause.ensures.run c.in_ok-pause.field-0-1.told written.told
+    (c.in_ok-pause.ensures.printed old run.poured) (sym c.is_over.ensures ∙ c.if-is_over.true)
+
+pub telling-preserved : goal.telling-preserved
+telling-preserved g c =
+    let goes_on = sym c.is_over.ensures ∙ c.if-is_over.false in
+    let known = g.R.Read.remaining c.args.text in
+    let old = g.W.Write.contents c.args.out.now in
+    let mid = g.W.Write.contents c.telling.out in
+    let new = g.W.Write.contents c.tell_part.new.out in
+    let run = c.telling.invariant.run in
+    let written : HasWritten c.args.style c.in_ok-pause.field-0-0.log c.in_ok-pause.field-0-1 =
+    subst (λ (st : Style). HasWritten st c.in_ok-pause.field-0-0.log c.in_ok-pause.field-0-1)
+    run.written.style_is
+    c.in_ok-pause.ensures.written in
+    let poured = c.in_ok-pause.ensures.printed old run.poured in
+    record {
+      run = record {
+        run = block_run (IsLadder c.args.style) known c.telling.blocks.coming c.args.gateway.now
+            c.telling.gateway
+            c.telling.pause c.telling.is_whole old mid run.run
+            c.advance.new.blocks c.lines-lines.result.now c.lines-lines.ensures
+            c.in_ok-advance.ensures.block c.tell_part.new.gateway c.in_ok-pause.field-0-0
+            c.in_ok-pause.field-0-2
+            new c.in_ok-pause.ensures.run c.in_ok-pause.field-0-1.told written.told
+            poured goes_on;
+        written = written;
+        poured = poured;
+      };
+      goes_on = goes_on;
+    }
+
+pub returns : goal.returns
+returns g c = (
+  tt,
+  ran_to (IsLadder c.args.style) (g.R.Read.remaining c.args.text) c.telling.blocks.coming
+      c.args.gateway.now
+      c.telling.gateway c.telling.pause c.telling.is_whole (g.W.Write.contents c.args.out.now)
+      (g.W.Write.contents c.telling.out) c.telling.invariant.run.run,
+)
+
+pub tell_part-requires : goal.tell_part-requires
+tell_part-requires g c =
+    let run = c.telling.invariant.run in
+    record {
+      clear = run.run.clear;
+      written = subst (λ (st : Style). HasWritten st c.telling.pause.log c.telling.scribe)
+          (sym run.written.style_is)
+          run.written;
+    }

@@ -1,0 +1,12 @@
+-- So much of the text was read and told, and the last block is still to come.
+use Rattle.std.proofs.Common.{◌≡◌, false}
+use Rattle.telegate.proofs.TellingLemmas.{TellsTo}
+use Rattle.telegate.proofs.telling.tell_parts.Given as goal
+
+abbrev pub invariant-telling : goal.invariant-telling
+invariant-telling g l = record {
+  run : TellsTo l.fn.style (g.R.Read.remaining l.fn.text) l.blocks.coming l.fn.gateway l.gateway
+      l.pause l.scribe
+      l.is_whole (g.W.Write.contents l.fn.out) (g.W.Write.contents l.out);
+  goes_on : l.blocks.is_over ≡ false;
+}

@@ -1,0 +1,14 @@
+-- A run that is told in words, between two parts of its text.
+use Rattle.std.specs.Prelude.{◌≡◌, true}
+use Rattle.gateway.specs.Log.{Log}
+use Rattle.ladder.specs.Scribing.{Scribing}
+use Rattle.ladder.specs.Told.{IsLadder}
+use Rattle.ladder.specs.declared.rungs.Style.{Style}
+
+-- a scribe has written of all of a log so, and its page is clear
+pub record HasWritten (style : Style) (log : Log) (s : Scribing) : Type 0 where
+  pub style_is : s.style ≡ style
+  pub log_is : s.log ≡ log
+  pub poured : s.poured ≡ log
+  pub noted : s.is_noted ≡ true
+  pub told : IsLadder style log s.told

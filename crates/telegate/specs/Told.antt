@@ -1,0 +1,75 @@
+-- What is told before a run begins (profile).
+use Rattle.std.specs.Prelude.{◌≡◌, ℕ, Bool, true, false, Option, Some, None}
+use Rattle.std.specs.declared.net.socket_addr.SocketAddr.{SocketAddr}
+use Rattle.gateway.specs.Log.{GapOut}
+use Rattle.gateway.specs.State.{State}
+use Rattle.journal.specs.Telling.{Book, Notes, Puts, taken_in}
+use Rattle.journal.specs.declared.note.Note.{Note}
+use Rattle.journal.specs.declared.note.Note.TheVariants as note
+use Rattle.journal.specs.declared.note.Trouble.TheVariants as trouble
+use Rattle.state.specs.declared.beginning.Origin.{Origin}
+use Rattle.state.specs.declared.start.Beginning.{Beginning}
+use Rattle.state.specs.declared.start.Beginning.TheVariants as beginnings
+use Rattle.telegate.specs.declared.fault.Fault.{Fault}
+use Rattle.telegate.specs.declared.fault.Fault.TheVariants.{Device, NoMemory, StateInUse}
+use Rattle.telegate.specs.declared.fault.Fault.TheVariants.{StateUnusable}
+use Rattle.telegate.specs.declared.site.Refusal.{Refusal}
+
+-- a note is told, if there is one
+abbrev pub NotesIf : Option Note → (old new : Book) → Type 0
+NotesIf None old new = new ≡ old
+NotesIf (Some note) old new = Notes old note new
+
+-- what was made of the state in the directory
+abbrev pub note_of : Beginning → Option Note
+note_of beginnings.Anew = Some note.StateBegins
+note_of beginnings.PutAside = Some note.StatePutAside
+note_of beginnings.LinksReset = Some note.StateStale
+note_of beginnings.GoesOn = None
+
+abbrev pub note_of_settings : (is_moved : Bool) → Option Note
+note_of_settings false = None
+note_of_settings true = Some note.SettingsChanged
+
+abbrev pub note_of_address : Option SocketAddr → Option Note
+note_of_address None = None
+note_of_address (Some address) = Some (note.Listening address)
+
+-- the run goes on with so many pieces, where it goes on
+abbrev pub note_of_queue : (moment : Option ℕ) → State → Option Note
+note_of_queue None gateway = None
+note_of_queue (Some moment) gateway = Some (note.StateGoesOn (taken_in gateway))
+
+-- the gap that may not have been seen, at the moment at which the run goes on
+abbrev pub TellsGap : (moment : Option ℕ) → Option (ℕ × ℕ) → (old new : Book) → Type 0
+TellsGap None gap old new = new ≡ old
+TellsGap (Some moment) None old new = new ≡ old
+TellsGap (Some moment) (Some gap) old new = Puts old moment (GapOut gap.0 gap.1) new
+
+-- how a run begins is told, in this order, and nothing else
+pub record TellsBeginning (o : Origin) (old new : Book) : Type 0 where
+  pub begun : Book
+  pub begins : NotesIf (note_of o.beginning) old begun
+  pub moved : Book
+  pub settings : NotesIf (note_of_settings o.is_moved) begun moved
+  pub noted : Book
+  pub goes_on : NotesIf (note_of_queue o.moment o.gateway) moved noted
+  pub gap : TellsGap o.moment o.gap noted new
+
+-- The state can't be had, which is told, unless memory is refused.
+abbrev pub IsUnkept : Fault → (old new : Book) → Type 0
+IsUnkept StateInUse old new = Notes old (note.Trouble trouble.StateInUse) new
+IsUnkept StateUnusable old new = Notes old (note.Trouble trouble.StateUnusable) new
+IsUnkept NoMemory old new = new ≡ old
+IsUnkept _ old new = ⊥
+
+-- memory or a device is refused
+abbrev pub fault_of : (is_memory : Bool) → Fault
+fault_of true = NoMemory
+fault_of false = Device
+
+-- an end can't be had, which is told, and the run doesn't begin
+pub record IsRefused (fault : Fault) (old new : Book) : Type 0 where
+  pub refusal : Refusal
+  pub told : Notes old (note.Trouble refusal.trouble) new
+  pub is : fault ≡ fault_of refusal.is_memory

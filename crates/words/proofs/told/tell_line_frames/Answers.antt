@@ -1,0 +1,31 @@
+use Rattle.std.proofs.Common.{rules, ◌≡◌, ℕ, List, [], ◌++◌, length, string_bytes, sym, subst, ap}
+use Rattle.std.proofs.Common.{◌∙◌}
+use Rattle.words.specs.Pipes.{IsLineEnd}
+use Rattle.words.specs.Told.{IsLineTold}
+use Rattle.words.proofs.Telling.{IsToldUpTo, none_left, rest_is, told_all, told_from, told_on}
+use Rattle.words.proofs.told.tell_line_frames.Goals as goal
+
+pub frames-preserved : goal.frames-preserved
+frames-preserved c =
+    let left = c.frames.left.now in
+    let end = c.line_end-end.result in
+    let text : List ℕ = string_bytes c.in_ok-shown.shown.lines in
+    subst (λ (xs : List ℕ). IsToldUpTo (IsLineEnd c.args.sizes.link)
+    (IsLineTold c.args.words c.args.sizes) c.args.octets.now
+    (string_bytes c.push_str.new.self) xs c.both-outcome.result)
+    (sym (rest_is end left c.line_end-end.ensures.within))
+    (told_on (IsLineEnd c.args.sizes.link) (IsLineTold c.args.words c.args.sizes) c.args.octets.now
+    (string_bytes c.frames.lines) left text (string_bytes c.push_str.new.self) end c.frames.outcome
+    c.in_ok-shown.shown.outcome c.both-outcome.result c.frames.invariant c.line_end-end.ensures.some
+    c.line_end-end.ensures.end
+    c.in_ok-shown.ensures
+    (c.in_ok-push_str.ensures.bytes ∙ ap (λ (xs : List ℕ). string_bytes c.frames.lines ++ xs)
+    c.as_str.ensures.value)
+    c.both-outcome.ensures)
+
+pub returns : goal.returns
+returns c =
+    let none : length c.frames.left.now ≡ 0 = search rules in
+    told_all (IsLineEnd c.args.sizes.link) (IsLineTold c.args.words c.args.sizes) c.args.octets.now
+    (string_bytes c.frames.lines) c.frames.left.now c.frames.outcome c.frames.invariant
+    (none_left c.frames.left.now none)

@@ -1,0 +1,11 @@
+pub mod Names
+pub mod Numbers
+pub mod Quality
+pub mod Tags
+pub mod Values
+pub mod Units
+pub mod Faults
+pub mod Lines
+pub mod Connections
+pub mod Pipes
+pub mod Told

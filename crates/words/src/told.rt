@@ -1,0 +1,91 @@
+//! Octets told frame by frame, in words or with a fact a line.
+ghost use Rattle.std.specs.Prelude.{◌≡◌, IfOk, string_bytes};
+ghost use Rattle.words.specs.Told.{AreApdusTold, AreLineFramesTold, both as both_of, IsLineTold};
+ghost use Rattle.words.specs.Told.{IsTcpTold};
+
+use crate::connections::words_of_connection;
+use crate::lines::words_of_line;
+use crate::pipes::{apdu_end, line_end};
+use show::{LineSizes, Outcome, Shown, show_line, show_tcp};
+use std::alloc::{AllocError, Global};
+
+/// What stands at the front of octets of the line, in one line of words or with a fact a line.
+pub fn tell_line(
+    alloc: Global,
+    sizes: LineSizes,
+    octets: &[u8],
+    words: bool,
+) -> Result<Shown, AllocError>
+    ensures { IfOk result (λ shown.
+        IsLineTold words sizes octets.now (string_bytes shown.lines) shown.outcome) }
+{
+    if words {
+        words_of_line(alloc, sizes, octets)
+    } else {
+        show_line(alloc, sizes, octets)
+    }
+}
+
+/// What stands at the front of octets of the connection, told so.
+pub fn tell_apdu(alloc: Global, octets: &[u8], words: bool) -> Result<Shown, AllocError>
+    ensures { IfOk result (λ shown.
+        IsTcpTold words octets.now (string_bytes shown.lines) shown.outcome) }
+{
+    if words {
+        words_of_connection(alloc, octets)
+    } else {
+        show_tcp(alloc, octets)
+    }
+}
+
+/// Tells octets of the line frame by frame, and those at whose front no frame is whole together.
+/// They are as they should be where each frame is.
+pub fn tell_line_frames(
+    alloc: Global,
+    sizes: LineSizes,
+    octets: &[u8],
+    words: bool,
+) -> Result<Shown, AllocError>
+    ensures { IfOk result (λ shown.
+        AreLineFramesTold words sizes octets.now (string_bytes shown.lines) shown.outcome) }
+{
+    let mut lines = String::new(alloc);
+    let mut outcome = Outcome::Good;
+    let mut left = octets;
+    'frames: while !left.is_empty() {
+        let end = line_end(sizes.link, left);
+        let shown = tell_line(alloc, sizes, &left[..end], words)?;
+        lines.push_str(shown.lines.as_str())?;
+        outcome = both(outcome, shown.outcome);
+        left = &left[end..];
+    }
+    Ok(Shown { lines, outcome })
+}
+
+/// Tells octets of the connection APDU by APDU, and those at whose front none is whole together.
+pub fn tell_apdus(alloc: Global, octets: &[u8], words: bool) -> Result<Shown, AllocError>
+    ensures { IfOk result (λ shown.
+        AreApdusTold words octets.now (string_bytes shown.lines) shown.outcome) }
+{
+    let mut lines = String::new(alloc);
+    let mut outcome = Outcome::Good;
+    let mut left = octets;
+    'apdus: while !left.is_empty() {
+        let end = apdu_end(left);
+        let shown = tell_apdu(alloc, &left[..end], words)?;
+        lines.push_str(shown.lines.as_str())?;
+        outcome = both(outcome, shown.outcome);
+        left = &left[end..];
+    }
+    Ok(Shown { lines, outcome })
+}
+
+/// Two are as they should be, where both are.
+pub fn both(one: Outcome, other: Outcome) -> Outcome
+    ensures { result ≡ both_of one other }
+{
+    match one {
+        Outcome::Good => other,
+        Outcome::Faulty => Outcome::Faulty,
+    }
+}
