@@ -8,6 +8,8 @@ Nothing in the gate depends on these figures (docs/PERFORMANCE.md has them). Par
     polls   one outstation answers each poll with a report, so many polls a second (`--polls`, 25), for so long (`--seconds`, 60); a
             control centre acknowledges each eighth. Told are syncs, writes and octets a poll, octets an event, and what a day of it is.
     pace    the same as fast as it goes, without `--state` and with it in turn: what a sync adds to a poll.
+    way     reports at that pace, without and with `--state`, `--log` and visitors of `--status`: how long each takes from the line's
+            last octet to its I frame.
     start   so many pieces of 249 octets are queued (`--pieces`, the most that a queue of 65,535 places takes), the gateway is
             killed, and started again three times: how long until a control centre is told that it may begin, the processor time
             of that, the peak of its memory, and the size of the directory.
@@ -125,6 +127,8 @@ class Field(threading.Thread):
         self.server = ends.socket.create_server(("127.0.0.1", 0))
         self.reports, self.pause = reports, pause
         self.given, self.requests, self.last, self.bit = 0, 0, None, None
+        # When each report was put on the line, in seconds.
+        self.moments = []
         self.start()
 
     def port(self):
@@ -140,7 +144,10 @@ class Field(threading.Thread):
             try:
                 while True:
                     function, _, frame = line.request()
-                    line.answer(self.answer(function, frame[1]))
+                    answer = self.answer(function, frame[1])
+                    if len(self.moments) < self.given:
+                        self.moments.append(time.monotonic())
+                    line.answer(answer)
             except (OSError, EOFError):
                 line.stream.close()
 
@@ -167,6 +174,8 @@ class Centre(threading.Thread):
     def __init__(self, door):
         super().__init__(daemon=True)
         self.door, self.is_over, self.frames = door, False, 0
+        # When each I frame was seen, in seconds.
+        self.moments = []
         self.start()
 
     def run(self):
@@ -177,6 +186,7 @@ class Centre(threading.Thread):
             for apdu in centre.heard(0.2) or []:
                 if apdu == ends.TEST:
                     centre.send(ends.TESTED)
+            self.moments += [time.monotonic()] * (centre.received - self.frames)
             self.frames = centre.received
             if centre.received >= acknowledged + 8:
                 acknowledged = centre.received
@@ -199,13 +209,15 @@ def connected(door):
 class Gateway:
     """`telegate run`, with a state in this folder or none."""
 
-    def __init__(self, program, folder, field, queue=1000, state=True, environment=None):
+    def __init__(self, program, folder, field, queue=1000, state=True, environment=None, log=False, status=None):
         self.door = ends.free_port()
         self.state = os.path.join(folder, "state")
         config = os.path.join(folder, "gateway.toml")
         with open(config, "w") as file:
             file.write(SETTINGS.format(queue=queue, line=field.port(), door=self.door))
-        self.words = [program, "run", "--redial", *(["--state", self.state] if state else []), config]
+        kept, told = ["--state", self.state] if state else [], ["--log"] if log else []
+        shown = ["--status", f"127.0.0.1:{status}"] if status else []
+        self.words = [program, "run", "--redial", *kept, *told, *shown, config]
         self.environment = environment
         self.start()
 
@@ -276,6 +288,44 @@ def measure_pace(program, folder, seconds):
         print(f"pace: a poll takes {without:.3f} ms without a state, {kept:.3f} ms with one: {kept - without:.3f} ms more", flush=True)
 
 
+def look(door, is_over):
+    """Asks for the page without end, and reads it."""
+    while not is_over.is_set():
+        try:
+            with ends.socket.create_connection(("127.0.0.1", door), timeout=1) as visitor:
+                visitor.sendall(b"GET / HTTP/1.1\r\nHost: gateway\r\n\r\n")
+                while visitor.recv(65536):
+                    pass
+        except OSError:
+            pass
+
+
+def ways(program, folder, seconds, polls, state=False, log=False, visitors=0):
+    """How long each report takes from the line's last octet to its I frame, which the control centre sees, in ms, in order."""
+    field, door, is_over = Field(lambda n: POINT, 1 / polls), visitors and ends.free_port(), threading.Event()
+    gateway = Gateway(program, folder, field, state=state, log=log, status=door)
+    centre = Centre(gateway.door)
+    for _ in range(visitors):
+        threading.Thread(target=look, args=(door, is_over), daemon=True).start()
+    time.sleep(seconds)
+    centre.is_over = True
+    is_over.set()
+    gateway.kill()
+    # What waited for the control centre took the time of its start.
+    return sorted(1000 * (seen - sent) for sent, seen in list(zip(field.moments, centre.moments))[int(polls) :])
+
+
+def measure_way(program, folder, seconds, polls):
+    """The way of a report, without and with what a run may do beside."""
+    runs = {"nothing": {}, "a log": {"log": True}, "a state": {"state": True}, "both": {"log": True, "state": True}, "four visitors": {"visitors": 4}}
+    for turn in range(2):
+        for beside, what in runs.items():
+            with tempfile.TemporaryDirectory(dir=folder) as own:
+                found = ways(program, own, seconds / 4, polls, **what)
+            middle, late, last = (found[int(part * (len(found) - 1))] for part in (0.5, 0.99, 1))
+            print(f"way: beside {beside}: of {len(found)} reports median {middle:.3f} ms, 99 % {late:.3f} ms, at most {last:.3f} ms", flush=True)
+
+
 def until_started(gateway):
     """Seconds until a control centre is told that it may begin, from now, and the connection."""
     began = time.monotonic()
@@ -330,11 +380,12 @@ def main():
     words.add_argument("--polls", type=float, default=25)
     words.add_argument("--pieces", type=int, default=65535)
     words.add_argument("--folder", help="where the state is kept; by default where temporary files are")
-    words.add_argument("parts", nargs="*", help="polls, pace, start")
+    words.add_argument("parts", nargs="*", help="polls, pace, way, start")
     given = words.parse_args()
     parts = {
         "polls": lambda folder: measure_polls(given.program, folder, given.seconds, given.polls),
         "pace": lambda folder: measure_pace(given.program, folder, given.seconds),
+        "way": lambda folder: measure_way(given.program, folder, given.seconds, given.polls),
         "start": lambda folder: measure_start(given.program, folder, given.pieces),
     }
     for part in given.parts or parts:
