@@ -1,6 +1,9 @@
 //! A crash at each call of a script of appends, syncs and changes of the segment.
+ghost use Rattle.std.specs.Prelude.{IsTrue};
+ghost use Rattle.segments.specs.Starts.{IsBacked};
+
 use checkpoint::{Lines, Sheet};
-use segments::{Failed, Segment, Start, Writer};
+use segments::{Failed, Segment, Side, Start, Writer, newest_side};
 use sqlite_disk::{Crash, Disk, Files, Fuse, Memory};
 use statetext::{TextLines, TextSheet};
 use std::alloc::{AllocError, Global};
@@ -17,12 +20,39 @@ struct Told {
     is_begun: bool,
 }
 
+/// A segment that is finished, with the file of the one before; or else both files.
+type Next = Result<(Segment<File>, File), (File, File)>;
+
 /// Writes a segment whose checkpoint is the number of events so far.
-fn next_segment(alloc: Global, spare: File, number: u64, told: u64) -> Result<Segment<File>, File> {
-    if !spare.may_be_used() {
-        return Err(spare);
+fn next_segment(alloc: Global, first: File, second: File, number: u64, told: u64) -> Next {
+    if !first.may_be_used() || !second.may_be_used() {
+        return Err((first, second));
     }
-    let writer = match Writer::begin(alloc, spare) {
+    let (mut first, mut second) = (first, second);
+    let (newest, spare) = match newest_side(alloc, &mut first, &mut second) {
+        Ok(Side::Log) => (first, second),
+        Ok(Side::Db) => (second, first),
+        Err(_) => return Err((first, second)),
+    };
+    match segment_in(alloc, spare, &newest, number, told) {
+        Ok(segment) => Ok((segment, newest)),
+        Err(spare) => Err((newest, spare)),
+    }
+}
+
+/// Writes it into this file.
+fn segment_in(
+    alloc: Global,
+    spare: File,
+    newest: &File,
+    number: u64,
+    told: u64,
+) -> Result<Segment<File>, File>
+    requires usable { IsTrue (File.Disk.is_usable spare) }
+    requires backed { IsTrue (File.Disk.is_clean newest.now) → IsTrue (File.Disk.is_clean spare) →
+        IsBacked (File.Disk.seen newest.now) (File.Disk.seen spare) }
+{
+    let writer = match Writer::begin(alloc, spare, newest) {
         Ok(writer) => writer,
         Err(Failed { file, .. }) => return Err(file),
     };
@@ -65,26 +95,25 @@ fn run(
     second: File,
     told: &mut Told,
 ) -> Result<(File, File), AllocError> {
-    let mut segment = match next_segment(alloc, first, 1, 0) {
-        Ok(segment) => segment,
-        Err(file) => return Ok((file, second)),
+    let (mut segment, mut spare) = match next_segment(alloc, first, second, 1, 0) {
+        Ok(next) => next,
+        Err(files) => return Ok(files),
     };
     told.is_begun = true;
-    let mut spare = second;
     for number in 2..5 {
         for _ in 0..5 {
             if !put_event(alloc, &mut segment, told)? {
                 return Ok((segment.into_file(), spare));
             }
         }
-        match next_segment(alloc, spare, number, told.appended) {
-            Ok(next) => {
-                spare = segment.into_file();
-                segment = next;
-                told.synced = told.appended;
-            }
-            Err(file) => return Ok((segment.into_file(), file)),
-        }
+        let newest = segment.into_file();
+        let next = match next_segment(alloc, newest, spare, number, told.appended) {
+            Ok(next) => next,
+            Err(files) => return Ok(files),
+        };
+        segment = next.0;
+        spare = next.1;
+        told.synced = told.appended;
     }
     Ok((segment.into_file(), spare))
 }
@@ -172,7 +201,7 @@ fn loses_no_synced_event(rt: HostRuntime) -> Result<(), Fail> {
     let alloc = rt.alloc();
     let mut chance = 88_172_645_463_325_252;
     let mut trials = 0u64;
-    for calls in 0..60 {
+    for calls in 0..90 {
         for is_first in [true, false] {
             let most = 1_000_000;
             let first = Fuse::new(Memory::new(alloc), if is_first { calls } else { most });
@@ -190,7 +219,7 @@ fn loses_no_synced_event(rt: HostRuntime) -> Result<(), Fail> {
             first.crash();
             second.crash();
             let synced = (first.inner().bytes(), second.inner().bytes());
-            for trial in 0..10 {
+            for trial in 0..6 {
                 let left = match trial {
                     0 => (copy_of(alloc, &written.0)?, copy_of(alloc, &written.1)?),
                     1 => (copy_of(alloc, synced.0)?, copy_of(alloc, synced.1)?),
@@ -210,7 +239,7 @@ fn loses_no_synced_event(rt: HostRuntime) -> Result<(), Fail> {
             }
         }
     }
-    assert_eq!(rt; trials, 1_200);
+    assert_eq!(rt; trials, 1_080);
     Ok(())
 }
 
@@ -218,8 +247,9 @@ fn loses_no_synced_event(rt: HostRuntime) -> Result<(), Fail> {
 #[test]
 fn reads_whole_lines_alone(rt: HostRuntime) -> Result<(), Fail> {
     let alloc = rt.alloc();
-    let empty = Fuse::new(Memory::new(alloc), 1_000);
-    let Ok(mut segment) = next_segment(alloc, empty, 1, 0) else {
+    let first = Fuse::new(Memory::new(alloc), 1_000);
+    let second = Fuse::new(Memory::new(alloc), 1_000);
+    let Ok((mut segment, _spare)) = next_segment(alloc, first, second, 1, 0) else {
         return Err("no segment".into());
     };
     segment.append(b"event 0\nevent 1\0\nevent 2\n")?;

@@ -9,6 +9,7 @@ use Rattle.gateway.specs.Restored.{IsSavable, state_lines}
 use Rattle.gateway.specs.Setups.{setup_of}
 use Rattle.gateway.specs.State.{State, with_serial}
 use Rattle.link.specs.Carried.{awaits_command}
+use Rattle.segments.specs.Head.{Fits}
 use Rattle.segments.specs.Starts.{IsFoundIn, before_zero}
 use Rattle.segments.specs.declared.head.Head.{Head}
 use Rattle.settings.specs.Settings.{IsReadOfText}
@@ -64,6 +65,7 @@ pub record IsHeadOf (file : List ℕ) (begins : ℕ) (settings : List ℕ) (line
     Type 0 where
   pub head : Head
   pub body : List ℕ
+  pub fits : Fits head
   pub found : IsFoundIn file head body
   pub says : lines_in body ≡ settings ∷ lines
   pub behind : begins ≡ 87 + length body

@@ -1,10 +1,7 @@
 -- What a log in two files has (profile).
 use Rattle.std.specs.Prelude.{◌≡◌, ℕ, List, [], ◌∷◌, take, drop}
 use Rattle.sqlite_disk.specs.declared.Disk.{Ghosts}
-use Rattle.sqlite_disk.specs.declared.files.Files.{Files}
 use Rattle.segments.specs.Head.{whole_text}
-use Rattle.segments.specs.declared.start.Side.{Side}
-use Rattle.segments.specs.declared.start.Side.TheVariants as sides
 use Rattle.segments.specs.Segment.{durable_of, file_of, text_of}
 use Rattle.statetext.specs.Text.{lines_in}
 use Rattle.state.specs.Stores.{Stored}
@@ -25,11 +22,6 @@ told_by head durable text = record {
   text = drop head text;
   safe = drop head (take durable text);
 }
-
--- that of the newest segment, which stands there, and the one for the next
-abbrev pub in_order : {D : Type 0} → Side → Files D → D × D
-in_order sides.Log files = (files.log, files.db)
-in_order sides.Db files = (files.db, files.log)
 
 module _ {D : Type 0} {g : Ghosts D} where
   abbrev pub stored_in : Opened D g → Stored

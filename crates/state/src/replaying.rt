@@ -1,5 +1,5 @@
 //! A gateway hears again what it had heard.
-ghost use Rattle.std.specs.Prelude.{◌≡◌, ◌∷◌, [], List, Some, None, IfOk, false};
+ghost use Rattle.std.specs.Prelude.{◌≡◌, ◌∷◌, [], List, Some, None, IfErr, IfOk, false};
 ghost use Rattle.gateway.specs.Log.{LogEntry};
 ghost use Rattle.gateway.specs.Agrees.{Follows, Rests};
 ghost use Rattle.gateway.specs.Reports.{Setup};
@@ -277,6 +277,17 @@ impl<K: Script, L: EventLines + Drop> Port for Repeater<K, L> {
     }
 }
 
+/// Why a replay didn't come to its end. That a line can't be had says nothing against the state
+/// that it stands behind.
+fn broken_off(fault: StateFault) -> StateFault
+    ensures { result ≡ StateFault.Wrong → ⊥ }
+{
+    match fault {
+        StateFault::NoMemory => StateFault::NoMemory,
+        StateFault::Wrong | StateFault::Device => StateFault::Device,
+    }
+}
+
 /// Brings a gateway to where these lines lead, whose events are known to proofs.
 fn repeat<K: Script, L: EventLines + Drop>(
     alloc: Global,
@@ -284,8 +295,9 @@ fn repeat<K: Script, L: EventLines + Drop>(
     lines: L,
 ) -> Result<Replayed, StateFault>
     requires { events_in_front (L.coming lines) ≡ K.events }
-    ensures { (p : Setup) → Follows p gateway.old (Some K.log) → Rests p (Some K.log) →
+    ensures replayed { (p : Setup) → Follows p gateway.old (Some K.log) → Rests p (Some K.log) →
         IfOk result (λ r. IsReplayed p K.log K.events r.gap r.log.entries gateway.new) }
+    ensures fault { IfErr result (λ fault. fault ≡ StateFault.Wrong → ⊥) }
 {
     let mut port: Repeater<K, L> = Repeater::over(alloc, lines);
     let end = drive_on(gateway, &mut port, u64::MAX);
@@ -299,20 +311,22 @@ fn repeat<K: Script, L: EventLines + Drop>(
         }
         // No memory holds so many lines.
         End::Turns => Err(StateFault::NoMemory),
-        End::Device => Err(port.fault()),
+        End::Device => Err(broken_off(port.fault())),
     }
 }
 
 /// Brings a gateway to where these lines lead: it hears their events again, up to the first line
-/// that tells none, and what it does goes nowhere. After an `Err` the gateway is given up.
+/// that tells none, and what it does goes nowhere. After an `Err` the gateway is given up; it is
+/// never `Wrong`, whatever the lines are.
 pub fn replay<K: Lineage, L: EventLines + Drop>(
     alloc: Global,
     gateway: &mut Gateway,
     lines: L,
 ) -> Result<Replayed, StateFault>
-    ensures { (p : Setup) → Follows p gateway.old (Some K.log) → Rests p (Some K.log) →
+    ensures replayed { (p : Setup) → Follows p gateway.old (Some K.log) → Rests p (Some K.log) →
         IfOk result (λ r. IsReplayed p K.log (events_in_front (L.coming lines)) r.gap
         r.log.entries gateway.new) }
+    ensures fault { IfErr result (λ fault. fault ≡ StateFault.Wrong → ⊥) }
 {
     repeat::<Brand, L>(alloc, gateway, lines)
 }

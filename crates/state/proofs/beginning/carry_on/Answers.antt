@@ -1,9 +1,10 @@
-use Rattle.std.proofs.Common.{◌≡◌, IsTrue, true, List, Some, ℕ, ◌∙◌, ap, sym, subst}
+use Rattle.std.proofs.Common.{◌≡◌, refl, IsTrue, true, List, Some, ℕ, ◌∙◌, ap, sym, subst}
 use Rattle.std.specs.Prelude.{◌⊎◌}
 use Rattle.segments.specs.Starts.{IsSound}
 use Rattle.state.specs.Beginnings.{GoesOnFrom, has_past, is_trusted}
 use Rattle.state.specs.declared.beginning.Origin.{Origin}
 use Rattle.state.proofs.BegunLemmas.{begun_from, numbered_from}
+use Rattle.state.proofs.UnreadLemmas.{unread_from}
 use Rattle.state.proofs.beginning.carry_on.Goals as goal
 
 pub returns-in-Ok-clause-begun : goal.returns-in-Ok-clause-begun
@@ -48,3 +49,15 @@ returns-in-Ok-clause-numbered g c =
     (c.with_files.ensures.number ∙ c.new-store.ensures.number ∙ c.next_number.ensures
     ∙ ap (λ n. n.1) c.resume.ensures.next)
     c.resume.ensures.seen c.resume.ensures.clean c.requires.above
+
+pub put_aside-requires : goal.put_aside-requires
+put_aside-requires g c = record {
+  unread = unread_from g.F.File.Disk c.args.config.now c.args.settings.items c.deref.result.now
+      c.into_files-newest-in-Err-Wrong.result.0 c.into_files-newest-in-Err-Wrong.result.1
+      c.resume.new.start.newest c.args.start.newest c.args.start.other c.args.start.checkpoint
+      c.args.start.at c.into_files-newest-in-Err-Wrong.ensures.newest
+      (c.into_files-newest-in-Err-Wrong.ensures.other ∙ c.resume.ensures.other)
+      c.resume.ensures.seen c.resume.ensures.clean c.requires.found c.args.start.stands
+      c.requires.backed c.deref.ensures.value
+      (c.in-Err-Wrong.ensures.wrong c.in-Err-Wrong.field-0-is);
+}
