@@ -393,6 +393,7 @@ impl<D: Disk + Drop> Start<D> {
         ensures newest { IfOk result (λ s. AreClean s → IsNewest (newest_in s) (other_in s)) }
         ensures none { IfOk result (λ s. AreClean s → is_some s.checkpoint ≡ false →
             HasNone (newest_in s) × HasNone (other_in s)) }
+        ensures fits { IfOk result (λ s. IfSome s.checkpoint (λ c. Fits c.head)) }
         // So the other one may be written over.
         ensures backed { IfOk result (λ s. AreClean s → IsBacked (newest_in s) (other_in s)) }
         // A start changes neither file, and tells in which one the newest segment stands.
@@ -561,6 +562,7 @@ impl<D: Disk> Start<D> {
         ensures clean { IsTrue (D.Disk.is_clean (newest_of self.new)) →
             IsTrue (D.Disk.is_clean (newest_of self.old)) }
         ensures same { begins_at self.new ≡ begins_at self.old }
+        ensures taken { self.new.checkpoint ≡ self.old.checkpoint }
         ensures other { other_of self.new ≡ other_of self.old }
         ensures next { next_of self.new ≡ next_of self.old }
     {

@@ -1,6 +1,6 @@
 -- What a start can't read.
 use Rattle.std.proofs.Common.{◌≡◌, ◌∙◌, inl, ℕ, ◌+◌, ◌<◌, Bool, true, false, IsTrue, List, [], ◌∷◌}
-use Rattle.std.proofs.Common.{length, Option, Some, None, Result, Ok, Err, IfErr, IfOk, refl, sym}
+use Rattle.std.proofs.Common.{drop, length, Option, Some, None, Result, Ok, Err, IfErr, IfOk, IfSome, refl, sym}
 use Rattle.std.proofs.Common.{ap, subst, arith}
 use Rattle.std.specs.Option.{ForSome, is_some}
 use Rattle.std.specs.Result.{IsErrAnd}
@@ -13,12 +13,14 @@ use Rattle.settings.specs.declared.fault.ConfigFault.{ConfigFault}
 use Rattle.settings.specs.declared.fault.ConfigFault.TheVariants.{NotToml, Key, Unknown, NoMemory}
 use Rattle.settings.specs.Unknown.{unknown_paths}
 use Rattle.segments.specs.Starts.{HasNone, IsBacked, IsFoundIn, IsShut, IsSound}
+use Rattle.segments.specs.Starts.{before_zero}
 use Rattle.segments.specs.Head.{Fits}
 use Rattle.segments.specs.declared.head.Head.{Head}
 use Rattle.segments.specs.declared.start.Found.{Found}
 use Rattle.segments.proofs.Crashes.{one_segment}
 use Rattle.segments.proofs.Fronts.{not_shut}
-use Rattle.state.specs.Beginnings.{IsHeadOf, has_past}
+use Rattle.state.specs.Beginnings.{AreLinesRead, IsHeadOf, has_past}
+use Rattle.state.specs.Replays.{AreRead, whole_lines}
 use Rattle.state.specs.declared.start.Beginning.{Beginning}
 use Rattle.state.specs.declared.start.Beginning.TheVariants as beginnings
 use Rattle.state.specs.Unread.{AreStateOf, HasState, IsUnread}
@@ -61,6 +63,31 @@ unread_found c text newest other head body wins found none = record {
   none = none;
   some = λ one two. not_shut newest head found.first one;
 }
+
+-- A line that can't be read
+
+pub lines_read : (clean : Type 0) (file : List ℕ) (o : Option Found) (at : ℕ) → is_some o ≡ true
+    → IfSome o (λ c. Fits c.head)
+    → ForSome o (λ c. (at ≡ 87 + length c.text.items)
+    × (clean → IsFoundIn file c.head c.text.items))
+    → clean → AreRead (whole_lines (before_zero (drop at file))) → AreLinesRead file
+lines_read clean file None at some fits stands is read head body = absurd (cc)
+lines_read clean file (Some c) at some fits stands is read head body fits' found =
+    let same : c.text.items ≡ body =
+    one_segment file c.head head c.text.items body fits fits' ((stands c refl).1 is) found in
+    let place : at ≡ 87 + length body =
+    (stands c refl).0 ∙ ap (λ (text : List ℕ). 87 + length text) same in
+    subst (λ (n : ℕ). AreRead (whole_lines (before_zero (drop n file)))) place read
+
+pub lines_rotten : (clean : Type 0) (file : List ℕ) (o : Option Found) (at : ℕ) → is_some o ≡ true
+    → IfSome o (λ c. Fits c.head)
+    → ForSome o (λ c. (at ≡ 87 + length c.text.items)
+    × (clean → IsFoundIn file c.head c.text.items))
+    → clean → (AreRead (whole_lines (before_zero (drop at file))) → ⊥) → AreLinesRead file → ⊥
+lines_rotten clean file None at some fits stands is rotten all = absurd (cc)
+lines_rotten clean file (Some c) at some fits stands is rotten all =
+    rotten (subst (λ (n : ℕ). AreRead (whole_lines (before_zero (drop n file))))
+    (sym (stands c refl).0) (all c.head c.text.items fits ((stands c refl).1 is)))
 
 pub if_ok_map : {T E : Type 0} {P Q : T → Type 0} (r : Result T E) → IfOk r P
     → ((x : T) → P x → Q x) → IfOk r Q

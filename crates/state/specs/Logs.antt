@@ -2,7 +2,7 @@
 use Rattle.std.specs.Prelude.{◌≡◌, ℕ, List, [], ◌∷◌, take, drop}
 use Rattle.sqlite_disk.specs.declared.Disk.{Ghosts}
 use Rattle.segments.specs.Head.{whole_text}
-use Rattle.segments.specs.Segment.{durable_of, file_of, text_of}
+use Rattle.segments.specs.Segment.{durable_of, text_of}
 use Rattle.statetext.specs.Text.{lines_in}
 use Rattle.state.specs.Stores.{Stored}
 use Rattle.state.specs.declared.opened.Opened.{Opened}
@@ -40,12 +40,6 @@ module _ {D : Type 0} {g : Ghosts D} where
   SpareIs file opens.Neither = ⊥
   SpareIs file (opens.Both newest spare) = ⊥
   SpareIs file (opens.Current c) = c.spare ≡ file
-
-  -- these are the files that were open: that of the newest segment, and the one for the next
-  abbrev pub AreFilesOf : Opened D g → (newest spare : D) → Type 0
-  AreFilesOf opens.Neither newest spare = ⊥
-  AreFilesOf (opens.Both n s) newest spare = (newest ≡ n) × (spare ≡ s)
-  AreFilesOf (opens.Current c) newest spare = (newest ≡ file_of c.segment) × (spare ≡ c.spare)
 
   -- the log that takes lines bears this number
   abbrev pub Bears : ℕ → Opened D g → Type 0

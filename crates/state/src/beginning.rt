@@ -1,22 +1,24 @@
 //! What a run begins with.
-ghost use Rattle.std.specs.Prelude.{◌≡◌, ◌⊎◌, ℕ, List, None, Ok, Some, IfErr, IfOk, IsTrue, true};
-ghost use Rattle.std.specs.Prelude.{false};
+ghost use Rattle.std.specs.Prelude.{◌≡◌, ◌⊎◌, ℕ, List, None, Ok, Some, IfErr, IfOk, IfSome, IsTrue};
+ghost use Rattle.std.specs.Prelude.{true, false};
 ghost use Rattle.std.specs.Option.{is_some};
 ghost use Rattle.segments.specs.Found.{AreClean, begins_at, events_in, newest_in, newest_of};
 ghost use Rattle.segments.specs.Found.{next_of, other_in, other_of};
 ghost use Rattle.gateway.specs.Config.{Settings};
+ghost use Rattle.segments.specs.Head.{Fits};
 ghost use Rattle.segments.specs.Starts.{HasNoNewer, IsAbove, IsBacked, IsNewest, IsSound};
 ghost use Rattle.settings.specs.Settings.{IsReadOfText};
-ghost use Rattle.state.specs.Beginnings.{GoesOnFrom, HasNoCommand, HasRead, IsHeadOf, IsRead};
-ghost use Rattle.state.specs.Beginnings.{MovedOn, WentOn, given_up, has_past, is_trusted};
+ghost use Rattle.state.specs.Beginnings.{AreLinesRead, GoesOnFrom, HasNoCommand, HasRead};
+ghost use Rattle.state.specs.Beginnings.{IsHeadOf, IsRead, MovedOn, WentOn, given_up, has_past, is_trusted};
 ghost use Rattle.state.specs.Origins.{IsBegun, IsNew, IsNumbered};
+ghost use Rattle.state.specs.Replays.{whole_lines};
 ghost use Rattle.state.specs.Starts.{beginning_of};
 ghost use Rattle.state.specs.Unread.{AreStateOf, HasState, IsUnread, WasAside};
 
 use crate::disk_store::DiskStore;
 use crate::event_text::EventText;
 use crate::folder::{Folder, FolderFault};
-use crate::replaying::{Lineage, Replayed, ToldGap, replay};
+use crate::replaying::{EventLines, Lineage, Replayed, ToldGap, are_read, replay};
 use crate::start::{Beginning, Found, beginning_of};
 use checkpoint::{Lines, StateFault};
 use gateway::{Config, Gateway, History, NoMemory};
@@ -61,6 +63,15 @@ struct Resumed {
     before: History,
     /// It was kept under other settings.
     is_moved: bool,
+}
+
+impl From<StateFault> for FolderFault {
+    fn from(fault: StateFault) -> FolderFault {
+        match fault {
+            StateFault::Wrong | StateFault::Device => FolderFault::Device,
+            StateFault::NoMemory => FolderFault::NoMemory,
+        }
+    }
 }
 
 impl From<SegmentFault> for FolderFault {
@@ -120,6 +131,26 @@ fn read<K: Lineage>(alloc: Global, config: &Config, lines: TextLines) -> Result<
     }
 }
 
+/// The whole lines behind the checkpoint that was found.
+fn lines_of<D: Disk + Drop>(alloc: Global, start: &mut Start<D>) -> Result<EventText, StateFault>
+    ensures lines { IfOk result (λ lines. IsTrue (D.Disk.is_clean (newest_of start.new)) →
+        ⟦<EventText as EventLines>⟧.coming lines ≡ whole_lines (events_in start.new)) }
+    ensures fault { IfErr result (λ fault. fault ≡ StateFault.Wrong → ⊥) }
+    ensures seen { D.Disk.seen (newest_of start.new) ≡ D.Disk.seen (newest_of start.old) }
+    ensures clean { IsTrue (D.Disk.is_clean (newest_of start.new)) →
+        IsTrue (D.Disk.is_clean (newest_of start.old)) }
+    ensures same { begins_at start.new ≡ begins_at start.old }
+    ensures taken { start.new.checkpoint ≡ start.old.checkpoint }
+    ensures other { other_of start.new ≡ other_of start.old }
+    ensures next { next_of start.new ≡ next_of start.old }
+{
+    match start.events(alloc) {
+        Ok(events) => Ok(EventText::new(events)),
+        Err(SegmentFault::NoMemory) => Err(StateFault::NoMemory),
+        Err(SegmentFault::Full | SegmentFault::Device) => Err(StateFault::Device),
+    }
+}
+
 /// The gateway with these settings that stood at the head of a log, behind the lines of its events.
 fn replayed<K: Lineage, D: Disk + Drop>(
     alloc: Global,
@@ -142,11 +173,7 @@ fn replayed<K: Lineage, D: Disk + Drop>(
 {
     // The checkpoint may be as long as the queue: its text goes before the events are read.
     let mut gateway = read::<K>(alloc, config, lines)?;
-    let events = match start.events(alloc) {
-        Ok(events) => EventText::new(events),
-        Err(SegmentFault::NoMemory) => return Err(StateFault::NoMemory),
-        Err(SegmentFault::Full | SegmentFault::Device) => return Err(StateFault::Device),
-    };
+    let events = lines_of(alloc, start)?;
     let Replayed { gap, log } = replay::<K, EventText>(alloc, &mut gateway, events)?;
     Ok(Resumed {
         gateway,
@@ -362,6 +389,37 @@ pub fn begin<F: Folder + Drop>(
     }
 }
 
+/// Whether the links go on: where the state is trusted, and each whole line of its log can be read.
+/// Where one can't, events behind it are lost, and what went out on them isn't known.
+fn may_go_on<D: Disk + Drop>(
+    alloc: Global,
+    start: &mut Start<D>,
+    is_trusted: bool,
+) -> Result<bool, FolderFault>
+    requires found { is_some start.old.checkpoint ≡ true }
+    requires fits { IfSome start.old.checkpoint (λ c. Fits c.head) }
+    ensures trusted { IfOk result (λ may. may ≡ true → is_trusted ≡ true) }
+    ensures read { IfOk result (λ may. may ≡ true → IsTrue (D.Disk.is_clean (newest_of start.new)) →
+        AreLinesRead (D.Disk.seen (newest_of start.new))) }
+    ensures reset { IfOk result (λ may. may ≡ false → (is_trusted ≡ false)
+        ⊎ (IsTrue (D.Disk.is_clean (newest_of start.new)) →
+        AreLinesRead (D.Disk.seen (newest_of start.new)) → ⊥)) }
+    ensures seen { D.Disk.seen (newest_of start.new) ≡ D.Disk.seen (newest_of start.old) }
+    ensures clean { IsTrue (D.Disk.is_clean (newest_of start.new)) →
+        IsTrue (D.Disk.is_clean (newest_of start.old)) }
+    ensures same { begins_at start.new ≡ begins_at start.old }
+    ensures taken { start.new.checkpoint ≡ start.old.checkpoint }
+    ensures other { other_of start.new ≡ other_of start.old }
+    ensures next { next_of start.new ≡ next_of start.old }
+{
+    if !is_trusted {
+        return Ok(false);
+    }
+    let lines = lines_of(alloc, start)?;
+    let may = are_read(alloc, lines)?;
+    Ok(may)
+}
+
 /// How a run begins that has a past.
 fn with_past(goes_on: bool) -> Beginning
     ensures past { has_past result ≡ true }
@@ -408,17 +466,18 @@ fn carry_on<F: Folder + Drop>(
     settings: Vec<u8>,
     folder: F,
     start: Start<F::File>,
-    goes_on: bool,
+    is_trusted: bool,
 ) -> Result<Begun<F>, FolderFault>
-    requires trusted { goes_on ≡ true → F.mark folder ≡ Some false }
+    requires trusted { is_trusted ≡ true → F.mark folder ≡ Some false }
     requires found { is_some start.checkpoint ≡ true }
+    requires fits { IfSome start.checkpoint (λ c. Fits c.head) }
     requires backed { AreClean start → IsBacked (newest_in start) (other_in start) }
     requires newest { AreClean start → IsNewest (newest_in start) (other_in start) }
-    requires sure { goes_on ≡ true → AreClean start →
+    requires sure { is_trusted ≡ true → AreClean start →
         HasNoNewer (newest_in start) (other_in start) }
     requires above { AreClean start → IsAbove start.number (newest_in start)
         × IsAbove start.number (other_in start) }
-    requires reset { goes_on ≡ false → (F.mark folder ≡ Some true) ⊎ (AreClean start →
+    requires reset { is_trusted ≡ false → (F.mark folder ≡ Some true) ⊎ (AreClean start →
         IsSound (newest_in start) → IsSound (other_in start) → ⊥) }
     ensures begun { IfOk result (λ b. IsBegun config.now settings.items F.lineage
         (F.mark b.store.folder) b.store.opened b.origin) }
@@ -428,6 +487,7 @@ fn carry_on<F: Folder + Drop>(
     ensures numbered { IfOk result (λ b. IsNumbered b.store.number b.store.opened) }
 {
     let mut start = start;
+    let goes_on = may_go_on(alloc, &mut start, is_trusted)?;
     match resume::<Brand, F::File>(alloc, config, &settings, &mut start, goes_on) {
         Ok(resumed) => {
             let store = DiskStore::new(alloc, folder, settings, start.next_number());

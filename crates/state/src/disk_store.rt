@@ -4,10 +4,10 @@ ghost use Rattle.std.specs.Prelude.{OnOk};
 ghost use Rattle.std.specs.Prelude.{Some, length, min, true, false};
 ghost use Rattle.gateway.specs.Restored.{state_lines};
 ghost use Rattle.segments.specs.Head.{whole_text};
-ghost use Rattle.segments.specs.Segment.{durable_of, text_of};
+ghost use Rattle.segments.specs.Segment.{durable_of, file_of, text_of};
 ghost use Rattle.segments.specs.Starts.{IsBacked};
 ghost use Rattle.segments.specs.Writer.{appended_to};
-ghost use Rattle.state.specs.Logs.{AreFilesOf, IsHeaded};
+ghost use Rattle.state.specs.Logs.{IsHeaded};
 ghost use Rattle.statetext.specs.Text.{lines_in};
 
 use crate::folder::Folder;
@@ -24,9 +24,9 @@ use std::mem;
 
 /// A log in two files of a directory, which are written in turn: a segment begins with the settings
 /// and the state of a gateway, and then has lines. The next one goes into the other file, and
-/// stands there whole before the one before is touched. Into which file it goes is read off what
-/// both have. A file whose write or sync failed is used no more: both are opened anew where the
-/// next segment begins.
+/// stands there whole before the one before is touched. A file whose write or sync failed is used no
+/// more: both are opened anew where the next segment begins, and what they have says into which one
+/// it goes.
 #[derive(Drop)]
 pub struct DiskStore<F: Folder + Drop> {
     alloc: Global,
@@ -87,8 +87,8 @@ impl<F: Folder + Drop> DiskStore<F> {
         }
     }
 
-    /// Both files, usable: that of the newest segment, and the one for the next. Those that are
-    /// open are looked at again, as those are that are opened anew.
+    /// Both files, usable: that of the newest segment, and the one for the next. Where none is open
+    /// they are opened anew, and looked at as at a start.
     fn take_files(&mut self) -> Option<(F::File, F::File)>
         ensures newest { IfSome result (λ files. IsTrue (F.File.is_usable files.0)) }
         ensures spare { IfSome result (λ files. IsTrue (F.File.is_usable files.1)) }
@@ -99,11 +99,11 @@ impl<F: Folder + Drop> DiskStore<F> {
         ensures number { self.new.number ≡ self.old.number }
     {
         let opened = mem::replace(&mut self.opened, Opened::Neither);
-        if let Some((log, db)) = files_of(opened) {
-            return in_order(self.alloc, Files { log, db });
+        if let Some(files) = files_of(self.alloc, opened) {
+            return Some(files);
         }
         match self.folder.open() {
-            Ok(files) => in_order(self.alloc, files),
+            Ok(Files { log, db }) => in_order(self.alloc, log, db),
             Err(_) => None,
         }
     }
@@ -159,28 +159,55 @@ impl<F: Folder + Drop> DiskStore<F> {
     }
 }
 
-/// Both files, where no write or sync has failed at either.
-fn files_of<D: Disk + Drop>(opened: Opened<D>) -> Option<(D, D)>
+/// Both files that are open, where no write or sync has failed at either.
+fn files_of<D: Disk + Drop>(alloc: Global, opened: Opened<D>) -> Option<(D, D)>
     ensures newest { IfSome result (λ files. IsTrue (D.Disk.is_usable files.0)) }
     ensures spare { IfSome result (λ files. IsTrue (D.Disk.is_usable files.1)) }
-    ensures order { IfSome result (λ files. AreFilesOf opened files.0 files.1) }
+    ensures backed { IfSome result (λ files. IsTrue (D.Disk.is_clean files.0) →
+        IsTrue (D.Disk.is_clean files.1) →
+        IsBacked (D.Disk.seen files.0) (D.Disk.seen files.1)) }
 {
-    let (newest, spare) = match opened {
-        Opened::Neither => return None,
-        Opened::Both(newest, spare) => (newest, spare),
+    match opened {
+        Opened::Neither => None,
+        Opened::Both(newest, spare) => {
+            if newest.may_be_used() && spare.may_be_used() {
+                in_order(alloc, newest, spare)
+            } else {
+                None
+            }
+        }
         Opened::Current(current) => {
             let Current {
                 segment,
                 head: _,
                 spare,
             } = current;
-            if !segment.is_open() {
-                return None;
-            }
-            (segment.into_file(), spare)
+            files_behind(alloc, segment, spare)
         }
-    };
-    if newest.may_be_used() && spare.may_be_used() {
+    }
+}
+
+/// The file of this segment, which this run has written, and the other one, where that may be
+/// written over. So no checkpoint is read in mid-run, when the stations wait.
+fn files_behind<D: Disk + Drop>(alloc: Global, segment: Segment<D>, spare: D) -> Option<(D, D)>
+    ensures newest { IfSome result (λ files. IsTrue (D.Disk.is_usable files.0)) }
+    ensures spare { IfSome result (λ files. IsTrue (D.Disk.is_usable files.1)) }
+    ensures backed { IfSome result (λ files. IsTrue (D.Disk.is_clean files.0) →
+        IsTrue (D.Disk.is_clean files.1) →
+        IsBacked (D.Disk.seen files.0) (D.Disk.seen files.1)) }
+    ensures same { IfSome result (λ files. (files.0 ≡ file_of segment)
+        × (D.Disk.seen files.1 ≡ D.Disk.seen spare)) }
+{
+    if !segment.is_open() || !spare.may_be_used() {
+        return None;
+    }
+    let mut spare = spare;
+    match segment.backs(alloc, &mut spare) {
+        Ok(true) => {}
+        Ok(false) | Err(_) => return None,
+    }
+    let newest = segment.into_file();
+    if newest.may_be_used() {
         Some((newest, spare))
     } else {
         None
@@ -189,16 +216,16 @@ fn files_of<D: Disk + Drop>(opened: Opened<D>) -> Option<(D, D)>
 
 /// Both files: that of the newest segment that is whole, and the other one. `None`: one couldn't be
 /// read.
-fn in_order<D: Disk + Drop>(alloc: Global, files: Files<D>) -> Option<(D, D)>
-    requires log { IsTrue (D.Disk.is_usable files.log) }
-    requires db { IsTrue (D.Disk.is_usable files.db) }
+fn in_order<D: Disk + Drop>(alloc: Global, log: D, db: D) -> Option<(D, D)>
+    requires log { IsTrue (D.Disk.is_usable log) }
+    requires db { IsTrue (D.Disk.is_usable db) }
     ensures newest { IfSome result (λ files. IsTrue (D.Disk.is_usable files.0)) }
     ensures spare { IfSome result (λ files. IsTrue (D.Disk.is_usable files.1)) }
     ensures backed { IfSome result (λ files. IsTrue (D.Disk.is_clean files.0) →
         IsTrue (D.Disk.is_clean files.1) →
         IsBacked (D.Disk.seen files.0) (D.Disk.seen files.1)) }
 {
-    let Files { mut log, mut db } = files;
+    let (mut log, mut db) = (log, db);
     match newest_side(alloc, &mut log, &mut db) {
         Ok(Side::Log) => Some((log, db)),
         Ok(Side::Db) => Some((db, log)),

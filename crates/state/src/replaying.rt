@@ -1,11 +1,11 @@
 //! A gateway hears again what it had heard.
-ghost use Rattle.std.specs.Prelude.{◌≡◌, ◌∷◌, [], List, Some, None, IfErr, IfOk, false};
+ghost use Rattle.std.specs.Prelude.{◌≡◌, ◌∷◌, [], List, Some, None, IfErr, IfOk, true, false};
 ghost use Rattle.gateway.specs.Log.{LogEntry};
 ghost use Rattle.gateway.specs.Agrees.{Follows, Rests};
 ghost use Rattle.gateway.specs.Reports.{Setup};
 ghost use Rattle.gateway.specs.Ports.{output_of};
-ghost use Rattle.state.specs.Replays.{IsFirst, IsRepeating, IsReplayed, IsTold, events_in_front};
-ghost use Rattle.state.specs.Replays.{gap_of};
+ghost use Rattle.state.specs.Replays.{AreRead, IsFirst, IsRepeating, IsReplayed, IsTold};
+ghost use Rattle.state.specs.Replays.{events_in_front, gap_of};
 ghost use Rattle.traces.specs.Trace.{lines_of, told};
 
 use checkpoint::StateFault;
@@ -168,6 +168,23 @@ fn next_event<L: EventLines>(
         return Ok(None);
     }
     announce_line(alloc, line.as_slice(), buf)
+}
+
+/// Whether each of these lines tells an event.
+pub(crate) fn are_read<L: EventLines + Drop>(alloc: Global, lines: L) -> Result<bool, StateFault>
+    ensures all { IfOk result (λ are. are ≡ true → AreRead (L.coming lines)) }
+    ensures others { IfOk result (λ are. are ≡ false → AreRead (L.coming lines) → ⊥) }
+{
+    let mut lines = lines;
+    let (mut line, mut buf) = (Vec::new(alloc), [0; 1024]);
+    loop {
+        if !lines.next_line(&mut line)? {
+            return Ok(true);
+        }
+        let Some(_) = announce_line(alloc, line.as_slice(), &mut buf)? else {
+            return Ok(false);
+        };
+    }
 }
 
 impl<K: Script, L: EventLines + Drop> Repeater<K, L> {
