@@ -1,5 +1,5 @@
 -- What is heard again, line by line.
-use Rattle.std.proofs.Common.{◌≡◌, ◌∙◌, ℕ, suc, ◌≤◌, Bool, true, false, List, [], ◌∷◌, ◌++◌, length, map}
+use Rattle.std.proofs.Common.{◌≡◌, ◌∙◌, ℕ, ◌≤◌, Bool, true, false, List, [], ◌∷◌, ◌++◌, length, map}
 use Rattle.std.proofs.Common.{Option, Some, None, ap, sym, subst, refl, append_assoc, arith}
 use Rattle.std.proofs.Common.{if◌then◌else◌}
 use Rattle.std.proofs.lemmas.List.{append-nil}
@@ -19,7 +19,7 @@ use Rattle.gateway.specs.declared.ports.Next.{Next}
 use Rattle.traces.specs.Event.{Event, event_of, event_in, line, opening, received, cut, tick, wall}
 use Rattle.traces.specs.Progress.{came}
 use Rattle.traces.specs.Trace.{lines_of, told, is_skipped, is_wrong, first_wrong}
-use Rattle.state.specs.Replays.{AreRead, IsFirst, IsRepeating, IsReplayed, IsTold, Replaying, ToldGap}
+use Rattle.state.specs.Replays.{IsFirst, IsRepeating, IsReplayed, IsTold, Replaying, ToldGap}
 use Rattle.state.specs.Replays.{before_those, events_in_front, events_left, last_gap, log_of}
 
 -- A line
@@ -106,38 +106,6 @@ wrongly_told text n buf one wrong =
     ∙ wrong) in
     subst (λ found. IsTold found None buf)
     (sym (unless_skipped (is_skipped text) (event_in text) is)) refl
-
--- Whether each line tells an event
-
-read_more : (line : Option Event) (found : Next) (buf : List ℕ) (events : List LogEntry) (n : ℕ)
-    → IsTold line (Some found) buf
-    → (length (before_those line events) ≡ suc n → length events ≡ n)
-    × (length events ≡ n → length (before_those line events) ≡ suc n)
-read_more None found buf events n told = absurd (cc)
-read_more (Some event) found buf events n told = (λ all. omega (arith, all), λ all. omega (arith, all))
-
-read_none : (line : Option Event) (buf : List ℕ) (events : List LogEntry) (n : ℕ)
-    → IsTold line None buf → length (before_those line events) ≡ suc n → ⊥
-read_none None buf events n told all = omega (arith, all)
-read_none (Some event) buf events n told all = told
-
--- one more line is read, which tells an event
-pub read_first : (line : List ℕ) (lines coming : List (List ℕ)) (found : Next) (buf : List ℕ)
-    → coming ≡ line ∷ lines → IsTold (told line) (Some found) buf
-    → (AreRead coming → AreRead lines) × (AreRead lines → AreRead coming)
-read_first line lines coming found buf is tells =
-    subst (λ (all : List (List ℕ)). (AreRead all → AreRead lines) × (AreRead lines → AreRead all))
-    (sym is) (read_more (told line) found buf (events_in_front lines) (length lines) tells)
-
--- it tells none
-pub unread_first : (line : List ℕ) (lines coming : List (List ℕ)) (buf : List ℕ)
-    → coming ≡ line ∷ lines → IsTold (told line) None buf → AreRead coming → ⊥
-unread_first line lines coming buf is tells all =
-    read_none (told line) buf (events_in_front lines) (length lines) tells (subst AreRead is all)
-
--- none comes any more
-pub all_read : (coming : List (List ℕ)) → coming ≡ [] → AreRead coming
-all_read coming is = subst AreRead (sym is) refl
 
 -- A replay
 

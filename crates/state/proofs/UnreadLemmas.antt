@@ -1,6 +1,7 @@
 -- What a start can't read.
-use Rattle.std.proofs.Common.{◌≡◌, ◌∙◌, inl, ℕ, ◌+◌, ◌<◌, Bool, true, false, IsTrue, List, [], ◌∷◌}
-use Rattle.std.proofs.Common.{drop, length, Option, Some, None, Result, Ok, Err, IfErr, IfOk, IfSome, refl, sym}
+use Rattle.std.proofs.Common.{◌≡◌, ◌∙◌, inl, ℕ, ◌+◌, ◌<◌, true, false, IsTrue, List, [], ◌∷◌}
+use Rattle.std.proofs.Common.{drop, length, Option, Some, None, Result, Ok, Err, IfErr, IfOk}
+use Rattle.std.proofs.Common.{IfSome, refl, sym}
 use Rattle.std.proofs.Common.{ap, subst, arith}
 use Rattle.std.specs.Option.{ForSome, is_some}
 use Rattle.std.specs.Result.{IsErrAnd}
@@ -12,7 +13,7 @@ use Rattle.settings.specs.Settings.{IsReadOfText, IsFaultOfText, known_settings,
 use Rattle.settings.specs.declared.fault.ConfigFault.{ConfigFault}
 use Rattle.settings.specs.declared.fault.ConfigFault.TheVariants.{NotToml, Key, Unknown, NoMemory}
 use Rattle.settings.specs.Unknown.{unknown_paths}
-use Rattle.segments.specs.Starts.{HasNone, IsBacked, IsFoundIn, IsShut, IsSound}
+use Rattle.segments.specs.Starts.{HasNone, IsBacked, IsFoundIn, IsSound}
 use Rattle.segments.specs.Starts.{before_zero}
 use Rattle.segments.specs.Head.{Fits}
 use Rattle.segments.specs.declared.head.Head.{Head}
@@ -71,7 +72,7 @@ pub lines_read : (clean : Type 0) (file : List ℕ) (o : Option Found) (at : ℕ
     → ForSome o (λ c. (at ≡ 87 + length c.text.items)
     × (clean → IsFoundIn file c.head c.text.items))
     → clean → AreRead (whole_lines (before_zero (drop at file))) → AreLinesRead file
-lines_read clean file None at some fits stands is read head body = absurd (cc)
+lines_read clean file None at some fits stands is read head body fits' found = absurd (cc)
 lines_read clean file (Some c) at some fits stands is read head body fits' found =
     let same : c.text.items ≡ body =
     one_segment file c.head head c.text.items body fits fits' ((stands c refl).1 is) found in

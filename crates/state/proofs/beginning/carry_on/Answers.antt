@@ -1,4 +1,4 @@
-use Rattle.std.proofs.Common.{◌≡◌, inl, inr, List, Some, ℕ, ◌∙◌, ap, sym, subst}
+use Rattle.std.proofs.Common.{inl, inr, List, Some, ℕ, ◌∙◌, ap, sym, subst}
 use Rattle.std.specs.Option.{is_some}
 use Rattle.state.specs.Beginnings.{AreLinesRead, GoesOnFrom, has_past, is_trusted}
 use Rattle.state.specs.declared.beginning.Origin.{Origin}
@@ -40,7 +40,8 @@ returns-in-Ok-clause-begun g c =
     c.args.settings.items g.F.Folder.lineage
     (g.F.File.Disk.seen c.resume.new.start.newest) o.is_moved o.gap o.before.entries o.gateway)
     (sym is)
-    (subst (λ (text : List ℕ). GoesOnFrom c.in_ok-goes_on.goes_on c.args.config.now text g.F.Folder.lineage
+    (subst (λ (text : List ℕ). GoesOnFrom c.in_ok-goes_on.goes_on c.args.config.now text
+    g.F.Folder.lineage
     (g.F.File.Disk.seen c.resume.new.start.newest) c.in-Ok.resumed.is_moved c.in-Ok.resumed.gap
     c.in-Ok.resumed.before.entries c.in-Ok.resumed.gateway) c.deref.ensures.value
     (c.in-Ok.ensures.goes_on clean)))

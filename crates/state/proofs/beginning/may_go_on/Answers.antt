@@ -1,4 +1,4 @@
-use Rattle.std.proofs.Common.{List, ◌∙◌, IfSome, ap, subst, sym}
+use Rattle.std.proofs.Common.{inr, ◌∙◌, IfSome, ap, subst, sym}
 use Rattle.std.specs.Option.{is_some}
 use Rattle.segments.specs.Head.{Fits}
 use Rattle.state.specs.Replays.{AreRead}
