@@ -15,8 +15,8 @@ centre goes and comes.
   state, then of its second, and so on.
 - At the end each report has come, in order. No report came again that was known as acknowledged. No
   command was operated twice, or confirmed by nobody.
-- Then come a second process on the directory, a state that can't be read, a disk that is full (a
-  limit of file size), and settings that change between two runs, row by row.
+- Then come a second process on the directory, a state that can't be read, a line of it that can't,
+  a disk that is full (a limit of file size), and settings that change between two runs, row by row.
 
 All of it is on the loopback.
 """
@@ -440,6 +440,45 @@ def a_state_that_is_no_state(count, program):
         gateway.field.server.close()
 
 
+def head_of(path):
+    """The number of a log, and where the lines behind its checkpoint begin."""
+    with open(path, "rb") as file:
+        first = file.read(87)
+    return (int(first[33:49], 16), 87 + int(first[57:73], 16)) if first.startswith(b"telegate state") else (0, 0)
+
+
+def rot_a_line(folder):
+    """Spoils the first octet of a line amid those behind the checkpoint of the newest log."""
+    path = max((os.path.join(folder, name) for name in os.listdir(folder)), key=head_of)
+    begins = head_of(path)[1]
+    with open(path, "r+b") as file:
+        file.seek(begins)
+        lines = file.read().split(b"\0")[0].split(b"\n")
+        file.seek(begins + sum(len(line) + 1 for line in lines[: len(lines) // 2]))
+        file.write(b"?")
+
+
+def a_rotten_line(count, program):
+    with tempfile.TemporaryDirectory() as folder:
+        gateway = quiet(program, folder)
+        gateway.start()
+        gateway.waits("listening")
+        queue_up(gateway, 3)
+        gateway.kill()
+        resets = {address: station.resets for address, station in gateway.field.stations.items()}
+        rot_a_line(gateway.state)
+        gateway.start()
+        count.judge("a line that can't be read is told", gateway.waits("each link is reset"), gateway.said)
+        queue_up(gateway, 3)
+        now = {address: station.resets for address, station in gateway.field.stations.items()}
+        count.judge("each link is reset", all(now[a] == resets[a] + 1 for a in resets), (resets, now))
+        got = drained(gateway)
+        count.judge("and the run goes on", all(numbers[-3:] == [4, 5, 6] for numbers in got.values()), got)
+        told = gateway.kill()
+        count.judge("with a gap of each station", all(f"station {a} gap" in told for a in resets), told)
+        gateway.field.server.close()
+
+
 def limit_files(size):
     """In a child: no file may grow beyond this, and who tries gets an error."""
 
@@ -595,6 +634,7 @@ if __name__ == "__main__":
         calls("each call, reset", 4, silence="reset", retries=10),
         alone("second", a_second_process),
         alone("unread", a_state_that_is_no_state),
+        alone("rotten line", a_rotten_line),
         alone("full disk", a_full_disk),
         alone("command", a_command_at_a_restart),
         *(alone(f"settings {n}", settings_that_change, *row) for n, row in enumerate(CHANGES)),

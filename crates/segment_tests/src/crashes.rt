@@ -1,6 +1,9 @@
 //! A crash at each call of a script of appends, syncs and changes of the segment.
+ghost use Rattle.std.specs.Prelude.{IsTrue};
+ghost use Rattle.segments.specs.Starts.{IsBacked};
+
 use checkpoint::{Lines, Sheet};
-use segments::{Failed, Segment, Start, Writer};
+use segments::{Failed, Segment, Side, Start, Writer, newest_side};
 use sqlite_disk::{Crash, Disk, Files, Fuse, Memory};
 use statetext::{TextLines, TextSheet};
 use std::alloc::{AllocError, Global};
@@ -17,12 +20,71 @@ struct Told {
     is_begun: bool,
 }
 
-/// Writes a segment whose checkpoint is the number of events so far.
-fn next_segment(alloc: Global, spare: File, number: u64, told: u64) -> Result<Segment<File>, File> {
-    if !spare.may_be_used() {
-        return Err(spare);
+/// A segment that is finished, with the file of the one before; or else both files.
+type Next = Result<(Segment<File>, File), (File, File)>;
+
+/// Writes the first segment of a run, whichever of the two files is that of the newest one.
+fn first_segment(alloc: Global, first: File, second: File, number: u64, told: u64) -> Next {
+    if !first.may_be_used() || !second.may_be_used() {
+        return Err((first, second));
     }
-    let writer = match Writer::begin(alloc, spare) {
+    let (mut first, mut second) = (first, second);
+    match newest_side(alloc, &mut first, &mut second) {
+        Ok(Side::Log) => segment_beside(alloc, first, second, number, told),
+        Ok(Side::Db) => segment_beside(alloc, second, first, number, told),
+        Err(_) => Err((first, second)),
+    }
+}
+
+/// Writes the next one: the run knows in which file the newest one stands.
+fn next_segment(
+    alloc: Global,
+    segment: Segment<File>,
+    spare: File,
+    number: u64,
+    told: u64,
+) -> Next {
+    if !segment.is_open() || !spare.may_be_used() {
+        return Err((segment.into_file(), spare));
+    }
+    let mut spare = spare;
+    match segment.backs(alloc, &mut spare) {
+        Ok(true) => segment_beside(alloc, segment.into_file(), spare, number, told),
+        Ok(false) | Err(_) => Err((segment.into_file(), spare)),
+    }
+}
+
+/// Writes a segment into the other file.
+fn segment_beside<D: Disk + Drop>(
+    alloc: Global,
+    newest: D,
+    spare: D,
+    number: u64,
+    told: u64,
+) -> Result<(Segment<D>, D), (D, D)>
+    requires usable { IsTrue (D.Disk.is_usable spare) }
+    requires backed { IsTrue (D.Disk.is_clean newest) → IsTrue (D.Disk.is_clean spare) →
+        IsBacked (D.Disk.seen newest) (D.Disk.seen spare) }
+{
+    match segment_in(alloc, spare, &newest, number, told) {
+        Ok(segment) => Ok((segment, newest)),
+        Err(spare) => Err((newest, spare)),
+    }
+}
+
+/// Writes a segment whose checkpoint is the number of events so far.
+fn segment_in<D: Disk + Drop>(
+    alloc: Global,
+    spare: D,
+    newest: &D,
+    number: u64,
+    told: u64,
+) -> Result<Segment<D>, D>
+    requires usable { IsTrue (D.Disk.is_usable spare) }
+    requires backed { IsTrue (D.Disk.is_clean newest.now) → IsTrue (D.Disk.is_clean spare) →
+        IsBacked (D.Disk.seen newest.now) (D.Disk.seen spare) }
+{
+    let writer = match Writer::begin(alloc, spare, newest) {
         Ok(writer) => writer,
         Err(Failed { file, .. }) => return Err(file),
     };
@@ -65,26 +127,24 @@ fn run(
     second: File,
     told: &mut Told,
 ) -> Result<(File, File), AllocError> {
-    let mut segment = match next_segment(alloc, first, 1, 0) {
-        Ok(segment) => segment,
-        Err(file) => return Ok((file, second)),
+    let (mut segment, mut spare) = match first_segment(alloc, first, second, 1, 0) {
+        Ok(next) => next,
+        Err(files) => return Ok(files),
     };
     told.is_begun = true;
-    let mut spare = second;
     for number in 2..5 {
         for _ in 0..5 {
             if !put_event(alloc, &mut segment, told)? {
                 return Ok((segment.into_file(), spare));
             }
         }
-        match next_segment(alloc, spare, number, told.appended) {
-            Ok(next) => {
-                spare = segment.into_file();
-                segment = next;
-                told.synced = told.appended;
-            }
-            Err(file) => return Ok((segment.into_file(), file)),
-        }
+        let next = match next_segment(alloc, segment, spare, number, told.appended) {
+            Ok(next) => next,
+            Err(files) => return Ok(files),
+        };
+        segment = next.0;
+        spare = next.1;
+        told.synced = told.appended;
     }
     Ok((segment.into_file(), spare))
 }
@@ -218,8 +278,9 @@ fn loses_no_synced_event(rt: HostRuntime) -> Result<(), Fail> {
 #[test]
 fn reads_whole_lines_alone(rt: HostRuntime) -> Result<(), Fail> {
     let alloc = rt.alloc();
-    let empty = Fuse::new(Memory::new(alloc), 1_000);
-    let Ok(mut segment) = next_segment(alloc, empty, 1, 0) else {
+    let first = Fuse::new(Memory::new(alloc), 1_000);
+    let second = Fuse::new(Memory::new(alloc), 1_000);
+    let Ok((mut segment, _spare)) = first_segment(alloc, first, second, 1, 0) else {
         return Err("no segment".into());
     };
     segment.append(b"event 0\nevent 1\0\nevent 2\n")?;

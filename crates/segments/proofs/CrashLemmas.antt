@@ -9,7 +9,7 @@ use Rattle.std.proofs.lemmas.List.{get_or_append_left, get_or-append_right, leng
 use Rattle.std.proofs.lemmas.List.{length-append, get_or_past, take-append-le, get_or-drop}
 use Rattle.std.proofs.lemmas.List.{length-drop, take_rest, drop-take, take_all, get_or-replicate}
 use Rattle.std.proofs.lemmas.List.{length-replicate}
-use Rattle.std.proofs.Math.Seq.{take-append-add}
+use Rattle.std.proofs.Math.Seq.{take-add, take-append-add}
 use Rattle.std.proofs.Math.ListN.{drop_of_length-le}
 use Rattle.sqlite_disk.specs.Disk.{Holds, Torn, Mixed, Cut, Follows, Only}
 use Rattle.segments.specs.Crash.{HasLength, BeginsWith, HasNoOther, IsBlankFrom, IsShut, IsLong}
@@ -620,6 +620,37 @@ pub remainder_append : (r : ℕ) (xs ys : List ℕ) → remainder_after r (xs ++
     ≡ remainder_after (remainder_after r xs) ys
 remainder_append r [] ys = refl
 remainder_append r (x ∷ xs) ys = remainder_append (divided (divided (bit_xor r x))) xs ys
+
+-- octets that were read at a place, which are added to the sum of those before them
+pub read_piece : (at : ℕ) (file text : List ℕ) → Holds file (87 + at) text
+    → text ≡ take (length text) (drop at (drop 87 file))
+read_piece at file text holds =
+    ext_get_or 0 text (take (length text) (drop at (drop 87 file)))
+    (sym (length-take-le (length text) (drop at (drop 87 file)) (omega (
+      arith,
+      holds.within,
+      length-drop 87 file,
+      length-drop at (drop 87 file),
+    ))))
+    (λ i lt.
+    let place : 87 + at + i ≡ 87 + (at + i) = omega arith in
+    sym (holds.each i lt) ∙ ap (λ (k : ℕ). get_or file k 0) place
+    ∙ sym (get_or-drop 87 file (at + i) 0) ∙ sym (get_or-drop at (drop 87 file) i 0)
+    ∙ sym (get_or-take (length text) (drop at (drop 87 file)) i 0 lt))
+
+pub summed_piece : (r r' at piece : ℕ) (file text held : List ℕ) → held ≡ text
+    → length text ≡ piece → Holds file (87 + at) text
+    → r ≡ remainder_after 0xffffffff (take at (drop 87 file)) → r' ≡ remainder_after r held
+    → r' ≡ remainder_after 0xffffffff (take (at + piece) (drop 87 file))
+summed_piece r r' at piece file text held e long holds summed more =
+    let here : held ≡ take piece (drop at (drop 87 file)) =
+    e ∙ read_piece at file text holds
+    ∙ ap (λ (n : ℕ). take n (drop at (drop 87 file))) long in
+    more ∙ ap (λ (n : ℕ). remainder_after n held) summed
+    ∙ ap (remainder_after (remainder_after 0xffffffff (take at (drop 87 file)))) here
+    ∙ sym (remainder_append 0xffffffff (take at (drop 87 file))
+    (take piece (drop at (drop 87 file))))
+    ∙ ap (remainder_after 0xffffffff) (sym (take-add at piece (drop 87 file)))
 
 pub grouped : (a b c : List ℕ) → a ++ (b ++ c) ≡ (a ++ b) ++ c
 grouped a b c = rw append_assoc refl

@@ -1,25 +1,32 @@
 -- A start finds what a crash left of a segment, and nothing else.
-use Rattle.std.proofs.Common.{◌≡◌, ◌⊎◌, inl, inr, ℕ, zero, suc, ◌+◌, ◌-◌, ◌<◌, ◌≤◌, ◌^◌, List, []}
-use Rattle.std.proofs.Common.{◌∷◌, ◌++◌, length, get_or, take, drop, slice_index, Ok, Some, refl}
+use Rattle.std.proofs.Common.{◌≡◌, inl, inr, ℕ, ◌+◌, ◌-◌, ◌<◌, ◌≤◌, ◌^◌, List, []}
+use Rattle.std.proofs.Common.{◌∷◌, ◌++◌, length, take, drop, slice_index, Ok, Some, refl}
 use Rattle.std.proofs.Common.{sym, ap, subst, ◌∙◌, append_assoc, length-append, zero-add, arith}
 use Rattle.std.proofs.lemmas.Bool.{cases_lt}
 use Rattle.std.proofs.lemmas.List.{append-nil, get_or_append_left, get_or-append_right, get_or-drop}
-use Rattle.std.proofs.lemmas.List.{get_or-take, length-take}
+use Rattle.std.proofs.lemmas.List.{get_or-take, length-drop, length-take, length-take-le}
+use Rattle.std.proofs.lemmas.List.{take-append-drop, take-append-le}
 use Rattle.std.proofs.lemmas.Nat.{from_be_bytes-to_be_bytes_4, from_be_bytes-to_be_bytes_8}
 use Rattle.std.specs.Int.{w32, w64, from_be_bytes, to_be_bytes}
+use Rattle.std.specs.Prelude.{bit_xor}
 use Rattle.hex.specs.Hex.{decode_sized, encode_lower}
 use Rattle.hex.proofs.HexLemmas.{decode_sized-encode_lower}
 use Rattle.sqlite_disk.specs.Disk.{Holds}
+use Rattle.statetext.specs.Sum.{remainder_after, sum_of}
 use Rattle.segments.specs.Crash.{BeginsWith, HasLength, HasNoOther, IsOldIfOpen, IsShut}
 use Rattle.segments.specs.Crash.{IsTextIfOpen}
-use Rattle.segments.specs.Crashes.{AreBoth, AreOlder, HasNoZero, IsThatOf, Survives, head_for}
+use Rattle.segments.specs.Crashes.{AreBoth, AreOlder, HasNoZero, IsThatOf, Survives}
 use Rattle.segments.specs.Crashes.{lines_behind}
-use Rattle.segments.specs.Head.{Fits, head_of, whole_text}
-use Rattle.segments.specs.Starts.{IsFoundIn, IsNewest}
+use Rattle.segments.specs.Head.{Fits, IsWholeText, head_for, head_of, whole_text}
+use Rattle.segments.specs.Starts.{BeginsNewer, IsBacked, IsFoundIn, IsHeadIn, IsNewest}
+use Rattle.segments.specs.Starts.{number_in}
+use Rattle.segments.specs.Written.{text_in}
 use Rattle.segments.specs.declared.head.Head.{Head}
+use Rattle.segments.specs.declared.start.Front.{Front}
+use Rattle.segments.specs.declared.start.Front.TheVariants as fronts
 use Rattle.segments.proofs.Fronts.{head_letter, head_within, not_shut, same_octets}
 use Rattle.segments.proofs.HeadLemmas.{eight_bytes, four_bytes, head_length, number_at, octets_at}
-use Rattle.segments.proofs.HeadLemmas.{same_head, sum_at}
+use Rattle.segments.proofs.HeadLemmas.{same_head, sum_at, whole_behind}
 use Rattle.segments.proofs.Zeros.{kept_before_zero, others_before_zero}
 
 -- A first line tells its numbers
@@ -79,6 +86,13 @@ same_text file a b one other same found found' =
           (found'.behind (omega (arith, some, long))) long
       | inr none ↦ empty one (omega (arith, none)) ∙ sym (empty other (omega (arith, none, long)))
     ]
+
+-- a file has no two segments
+pub one_segment : (file : List ℕ) (a b : Head) (one other : List ℕ) → Fits a → Fits b
+    → IsFoundIn file a one → IsFoundIn file b other → one ≡ other
+one_segment file a b one other fits fits' found found' =
+    same_text file a b one other (same_first file a b fits fits' found.first found'.first) found
+    found'
 
 that : (file : List ℕ) (number : ℕ) (body newest : List ℕ) (head : Head) (text : List ℕ)
     → Fits (head_for number body) → Fits head → newest ≡ file
@@ -241,35 +255,118 @@ unshut_older old new number open_only older c is head text fits found =
     let long : 1 < length c = omega (arith, head_within c head found.first) in
     older c (open_only c is long (head_letter c head found.first)) head text fits found
 
+-- a file that begins with the text of a segment has that one
+pub found_front : (file : List ℕ) (number : ℕ) (body : List ℕ)
+    → take (length (whole_text number body)) file ≡ whole_text number body
+    → IsFoundIn file (head_for number body) body
+found_front file number body front = found_so file number body [] 0 begins long
+  where
+    begins : (i : ℕ) → i < 87 + length body + 0 →
+        slice_index file i ≡ slice_index (whole_text number body ++ []) i
+    begins i lt =
+        let low : i < length (whole_text number body) =
+        omega (arith, lt, whole_length number body) in
+        sym (get_or-take (length (whole_text number body)) file i 0 low)
+        ∙ ap (λ (l : List ℕ). slice_index l i) (front ∙ sym (append-nil (whole_text number body)))
+
+    long : 87 + length body ≤ length file
+    long = omega (
+      arith,
+      whole_length number body,
+      ap (λ (l : List ℕ). length l) front,
+      length-take (length (whole_text number body)) file,
+    )
+
 pub finished_whole : (outcomes : List ℕ → Type 0) (number : ℕ) (body c : List ℕ) (head : Head)
     (text : List ℕ) → Fits (head_for number body) → Fits head
     → IsTextIfOpen outcomes (whole_text number body) → outcomes c → IsFoundIn c head text
     → IsThatOf c number body c head text
 finished_whole outcomes number body c head text fits fits' only is found =
     that c number body c head text fits fits' refl
-    (found_so c number body [] 0 begins long) found
-  where
-    size : ℕ
-    size = length (whole_text number body)
+    (found_front c number body (only c is (head_letter c head found.first)).0) found
 
-    front : take (length (whole_text number body)) c ≡ whole_text number body
-    front = (only c is (head_letter c head found.first)).0
+-- A segment that is begun, and the other file
 
-    begins : (i : ℕ) → i < 87 + length body + 0 →
-        slice_index c i ≡ slice_index (whole_text number body ++ []) i
-    begins i lt =
-        let low : i < length (whole_text number body) =
-        omega (arith, lt, whole_length number body) in
-        sym (get_or-take (length (whole_text number body)) c i 0 low)
-        ∙ ap (λ (l : List ℕ). slice_index l i) (front ∙ sym (append-nil (whole_text number body)))
+front_is : (number end : ℕ) (seen body : List ℕ) → text_in end seen [] ≡ whole_text number body
+    → take end seen ≡ whole_text number body
+front_is number end seen body text = sym (append-nil (take end seen)) ∙ text
 
-    long : 87 + length body ≤ length c
-    long = omega (
+body_is : (number end : ℕ) (seen body : List ℕ) → text_in end seen [] ≡ whole_text number body
+    → drop 87 (take end seen) ≡ body
+body_is number end seen body text =
+    ap (drop 87) (front_is number end seen body text) ∙ whole_behind number body
+
+pub whole_front : (number end : ℕ) (seen body : List ℕ) → text_in end seen []
+    ≡ whole_text number body → take end seen ≡ whole_text number (drop 87 (take end seen))
+whole_front number end seen body text =
+    front_is number end seen body text
+    ∙ ap (whole_text number) (sym (body_is number end seen body text))
+
+pub summed_front : (number end sum remainder : ℕ) (seen body : List ℕ) → text_in end seen []
+    ≡ whole_text number body → sum < 2 ^ 32 → sum ≡ bit_xor remainder 0xffffffff
+    → remainder ≡ remainder_after 0xffffffff body → sum_of (drop 87 (take end seen)) < 2 ^ 32
+summed_front number end sum remainder seen body text few value summed =
+    subst (λ (n : ℕ). n < 2 ^ 32) (value ∙ ap (λ (r : ℕ). bit_xor r 0xffffffff) summed
+    ∙ ap sum_of (sym (body_is number end seen body text))) few
+
+pub whole_begun : (number end : ℕ) (seen : List ℕ) → number < 2 ^ 64 → end < 2 ^ 64
+    → end ≤ length seen → sum_of (drop 87 (take end seen)) < 2 ^ 32
+    → take end seen ≡ whole_text number (drop 87 (take end seen))
+    → IsWholeText number (take end seen)
+whole_begun number end seen few few' within summed is = record {
+  fits = record {
+    number = few;
+    octets = omega (
       arith,
-      whole_length number body,
-      ap (λ (l : List ℕ). length l) front,
-      length-take (length (whole_text number body)) c,
-    )
+      few',
+      length-take-le end seen within,
+      length-drop 87 (take end seen),
+    );
+    sum = summed;
+  };
+  is = is;
+}
+
+-- a write behind it leaves it as it is
+pub whole_written : (number begins stored : ℕ) (seen seen' held : List ℕ)
+    → IsWholeText number (take begins seen) → begins ≤ stored → stored ≤ length seen
+    → length seen' ≡ length seen
+    → text_in stored seen' held ≡ text_in stored seen held → IsWholeText number (take begins seen')
+whole_written number begins stored seen seen' held whole le within long same =
+    subst (IsWholeText number) (sym (sym (front seen' (omega (arith, within, long)))
+    ∙ ap (take begins) same ∙ front seen within)) whole
+  where
+    front : (file : List ℕ) → stored ≤ length file
+        → take begins (text_in stored file held) ≡ take begins file
+    front file fits =
+        take-append-le begins (take stored file) held
+        (omega (arith, length-take-le stored file fits, le))
+        ∙ sym (take-append-le begins (take stored file) (drop stored file)
+        (omega (arith, length-take-le stored file fits, le)))
+        ∙ ap (take begins) (take-append-drop stored file)
+
+pub backs_other : (own other : List ℕ) (number begins : ℕ) (front : Front)
+    → IsWholeText number (take begins own) → begins ≤ length own → IsHeadIn other front
+    → number_in front ≤ number → IsBacked own other
+backs_other own other number begins front whole within behind order head text fits found =
+    let here : number_in front ≡ head.number =
+    ap number_in (behind.heads head fits found.first) in
+    let long : length (whole_text number (drop 87 (take begins own))) ≡ begins =
+    ap (λ (l : List ℕ). length l) (sym whole.is) ∙ length-take-le begins own within in
+    record {
+      head = head_for number (drop 87 (take begins own));
+      text = drop 87 (take begins own);
+      fits = whole.fits;
+      found = found_front own number (drop 87 (take begins own))
+          (ap (λ (n : ℕ). take n own) long ∙ whole.is);
+      order = omega (arith, here, order);
+    }
+
+pub newer_front : (file : List ℕ) (front : Front) (number : ℕ) → IsHeadIn file front
+    → number < number_in front → BeginsNewer number file
+newer_front file fronts.Shut number begins lt = absurd (omega (arith, lt))
+newer_front file (fronts.Head head) number begins lt = (head, begins.begins, lt)
+newer_front file fronts.Other number begins lt = absurd (omega (arith, lt))
 
 -- A segment whose head is synced
 

@@ -1,15 +1,18 @@
 -- How a file begins.
 use Rattle.std.proofs.Common.{◌≡◌, ◌∙◌, Bool, inl, inr, ℕ, ◌+◌, ◌<◌, ◌≤◌, List, [], ◌∷◌, length}
-use Rattle.std.proofs.Common.{min, slice_index, IfOk, IfNone, IfSome, Option, Some, None, Result}
+use Rattle.std.proofs.Common.{drop, take, min, slice_index, IfOk, IfNone, IfSome, Option, Some}
+use Rattle.std.proofs.Common.{None, Result}
 use Rattle.std.proofs.Common.{Ok, Err, OnOk, is_err, true, false, refl, ap, sym, subst, arith}
 use Rattle.std.proofs.lemmas.Bool.{cases_lt}
-use Rattle.std.proofs.lemmas.List.{ext_get_or}
+use Rattle.std.proofs.lemmas.List.{ext_get_or, get_or-drop, get_or-take, length-drop}
+use Rattle.std.proofs.lemmas.List.{length-take-le}
 use Rattle.sqlite_disk.specs.Disk.{Holds}
 use Rattle.statetext.specs.Sum.{sum_of}
 use Rattle.segments.specs.Head.{Fits, head_of}
 use Rattle.std.specs.Option.{is_some}
-use Rattle.std.specs.Prelude.{not, ◌||◌}
-use Rattle.segments.specs.Starts.{ArePlaced, BeginsSo, HasNoNewer, HasNone, IsAbove, IsFoundIn}
+use Rattle.std.specs.Prelude.{not, ◌||◌, if◌then◌else◌}
+use Rattle.segments.specs.Starts.{ArePlaced, BeginsSo, FitsIn, HasNoNewer, HasNone, IsAbove}
+use Rattle.segments.specs.Starts.{IsBacked, IsBackedBy, IsFoundIn, IsWholeIn}
 use Rattle.segments.specs.Starts.{IsHeadIn, IsNewest, IsShut, IsSound, is_doubtful, is_other}
 use Rattle.segments.specs.Starts.{is_shut, number_in, other_side}
 use Rattle.segments.specs.declared.head.Head.{Head}
@@ -253,3 +256,116 @@ sure_second newer older front behind false begins some sure = absurd (cc)
 pub of_some : {A : Type 0} (P : A → Type 0) (o : Option A) (x : A) → o ≡ Some x → IfSome o P → P x
 of_some P None x is h = absurd (cc)
 of_some P (Some y) x is h = let same : y ≡ x = cc in subst P same h
+
+pub if_some_map : {A : Type 0} {P Q : A → Type 0} (o : Option A) → IfSome o P
+    → ((x : A) → P x → Q x) → IfSome o Q
+if_some_map None p all = tt
+if_some_map (Some x) p all = all x p
+
+-- Which file may be written over
+
+pub backed_first : (newer older : List ℕ) (front other : Front) (own : Head) (text : List ℕ)
+    → IsHeadIn older other → number_in other ≤ number_in front → front ≡ fronts.Head own
+    → FitsIn front
+    → IsFoundIn newer own text → IsBacked newer older
+backed_first newer older front other own text behind order is fits found head others fits' found' =
+    let mine : number_in front ≡ own.number = ap number_in is in
+    let here : number_in other ≡ head.number =
+    ap number_in (behind.heads head fits' found'.first) in
+    record {
+      head = own;
+      text = text;
+      fits = subst FitsIn is fits;
+      found = found;
+      order = omega (arith, order, mine, here);
+    }
+
+pub backed_none : (newest spare : List ℕ) → HasNone spare → IsBacked newest spare
+backed_none newest spare none head text fits found = absurd (none head text fits found)
+
+pub backed_by_log : (whole : Bool) (side : Side) (log db : List ℕ) (first second : Front)
+    → side ≡ (if whole then sides.Log else sides.Db)
+    → IsHeadIn db second → number_in second ≤ number_in first → FitsIn first
+    → (whole ≡ true → IsWholeIn log first) → (whole ≡ false → HasNone log)
+    → IsBackedBy side log db
+backed_by_log true side log db first second is behind order fits some none =
+    let found = some refl in
+    subst (λ (s : Side). IsBackedBy s log db) (sym is)
+    (backed_first log db first second found.0 found.1 behind order found.2 fits found.3)
+backed_by_log false side log db first second is behind order fits some none =
+    subst (λ (s : Side). IsBackedBy s log db) (sym is) (backed_none db log (none refl))
+
+pub backed_by_db : (whole : Bool) (side : Side) (log db : List ℕ) (first second : Front)
+    → side ≡ (if whole then sides.Db else sides.Log)
+    → IsHeadIn log first → number_in first ≤ number_in second → FitsIn second
+    → (whole ≡ true → IsWholeIn db second) → (whole ≡ false → HasNone db)
+    → IsBackedBy side log db
+backed_by_db true side log db first second is behind order fits some none =
+    let found = some refl in
+    subst (λ (s : Side). IsBackedBy s log db) (sym is)
+    (backed_first db log second first found.0 found.1 behind order found.2 fits found.3)
+backed_by_db false side log db first second is behind order fits some none =
+    subst (λ (s : Side). IsBackedBy s log db) (sym is) (backed_none log db (none refl))
+
+-- A segment that is whole by its sum
+
+-- what stands behind the first line
+pub behind_first : (file : List ℕ) (octets : ℕ) → 87 + octets ≤ length file
+    → Holds file 87 (take octets (drop 87 file))
+behind_first file octets within = record {
+  within = omega (arith, within, count);
+  each = λ i lt. sym (get_or-take octets (drop 87 file) i 0 (omega (arith, lt, count))
+      ∙ get_or-drop 87 file i 0);
+}
+  where
+    count : length (take octets (drop 87 file)) ≡ octets
+    count = length-take-le octets (drop 87 file) (omega (arith, within, length-drop 87 file))
+
+-- A file begins so, and this is the sum of the octets behind the first line.
+pub record IsSummed (file : List ℕ) (front : Front) (head : Head) (octets sum : ℕ) : Type 0 where
+  pub is : front ≡ fronts.Head head
+  pub begins : IsHeadIn file front
+  pub count : octets ≡ head.octets
+  pub within : 87 + octets ≤ length file
+  pub sum_is : sum ≡ sum_of (take octets (drop 87 file))
+
+pub summed_from : (old between new : List ℕ) (front : Front) (head : Head) (o : Option ℕ)
+    (octets sum : ℕ) → between ≡ old → new ≡ between → front ≡ fronts.Head head
+    → IsHeadIn old front → o ≡ Some octets → IfSome o (λ n. n ≡ head.octets)
+    → IfSome o (λ n. 87 + n ≤ length between) → sum ≡ sum_of (take octets (drop 87 new))
+    → IsSummed new front head octets sum
+summed_from old between new front head o octets sum same same' is begins some count within sum_is =
+    record {
+      is = is;
+      begins = subst (λ (file : List ℕ). IsHeadIn file front) (sym (same' ∙ same)) begins;
+      count = of_some (λ (n : ℕ). n ≡ head.octets) o octets some count;
+      within = subst (λ (file : List ℕ). 87 + octets ≤ length file) (sym same')
+          (of_some (λ (n : ℕ). 87 + n ≤ length between) o octets some within);
+      sum_is = sum_is;
+    }
+
+pub whole_by_sum : (file : List ℕ) (front : Front) (head : Head) (octets sum : ℕ)
+    → IsSummed file front head octets sum → sum ≡ head.sum → IsWholeIn file front
+whole_by_sum file front head octets sum s same = (
+  head,
+  take octets (drop 87 file),
+  s.is,
+  record {
+    first = (subst (BeginsSo file) s.is s.begins.begins);
+    octets = length-take-le octets (drop 87 file)
+        (omega (arith, s.within, length-drop 87 file)) ∙ s.count;
+    sum = sym s.sum_is ∙ same;
+    behind = λ some. behind_first file octets s.within;
+  },
+)
+
+pub none_by_sum : (file : List ℕ) (front : Front) (own : Head) (octets sum : ℕ)
+    → IsSummed file front own octets sum → (sum ≡ own.sum → ⊥) → HasNone file
+none_by_sum file front own octets sum s differ head text fits found =
+    let heads : fronts.Head head ≡ fronts.Head own =
+    sym (s.begins.heads head fits found.first) ∙ s.is in
+    let same : head ≡ own = cc in
+    differ (s.sum_is ∙ found_sum file own text (take octets (drop 87 file))
+    (length-take-le octets (drop 87 file) (omega (arith, s.within, length-drop 87 file)) ∙ s.count)
+    (λ some. behind_first file octets s.within)
+    (subst (λ (h : Head). IsFoundIn file h text) same found))

@@ -1,13 +1,14 @@
 -- The first line of a segment.
 use Rattle.std.proofs.Common.{◌≡◌, ℕ, zero, suc, ◌+◌, ◌*◌, ◌%◌, ◌/◌, ◌^◌, ◌<◌, List, [], ◌∷◌, ◌++◌}
 use Rattle.std.proofs.Common.{length, slice_index, take, drop, codes, refl, ap, ◌∙◌, lit<, arith}
-use Rattle.std.proofs.Common.{Some, Result, Ok, Err, MatchResult}
+use Rattle.std.proofs.Common.{Some, Result, Ok, Err, MatchResult, sym}
 use Rattle.std.proofs.lemmas.List.{length-append}
+use Rattle.std.proofs.Math.Seq.{drop-append_seam}
 use Rattle.std.specs.Int.{w32, w64, to_be_bytes}
 use Rattle.hex.specs.Hex.{IsBytes, decode_sized, encode_lower, encode_with, lower_digits}
 use Rattle.hex.specs.declared.error.FromHexError.{FromHexError}
 use Rattle.hex.proofs.HexLemmas.{decode_sized-encode_lower, length-encode_with}
-use Rattle.segments.specs.Head.{head_of}
+use Rattle.segments.specs.Head.{head_for, head_of, whole_text}
 use Rattle.segments.specs.declared.head.Head.{Head}
 
 parts : (a b c d e f g : List ℕ) → length (a ++ b ++ c ++ d ++ e ++ f ++ g)
@@ -29,6 +30,14 @@ head_length h =
     ∙ sums _ _ _ (digits (to_be_bytes w64 h.number) 8 refl)
     (digits (to_be_bytes w64 h.octets) 8 refl)
     (digits (to_be_bytes w32 h.sum) 4 refl)
+
+-- the checkpoint stands behind it
+pub whole_behind : (number : ℕ) (body : List ℕ) → drop 87 (whole_text number body) ≡ body
+unfolding whole_text
+whole_behind number body =
+    ap (λ (n : ℕ). drop n (head_of (head_for number body) ++ body))
+    (sym (head_length (head_for number body)))
+    ∙ drop-append_seam (head_of (head_for number body)) body
 
 pub head_first : (h : Head) → slice_index (head_of h) 0 ≡ 116
 head_first h = refl

@@ -1,15 +1,10 @@
 -- What a start finds where there was a crash (profile).
-use Rattle.std.specs.Prelude.{◌≡◌, ◌⊎◌, ℕ, ◌+◌, ◌-◌, ◌<◌, ◌≤◌, List, ◌++◌, length, take, drop}
+use Rattle.std.specs.Prelude.{◌≡◌, ◌⊎◌, ℕ, ◌+◌, ◌<◌, ◌≤◌, List, ◌++◌, length, drop}
 use Rattle.std.specs.Prelude.{slice_index}
-use Rattle.statetext.specs.Sum.{sum_of}
 use Rattle.segments.specs.Crash.{BeginsWith, HasLength}
-use Rattle.segments.specs.Head.{Fits, whole_text}
+use Rattle.segments.specs.Head.{Fits, head_for, whole_text}
 use Rattle.segments.specs.Starts.{IsFoundIn, before_zero}
 use Rattle.segments.specs.declared.head.Head.{Head}
-
--- the first line of the segment with this number and this checkpoint
-abbrev pub head_for : ℕ → List ℕ → Head
-head_for number body = record { number = number; octets = length body; sum = sum_of body }
 
 -- no octet of these lines is 0
 abbrev pub HasNoZero : List ℕ → Type 0

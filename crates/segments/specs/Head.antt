@@ -1,5 +1,5 @@
 -- The first line of a segment (profile).
-use Rattle.std.specs.Prelude.{ℕ, ◌<◌, ◌^◌, List, [], ◌∷◌, ◌++◌, codes, length}
+use Rattle.std.specs.Prelude.{◌≡◌, ℕ, ◌<◌, ◌^◌, List, [], ◌∷◌, ◌++◌, codes, drop, length}
 use Rattle.std.specs.Int.{w32, w64, to_be_bytes}
 use Rattle.statetext.specs.Sum.{sum_of}
 use Rattle.hex.specs.Hex.{encode_lower}
@@ -18,7 +18,15 @@ pub record Fits (h : Head) : Type 0 where
   pub octets : h.octets < 2 ^ 64
   pub sum : h.sum < 2 ^ 32
 
+-- the first line of the segment with this number and this checkpoint
+abbrev pub head_for : ℕ → List ℕ → Head
+head_for number body = record { number = number; octets = length body; sum = sum_of body }
+
 -- the text of a segment with this checkpoint, before its first line of events
 unfoldable pub whole_text : ℕ → List ℕ → List ℕ
-whole_text number body =
-    head_of (record { number = number; octets = length body; sum = sum_of body }) ++ body
+whole_text number body = head_of (head_for number body) ++ body
+
+-- This is the text of the segment with this number, before its first line of events.
+pub record IsWholeText (number : ℕ) (text : List ℕ) : Type 0 where
+  pub fits : Fits (head_for number (drop 87 text))
+  pub is : text ≡ whole_text number (drop 87 text)

@@ -9,6 +9,10 @@ module _ {D : Type 0} {g : Ghosts D} where
   abbrev pub text_of : Segment D g → List ℕ
   text_of s = text_in s.stored (g.seen s.file) s.page.items
 
+  -- its number
+  abbrev pub own_number : Segment D g → ℕ
+  own_number s = s.number
+
   -- its file
   abbrev pub file_of : Segment D g → D
   file_of s = s.file

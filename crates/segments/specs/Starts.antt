@@ -96,3 +96,37 @@ abbrev pub HasNoNewer : (newest other : List ℕ) → Type 0
 HasNoNewer newest other = IsShut other
     ⊎ ((own : Head) × (head : Head) × Holds newest 0 (head_of own) × Holds other 0 (head_of head)
     × (head.number ≤ own.number))
+
+-- the file has a segment whose number is at least this one
+pub record HasAsNew (number : ℕ) (file : List ℕ) : Type 0 where
+  pub head : Head
+  pub text : List ℕ
+  pub fits : Fits head
+  pub found : IsFoundIn file head text
+  pub order : number ≤ head.number
+
+-- The other file may be written over: where it has a segment, this one has one that isn't older.
+abbrev pub IsBacked : (newest other : List ℕ) → Type 0
+IsBacked newest other = (head : Head) (text : List ℕ) → Fits head → IsFoundIn other head text →
+    HasAsNew head.number newest
+
+-- the file begins with the first line of a segment that is newer than the one with this number
+abbrev pub BeginsNewer : ℕ → List ℕ → Type 0
+BeginsNewer number file =
+    (head : Head) × Holds file 0 (head_of head) × (number < head.number)
+
+-- so does the file of this side back the other one
+abbrev pub IsBackedBy : Side → (log db : List ℕ) → Type 0
+IsBackedBy sides.Log log db = IsBacked log db
+IsBackedBy sides.Db log db = IsBacked db log
+
+-- a file that begins so has a segment that is whole
+abbrev pub IsWholeIn : List ℕ → Front → Type 0
+IsWholeIn file front = (head : Head) × (text : List ℕ) × (front ≡ fronts.Head head)
+    × IsFoundIn file head text
+
+-- the numbers of a first line have so few digits
+abbrev pub FitsIn : Front → Type 0
+FitsIn fronts.Shut = Unit {0}
+FitsIn (fronts.Head head) = Fits head
+FitsIn fronts.Other = Unit {0}

@@ -83,6 +83,7 @@ pub(crate) fn parse(alloc: Global, text: &[u8]) -> Result<Option<Head>, AllocErr
     ensures is { IfOk result (λ found. IfSome found (λ head. text.now ≡ head_of head)) }
     ensures all { (head : Head) → Fits head → text.now ≡ head_of head →
         IfOk result (λ found. found ≡ Some head) }
+    ensures fits { IfOk result (λ found. IfSome found Fits) }
 {
     if text.len() != HEAD {
         return Ok(None);

@@ -1,9 +1,9 @@
 //! What holds of both files over a crash.
 ghost use Rattle.std.specs.Prelude.{◌≡◌, ◌<◌, ℕ, List, ◌++◌, length, take};
 ghost use Rattle.segments.specs.Crash.{HasNoOther, IsOldIfOpen, IsShut, IsTextIfOpen};
-ghost use Rattle.segments.specs.Crashes.{AreBoth, AreOlder, IsThatOf, Survives, head_for};
+ghost use Rattle.segments.specs.Crashes.{AreBoth, AreOlder, IsThatOf, Survives};
 ghost use Rattle.segments.specs.Crashes.{lines_behind};
-ghost use Rattle.segments.specs.Head.{Fits, whole_text};
+ghost use Rattle.segments.specs.Head.{Fits, head_for, whole_text};
 ghost use Rattle.segments.specs.Starts.{IsFoundIn, IsNewest};
 ghost use Rattle.segments.specs.declared.head.Head.{Head};
 

@@ -30,5 +30,5 @@ pub use fault::SegmentFault;
 pub use head::Head;
 pub use laws::{a_start_finds_what_was_synced, the_other_file_has_older_segments};
 pub use segment::Segment;
-pub use start::{Found, Side, Start};
+pub use start::{Found, Side, Start, newest_side};
 pub use writer::{Failed, Writer};

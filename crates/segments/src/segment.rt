@@ -1,15 +1,19 @@
 //! The segment whose lines are appended.
 ghost use Rattle.std.specs.Prelude.{◌≡◌, ◌≢◌, ◌+◌, ◌-◌, ◌<◌, ◌≤◌, ◌^◌, ◌++◌, ℕ, List, [], length};
-ghost use Rattle.std.specs.Prelude.{slice_index, IsTrue, OnOk, OnErr, IfOk, IfErr, Err, true};
+ghost use Rattle.std.specs.Prelude.{drop, slice_index, take, IsTrue, OnOk, OnErr, IfOk, IfErr, Err};
+ghost use Rattle.std.specs.Prelude.{true};
 ghost use Rattle.std.specs.Prelude.{false};
 ghost use Rattle.segments.specs.declared.fault.SegmentFault.TheVariants.{Device, NoMemory};
 ghost use Rattle.segments.specs.Crash.{HasLength, BeginsWith, HasNoOther, IsBlankFrom};
-ghost use Rattle.segments.specs.Crashes.{HasNoZero, Survives, head_for};
-ghost use Rattle.segments.specs.Head.{Fits, whole_text};
+ghost use Rattle.segments.specs.Crashes.{HasNoZero, Survives};
+ghost use Rattle.segments.specs.Head.{Fits, IsWholeText, head_for, whole_text};
+ghost use Rattle.segments.specs.Starts.{BeginsNewer, IsBacked};
 ghost use Rattle.segments.specs.Written.{text_in};
 ghost use Rattle.sqlite_disk.specs.Disk.{Only};
+ghost use Rattle.statetext.specs.Sum.{sum_of};
 
 use crate::SegmentFault;
+use crate::start::{front_at, number_of};
 use sqlite_disk::Disk;
 use std::alloc::Global;
 
@@ -20,6 +24,9 @@ const PAGE: usize = 65_536;
 #[derive(Drop)]
 pub struct Segment<D: Disk> {
     file: D,
+    number: u64,
+    /// Where the lines behind its checkpoint begin.
+    begins: usize,
     /// How many octets of the text stand in the file. Zeros stand behind them.
     stored: usize,
     /// How many of these are synced.
@@ -32,6 +39,7 @@ pub struct Segment<D: Disk> {
     is_open: bool,
     /// The disk has said that a crash leaves each octet below a file's end old or new.
     mixes: bool,
+    ghost begun: { begins ≤ durable },
     ghost ordered: { durable ≤ stored },
     ghost within: { stored + length page.items ≤ size },
     ghost sized: { length (D.Disk.seen file) ≡ size },
@@ -42,6 +50,7 @@ pub struct Segment<D: Disk> {
         (text_in stored (D.Disk.seen file) page.items) },
     ghost mixed: { IsTrue mixes → HasNoOther (D.Disk.may_leave file)
         (text_in stored (D.Disk.seen file) page.items) },
+    ghost whole: { IsWholeText number (take begins (D.Disk.seen file)) },
 }
 
 /// Whether both are true.
@@ -88,11 +97,14 @@ fn store<D: Disk>(file: &mut D, at: usize, page: &[u8]) -> Result<usize, Segment
 
 impl<D: Disk> Segment<D> {
     ghost use Rattle.segments.specs.Segment.{text_of, durable_of, size_of, is_open, mixes};
-    ghost use Rattle.segments.specs.Segment.{outcomes_of, file_of};
+    ghost use Rattle.segments.specs.Segment.{outcomes_of, file_of, own_number};
 
     /// A segment in a file that is synced: the text ends there, zeros stand behind it.
-    pub(crate) fn begun(alloc: Global, file: D, end: usize, size: usize) -> Segment<D>
+    pub(crate) fn begun(alloc: Global, file: D, number: u64, end: usize, size: usize) -> Segment<D>
         requires usable { IsTrue (D.Disk.is_usable file) }
+        requires summed { sum_of (drop 87 (take end (D.Disk.seen file))) < 2 ^ 32 }
+        requires whole { take end (D.Disk.seen file)
+            ≡ whole_text number (drop 87 (take end (D.Disk.seen file))) }
         requires within { end ≤ size }
         requires sized { length (D.Disk.seen file) ≡ size }
         requires synced { Only (D.Disk.seen file) (D.Disk.may_leave file) }
@@ -105,6 +117,8 @@ impl<D: Disk> Segment<D> {
         let mixes = file.mixes();
         Segment {
             file,
+            number,
+            begins: end,
             stored: end,
             durable: end,
             size,
@@ -112,6 +126,22 @@ impl<D: Disk> Segment<D> {
             is_open: true,
             mixes,
         }
+    }
+
+    /// Whether the other file may be written over: no segment begins there that is newer than this
+    /// one, which stands whole in its own file. Of the other file one line is read, and of its own
+    /// file none. An `Err` says that it couldn't be read.
+    pub fn backs(&self, alloc: Global, other: &mut D) -> Result<bool, SegmentFault>
+        requires { IsTrue (D.Disk.is_usable other.old) }
+        ensures backed { IfOk result (λ backs. backs ≡ true → IsTrue (D.Disk.is_clean other.new) →
+            IsBacked (D.Disk.seen (file_of self.now)) (D.Disk.seen other.new)) }
+        ensures newer { IfOk result (λ backs. backs ≡ false → IsTrue (D.Disk.is_clean other.new) →
+            BeginsNewer (own_number self.now) (D.Disk.seen other.new)) }
+        ensures usable { IsTrue (D.Disk.is_usable other.new) }
+        ensures seen { D.Disk.seen other.new ≡ D.Disk.seen other.old }
+    {
+        let front = front_at(alloc, other)?;
+        Ok(number_of(front) <= self.number)
     }
 
     /// The file, with what is held given up.

@@ -1,9 +1,13 @@
 //! What a start finds in the two files.
 ghost use Rattle.std.specs.Option.{ForSome, is_some};
-ghost use Rattle.std.specs.Prelude.{◌≡◌, ◌==◌, ℕ, ◌+◌, ◌-◌, ◌<◌, ◌≤◌, false, true, List, None};
-ghost use Rattle.std.specs.Prelude.{length, min, position, IsTrue, IfOk, IfNone, IfSome};
+ghost use Rattle.std.specs.Prelude.{◌≡◌, ◌==◌, ℕ, ◌+◌, ◌-◌, ◌<◌, ◌≤◌, ◌^◌, false, true, List, None};
+ghost use Rattle.std.specs.Prelude.{drop, length, min, take, position, IsTrue, IfOk, IfNone};
+ghost use Rattle.std.specs.Prelude.{IfSome};
+ghost use Rattle.std.specs.Prelude.{if◌then◌else◌};
 ghost use Rattle.sqlite_disk.specs.Disk.{Holds};
-ghost use Rattle.segments.specs.Starts.{ArePlaced, HasNoNewer, HasNone, IsAbove, IsFoundIn};
+ghost use Rattle.segments.specs.Head.{Fits};
+ghost use Rattle.segments.specs.Starts.{ArePlaced, FitsIn, HasNoNewer, HasNone, IsAbove};
+ghost use Rattle.segments.specs.Starts.{IsBacked, IsBackedBy, IsFoundIn, IsWholeIn};
 ghost use Rattle.segments.specs.Starts.{IsHeadIn, IsNewest, IsShut, IsSound, before_zero};
 ghost use Rattle.segments.specs.Starts.{is_doubtful, is_other, is_shut, number_in, other_side};
 ghost use Rattle.statetext.specs.Sum.{sum_of};
@@ -14,6 +18,9 @@ use crate::head::{Head, parse};
 use sqlite_disk::{Disk, Files};
 use statetext::Sum;
 use std::alloc::Global;
+
+/// How many octets are read at once.
+const PIECE: usize = 65_536;
 
 /// Which of the two files.
 #[derive(Clone, Copy, Debug, PartialEq, Eq)]
@@ -34,6 +41,13 @@ impl Side {
             Side::Db => Side::Log,
         }
     }
+
+    /// This one, if it is the one, or else the other.
+    fn or_other(self, is: bool) -> Side
+        ensures { result ≡ (if is then self else other_side self) }
+    {
+        if is { self } else { self.other() }
+    }
 }
 
 /// How a file begins.
@@ -48,10 +62,11 @@ pub(crate) enum Front {
 }
 
 /// How a file begins. No crash leaves one that isn't shut and has no segment.
-fn front_at<D: Disk>(alloc: Global, file: &mut D) -> Result<Front, SegmentFault>
+pub(crate) fn front_at<D: Disk>(alloc: Global, file: &mut D) -> Result<Front, SegmentFault>
     requires { IsTrue (D.Disk.is_usable file.old) }
     ensures head { IfOk result (λ front. IsTrue (D.Disk.is_clean file.new) →
         IsHeadIn (D.Disk.seen file.new) front) }
+    ensures fits { IfOk result FitsIn }
     ensures usable { IsTrue (D.Disk.is_usable file.new) }
     ensures seen { D.Disk.seen file.new ≡ D.Disk.seen file.old }
 {
@@ -118,6 +133,31 @@ fn sum_of(text: &[u8]) -> u32
     sum.value()
 }
 
+/// How many octets the checkpoint behind a first line has, if the file is as long.
+fn octets_behind<D: Disk>(file: &mut D, head: &Head) -> Result<Option<usize>, SegmentFault>
+    requires { IsTrue (D.Disk.is_usable file.old) }
+    ensures octets { IfOk result (λ found. IfSome found (λ octets. octets ≡ head.now.octets)) }
+    ensures small { IfOk result (λ found. IfSome found (λ octets. 87 + octets < 2 ^ 64)) }
+    ensures within { IfOk result (λ found. IfSome found (λ octets.
+        IsTrue (D.Disk.is_clean file.new) → 87 + octets ≤ length (D.Disk.seen file.new))) }
+    ensures none { IfOk result (λ found. IfNone found (IsTrue (D.Disk.is_clean file.new) →
+        (text : List ℕ) → IsFoundIn (D.Disk.seen file.new) head.now text → ⊥)) }
+    ensures usable { IsTrue (D.Disk.is_usable file.new) }
+    ensures clean { IsTrue (D.Disk.is_clean file.new) → IsTrue (D.Disk.is_clean file.old) }
+    ensures seen { D.Disk.seen file.new ≡ D.Disk.seen file.old }
+{
+    let Ok(octets) = usize::try_from(head.octets) else {
+        return Ok(None);
+    };
+    let Ok(all) = file.len() else {
+        return Err(SegmentFault::Device);
+    };
+    if all < HEAD || all - HEAD < octets {
+        return Ok(None);
+    }
+    Ok(Some(octets))
+}
+
 /// The text of the checkpoint behind the first line, if it is whole and has its sum.
 fn text_at<D: Disk>(
     alloc: Global,
@@ -136,21 +176,37 @@ fn text_at<D: Disk>(
     ensures clean { IsTrue (D.Disk.is_clean file.new) → IsTrue (D.Disk.is_clean file.old) }
     ensures seen { D.Disk.seen file.new ≡ D.Disk.seen file.old }
 {
-    let Ok(octets) = usize::try_from(head.octets) else {
+    let Some(octets) = octets_behind(file, head)? else {
         return Ok(None);
     };
-    let Ok(all) = file.len() else {
-        return Err(SegmentFault::Device);
-    };
-    if all < HEAD || all - HEAD < octets {
-        return Ok(None);
-    }
     let text = octets_at(alloc, file, HEAD, octets)?;
     if sum_of(&text) == head.sum {
         Ok(Some(text))
     } else {
         Ok(None)
     }
+}
+
+/// The sum of so many octets behind the first line. They are read in pieces, since a checkpoint may
+/// be as long as the queue.
+fn sum_behind<D: Disk>(alloc: Global, file: &mut D, octets: usize) -> Result<u32, SegmentFault>
+    requires usable { IsTrue (D.Disk.is_usable file.old) }
+    requires small { 87 + octets < 2 ^ 64 }
+    ensures sum { IfOk result (λ sum. IsTrue (D.Disk.is_clean file.new) →
+        sum ≡ sum_of (take octets (drop 87 (D.Disk.seen file.new)))) }
+    ensures usable { IsTrue (D.Disk.is_usable file.new) }
+    ensures clean { IsTrue (D.Disk.is_clean file.new) → IsTrue (D.Disk.is_clean file.old) }
+    ensures seen { D.Disk.seen file.new ≡ D.Disk.seen file.old }
+{
+    let mut sum = Sum::new();
+    let mut at = 0;
+    while at < octets {
+        let piece = (octets - at).min(PIECE);
+        let text = octets_at(alloc, file, HEAD + at, piece)?;
+        sum.add(&text);
+        at += piece;
+    }
+    Ok(sum.value())
 }
 
 /// The octets from a place on, up to the file's end.
@@ -244,7 +300,7 @@ fn is_doubtful(front: Front, is_found: bool, other_front: Front) -> bool
 }
 
 /// The number of a segment, or 0.
-fn number_of(front: Front) -> u64
+pub(crate) fn number_of(front: Front) -> u64
     ensures { result ≡ number_in front }
 {
     match front {
@@ -279,6 +335,52 @@ fn found_in<D: Disk>(
     }
 }
 
+/// Whether a file that begins so has a segment that is whole.
+fn is_whole<D: Disk>(alloc: Global, file: &mut D, front: Front) -> Result<bool, SegmentFault>
+    requires usable { IsTrue (D.Disk.is_usable file.old) }
+    requires head { IsTrue (D.Disk.is_clean file.old) → IsHeadIn (D.Disk.seen file.old) front }
+    ensures some { IfOk result (λ is. is ≡ true → IsTrue (D.Disk.is_clean file.new) →
+        IsWholeIn (D.Disk.seen file.new) front) }
+    ensures none { IfOk result (λ is. is ≡ false → IsTrue (D.Disk.is_clean file.new) →
+        HasNone (D.Disk.seen file.new)) }
+    ensures usable { IsTrue (D.Disk.is_usable file.new) }
+    ensures clean { IsTrue (D.Disk.is_clean file.new) → IsTrue (D.Disk.is_clean file.old) }
+    ensures seen { D.Disk.seen file.new ≡ D.Disk.seen file.old }
+{
+    let Front::Head(head) = front else {
+        return Ok(false);
+    };
+    let Some(octets) = octets_behind(file, &head)? else {
+        return Ok(false);
+    };
+    let sum = sum_behind(alloc, file, octets)?;
+    Ok(sum == head.sum)
+}
+
+/// In which of two files the newest segment stands. The other one may be written over: where it has
+/// a segment, this one has one that isn't older. An `Err` says that a file couldn't be read.
+pub fn newest_side<D: Disk>(alloc: Global, log: &mut D, db: &mut D) -> Result<Side, SegmentFault>
+    requires log { IsTrue (D.Disk.is_usable log.old) }
+    requires db { IsTrue (D.Disk.is_usable db.old) }
+    ensures backed { IfOk result (λ side. IsTrue (D.Disk.is_clean log.new) →
+        IsTrue (D.Disk.is_clean db.new) →
+        IsBackedBy side (D.Disk.seen log.new) (D.Disk.seen db.new)) }
+    ensures log { IsTrue (D.Disk.is_usable log.new) }
+    ensures db { IsTrue (D.Disk.is_usable db.new) }
+    ensures seen { (D.Disk.seen log.new ≡ D.Disk.seen log.old)
+        × (D.Disk.seen db.new ≡ D.Disk.seen db.old) }
+{
+    let first = front_at(alloc, log)?;
+    let second = front_at(alloc, db)?;
+    if number_of(second) > number_of(first) {
+        let is_newest = is_whole(alloc, db, second)?;
+        Ok(Side::Db.or_other(is_newest))
+    } else {
+        let is_newest = is_whole(alloc, log, first)?;
+        Ok(Side::Log.or_other(is_newest))
+    }
+}
+
 impl<D: Disk + Drop> Start<D> {
     ghost use Rattle.segments.specs.Found.{AreClean, newest_in, newest_of, other_in, other_of};
 
@@ -291,6 +393,9 @@ impl<D: Disk + Drop> Start<D> {
         ensures newest { IfOk result (λ s. AreClean s → IsNewest (newest_in s) (other_in s)) }
         ensures none { IfOk result (λ s. AreClean s → is_some s.checkpoint ≡ false →
             HasNone (newest_in s) × HasNone (other_in s)) }
+        ensures fits { IfOk result (λ s. IfSome s.checkpoint (λ c. Fits c.head)) }
+        // So the other one may be written over.
+        ensures backed { IfOk result (λ s. AreClean s → IsBacked (newest_in s) (other_in s)) }
         // A start changes neither file, and tells in which one the newest segment stands.
         ensures placed { IfOk result (λ s. ArePlaced s.side (D.Disk.seen files.log)
             (D.Disk.seen files.db) (newest_in s) (other_in s)) }
@@ -333,6 +438,7 @@ impl<D: Disk + Drop> Start<D> {
         requires older { IsTrue (D.Disk.is_usable older) }
         requires head { IsTrue (D.Disk.is_clean newer) → IsHeadIn (D.Disk.seen newer) front }
         requires other { IsTrue (D.Disk.is_clean older) → IsHeadIn (D.Disk.seen older) other_front }
+        requires fits { FitsIn front }
         requires order { number_in other_front ≤ number_in front }
         requires above { min (number_in front + 1) 18446744073709551615 ≤ number }
         ensures placed { (log db : List ℕ) →
@@ -343,6 +449,7 @@ impl<D: Disk + Drop> Start<D> {
         ensures sure { IfOk result (λ s. AreClean s → is_some s.checkpoint ≡ true →
             s.is_doubtful ≡ false → HasNoNewer (newest_in s) (other_in s)) }
         ensures newest { IfOk result (λ s. AreClean s → IsNewest (newest_in s) (other_in s)) }
+        ensures backed { IfOk result (λ s. AreClean s → IsBacked (newest_in s) (other_in s)) }
         ensures none { IfOk result (λ s. AreClean s → is_some s.checkpoint ≡ false →
             HasNone (newest_in s) × HasNone (other_in s)) }
         ensures sound { IfOk result (λ s. AreClean s → IsSound (newest_in s) →
@@ -436,6 +543,8 @@ impl<D: Disk> Start<D> {
         ensures found { IfSome result (λ c. IsTrue (D.Disk.is_clean (newest_of self.new)) →
             IsFoundIn (D.Disk.seen (newest_of self.new)) c.head c.text.items) }
         ensures behind { IfSome result (λ c. begins_at self.new ≡ 87 + length c.text.items) }
+        ensures fits { IfSome result (λ c. Fits c.head) }
+        ensures taken { is_some result ≡ is_some self.old.checkpoint }
         ensures newest { newest_of self.new ≡ newest_of self.old }
         ensures other { other_of self.new ≡ other_of self.old }
         ensures next { next_of self.new ≡ next_of self.old }
@@ -453,6 +562,7 @@ impl<D: Disk> Start<D> {
         ensures clean { IsTrue (D.Disk.is_clean (newest_of self.new)) →
             IsTrue (D.Disk.is_clean (newest_of self.old)) }
         ensures same { begins_at self.new ≡ begins_at self.old }
+        ensures taken { self.new.checkpoint ≡ self.old.checkpoint }
         ensures other { other_of self.new ≡ other_of self.old }
         ensures next { next_of self.new ≡ next_of self.old }
     {

@@ -6,7 +6,7 @@ use Rattle.gateway.specs.Config.{Settings}
 use Rattle.gateway.specs.Log.{Log}
 use Rattle.segments.specs.Starts.{HasNoNewer, IsAbove, IsNewest, IsShut, IsSound}
 use Rattle.sqlite_disk.specs.declared.Disk.{Ghosts}
-use Rattle.state.specs.Beginnings.{GoesOnFrom, has_past, is_trusted, moment_at}
+use Rattle.state.specs.Beginnings.{AreLinesRead, GoesOnFrom, has_past, is_trusted, moment_at}
 use Rattle.state.specs.Origins.{IsBegun, IsMarkedBy, IsNew, IsNumbered}
 use Rattle.state.specs.declared.beginning.Origin.{Origin}
 use Rattle.state.specs.declared.opened.Opened.{Opened}
@@ -48,13 +48,15 @@ module _ {D : Type 0} {g : Ghosts D} where
       → IsNewest (g.seen newest) (g.seen spare))
       → (goes_on ≡ true → IsTrue (g.is_clean newest) → IsTrue (g.is_clean spare)
       → HasNoNewer (g.seen newest) (g.seen spare))
+      → (goes_on ≡ true → IsTrue (g.is_clean newest) → AreLinesRead (g.seen newest))
       → (goes_on ≡ false → (mark ≡ Some true) ⊎ (IsTrue (g.is_clean newest)
       → IsTrue (g.is_clean spare)
-      → IsSound (g.seen newest) → IsSound (g.seen spare) → ⊥))
+      → IsSound (g.seen newest) → IsSound (g.seen spare) → AreLinesRead (g.seen newest) → ⊥))
       → (IsTrue (g.is_clean newest) → GoesOnFrom goes_on c text log (g.seen newest) o.is_moved o.gap
       o.before.entries o.gateway)
       → IsBegun {D = D} {g = g} c text log mark (opens.Both newest spare) o
-  resumed_begun c text log mark newest spare o goes_on moment past is marked wins sure reset goes =
+  resumed_begun c text log mark newest spare o goes_on moment past is marked wins sure read reset
+      goes =
       record {
         moment = moment ∙ sym (ap (λ (b : Bool). if b then Some o.gateway.moment else None) past);
         marked = marked_by o.beginning goes_on mark past is marked;
@@ -62,6 +64,7 @@ module _ {D : Type 0} {g : Ghosts D} where
         empty = λ anew. never (has_past o.beginning) past (ap has_past anew);
         newest = λ _. wins;
         sure = λ on. sure (sym is ∙ ap is_trusted on);
+        read = λ on one two. read (sym is ∙ ap is_trusted on) one;
         reset = λ links. reset (sym is ∙ ap is_trusted links);
         goes_on = λ _. subst (λ (t : Bool). IsTrue (g.is_clean newest) →
             GoesOnFrom t c text log (g.seen newest) o.is_moved o.gap o.before.entries o.gateway)
@@ -82,6 +85,7 @@ module _ {D : Type 0} {g : Ghosts D} where
     empty = λ _. shut;
     newest = λ past. never (has_past o.beginning) past (ap has_past is);
     sure = λ on. let no : beginnings.Anew ≡ beginnings.GoesOn = sym is ∙ on in absurd (cc);
+    read = λ on. let no : beginnings.Anew ≡ beginnings.GoesOn = sym is ∙ on in absurd (cc);
     reset = λ links. let no : beginnings.Anew ≡ beginnings.LinksReset = sym is ∙ links in
         absurd (cc);
     goes_on = λ past. never (has_past o.beginning) past (ap has_past is);
@@ -99,14 +103,16 @@ module _ {D : Type 0} {g : Ghosts D} where
       → (IsTrue (g.is_clean old) × IsTrue (g.is_clean other) → IsNewest (g.seen old) (g.seen other))
       → (goes_on ≡ true → IsTrue (g.is_clean old) × IsTrue (g.is_clean other)
       → HasNoNewer (g.seen old) (g.seen other))
-      → (goes_on ≡ false → (mark ≡ Some true) ⊎ (IsTrue (g.is_clean old) × IsTrue (g.is_clean other)
-      → IsSound (g.seen old) → IsSound (g.seen other) → ⊥))
+      → (goes_on ≡ true → IsTrue (g.is_clean new) → AreLinesRead (g.seen new))
+      → (goes_on ≡ false → (mark ≡ Some true) ⊎ (IsTrue (g.is_clean new)
+      → IsTrue (g.is_clean other)
+      → IsSound (g.seen old) → IsSound (g.seen other) → AreLinesRead (g.seen new) → ⊥))
       → (IsTrue (g.is_clean new) → GoesOnFrom goes_on c text log (g.seen new) o.is_moved o.gap
       o.before.entries o.gateway)
       → IsBegun {D = D} {g = g} c text log mark opened o
   begun_from c text log mark opened newest spare new old other o goes_on both at_newest at_spare
       seen clean moment past is
-      marked wins sure reset goes =
+      marked wins sure read reset goes =
       subst (λ (f : Opened D g). IsBegun {D = D} {g = g} c text log mark f o) (sym both)
       (subst (λ (d : D). IsBegun {D = D} {g = g} c text log mark (opens.Both d spare) o)
       (sym at_newest)
@@ -117,9 +123,10 @@ module _ {D : Type 0} {g : Ghosts D} where
       (wins (clean one, two)))
       (λ on one two. subst (λ (file : List ℕ). HasNoNewer file (g.seen other)) (sym seen)
       (sure on (clean one, two)))
+      read
       (λ none. elim (reset none) [
         | inl stale ↦ inl stale
-        | inr torn ↦ inr (λ one two sound. torn (clean one, two) (subst IsSound seen sound))
+        | inr torn ↦ inr (λ one two sound. torn one two (subst IsSound seen sound))
       ])
       goes)))
 

@@ -3,24 +3,11 @@ use Rattle.std.proofs.Common.{◌≡◌, ◌∙◌, ℕ, ◌≤◌, List, [], �
 use Rattle.std.proofs.Common.{arith}
 use Rattle.std.proofs.lemmas.List.{drop-append-le, take-append-le, take_all}
 use Rattle.std.proofs.Math.ListN.{drop_of_length-le}
-use Rattle.segments.specs.Head.{head_of, whole_text}
-use Rattle.segments.proofs.HeadLemmas.{head_length}
-use Rattle.statetext.specs.Sum.{sum_of}
+use Rattle.segments.specs.Head.{whole_text}
+use Rattle.segments.proofs.HeadLemmas.{whole_behind}
 use Rattle.statetext.specs.Text.{lines_in}
 use Rattle.statetext.proofs.TextLemmas.{no_text}
 use Rattle.state.specs.Logs.{IsHeaded, told_by}
-
-body_behind : (n : ℕ) (head body : List ℕ) → length head ≡ n → drop n (head ++ body) ≡ body
-body_behind n head body is =
-    drop-append-le n head body (omega (arith, is))
-    ∙ ap (λ (l : List ℕ). l ++ body) (drop_of_length-le head {i = n} (omega (arith, is)))
-
-whole_behind : (number : ℕ) (body : List ℕ) → drop 87 (whole_text number body) ≡ body
-unfolding whole_text
-whole_behind number body =
-    body_behind 87 (head_of (record { number = number; octets = length body; sum = sum_of body }))
-    body
-    (head_length (record { number = number; octets = length body; sum = sum_of body }))
 
 all_taken : (text : List ℕ) (n : ℕ) → n ≡ length text → take n text ≡ text
 all_taken text n is = take_all n text (omega (arith, is))

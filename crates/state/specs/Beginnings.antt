@@ -9,11 +9,13 @@ use Rattle.gateway.specs.Restored.{IsSavable, state_lines}
 use Rattle.gateway.specs.Setups.{setup_of}
 use Rattle.gateway.specs.State.{State, with_serial}
 use Rattle.link.specs.Carried.{awaits_command}
+use Rattle.segments.specs.Crashes.{lines_behind}
+use Rattle.segments.specs.Head.{Fits}
 use Rattle.segments.specs.Starts.{IsFoundIn, before_zero}
 use Rattle.segments.specs.declared.head.Head.{Head}
 use Rattle.settings.specs.Settings.{IsReadOfText}
 use Rattle.statetext.specs.Text.{lines_in}
-use Rattle.state.specs.Replays.{IsReplayed, ToldGap, events_in_front, whole_lines}
+use Rattle.state.specs.Replays.{AreRead, IsReplayed, ToldGap, events_in_front, whole_lines}
 use Rattle.state.specs.declared.start.Beginning.{Beginning}
 use Rattle.state.specs.declared.start.Beginning.TheVariants as beginnings
 
@@ -64,9 +66,15 @@ pub record IsHeadOf (file : List ℕ) (begins : ℕ) (settings : List ℕ) (line
     Type 0 where
   pub head : Head
   pub body : List ℕ
+  pub fits : Fits head
   pub found : IsFoundIn file head body
   pub says : lines_in body ≡ settings ∷ lines
   pub behind : begins ≡ 87 + length body
+
+-- Each whole line behind the checkpoint of the file's segment tells an event.
+abbrev pub AreLinesRead : List ℕ → Type 0
+AreLinesRead file = (head : Head) (body : List ℕ) → Fits head → IsFoundIn file head body →
+    AreRead (whole_lines (lines_behind body file))
 
 -- It has heard the events behind the state that these lines say, and has then given up each command
 -- without an answer. Where there was none it follows the whole log.

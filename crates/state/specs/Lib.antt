@@ -9,4 +9,5 @@ pub mod Renewals
 pub mod Starts
 pub mod Beginnings
 pub mod Origins
+pub mod Unread
 pub mod Directories

@@ -1,11 +1,8 @@
 -- What a log in two files has (profile).
 use Rattle.std.specs.Prelude.{◌≡◌, ℕ, List, [], ◌∷◌, take, drop}
 use Rattle.sqlite_disk.specs.declared.Disk.{Ghosts}
-use Rattle.sqlite_disk.specs.declared.files.Files.{Files}
 use Rattle.segments.specs.Head.{whole_text}
-use Rattle.segments.specs.declared.start.Side.{Side}
-use Rattle.segments.specs.declared.start.Side.TheVariants as sides
-use Rattle.segments.specs.Segment.{durable_of, file_of, text_of}
+use Rattle.segments.specs.Segment.{durable_of, text_of}
 use Rattle.statetext.specs.Text.{lines_in}
 use Rattle.state.specs.Stores.{Stored}
 use Rattle.state.specs.declared.opened.Opened.{Opened}
@@ -26,11 +23,6 @@ told_by head durable text = record {
   safe = drop head (take durable text);
 }
 
--- that of the newest segment, which stands there, and the one for the next
-abbrev pub in_order : {D : Type 0} → Side → Files D → D × D
-in_order sides.Log files = (files.log, files.db)
-in_order sides.Db files = (files.db, files.log)
-
 module _ {D : Type 0} {g : Ghosts D} where
   abbrev pub stored_in : Opened D g → Stored
   stored_in opens.Neither = record { head = []; text = []; safe = [] }
@@ -48,12 +40,6 @@ module _ {D : Type 0} {g : Ghosts D} where
   SpareIs file opens.Neither = ⊥
   SpareIs file (opens.Both newest spare) = ⊥
   SpareIs file (opens.Current c) = c.spare ≡ file
-
-  -- these are the files that were open: that of the newest segment, and the one for the next
-  abbrev pub AreFilesOf : Opened D g → (newest spare : D) → Type 0
-  AreFilesOf opens.Neither newest spare = ⊥
-  AreFilesOf (opens.Both n s) newest spare = (newest ≡ n) × (spare ≡ s)
-  AreFilesOf (opens.Current c) newest spare = (newest ≡ file_of c.segment) × (spare ≡ c.spare)
 
   -- the log that takes lines bears this number
   abbrev pub Bears : ℕ → Opened D g → Type 0

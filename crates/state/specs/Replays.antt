@@ -1,5 +1,6 @@
 -- A gateway that hears again what it had heard (profile).
 use Rattle.std.specs.Prelude.{◌≡◌, ℕ, Bool, true, false, List, [], ◌∷◌, ◌++◌, Option, Some, None}
+use Rattle.std.specs.Prelude.{length}
 use Rattle.gateway.specs.Agrees.{Follows, Rests}
 use Rattle.gateway.specs.Log.{Log, LogEntry, Came, Went, Output, LineOut, TcpOut, Closed, GapOut}
 use Rattle.gateway.specs.Log.{events_of}
@@ -38,6 +39,10 @@ before_those (Some event) events = came event ∷ events
 abbrev pub events_in_front : List (List ℕ) → List LogEntry
 events_in_front [] = []
 events_in_front (line ∷ lines) = before_those (told line) (events_in_front lines)
+
+-- each of these lines tells an event
+abbrev pub AreRead : List (List ℕ) → Type 0
+AreRead lines = length (events_in_front lines) ≡ length lines
 
 -- a port's answer tells this event, if there is one
 abbrev pub IsTold : Option Event → Option Next → (buf : List ℕ) → Type 0

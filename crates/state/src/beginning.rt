@@ -1,22 +1,29 @@
 //! What a run begins with.
-ghost use Rattle.std.specs.Prelude.{◌≡◌, ◌⊎◌, None, Some, IfOk, IsTrue, true, false};
+ghost use Rattle.std.specs.Prelude.{◌≡◌, ◌⊎◌, ℕ, List, None, Ok, Some, IfErr, IfOk, IfSome, IsTrue};
+ghost use Rattle.std.specs.Prelude.{true, false};
 ghost use Rattle.std.specs.Option.{is_some};
 ghost use Rattle.segments.specs.Found.{AreClean, begins_at, events_in, newest_in, newest_of};
 ghost use Rattle.segments.specs.Found.{next_of, other_in, other_of};
-ghost use Rattle.segments.specs.Starts.{HasNoNewer, IsAbove, IsNewest, IsSound};
-ghost use Rattle.state.specs.Beginnings.{GoesOnFrom, HasNoCommand, HasRead, IsHeadOf, IsRead};
-ghost use Rattle.state.specs.Beginnings.{MovedOn, WentOn, given_up, has_past, is_trusted};
+ghost use Rattle.gateway.specs.Config.{Settings};
+ghost use Rattle.segments.specs.Head.{Fits};
+ghost use Rattle.segments.specs.Starts.{HasNoNewer, IsAbove, IsBacked, IsNewest, IsSound};
+ghost use Rattle.settings.specs.Settings.{IsReadOfText};
+ghost use Rattle.state.specs.Beginnings.{AreLinesRead, GoesOnFrom, HasNoCommand, HasRead};
+ghost use Rattle.state.specs.Beginnings.{IsHeadOf, IsRead, MovedOn, WentOn, given_up, has_past};
+ghost use Rattle.state.specs.Beginnings.{is_trusted};
 ghost use Rattle.state.specs.Origins.{IsBegun, IsNew, IsNumbered};
+ghost use Rattle.state.specs.Replays.{whole_lines};
 ghost use Rattle.state.specs.Starts.{beginning_of};
+ghost use Rattle.state.specs.Unread.{AreStateOf, HasState, IsUnread, WasAside};
 
 use crate::disk_store::DiskStore;
 use crate::event_text::EventText;
 use crate::folder::{Folder, FolderFault};
-use crate::replaying::{Lineage, Replayed, ToldGap, replay};
+use crate::replaying::{EventLines, Lineage, Replayed, ToldGap, are_read, replay};
 use crate::start::{Beginning, Found, beginning_of};
 use checkpoint::{Lines, StateFault};
 use gateway::{Config, Gateway, History, NoMemory};
-use segments::{SegmentFault, Side, Start};
+use segments::{SegmentFault, Start};
 use settings::{ConfigFault, read_config};
 use sqlite_disk::Disk;
 use statetext::TextLines;
@@ -59,6 +66,15 @@ struct Resumed {
     is_moved: bool,
 }
 
+impl From<StateFault> for FolderFault {
+    fn from(fault: StateFault) -> FolderFault {
+        match fault {
+            StateFault::Wrong | StateFault::Device => FolderFault::Device,
+            StateFault::NoMemory => FolderFault::NoMemory,
+        }
+    }
+}
+
 impl From<SegmentFault> for FolderFault {
     fn from(fault: SegmentFault) -> FolderFault {
         match fault {
@@ -69,7 +85,9 @@ impl From<SegmentFault> for FolderFault {
 }
 
 /// Why a state isn't read, where its settings aren't.
-fn unread(fault: ConfigFault) -> StateFault {
+fn unread(fault: ConfigFault) -> StateFault
+    ensures memory { fault ≡ ConfigFault.NoMemory → result ≡ StateFault.NoMemory }
+{
     match fault {
         ConfigFault::NoMemory => StateFault::NoMemory,
         ConfigFault::NotToml | ConfigFault::Key(_) | ConfigFault::Unknown(_) => StateFault::Wrong,
@@ -85,6 +103,10 @@ fn found_in<D: Disk + Drop>(start: &Start<D>, is_stale: bool) -> Found
         (is_some start.now.checkpoint ≡ false) × (start.now.is_doubtful ≡ false) }
     ensures reset { beginning_of result ≡ Beginning.LinksReset →
         (is_stale ≡ true) ⊎ (start.now.is_doubtful ≡ true) }
+    ensures past { beginning_of result ≡ Beginning.LinksReset →
+        is_some start.now.checkpoint ≡ true }
+    ensures aside { beginning_of result ≡ Beginning.PutAside →
+        (is_some start.now.checkpoint ≡ false) × (start.now.is_doubtful ≡ true) }
 {
     match (start.is_found(), start.is_doubtful()) {
         (false, false) => Found::Nothing,
@@ -97,13 +119,36 @@ fn found_in<D: Disk + Drop>(start: &Start<D>, is_stale: bool) -> Found
 
 /// The gateway with these settings whose state some lines say.
 fn read<K: Lineage>(alloc: Global, config: &Config, lines: TextLines) -> Result<Gateway, StateFault>
-    ensures { IfOk result (λ g. HasRead config.now K.log (⟦<TextLines as Lines>⟧.coming lines) g) }
+    ensures wrong { IfErr result (λ fault. fault ≡ StateFault.Wrong →
+        AreStateOf config.now (⟦<TextLines as Lines>⟧.coming lines) → ⊥) }
+    ensures read { IfOk result (λ g.
+        HasRead config.now K.log (⟦<TextLines as Lines>⟧.coming lines) g) }
 {
     let mut lines = lines;
     let (mut line, mut octets) = (Vec::new(alloc), Vec::new(alloc));
     match Gateway::read_state(alloc, config, &mut lines, &mut line, &mut octets) {
         Ok(gateway) => Ok(gateway),
         Err(fault) => Err(fault),
+    }
+}
+
+/// The whole lines behind the checkpoint that was found.
+fn lines_of<D: Disk + Drop>(alloc: Global, start: &mut Start<D>) -> Result<EventText, StateFault>
+    ensures lines { IfOk result (λ lines. IsTrue (D.Disk.is_clean (newest_of start.new)) →
+        ⟦<EventText as EventLines>⟧.coming lines ≡ whole_lines (events_in start.new)) }
+    ensures fault { IfErr result (λ fault. fault ≡ StateFault.Wrong → ⊥) }
+    ensures seen { D.Disk.seen (newest_of start.new) ≡ D.Disk.seen (newest_of start.old) }
+    ensures clean { IsTrue (D.Disk.is_clean (newest_of start.new)) →
+        IsTrue (D.Disk.is_clean (newest_of start.old)) }
+    ensures same { begins_at start.new ≡ begins_at start.old }
+    ensures taken { start.new.checkpoint ≡ start.old.checkpoint }
+    ensures other { other_of start.new ≡ other_of start.old }
+    ensures next { next_of start.new ≡ next_of start.old }
+{
+    match start.events(alloc) {
+        Ok(events) => Ok(EventText::new(events)),
+        Err(SegmentFault::NoMemory) => Err(StateFault::NoMemory),
+        Err(SegmentFault::Full | SegmentFault::Device) => Err(StateFault::Device),
     }
 }
 
@@ -114,6 +159,8 @@ fn replayed<K: Lineage, D: Disk + Drop>(
     lines: TextLines,
     start: &mut Start<D>,
 ) -> Result<Resumed, StateFault>
+    ensures wrong { IfErr result (λ fault. fault ≡ StateFault.Wrong →
+        AreStateOf config.now (⟦<TextLines as Lines>⟧.coming lines) → ⊥) }
     ensures read { IfOk result (λ r. IsTrue (D.Disk.is_clean (newest_of start.new)) →
         IsRead config.now K.log (⟦<TextLines as Lines>⟧.coming lines) (events_in start.new)
         r.gap r.before.entries r.gateway) }
@@ -127,11 +174,7 @@ fn replayed<K: Lineage, D: Disk + Drop>(
 {
     // The checkpoint may be as long as the queue: its text goes before the events are read.
     let mut gateway = read::<K>(alloc, config, lines)?;
-    let events = match start.events(alloc) {
-        Ok(events) => EventText::new(events),
-        Err(SegmentFault::NoMemory) => return Err(StateFault::NoMemory),
-        Err(SegmentFault::Full | SegmentFault::Device) => return Err(StateFault::Device),
-    };
+    let events = lines_of(alloc, start)?;
     let Replayed { gap, log } = replay::<K, EventText>(alloc, &mut gateway, events)?;
     Ok(Resumed {
         gateway,
@@ -153,6 +196,10 @@ fn read_opening<D: Disk + Drop>(alloc: Global, start: &mut Start<D>) -> Result<O
     ensures head { IfOk result (λ o. IsTrue (D.Disk.is_clean (newest_of start.new)) →
         IsHeadOf (D.Disk.seen (newest_of start.new)) (begins_at start.new) o.settings.items
         (⟦<TextLines as Lines>⟧.coming o.lines)) }
+    ensures wrong { IfErr result (λ fault. fault ≡ StateFault.Wrong →
+        is_some start.old.checkpoint ≡ true → IsTrue (D.Disk.is_clean (newest_of start.new)) →
+        (c : Settings) (text : List ℕ) →
+        HasState c text (D.Disk.seen (newest_of start.new)) → ⊥) }
     ensures newest { newest_of start.new ≡ newest_of start.old }
     ensures other { other_of start.new ≡ other_of start.old }
     ensures next { next_of start.new ≡ next_of start.old }
@@ -204,6 +251,8 @@ fn go_on<K: Lineage, D: Disk + Drop>(
     lines: TextLines,
     start: &mut Start<D>,
 ) -> Result<Resumed, StateFault>
+    ensures wrong { IfErr result (λ fault. fault ≡ StateFault.Wrong →
+        AreStateOf config.now (⟦<TextLines as Lines>⟧.coming lines) → ⊥) }
     ensures went { IfOk result (λ r. IsTrue (D.Disk.is_clean (newest_of start.new)) →
         WentOn config.now K.log (⟦<TextLines as Lines>⟧.coming lines) (events_in start.new)
         r.gap r.before.entries r.gateway) }
@@ -229,6 +278,10 @@ fn move_on<K: Lineage, D: Disk + Drop>(
     goes_on: bool,
     is_moved: bool,
 ) -> Result<Resumed, StateFault>
+    ensures wrong { IfErr result (λ fault. fault ≡ StateFault.Wrong → (wrote : Settings) →
+        IsReadOfText opening.settings.items (Ok wrote) →
+        ((by : Settings) → IsReadOfText opening.settings.items (Ok by) →
+        AreStateOf by (⟦<TextLines as Lines>⟧.coming opening.lines)) → ⊥) }
     ensures went { IfOk result (λ r. IsTrue (D.Disk.is_clean (newest_of start.new)) →
         MovedOn goes_on config.now opening.settings.items K.log
         (⟦<TextLines as Lines>⟧.coming opening.lines) (events_in start.new) r.gap
@@ -272,6 +325,9 @@ fn resume<K: Lineage, D: Disk + Drop>(
     start: &mut Start<D>,
     goes_on: bool,
 ) -> Result<Resumed, StateFault>
+    ensures wrong { IfErr result (λ fault. fault ≡ StateFault.Wrong →
+        is_some start.old.checkpoint ≡ true → IsTrue (D.Disk.is_clean (newest_of start.new)) →
+        HasState config.now text.now (D.Disk.seen (newest_of start.new)) → ⊥) }
     ensures goes_on { IfOk result (λ r. IsTrue (D.Disk.is_clean (newest_of start.new)) →
         GoesOnFrom goes_on config.now text.now K.log (D.Disk.seen (newest_of start.new))
         r.is_moved r.gap r.before.entries r.gateway) }
@@ -301,6 +357,9 @@ pub fn begin<F: Folder + Drop>(
     ensures begun { IfOk result (λ b. IsBegun config.now text.now F.lineage
         (F.mark b.store.folder) b.store.opened b.origin) }
     ensures settings { IfOk result (λ b. b.store.settings.items ≡ text.now) }
+    // What is put aside is no state to go on with.
+    ensures aside { IfOk result (λ b. b.origin.beginning ≡ Beginning.PutAside →
+        WasAside F.File.Disk (F.aside b.store.folder) config.now text.now) }
     // The next log is newer than each that ever stood in a file: so a start finds that one.
     ensures numbered { IfOk result (λ b. IsNumbered b.store.number b.store.opened) }
 {
@@ -313,7 +372,7 @@ pub fn begin<F: Folder + Drop>(
     let start = Start::open(alloc, files)?;
     match beginning_of(found_in(&start, is_stale)) {
         Beginning::Anew => {
-            let store = DiskStore::new(alloc, folder, settings, start.side(), start.next_number());
+            let store = DiskStore::new(alloc, folder, settings, start.next_number());
             let (newest, spare) = start.into_files();
             anew(
                 alloc,
@@ -323,12 +382,43 @@ pub fn begin<F: Folder + Drop>(
             )
         }
         Beginning::PutAside => {
-            drop(start);
-            put_aside(alloc, config, settings, folder)
+            let (newest, other) = start.into_files();
+            put_aside(alloc, config, settings, folder, newest, other)
         }
         Beginning::LinksReset => carry_on(alloc, config, settings, folder, start, false),
         Beginning::GoesOn => carry_on(alloc, config, settings, folder, start, true),
     }
+}
+
+/// Whether the links go on: where the state is trusted, and each whole line of its log can be read.
+/// Where one can't, events behind it are lost, and what went out on them isn't known.
+fn may_go_on<D: Disk + Drop>(
+    alloc: Global,
+    start: &mut Start<D>,
+    is_trusted: bool,
+) -> Result<bool, FolderFault>
+    requires found { is_some start.old.checkpoint ≡ true }
+    requires fits { IfSome start.old.checkpoint (λ c. Fits c.head) }
+    ensures trusted { IfOk result (λ may. may ≡ true → is_trusted ≡ true) }
+    ensures read { IfOk result (λ may. may ≡ true → IsTrue (D.Disk.is_clean (newest_of start.new)) →
+        AreLinesRead (D.Disk.seen (newest_of start.new))) }
+    ensures reset { IfOk result (λ may. may ≡ false → (is_trusted ≡ false)
+        ⊎ (IsTrue (D.Disk.is_clean (newest_of start.new)) →
+        AreLinesRead (D.Disk.seen (newest_of start.new)) → ⊥)) }
+    ensures seen { D.Disk.seen (newest_of start.new) ≡ D.Disk.seen (newest_of start.old) }
+    ensures clean { IsTrue (D.Disk.is_clean (newest_of start.new)) →
+        IsTrue (D.Disk.is_clean (newest_of start.old)) }
+    ensures same { begins_at start.new ≡ begins_at start.old }
+    ensures taken { start.new.checkpoint ≡ start.old.checkpoint }
+    ensures other { other_of start.new ≡ other_of start.old }
+    ensures next { next_of start.new ≡ next_of start.old }
+{
+    if !is_trusted {
+        return Ok(false);
+    }
+    let lines = lines_of(alloc, start)?;
+    let may = are_read(alloc, lines)?;
+    Ok(may)
 }
 
 /// How a run begins that has a past.
@@ -377,25 +467,31 @@ fn carry_on<F: Folder + Drop>(
     settings: Vec<u8>,
     folder: F,
     start: Start<F::File>,
-    goes_on: bool,
+    is_trusted: bool,
 ) -> Result<Begun<F>, FolderFault>
-    requires trusted { goes_on ≡ true → F.mark folder ≡ Some false }
+    requires trusted { is_trusted ≡ true → F.mark folder ≡ Some false }
+    requires found { is_some start.checkpoint ≡ true }
+    requires fits { IfSome start.checkpoint (λ c. Fits c.head) }
+    requires backed { AreClean start → IsBacked (newest_in start) (other_in start) }
     requires newest { AreClean start → IsNewest (newest_in start) (other_in start) }
-    requires sure { goes_on ≡ true → AreClean start →
+    requires sure { is_trusted ≡ true → AreClean start →
         HasNoNewer (newest_in start) (other_in start) }
     requires above { AreClean start → IsAbove start.number (newest_in start)
         × IsAbove start.number (other_in start) }
-    requires reset { goes_on ≡ false → (F.mark folder ≡ Some true) ⊎ (AreClean start →
+    requires reset { is_trusted ≡ false → (F.mark folder ≡ Some true) ⊎ (AreClean start →
         IsSound (newest_in start) → IsSound (other_in start) → ⊥) }
     ensures begun { IfOk result (λ b. IsBegun config.now settings.items F.lineage
         (F.mark b.store.folder) b.store.opened b.origin) }
+    ensures aside { IfOk result (λ b. b.origin.beginning ≡ Beginning.PutAside →
+        WasAside F.File.Disk (F.aside b.store.folder) config.now settings.items) }
     ensures settings { IfOk result (λ b. b.store.settings ≡ settings) }
     ensures numbered { IfOk result (λ b. IsNumbered b.store.number b.store.opened) }
 {
     let mut start = start;
+    let goes_on = may_go_on(alloc, &mut start, is_trusted)?;
     match resume::<Brand, F::File>(alloc, config, &settings, &mut start, goes_on) {
         Ok(resumed) => {
-            let store = DiskStore::new(alloc, folder, settings, start.side(), start.next_number());
+            let store = DiskStore::new(alloc, folder, settings, start.next_number());
             let (newest, spare) = start.into_files();
             Ok(Begun {
                 origin: origin_of(resumed, with_past(goes_on)),
@@ -403,8 +499,8 @@ fn carry_on<F: Folder + Drop>(
             })
         }
         Err(StateFault::Wrong) => {
-            drop(start);
-            put_aside(alloc, config, settings, folder)
+            let (newest, other) = start.into_files();
+            put_aside(alloc, config, settings, folder, newest, other)
         }
         Err(StateFault::NoMemory) => Err(FolderFault::NoMemory),
         Err(StateFault::Device) => Err(FolderFault::Device),
@@ -440,14 +536,20 @@ fn anew<F: Folder + Drop>(
     }
 }
 
-/// Puts aside what can't be read, whose files aren't open, and begins anew. The mark stands before:
-/// where one file is put aside and the other isn't yet, a start must not trust that one.
+/// Puts aside what can't be read, and begins anew. The mark stands before: where one file is put
+/// aside and the other isn't yet, a start must not trust that one.
 fn put_aside<F: Folder + Drop>(
     alloc: Global,
     config: &Config,
     settings: Vec<u8>,
     folder: F,
+    newest: F::File,
+    other: F::File,
 ) -> Result<Begun<F>, FolderFault>
+    requires unread { IsTrue (F.File.is_clean newest) → IsTrue (F.File.is_clean other) →
+        IsUnread config.now settings.items (F.File.seen newest) (F.File.seen other) }
+    ensures aside { IfOk result (λ b.
+        WasAside F.File.Disk (F.aside b.store.folder) config.now settings.items) }
     ensures new { IfOk result (λ b. IsNew config.now b.origin) }
     ensures moment { IfOk result (λ b. b.origin.moment ≡ None) }
     ensures beginning { IfOk result (λ b. b.origin.beginning ≡ Beginning.PutAside) }
@@ -456,9 +558,12 @@ fn put_aside<F: Folder + Drop>(
     ensures numbered { IfOk result (λ b. IsNumbered b.store.number b.store.opened) }
 {
     let mut folder = folder;
-    if !folder.mark_stale() || !folder.put_aside() {
+    if !folder.mark_stale() {
         return Err(FolderFault::Device);
     }
-    let store = DiskStore::new(alloc, folder, settings, Side::Log, 1);
+    if !folder.put_aside(newest, other) {
+        return Err(FolderFault::Device);
+    }
+    let store = DiskStore::new(alloc, folder, settings, 1);
     anew(alloc, config, store, Beginning::PutAside)
 }

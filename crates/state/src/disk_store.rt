@@ -4,9 +4,10 @@ ghost use Rattle.std.specs.Prelude.{OnOk};
 ghost use Rattle.std.specs.Prelude.{Some, length, min, true, false};
 ghost use Rattle.gateway.specs.Restored.{state_lines};
 ghost use Rattle.segments.specs.Head.{whole_text};
-ghost use Rattle.segments.specs.Segment.{durable_of, text_of};
+ghost use Rattle.segments.specs.Segment.{durable_of, file_of, text_of};
+ghost use Rattle.segments.specs.Starts.{IsBacked};
 ghost use Rattle.segments.specs.Writer.{appended_to};
-ghost use Rattle.state.specs.Logs.{AreFilesOf, IsHeaded, in_order};
+ghost use Rattle.state.specs.Logs.{IsHeaded};
 ghost use Rattle.statetext.specs.Text.{lines_in};
 
 use crate::folder::Folder;
@@ -15,7 +16,7 @@ use crate::opened::{Current, Opened};
 use crate::store::Store;
 use checkpoint::{Sheet, StateFault};
 use gateway::Gateway;
-use segments::{Segment, Side, Writer};
+use segments::{Segment, Side, Writer, newest_side};
 use sqlite_disk::{Disk, Files};
 use statetext::TextSheet;
 use std::alloc::Global;
@@ -24,7 +25,8 @@ use std::mem;
 /// A log in two files of a directory, which are written in turn: a segment begins with the settings
 /// and the state of a gateway, and then has lines. The next one goes into the other file, and
 /// stands there whole before the one before is touched. A file whose write or sync failed is used
-/// no more: both are opened anew where the next segment begins.
+/// no more: both are opened anew where the next segment begins, and what they have says into which
+/// one it goes.
 #[derive(Drop)]
 pub struct DiskStore<F: Folder + Drop> {
     alloc: Global,
@@ -32,8 +34,6 @@ pub struct DiskStore<F: Folder + Drop> {
     /// The file of settings of the run.
     settings: Vec<u8>,
     opened: Opened<F::File>,
-    /// In which file the newest segment stands.
-    side: Side,
     /// The number of the next segment.
     number: u64,
     /// It is known that no mark stands on the disk.
@@ -42,22 +42,14 @@ pub struct DiskStore<F: Folder + Drop> {
 }
 
 impl<F: Folder + Drop> DiskStore<F> {
-    ghost use Rattle.segments.specs.Starts.{other_side};
+    ghost use Rattle.segments.specs.Starts.{IsBacked};
     ghost use Rattle.state.specs.Logs.{Bears, SpareIs, stored_in};
 
-    /// One over a directory whose files aren't open. The newest segment stands in this file, and
-    /// the next one has this number.
-    pub(crate) fn new(
-        alloc: Global,
-        folder: F,
-        settings: Vec<u8>,
-        side: Side,
-        number: u64,
-    ) -> DiskStore<F>
+    /// One over a directory whose files aren't open. The next segment has this number.
+    pub(crate) fn new(alloc: Global, folder: F, settings: Vec<u8>, number: u64) -> DiskStore<F>
         ensures settings { result.settings ≡ settings }
         ensures folder { result.folder ≡ folder }
         ensures opened { result.opened ≡ Opened.Neither }
-        ensures side { result.side ≡ side }
         ensures number { result.number ≡ number }
     {
         DiskStore {
@@ -65,7 +57,6 @@ impl<F: Folder + Drop> DiskStore<F> {
             folder,
             settings,
             opened: Opened::Neither,
-            side,
             number,
             is_unmarked: false,
         }
@@ -76,7 +67,6 @@ impl<F: Folder + Drop> DiskStore<F> {
         ensures opened { result.opened ≡ Opened.Both newest spare }
         ensures folder { result.folder ≡ self.folder }
         ensures settings { result.settings ≡ self.settings }
-        ensures side { result.side ≡ self.side }
         ensures number { result.number ≡ self.number }
     {
         let DiskStore {
@@ -84,7 +74,6 @@ impl<F: Folder + Drop> DiskStore<F> {
             folder,
             settings,
             opened: _,
-            side,
             number,
             is_unmarked,
         } = self;
@@ -93,39 +82,43 @@ impl<F: Folder + Drop> DiskStore<F> {
             folder,
             settings,
             opened: Opened::Both(newest, spare),
-            side,
             number,
             is_unmarked,
         }
     }
 
-    /// Both files, usable: that of the newest segment, and the one for the next.
+    /// Both files, usable: that of the newest segment, and the one for the next. Where none is open
+    /// they are opened anew, and looked at as at a start.
     fn take_files(&mut self) -> Option<(F::File, F::File)>
         ensures newest { IfSome result (λ files. IsTrue (F.File.is_usable files.0)) }
         ensures spare { IfSome result (λ files. IsTrue (F.File.is_usable files.1)) }
+        ensures backed { IfSome result (λ files. IsTrue (F.File.is_clean files.0) →
+            IsTrue (F.File.is_clean files.1) →
+            IsBacked (F.File.seen files.0) (F.File.seen files.1)) }
         ensures settings { self.new.settings ≡ self.old.settings }
         ensures number { self.new.number ≡ self.old.number }
     {
         let opened = mem::replace(&mut self.opened, Opened::Neither);
-        if let Some(files) = files_of(opened) {
+        if let Some(files) = files_of(self.alloc, opened) {
             return Some(files);
         }
         match self.folder.open() {
-            Ok(files) => Some(in_order(files, self.side)),
+            Ok(Files { log, db }) => in_order(self.alloc, log, db),
             Err(_) => None,
         }
     }
 
     /// Begins a segment in the one file, while the newest one stands in the other as it is.
     fn begin_in(&mut self, newest: F::File, spare: F::File, gateway: &Gateway) -> bool
-        requires { IsTrue (F.File.is_usable spare) }
+        requires usable { IsTrue (F.File.is_usable spare) }
+        requires backed { IsTrue (F.File.is_clean newest) → IsTrue (F.File.is_clean spare) →
+            IsBacked (F.File.seen newest) (F.File.seen spare) }
         ensures begun { result ≡ true → stored_in self.new.opened ≡ record {
           head = self.old.settings.items ∷ state_lines gateway.now;
           text = [];
           safe = [];
         } }
         ensures newest { result ≡ true → SpareIs newest self.new.opened }
-        ensures side { result ≡ true → self.new.side ≡ other_side self.old.side }
         ensures mark { result ≡ true → F.mark self.new.folder ≡ Some false }
         ensures bears { result ≡ true → Bears self.old.number self.new.opened }
         ensures number { self.new.number ≡ min (self.old.number + 1) 18446744073709551615 }
@@ -135,12 +128,14 @@ impl<F: Folder + Drop> DiskStore<F> {
         let number = self.number;
         self.number = number.saturating_add(1);
         let blocks = self.folder.blocks();
-        let segment = write_segment(self.alloc, spare, number, blocks, &self.settings, gateway);
+        let settings = &self.settings;
+        let segment = write_segment(
+            self.alloc, spare, &newest, number, blocks, settings, gateway,
+        );
         let Some(segment) = segment else {
             return false;
         };
         let head = segment.octets();
-        self.side = self.side.other();
         self.opened = Opened::Current(Current {
             segment,
             head,
@@ -153,7 +148,6 @@ impl<F: Folder + Drop> DiskStore<F> {
     fn unmark(&mut self) -> bool
         ensures mark { result ≡ true → F.mark self.new.folder ≡ Some false }
         ensures opened { self.new.opened ≡ self.old.opened }
-        ensures side { self.new.side ≡ self.old.side }
         ensures number { self.new.number ≡ self.old.number }
         ensures settings { self.new.settings ≡ self.old.settings }
     {
@@ -165,46 +159,77 @@ impl<F: Folder + Drop> DiskStore<F> {
     }
 }
 
-/// Both files, where no write or sync has failed at either.
-fn files_of<D: Disk + Drop>(opened: Opened<D>) -> Option<(D, D)>
+/// Both files that are open, where no write or sync has failed at either.
+fn files_of<D: Disk + Drop>(alloc: Global, opened: Opened<D>) -> Option<(D, D)>
     ensures newest { IfSome result (λ files. IsTrue (D.Disk.is_usable files.0)) }
     ensures spare { IfSome result (λ files. IsTrue (D.Disk.is_usable files.1)) }
-    ensures order { IfSome result (λ files. AreFilesOf opened files.0 files.1) }
+    ensures backed { IfSome result (λ files. IsTrue (D.Disk.is_clean files.0) →
+        IsTrue (D.Disk.is_clean files.1) →
+        IsBacked (D.Disk.seen files.0) (D.Disk.seen files.1)) }
 {
-    let (newest, spare) = match opened {
-        Opened::Neither => return None,
-        Opened::Both(newest, spare) => (newest, spare),
+    match opened {
+        Opened::Neither => None,
+        Opened::Both(newest, spare) => {
+            if newest.may_be_used() && spare.may_be_used() {
+                in_order(alloc, newest, spare)
+            } else {
+                None
+            }
+        }
         Opened::Current(current) => {
             let Current {
                 segment,
                 head: _,
                 spare,
             } = current;
-            if !segment.is_open() {
-                return None;
-            }
-            (segment.into_file(), spare)
+            files_behind(alloc, segment, spare)
         }
-    };
-    if newest.may_be_used() && spare.may_be_used() {
+    }
+}
+
+/// The file of this segment, which this run has written, and the other one, where that may be
+/// written over. So no checkpoint is read in mid-run, when the stations wait.
+fn files_behind<D: Disk + Drop>(alloc: Global, segment: Segment<D>, spare: D) -> Option<(D, D)>
+    ensures newest { IfSome result (λ files. IsTrue (D.Disk.is_usable files.0)) }
+    ensures spare { IfSome result (λ files. IsTrue (D.Disk.is_usable files.1)) }
+    ensures backed { IfSome result (λ files. IsTrue (D.Disk.is_clean files.0) →
+        IsTrue (D.Disk.is_clean files.1) →
+        IsBacked (D.Disk.seen files.0) (D.Disk.seen files.1)) }
+    ensures same { IfSome result (λ files. (files.0 ≡ file_of segment)
+        × (D.Disk.seen files.1 ≡ D.Disk.seen spare)) }
+{
+    if !segment.is_open() || !spare.may_be_used() {
+        return None;
+    }
+    let mut spare = spare;
+    match segment.backs(alloc, &mut spare) {
+        Ok(true) => {}
+        Ok(false) | Err(_) => return None,
+    }
+    let newest = segment.into_file();
+    if newest.may_be_used() {
         Some((newest, spare))
     } else {
         None
     }
 }
 
-/// Both files: that of the newest segment, which stands there, and the other one.
-fn in_order<D: Disk + Drop>(files: Files<D>, side: Side) -> (D, D)
-    requires log { IsTrue (D.Disk.is_usable files.log) }
-    requires db { IsTrue (D.Disk.is_usable files.db) }
-    ensures newest { IsTrue (D.Disk.is_usable result.0) }
-    ensures spare { IsTrue (D.Disk.is_usable result.1) }
-    ensures order { result ≡ in_order side files }
+/// Both files: that of the newest segment that is whole, and the other one. `None`: one couldn't be
+/// read.
+fn in_order<D: Disk + Drop>(alloc: Global, log: D, db: D) -> Option<(D, D)>
+    requires log { IsTrue (D.Disk.is_usable log) }
+    requires db { IsTrue (D.Disk.is_usable db) }
+    ensures newest { IfSome result (λ files. IsTrue (D.Disk.is_usable files.0)) }
+    ensures spare { IfSome result (λ files. IsTrue (D.Disk.is_usable files.1)) }
+    ensures backed { IfSome result (λ files. IsTrue (D.Disk.is_clean files.0) →
+        IsTrue (D.Disk.is_clean files.1) →
+        IsBacked (D.Disk.seen files.0) (D.Disk.seen files.1)) }
 {
-    let Files { log, db } = files;
-    match side {
-        Side::Log => (log, db),
-        Side::Db => (db, log),
+    let (mut log, mut db) = (log, db);
+    match newest_side(alloc, &mut log, &mut db) {
+        Ok(Side::Log) => Some((log, db)),
+        Ok(Side::Db) => Some((db, log)),
+        Err(_) => None,
     }
 }
 
@@ -246,19 +271,22 @@ fn with_head<D: Disk + Drop>(
 fn write_segment<D: Disk + Drop>(
     alloc: Global,
     spare: D,
+    newest: &D,
     number: u64,
     blocks: usize,
     settings: &[u8],
     gateway: &Gateway,
 ) -> Option<Segment<D>>
-    requires { IsTrue (D.Disk.is_usable spare) }
+    requires usable { IsTrue (D.Disk.is_usable spare) }
+    requires backed { IsTrue (D.Disk.is_clean newest.now) → IsTrue (D.Disk.is_clean spare) →
+        IsBacked (D.Disk.seen newest.now) (D.Disk.seen spare) }
     ensures head { IfSome result
         (λ s. IsHeaded settings.now (state_lines gateway.now) (text_of s)) }
     ensures synced { IfSome result (λ s. durable_of s ≡ length (text_of s)) }
     ensures number { IfSome result
         (λ s. (body : List ℕ) × (text_of s ≡ whole_text number body)) }
 {
-    let Ok(writer) = Writer::begin(alloc, spare) else {
+    let Ok(writer) = Writer::begin(alloc, spare, newest) else {
         return None;
     };
     let Some(writer) = with_head(alloc, writer, settings, gateway) else {

@@ -27,7 +27,9 @@ pub enum FolderFault {
 /// finds the mark trusts none of the links in them.
 pub trait Folder {
     ghost use Rattle.gateway.specs.Log.{LogEntry};
-    ghost use Rattle.std.specs.Prelude.{◌≡◌, List, [], Option, Some, Bool, true, false, IfOk};
+    ghost use Rattle.gateway.specs.Config.{Settings};
+    ghost use Rattle.state.specs.Unread.{IsUnread};
+    ghost use Rattle.std.specs.Prelude.{◌≡◌, ℕ, List, [], Option, Some, Bool, true, false, IfOk};
     ghost use Rattle.std.specs.Prelude.{IsTrue};
 
     type File: Disk + Drop;
@@ -37,6 +39,9 @@ pub trait Folder {
 
     /// What led to the state at the head of the newest segment, which no code holds.
     ghost lineage: { List LogEntry } = { [] };
+
+    /// These two files were put aside.
+    ghost aside: { Self → Self.File → Self.File → Type 0 };
 
     /// How many blocks of 4,096 zeros stand behind a checkpoint, for the lines to come: a new log
     /// is due before they are full.
@@ -63,8 +68,12 @@ pub trait Folder {
     fn unmark(&mut self) -> bool
         ensures { result ≡ true → mark self.new ≡ Some false };
 
-    /// Puts both files aside under other names, so that a run begins anew. Neither may be open.
-    /// `false`: it couldn't be done.
-    fn put_aside(&mut self) -> bool
-        ensures { mark self.new ≡ mark self.old };
+    /// Puts both files aside under other names, so that a run begins anew; they are closed before.
+    /// A state that can be gone on with isn't put aside. `false`: it couldn't be done.
+    fn put_aside(&mut self, newest: Self::File, other: Self::File) -> bool
+        requires unread { (c : Settings) × (text : List ℕ) ×
+            (IsTrue (Self.File.is_clean newest) → IsTrue (Self.File.is_clean other) →
+            IsUnread c text (Self.File.seen newest) (Self.File.seen other)) }
+        ensures aside { result ≡ true → aside self.new newest other }
+        ensures mark { mark self.new ≡ mark self.old };
 }

@@ -1,11 +1,11 @@
 //! A gateway hears again what it had heard.
-ghost use Rattle.std.specs.Prelude.{◌≡◌, ◌∷◌, [], List, Some, None, IfOk, false};
+ghost use Rattle.std.specs.Prelude.{◌≡◌, ◌∷◌, [], List, Some, None, IfErr, IfOk, true, false};
 ghost use Rattle.gateway.specs.Log.{LogEntry};
 ghost use Rattle.gateway.specs.Agrees.{Follows, Rests};
 ghost use Rattle.gateway.specs.Reports.{Setup};
 ghost use Rattle.gateway.specs.Ports.{output_of};
-ghost use Rattle.state.specs.Replays.{IsFirst, IsRepeating, IsReplayed, IsTold, events_in_front};
-ghost use Rattle.state.specs.Replays.{gap_of};
+ghost use Rattle.state.specs.Replays.{AreRead, IsFirst, IsRepeating, IsReplayed, IsTold};
+ghost use Rattle.state.specs.Replays.{events_in_front, gap_of};
 ghost use Rattle.traces.specs.Trace.{lines_of, told};
 
 use checkpoint::StateFault;
@@ -170,6 +170,23 @@ fn next_event<L: EventLines>(
     announce_line(alloc, line.as_slice(), buf)
 }
 
+/// Whether each of these lines tells an event.
+pub(crate) fn are_read<L: EventLines + Drop>(alloc: Global, lines: L) -> Result<bool, StateFault>
+    ensures all { IfOk result (λ are. are ≡ true → AreRead (L.coming lines)) }
+    ensures others { IfOk result (λ are. are ≡ false → AreRead (L.coming lines) → ⊥) }
+{
+    let mut lines = lines;
+    let (mut line, mut buf) = (Vec::new(alloc), [0; 1024]);
+    loop {
+        if !lines.next_line(&mut line)? {
+            return Ok(true);
+        }
+        let Some(_) = announce_line(alloc, line.as_slice(), &mut buf)? else {
+            return Ok(false);
+        };
+    }
+}
+
 impl<K: Script, L: EventLines + Drop> Repeater<K, L> {
     ghost use Rattle.state.specs.Replays.{log_of};
 
@@ -277,6 +294,17 @@ impl<K: Script, L: EventLines + Drop> Port for Repeater<K, L> {
     }
 }
 
+/// Why a replay didn't come to its end. That a line can't be had says nothing against the state
+/// that it stands behind.
+fn broken_off(fault: StateFault) -> StateFault
+    ensures { result ≡ StateFault.Wrong → ⊥ }
+{
+    match fault {
+        StateFault::NoMemory => StateFault::NoMemory,
+        StateFault::Wrong | StateFault::Device => StateFault::Device,
+    }
+}
+
 /// Brings a gateway to where these lines lead, whose events are known to proofs.
 fn repeat<K: Script, L: EventLines + Drop>(
     alloc: Global,
@@ -284,8 +312,9 @@ fn repeat<K: Script, L: EventLines + Drop>(
     lines: L,
 ) -> Result<Replayed, StateFault>
     requires { events_in_front (L.coming lines) ≡ K.events }
-    ensures { (p : Setup) → Follows p gateway.old (Some K.log) → Rests p (Some K.log) →
+    ensures replayed { (p : Setup) → Follows p gateway.old (Some K.log) → Rests p (Some K.log) →
         IfOk result (λ r. IsReplayed p K.log K.events r.gap r.log.entries gateway.new) }
+    ensures fault { IfErr result (λ fault. fault ≡ StateFault.Wrong → ⊥) }
 {
     let mut port: Repeater<K, L> = Repeater::over(alloc, lines);
     let end = drive_on(gateway, &mut port, u64::MAX);
@@ -299,20 +328,22 @@ fn repeat<K: Script, L: EventLines + Drop>(
         }
         // No memory holds so many lines.
         End::Turns => Err(StateFault::NoMemory),
-        End::Device => Err(port.fault()),
+        End::Device => Err(broken_off(port.fault())),
     }
 }
 
 /// Brings a gateway to where these lines lead: it hears their events again, up to the first line
-/// that tells none, and what it does goes nowhere. After an `Err` the gateway is given up.
+/// that tells none, and what it does goes nowhere. After an `Err` the gateway is given up; it is
+/// never `Wrong`, whatever the lines are.
 pub fn replay<K: Lineage, L: EventLines + Drop>(
     alloc: Global,
     gateway: &mut Gateway,
     lines: L,
 ) -> Result<Replayed, StateFault>
-    ensures { (p : Setup) → Follows p gateway.old (Some K.log) → Rests p (Some K.log) →
+    ensures replayed { (p : Setup) → Follows p gateway.old (Some K.log) → Rests p (Some K.log) →
         IfOk result (λ r. IsReplayed p K.log (events_in_front (L.coming lines)) r.gap
         r.log.entries gateway.new) }
+    ensures fault { IfErr result (λ fault. fault ≡ StateFault.Wrong → ⊥) }
 {
     repeat::<Brand, L>(alloc, gateway, lines)
 }

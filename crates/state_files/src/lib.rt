@@ -12,7 +12,7 @@
 //! mark counts as made or taken away only where the rename and the sync behind it have succeeded.
 #![tactic(auto)]
 
-ghost use Rattle.std.specs.Prelude.{◌≡◌};
+ghost use Rattle.std.specs.Prelude.{◌≡◌, true};
 
 use sqlite_disk::Files;
 use sqlite_std_file::{File, OpenError, Unknown};
@@ -34,6 +34,8 @@ pub struct Directory {
     lock: Option<fs::File>,
     /// Whether the mark stands on the disk, where that is known.
     mark: Option<bool>,
+    /// Files that couldn't be read were put aside.
+    has_put_aside: bool,
 }
 
 /// Why the system refused.
@@ -71,6 +73,7 @@ impl Directory {
             path,
             lock: None,
             mark: None,
+            has_put_aside: false,
         }
     }
 
@@ -182,6 +185,8 @@ impl Folder for Directory {
 
     ghost mark = { λ d. d.mark };
 
+    ghost aside = { λ d _ _. d.has_put_aside ≡ true };
+
     fn open(&mut self) -> Result<Files<File>, FolderFault> {
         match self.take_lock() {
             Ok(true) => {}
@@ -229,7 +234,10 @@ impl Folder for Directory {
         is_taken
     }
 
-    fn put_aside(&mut self) -> bool {
-        self.set_aside().is_ok()
+    fn put_aside(&mut self, newest: File, other: File) -> bool {
+        drop(newest);
+        drop(other);
+        self.has_put_aside = self.set_aside().is_ok();
+        self.has_put_aside
     }
 }

@@ -1,9 +1,9 @@
-use Rattle.std.proofs.Common.{◌≡◌, IsTrue, true, List, Some, ℕ, ◌∙◌, ap, sym, subst}
-use Rattle.std.specs.Prelude.{◌⊎◌}
-use Rattle.segments.specs.Starts.{IsSound}
-use Rattle.state.specs.Beginnings.{GoesOnFrom, has_past, is_trusted}
+use Rattle.std.proofs.Common.{inl, inr, List, Some, ℕ, ◌∙◌, ap, sym, subst}
+use Rattle.std.specs.Option.{is_some}
+use Rattle.state.specs.Beginnings.{AreLinesRead, GoesOnFrom, has_past, is_trusted}
 use Rattle.state.specs.declared.beginning.Origin.{Origin}
 use Rattle.state.proofs.BegunLemmas.{begun_from, numbered_from}
+use Rattle.state.proofs.UnreadLemmas.{unread_from}
 use Rattle.state.proofs.beginning.carry_on.Goals as goal
 
 pub returns-in-Ok-clause-begun : goal.returns-in-Ok-clause-begun
@@ -14,25 +14,34 @@ returns-in-Ok-clause-begun g c =
     (g.F.Folder.mark c.with_files.result.folder)
     c.with_files.result.opened c.into_files-newest.result.0 c.into_files-newest.result.1
     c.resume.new.start.newest
-    c.args.start.newest c.args.start.other c.origin_of.result c.args.goes_on
+    c.args.start.newest c.args.start.other c.origin_of.result c.in_ok-goes_on.goes_on
     c.with_files.ensures.opened c.into_files-newest.ensures.newest
-    (c.into_files-newest.ensures.other ∙ c.resume.ensures.other)
-    c.resume.ensures.seen c.resume.ensures.clean
+    (c.into_files-newest.ensures.other ∙ c.resume.ensures.other ∙ c.may_go_on.ensures.other)
+    (c.resume.ensures.seen ∙ c.may_go_on.ensures.seen)
+    (λ clean. c.may_go_on.ensures.clean (c.resume.ensures.clean clean))
     (ap (λ (o : Origin). o.moment) is ∙ sym (ap (λ (o : Origin). Some o.gateway.moment) is))
     (ap (λ (o : Origin). has_past o.beginning) is ∙ c.with_past.ensures.past)
     (ap (λ (o : Origin). is_trusted o.beginning) is ∙ c.with_past.ensures.trusted)
-    (λ trusted. ap (λ f. g.F.Folder.mark f) folder ∙ c.requires.trusted trusted)
-    c.requires.newest c.requires.sure
-    (λ none. subst (λ f. (g.F.Folder.mark f ≡ Some true)
-    ⊎ (IsTrue (g.F.File.Disk.is_clean c.args.start.newest)
-    × IsTrue (g.F.File.Disk.is_clean c.args.start.other)
-    → IsSound (g.F.File.Disk.seen c.args.start.newest)
-    → IsSound (g.F.File.Disk.seen c.args.start.other) → ⊥)) (sym folder) (c.requires.reset none))
-    (λ clean. subst (λ (o : Origin). GoesOnFrom c.args.goes_on c.args.config.now
+    (λ trusted. ap (λ f. g.F.Folder.mark f) folder
+    ∙ c.requires.trusted (c.in_ok-goes_on.ensures.trusted trusted))
+    c.requires.newest (λ trusted. c.requires.sure (c.in_ok-goes_on.ensures.trusted trusted))
+    (λ trusted clean. subst AreLinesRead (sym c.resume.ensures.seen)
+    (c.in_ok-goes_on.ensures.read trusted (c.resume.ensures.clean clean)))
+    (λ none. elim (c.in_ok-goes_on.ensures.reset none) [
+      | inl untrusted ↦ elim (c.requires.reset untrusted) [
+        | inl stale ↦ inl (ap (λ f. g.F.Folder.mark f) folder ∙ stale)
+        | inr torn ↦ inr (λ one two sound sound' read. torn
+            (c.may_go_on.ensures.clean (c.resume.ensures.clean one), two) sound sound')
+      ]
+      | inr rotten ↦ inr (λ one two sound sound' read. rotten (c.resume.ensures.clean one)
+          (subst AreLinesRead c.resume.ensures.seen read))
+    ])
+    (λ clean. subst (λ (o : Origin). GoesOnFrom c.in_ok-goes_on.goes_on c.args.config.now
     c.args.settings.items g.F.Folder.lineage
     (g.F.File.Disk.seen c.resume.new.start.newest) o.is_moved o.gap o.before.entries o.gateway)
     (sym is)
-    (subst (λ (text : List ℕ). GoesOnFrom c.args.goes_on c.args.config.now text g.F.Folder.lineage
+    (subst (λ (text : List ℕ). GoesOnFrom c.in_ok-goes_on.goes_on c.args.config.now text
+    g.F.Folder.lineage
     (g.F.File.Disk.seen c.resume.new.start.newest) c.in-Ok.resumed.is_moved c.in-Ok.resumed.gap
     c.in-Ok.resumed.before.entries c.in-Ok.resumed.gateway) c.deref.ensures.value
     (c.in-Ok.ensures.goes_on clean)))
@@ -44,7 +53,23 @@ returns-in-Ok-clause-numbered g c =
     c.resume.new.start.newest c.args.start.newest c.args.start.other c.with_files.result.number
     c.args.start.number
     c.with_files.ensures.opened c.into_files-newest.ensures.newest
-    (c.into_files-newest.ensures.other ∙ c.resume.ensures.other)
+    (c.into_files-newest.ensures.other ∙ c.resume.ensures.other ∙ c.may_go_on.ensures.other)
     (c.with_files.ensures.number ∙ c.new-store.ensures.number ∙ c.next_number.ensures
-    ∙ ap (λ n. n.1) c.resume.ensures.next)
-    c.resume.ensures.seen c.resume.ensures.clean c.requires.above
+    ∙ ap (λ n. n.1) (c.resume.ensures.next ∙ c.may_go_on.ensures.next))
+    (c.resume.ensures.seen ∙ c.may_go_on.ensures.seen)
+    (λ clean. c.may_go_on.ensures.clean (c.resume.ensures.clean clean)) c.requires.above
+
+pub put_aside-requires : goal.put_aside-requires
+put_aside-requires g c = record {
+  unread = unread_from g.F.File.Disk c.args.config.now c.args.settings.items c.deref.result.now
+      c.into_files-newest-in-Err-Wrong.result.0 c.into_files-newest-in-Err-Wrong.result.1
+      c.resume.new.start.newest c.args.start.newest c.args.start.other c.args.start.checkpoint
+      c.args.start.at c.into_files-newest-in-Err-Wrong.ensures.newest
+      (c.into_files-newest-in-Err-Wrong.ensures.other ∙ c.resume.ensures.other
+      ∙ c.may_go_on.ensures.other)
+      (c.resume.ensures.seen ∙ c.may_go_on.ensures.seen)
+      (λ clean. c.may_go_on.ensures.clean (c.resume.ensures.clean clean)) c.requires.found
+      c.args.start.stands c.requires.backed c.deref.ensures.value
+      (λ some. c.in-Err-Wrong.ensures.wrong c.in-Err-Wrong.field-0-is
+      (ap is_some c.may_go_on.ensures.taken ∙ some));
+}

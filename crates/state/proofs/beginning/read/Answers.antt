@@ -1,5 +1,9 @@
 use Rattle.state.proofs.beginning.read.Goals as goal
 
-pub returns-in-Ok : goal.returns-in-Ok
-returns-in-Ok g c first rest is savable follows =
+pub returns-in-Ok-clause-read : goal.returns-in-Ok-clause-read
+returns-in-Ok-clause-read g c first rest is savable follows =
     (c.in-Ok.ensures.follows first rest g.K.Lineage.log savable follows is).0
+
+pub returns-clause-wrong : goal.returns-clause-wrong
+returns-clause-wrong g c wrong are =
+    c.in-Err.ensures.back are.state are.rest are.savable are.settings are.are wrong

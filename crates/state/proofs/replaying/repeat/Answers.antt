@@ -4,8 +4,8 @@ use Rattle.state.specs.Replays.{log_of, Replaying}
 use Rattle.state.proofs.Repeated.{replayed}
 use Rattle.state.proofs.replaying.repeat.Goals as goal
 
-pub returns-in-Finished : goal.returns-in-Finished
-returns-in-Finished g c =
+pub returns-in-Finished-clause-replayed : goal.returns-in-Finished-clause-replayed
+returns-in-Finished-clause-replayed g c =
     let start : Some (log_of c.over-port.result) ≡ Some g.K.Script.log
     = ap (λ (r : Replaying). Some (log_of r)) c.over-port.ensures in
     let none : c.over-port.result.failed ≡ 0 =

@@ -1,4 +1,4 @@
-use Rattle.std.proofs.Common.{◌≡◌, ◌≤◌, ◌+◌, length, arith}
+use Rattle.std.proofs.Common.{◌≤◌, length, arith}
 use Rattle.segments.proofs.Crashes.{survives}
 use Rattle.segments.proofs.CrashLemmas.{length_text}
 use Rattle.segments.specs.Segment.{text_of}

@@ -1,7 +1,8 @@
-use Rattle.std.proofs.Common.{◌∙◌, subst, IsTrue}
+use Rattle.std.proofs.Common.{◌∙◌, subst, IsTrue, arith}
 use Rattle.std.proofs.lemmas.Bool.{false≢true}
 use Rattle.segments.proofs.CrashLemmas.{failed_kept, failed_mixed, written_again, written_kept}
 use Rattle.segments.proofs.CrashLemmas.{written_mixed, long_again}
+use Rattle.segments.proofs.Crashes.{whole_written}
 use Rattle.segments.proofs.segment.Segment.write.Goals as goal
 
 pub invariant_of-self-in-Ok-clause-long : goal.invariant_of-self-in-Ok-clause-long
@@ -29,6 +30,7 @@ pub invariant_of-self-in-Err-1 : goal.invariant_of-self-in-Err-1
 invariant_of-self-in-Err-1 g c =
     let s = c.args.self.now in
     record {
+      begun = s.begun;
       ordered = s.ordered;
       within = s.within;
       sized = c.store.ensures.sized ∙ s.sized;
@@ -43,4 +45,13 @@ invariant_of-self-in-Err-1 g c =
           c.both-self.ensures.first
           (λ on. subst IsTrue c.mixes.ensures (c.both-self.ensures.second on)) c.store.ensures.mixed
           c.store.ensures.before;
+      whole = whole_written s.number s.begins s.stored _ _ _ s.whole
+          (omega (arith, s.begun, s.ordered)) (omega (arith, s.sized, s.within))
+          c.store.ensures.sized c.store.ensures.before;
     }
+
+pub invariant_of-self-in-Ok-clause-whole : goal.invariant_of-self-in-Ok-clause-whole
+invariant_of-self-in-Ok-clause-whole g c =
+    let s = c.args.self.now in
+    whole_written s.number s.begins s.stored _ _ _ s.whole (omega (arith, s.begun, s.ordered))
+    (omega (arith, s.sized, s.within)) c.store.ensures.sized c.store.ensures.before

@@ -1,9 +1,11 @@
-use Rattle.std.proofs.Common.{◌≡◌, List, ℕ, IsTrue, ap, subst, sym, true, ◌∙◌, arith}
+use Rattle.std.proofs.Common.{◌≡◌, List, ℕ, IsTrue, ap, subst, sym, ◌∙◌, arith}
 use Rattle.std.specs.Option.{is_some}
-use Rattle.segments.specs.Starts.{HasNoNewer, IsAbove, IsHeadIn, IsNewest, IsSound, other_side}
+use Rattle.segments.specs.Starts.{HasNoNewer, IsAbove, IsBacked, IsFoundIn, IsHeadIn, IsNewest}
+use Rattle.segments.specs.Starts.{IsSound, other_side}
 use Rattle.segments.specs.declared.start.Found.{Found}
 use Rattle.segments.specs.declared.start.Front.TheVariants as fronts
-use Rattle.segments.proofs.Fronts.{above_front, first_newest, not_doubtful, of_both, of_four}
+use Rattle.segments.proofs.Fronts.{above_front, backed_first, first_newest, not_doubtful, of_both}
+use Rattle.segments.proofs.Fronts.{of_four}
 use Rattle.segments.proofs.Fronts.{of_missing, of_none, of_some, of_three, placed_as, placed_other}
 use Rattle.segments.proofs.Fronts.{sound_shut, sure_first, sure_second}
 use Rattle.segments.proofs.start.Start.choose.Goals as goal
@@ -141,3 +143,21 @@ returns-clause-sure g c =
     (c.requires.head (c.found_in.ensures.clean newer)) (c.is_some.ensures ∙ sym (ap is_some found)
     ∙ some)
     (sym c.is_doubtful-is_doubtful.ensures ∙ sym told ∙ sure)))
+
+pub returns-in-Some-clause-backed : goal.returns-in-Some-clause-backed
+returns-in-Some-clause-backed g c =
+    of_both c.made.result c.made.ensures.newest c.made.ensures.other (λ s is other clean.
+    let newer : IsTrue (g.D.Disk.is_clean c.found_in.new.file) =
+    subst (λ d. IsTrue (g.D.Disk.is_clean d)) is clean.0 in
+    let older : IsTrue (g.D.Disk.is_clean c.args.older) =
+    subst (λ d. IsTrue (g.D.Disk.is_clean d)) other clean.1 in
+    subst (λ d. IsBacked (g.D.Disk.seen s.newest) (g.D.Disk.seen d)) (sym other)
+    (subst (λ d. IsBacked (g.D.Disk.seen d) (g.D.Disk.seen c.args.older)) (sym is)
+    (backed_first (g.D.Disk.seen c.found_in.new.file) (g.D.Disk.seen c.args.older) c.args.front
+    c.args.other_front c.in-Some.found.head c.in-Some.found.text.items (c.requires.other older)
+    c.requires.order
+    (of_some (λ (x : Found). c.args.front ≡ fronts.Head x.head) c.in_ok-found.field-0 _ c.in-Some.is
+    c.in_ok-found.ensures.head) c.requires.fits
+    (of_some (λ (x : Found). IsTrue (g.D.Disk.is_clean c.found_in.new.file) →
+    IsFoundIn (g.D.Disk.seen c.found_in.new.file) x.head x.text.items) c.in_ok-found.field-0 _
+    c.in-Some.is c.in_ok-found.ensures.found newer))))
