@@ -4,7 +4,7 @@
 //! [`read_site`] reads a file's octets, or answers the first fault. Proved: each value is that of
 //! its key; a wrong key is the first wrong one in the definition's order (`specs/Site.antt`); an
 //! unknown key is told only where no key is wrong; a file without fault is never refused but for
-//! want of memory.
+//! want of memory. [`site_values`] says in words what is wanted of a key.
 #![tactic(auto)]
 
 mod fault;
@@ -12,7 +12,10 @@ mod keys;
 mod names;
 mod site;
 mod unknown;
+mod wanted;
 
 pub use fault::SiteFault;
+pub use keys::is_name;
 pub use names::{Names, StationName};
 pub use site::{Flags, Places, Site, read_site};
+pub use wanted::site_values;

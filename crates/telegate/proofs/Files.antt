@@ -6,14 +6,16 @@ use Rattle.std.specs.Borrow.{Bor}
 use Rattle.clap.specs.Words.{Text}
 use Rattle.sitefile.specs.declared.site.Site.{Site as SiteFile}
 use Rattle.telegate.specs.Shell.{IsNoSite, IsNotRead, IsUnread, ReplaysFile, Responds, RunsAsSaid}
-use Rattle.telegate.specs.Shell.{PlayFiles, RunsAtSite, files_of}
+use Rattle.telegate.specs.Shell.{ChecksBehind, ChecksFile, HasRefusedSite, PlayFiles, RunsAtSite}
+use Rattle.telegate.specs.Shell.{files_of}
 use Rattle.telegate.specs.CommandLine.{text_of}
-use Rattle.telegate.specs.Wishes.{IsSiteIn, site_files}
+use Rattle.telegate.specs.Wishes.{IsFirstSiteFault, IsGoodSite, IsSiteIn, site_files}
 use Rattle.telegate.specs.declared.run_words.RunWords.{RunWords}
 use Rattle.telegate.specs.Manners.{manner_of}
 use Rattle.telegate.specs.declared.host.Wishes.{Wishes}
 use Rattle.telegate.specs.declared.command_line.Request.{Request}
-use Rattle.telegate.specs.declared.command_line.Request.TheVariants.{Replay, Run, Stations}
+use Rattle.telegate.specs.declared.check.Checking.{Checking}
+use Rattle.telegate.specs.declared.command_line.Request.TheVariants.{Check, Replay, Run, Stations}
 use Rattle.telegate.specs.declared.fault.Fault.{Fault}
 use Rattle.telegate.specs.declared.host.Unread.{Unread}
 use Rattle.telegate.specs.declared.host.Unread.TheVariants.{Unreadable, NoMemory}
@@ -161,6 +163,17 @@ module _ (has : Text → List ℕ → Type 0) (lacks : Text → Type 0) where
           | inl came ↦ inl (came, keeps_same known)
           | inr none ↦ inr (none, keeps_same known)
         ])
+
+    -- settings that were judged, behind the file of a site or alone
+    pub has_checked : (request : Request) (config : Bor Text) (site : Option (Bor Text))
+        (live explain : Bool) (old new : Option (List ℕ)) (exit : ℕ)
+        → request ≡ Check config site live explain
+        → ChecksBehind has lacks (text_of site) config.now
+        (record { live = live; explain = explain }) old new exit
+        → Responds has lacks ran answered silent played request old new exit
+    has_checked request config site live explain old new exit is h =
+        subst (λ (r : Request). Responds has lacks ran answered silent played r old new exit)
+        (sym is) h
 
     pub have_played : (request : Request) (config script : Bor Text) (known : Option (List ℕ))
         (exit : ℕ) → request ≡ Stations config script
