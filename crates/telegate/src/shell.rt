@@ -196,10 +196,10 @@ fn check_behind<H: Host, W: Write, E: Write>(
     ensures { ChecksBehind (H.has host.now) (H.lacks host.now) (text_of site.entry) config.now how
         (W.contents out.old) (W.contents out.new) result }
 {
-    let Some(site) = site else {
+    let Some(name) = site else {
         return check_file(alloc, host, config, how, out, err);
     };
-    match read_file(host, site, err) {
+    match read_file(host, name, err) {
         Ok(octets) => match judge_site(alloc, octets.as_slice()) {
             Ok(()) => check_file(alloc, host, config, how, out, err),
             Err(fault) => refuse(alloc, octets.as_slice(), &fault, how.explain, out, err),
