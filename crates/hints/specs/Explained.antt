@@ -6,10 +6,12 @@ use Rattle.std.specs.Fmt.{decimal}
 use Rattle.std.specs.List.{after_first, before_first}
 use Rattle.settings.specs.declared.fault.ConfigFault.{ConfigFault}
 use Rattle.settings.specs.declared.fault.ConfigFault.TheVariants.{NotToml, Key, Unknown, NoMemory}
+use Rattle.settings.specs.Settings.{IsDocument, IsNoDocument}
 use Rattle.settings.specs.Wanted.{wanted_values}
 use Rattle.sitefile.specs.Wanted.{site_values}
 use Rattle.sitefile.specs.declared.fault.SiteFault.{SiteFault}
 use Rattle.sitefile.specs.declared.fault.SiteFault.TheVariants as site
+use Rattle.toml.specs.Data.{Members}
 use Rattle.toml_places.specs.Changes.{IsGapFound, IsValueFound}
 use Rattle.toml_places.specs.Lines.{first_place, next_place}
 use Rattle.toml_places.specs.declared.changes.Spot.{Spot}
@@ -96,7 +98,7 @@ IsTwin spot text None = Unit {0}
 IsTwin spot text (Some s) =
     (other : ℕ) × IsValueFound (record spot { item = Some other }) text (Some s)
 
--- the lines of a fault of this key; none, where the octets aren't a document
+-- the lines of a fault of this key
 pub record AreKeyLines (file : File) (text path lines : List ℕ) : Type 0 where
   pub spot : Spot
   pub of : IsSpotOf path spot
@@ -106,8 +108,10 @@ pub record AreKeyLines (file : File) (text path lines : List ℕ) : Type 0 where
   pub taken : IsTwin spot text twin
   pub are : lines ≡ (found_line text found ++ wanted_line file path) ++ twin_line text twin
 
+-- there are none exactly where the octets are no document
 abbrev pub IsKeyExplained : File → (text path lines : List ℕ) → Type 0
-IsKeyExplained file text path lines = (lines ≡ []) ⊎ AreKeyLines file text path lines
+IsKeyExplained file text path lines =
+    (IsNoDocument text × (lines ≡ [])) ⊎ AreKeyLines file text path lines
 
 -- where reading stopped, and why, in the reader's words
 pub record AreTextLines (text lines : List ℕ) : Type 0 where
@@ -116,8 +120,10 @@ pub record AreTextLines (text lines : List ℕ) : Type 0 where
   pub why : List ℕ
   pub are : lines ≡ ((place_words (place_of text at) ++ codes ": ") ++ why) ++ 10 ∷ []
 
+-- there is none where they are one
 abbrev pub IsTextExplained : (text lines : List ℕ) → Type 0
-IsTextExplained text lines = (lines ≡ []) ⊎ AreTextLines text lines
+IsTextExplained text lines =
+    (((root : Members) × IsDocument text root) × (lines ≡ [])) ⊎ AreTextLines text lines
 
 -- what is said of a fault of settings
 abbrev pub IsExplained : List ℕ → ConfigFault → (lines : List ℕ) → Type 0

@@ -121,12 +121,12 @@ abbrev pub AreNoGuests : (words site : Option (List Text)) → Fault → Type 0
 AreNoGuests None site fault = AreNoSiteGuests site fault
 AreNoGuests (Some words) site fault = IsGuestsFault (Some words) fault
 
--- what is said can't be: a state that isn't named, or guests that aren't addresses
+-- what is said can't be: a state isn't named, or, where it is, guests aren't addresses
 abbrev pub IsWishFault : (words site : Said) → Fault → Type 0
 IsWishFault words site fault =
-    (IsStateFault words.or_stop fault
-    × (lacks_state (said_of words site).state (said_of words site).or_stop ≡ true))
-    ⊎ AreNoGuests words.allow site.allow fault
+    let said = said_of words site in
+    (IsStateFault words.or_stop fault × (lacks_state said.state said.or_stop ≡ true))
+    ⊎ (AreNoGuests words.allow site.allow fault × (lacks_state said.state said.or_stop ≡ false))
 
 -- The file of a site
 
