@@ -1,13 +1,16 @@
 -- What is said of a fault of settings or of a site's file (texts of this gateway's own profile).
-use Rattle.std.specs.Prelude.{◌≡◌, ◌≤◌, ◌==◌, ◌⊎◌, ℕ, codes, List, [], ◌∷◌, ◌++◌, length, take}
+use Rattle.std.specs.Prelude.{◌≡◌, ◌≤◌, ◌==◌, ◌||◌, ◌⊎◌, ℕ, Bool, IsTrue, codes, List, [], ◌∷◌}
+use Rattle.std.specs.Prelude.{◌++◌, length, take}
 use Rattle.std.specs.Prelude.{slice_range, fold, Option, Some, None, string_bytes}
 use Rattle.std.specs.Borrow.{Bor}
 use Rattle.std.specs.Fmt.{decimal}
 use Rattle.std.specs.List.{after_first, before_first}
+use Rattle.std.specs.Str.{bytes_eq}
 use Rattle.settings.specs.declared.fault.ConfigFault.{ConfigFault}
 use Rattle.settings.specs.declared.fault.ConfigFault.TheVariants.{NotToml, Key, Unknown, NoMemory}
 use Rattle.settings.specs.Settings.{IsDocument, IsNoDocument}
 use Rattle.settings.specs.Wanted.{wanted_values}
+use Rattle.sitefile.specs.Names.{wrong_station}
 use Rattle.sitefile.specs.Wanted.{site_values}
 use Rattle.sitefile.specs.declared.fault.SiteFault.{SiteFault}
 use Rattle.sitefile.specs.declared.fault.SiteFault.TheVariants as site
@@ -92,6 +95,17 @@ IsKeyOf path (Some table) key = (table.now ≡ before_first (λ b. b == 46) path
 abbrev pub IsSpotOf : List ℕ → Spot → Type 0
 IsSpotOf path spot = IsKeyOf path spot.table spot.key.now
 
+-- the keys that each station of a site's file has to have
+abbrev pub names_station : (path : List ℕ) → Bool
+names_station path =
+    bytes_eq path (codes "station.link") || bytes_eq path (codes "station.name")
+
+-- Which station is meant: where a key of a site's file is wrong that each of its stations has to
+-- have, the first station that is wrong.
+abbrev pub IsItemOf : File → (path : List ℕ) → Members → Option ℕ → Type 0
+IsItemOf Settings path root item = Unit {0}
+IsItemOf Site path root item = IsTrue (names_station path) → item ≡ wrong_station root
+
 -- the same number under this key of another station, which may be none
 abbrev pub IsTwin : Spot → List ℕ → Option Span → Type 0
 IsTwin spot text None = Unit {0}
@@ -102,6 +116,9 @@ IsTwin spot text (Some s) =
 pub record AreKeyLines (file : File) (text path lines : List ℕ) : Type 0 where
   pub spot : Spot
   pub of : IsSpotOf path spot
+  pub root : Members
+  pub document : IsDocument text root
+  pub item : IsItemOf file path root spot.item
   pub found : Found
   pub place : IsPlace spot text found
   pub twin : Option Span

@@ -1,13 +1,15 @@
 //! A fault of settings, or of a site's file, explained.
-ghost use Rattle.std.specs.Prelude.{IfOk};
+ghost use Rattle.std.specs.Prelude.{◌≡◌, IfOk};
+ghost use Rattle.toml.specs.View.{table_view};
+ghost use Rattle.settings.specs.Settings.{IsDocument};
 ghost use Rattle.hints.specs.Explained.{IsExplained, IsKeyExplained, IsSpotOf, IsTextExplained};
-ghost use Rattle.hints.specs.Explained.{IsSiteExplained, IsTwin};
+ghost use Rattle.hints.specs.Explained.{IsItemOf, IsSiteExplained, IsTwin};
 ghost use Rattle.toml_places.specs.Changes.{IsWithin};
 
 use crate::file::File;
 use crate::finding::find;
 use crate::lines::{found_line, place_words, twin_line, wanted_line};
-use crate::stations::{twin_station, wrong_station};
+use crate::stations::{station_with, twin_station, wrong_in_settings};
 use settings::ConfigFault;
 use sitefile::SiteFault;
 use std::alloc::{AllocError, Global};
@@ -75,9 +77,11 @@ fn explain_under(
     root: &Table,
     path: &str,
 ) -> Result<Vec<u8>, AllocError>
+    requires { IsDocument text.now (table_view root.now) }
     ensures { IfOk result (λ lines. IsKeyExplained file text.now path.now lines.items) }
 {
-    let spot = spot_of(file, root, path);
+    let item = item_of(alloc, file, root, path)?;
+    let spot = spot_of(root, path, item);
     let found = find(alloc, text, &spot)?;
     let twin = twin_of(alloc, text, root, &spot)?;
     let mut lines = found_line(alloc, text, found)?;
@@ -88,32 +92,41 @@ fn explain_under(
     Ok(lines)
 }
 
-/// The key of a dotted path; of a station's the first that is wrong. Where its table is none, the
-/// key of that.
-fn spot_of<'a>(file: File, root: &Table, path: &'a str) -> Spot<'a>
-    ensures { IsSpotOf path.entry.now result }
+/// Which station is meant, counted from 0, if one is.
+fn item_of(alloc: Global, file: File, root: &Table, path: &str) -> Result<Option<usize>, AllocError>
+    ensures { IfOk result (IsItemOf file path.now (table_view root.now)) }
+{
+    match file {
+        File::Settings => Ok(wrong_in_settings(root, path)),
+        File::Site => match path {
+            "station.link" | "station.name" => sitefile::wrong_station(alloc, root),
+            _ => Ok(station_with(root, path)),
+        },
+    }
+}
+
+/// The key of a dotted path, of this station. Where its table is none, the key of that.
+fn spot_of<'a>(root: &Table, path: &'a str, item: Option<usize>) -> Spot<'a>
+    ensures of { IsSpotOf path.entry.now result }
+    ensures item { result.item ≡ item }
 {
     let Some((table, key)) = path.split_once('.') else {
         return Spot {
             table: None,
-            item: None,
+            item,
             key: path,
         };
     };
     if is_scalar(root, table) {
         return Spot {
             table: None,
-            item: None,
+            item,
             key: table,
         };
     }
     Spot {
         table: Some(table),
-        item: if table == "station" {
-            wrong_station(file, root, key)
-        } else {
-            None
-        },
+        item,
         key,
     }
 }

@@ -1,23 +1,30 @@
 //! Which station a fault means.
 ghost use Rattle.std.specs.Prelude.{◌<◌, length, IfSome};
 
-use crate::file::File;
-use sitefile::is_name;
 use toml::{Table, Value};
 
-/// The greatest link address of a station.
-const MOST_LINK: i64 = 65534;
+/// What stands before the key of a station in its dotted path.
+const STATION: &str = "station.";
 
-/// The first station whose value of this key is wrong, or that has this key, if no station may have
-/// it; counted from 0.
-pub(crate) fn wrong_station(file: File, root: &Table, key: &str) -> Option<usize> {
+/// The first station of settings whose value of the key with this path is wrong, or that has this
+/// key, if no station may have it; counted from 0.
+pub(crate) fn wrong_in_settings(root: &Table, path: &str) -> Option<usize> {
+    let key = path.strip_prefix(STATION)?;
     let stations = stations(root);
     for item in 0..stations.len() {
-        if is_wrong(file, root, stations, item, key) {
+        if is_wrong(root, stations, item, key) {
             return Some(item);
         }
     }
     None
+}
+
+/// The first station that has the key with this path, counted from 0.
+pub(crate) fn station_with(root: &Table, path: &str) -> Option<usize> {
+    let key = path.strip_prefix(STATION)?;
+    stations(root)
+        .iter()
+        .position(|station| station.get(key).is_some())
 }
 
 /// The first station before this one with the same number under this key.
@@ -37,16 +44,7 @@ fn stations(root: &Table) -> &[Value] {
     }
 }
 
-fn is_wrong(file: File, root: &Table, stations: &[Value], item: usize, key: &str) -> bool
-    requires { item < length stations.now }
-{
-    match file {
-        File::Settings => is_wrong_setting(root, stations, item, key),
-        File::Site => is_wrong_at_site(stations, item, key),
-    }
-}
-
-fn is_wrong_setting(root: &Table, stations: &[Value], item: usize, key: &str) -> bool
+fn is_wrong(root: &Table, stations: &[Value], item: usize, key: &str) -> bool
     requires { item < length stations.now }
 {
     let value = stations[item].get(key);
@@ -58,28 +56,6 @@ fn is_wrong_setting(root: &Table, stations: &[Value], item: usize, key: &str) ->
             None => false,
         },
         _ => value.is_some(),
-    }
-}
-
-fn is_wrong_at_site(stations: &[Value], item: usize, key: &str) -> bool
-    requires { item < length stations.now }
-{
-    let value = stations[item].get(key);
-    match key {
-        "link" => is_wrong_number(stations, item, key, MOST_LINK),
-        "name" => match value {
-            Some(value) => !is_named(value),
-            None => true,
-        },
-        _ => value.is_some(),
-    }
-}
-
-/// Whether a value is a name.
-fn is_named(value: &Value) -> bool {
-    match value.as_str() {
-        Some(text) => is_name(text.as_bytes()),
-        None => false,
     }
 }
 

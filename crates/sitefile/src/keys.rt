@@ -50,7 +50,7 @@ fn is_good(form: Form, text: &[u8]) -> bool
 }
 
 /// Whether a text is 1 to 40 characters, and no control character.
-pub fn is_name(text: &[u8]) -> bool
+fn is_name(text: &[u8]) -> bool
     ensures { result ≡ is_name text.now }
 {
     (1..=40).contains(&characters(text)) && !has_control(text)
