@@ -17,6 +17,7 @@ debootstrap made is kept and taken again. If a part can't run here, a line `left
 import glob
 import os
 import re
+import shlex
 import shutil
 import subprocess
 
@@ -125,6 +126,24 @@ def judge_units(count, program, folder):
         count.case(verified.returncode == 0 and not said(verified), f"systemd-analyze verify {instance}: {said(verified)}")
     line = read(os.path.join(folder, "units/telegate@.service"))
     count.case("/etc/telegate/%i/" in line and not re.search(r"/etc/telegate/(?!%i/)", line), "telegate@.service reads settings that aren't its line's")
+
+
+def judge_starts(count, program, folder):
+    """What a unit calls before a start judges both files: that of the site is the one that the words name, if they name one."""
+    root = os.path.join(folder, "started")
+    run([os.path.join(TOP, "packaging/install.sh")], env={**os.environ, "DESTDIR": root, "TELEGATE_PROGRAM": program})
+    site = ("line 1, column 7: 1\nwanted: true or false\n", "site: log\n")
+    settings = ("no value: it belongs below line 1\nwanted: 1 to 2\n", "config: line.link\n")
+    for name, place in (("telegate.service", "etc/telegate"), ("telegate@.service", "etc/telegate/north")):
+        unit = read(os.path.join(root, "usr/local/lib/systemd/system", name))
+        before = re.search(r"^ExecStartPre=-(.*)$", unit, re.M)[1].replace("$$", "$").replace("%i", "north")
+        before = before.replace("/usr/local/bin/telegate", program).replace("/etc/", f"{root}/etc/")
+        write(os.path.join(root, place, "gateway.toml"), "[line]\n")
+        write(os.path.join(root, place, "site.toml"), "log = 1\n")
+        named = ["--site", os.path.join(root, place, "site.toml")]
+        for words, want in (([], settings), (named, site), (["--allow", "192.0.2.7", *named, "--redial"], site), (["--redial"], settings)):
+            ran = run([part for word in shlex.split(before) for part in (words if word == "$TELEGATE_OPTIONS" else [word])])
+            count.case((ran.stdout, ran.stderr, ran.returncode) == (*want, 1), f"{name}, before a start with {words}: {ran.stdout!r} {ran.stderr!r}")
 
 
 def make_package(program, into):
@@ -281,6 +300,7 @@ if __name__ == "__main__":
     frame.main(
         judge_install_script,
         judge_units,
+        judge_starts,
         a_package,
         words={
             "--chroot": {"action": "store_true", "help": "install, upgrade and purge it in a Debian of its own"},

@@ -1,13 +1,15 @@
 #!/usr/bin/env python3
-"""Runs `telegate run --site` live, and judges what the file of a site does.
+"""Runs `telegate run --site` live, and judges what the file of a site does; and `telegate check --site`, which judges it.
 
     checks/site.py [--program FILE] [--only NAME]
 
 A run takes its log, its state, its status door and who may connect from the file alone. The names of the line and of a station stand at
 the end of the lines of the log, on the status page, in the JSON, the table and the metrics; a station without a name has none there. The
 page tells the wall clock. What words say wins: another directory, another guest. A file that gives nothing changes nothing. With
---log-severity, or the key, each line begins with its severity as docs/TEXTS.md has it. What is refused is judged by checks/shell.py. All of
-it is on the loopback.
+--log-severity, or the key, each line begins with its severity as docs/TEXTS.md has it. All of it is on the loopback.
+
+Of each fault `check --site` and `run --site` tell the same line, before the settings are read, and `check --explain` says where it stands,
+and what the table of docs/SITE.md wants there. Further words beside the file are judged by checks/shell.py.
 """
 import json
 import os
@@ -37,6 +39,57 @@ SEVERITIES = {
     "connection cut": 4,
     "line lost": 3,
 }
+ONE = '[[station]]\nlink = 7\nname = "A"\n'
+TWO = ONE + '[[station]]\nlink = 8\nname = "B"\n'
+LONG = "x" * 41
+# A file of a site, the fault that is told of it, and the line that `check --explain` prints before what is wanted: where the value stands,
+# or the key belongs; none, where no place is known.
+FAULTS = [
+    ("allow = 3\n", "allow", "line 1, column 9: 3"),
+    ('# who\nallow = ["192.0.2.7", 7]\n', "allow", 'line 2, column 9: ["192.0.2.7", 7]'),
+    ('allow = ["192.0.2.7", "192.0.2.256"]\n', "allow", 'line 1, column 9: ["192.0.2.7", "192.0.2.256"]'),
+    ('allow = ["192.0.2.7:2404"] # a port\n', "allow", 'line 1, column 9: ["192.0.2.7:2404"]'),
+    ('status = "nowhere"\n', "status", 'line 1, column 10: "nowhere"'),
+    ("status = 8104\n", "status", "line 1, column 10: 8104"),
+    ("log = true\nstate = ''\n", "state", "line 2, column 9: ''"),
+    ('state = "a\\u0007"\n', "state", 'line 1, column 9: "a\\u0007"'),
+    ('state_or_stop = "true"\nstate = "kept"\n', "state_or_stop", 'line 1, column 17: "true"'),
+    ("log = true\nstate_or_stop = true\n", "state_or_stop", "line 2, column 17: true"),
+    ("log = 1\n", "log", "line 1, column 7: 1"),
+    ('log_severity = "yes"\n', "log_severity", 'line 1, column 16: "yes"'),
+    ("\tredial\t=\t0\n", "redial", "line 1, column 11: 0"),
+    ('"record" = []\n', "record", "line 1, column 12: []"),
+    ('[line]\nname = ""\n', "line.name", 'line 2, column 8: ""'),
+    (f'[line]\nname = "{LONG}"\n', "line.name", f'line 2, column 8: "{LONG}"'),
+    ('[line]\nname = "a\\u0085"\n', "line.name", 'line 2, column 8: "a\\u0085"'),
+    ("line = { name = 7 }\n", "line.name", "line 1, column 17: 7"),
+    ("line = 7\n", "line.name", "line 1, column 8: 7"),
+    ("station = 7\n", "station", "line 1, column 11: 7"),
+    ('[station]\nlink = 7\nname = "A"\n', "station", None),
+    # A key that isn't there belongs below the header of its table.
+    ('[[station]]\nname = "A"\n', "station.link", "no value: it belongs below line 1"),
+    (ONE + "[[station]]\nlink = 8\n", "station.name", "no value: it belongs below line 4"),
+    # The station that is meant.
+    (TWO.replace("8", "0"), "station.link", "line 5, column 8: 0"),
+    (TWO.replace("8", "65535"), "station.link", "line 5, column 8: 65535"),
+    (TWO.replace("8", '"8"'), "station.link", 'line 5, column 8: "8"'),
+    (TWO.replace("B", LONG), "station.name", f'line 6, column 8: "{LONG}"'),
+    (TWO.replace('"B"', "8"), "station.name", "line 6, column 8: 8"),
+    # Unknown keys: of the file itself, of the line, then of a station.
+    ("log = true\nlock = 1\n", "unknown lock", "line 2, column 8: 1"),
+    ('[line]\nname = "a \u00e9 # b" # \u00e9\ncolour = \'b\'\n', "unknown line.colour", "line 3, column 10: 'b'"),
+    (TWO + "ca = 2\n", "unknown station.ca", "line 7, column 6: 2"),
+    ("lock = 1\n[line]\ncolour = 1\n", "unknown lock", "line 1, column 8: 1"),
+    # The first by the table comes first, an unknown key after all wrong ones, and what can't be after both.
+    ("colour = 1\nlog = 1\nstatus = 1\n", "status", "line 3, column 10: 1"),
+    ('allow = ["x"]\nlog = 1\n', "log", "line 2, column 7: 1"),
+    ('allow = ["x"]\ncolour = 1\n', "unknown colour", "line 2, column 10: 1"),
+    ('allow = ["x"]\nstate_or_stop = true\n', "state_or_stop", "line 2, column 17: true"),
+]
+# Of octets that are no document it is told where reading stopped, and why.
+UNREAD = [("log = \n", "line 1, column 7: "), ("log = true\nlog = true\n", "line 2, column "), ('[line]\nname = "a\n', "line 2, column ")]
+GOOD_SITES = ["", 'allow = ["192.0.2.7", "::1"]\n', 'state_or_stop = true\nstate = "kept"\n', TWO, f'[line]\nname = "{LONG[1:]}"\n']
+WRONG_SETTINGS = SETTINGS.replace("link = 1", "link = 3", 1)
 
 
 class Run:
@@ -207,5 +260,61 @@ def severities(count, program, folder):
         count.judge("without a log it does nothing", run.lines == [], run.lines)
 
 
+def values():
+    """What the table of docs/SITE.md wants of each key, without the marks of code."""
+    with open(os.path.join(frame.TOP, "docs", "SITE.md"), encoding="utf-8") as file:
+        rows = re.findall(r"^\| `([\w.]+)` \| (.*?) \| .*\|$", file.read(), re.M)
+    return {key: wanted.replace("`", "") for key, wanted in rows}
+
+
+class Files:
+    """The program over the file of a site and settings, each under its name."""
+
+    def __init__(self, program, folder, site, settings=SETTINGS):
+        self.program, self.folder = program, folder
+        for name, text in (("site.toml", site), ("gateway.toml", settings)):
+            with open(os.path.join(folder, name), "w", encoding="utf-8") as file:
+                file.write(text)
+
+    def ends(self, *words):
+        """Standard output, standard error and the status of a call with these words."""
+        done = subprocess.run([self.program, *words], cwd=self.folder, stdin=subprocess.DEVNULL, capture_output=True, text=True, timeout=ends.PATIENCE)
+        return done.stdout, done.stderr, done.returncode
+
+
+def judged(count, program, folder):
+    """Each fault, told alike by `run` and by `check`, before the settings are read; with --explain its place, and what is wanted."""
+    wanted = values()
+    for site, fault, place in FAULTS:
+        files, told = Files(program, folder, site), f"site: {fault}\n"
+        for words in (["run", "--site", "site.toml", "nowhere"], ["check", "--site", "site.toml", "nowhere"], ["check", "gateway.toml", "--live", "--site", "site.toml"]):
+            count.judge(f"{words} {site!r:.200}", (got := files.ends(*words)) == ("", told, 1), got)
+        lines = f"{place}\n" * bool(place) + f"wanted: {wanted.get(fault, 'a key of the table in docs/SITE.md')}\n"
+        got = files.ends("check", "--explain", "--site", "site.toml", "nowhere")
+        count.judge(f"--explain {site!r:.200}", got == (lines, told, 1), f"wanted {lines!r}, got {got}")
+    got = Files(program, folder, TWO.replace("8", "7")).ends("check", "--explain", "--site", "site.toml", "gateway.toml")
+    lines = f"line 5, column 8: 7\nwanted: {wanted['station.link']}\ntaken at line 2, column 8\n"
+    count.judge("--explain of two alike", got == (lines, "site: station.link\n", 1), got)
+    for site, place in UNREAD:
+        out, err, status = Files(program, folder, site).ends("check", "--site", "site.toml", "--explain", "nowhere")
+        count.judge(f"--explain {site!r}", (err, status) == ("site: not TOML\n", 1) and out.startswith(place) and out.count("\n") == 1, out)
+
+
+def both_judged(count, program, folder):
+    """Behind a good file of a site the settings are judged as they are without one."""
+    for site in GOOD_SITES:
+        for settings in (SETTINGS, WRONG_SETTINGS, "log = true\n", "log = \n"):
+            files = Files(program, folder, site, settings)
+            for words in ([], ["--live"], ["--explain"], ["--live", "--explain"]):
+                bare = files.ends("check", *words, "gateway.toml")
+                got = files.ends("check", *words, "--site", "site.toml", "gateway.toml")
+                count.judge(f"{words} {site!r} {settings!r:.100}", got == bare, f"wanted {bare}, got {got}")
+        count.judge(f"good: {site!r}", (got := Files(program, folder, site).ends("check", "--site", "site.toml", "gateway.toml")) == ("ok\n", "", 0), got)
+    files = Files(program, folder, "")
+    for words, told in ((["--site", "elsewhere", "nowhere"], "cannot read elsewhere\n"), (["--site", "site.toml", "nowhere"], "cannot read nowhere\n")):
+        for explain in ([], ["--explain"]):
+            count.judge(f"{explain} {words}", (got := files.ends("check", *explain, *words)) == ("", told, 3), got)
+
+
 if __name__ == "__main__":
-    frame.main(named, words_win, nothing_said, recorded, severities)
+    frame.main(judged, both_judged, named, words_win, nothing_said, recorded, severities)

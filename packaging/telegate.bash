@@ -6,7 +6,7 @@ _telegate() {
         return
     fi
     case $command in
-        check) COMPREPLY=($(compgen -W "--live --explain --help" -- "$word")) ;;
+        check) COMPREPLY=($(compgen -W "--live --explain --site --help" -- "$word")) ;;
         replay) COMPREPLY=($(compgen -W "--left --counts --words --color --help" -- "$word")) ;;
         run) COMPREPLY=($(compgen -W "--redial --log --record --state --state-or-stop --allow --status --site --log-severity --help" -- "$word")) ;;
         show101 | show104) COMPREPLY=($(compgen -W "--words --help" -- "$word")) ;;

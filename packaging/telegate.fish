@@ -18,6 +18,7 @@ complete -c telegate -n "__fish_seen_subcommand_from check replay sim audit run 
 complete -c telegate -n "__fish_seen_subcommand_from $commands" -l help -s h -d "tells what it does"
 complete -c telegate -n "__fish_seen_subcommand_from check" -l live -d "as for a live run"
 complete -c telegate -n "__fish_seen_subcommand_from check" -l explain -d "what is wrong, and where"
+complete -c telegate -n "__fish_seen_subcommand_from check" -l site -r -F -d "judges this site's file first"
 complete -c telegate -n "__fish_seen_subcommand_from replay" -l left -d "what was not acknowledged"
 complete -c telegate -n "__fish_seen_subcommand_from replay" -l counts -d "what was counted"
 complete -c telegate -n "__fish_seen_subcommand_from replay sim" -l words -d "events and actions in words"

@@ -22,8 +22,8 @@ fi
 case $words[2] in
     check)
         _arguments '--live[judges the keys of live as run does]' \
-            '--explain[what is wrong, and where]' '--help[tells what the command does]' \
-            '2:settings:_files'
+            '--explain[what is wrong, and where]' '--site[judges this file first]:site:_files' \
+            '--help[tells what the command does]' '2:settings:_files'
         ;;
     run)
         _arguments '--redial[reaches the line again where it ends]' \

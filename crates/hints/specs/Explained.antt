@@ -1,17 +1,27 @@
--- What is said of a fault of settings (texts of this gateway's own profile).
-use Rattle.std.specs.Prelude.{◌≡◌, ◌≤◌, ◌==◌, ◌⊎◌, ℕ, codes, List, [], ◌∷◌, ◌++◌, length, take}
+-- What is said of a fault of settings or of a site's file (texts of this gateway's own profile).
+use Rattle.std.specs.Prelude.{◌≡◌, ◌≤◌, ◌==◌, ◌||◌, ◌⊎◌, ℕ, Bool, IsTrue, codes, List, [], ◌∷◌}
+use Rattle.std.specs.Prelude.{◌++◌, length, take}
 use Rattle.std.specs.Prelude.{slice_range, fold, Option, Some, None, string_bytes}
 use Rattle.std.specs.Borrow.{Bor}
 use Rattle.std.specs.Fmt.{decimal}
 use Rattle.std.specs.List.{after_first, before_first}
+use Rattle.std.specs.Str.{bytes_eq}
 use Rattle.settings.specs.declared.fault.ConfigFault.{ConfigFault}
 use Rattle.settings.specs.declared.fault.ConfigFault.TheVariants.{NotToml, Key, Unknown, NoMemory}
+use Rattle.settings.specs.Settings.{IsDocument, IsNoDocument}
 use Rattle.settings.specs.Wanted.{wanted_values}
+use Rattle.sitefile.specs.Names.{wrong_station}
+use Rattle.sitefile.specs.Wanted.{site_values}
+use Rattle.sitefile.specs.declared.fault.SiteFault.{SiteFault}
+use Rattle.sitefile.specs.declared.fault.SiteFault.TheVariants as site
+use Rattle.toml.specs.Data.{Members}
 use Rattle.toml_places.specs.Changes.{IsGapFound, IsValueFound}
 use Rattle.toml_places.specs.Lines.{first_place, next_place}
 use Rattle.toml_places.specs.declared.changes.Spot.{Spot}
 use Rattle.toml_places.specs.declared.place.Place.{Place}
 use Rattle.toml_places.specs.declared.spans.Span.{Span}
+use Rattle.hints.specs.declared.file.File.{File}
+use Rattle.hints.specs.declared.file.File.TheVariants.{Settings, Site}
 use Rattle.hints.specs.declared.finding.Found.{Found}
 use Rattle.hints.specs.declared.finding.Found.TheVariants.{Value, Gap, Nowhere}
 
@@ -44,10 +54,23 @@ IsPlace spot text (Value s) = IsValueFound spot text (Some s)
 IsPlace spot text (Gap s) = IsValueFound spot text None × IsGapFound spot text (Some s)
 IsPlace spot text Nowhere = IsValueFound spot text None × IsGapFound spot text None
 
+-- the values of the key with this dotted path, in words
+abbrev pub values_in : File → (path : List ℕ) → Option (List ℕ)
+values_in Settings path = wanted_values path
+values_in Site path = site_values path
+
+-- the page that has the table of the keys
+abbrev pub page_of : File → List ℕ
+page_of Settings = codes "docs/SETTINGS.md"
+page_of Site = codes "docs/SITE.md"
+
+abbrev pub wanted_words : (page : List ℕ) → (values : Option (List ℕ)) → List ℕ
+wanted_words page None = codes "wanted: a key of the table in " ++ page ++ 10 ∷ []
+wanted_words page (Some values) = codes "wanted: " ++ values ++ 10 ∷ []
+
 -- what is wanted, where there is such a key
-abbrev pub wanted_line : Option (List ℕ) → List ℕ
-wanted_line None = codes "wanted: a key of the table in docs/SETTINGS.md" ++ 10 ∷ []
-wanted_line (Some values) = codes "wanted: " ++ values ++ 10 ∷ []
+abbrev pub wanted_line : File → (path : List ℕ) → List ℕ
+wanted_line file path = wanted_words (page_of file) (values_in file path)
 
 -- where another station has the number
 abbrev pub twin_line : List ℕ → Option Span → List ℕ
@@ -72,25 +95,40 @@ IsKeyOf path (Some table) key = (table.now ≡ before_first (λ b. b == 46) path
 abbrev pub IsSpotOf : List ℕ → Spot → Type 0
 IsSpotOf path spot = IsKeyOf path spot.table spot.key.now
 
+-- the keys that each station of a site's file has to have
+abbrev pub names_station : (path : List ℕ) → Bool
+names_station path =
+    bytes_eq path (codes "station.link") || bytes_eq path (codes "station.name")
+
+-- Which station is meant: where a key of a site's file is wrong that each of its stations has to
+-- have, the first station that is wrong.
+abbrev pub IsItemOf : File → (path : List ℕ) → Members → Option ℕ → Type 0
+IsItemOf Settings path root item = Unit {0}
+IsItemOf Site path root item = IsTrue (names_station path) → item ≡ wrong_station root
+
 -- the same number under this key of another station, which may be none
 abbrev pub IsTwin : Spot → List ℕ → Option Span → Type 0
 IsTwin spot text None = Unit {0}
 IsTwin spot text (Some s) =
     (other : ℕ) × IsValueFound (record spot { item = Some other }) text (Some s)
 
--- the lines of a fault of this key; none, where the octets aren't a document
-pub record AreKeyLines (text path lines : List ℕ) : Type 0 where
+-- the lines of a fault of this key
+pub record AreKeyLines (file : File) (text path lines : List ℕ) : Type 0 where
   pub spot : Spot
   pub of : IsSpotOf path spot
+  pub root : Members
+  pub document : IsDocument text root
+  pub item : IsItemOf file path root spot.item
   pub found : Found
   pub place : IsPlace spot text found
   pub twin : Option Span
   pub taken : IsTwin spot text twin
-  pub are : lines ≡ (found_line text found ++ wanted_line (wanted_values path))
-      ++ twin_line text twin
+  pub are : lines ≡ (found_line text found ++ wanted_line file path) ++ twin_line text twin
 
-abbrev pub IsKeyExplained : (text path lines : List ℕ) → Type 0
-IsKeyExplained text path lines = (lines ≡ []) ⊎ AreKeyLines text path lines
+-- there are none exactly where the octets are no document
+abbrev pub IsKeyExplained : File → (text path lines : List ℕ) → Type 0
+IsKeyExplained file text path lines =
+    (IsNoDocument text × (lines ≡ [])) ⊎ AreKeyLines file text path lines
 
 -- where reading stopped, and why, in the reader's words
 pub record AreTextLines (text lines : List ℕ) : Type 0 where
@@ -99,12 +137,21 @@ pub record AreTextLines (text lines : List ℕ) : Type 0 where
   pub why : List ℕ
   pub are : lines ≡ ((place_words (place_of text at) ++ codes ": ") ++ why) ++ 10 ∷ []
 
+-- there is none where they are one
 abbrev pub IsTextExplained : (text lines : List ℕ) → Type 0
-IsTextExplained text lines = (lines ≡ []) ⊎ AreTextLines text lines
+IsTextExplained text lines =
+    (((root : Members) × IsDocument text root) × (lines ≡ [])) ⊎ AreTextLines text lines
 
--- what is said of a fault
+-- what is said of a fault of settings
 abbrev pub IsExplained : List ℕ → ConfigFault → (lines : List ℕ) → Type 0
 IsExplained text NotToml lines = IsTextExplained text lines
-IsExplained text (Key path) lines = IsKeyExplained text path.now lines
-IsExplained text (Unknown path) lines = IsKeyExplained text (string_bytes path) lines
+IsExplained text (Key path) lines = IsKeyExplained Settings text path.now lines
+IsExplained text (Unknown path) lines = IsKeyExplained Settings text (string_bytes path) lines
 IsExplained text NoMemory lines = lines ≡ []
+
+-- and of one of a site's file
+abbrev pub IsSiteExplained : List ℕ → SiteFault → (lines : List ℕ) → Type 0
+IsSiteExplained text site.NotToml lines = IsTextExplained text lines
+IsSiteExplained text (site.Key path) lines = IsKeyExplained Site text path.now lines
+IsSiteExplained text (site.Unknown path) lines = IsKeyExplained Site text (string_bytes path) lines
+IsSiteExplained text site.NoMemory lines = lines ≡ []

@@ -1,13 +1,17 @@
-//! A fault of settings, explained.
-ghost use Rattle.std.specs.Prelude.{IfOk};
+//! A fault of settings, or of a site's file, explained.
+ghost use Rattle.std.specs.Prelude.{◌≡◌, IfOk};
+ghost use Rattle.toml.specs.View.{table_view};
+ghost use Rattle.settings.specs.Settings.{IsDocument};
 ghost use Rattle.hints.specs.Explained.{IsExplained, IsKeyExplained, IsSpotOf, IsTextExplained};
-ghost use Rattle.hints.specs.Explained.{IsTwin};
+ghost use Rattle.hints.specs.Explained.{IsItemOf, IsSiteExplained, IsTwin};
 ghost use Rattle.toml_places.specs.Changes.{IsWithin};
 
+use crate::file::File;
 use crate::finding::find;
 use crate::lines::{found_line, place_words, twin_line, wanted_line};
-use crate::stations::{twin_station, wrong_station};
-use settings::{ConfigFault, wanted_values};
+use crate::stations::{station_with, twin_station, wrong_in_settings};
+use settings::ConfigFault;
+use sitefile::SiteFault;
 use std::alloc::{AllocError, Global};
 use toml::Table;
 use toml_places::{Span, Spot, find_value};
@@ -20,9 +24,21 @@ pub fn explain(alloc: Global, text: &[u8], fault: &ConfigFault) -> Result<Vec<u8
 {
     match fault {
         ConfigFault::NotToml => explain_text(alloc, text),
-        ConfigFault::Key(path) => explain_key(alloc, text, *path),
-        ConfigFault::Unknown(path) => explain_key(alloc, text, path.as_str()),
+        ConfigFault::Key(path) => explain_key(alloc, File::Settings, text, *path),
+        ConfigFault::Unknown(path) => explain_key(alloc, File::Settings, text, path.as_str()),
         ConfigFault::NoMemory => Ok(Vec::new(alloc)),
+    }
+}
+
+/// The same lines behind a fault of the site's file that these octets are.
+pub fn explain_site(alloc: Global, text: &[u8], fault: &SiteFault) -> Result<Vec<u8>, AllocError>
+    ensures { IfOk result (λ lines. IsSiteExplained text.now fault.now lines.items) }
+{
+    match fault {
+        SiteFault::NotToml => explain_text(alloc, text),
+        SiteFault::Key(path) => explain_key(alloc, File::Site, text, *path),
+        SiteFault::Unknown(path) => explain_key(alloc, File::Site, text, path.as_str()),
+        SiteFault::NoMemory => Ok(Vec::new(alloc)),
     }
 }
 
@@ -44,11 +60,11 @@ fn explain_text(alloc: Global, text: &[u8]) -> Result<Vec<u8>, AllocError>
 }
 
 /// Where the value of a key stands, or the key belongs, and what is wanted.
-fn explain_key(alloc: Global, text: &[u8], path: &str) -> Result<Vec<u8>, AllocError>
-    ensures { IfOk result (λ lines. IsKeyExplained text.now path.now lines.items) }
+fn explain_key(alloc: Global, file: File, text: &[u8], path: &str) -> Result<Vec<u8>, AllocError>
+    ensures { IfOk result (λ lines. IsKeyExplained file text.now path.now lines.items) }
 {
     match toml::table_from_slice(alloc, text) {
-        Ok(root) => explain_under(alloc, text, &root, path),
+        Ok(root) => explain_under(alloc, file, text, &root, path),
         Err(fault) if fault.is_memory() => Err(AllocError),
         Err(_) => Ok(Vec::new(alloc)),
     }
@@ -56,49 +72,61 @@ fn explain_key(alloc: Global, text: &[u8], path: &str) -> Result<Vec<u8>, AllocE
 
 fn explain_under(
     alloc: Global,
+    file: File,
     text: &[u8],
     root: &Table,
     path: &str,
 ) -> Result<Vec<u8>, AllocError>
-    ensures { IfOk result (λ lines. IsKeyExplained text.now path.now lines.items) }
+    requires { IsDocument text.now (table_view root.now) }
+    ensures { IfOk result (λ lines. IsKeyExplained file text.now path.now lines.items) }
 {
-    let spot = spot_of(root, path);
+    let item = item_of(alloc, file, root, path)?;
+    let spot = spot_of(root, path, item);
     let found = find(alloc, text, &spot)?;
     let twin = twin_of(alloc, text, root, &spot)?;
     let mut lines = found_line(alloc, text, found)?;
-    let wanted = wanted_line(alloc, wanted_values(path))?;
+    let wanted = wanted_line(alloc, file, path)?;
     lines.extend_from_slice(wanted.as_bytes())?;
     let taken = twin_line(alloc, text, twin)?;
     lines.extend_from_slice(taken.as_bytes())?;
     Ok(lines)
 }
 
-/// The key of a dotted path; of a station's the first that is wrong. Where its table is none, the
-/// key of that.
-fn spot_of<'a>(root: &Table, path: &'a str) -> Spot<'a>
-    ensures { IsSpotOf path.entry.now result }
+/// Which station is meant, counted from 0, if one is.
+fn item_of(alloc: Global, file: File, root: &Table, path: &str) -> Result<Option<usize>, AllocError>
+    ensures { IfOk result (IsItemOf file path.now (table_view root.now)) }
+{
+    match file {
+        File::Settings => Ok(wrong_in_settings(root, path)),
+        File::Site => match path {
+            "station.link" | "station.name" => sitefile::wrong_station(alloc, root),
+            _ => Ok(station_with(root, path)),
+        },
+    }
+}
+
+/// The key of a dotted path, of this station. Where its table is none, the key of that.
+fn spot_of<'a>(root: &Table, path: &'a str, item: Option<usize>) -> Spot<'a>
+    ensures of { IsSpotOf path.entry.now result }
+    ensures item { result.item ≡ item }
 {
     let Some((table, key)) = path.split_once('.') else {
         return Spot {
             table: None,
-            item: None,
+            item,
             key: path,
         };
     };
     if is_scalar(root, table) {
         return Spot {
             table: None,
-            item: None,
+            item,
             key: table,
         };
     }
     Spot {
         table: Some(table),
-        item: if table == "station" {
-            wrong_station(root, key)
-        } else {
-            None
-        },
+        item,
         key,
     }
 }

@@ -1,15 +1,18 @@
-//! What is wrong with a file of settings, and where: a line with the place and the value as it is
-//! written, one with what is wanted, and one with the place of the other station where two have one
-//! number.
+//! What is wrong with a file of settings or of a site, and where: a line with the place and the
+//! value as it is written, one with what is wanted, and one with the place of the other station
+//! where two have one number.
 //!
-//! [`explain`] gives these lines for the fault that `settings` found. Proved: where a place is
-//! told, the value of that key stands there, or the key belongs there (`toml_places`); the words
-//! are those of `specs/Explained.antt`. Which of several stations is meant is tested.
+//! [`explain`] gives these lines for the fault that `settings` found, and [`explain_site`] for that
+//! of `sitefile`. Proved: where a place is told, the value of that key stands there, or the key
+//! belongs there (`toml_places`); the words are those of `specs/Explained.antt`; of a site's
+//! stations the first that is wrong is meant. Which station of settings is meant is tested, and
+//! which other one has its number.
 #![tactic(auto)]
 
 mod explaining;
+mod file;
 mod finding;
 mod lines;
 mod stations;
 
-pub use explaining::explain;
+pub use explaining::{explain, explain_site};

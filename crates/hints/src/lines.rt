@@ -1,9 +1,10 @@
 //! The lines that are told.
-ghost use Rattle.std.specs.Prelude.{◌≡◌, ◌≤◌, length, IfOk, option_map, string_bytes};
+ghost use Rattle.std.specs.Prelude.{◌≡◌, ◌≤◌, length, IfOk, string_bytes};
 ghost use Rattle.hints.specs.Explained.{IsInside, found_line, gap_line, place_of, place_words};
 ghost use Rattle.hints.specs.Explained.{twin_line, value_line, wanted_line};
 ghost use Rattle.toml_places.specs.Changes.{IsWithin};
 
+use crate::file::File;
 use crate::finding::Found;
 use std::alloc::{AllocError, Global};
 use toml_places::{Span, place_at};
@@ -51,14 +52,16 @@ fn gap_line(alloc: Global, text: &[u8], at: usize) -> Result<Vec<u8>, AllocError
     Ok(line.into_bytes())
 }
 
-/// What is wanted, where there is such a key.
-pub(crate) fn wanted_line(alloc: Global, values: Option<&str>) -> Result<String, AllocError>
-    ensures { IfOk result (λ s. string_bytes s
-        ≡ wanted_line (option_map (λ v. v.now) values.entry)) }
+/// What is wanted of a key, or where the keys are told, where there is no such key.
+pub(crate) fn wanted_line(alloc: Global, file: File, path: &str) -> Result<String, AllocError>
+    ensures { IfOk result (λ s. string_bytes s ≡ wanted_line file path.now) }
 {
-    match values {
+    match file.values(path) {
         Some(values) => format!(in alloc; "wanted: {values}\n"),
-        None => String::from_str(alloc, "wanted: a key of the table in docs/SETTINGS.md\n"),
+        None => {
+            let page = file.page();
+            format!(in alloc; "wanted: a key of the table in {page}\n")
+        }
     }
 }
 

@@ -3,9 +3,13 @@ ghost use Rattle.std.specs.Prelude.{◌<◌, length, IfSome};
 
 use toml::{Table, Value};
 
-/// The first station whose value of this key is wrong, or that has this key, if no station may have
-/// it; counted from 0.
-pub(crate) fn wrong_station(root: &Table, key: &str) -> Option<usize> {
+/// What stands before the key of a station in its dotted path.
+const STATION: &str = "station.";
+
+/// The first station of settings whose value of the key with this path is wrong, or that has this
+/// key, if no station may have it; counted from 0.
+pub(crate) fn wrong_in_settings(root: &Table, path: &str) -> Option<usize> {
+    let key = path.strip_prefix(STATION)?;
     let stations = stations(root);
     for item in 0..stations.len() {
         if is_wrong(root, stations, item, key) {
@@ -13,6 +17,14 @@ pub(crate) fn wrong_station(root: &Table, key: &str) -> Option<usize> {
         }
     }
     None
+}
+
+/// The first station that has the key with this path, counted from 0.
+pub(crate) fn station_with(root: &Table, path: &str) -> Option<usize> {
+    let key = path.strip_prefix(STATION)?;
+    stations(root)
+        .iter()
+        .position(|station| station.get(key).is_some())
 }
 
 /// The first station before this one with the same number under this key.

@@ -3,3 +3,4 @@ pub mod Keys
 pub mod Names
 pub mod Site
 pub mod Unknown
+pub mod Wanted

@@ -4,7 +4,8 @@
 //! [`read_site`] reads a file's octets, or answers the first fault. Proved: each value is that of
 //! its key; a wrong key is the first wrong one in the definition's order (`specs/Site.antt`); an
 //! unknown key is told only where no key is wrong; a file without fault is never refused but for
-//! want of memory.
+//! want of memory. [`site_values`] says in words what is wanted of a key, and [`wrong_station`]
+//! which of several stations is meant.
 #![tactic(auto)]
 
 mod fault;
@@ -12,7 +13,9 @@ mod keys;
 mod names;
 mod site;
 mod unknown;
+mod wanted;
 
 pub use fault::SiteFault;
-pub use names::{Names, StationName};
+pub use names::{Names, StationName, wrong_station};
 pub use site::{Flags, Places, Site, read_site};
+pub use wanted::site_values;

@@ -4,11 +4,11 @@ ghost use Rattle.std.specs.Prelude.{◌==◌, ◌≡◌, [], IfOk, map, option_m
 ghost use Rattle.toml.specs.View.{view, items_view, table_view};
 ghost use Rattle.settings.specs.Faults.{seen, seen_by};
 ghost use Rattle.sitefile.specs.Names.{AreStations, IsNamed, link_of, name_of, named, named_of};
-ghost use Rattle.sitefile.specs.Names.{stations_from, stations_of};
+ghost use Rattle.sitefile.specs.Names.{stations_from, stations_of, wrong_from, wrong_station};
 
 use crate::fault::SiteFault;
 use crate::keys::{Form, text};
-use settings::{Whole, WrongKey};
+use settings::{Whole, WrongKey, given};
 use std::alloc::{AllocError, Global};
 use toml::{Table, Value};
 
@@ -63,6 +63,36 @@ pub(crate) fn read_stations(
         Some(tables) => read_each(alloc, tables.as_slice()),
         None => Err(SiteFault::Key("station")),
     }
+}
+
+/// Which station of a file is the first that is wrong, counted from 0, if one is.
+pub fn wrong_station(alloc: Global, root: &Table) -> Result<Option<usize>, AllocError>
+    ensures { IfOk result (λ item. item ≡ wrong_station (table_view root.now)) }
+{
+    let Some(value) = given(Some(root), "station") else {
+        return Ok(None);
+    };
+    match value.as_array() {
+        Some(tables) => first_wrong(alloc, tables.as_slice()),
+        None => Ok(None),
+    }
+}
+
+/// Which of these is the first that is wrong.
+#[tactic(auto, using(crate::proofs::NameLemmas::wrong_here, crate::proofs::NameLemmas::wrong_end))]
+fn first_wrong(alloc: Global, tables: &[Value]) -> Result<Option<usize>, AllocError>
+    ensures { IfOk result (λ item. item ≡ wrong_from 0 [] (items_view tables.now)) }
+{
+    let mut stations = Vec::new(alloc);
+    for (item, table) in tables.iter().enumerate() {
+        match read_station(alloc, table, stations.as_slice()) {
+            Ok(station) => stations.push(station)?,
+            Err(SiteFault::Key(_)) => return Ok(Some(item)),
+            // A station can only be wrong, or memory be refused.
+            Err(_) => return Err(AllocError),
+        }
+    }
+    Ok(None)
 }
 
 /// Reads the names, one after the other.

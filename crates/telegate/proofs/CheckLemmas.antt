@@ -1,36 +1,58 @@
 -- What is judged of settings, and told of those that are refused.
-use Rattle.std.proofs.Common.{◌≡◌, ℕ, Bool, true, false, List, Option, Ok, refl, sym, subst}
+use Rattle.std.proofs.Common.{◌≡◌, ℕ, Bool, true, false, List, Option, Result, Ok, Err, refl, sym}
+use Rattle.std.proofs.Common.{subst, inl, inr, Vec}
+use Rattle.std.specs.Prelude.{IfOk}
+use Rattle.std.specs.declared.alloc.AllocError.{AllocError}
+use Rattle.std.specs.declared.alloc.Global.{Global}
 use Rattle.gateway.specs.Config.{Settings}
 use Rattle.settings.specs.Settings.{IsLiveReadOfText, IsReadOfText}
 use Rattle.settings.specs.declared.live.LiveSettings.{LiveSettings}
 use Rattle.settings.specs.declared.fault.ConfigFault.{ConfigFault}
-use Rattle.telegate.specs.Checks.{IsGoodFor, IsRefusalTold}
+use Rattle.sitefile.specs.declared.fault.SiteFault.{SiteFault}
+use Rattle.telegate.specs.Checks.{AreLinesGiven, IsFileRefused, IsGoodFor, IsRefusalTold}
 use Rattle.telegate.specs.Faults.{status_of}
 use Rattle.telegate.specs.declared.fault.Fault.{Fault}
-use Rattle.telegate.specs.declared.fault.Fault.TheVariants.{Config, Site, Trace, Script, Record}
-use Rattle.telegate.specs.declared.fault.Fault.TheVariants.{Sizes, Octets, Address, NoState}
-use Rattle.telegate.specs.declared.fault.Fault.TheVariants.{StateInUse, StateUnusable, Device}
-use Rattle.telegate.specs.declared.fault.Fault.TheVariants.{Unread, NoMemory}
+use Rattle.telegate.specs.declared.fault.Fault.TheVariants.{Config, Site}
 use Rattle.telegate.proofs.Kept.{keeps_same}
 
--- a fault that is none of the settings is told, and nothing is printed
-pub told : (explain : Bool) (config : List ℕ) (fault : Fault) (known : Option (List ℕ)) (exit : ℕ)
-    → ((why : ConfigFault) → fault ≡ Config why → ⊥) → exit ≡ status_of fault
-    → IsRefusalTold explain config fault known known exit
-told explain config (Config why) known exit other status = absurd (other why refl)
-told explain config (Trace n) known exit other status = (keeps_same known, status)
-told explain config (Script n) known exit other status = (keeps_same known, status)
-told explain config (Site why) known exit other status = (keeps_same known, status)
-told explain config (Record n) known exit other status = (keeps_same known, status)
-told explain config Sizes known exit other status = (keeps_same known, status)
-told explain config Octets known exit other status = (keeps_same known, status)
-told explain config Address known exit other status = (keeps_same known, status)
-told explain config NoState known exit other status = (keeps_same known, status)
-told explain config StateInUse known exit other status = (keeps_same known, status)
-told explain config StateUnusable known exit other status = (keeps_same known, status)
-told explain config Device known exit other status = (keeps_same known, status)
-told explain config Unread known exit other status = (keeps_same known, status)
-told explain config NoMemory known exit other status = (keeps_same known, status)
+told_bare : (text : List ℕ) (fault : Fault) (known : Option (List ℕ)) (exit : ℕ)
+    → exit ≡ status_of fault → IsRefusalTold false text fault known known exit
+told_bare text (Config why) known exit status = (keeps_same known, status)
+told_bare text (Site why) known exit status = (keeps_same known, status)
+told_bare text _ known exit status = (keeps_same known, status)
+
+-- where no explanation is asked for, nothing is printed
+pub told_alone : (explain : Bool) (text : List ℕ) (fault : Fault) (known : Option (List ℕ))
+    (exit : ℕ) → explain ≡ false → exit ≡ status_of fault
+    → IsRefusalTold explain text fault known known exit
+told_alone explain text fault known exit no status =
+    subst (λ (e : Bool). IsRefusalTold e text fault known known exit) (sym no)
+    (told_bare text fault known exit status)
+
+-- nor of a fault that is in no file
+pub told : (explain : Bool) (text : List ℕ) (fault : Fault) (known : Option (List ℕ)) (exit : ℕ)
+    → ((why : ConfigFault) → fault ≡ Config why → ⊥)
+    → ((why : SiteFault) → fault ≡ Site why → ⊥) → exit ≡ status_of fault
+    → IsRefusalTold explain text fault known known exit
+told explain text (Config why) known exit settings site status = absurd (settings why refl)
+told explain text (Site why) known exit settings site status = absurd (site why refl)
+told explain text _ known exit settings site status = (keeps_same known, status)
+
+given : (Explain : List ℕ → Type 0) (lines : Result (Vec ℕ Global) AllocError)
+    (old new : Option (List ℕ)) (exit : ℕ) → IfOk lines (λ l. Explain l.items)
+    → AreLinesGiven lines 1 old new exit → IsFileRefused true Explain old new exit
+given Explain (Ok l) old new exit says printed =
+    inl (record { lines = l.items; explained = says; printed = printed })
+given Explain (Err refused) old new exit says printed = inr printed
+
+-- the lines that explain a file's fault were printed
+pub explained : (explain : Bool) (Explain : List ℕ → Type 0)
+    (lines : Result (Vec ℕ Global) AllocError) (old new : Option (List ℕ)) (exit : ℕ)
+    → explain ≡ true → IfOk lines (λ l. Explain l.items) → AreLinesGiven lines 1 old new exit
+    → IsFileRefused explain Explain old new exit
+explained explain Explain lines old new exit yes says printed =
+    subst (λ (e : Bool). IsFileRefused e Explain old new exit) (sym yes)
+    (given Explain lines old new exit says printed)
 
 -- settings that were read, as for a live run or not
 pub good_live : (live : Bool) (config : List ℕ) (both : Settings × LiveSettings) → live ≡ true

@@ -4,7 +4,7 @@ use Rattle.std.proofs.Common.{if◌then◌else◌}
 use Rattle.std.specs.Prelude.{codes}
 use Rattle.std.specs.Borrow.{Bor}
 use Rattle.clap.specs.Words.{Row, Text, all_of, first_of, one_of}
-use Rattle.telegate.specs.CommandLine.{AreRunWords, AsksFor}
+use Rattle.telegate.specs.CommandLine.{AreRunWords, AsksFor, text_of}
 use Rattle.telegate.specs.Examples.{Agree, Say, name_of}
 use Rattle.telegate.specs.Wishes.{Said}
 use Rattle.telegate.specs.declared.run_words.RunWords.{RunWords}
@@ -17,7 +17,7 @@ pub names : (name : Text) (rows : List Row) (request : Request) → AsksFor name
     → name ≡ name_of request
 names name rows (Show101 sizes hex words) h = h.0
 names name rows (Show104 hex words) h = h.0
-names name rows (Check config live explain) h = h.0
+names name rows (Check config site live explain) h = h.0
 names name rows (Replay config trace left counts words color) h = h.0
 names name rows (Sim config script words color) h = h.0
 names name rows (Audit config text) h = h.0
@@ -110,23 +110,26 @@ two_are name first second one_given other_given one other a b = record {
   );
 }
 
--- a word and two flags
-pub check_is : (config : Text) (live explain : Bool) (x u v : Option Text) (c : Bor Text)
-    (l e : Bool)
-    → x ≡ Some config → u ≡ Some (flag_text live) → v ≡ Some (flag_text explain)
-    → Agree ((codes "check" ≡ codes "check") × (x ≡ Some c.now) × IsFlagOf u l × IsFlagOf v e)
-    ((c.now ≡ config) × (l ≡ live) × (e ≡ explain))
-check_is config live explain x u v c l e a b d = record {
+-- a word, one that may be left out, and two flags
+pub check_is : (config : Text) (site : Option Text) (live explain : Bool) (x y u v : Option Text)
+    (c : Bor Text) (s : Option (Bor Text)) (l e : Bool)
+    → x ≡ Some config → y ≡ site → u ≡ Some (flag_text live) → v ≡ Some (flag_text explain)
+    → Agree ((codes "check" ≡ codes "check") × (x ≡ Some c.now) × (text_of s ≡ y) × IsFlagOf u l
+    × IsFlagOf v e)
+    ((c.now ≡ config) × (text_of s ≡ site) × (l ≡ live) × (e ≡ explain))
+check_is config site live explain x y u v c s l e a f b d = record {
   there = λ h. (
     (word_is config x c.now a).there h.1,
-    (flag_is live u l b).there h.2,
-    (flag_is explain v e d).there h.3,
+    h.2 ∙ f,
+    (flag_is live u l b).there h.3,
+    (flag_is explain v e d).there h.4,
   );
   back = λ same. (
     refl,
     (word_is config x c.now a).back same.0,
-    (flag_is live u l b).back same.1,
-    (flag_is explain v e d).back same.2,
+    same.1 ∙ sym f,
+    (flag_is live u l b).back same.2,
+    (flag_is explain v e d).back same.3,
   );
 }
 

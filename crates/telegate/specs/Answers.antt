@@ -25,7 +25,6 @@ use Rattle.gateway.specs.Accounts.{IsAccounted}
 use Rattle.gateway.specs.Agrees.{Follows}
 use Rattle.gateway.specs.Order.{KeepsOrder}
 use Rattle.gateway.specs.State.{State}
-use Rattle.telegate.specs.Checks.{IsCheckDone}
 use Rattle.telegate.specs.Closing.{closing_lines}
 use Rattle.telegate.specs.Faults.{status_of_end}
 use Rattle.telegate.specs.Given.{Gives}
@@ -38,7 +37,7 @@ use Rattle.telegate.specs.declared.fault.Fault.TheVariants.{Config, Trace, Scrip
 use Rattle.telegate.specs.declared.fault.Fault.TheVariants.{Device, Unread, NoMemory}
 use Rattle.telegate.specs.declared.manner.Manner.{Manner}
 use Rattle.telegate.specs.declared.job.Job.{Job}
-use Rattle.telegate.specs.declared.job.Job.TheVariants.{Show101, Show104, Check, Sim}
+use Rattle.telegate.specs.declared.job.Job.TheVariants.{Show101, Show104, Sim}
 
 -- octets that are as they should be, 0, or not, 1
 abbrev pub status_by : Outcome → ℕ
@@ -247,7 +246,6 @@ pub record Runs (IsRunning : (old new : Option (List ℕ)) → Result (Unit {0})
 abbrev pub DoesJob : Job → (old new : Option (List ℕ)) → (exit : ℕ) → Type 0
 DoesJob (Show101 sizes hex words) = Gives (IsShown101 words sizes.now hex.now)
 DoesJob (Show104 hex words) = Gives (IsShown104 words hex.now)
-DoesJob (Check config how) = IsCheckDone config.now how
 DoesJob (Sim config script manner) = Runs (IsSimulatedBy manner config.now script.now)
 
 -- the same, of an output whose octets are these before and after, and with this exit status

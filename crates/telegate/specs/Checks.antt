@@ -1,10 +1,11 @@
 -- What the command that judges settings does (this gateway's own profile).
-use Rattle.std.specs.Prelude.{◌≡◌, ◌⊎◌, ℕ, Bool, true, false, List, Option, Ok}
+use Rattle.std.specs.Prelude.{◌≡◌, ◌⊎◌, ℕ, Bool, true, false, List, Option, Result, Ok, Err, Vec}
+use Rattle.std.specs.declared.alloc.AllocError.{AllocError}
+use Rattle.std.specs.declared.alloc.Global.{Global}
 use Rattle.std.specs.Io.KnownBytes.{Appends, Keeps}
 use Rattle.gateway.specs.Config.{Settings}
-use Rattle.hints.specs.Explained.{IsExplained}
+use Rattle.hints.specs.Explained.{IsExplained, IsSiteExplained}
 use Rattle.settings.specs.Settings.{IsLiveReadOfText, IsReadOfText}
-use Rattle.settings.specs.declared.fault.ConfigFault.{ConfigFault}
 use Rattle.settings.specs.declared.live.LiveSettings.{LiveSettings}
 use Rattle.sim.specs.Runs.{IsBegun}
 use Rattle.telegate.specs.Faults.{status_of}
@@ -12,7 +13,7 @@ use Rattle.telegate.specs.Given.{Gives, IsConfigFault, IsGood}
 use Rattle.telegate.specs.Running.{IsLiveConfigFault}
 use Rattle.telegate.specs.declared.check.Checking.{Checking}
 use Rattle.telegate.specs.declared.fault.Fault.{Fault}
-use Rattle.telegate.specs.declared.fault.Fault.TheVariants.{Config}
+use Rattle.telegate.specs.declared.fault.Fault.TheVariants.{Config, Site}
 
 -- the octets are settings without a fault; as for a live run, they say where its ends are
 abbrev pub IsGoodFor : (live : Bool) → List ℕ → Type 0
@@ -25,31 +26,36 @@ abbrev pub IsCheckFault : (live : Bool) → List ℕ → Fault → Type 0
 IsCheckFault false config fault = IsConfigFault config fault
 IsCheckFault true config fault = IsLiveConfigFault config fault
 
--- what is wrong and where was printed, or, where the output failed, a beginning of that; or memory
--- was refused before
-pub record HasExplained (config : List ℕ) (why : ConfigFault) (old new : Option (List ℕ))
-    (exit : ℕ) : Type 0 where
+-- The lines that explain a fault with this status were printed behind it, or, where the output
+-- failed, a beginning of them; or memory was refused to them.
+abbrev pub AreLinesGiven : Result (Vec ℕ Global) AllocError → (status : ℕ)
+    → (old new : Option (List ℕ)) → (exit : ℕ) → Type 0
+AreLinesGiven (Ok lines) status old new exit =
+    (Appends old new lines.items × (exit ≡ status)) ⊎ (IsBegun old new lines.items × (exit ≡ 3))
+AreLinesGiven (Err refused) status old new exit = Keeps old new × (exit ≡ 4)
+
+-- the same of lines that say what is wrong and where
+pub record HasExplained (Explain : List ℕ → Type 0) (old new : Option (List ℕ)) (exit : ℕ)
+    : Type 0 where
   pub lines : List ℕ
-  pub explained : IsExplained config why lines
+  pub explained : Explain lines
   pub printed : (Appends old new lines × (exit ≡ 1)) ⊎ (IsBegun old new lines × (exit ≡ 3))
 
-abbrev pub IsExplanationGiven : List ℕ → ConfigFault → (old new : Option (List ℕ)) → (exit : ℕ)
-    → Type 0
-IsExplanationGiven config why old new exit =
-    HasExplained config why old new exit ⊎ (Keeps old new × (exit ≡ 4))
+-- what is told of a file with a fault, where an explanation is asked for or not
+abbrev pub IsFileRefused : (explain : Bool) → (Explain : List ℕ → Type 0)
+    → (old new : Option (List ℕ)) → (exit : ℕ) → Type 0
+IsFileRefused true Explain old new exit =
+    HasExplained Explain old new exit ⊎ (Keeps old new × (exit ≡ 4))
+IsFileRefused false Explain old new exit = Keeps old new × (exit ≡ 1)
 
--- what is told of settings, where an explanation is asked for or not
-abbrev pub IsSettingsRefused : (explain : Bool) → List ℕ → ConfigFault → (old new : Option (List ℕ))
-    → (exit : ℕ) → Type 0
-IsSettingsRefused true config why old new exit = IsExplanationGiven config why old new exit
-IsSettingsRefused false config why old new exit = Keeps old new × (exit ≡ 1)
-
--- what is told of a fault
+-- what is told of a fault in these octets
 abbrev pub IsRefusalTold : (explain : Bool) → List ℕ → Fault → (old new : Option (List ℕ))
     → (exit : ℕ) → Type 0
-IsRefusalTold explain config (Config why) old new exit =
-    IsSettingsRefused explain config why old new exit
-IsRefusalTold explain config fault old new exit = Keeps old new × (exit ≡ status_of fault)
+IsRefusalTold explain text (Config why) old new exit =
+    IsFileRefused explain (IsExplained text why) old new exit
+IsRefusalTold explain text (Site why) old new exit =
+    IsFileRefused explain (IsSiteExplained text why) old new exit
+IsRefusalTold explain text fault old new exit = Keeps old new × (exit ≡ status_of fault)
 
 pub record IsRefused (config : List ℕ) (how : Checking) (old new : Option (List ℕ)) (exit : ℕ)
     : Type 0 where

@@ -49,7 +49,7 @@ show104 = command (codes "show104") (word (codes "HEX") ∷ flag (codes "words")
 
 abbrev pub check : App
 check = command (codes "check") (word (codes "CONFIG") ∷ flag (codes "live")
-    ∷ flag (codes "explain") ∷ [])
+    ∷ flag (codes "explain") ∷ single (codes "site") ∷ [])
 
 abbrev pub replay : App
 replay = command (codes "replay") (word (codes "CONFIG") ∷ word (codes "TRACE")
@@ -151,8 +151,9 @@ AsksFor name rows (Show101 sizes hex words) = (name ≡ codes "show101")
     × IsFlag rows (codes "words") words
 AsksFor name rows (Show104 hex words) = (name ≡ codes "show104")
     × IsGiven rows (codes "HEX") hex.now × IsFlag rows (codes "words") words
-AsksFor name rows (Check config live explain) =
+AsksFor name rows (Check config site live explain) =
     (name ≡ codes "check") × IsGiven rows (codes "CONFIG") config.now
+    × IsNamed rows (codes "site") (text_of site)
     × IsFlag rows (codes "live") live × IsFlag rows (codes "explain") explain
 AsksFor name rows (Replay config trace left counts words color) =
     (name ≡ codes "replay") × IsGiven rows (codes "CONFIG") config.now

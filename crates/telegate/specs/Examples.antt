@@ -51,10 +51,12 @@ abbrev pub AskTwo : List Text → (Bor Text → Bor Text → Request) → (first
 AskTwo words of first second = (one other : Bor Text)
     → Ask words (of one other) ((one.now ≡ first) × (other.now ≡ second))
 
--- for the judgement of settings
-abbrev pub AskCheck : List Text → (config : Text) → (live explain : Bool) → Type 0
-AskCheck words config live explain = (c : Bor Text) (l e : Bool) →
-    Ask words (Check c l e) ((c.now ≡ config) × (l ≡ live) × (e ≡ explain))
+-- for the judgement of settings, behind this file of a site, if any
+abbrev pub AskCheck : List Text → (config : Text) → (site : Option Text) → (live explain : Bool)
+    → Type 0
+AskCheck words config site live explain = (c : Bor Text) (s : Option (Bor Text)) (l e : Bool) →
+    Ask words (Check c s l e) ((c.now ≡ config) × (text_of s ≡ site) × (l ≡ live)
+    × (e ≡ explain))
 
 -- for a run over a trace, with these closing lines, in words and in colours
 abbrev pub AskReplay : List Text → (config trace : Text) → (left counts in_words color : Bool)
@@ -94,7 +96,7 @@ AskRun words config site said = (c : Bor Text) (w : RunWords) →
 abbrev pub name_of : Request → Text
 name_of (Show101 sizes hex words) = codes "show101"
 name_of (Show104 hex words) = codes "show104"
-name_of (Check config live explain) = codes "check"
+name_of (Check config site live explain) = codes "check"
 name_of (Replay config trace left counts words color) = codes "replay"
 name_of (Sim config script words color) = codes "sim"
 name_of (Audit config text) = codes "audit"

@@ -1,6 +1,7 @@
 -- What the program does with its words and with the files that they name (this gateway's own
 -- profile).
-use Rattle.std.specs.Prelude.{◌≡◌, ◌⊎◌, ℕ, List, [], ◌∷◌, ◌++◌, Option, Some, None, Result, codes}
+use Rattle.std.specs.Prelude.{◌≡◌, ◌⊎◌, ℕ, Bool, List, [], ◌∷◌, ◌++◌, Option, Some, None, Result}
+use Rattle.std.specs.Prelude.{codes}
 use Rattle.std.specs.Io.KnownBytes.{Keeps}
 use Rattle.clap.specs.Words.{Text, HasKind, fault_of, kind_of, subcommand_of}
 use Rattle.clap.specs.declared.error.Error.{Error}
@@ -13,12 +14,15 @@ use Rattle.telegate.specs.Asking.{ShowsStatus}
 use Rattle.telegate.specs.Audits.{IsAuditedBy}
 use Rattle.telegate.specs.Captures.{IsCapturedBy}
 use Rattle.telegate.specs.Faults.{status_of_end}
+use Rattle.telegate.specs.Checks.{IsCheckDone, IsRefusalTold}
 use Rattle.telegate.specs.CommandLine.{IsRequestOf, text_of, program}
 use Rattle.telegate.specs.Wishes.{CameAt, HasRunAsSaid, HasRunLive, HasWrongSite, site_files}
+use Rattle.telegate.specs.Wishes.{IsFirstSiteFault, IsGoodSite}
 use Rattle.telegate.specs.Manners.{manner_of}
 use Rattle.telegate.specs.Piping.{HasPiped, PipesLine}
 use Rattle.telegate.specs.declared.manner.Manner.{Manner}
 use Rattle.telegate.specs.declared.piping.Piped.TheVariants.{Connection}
+use Rattle.telegate.specs.declared.check.Checking.{Checking}
 use Rattle.telegate.specs.declared.closing.Closing.{Closing}
 use Rattle.telegate.specs.declared.host.Wishes.{Wishes}
 use Rattle.telegate.specs.declared.run_words.RunWords.{RunWords}
@@ -39,17 +43,20 @@ abbrev pub IsJobOf : (has : Text → List ℕ → Type 0) → Request → Job �
 IsJobOf has (Show101 sizes hex words) (job.Show101 s h w) =
     (s.now ≡ sizes.now) × (h.now ≡ hex.now) × (w ≡ words)
 IsJobOf has (Show104 hex words) (job.Show104 h w) = (h.now ≡ hex.now) × (w ≡ words)
-IsJobOf has (Check config live explain) (job.Check c how) =
-    has config.now c.now × (how ≡ record { live = live; explain = explain })
 IsJobOf has (Sim config script words color) (job.Sim c s manner) =
     has config.now c.now × has script.now s.now × (manner ≡ manner_of words color)
 IsJobOf has _ _ = ⊥
 
--- the names of a request's files, in the order of the words
+-- what is read first where a site's file is judged before the settings are read
+abbrev pub first_file : (site : Option Text) → (config : Text) → Text
+first_file None config = config
+first_file (Some site) config = site
+
+-- the names of the files that are read before anything is judged, in the order of the words
 abbrev pub files_of : Request → List Text
 files_of (Show101 sizes hex words) = []
 files_of (Show104 hex words) = []
-files_of (Check config live explain) = config.now ∷ []
+files_of (Check config site live explain) = first_file (text_of site) config.now ∷ []
 files_of (Replay config trace left counts words color) = config.now ∷ trace.now ∷ []
 files_of (Sim config script words color) = config.now ∷ script.now ∷ []
 files_of (Audit config text) = config.now ∷ text.now ∷ []
@@ -95,6 +102,53 @@ pub record IsJobDone (has : Text → List ℕ → Type 0) (request : Request) (o
   pub job : Job
   pub of : IsJobOf has request job
   pub done : Performs job old new exit
+
+-- the settings of this name were judged
+pub record HasChecked (has : Text → List ℕ → Type 0) (config : Text) (how : Checking)
+    (old new : Option (List ℕ)) (exit : ℕ) : Type 0 where
+  pub octets : List ℕ
+  pub read : has config octets
+  pub done : IsCheckDone octets how old new exit
+
+-- or they couldn't be read, and nothing was printed
+abbrev pub ChecksFile : (has : Text → List ℕ → Type 0) → (lacks : Text → Type 0) → (config : Text)
+    → Checking → (old new : Option (List ℕ)) → (exit : ℕ) → Type 0
+ChecksFile has lacks config how old new exit =
+    HasChecked has config how old new exit
+    ⊎ (IsNotRead has lacks (config ∷ []) exit × Keeps old new)
+
+-- the file of a site is good
+pub record HasGoodSite (has : Text → List ℕ → Type 0) (site : Text) : Type 0 where
+  pub octets : List ℕ
+  pub read : has site octets
+  pub good : IsGoodSite octets
+
+-- it is refused by its first fault, which is told
+pub record HasRefusedSite (has : Text → List ℕ → Type 0) (site : Text) (explain : Bool)
+    (old new : Option (List ℕ)) (exit : ℕ) : Type 0 where
+  pub octets : List ℕ
+  pub read : has site octets
+  pub fault : Fault
+  pub is : IsFirstSiteFault octets fault
+  pub told : IsRefusalTold explain octets fault old new exit
+
+-- Settings are judged; where a site's file is named, that is judged before them, and they are only
+-- where it is good.
+abbrev pub HasCheckedBehind : (has : Text → List ℕ → Type 0) → (lacks : Text → Type 0)
+    → (site : Option Text) → (config : Text) → Checking → (old new : Option (List ℕ))
+    → (exit : ℕ) → Type 0
+HasCheckedBehind has lacks None config how old new exit = HasChecked has config how old new exit
+HasCheckedBehind has lacks (Some site) config how old new exit =
+    HasRefusedSite has site how.explain old new exit
+    ⊎ (HasGoodSite has site × ChecksFile has lacks config how old new exit)
+
+-- or what is read first can't be read, and nothing was printed
+abbrev pub ChecksBehind : (has : Text → List ℕ → Type 0) → (lacks : Text → Type 0)
+    → (site : Option Text) → (config : Text) → Checking → (old new : Option (List ℕ))
+    → (exit : ℕ) → Type 0
+ChecksBehind has lacks site config how old new exit =
+    HasCheckedBehind has lacks site config how old new exit
+    ⊎ (IsNotRead has lacks (first_file site config ∷ []) exit × Keeps old new)
 
 -- A trace was replayed by settings of these octets; or it couldn't be read, and nothing was
 -- printed.
@@ -195,31 +249,36 @@ pub record IsShownOrPiped (hex : Text) (IsShown IsPiped : Type 0) : Type 0 where
 
 -- What a command is to do where its files can be read; a live run prints nothing but its record,
 -- which the host writes.
-abbrev pub IsDone : (has : Text → List ℕ → Type 0)
+abbrev pub IsDone : (has : Text → List ℕ → Type 0) → (lacks : Text → Type 0)
     → (ran : List ℕ → Wishes → Result (Unit {0}) Fault → Type 0)
     → (answered : Text → List ℕ → List ℕ → Type 0) → (silent : Text → Type 0)
     → (played : List ℕ → List ℕ → Result (Unit {0}) Fault → Type 0) → Request
     → (old new : Option (List ℕ)) → (exit : ℕ) → Type 0
-IsDone has ran answered silent played (Run config words) old new exit =
+IsDone has lacks ran answered silent played (Run config words) old new exit =
     HasRunAsSaid has ran config.now words exit × Keeps old new
-IsDone has ran answered silent played (Replay config trace left counts words color) old new exit =
+IsDone has lacks ran answered silent played (Check config site live explain) old new exit =
+    HasCheckedBehind has lacks (text_of site) config.now
+    (record { live = live; explain = explain }) old new exit
+IsDone has lacks ran answered silent played (Replay config trace left counts words color) old new
+    exit =
     HasReplayed has config.now trace.now (manner_of words color)
     (record { left = left; counts = counts }) old new exit
-IsDone has ran answered silent played (Audit config text) old new exit =
+IsDone has lacks ran answered silent played (Audit config text) old new exit =
     HasAudited has config.now text.now old new exit
-IsDone has ran answered silent played (Show101 sizes hex words) old new exit =
+IsDone has lacks ran answered silent played (Show101 sizes hex words) old new exit =
     IsShownOrPiped hex.now (IsJobDone has (Show101 sizes hex words) old new exit)
     (PipesLine sizes.now words (has input) old new exit)
-IsDone has ran answered silent played (Show104 hex words) old new exit =
+IsDone has lacks ran answered silent played (Show104 hex words) old new exit =
     IsShownOrPiped hex.now (IsJobDone has (Show104 hex words) old new exit)
     (HasPiped Connection words (has input) old new exit)
-IsDone has ran answered silent played (Status place json) old new exit =
+IsDone has lacks ran answered silent played (Status place json) old new exit =
     ShowsStatus answered silent place.now json old new exit
-IsDone has ran answered silent played (Capture config text) old new exit =
+IsDone has lacks ran answered silent played (Capture config text) old new exit =
     HasCaptured has config.now text.now old new exit
-IsDone has ran answered silent played (Stations config script) old new exit =
+IsDone has lacks ran answered silent played (Stations config script) old new exit =
     HavePlayedFiles has played config.now script.now exit × Keeps old new
-IsDone has ran answered silent played request old new exit = IsJobDone has request old new exit
+IsDone has lacks ran answered silent played request old new exit =
+    IsJobDone has request old new exit
 
 -- the command is done, or a file couldn't be read and nothing was printed
 abbrev pub Responds : (has : Text → List ℕ → Type 0) → (lacks : Text → Type 0)
@@ -228,7 +287,7 @@ abbrev pub Responds : (has : Text → List ℕ → Type 0) → (lacks : Text →
     → (played : List ℕ → List ℕ → Result (Unit {0}) Fault → Type 0) → Request
     → (old new : Option (List ℕ)) → (exit : ℕ) → Type 0
 Responds has lacks ran answered silent played request old new exit =
-    IsDone has ran answered silent played request old new exit
+    IsDone has lacks ran answered silent played request old new exit
     ⊎ (IsNotRead has lacks (files_of request) exit × Keeps old new)
 
 -- Words

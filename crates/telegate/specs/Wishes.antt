@@ -4,6 +4,7 @@ use Rattle.std.specs.Prelude.{◌≡◌, ◌⊎◌, ℕ, Bool, true, false, not,
 use Rattle.std.specs.Prelude.{Option, Some, None, MatchOption, Result, codes}
 use Rattle.std.specs.Option.{option_or}
 use Rattle.clap.specs.Words.{Text}
+use Rattle.live.specs.declared.guests.Guests.{Guests}
 use Rattle.sitefile.specs.Site.{IsFaultOfText, IsSiteOf, SiteNames, SiteValues, empty_site}
 use Rattle.sitefile.specs.Site.{names_of, site_of}
 use Rattle.sitefile.specs.declared.fault.SiteFault.TheVariants as why
@@ -120,12 +121,12 @@ abbrev pub AreNoGuests : (words site : Option (List Text)) → Fault → Type 0
 AreNoGuests None site fault = AreNoSiteGuests site fault
 AreNoGuests (Some words) site fault = IsGuestsFault (Some words) fault
 
--- what is said can't be: a state that isn't named, or guests that aren't addresses
+-- what is said can't be: a state isn't named, or, where it is, guests aren't addresses
 abbrev pub IsWishFault : (words site : Said) → Fault → Type 0
 IsWishFault words site fault =
-    (IsStateFault words.or_stop fault
-    × (lacks_state (said_of words site).state (said_of words site).or_stop ≡ true))
-    ⊎ AreNoGuests words.allow site.allow fault
+    let said = said_of words site in
+    (IsStateFault words.or_stop fault × (lacks_state said.state said.or_stop ≡ true))
+    ⊎ (AreNoGuests words.allow site.allow fault × (lacks_state said.state said.or_stop ≡ false))
 
 -- The file of a site
 
@@ -154,6 +155,29 @@ pub record HasWrongSite (has : Text → List ℕ → Type 0) (site : Option Text
   pub fault : Fault
   pub is : IsSiteFault octets fault
   pub status : exit ≡ status_of fault
+
+-- What a site's file says can be, where words say nothing: a state is named where it has to be
+-- kept, and the texts of `allow` are addresses.
+pub record CanBe (said : Said) : Type 0 where
+  pub is_named : lacks_state said.state said.or_stop ≡ false
+  pub guests : Guests
+  pub are : AreGuests said.allow guests
+
+-- the octets are a site's file without a fault
+pub record IsGoodSite (octets : List ℕ) : Type 0 where
+  pub site : SiteFile
+  pub is : IsSiteOf octets site
+  pub can : CanBe (said_in (site_of site))
+
+-- what the site's file says can't be
+pub record IsUnfit (octets : List ℕ) (fault : Fault) : Type 0 where
+  pub site : SiteFile
+  pub is : IsSiteOf octets site
+  pub unfit : IsWishFault nothing_said (said_in (site_of site)) fault
+
+-- its first fault, where it stands alone: a wrong or an unknown key, or else that
+abbrev pub IsFirstSiteFault : List ℕ → Fault → Type 0
+IsFirstSiteFault octets fault = IsSiteFault octets fault ⊎ IsUnfit octets fault
 
 -- Runs
 

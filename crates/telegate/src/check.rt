@@ -1,17 +1,18 @@
 //! The command that judges settings.
 ghost use Rattle.std.specs.Prelude.{MatchResult};
 ghost use Rattle.telegate.specs.Given.{IsGood, IsReadConfig};
-ghost use Rattle.telegate.specs.Checks.{IsCheckDone, IsCheckFault, IsExplanationGiven, IsGoodFor};
-ghost use Rattle.telegate.specs.Checks.{IsSettingsRefused};
+ghost use Rattle.telegate.specs.Checks.{AreLinesGiven, IsCheckDone, IsCheckFault, IsGoodFor};
+ghost use Rattle.telegate.specs.Checks.{IsRefusalTold};
+ghost use Rattle.telegate.specs.Faults.{status_of};
 
 use crate::answer::Answer;
 use crate::fault::{DONE, Fault};
 use crate::living::read_live;
 use crate::performing::{give, print, tell};
 use gateway::Config;
-use hints::explain;
+use hints::{explain, explain_site};
 use settings::{ConfigFault, is_here};
-use std::alloc::Global;
+use std::alloc::{AllocError, Global};
 use std::io::Write;
 
 /// How settings are judged.
@@ -42,8 +43,7 @@ pub(crate) fn check<W: Write, E: Write>(
             }
             give(&good(alloc), out, err)
         }
-        Err(Fault::Config(why)) => refuse(alloc, config, why, how.explain, out, err),
-        Err(fault) => tell(&fault, err),
+        Err(fault) => refuse(alloc, config, &fault, how.explain, out, err),
     }
 }
 
@@ -75,39 +75,43 @@ fn warn<E: Write>(err: &mut E) {
     );
 }
 
-/// Tells a fault of settings, and prints what is wrong and where, if that is asked for. Answers the
-/// exit status.
-fn refuse<W: Write, E: Write>(
+/// Tells why the file of these octets is refused, and prints what is wrong in it and where, if that
+/// is asked for. Answers the exit status.
+pub(crate) fn refuse<W: Write, E: Write>(
     alloc: Global,
-    config: &[u8],
-    why: ConfigFault,
+    text: &[u8],
+    fault: &Fault,
     explains: bool,
     out: &mut W,
     err: &mut E,
 ) -> u8
-    ensures { IsSettingsRefused explains config.now why (W.contents out.old) (W.contents out.new)
+    ensures { IsRefusalTold explains text.now fault.now (W.contents out.old) (W.contents out.new)
         result }
 {
-    if explains {
-        explain_fault(alloc, config, why, out, err)
-    } else {
-        tell(&Fault::Config(why), err)
+    if !explains {
+        return tell(fault, err);
+    }
+    match fault {
+        Fault::Config(why) => give_lines(&explain(alloc, text, why), fault, out, err),
+        Fault::Site(why) => give_lines(&explain_site(alloc, text, why), fault, out, err),
+        _ => tell(fault, err),
     }
 }
 
-/// Tells a fault of settings, and prints what is wrong and where. Answers the exit status.
-fn explain_fault<W: Write, E: Write>(
-    alloc: Global,
-    config: &[u8],
-    why: ConfigFault,
+/// Tells a fault, and prints the lines that explain it, if there was memory for them. Answers the
+/// exit status.
+fn give_lines<W: Write, E: Write>(
+    lines: &Result<Vec<u8>, AllocError>,
+    fault: &Fault,
     out: &mut W,
     err: &mut E,
 ) -> u8
-    ensures { IsExplanationGiven config.now why (W.contents out.old) (W.contents out.new) result }
+    ensures { AreLinesGiven lines.now (status_of fault.now) (W.contents out.old)
+        (W.contents out.new) result }
 {
-    match explain(alloc, config, &why) {
+    match lines {
         Ok(lines) => {
-            let status = tell(&Fault::Config(why), err);
+            let status = tell(fault, err);
             match print(lines.as_slice(), out) {
                 Ok(()) => status,
                 Err(_) => tell(&Fault::Device, err),

@@ -25,10 +25,11 @@ pub(crate) enum Request<'m, 'a> {
         hex: &'a str,
         words: bool,
     },
-    /// The name of a file, whether it is judged as for a live run, and whether it is told what is
-    /// wrong and where.
+    /// The name of a file, that of the file of the site, if one is judged too, whether it is judged
+    /// as for a live run, and whether it is told what is wrong and where.
     Check {
         config: &'a str,
+        site: Option<&'a str>,
         live: bool,
         explain: bool,
     },
@@ -153,7 +154,7 @@ fn check<'a>(alloc: Global) -> Result<Command<'a>, AllocError>
     ensures { IfOk result (IsCommand line.check) }
 {
     Command::new(alloc, "check")
-        .about("Checks a file of settings")
+        .about("Checks a file of settings, and that of a site")
         .after_help(help::CHECK)
         .arg(word(alloc, "CONFIG", "A file of settings"))?
         .arg(flag(
@@ -165,6 +166,11 @@ fn check<'a>(alloc: Global) -> Result<Command<'a>, AllocError>
             alloc,
             "explain",
             "Prints behind a fault where it is, and what is wanted there",
+        ))?
+        .arg(single(
+            alloc,
+            "site",
+            "A file of what belongs to this site, which is judged first",
         ))
 }
 
@@ -432,6 +438,7 @@ fn check_of<'m, 'a>(matches: &'m ArgMatches<'a>) -> Option<Request<'m, 'a>>
 {
     Some(Request::Check {
         config: given(matches, "CONFIG")?,
+        site: given(matches, "site"),
         live: is_given(matches, "live"),
         explain: is_given(matches, "explain"),
     })

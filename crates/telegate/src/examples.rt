@@ -21,9 +21,12 @@ pub fn words_by_example()
         (codes "1112") (codes "E5") true
         × AskShow104 (codes "show104" ∷ codes "6804" ∷ []) (codes "6804") false
         × AskShow104 (codes "show104" ∷ codes "6804" ∷ codes "--words" ∷ []) (codes "6804") true }
-    ensures checks { AskCheck (codes "check" ∷ codes "a" ∷ []) (codes "a") false false
-        × AskCheck (codes "check" ∷ codes "--live" ∷ codes "a" ∷ []) (codes "a") true false
-        × AskCheck (codes "check" ∷ codes "a" ∷ codes "--explain" ∷ []) (codes "a") false true }
+    ensures checks { AskCheck (codes "check" ∷ codes "a" ∷ []) (codes "a") None false false
+        × AskCheck (codes "check" ∷ codes "--live" ∷ codes "a" ∷ []) (codes "a") None true false
+        × AskCheck (codes "check" ∷ codes "a" ∷ codes "--explain" ∷ [])
+        (codes "a") None false true
+        × AskCheck (codes "check" ∷ codes "--site" ∷ codes "b" ∷ codes "a" ∷ [])
+        (codes "a") (Some (codes "b")) false false }
     ensures files { AskTwo (codes "audit" ∷ codes "a" ∷ codes "b" ∷ []) Audit
         (codes "a") (codes "b")
         × AskTwo (codes "capture" ∷ codes "a" ∷ codes "b" ∷ []) Capture (codes "a") (codes "b")

@@ -9,11 +9,12 @@ Exit status: 0 done, 1 a bad frame or a file with wrong content, 2 usage, 3 a fi
 failed, 4 no memory. A fault is one line on standard error.";
 
 pub(crate) const CHECK: &str = "\
-Printed: `ok`. A fault is one line on standard error: the first that there is. With --explain
-standard output then says where the fault is (line and column in CONFIG with the value as it is
+Printed: `ok`. A fault is one line on standard error: the first that there is. With --site the file
+of the site is judged first, as `run --site` does, and CONFIG only if it is good. With --explain
+standard output then says where the fault is (line and column in its file with the value as it is
 written, or below which line a missing key belongs), what is wanted, and where another station has
 the same number. With --live a line that is on another machine is told on standard error.
-Exit status: 0 good, 1 wrong settings, 2 usage, 3 a file or the output failed, 4 no memory";
+Exit status: 0 good, 1 wrong settings or site, 2 usage, 3 a file or the output failed, 4 no memory";
 
 pub(crate) const REPLAY: &str = "\
 TRACE has one event a line; lines that are empty or begin with `#` are skipped. MS is a moment in

@@ -1,6 +1,5 @@
 //! The work of a command.
 
-use crate::check::Checking;
 use crate::manner::Manner;
 
 /// A command whose files are read whole, with their octets in place of their names.
@@ -12,8 +11,6 @@ pub enum Job<'a> {
     /// The APDU at the front of octets of the connection, in hexadecimal, and whether it is told in
     /// one line of words.
     Show104(&'a str, bool),
-    /// The judgement of a file of settings, and how it is judged.
-    Check(&'a [u8], Checking),
     /// A run of the gateway over simulated stations and a simulated control centre: the settings,
     /// the script, and how it is printed.
     Sim(&'a [u8], &'a [u8], Manner),

@@ -7,7 +7,6 @@ ghost use Rattle.telegate.specs.Answers.{Performs};
 ghost use Rattle.telegate.specs.Given.{IsGiven};
 
 use crate::answer::Answer;
-use crate::check::check;
 use crate::fault::{DONE, Fault};
 use crate::job::Job;
 use crate::showing::{show101, show104};
@@ -34,7 +33,6 @@ pub fn perform<W: Write, E: Write>(
     match job {
         Job::Show101(sizes, hex, words) => give(&show101(alloc, *sizes, *hex, *words), out, err),
         Job::Show104(hex, words) => give(&show104(alloc, *hex, *words), out, err),
-        Job::Check(config, how) => check(alloc, *config, *how, out, err),
         Job::Sim(config, script, manner) => {
             match simulate(alloc, *config, *script, *manner, is_watched, out, err) {
                 Ok(()) => DONE,

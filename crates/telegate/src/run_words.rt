@@ -1,4 +1,6 @@
 //! What the words of a live run say.
+ghost use Rattle.std.specs.Prelude.{◌≡◌};
+ghost use Rattle.telegate.specs.Wishes.{nothing_said, said_by};
 
 /// What the words of a live run say beside the name of its settings.
 #[derive(Clone, Copy, Debug, PartialEq, Eq)]
@@ -21,4 +23,23 @@ pub(crate) struct RunWords<'m, 'a> {
     pub(crate) allow: Option<&'m [&'a str]>,
     /// Where the run can be looked at, if it can.
     pub(crate) status: Option<&'a str>,
+}
+
+impl<'m, 'a> RunWords<'m, 'a> {
+    /// Words that say nothing.
+    pub(crate) fn none() -> RunWords<'m, 'a>
+        ensures { said_by result ≡ nothing_said }
+    {
+        RunWords {
+            site: None,
+            redial: false,
+            log: false,
+            log_severity: false,
+            record: false,
+            state: None,
+            state_or_stop: false,
+            allow: None,
+            status: None,
+        }
+    }
 }

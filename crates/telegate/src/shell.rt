@@ -8,7 +8,8 @@ ghost use Rattle.telegate.specs.Answers.{IsReplayed, Runs};
 ghost use Rattle.telegate.specs.Captures.{IsCapturedBy};
 ghost use Rattle.telegate.specs.Piping.{HasPiped, PipesLine};
 ghost use Rattle.telegate.specs.Shell.{HaveEnded, PlayFiles};
-ghost use Rattle.telegate.specs.Shell.{AuditsFile, IsNoSite, IsNotRead, IsSilent, IsTold, Obeys};
+ghost use Rattle.telegate.specs.Shell.{AuditsFile, ChecksBehind, ChecksFile, IsNoSite, IsNotRead};
+ghost use Rattle.telegate.specs.Shell.{IsSilent, IsTold, Obeys};
 ghost use Rattle.telegate.specs.Shell.{ReplaysFile, Responds, RunsAsSaid, RunsAtSite, RunsFile};
 ghost use Rattle.telegate.specs.Shell.{input, unreadable_line};
 ghost use Rattle.telegate.specs.Wishes.{HasEndedLive, IsSiteIn};
@@ -16,7 +17,7 @@ ghost use Rattle.telegate.specs.Wishes.{HasEndedLive, IsSiteIn};
 use crate::asking::ask_status;
 use crate::auditing::audit;
 use crate::capturing::capture;
-use crate::check::Checking;
+use crate::check::{Checking, check, refuse};
 use crate::closing::Closing;
 use crate::command_line::{Request, parse, request_of};
 use crate::fault::{DEVICE_FAILED, DONE, Fault, USAGE};
@@ -28,7 +29,7 @@ use crate::piping::{Piped, end_pipe, pipe};
 use crate::replay::{Asked, replay};
 use crate::run_words::RunWords;
 use crate::source::{Held, Source};
-use crate::wishes::{site_in, wishes_of};
+use crate::wishes::{judge_site, site_in, wishes_of};
 use clap::Error;
 use clap::error::ErrorKind;
 use sitefile::Site;
@@ -122,24 +123,16 @@ pub(crate) fn respond<H: Host, W: Write, E: Write>(
         }
         Request::Check {
             config,
+            site,
             live,
             explain,
-        } => match read_file(host, *config, err) {
-            Ok(config) => {
-                let how = Checking {
-                    live: *live,
-                    explain: *explain,
-                };
-                perform(
-                    alloc,
-                    &Job::Check(config.as_slice(), how),
-                    is_watched,
-                    out,
-                    err,
-                )
-            }
-            Err(status) => status,
-        },
+        } => {
+            let how = Checking {
+                live: *live,
+                explain: *explain,
+            };
+            check_behind(alloc, host, *site, *config, how, out, err)
+        }
         Request::Replay {
             config,
             trace,
@@ -186,6 +179,50 @@ pub(crate) fn respond<H: Host, W: Write, E: Write>(
             Err(status) => status,
         },
         Request::Stations { config, script } => play_files(host, *config, *script, err),
+    }
+}
+
+/// Judges the settings of this name. Where a site's file is named, that is read and judged before
+/// they are, and they are only where it is good. Answers the exit status.
+fn check_behind<H: Host, W: Write, E: Write>(
+    alloc: Global,
+    host: &H,
+    site: Option<&str>,
+    config: &str,
+    how: Checking,
+    out: &mut W,
+    err: &mut E,
+) -> u8
+    ensures { ChecksBehind (H.has host.now) (H.lacks host.now) (text_of site.entry) config.now how
+        (W.contents out.old) (W.contents out.new) result }
+{
+    let Some(name) = site else {
+        return check_file(alloc, host, config, how, out, err);
+    };
+    match read_file(host, name, err) {
+        Ok(octets) => match judge_site(alloc, octets.as_slice()) {
+            Ok(()) => check_file(alloc, host, config, how, out, err),
+            Err(fault) => refuse(alloc, octets.as_slice(), &fault, how.explain, out, err),
+        },
+        Err(status) => status,
+    }
+}
+
+/// Judges the settings of this name, and answers the exit status.
+fn check_file<H: Host, W: Write, E: Write>(
+    alloc: Global,
+    host: &H,
+    config: &str,
+    how: Checking,
+    out: &mut W,
+    err: &mut E,
+) -> u8
+    ensures { ChecksFile (H.has host.now) (H.lacks host.now) config.now how
+        (W.contents out.old) (W.contents out.new) result }
+{
+    match read_file(host, config, err) {
+        Ok(octets) => check(alloc, octets.as_slice(), how, out, err),
+        Err(status) => status,
     }
 }
 

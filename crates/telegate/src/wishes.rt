@@ -3,7 +3,8 @@ ghost use Rattle.std.specs.Prelude.{◌≡◌, IfErr, IfOk, MatchResult, option_
 ghost use Rattle.std.specs.Option.{option_or};
 ghost use Rattle.sitefile.specs.Site.{IsSiteOf, names_of, site_of, texts_in};
 ghost use Rattle.telegate.specs.CommandLine.{text_of, texts_of};
-ghost use Rattle.telegate.specs.Wishes.{AreNoGuests, AreNoSiteGuests, AreWishes, IsSiteFault};
+ghost use Rattle.telegate.specs.Wishes.{AreNoGuests, AreNoSiteGuests, AreWishes, IsGoodSite};
+ghost use Rattle.telegate.specs.Wishes.{IsFirstSiteFault, IsSiteFault};
 ghost use Rattle.telegate.specs.Wishes.{IsStateFault, IsWishFault, said_by, said_in, said_of};
 ghost use Rattle.telegate.specs.Guests.{AreGuests};
 
@@ -23,6 +24,19 @@ pub(crate) fn site_in(alloc: Global, octets: &[u8]) -> Result<Site, Fault>
         Ok(site) => Ok(site),
         Err(SiteFault::NoMemory) => Err(Fault::NoMemory),
         Err(fault) => Err(Fault::Site(fault)),
+    }
+}
+
+/// Judges the octets of a site's file, as a live run does whose words say nothing beside it.
+pub(crate) fn judge_site(alloc: Global, octets: &[u8]) -> Result<(), Fault>
+    ensures { MatchResult result (λ done. IsGoodSite octets.now) (IsFirstSiteFault octets.now) }
+{
+    match site_in(alloc, octets) {
+        Ok(site) => match wishes_of(alloc, &RunWords::none(), &site) {
+            Ok(_wishes) => Ok(()),
+            Err(fault) => Err(fault),
+        },
+        Err(fault) => Err(fault),
     }
 }
 

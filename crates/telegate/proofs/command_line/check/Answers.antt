@@ -2,7 +2,7 @@ use Rattle.std.proofs.lemmas.Result.{IfOk-weaker}
 use Rattle.std.proofs.Common.{rules}
 use Rattle.clap.specs.Words.{AddsArg, new_app}
 use Rattle.std.specs.Prelude.{codes}
-use Rattle.telegate.specs.CommandLine.{IsCommand, word, flag}
+use Rattle.telegate.specs.CommandLine.{IsCommand, word, flag, single}
 use Rattle.telegate.specs.CommandLine as line
 use Rattle.telegate.proofs.Commands.{with_argument}
 use Rattle.telegate.proofs.command_line.check.Goals as goal
@@ -16,7 +16,10 @@ returns c =
     let second = with_argument _ (flag (codes "live")) _ c.in_ok-arg-2.field-0 c.flag.result first
     c.flag.ensures
     c.in_ok-arg-2.ensures in
-    IfOk-weaker c.arg-3.result (AddsArg c.in_ok-arg-2.field-0 c.flag-2.result)
+    let third = with_argument _ (flag (codes "explain")) _ c.in_ok-arg-3.field-0 c.flag-2.result
+    second
+    c.flag-2.ensures c.in_ok-arg-3.ensures in
+    IfOk-weaker c.arg-4.result (AddsArg c.in_ok-arg-3.field-0 c.single.result)
     (IsCommand line.check)
-    (λ r adds. with_argument _ (flag (codes "explain")) _ r c.flag-2.result second c.flag-2.ensures
-    adds) c.arg-3.ensures
+    (λ r adds. with_argument _ (single (codes "site")) _ r c.single.result third c.single.ensures
+    adds) c.arg-4.ensures

@@ -22,9 +22,13 @@ returns-clause-shows c = (
 pub returns-clause-checks : goal.returns-clause-checks
 unfolding bundle_met walked flags_fault walk_fault defaults_fault
 returns-clause-checks c = (
-  λ x l e. (refl, check_is (codes "a") false false _ _ _ x l e refl refl refl),
-  λ x l e. (refl, check_is (codes "a") true false _ _ _ x l e refl refl refl),
-  λ x l e. (refl, check_is (codes "a") false true _ _ _ x l e refl refl refl),
+  λ x s l e. (refl, check_is (codes "a") None false false _ _ _ _ x s l e refl refl refl refl),
+  λ x s l e. (refl, check_is (codes "a") None true false _ _ _ _ x s l e refl refl refl refl),
+  λ x s l e. (refl, check_is (codes "a") None false true _ _ _ _ x s l e refl refl refl refl),
+  λ x s l e. (
+    refl,
+    check_is (codes "a") (Some (codes "b")) false false _ _ _ _ x s l e refl refl refl refl,
+  ),
 )
 
 pub returns-clause-files : goal.returns-clause-files

@@ -16,9 +16,6 @@ returns-in-Show104 g c = performs_as c.in-Show104.is
           c.give-in-Show104.ensures;
     })
 
-pub returns-in-Check : goal.returns-in-Check
-returns-in-Check g c = performs_as c.in-Check.is c.check.ensures
-
 pub returns-in-Ok : goal.returns-in-Ok
 returns-in-Ok g c = performs_as c.in-Sim.is (record {
   result = c.simulate.result;

@@ -1,8 +1,18 @@
 use Rattle.std.proofs.Common.{ap, subst, List, ℕ, ◌∷◌, []}
 use Rattle.telegate.specs.Shell.{ReplaysFile, files_of}
 use Rattle.telegate.specs.declared.manner.Manner.{Manner}
-use Rattle.telegate.proofs.Files.{first_of_more, has_replayed, has_run, have_played, unanswered}
+use Rattle.telegate.proofs.Files.{first_of_more, has_checked, has_replayed, has_run, have_played}
+use Rattle.telegate.proofs.Files.{unanswered}
 use Rattle.telegate.proofs.shell.respond.Goals as goal
+
+pub returns-in-Check : goal.returns-in-Check
+returns-in-Check g c =
+    has_checked (g.H.Host.has c.args.host.now) (g.H.Host.lacks c.args.host.now)
+    (g.H.Host.ran c.args.host.now) (g.H.Host.answered c.args.host.now)
+    (g.H.Host.silent c.args.host.now) (g.H.Host.played c.args.host.now)
+    c.args.request.now c.in-Check.config c.in-Check.site c.in-Check.live c.in-Check.explain
+    (g.W.Write.contents c.args.out.now) (g.W.Write.contents c.check_behind.new.out)
+    c.check_behind.result c.in-Check.is c.check_behind.ensures
 
 pub returns-in-Err : goal.returns-in-Err
 returns-in-Err g c =
@@ -10,18 +20,10 @@ returns-in-Err g c =
     (g.H.Host.ran c.args.host.now) (g.H.Host.answered c.args.host.now)
     (g.H.Host.silent c.args.host.now) (g.H.Host.played c.args.host.now)
     c.args.request.now _ (g.W.Write.contents c.args.out.now) c.in-Err.status
-    (ap files_of c.in-Check.is) c.in-Err.ensures.unread
-
-pub returns-in-Err-read_file : goal.returns-in-Err-read_file
-returns-in-Err-read_file g c =
-    unanswered (g.H.Host.has c.args.host.now) (g.H.Host.lacks c.args.host.now)
-    (g.H.Host.ran c.args.host.now) (g.H.Host.answered c.args.host.now)
-    (g.H.Host.silent c.args.host.now) (g.H.Host.played c.args.host.now)
-    c.args.request.now _ (g.W.Write.contents c.args.out.now) c.in-Err-read_file.status
     (ap files_of c.in-Replay.is)
     (first_of_more (g.H.Host.has c.args.host.now) (g.H.Host.lacks c.args.host.now)
     c.in-Replay.config.now
-    (c.in-Replay.trace.now ∷ []) c.in-Err-read_file.status c.in-Err-read_file.ensures.unread)
+    (c.in-Replay.trace.now ∷ []) c.in-Err.status c.in-Err.ensures.unread)
 
 pub returns-in-Err-read_files : goal.returns-in-Err-read_files
 returns-in-Err-read_files g c =
@@ -32,16 +34,16 @@ returns-in-Err-read_files g c =
     (g.W.Write.contents c.args.out.now) c.in-Err-read_files.status
     (ap files_of c.in-Sim.is) c.in-Err-read_files.ensures.unread
 
-pub returns-in-Err-read_file-2 : goal.returns-in-Err-read_file-2
-returns-in-Err-read_file-2 g c =
+pub returns-in-Err-read_file : goal.returns-in-Err-read_file
+returns-in-Err-read_file g c =
     unanswered (g.H.Host.has c.args.host.now) (g.H.Host.lacks c.args.host.now)
     (g.H.Host.ran c.args.host.now) (g.H.Host.answered c.args.host.now)
     (g.H.Host.silent c.args.host.now) (g.H.Host.played c.args.host.now)
-    c.args.request.now _ (g.W.Write.contents c.args.out.now) c.in-Err-read_file-2.status
+    c.args.request.now _ (g.W.Write.contents c.args.out.now) c.in-Err-read_file.status
     (ap files_of c.in-Audit.is)
     (first_of_more (g.H.Host.has c.args.host.now) (g.H.Host.lacks c.args.host.now)
     c.in-Audit.config.now
-    (c.in-Audit.text.now ∷ []) c.in-Err-read_file-2.status c.in-Err-read_file-2.ensures.unread)
+    (c.in-Audit.text.now ∷ []) c.in-Err-read_file.status c.in-Err-read_file.ensures.unread)
 
 pub returns-in-Run : goal.returns-in-Run
 returns-in-Run g c =
@@ -51,19 +53,19 @@ returns-in-Run g c =
     c.args.request.now c.in-Run.config c.in-Run.words
     (g.W.Write.contents c.args.out.now) c.run_wished.result c.in-Run.is c.run_wished.ensures
 
-pub returns-in-Ok-read_file : goal.returns-in-Ok-read_file
-returns-in-Ok-read_file g c =
+pub returns-in-Ok : goal.returns-in-Ok
+returns-in-Ok g c =
     has_replayed (g.H.Host.has c.args.host.now) (g.H.Host.lacks c.args.host.now)
     (g.H.Host.ran c.args.host.now) (g.H.Host.answered c.args.host.now)
     (g.H.Host.silent c.args.host.now) (g.H.Host.played c.args.host.now)
     c.args.request.now c.in-Replay.config c.in-Replay.trace c.in-Replay.left c.in-Replay.counts
     c.in-Replay.words
-    c.in-Replay.color c.in-Ok-read_file.config.items (g.W.Write.contents c.args.out.now)
+    c.in-Replay.color c.in-Ok.config.items (g.W.Write.contents c.args.out.now)
     (g.W.Write.contents c.replay_file.new.out) c.replay_file.result c.in-Replay.is
-    c.in-Ok-read_file.ensures.read
+    c.in-Ok.ensures.read
     (subst (λ (manner : Manner). ReplaysFile (g.H.Host.has c.args.host.now)
     (g.H.Host.lacks c.args.host.now)
-    c.in-Replay.trace.now c.in-Ok-read_file.config.items manner
+    c.in-Replay.trace.now c.in-Ok.config.items manner
     (record { left = c.in-Replay.left; counts = c.in-Replay.counts })
     (g.W.Write.contents c.args.out.now)
     (g.W.Write.contents c.replay_file.new.out) c.replay_file.result) c.manner_of.ensures
@@ -73,19 +75,19 @@ returns-in-Ok-read_file g c =
     (record { left = c.in-Replay.left; counts = c.in-Replay.counts })
     (g.W.Write.contents c.args.out.now)
     (g.W.Write.contents c.replay_file.new.out) c.replay_file.result)
-    c.as_slice-in-Ok-read_file.ensures.value
+    c.as_slice-in-Ok.ensures.value
     c.replay_file.ensures))
 
-pub returns-in-Err-read_file-3 : goal.returns-in-Err-read_file-3
-returns-in-Err-read_file-3 g c =
+pub returns-in-Err-read_file-2 : goal.returns-in-Err-read_file-2
+returns-in-Err-read_file-2 g c =
     unanswered (g.H.Host.has c.args.host.now) (g.H.Host.lacks c.args.host.now)
     (g.H.Host.ran c.args.host.now) (g.H.Host.answered c.args.host.now)
     (g.H.Host.silent c.args.host.now) (g.H.Host.played c.args.host.now)
-    c.args.request.now _ (g.W.Write.contents c.args.out.now) c.in-Err-read_file-3.status
+    c.args.request.now _ (g.W.Write.contents c.args.out.now) c.in-Err-read_file-2.status
     (ap files_of c.in-Capture.is)
     (first_of_more (g.H.Host.has c.args.host.now) (g.H.Host.lacks c.args.host.now)
     c.in-Capture.config.now
-    (c.in-Capture.text.now ∷ []) c.in-Err-read_file-3.status c.in-Err-read_file-3.ensures.unread)
+    (c.in-Capture.text.now ∷ []) c.in-Err-read_file-2.status c.in-Err-read_file-2.ensures.unread)
 
 pub returns-in-Stations : goal.returns-in-Stations
 returns-in-Stations g c =
