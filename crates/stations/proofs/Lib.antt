@@ -1,4 +1,11 @@
-pub mod Sizes
+pub mod Commenting
+pub mod CueLines
+pub mod CueReading
 pub mod Hearings
 pub mod Placing
+pub mod Playing
+pub mod Reading
 pub mod Requesting
+pub mod Sizes
+pub mod Telling
+pub mod Timing
