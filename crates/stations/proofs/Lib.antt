@@ -3,8 +3,8 @@ pub mod CueLines
 pub mod CueReading
 pub mod Hearings
 pub mod Placing
-pub mod Playing
-pub mod Reading
+pub mod Rounds
+pub mod BothReadings
 pub mod Requesting
 pub mod Sizes
 pub mod Telling

@@ -96,7 +96,7 @@ station_given view now e i class report s t is_given lt at f =
   where
     by_case : (b : Bool) → record view {
       stations = if b then changed_at i (with_report class report) view.stations
-      else view.stations;
+          else view.stations;
     }
         ≡ (if b then record now {
           stations = changed_at i (with_report class report) now.stations;
@@ -143,8 +143,11 @@ told_here passed i old view mid d report due same taken e q r lt at f =
     ap (λ (l : List Cue). record view { cues = l })
     (set_changed view.cues i (given_at passed) q r here at f)
     ∙ ap (λ (x : Standing). record x { cues = changed_at i (given_at passed) x.cues }) e in
-    let told : GivesDue passed i (Some d) old (record view { cues = slice_set view.cues i r }) =
-    (true, mid, subst (λ (l : List ℕ). IsReported d.station d.class l old true mid) same taken,
-    written) in
+    let told : GivesDue passed i (Some d) old (record view { cues = slice_set view.cues i r }) = (
+      true,
+      mid,
+      subst (λ (l : List ℕ). IsReported d.station d.class l old true mid) same taken,
+      written,
+    ) in
     subst (λ (o : Option Due). GivesDue passed i o old
     (record view { cues = slice_set view.cues i r })) (sym due) told

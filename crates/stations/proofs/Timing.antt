@@ -8,7 +8,6 @@ use Rattle.std.specs.Prelude.{if◌then◌else◌, nat_le}
 use Rattle.stations.specs.Cues.{AreInPeriods, IsOneFrom, given_moments, is_due, next_due}
 use Rattle.stations.specs.declared.cue.Timer.{Timer}
 
-
 due_at : (m : ℕ) (due : ℕ) (b : Bool) → (nat_le due m && b) ≡ true → due ≤ m
 due_at m due b e = go (nat_le due m) refl
   where

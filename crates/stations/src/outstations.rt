@@ -89,7 +89,11 @@ fn reports_for(station: usize, directive: &Directive) -> bool
 fn count_of(script: &Script, station: usize) -> u64
     ensures { result ≡ count_by (reports_for station) script.now }
 {
-    script.directives().iter().filter(|one| reports_for(station, *one)).count() as u64
+    script
+        .directives()
+        .iter()
+        .filter(|one| reports_for(station, *one))
+        .count() as u64
 }
 
 /// The same of each of so many stations.
@@ -98,7 +102,9 @@ fn counts_of(alloc: Global, script: &Script, stations: usize) -> Result<Vec<u64>
 {
     let mut counts = Vec::new(alloc);
     for station in 0..stations {
-        counts.push(count_of(script, station)).map_err(|_| NoMemory)?;
+        counts
+            .push(count_of(script, station))
+            .map_err(|_| NoMemory)?;
     }
     Ok(counts)
 }
@@ -106,11 +112,7 @@ fn counts_of(alloc: Global, script: &Script, stations: usize) -> Result<Vec<u64>
 impl Outstations {
     /// Those of these settings, which were never reset, with the reports that the script gives
     /// them. An `Err` is want of memory.
-    pub fn new(
-        alloc: Global,
-        config: &Config,
-        scenario: Scenario,
-    ) -> Result<Outstations, NoMemory>
+    pub fn new(alloc: Global, config: &Config, scenario: Scenario) -> Result<Outstations, NoMemory>
         requires { FitsScenario config.now scenario }
         ensures { IfOk result (λ o. o ≡ first_standing config.now scenario) }
     {

@@ -18,7 +18,7 @@ use std::time::Duration;
 const LOOK_MS: u64 = 1;
 
 /// Does so many rounds, each at the moment that the clock tells then, with a pause behind each.
-#[tactic(auto, using(crate::proofs::Playing::plays_more))]
+#[tactic(auto, using(crate::proofs::Rounds::plays_more))]
 pub fn play<R: std::rt::Clock, C: Clock, D: Door + Drop>(
     rt: &R,
     clock: &mut C,

@@ -45,7 +45,7 @@ impl Outstations {
         requires here { station < length self.old.stations }
         requires fits { FitsFrame self.old.size report.now }
         ensures { self.new ≡ (if result then record self.old {
-            stations = changed_at station (with_report class report.now) self.old.stations;
+          stations = changed_at station (with_report class report.now) self.old.stations;
         } else self.old) }
     {
         report_to(&mut self.stations[station], class, report)

@@ -15,8 +15,12 @@ returns-then-station-len-clause-value c =
           ∙ ap (λ (s : Standing). has_room c.args.station s.had s.stations) c.self.view_is
       | then-station-len-via-else-station-len+then-station-len-2 w ↦
           sym (no_room_here c.args.station c.self.inside.had.items c.self.inside.stations.items
-          (omega (arith, w.if-station-len-2.true, w.len-else-station-len.ensures,
-          c.self.inside.stations.ok.0)))
+          (omega (
+            arith,
+            w.if-station-len-2.true,
+            w.len-else-station-len.ensures,
+            c.self.inside.stations.ok.0,
+          )))
           ∙ ap (λ (s : Standing). has_room c.args.station s.had s.stations) c.self.view_is
     ]
 
@@ -29,6 +33,10 @@ returns-clause-value c =
     ∙ (sym (room_here c.args.station c.self.inside.had.items c.self.inside.stations.items
     c.index.result.now c.index-2.result.now
     (omega (arith, c.if-station-len.false, c.len.ensures, c.self.inside.had.ok.0))
-    (omega (arith, c.if-station-len-2.false, c.len-else-station-len.ensures,
-    c.self.inside.stations.ok.0)) c.index-2.ensures)
+    (omega (
+      arith,
+      c.if-station-len-2.false,
+      c.len-else-station-len.ensures,
+      c.self.inside.stations.ok.0,
+    )) c.index-2.ensures)
     ∙ ap (λ (s : Standing). has_room c.args.station s.had s.stations) c.self.view_is)

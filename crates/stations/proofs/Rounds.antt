@@ -85,8 +85,7 @@ looked_alone [] old new none h = ap (λ (s : Stage). s.place) h
 looked_alone (now ∷ moments) old new none h =
     let before : h.0.place.standing.cues ≡ [] = rounds_cues moments old h.0 h.1 none in
     let looked : h.2.looked.standing.cues ≡ [] =
-    looked_cues h.0.place h.2.looked h.2.looks ∙ before in
-    (
+    looked_cues h.0.place h.2.looked h.2.looks ∙ before in (
       h.0.place,
       looked_alone moments old h.0 none h.1,
       subst (λ (p : Place). Looks h.0.place p)
