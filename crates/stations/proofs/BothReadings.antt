@@ -1,18 +1,24 @@
 -- A text of both kinds of lines.
-use Rattle.std.proofs.Common.{◌≡◌, ℕ, ◌+◌, ◌==◌, Bool, true, false, List, [], ◌∷◌, ◌++◌, length, map}
+use Rattle.std.proofs.Common.{◌≡◌, ℕ, ◌+◌, ◌==◌, List, [], ◌∷◌, ◌++◌, length, map}
 use Rattle.std.proofs.Common.{Bor, Option, Some, None, ap, refl, sym, subst, ◌∙◌}
-use Rattle.std.specs.Prelude.{Result, Ok, Err, if◌then◌else◌, option_to_list}
-use Rattle.std.specs.List.{filter_map, join_with_byte, slice_split}
+use Rattle.std.specs.Prelude.{Result, Ok, Err, IfOk, MatchResult, Vec, if◌then◌else◌}
+use Rattle.std.specs.Prelude.{option_to_list}
+use Rattle.std.specs.declared.alloc.Global.{Global}
+use Rattle.std.specs.List.{AllByRecursion, cons_option, filter_map, join_with_byte, slice_split}
 use Rattle.ft12.specs.declared.frame.LinkSize.{LinkSize}
 use Rattle.gateway.specs.Config.{Settings}
-use Rattle.sim.specs.Scripts.{AreSaidBy, IsFaultOf, IsScriptOf, ended_lines, first_wrong, lines_of}
+use Rattle.gateway.specs.declared.settings.LineSettings.{LineSettings}
+use Rattle.gateway.specs.declared.settings.Station.{Station}
+use Rattle.sim.specs.Scripts.{AreSaidBy, FitsSettings, IsFaultOf, IsScriptOf, ended_lines}
+use Rattle.sim.specs.Scripts.{first_wrong, lines_of}
 use Rattle.sim.specs.declared.directive.Directive.{Directive}
 use Rattle.traces.specs.declared.reading.TextFault.{TextFault}
 use Rattle.traces.specs.declared.reading.TextFault.TheVariants.{Line, NoMemory}
-use Rattle.stations.specs.CueLines.{cue_in, is_cue_line}
-use Rattle.stations.specs.Scenarios.{AreCuesOf, AreSaid, IsCueFault, IsFirstFault, commented}
-use Rattle.stations.specs.Scenarios.{earlier_fault, first_of_two, first_wrong_cue, is_wrong_cue}
-use Rattle.stations.specs.Scenarios.{said_alone}
+use Rattle.stations.specs.Cues.{FitsLine}
+use Rattle.stations.specs.Scenarios.{AreCuesOf, AreSaid, IsCueFault, IsFirstFault}
+use Rattle.stations.specs.Scenarios.{IsScenarioOf, commented}
+use Rattle.stations.specs.Scenarios.{FitsScenario, earlier_fault, first_of_two, first_wrong_cue}
+use Rattle.stations.specs.Scenarios.{is_wrong_cue, joined, said_alone}
 use Rattle.stations.specs.declared.cue.Cue.{Cue}
 use Rattle.stations.specs.declared.scenario.Scenario.{Scenario}
 use Rattle.stations.proofs.Commenting.{lines_commented}
@@ -24,7 +30,7 @@ said_ended size n [] = refl
 said_ended size n ([] ∷ []) = refl
 said_ended size n ([] ∷ l ∷ lines) = said_ended size n (l ∷ lines)
 said_ended size n ((b ∷ bs) ∷ lines) =
-    ap (λ (cues : List Cue). option_to_list (said_alone size n (b ∷ bs)) ++ cues)
+    ap (λ (cues : List Cue). cons_option (said_alone size n (b ∷ bs)) cues)
     (said_ended size n lines)
 
 wrong_ended : (size : LinkSize) (n : ℕ) (before : List Cue) (k : ℕ) (lines : List (List ℕ)) →
@@ -118,20 +124,82 @@ cue_wrong size n text rest parts p script (Line k) wrong right =
 cue_wrong size n text rest parts p script NoMemory wrong right = tt
 
 -- both are
-pub both_are_wrong : (size : LinkSize) (n : ℕ) (text rest : List ℕ)
-    (parts : List (Bor (List ℕ))) → IsParted text rest parts → (one other fault : TextFault) →
-    fault ≡ earlier_fault one other →
+both_are_wrong : (size : LinkSize) (n : ℕ) (text rest : List ℕ) (parts : List (Bor (List ℕ))) →
+    IsParted text rest parts → (one other : TextFault) →
     IsCueFault size n (map (λ line. line.now) parts) one →
-    IsFaultOf size n (lines_of rest) other → IsFirstFault size n (lines_of text) fault
-both_are_wrong size n text rest parts p one other fault e cues script =
-    subst (λ (f : TextFault). IsFirstFault size n (lines_of text) f) (sym e)
-    (by_case one other cues script)
-  where
-    by_case : (one other : TextFault) → IsCueFault size n (map (λ line. line.now) parts) one →
-        IsFaultOf size n (lines_of rest) other →
-        IsFirstFault size n (lines_of text) (earlier_fault one other)
-    by_case (Line k) (Line m) cues script =
-        both_wrong size n text rest parts p (Some k) (Some m) cues script
-    by_case (Line k) NoMemory cues script = tt
-    by_case NoMemory (Line m) cues script = tt
-    by_case NoMemory NoMemory cues script = tt
+    IsFaultOf size n (lines_of rest) other →
+    IsFirstFault size n (lines_of text) (earlier_fault one other)
+both_are_wrong size n text rest parts p (Line k) (Line m) cues script =
+    both_wrong size n text rest parts p (Some k) (Some m) cues script
+both_are_wrong size n text rest parts p (Line k) NoMemory cues script = tt
+both_are_wrong size n text rest parts p NoMemory (Line m) cues script = tt
+both_are_wrong size n text rest parts p NoMemory NoMemory cues script = tt
+
+-- what the readings answer, joined
+pub joined_said : (size : LinkSize) (n : ℕ) (text rest : List ℕ) (parts : List (Bor (List ℕ))) →
+    IsParted text rest parts → (cues : Result (Vec Cue Global) TextFault)
+    (script : Result (List Directive) TextFault) →
+    MatchResult cues (λ v. AreCuesOf size n (map (λ line. line.now) parts) v.items)
+    (IsCueFault size n (map (λ line. line.now) parts)) →
+    MatchResult script (AreSaidBy size n (lines_of rest)) (IsFaultOf size n (lines_of rest)) →
+    MatchResult (joined cues script) (AreSaid size n (lines_of text))
+    (IsFirstFault size n (lines_of text))
+joined_said size n text rest parts p (Ok cues) (Ok script) c s =
+    all_said size n text rest parts p (record { script = script; cues = cues }) c s
+joined_said size n text rest parts p (Ok cues) (Err fault) c s =
+    script_wrong size n text rest parts p cues.items fault c s
+joined_said size n text rest parts p (Err fault) (Ok script) c s =
+    cue_wrong size n text rest parts p script fault c s
+joined_said size n text rest parts p (Err one) (Err other) c s =
+    both_are_wrong size n text rest parts p one other c s
+
+pub joined_fits : (c : Settings) (cues : Result (Vec Cue Global) TextFault)
+    (script : Result (List Directive) TextFault) →
+    IfOk cues (λ v. AllByRecursion (FitsLine c.line.link) v.items) →
+    IfOk script (FitsSettings c) → IfOk (joined cues script) (FitsScenario c)
+joined_fits c (Ok cues) (Ok script) lines fits = record { script = fits; lines = lines }
+joined_fits c (Ok cues) (Err fault) lines fits = tt
+joined_fits c (Err fault) (Ok script) lines fits = tt
+joined_fits c (Err one) (Err other) lines fits = tt
+
+-- what the reading of the lines for the outstations alone answers
+abbrev pub AreCuesRead : LinkSize → ℕ → List (List ℕ) → Result (Vec Cue Global) TextFault → Type 0
+AreCuesRead size n lines cues =
+    MatchResult cues (λ v. AreCuesOf size n lines v.items) (IsCueFault size n lines)
+
+pub scenario_read : (c : Settings) (line : LineSettings) (stations : List Station)
+    (text made rest : List ℕ) (parts one other : List (Bor (List ℕ))) → line ≡ c.line →
+    stations ≡ c.stations → one ≡ parts → other ≡ parts →
+    map (λ part. part.now) parts ≡ slice_split (λ b. b == 10) text →
+    made ≡ join_with_byte 10 (map (λ part. commented part.now) other) → rest ≡ made →
+    (cues : Result (Vec Cue Global) TextFault) (script : Result (List Directive) TextFault) →
+    AreCuesRead line.link (length stations) (map (λ part. part.now) one) cues →
+    IsScriptOf c rest script → (result : Result Scenario TextFault) →
+    result ≡ joined cues script → IsScenarioOf c text result
+scenario_read c line stations text made rest parts one other l s first second whole built taken
+    cues script answer read result e =
+    let n : ℕ = length c.stations in
+    let parted : IsParted text rest one = record {
+      parts_are = ap (λ (p : List (Bor (List ℕ))). map (λ part. part.now) p) first ∙ whole;
+      rest_is = taken
+          ∙ (built
+          ∙ ap (λ (p : List (Bor (List ℕ))). join_with_byte 10
+          (map (λ part. commented part.now) p)) (second ∙ sym first));
+    } in
+    let answered : AreCuesRead c.line.link n (map (λ part. part.now) one) cues =
+    subst (λ (x : LineSettings). AreCuesRead x.link n (map (λ part. part.now) one) cues) l
+    (subst (λ (x : List Station). AreCuesRead line.link (length x) (map (λ part. part.now) one)
+    cues) s answer) in
+    subst (λ (r : Result Scenario TextFault). IsScenarioOf c text r) (sym e)
+    (joined_said c.line.link n text rest one parted cues script answered read)
+
+pub scenario_fits : (c : Settings) (line : LineSettings) → line ≡ c.line →
+    (cues : Result (Vec Cue Global) TextFault) (script : Result (List Directive) TextFault) →
+    IfOk cues (λ v. AllByRecursion (FitsLine line.link) v.items) →
+    IfOk script (FitsSettings c) → (result : Result Scenario TextFault) →
+    result ≡ joined cues script → IfOk result (FitsScenario c)
+scenario_fits c line l cues script lines fits result e =
+    subst (λ (r : Result Scenario TextFault). IfOk r (FitsScenario c)) (sym e)
+    (joined_fits c cues script
+    (subst (λ (x : LineSettings). IfOk cues (λ v. AllByRecursion (FitsLine x.link) v.items)) l
+    lines) fits)

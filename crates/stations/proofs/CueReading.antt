@@ -1,6 +1,6 @@
 -- Lines for the outstations alone, one by one.
 use Rattle.std.proofs.Common.{◌≡◌, ℕ, ◌+◌, ◌<◌, ◌≤◌, List, [], ◌∷◌, ◌++◌, length, drop, get_or, map}
-use Rattle.std.proofs.Common.{true, false, Bool, Bor, Some, None, refl, sym, ap, subst, ◌∙◌, arith}
+use Rattle.std.proofs.Common.{true, false, Bor, Some, None, sym, subst, ◌∙◌}
 use Rattle.std.proofs.Common.{append_assoc}
 use Rattle.std.proofs.lemmas.List.{drop_more, drop_all, append-nil}
 use Rattle.std.specs.List.{filter_map, AllByRecursion}

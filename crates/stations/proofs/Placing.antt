@@ -1,6 +1,6 @@
 -- Looks at the ends of a place.
-use Rattle.std.proofs.Common.{◌≡◌, ℕ, ◌+◌, ◌∙◌, Bool, true, List, [], Option, Some, None, ap, sym}
-use Rattle.std.proofs.Common.{subst, take, add-one}
+use Rattle.std.proofs.Common.{◌≡◌, ℕ, ◌∙◌, Bool, true, List, [], Option, Some, None, ap, sym}
+use Rattle.std.proofs.Common.{subst, take}
 use Rattle.std.specs.Prelude.{if◌then◌else◌}
 use Rattle.live.specs.Wires.{History, Visits, looked, noted, visited}
 use Rattle.live.specs.declared.wires.Got.TheVariants.{Octets}

@@ -9,7 +9,6 @@ use Rattle.stations.specs.Exchanges.{Exchange, Exchanged, Standing}
 use Rattle.stations.specs.Places.{IsAnsweredAt, IsHeardAt, Looks, LooksOn, Place, TellsAll}
 use Rattle.stations.specs.Places.{after_visit}
 use Rattle.stations.specs.Stages.{IsRound, PlaysOn, RoundsAt, Stage, TellsSince, passed_since}
-use Rattle.stations.specs.Stages.{read_all}
 use Rattle.stations.specs.Telling.{TellsEach}
 use Rattle.stations.specs.declared.cue.Cue.{Cue}
 

@@ -1,11 +1,13 @@
 -- What a text says to the outstations: a script of `sim`, and lines for them alone (profile).
 use Rattle.std.specs.Prelude.{◌≡◌, ℕ, ◌+◌, ◌==◌, ◌&&◌, ◌||◌, nat_le, min, Bool, true, false, List, []}
 use Rattle.std.specs.Prelude.{◌∷◌, ◌++◌, if◌then◌else◌, length, map, Option, Some, None}
-use Rattle.std.specs.Prelude.{option_to_list, Result, MatchResult}
+use Rattle.std.specs.Prelude.{option_to_list, Result, Ok, Err, MatchResult, Vec}
 use Rattle.std.specs.List.{AllByRecursion, filter_map, list_any}
+use Rattle.std.specs.declared.alloc.Global.{Global}
 use Rattle.ft12.specs.declared.frame.LinkSize.{LinkSize}
 use Rattle.gateway.specs.Config.{Settings}
 use Rattle.sim.specs.Scripts.{AreSaidBy, FitsSettings, first_wrong, lines_of}
+use Rattle.sim.specs.declared.directive.Directive.{Directive}
 use Rattle.traces.specs.declared.reading.TextFault.{TextFault}
 use Rattle.traces.specs.declared.reading.TextFault.TheVariants.{Line, NoMemory}
 use Rattle.stations.specs.CueLines.{cue_in, is_cue_line}
@@ -93,6 +95,14 @@ IsFirstFault size stations lines NoMemory = Unit {0}
 abbrev pub earlier_fault : TextFault → TextFault → TextFault
 earlier_fault (Line n) (Line m) = Line (min n m)
 earlier_fault one other = NoMemory
+
+-- what is made of the answers of both readings
+abbrev pub joined : Result (Vec Cue Global) TextFault → Result (List Directive) TextFault
+    → Result Scenario TextFault
+joined (Ok cues) (Ok script) = Ok (record { script = script; cues = cues })
+joined (Ok cues) (Err fault) = Err fault
+joined (Err fault) (Ok script) = Err fault
+joined (Err one) (Err other) = Err (earlier_fault one other)
 
 -- what the reading of a text answers
 abbrev pub IsScenarioOf : Settings → List ℕ → Result Scenario TextFault → Type 0

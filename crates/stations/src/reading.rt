@@ -4,14 +4,15 @@ ghost use Rattle.std.specs.Prelude.{if◌then◌else◌};
 ghost use Rattle.std.specs.List.{AllByRecursion, join_with_byte, list_any};
 ghost use Rattle.stations.specs.Cues.{FitsLine};
 ghost use Rattle.stations.specs.Scenarios.{AreCuesOf, FitsScenario, IsCueFault, IsScenarioOf};
-ghost use Rattle.stations.specs.Scenarios.{clashes, commanded, commented, earlier_fault, refuses_cue};
+ghost use Rattle.stations.specs.Scenarios.{clashes, commanded, commented, earlier_fault, joined};
+ghost use Rattle.stations.specs.Scenarios.{refuses_cue};
 
 use crate::cue::Cue;
 use crate::cue_line::{is_cue_line, read_cue};
 use crate::scenario::Scenario;
 use ft12::LinkSize;
 use gateway::Config;
-use sim::read_script;
+use sim::{Script, read_script};
 use std::alloc::{AllocError, Global};
 use traces::{TextFault, parts};
 
@@ -127,6 +128,25 @@ fn earlier_fault(one: TextFault, other: TextFault) -> TextFault
     }
 }
 
+/// Both, or the fault of the line that comes first.
+fn joined(
+    cues: Result<Vec<Cue>, TextFault>,
+    script: Result<Script, TextFault>,
+) -> Result<Scenario, TextFault>
+    ensures { result ≡ joined cues script }
+{
+    match cues {
+        Ok(cues) => match script {
+            Ok(script) => Ok(Scenario { script, cues }),
+            Err(fault) => Err(fault),
+        },
+        Err(one) => match script {
+            Ok(_) => Err(one),
+            Err(other) => Err(earlier_fault(one, other)),
+        },
+    }
+}
+
 /// Reads a whole text for these settings: lines of a script of `sim`, and between them lines for
 /// the outstations alone, which are `at MS report S CLASS HEX` and `every MS report S CLASS HEX`
 /// (10 ms to a day), `confirm S` and `refuse S`. There are 1,000 of these at the most, and one of
@@ -140,10 +160,5 @@ pub fn read_scenario(alloc: Global, config: &Config, text: &[u8]) -> Result<Scen
     let size = config.line().link;
     let cues = read_cues(alloc, size, config.stations().len(), lines.as_slice());
     let rest = without_cues(alloc, lines.as_slice())?;
-    match (cues, read_script(alloc, config, rest.as_slice())) {
-        (Ok(cues), Ok(script)) => Ok(Scenario { script, cues }),
-        (Ok(_), Err(fault)) => Err(fault),
-        (Err(fault), Ok(_)) => Err(fault),
-        (Err(one), Err(other)) => Err(earlier_fault(one, other)),
-    }
+    joined(cues, read_script(alloc, config, rest.as_slice()))
 }

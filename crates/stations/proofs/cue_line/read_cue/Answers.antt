@@ -1,4 +1,4 @@
-use Rattle.std.proofs.Common.{◌≡◌, ℕ, Option, ap, sym, ◌∙◌}
+use Rattle.std.proofs.Common.{ℕ, Option, ap, sym, ◌∙◌}
 use Rattle.sim.specs.declared.directive.Directive.{Directive}
 use Rattle.stations.specs.CueLines.{time_of, timed_by}
 use Rattle.stations.proofs.CueLines.{behind_second, cut_off}

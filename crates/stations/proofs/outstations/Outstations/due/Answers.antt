@@ -1,4 +1,4 @@
-use Rattle.std.proofs.Common.{◌≡◌, List, ap, sym, ◌∙◌, arith}
+use Rattle.std.proofs.Common.{ap, sym, ◌∙◌, arith}
 use Rattle.stations.specs.Exchanges.{Standing}
 use Rattle.stations.specs.Telling.{due_in}
 use Rattle.stations.proofs.Telling.{due_here, due_past}

@@ -1,4 +1,4 @@
-use Rattle.std.proofs.Common.{◌≡◌, sym, ◌∙◌}
+use Rattle.std.proofs.Common.{sym}
 use Rattle.stations.proofs.Telling.{report_counted}
 use Rattle.stations.proofs.outstations.Outstations.report.Goals as goal
 

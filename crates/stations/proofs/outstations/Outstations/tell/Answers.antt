@@ -1,4 +1,4 @@
-use Rattle.std.proofs.Common.{◌≡◌, sym, ◌∙◌}
+use Rattle.std.proofs.Common.{sym, ◌∙◌}
 use Rattle.stations.proofs.Telling.{told_here}
 use Rattle.stations.proofs.outstations.Outstations.tell.Goals as goal
 
