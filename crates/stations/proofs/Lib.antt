@@ -5,6 +5,7 @@ pub mod Hearings
 pub mod Placing
 pub mod Rounds
 pub mod BothReadings
+pub mod Replying
 pub mod Requesting
 pub mod Sizes
 pub mod Telling

@@ -1,13 +1,14 @@
 -- Rounds, one after another.
-use Rattle.std.proofs.Common.{◌≡◌, ℕ, ◌+◌, List, [], ◌∷◌, length, Option, Some, None, ap, refl, sym}
+use Rattle.std.proofs.Common.{◌≡◌, ℕ, zero, suc, ◌+◌, List, [], ◌∷◌, length, Option, Some, None, ap, refl, sym}
 use Rattle.std.proofs.Common.{◌∙◌, subst, arith}
 use Rattle.live.specs.Timing.{Moments, read_at}
 use Rattle.live.specs.Wires.{History}
 use Rattle.live.specs.declared.wires.Got.{Got}
 use Rattle.live.specs.declared.wires.Got.TheVariants.{Octets, Quiet, Gone}
 use Rattle.stations.specs.Exchanges.{Exchange, Exchanged, Standing}
-use Rattle.stations.specs.Places.{IsAnsweredAt, IsHeardAt, Looks, LooksOn, Place, TellsAll}
-use Rattle.stations.specs.Places.{after_visit}
+use Rattle.stations.specs.Places.{IsAnsweredAt, IsHeardAt, Looks, LooksOn, Place, RepliesAll}
+use Rattle.stations.specs.Places.{TellsAll, after_visit}
+use Rattle.stations.specs.Replying.{RepliesBy, RepliesEach, manner_of}
 use Rattle.stations.specs.Stages.{IsRound, PlaysOn, RoundsAt, Stage, TellsSince, passed_since}
 use Rattle.stations.specs.Telling.{TellsEach}
 use Rattle.stations.specs.declared.cue.Cue.{Cue}
@@ -68,25 +69,47 @@ nothing_since now None old new none t = t
 nothing_since now (Some start) old new none t =
     nothing_told (passed_since start now) old new none t
 
+-- no line has a station reply
+nothing_each : (n : ℕ) (old new : Standing) → old.cues ≡ [] → RepliesEach n old new → new ≡ old
+nothing_each zero old new none h = h
+nothing_each (suc n) old new none h =
+    let mid : h.0 ≡ old = nothing_each n old h.0 none h.1 in
+    let cues : h.0.cues ≡ [] = ap (λ (s : Standing). s.cues) mid ∙ none in
+    let still : new ≡ h.0 =
+    subst (λ (cues : List Cue). RepliesBy n (manner_of n cues) h.0 new) cues h.2 in
+    still ∙ mid
+
+nothing_replied : (old new : Place) → old.standing.cues ≡ [] → RepliesAll old new → new ≡ old
+nothing_replied old new none r =
+    r.new_is
+    ∙ ap (λ (s : Standing). record old { standing = s })
+    (nothing_each (length old.standing.stations) old.standing new.standing none r.replied)
+
+-- a round is a look
+looked_only : (now : ℕ) (old new : Stage) → old.place.standing.cues ≡ [] →
+    (r : IsRound now old new) → new.place ≡ r.looked
+looked_only now old new none r =
+    let looked : r.looked.standing.cues ≡ [] = looked_cues old.place r.looked r.looks ∙ none in
+    let told : r.told ≡ r.looked =
+    nothing_since now new.start r.looked r.told looked r.tells in
+    nothing_replied r.told new.place (ap (λ (p : Place). p.standing.cues) told ∙ looked) r.replies
+    ∙ told
+
 rounds_cues : (moments : List ℕ) (old new : Stage) → RoundsAt moments old new →
     old.place.standing.cues ≡ [] → new.place.standing.cues ≡ []
 rounds_cues [] old new h none = ap (λ (s : Stage). s.place.standing.cues) h ∙ none
 rounds_cues (now ∷ moments) old new h none =
     let before : h.0.place.standing.cues ≡ [] = rounds_cues moments old h.0 h.1 none in
-    let looked : h.2.looked.standing.cues ≡ [] =
-    looked_cues h.0.place h.2.looked h.2.looks ∙ before in
-    ap (λ (p : Place). p.standing.cues)
-    (nothing_since now new.start h.2.looked new.place looked h.2.tells) ∙ looked
+    ap (λ (p : Place). p.standing.cues) (looked_only now h.0 new before h.2)
+    ∙ (looked_cues h.0.place h.2.looked h.2.looks ∙ before)
 
 pub looked_alone : (moments : List ℕ) (old new : Stage) → old.place.standing.cues ≡ [] →
     RoundsAt moments old new → LooksOn (length moments) old.place new.place
 looked_alone [] old new none h = ap (λ (s : Stage). s.place) h
 looked_alone (now ∷ moments) old new none h =
-    let before : h.0.place.standing.cues ≡ [] = rounds_cues moments old h.0 h.1 none in
-    let looked : h.2.looked.standing.cues ≡ [] =
-    looked_cues h.0.place h.2.looked h.2.looks ∙ before in (
+    let before : h.0.place.standing.cues ≡ [] = rounds_cues moments old h.0 h.1 none in (
       h.0.place,
       looked_alone moments old h.0 none h.1,
-      subst (λ (p : Place). Looks h.0.place p)
-          (sym (nothing_since now new.start h.2.looked new.place looked h.2.tells)) h.2.looks,
+      subst (λ (p : Place). Looks h.0.place p) (sym (looked_only now h.0 new before h.2))
+          h.2.looks,
     )

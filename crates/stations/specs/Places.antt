@@ -6,6 +6,7 @@ use Rattle.live.specs.declared.wires.Got.{Got}
 use Rattle.live.specs.declared.wires.Got.TheVariants.{Octets, Quiet, Gone}
 use Rattle.gateway.specs.Config.{Settings}
 use Rattle.stations.specs.Exchanges.{HasHeard, Standing, first_standing}
+use Rattle.stations.specs.Replying.{RepliesEach}
 use Rattle.stations.specs.Telling.{TellsEach}
 use Rattle.stations.specs.declared.scenario.Scenario.{Scenario}
 
@@ -70,4 +71,9 @@ LooksOn (suc n) old new = (mid : Place) × LooksOn n old mid × Looks mid new
 -- each line gives its station the report that it has due, so many ms behind the start
 pub record TellsAll (passed : ℕ) (old new : Place) : Type 0 where
   pub told : TellsEach passed (length old.standing.cues) old.standing new.standing
+  pub new_is : new ≡ record old { standing = new.standing }
+
+-- each station gives its next reply to the commands that it accepted
+pub record RepliesAll (old new : Place) : Type 0 where
+  pub replied : RepliesEach (length old.standing.stations) old.standing new.standing
   pub new_is : new ≡ record old { standing = new.standing }

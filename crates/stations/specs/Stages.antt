@@ -4,7 +4,7 @@ use Rattle.std.specs.Prelude.{None, is_some}
 use Rattle.gateway.specs.Config.{Settings}
 use Rattle.live.specs.Timing.{Moments, read_at}
 use Rattle.live.specs.Wires.{Visits}
-use Rattle.stations.specs.Places.{Looks, Place, TellsAll, first_place}
+use Rattle.stations.specs.Places.{Looks, Place, RepliesAll, TellsAll, first_place}
 use Rattle.stations.specs.declared.scenario.Scenario.{Scenario}
 
 -- the outstations behind their door, and the moment at which their time began, if it has begun
@@ -30,12 +30,15 @@ abbrev pub TellsSince : (now : ℕ) → (start : Option ℕ) → (old new : Plac
 TellsSince now None old new = new ≡ old
 TellsSince now (Some start) old new = TellsAll (passed_since start now) old new
 
--- One round, at this moment of the clock: a look at each end, and then what is due.
+-- One round, at this moment of the clock: a look at each end, then what is due, and then the
+-- replies.
 pub record IsRound (now : ℕ) (old new : Stage) : Type 0 where
   pub looked : Place
   pub looks : Looks old.place looked
   pub start : new.start ≡ begun now looked old.start
-  pub tells : TellsSince now new.start looked new.place
+  pub told : Place
+  pub tells : TellsSince now new.start looked told
+  pub replies : RepliesAll told new.place
 
 -- rounds at these moments, the newest first
 abbrev pub RoundsAt : (moments : List ℕ) → (old new : Stage) → Type 0

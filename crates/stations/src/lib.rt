@@ -11,6 +11,7 @@ mod outstations;
 mod place;
 mod playing;
 mod reading;
+mod replies;
 mod scenario;
 mod stage;
 

@@ -8,11 +8,14 @@ ghost use Rattle.stations.specs.Scenarios.{FitsScenario};
 ghost use Rattle.stations.specs.Exchanges.{HasHeard, IsAnswered, IsHeard, answer_written};
 ghost use Rattle.stations.specs.Exchanges.{first_counts, first_standing};
 
+mod replying;
 mod telling;
 
+use self::replying::{Progress, none_replied};
 use crate::cue::Cue;
 use crate::scenario::Scenario;
 use arrayvec::ArrayVec;
+use asdu::Sizes;
 use ft12::{Assembler, Frame, LinkSize, encode};
 use gateway::Config;
 use link::{NoMemory, Station, station_is_an_outstation};
@@ -26,12 +29,16 @@ use std::marker::Model;
 #[derive(Drop)]
 pub struct Outstations {
     size: LinkSize,
+    /// The sizes of the numbers in ASDUs.
+    sizes: Sizes,
     script: Script,
     /// The lines of the script for the outstations alone.
     cues: Vec<Cue>,
     stations: Vec<Station>,
     /// How many reports each station had, with those that it gave.
     had: Vec<u64>,
+    /// How far each station's replies to commands are.
+    progress: Vec<Progress>,
     /// How many requests came.
     requests: u64,
     /// What came since the last frame.
@@ -59,10 +66,12 @@ impl Model for Outstations {
 
     ghost view = { λ o. record {
       size = o.size;
+      sizes = o.sizes;
       directives = o.script;
       cues = o.cues.items;
       stations = o.stations.items;
       had = o.had.items;
+      progress = o.progress.items;
       requests = o.requests;
       so_far = unwrap_or o.line.so_far [];
     } };
@@ -119,13 +128,16 @@ impl Outstations {
         let Scenario { script, cues } = scenario;
         let stations = begin(alloc, config, &script)?;
         let had = counts_of(alloc, &script, config.stations().len())?;
+        let progress = none_replied(alloc, config.stations().len())?;
         let size = config.line().link;
         Ok(Outstations {
             size,
+            sizes: config.line().sizes,
             script,
             cues,
             stations,
             had,
+            progress,
             requests: 0,
             line: Assembler::new(size),
         })

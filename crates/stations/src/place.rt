@@ -1,7 +1,8 @@
 //! The outstations behind a door.
 ghost use Rattle.std.specs.Prelude.{◌≡◌, ◌≤◌, [], None, Option, is_some};
 ghost use Rattle.live.specs.Wires.{History};
-ghost use Rattle.stations.specs.Places.{IsHeardAt, IsVisitor, Looks, TellsAll, after_visit};
+ghost use Rattle.stations.specs.Places.{IsHeardAt, IsVisitor, Looks, RepliesAll, TellsAll};
+ghost use Rattle.stations.specs.Places.{after_visit};
 
 use crate::outstations::Outstations;
 use live::{Door, Got, Guests, Visitor, Wire};
@@ -66,6 +67,13 @@ impl<D: Door + Drop> Place<D> {
         ensures { TellsAll passed self.old self.new }
     {
         self.outstations.tell_all(passed);
+    }
+
+    /// Each station gives its next reply to the commands that it accepted.
+    pub(crate) fn reply_all(&mut self)
+        ensures { RepliesAll self.old self.new }
+    {
+        self.outstations.reply_all();
     }
 
     /// Looks at the door.

@@ -32,13 +32,15 @@ impl<D: Door + Drop> Stage<D> {
     }
 
     /// Looks at each end once, and then each line of the script gives its station the report that
-    /// it has due at this moment of the clock, in ms.
+    /// it has due at this moment of the clock, in ms. At last each station gives its next reply to
+    /// the commands that it accepted.
     pub fn round(&mut self, now: u64)
         ensures { IsRound now self.old self.new }
     {
         self.place.look();
         self.begin(now);
         self.tell(now);
+        self.place.reply_all();
     }
 
     /// The time begins, if a gateway is there.

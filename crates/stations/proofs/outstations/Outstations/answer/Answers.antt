@@ -43,10 +43,12 @@ returns c =
     let after : List Secondary = c.put_out-reply.new.stations in
     let view : Standing = record {
       size = c.self.inside.size;
+      sizes = c.self.inside.sizes;
       directives = c.self.inside.script;
       cues = c.self.inside.cues.items;
       stations = before;
       had = c.self.inside.had.items;
+      progress = c.self.inside.progress.items;
       requests = c.self.inside.requests;
       so_far = unwrap_or c.self.inside.line.so_far [];
     } in
