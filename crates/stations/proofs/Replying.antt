@@ -1,10 +1,11 @@
 -- The replies to commands.
-use Rattle.std.proofs.Common.{◌≡◌, ℕ, zero, suc, ◌+◌, ◌<◌, ◌≤◌, Bool, true, false, List, [], ◌∷◌, length}
+use Rattle.std.proofs.Common.{◌≡◌, ℕ, zero, suc, ◌+◌, ◌<◌, ◌≤◌, Bool, true, false, List, [], ◌∷◌}
+use Rattle.std.proofs.Common.{length}
 use Rattle.std.proofs.Common.{get_or, slice_set, map, Option, Some, None, ap, refl, sym, subst, ◌∙◌}
 use Rattle.std.proofs.Common.{arith, add-one}
 use Rattle.std.proofs.Common.{drop}
 use Rattle.std.proofs.lemmas.List.{drop_all, drop_more}
-use Rattle.std.proofs.lemmas.Option.{slice_get-map, slice_get_past, slice_get_read}
+use Rattle.std.proofs.lemmas.Option.{slice_get-map, slice_get_read}
 use Rattle.std.specs.Prelude.{if◌then◌else◌, option_map, slice_get}
 use Rattle.asdu.specs.Asdu.{AsduValue}
 use Rattle.link.specs.Requests.{FitsFrame}
@@ -19,7 +20,6 @@ use Rattle.stations.specs.Replying.{RepliesBy, RepliesEach, RepliesFrom, Replies
 use Rattle.stations.specs.Replying.{advanced, command_at, manner_in, manner_of}
 use Rattle.stations.specs.Telling.{IsReported, changed_at}
 use Rattle.stations.specs.declared.cue.Cue.{Cue}
-use Rattle.stations.specs.declared.outstations.replying.Next.{Next}
 use Rattle.stations.specs.declared.outstations.replying.Next.TheVariants.{Nothing}
 use Rattle.stations.specs.declared.outstations.replying.Progress.{Progress}
 use Rattle.stations.proofs.Telling.{set_changed}

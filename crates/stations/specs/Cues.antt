@@ -1,5 +1,6 @@
 -- When a line's report is due (profile). Moments are told in ms behind the start.
-use Rattle.std.specs.Prelude.{◌≡◌, ℕ, ◌+◌, ◌-◌, ◌/◌, ◌%◌, ◌<◌, ◌≤◌, nat_le, ◌&&◌, Bool, false, if◌then◌else◌, List}
+use Rattle.std.specs.Prelude.{◌≡◌, ℕ, ◌+◌, ◌-◌, ◌/◌, ◌%◌, ◌<◌, ◌≤◌, nat_le, ◌&&◌, Bool, false}
+use Rattle.std.specs.Prelude.{if◌then◌else◌, List}
 use Rattle.std.specs.Prelude.{[], ◌∷◌, Option, Some, None, IfSome}
 use Rattle.ft12.specs.declared.frame.LinkSize.{LinkSize}
 use Rattle.link.specs.Requests.{FitsFrame}

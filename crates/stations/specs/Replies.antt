@@ -1,5 +1,6 @@
 -- What a station's application replies to a command (IEC 60870-5-101, 7.2.3 and 7.3.2).
-use Rattle.std.specs.Prelude.{◌≡◌, ℕ, ◌+◌, ◌-◌, ◌%◌, ◌==◌, ◌&&◌, ◌||◌, not, nat_le, Bool, true, false}
+use Rattle.std.specs.Prelude.{◌≡◌, ℕ, ◌+◌, ◌-◌, ◌%◌, ◌==◌, ◌&&◌, ◌||◌, not, nat_le, Bool, true}
+use Rattle.std.specs.Prelude.{false}
 use Rattle.std.specs.Prelude.{if◌then◌else◌, List, [], ◌∷◌, length, slice_index, slice_set, Option}
 use Rattle.std.specs.Prelude.{Some, None}
 use Rattle.elements.specs.declared.types.TypeId.{TypeId}

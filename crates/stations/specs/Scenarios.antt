@@ -1,5 +1,6 @@
 -- What a text says to the outstations: a script of `sim`, and lines for them alone (profile).
-use Rattle.std.specs.Prelude.{◌≡◌, ℕ, ◌+◌, ◌==◌, ◌&&◌, ◌||◌, nat_le, min, Bool, true, false, List, []}
+use Rattle.std.specs.Prelude.{◌≡◌, ℕ, ◌+◌, ◌==◌, ◌&&◌, ◌||◌, nat_le, min, Bool, true, false, List}
+use Rattle.std.specs.Prelude.{[]}
 use Rattle.std.specs.Prelude.{◌∷◌, ◌++◌, if◌then◌else◌, length, map, Option, Some, None}
 use Rattle.std.specs.Prelude.{option_to_list, Result, Ok, Err, MatchResult, Vec}
 use Rattle.std.specs.List.{AllByRecursion, filter_map, list_any}

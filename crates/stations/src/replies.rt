@@ -4,7 +4,8 @@ ghost use Rattle.asdu.specs.Reading.{value_of};
 ghost use Rattle.link.specs.Requests.{FitsFrame};
 ghost use Rattle.sim.specs.Directives.{longest_report};
 ghost use Rattle.stations.specs.Replies.{IsCauseOfReply, IsReply, cause_by, confirmation_of};
-ghost use Rattle.stations.specs.Replies.{is_command, is_interrogation, is_process_command, is_select};
+ghost use Rattle.stations.specs.Replies.{is_command, is_interrogation, is_process_command};
+ghost use Rattle.stations.specs.Replies.{is_select};
 ghost use Rattle.stations.specs.Replies.{last_octet, qualifier, termination_of};
 
 use arrayvec::ArrayVec;
@@ -35,7 +36,11 @@ fn is_command(kind: TypeId) -> bool
 fn last_octet(octets: &[u8]) -> u8
     ensures { result ≡ last_octet octets.now }
 {
-    if octets.is_empty() { 0 } else { octets[octets.len() - 1] }
+    if octets.is_empty() {
+        0
+    } else {
+        octets[octets.len() - 1]
+    }
 }
 
 /// SCO, DCO, RCO or QOS: the last octet of its element.
@@ -61,7 +66,11 @@ fn cause_by(asdu: &Asdu, cause: u8) -> u8
     requires { cause < 128 }
     ensures { result ≡ cause_by cause (value_of asdu.now) }
 {
-    if asdu.cause() >= 128 { 128 + cause } else { cause }
+    if asdu.cause() >= 128 {
+        128 + cause
+    } else {
+        cause
+    }
 }
 
 /// The cause of the confirmation.
@@ -89,12 +98,7 @@ fn termination(refuses: bool, asdu: &Asdu) -> Option<u8>
 
 /// The cause of the reply to a command, in these sizes: of the confirmation, or once that was given
 /// of the termination. `None` says that there is no such reply.
-fn cause_of_reply(
-    sizes: Sizes,
-    refuses: bool,
-    is_confirmed: bool,
-    command: &[u8],
-) -> Option<u8>
+fn cause_of_reply(sizes: Sizes, refuses: bool, is_confirmed: bool, command: &[u8]) -> Option<u8>
     ensures { IsCauseOfReply sizes refuses is_confirmed command.now result }
 {
     let Ok(asdu) = read(sizes, command) else {

@@ -90,7 +90,10 @@ impl Outstations {
         if station >= self.progress.len() || station >= self.stations.len() {
             return Next::Nothing;
         }
-        let Progress { commands, is_confirmed } = self.progress[station];
+        let Progress {
+            commands,
+            is_confirmed,
+        } = self.progress[station];
         let accepted = self.stations[station].accepted();
         if commands >= accepted.len() {
             return Next::Nothing;

@@ -3,7 +3,8 @@ ghost use Rattle.std.specs.Prelude.{◌≡◌, ◌+◌, ◌<◌, ◌≤◌, ◌&
 ghost use Rattle.std.specs.Prelude.{if◌then◌else◌};
 ghost use Rattle.std.specs.Bool.{OnTrue};
 ghost use Rattle.link.specs.Requests.{FitsFrame};
-ghost use Rattle.stations.specs.Telling.{IsReported, Tells, TellsEach, changed_at, due_in, has_room};
+ghost use Rattle.stations.specs.Telling.{IsReported, Tells, TellsEach, changed_at, due_in};
+ghost use Rattle.stations.specs.Telling.{has_room};
 ghost use Rattle.stations.specs.Telling.{with_report};
 
 use super::Outstations;

@@ -1,4 +1,4 @@
-use Rattle.std.proofs.Common.{◌≡◌, ℕ, Bool, Option, ap, sym, ◌∙◌}
+use Rattle.std.proofs.Common.{ℕ, Bool, Option, ap, sym, ◌∙◌}
 use Rattle.std.specs.Prelude.{if◌then◌else◌}
 use Rattle.asdu.specs.Reading.{value_of}
 use Rattle.stations.specs.Replies.{confirmation_of, termination_of}

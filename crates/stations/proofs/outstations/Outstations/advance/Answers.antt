@@ -1,4 +1,4 @@
-use Rattle.std.proofs.Common.{◌<◌, ◌≤◌, arith}
+use Rattle.std.proofs.Common.{arith}
 use Rattle.stations.proofs.Replying.{advanced_here, advanced_past}
 use Rattle.stations.proofs.outstations.Outstations.advance.Goals as goal
 

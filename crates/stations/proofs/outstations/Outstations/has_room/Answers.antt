@@ -4,7 +4,8 @@ use Rattle.stations.specs.Exchanges.{Standing}
 use Rattle.stations.specs.Telling.{has_room}
 use Rattle.stations.proofs.Telling.{no_room_here, no_room_known, room_here}
 use Rattle.stations.proofs.outstations.Outstations.has_room.Goals as goal
-use Rattle.stations.proofs.outstations.Outstations.has_room.Goals.{then-station-len-via-then-station-len, then-station-len-via-else-station-len+then-station-len-2}
+use Rattle.stations.proofs.outstations.Outstations.has_room.Goals.{then-station-len-via-then-station-len}
+use Rattle.stations.proofs.outstations.Outstations.has_room.Goals.{then-station-len-via-else-station-len+then-station-len-2}
 
 pub returns-then-station-len-clause-value : goal.returns-then-station-len-clause-value
 returns-then-station-len-clause-value c =
