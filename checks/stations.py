@@ -7,6 +7,10 @@ Frame by frame, at a TCP port and at a Unix socket: each request has the answer 
 or an answer that the script loses isn't answered, a spoilt one has one octet changed, and a second gateway takes the place of the first
 and goes on where that one was. Then `telegate run` finds the outstations of examples/stations there, and a control centre gets both
 reports, once each, though an answer was lost; a command of its is confirmed on the link alone. A port that is taken ends the command.
+
+In time: a report of `at` comes once, and not before its moment; one of `every` comes in each period; the time begins with the first
+connection. A station that confirms or refuses gives what docs/STATIONS.md says to each kind of command. Wrong lines are told by their
+numbers, of either kind, and `sim` refuses these lines.
 """
 import os
 import socket
@@ -189,6 +193,192 @@ def heard(centre, count, seconds=ends.PATIENCE):
     return asdus
 
 
+class Polled:
+    """Station 1 or 2 of a play, asked frame by frame after a reset: a new frame count bit for each request."""
+
+    def __init__(self, stream, address):
+        self.stream, self.address, self.bit = stream, address, 0x20
+        stream.sendall(ends.fixed(0x40, address))
+        self.answer()
+
+    def answer(self):
+        """The next frame: its control octet and its ASDU. A single character is `E5` and nothing."""
+        head = exactly(self.stream, 1)
+        if head == CONFIRMED:
+            return 0xE5, b""
+        if head == b"\x10":
+            return exactly(self.stream, 4)[0], b""
+        long = exactly(self.stream, 3)[0]
+        body = exactly(self.stream, long + 2)
+        return body[0], body[2:-2]
+
+    def ask(self, function, asdu=b""):
+        control = 0x50 | self.bit | function
+        self.bit ^= 0x20
+        self.stream.sendall(ends.data(control, self.address, asdu) if asdu else ends.fixed(control, self.address))
+        return self.answer()
+
+    def poll(self, class_number):
+        """A report of this class, or no octets."""
+        return self.ask(12 - class_number)[1]
+
+
+def polled_for(station, class_number, seconds):
+    """The reports of a class that come within so long, each with the moment at which it came."""
+    found, begin = [], time.monotonic()
+    while time.monotonic() < begin + seconds:
+        if report := station.poll(class_number):
+            found.append((report, time.monotonic() - begin))
+        time.sleep(0.005)
+    return found
+
+
+def in_time(count, program, folder):
+    script = "turns 1\nat 600 report 1 1 %s\nevery 300 report 2 2 %s\nat 10 report 2 1 %s\n" % (POINT.hex(), VALUE.hex(), POINT.hex())
+    with Played(program, folder, f"tcp:127.0.0.1:{ends.free_port()}", script) as played:
+        # Nobody is there: no time passes.
+        time.sleep(1)
+        with played.met() as stream:
+            begin = time.monotonic()
+            first = Polled(stream, 1)
+            found = polled_for(first, 1, 1.5)
+            passed = time.monotonic() - begin
+            count.compare("at: once", [report for report, _ in found], [POINT])
+            count.judge("at: its moment", len(found) == 1 and 0.5 < found[0][1] < 1.2, str(found))
+            second = Polled(stream, 2)
+            count.compare("at: another station, behind its moment", second.poll(1), POINT)
+            # Those that were due meanwhile wait, and then one comes every 300 ms.
+            found = polled_for(second, 2, 1.5)
+            due = int((passed + 1.5) / 0.3)
+            count.judge("every: as many as were due", abs(len(found) - due) <= 1, f"{len(found)} of {due}")
+            count.judge("every: the same report", {report for report, _ in found} == {VALUE}, str(found))
+            # The time goes on over connections, and a report that was given isn't given again.
+        with played.met() as stream:
+            again = Polled(stream, 1)
+            count.compare("at: not again", [report for report, _ in polled_for(again, 1, 0.9)], [])
+
+
+def full(count, program, folder):
+    """64 reports wait at the most."""
+    script = "turns 1\nevery 10 report 1 2 %s\n" % POINT.hex()
+    with Played(program, folder, f"tcp:127.0.0.1:{ends.free_port()}", script) as played, played.met() as stream:
+        time.sleep(1.5)
+        station, found = Polled(stream, 1), 0
+        begin = time.monotonic()
+        while station.poll(2) and found < 1000:
+            found += 1
+        most = 64 + (time.monotonic() - begin) / 0.01 + 2
+        count.judge("64 wait at the most", 64 <= found <= most, f"{found} came, {most:.0f} at the most")
+
+
+# Of a command what comes back, by docs/STATIONS.md: SCO, DCO and so on with S/E in bit 7 of the last octet.
+REPLIES = [
+    ("an execute", "2D010601C80001", ["2D010701C80001", "2D010A01C80001"]),
+    ("a select", "2D010601C80081", ["2D010701C80081"]),
+    ("a deactivation", "2D010801C80001", ["2D010901C80001"]),
+    ("a double command", "2E010601C80002", ["2E010701C80002", "2E010A01C80002"]),
+    ("a set point that selects", "31010601C800E80380", ["31010701C800E80380"]),
+    ("a set point", "31010601C800E80300", ["31010701C800E80300", "31010A01C800E80300"]),
+    ("a test", "2D018601C80001", ["2D018701C80001", "2D018A01C80001"]),
+    ("an interrogation", "64010601000014", ["64010701000014", "64010A01000014"]),
+    ("another cause", "2D010301C80001", []),
+    ("a report as a command", "01010601640001", []),
+    ("no ASDU", "2D0106", []),
+]
+REFUSED = [
+    ("an execute", "2D010602C80001", ["2D014702C80001"]),
+    ("a select", "2D010602C80081", ["2D014702C80081"]),
+    ("a deactivation", "2D010802C80001", ["2D014902C80001"]),
+    ("a test", "2D018602C80001", ["2D01C702C80001"]),
+    ("an interrogation", "64010602000014", ["64014702000014"]),
+]
+
+
+def replied(count, program, folder):
+    with Played(program, folder, f"tcp:127.0.0.1:{ends.free_port()}", "turns 1\nconfirm 1\nrefuse 2\n") as played:
+        with played.met() as stream:
+            for kind, address, rows in (("confirms", 1, REPLIES), ("refuses", 2, REFUSED)):
+                station = Polled(stream, address)
+                for name, command, replies in rows:
+                    count.compare(f"{kind}, {name}: on the link", station.ask(3, bytes.fromhex(command)), (0xE5, b""))
+                    time.sleep(0.05)
+                    found = []
+                    while reply := station.poll(1):
+                        found.append(reply.hex().upper())
+                    count.compare(f"{kind}, {name}", found, replies)
+                # Two commands, one after the other, before the first poll: in order.
+                for command in (rows[0][1], rows[2][1]):
+                    station.ask(3, bytes.fromhex(command))
+                time.sleep(0.1)
+                found = []
+                while reply := station.poll(1):
+                    found.append(reply.hex().upper())
+                count.compare(f"{kind}: in order", found, rows[0][2] + rows[2][2])
+
+
+REPORT = "report 1 1 AA"
+WRONG = [
+    (f"turns 1\nat 9 {REPORT}\n", 2),
+    (f"turns 1\nat 86400001 {REPORT}\n", 2),
+    (f"turns 1\nevery 9 {REPORT}\n", 2),
+    (f"turns 1\nevery 0000000010 {REPORT}\n", 2),
+    (f"turns 1\nat 10  {REPORT}\n", 2),
+    ("turns 1\nat 10 report 3 1 AA\n", 2),
+    ("turns 1\nat 10 report 1 3 AA\n", 2),
+    ("turns 1\nat 10 report 1 1 AAA\n", 2),
+    ("turns 1\nat 10 lose answer 5\n", 2),
+    ("turns 1\nat 10\n", 2),
+    ("turns 1\nevery\n", 2),
+    ("turns 1\nAT 10 report 1 1 AA\n", 2),
+    ("turns 1\nconfirm 0\n", 2),
+    ("turns 1\nconfirm 3\n", 2),
+    ("turns 1\nrefuse x\n", 2),
+    ("turns 1\nconfirm 1 1\n", 2),
+    ("turns 1\nconfirm 1\n\n# x\nrefuse 1\n", 5),
+    ("turns 1\nrefuse 2\nconfirm 1\nrefuse 2\n", 4),
+    # Without `turns` it is the line behind the last.
+    (f"at 10 {REPORT}\nconfirm 1\n", 3),
+    (f"at 10 {REPORT}\nconfirm 1", 3),
+    # The first wrong line of either kind.
+    (f"turns 1\nat 9 {REPORT}\ncut x\n", 2),
+    (f"turns 1\ncut x\nat 9 {REPORT}\n", 2),
+    ("turns 1\n" + f"at 10 {REPORT}\n" * 1001, 1002),
+]
+
+
+def wrong_lines(count, program, folder):
+    for number, (script, line) in enumerate(WRONG, 1):
+        with Played(program, folder, f"tcp:127.0.0.1:{ends.free_port()}", script) as played:
+            out, err = played.process.communicate(timeout=ends.PATIENCE)
+            wanted = (b"", b"script: line %d\n" % line, 1)
+            count.compare(f"wrong script {number}", (out, err, played.process.returncode), wanted)
+    # The edges of the ranges, comments between them, and 1,000 lines are right.
+    right = f"# at 1\nturns 1\nat 10 {REPORT}\nevery 86400000 {REPORT}\nconfirm 2\nrefuse 1\n" + f"at 10 {REPORT}\n" * 996
+    with Played(program, folder, f"tcp:127.0.0.1:{ends.free_port()}", right) as played:
+        played.met().close()
+        count.judge("1,000 lines", played.process.poll() is None)
+        named = os.path.join(folder, "sim.script")
+        for word in (f"at 10 {REPORT}", f"every 10 {REPORT}", "confirm 1", "refuse 1"):
+            with open(named, "w") as file:
+                file.write(f"turns 1\n{word}\n")
+            made = subprocess.run([program, "sim", played.config, named], capture_output=True, timeout=ends.PATIENCE)
+            count.compare(f"sim: {word}", (made.stdout, made.stderr, made.returncode), (b"", b"script: line 2\n", 1))
+
+
+def by_example(count, program, folder):
+    """The script that docs/STATIONS.md names."""
+    with open(os.path.join(frame.ROOT, "examples/stations/lively.script")) as file:
+        script = file.read()
+    with Played(program, folder, f"tcp:127.0.0.1:{ends.free_port()}", script) as played, played.met() as stream:
+        first, second = Polled(stream, 1), Polled(stream, 2)
+        count.compare("example: from the start", first.poll(1), bytes.fromhex("01010301640001"))
+        found = polled_for(second, 2, 2.5)
+        count.compare("example: each two seconds", [report for report, _ in found], [bytes.fromhex("0B010102C800E80300")])
+        first.ask(3, bytes.fromhex(REPLIES[0][1]))
+        time.sleep(0.05)
+        count.compare("example: confirmed", first.poll(1).hex().upper(), REPLIES[0][2][0])
+
+
 def taken(count, program, folder):
     """A port at which somebody listens ends the command; nothing is printed."""
     with socket.create_server(("127.0.0.1", 0)) as server:
@@ -199,4 +389,4 @@ def taken(count, program, folder):
 
 
 if __name__ == "__main__":
-    frame.main(at_a_port, at_a_socket, with_a_gateway, taken)
+    frame.main(at_a_port, at_a_socket, with_a_gateway, in_time, full, replied, wrong_lines, by_example, taken)

@@ -1,81 +1,45 @@
 #!/usr/bin/env python3
-"""Shows `telegate run` live: plays the outstation behind the line and the control centre, and prints what each of them hears.
+"""Shows `telegate run` live: an outstation behind the line, which `telegate stations` plays, and a control centre, of which it
+prints what it hears.
 
     ./build && python3 examples/live/try.py
 
-It starts `./telegate run examples/live/config.toml` once its outstation listens, and ends when the gateway does. A report goes
-through and isn't acknowledged; after a cut it comes again; a command goes down and its confirmation comes back; at last the line
-is closed, and the gateway ends with `device failed` and status 3.
+It starts `./telegate stations examples/live/config.toml examples/live/outstation.script`, and `./telegate run
+examples/live/config.toml` once that listens. It ends when the gateway does. A report goes through and isn't acknowledged; after a
+cut it comes again; a command goes down, and its confirmation and its termination come back; at last the outstation is ended, and
+the gateway ends with `device failed` and status 3.
 """
 import os
 import socket
 import subprocess
-import threading
 import time
 
 ROOT = os.path.dirname(os.path.dirname(os.path.dirname(os.path.abspath(__file__))))
+HERE = os.path.join(ROOT, "examples/live")
 LINE = ("127.0.0.1", 24101)
 DOOR = ("127.0.0.1", 24104)
-REPORT = bytes.fromhex("01010301640001")  # M_SP_NA_1, spontaneous, common address 1, object 100, on
-COMMAND = bytes.fromhex("2D0106000100C8000001")  # C_SC_NA_1, activation, object 200, on
+COMMAND = bytes.fromhex("2D0106000100C8000001")  # C_SC_NA_1, activation, common address 1, object 200, on
+CONFIRMED = bytes.fromhex("2D0107000100C8000001")  # its activation confirmation
+DONE = bytes.fromhex("2D010A000100C8000001")  # its activation termination
 
 
 def tell(who, octets):
     print(f"{who:8} {octets.hex().upper()}", flush=True)
 
 
-def fixed(control):
-    return bytes([0x10, control, 1, (control + 1) & 0xFF, 0x16])
+def started(*words):
+    """A `telegate` with these words."""
+    return subprocess.Popen([os.path.join(ROOT, "telegate"), *words])
 
 
-def variable(data):
-    user = bytes([0x08, 1]) + data
-    return bytes([0x68, len(user), len(user), 0x68]) + user + bytes([sum(user) & 0xFF, 0x16])
-
-
-class Outstation(threading.Thread):
-    """The station with link address 1: what waits in `reports` is given at the next poll."""
-
-    def __init__(self, server):
-        super().__init__(daemon=True)
-        self.server = server
-        self.reports = [REPORT]
-        self.last = (None, b"")
-        self.stream = None
-
-    def run(self):
-        self.stream, _ = self.server.accept()
-        frame = b""
+def listening(outstation):
+    """The outstation listens."""
+    while outstation.poll() is None:
         try:
-            while piece := self.stream.recv(1024):
-                frame += piece
-                size = 5 if frame[0] == 0x10 else frame[1] + 6 if len(frame) > 1 else 2
-                if len(frame) >= size:
-                    self.stream.sendall(self.answer(frame[:size]))
-                    frame = frame[size:]
-        except OSError:
-            pass
-
-    def answer(self, frame):
-        """A request that came before with the same frame count bit gets the same answer."""
-        control = frame[1] if frame[0] == 0x10 else frame[4]
-        if control & 0x10 and frame == self.last[0]:
-            return self.last[1]
-        answer = self.answer_to(control & 0x0F, frame)
-        self.last = (frame, answer)
-        return answer
-
-    def answer_to(self, function, frame):
-        if function == 11:
-            time.sleep(0.02)
-            return variable(self.reports.pop(0)) if self.reports else b"\xE5"
-        tell("station", frame)
-        if function == 9:
-            return fixed(0x0B)
-        if function == 3:
-            data = frame[6:-2]
-            self.reports.append(data[:2] + bytes([7]) + data[3:])
-        return b"\xE5"
+            return socket.create_connection(LINE, timeout=5).close()
+        except ConnectionRefusedError:
+            time.sleep(0.05)
+    raise SystemExit("the outstation ended")
 
 
 class Centre:
@@ -119,33 +83,40 @@ def connected(gateway):
     raise SystemExit("the gateway ended")
 
 
+def heard(centre, asdu):
+    """The next APDU with this ASDU comes."""
+    while centre.hear()[6:] != asdu:
+        pass
+    centre.acknowledge()
+
+
 def main():
-    server = socket.create_server(LINE)
-    station = Outstation(server)
-    station.start()
-    gateway = subprocess.Popen([os.path.join(ROOT, "telegate"), "run", os.path.join(ROOT, "examples/live/config.toml")])
+    config = os.path.join(HERE, "config.toml")
+    outstation = started("stations", config, os.path.join(HERE, "outstation.script"))
+    listening(outstation)
+    gateway = started("run", config)
     try:
         centre = connected(gateway)
         centre.hear()
         first = centre.hear()
-        print("-- cut without an acknowledgement, and connected again")
+        print("-- cut without an acknowledgement, and connected again", flush=True)
         centre.stream.close()
         centre = connected(gateway)
         centre.hear()
         again = centre.hear()
         centre.acknowledge()
-        print("-- acknowledged; a command")
+        print("-- acknowledged; a command", flush=True)
         centre.command(COMMAND)
-        while centre.hear()[2] & 1:
-            pass
-        centre.acknowledge()
-        print("-- the line is closed")
-        station.stream.shutdown(socket.SHUT_RDWR)
+        heard(centre, CONFIRMED)
+        heard(centre, DONE)
+        print("-- the outstation is ended", flush=True)
+        outstation.kill()
         status = gateway.wait(timeout=10)
         print(f"-- the gateway ended with status {status}")
         if first[6:] != again[6:] or status != 3:
             raise SystemExit("not as it should be")
     finally:
+        outstation.kill()
         gateway.kill()
 
 

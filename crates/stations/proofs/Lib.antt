@@ -1,4 +1,12 @@
-pub mod Sizes
+pub mod Commenting
+pub mod CueLines
+pub mod CueReading
 pub mod Hearings
 pub mod Placing
+pub mod Rounds
+pub mod BothReadings
+pub mod Replying
 pub mod Requesting
+pub mod Sizes
+pub mod Telling
+pub mod Timing

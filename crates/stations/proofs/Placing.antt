@@ -1,11 +1,11 @@
 -- Looks at the ends of a place.
-use Rattle.std.proofs.Common.{◌≡◌, ℕ, ◌+◌, ◌∙◌, Bool, true, List, [], Option, Some, None, ap, sym}
-use Rattle.std.proofs.Common.{subst, take, add-one}
+use Rattle.std.proofs.Common.{◌≡◌, ℕ, ◌∙◌, Bool, true, List, [], Option, Some, None, ap, sym}
+use Rattle.std.proofs.Common.{subst, take}
 use Rattle.std.specs.Prelude.{if◌then◌else◌}
 use Rattle.live.specs.Wires.{History, Visits, looked, noted, visited}
 use Rattle.live.specs.declared.wires.Got.TheVariants.{Octets}
 use Rattle.stations.specs.Exchanges.{HasHeard, Standing}
-use Rattle.stations.specs.Places.{IsAnsweredAt, IsHeardAt, Looks, LooksOn, Place, after_visit}
+use Rattle.stations.specs.Places.{IsAnsweredAt, IsHeardAt, Place, after_visit}
 
 -- somebody came in
 pub came_in : (view now new : Place) → view ≡ now → (wire : History) (standing : Standing)
@@ -60,8 +60,3 @@ octets_heard view now new e before mid after w len buf octets o m result is_take
     let here : IsHeardAt view.wire view new =
     subst (λ (x : Option History). IsHeardAt x view new) (sym w) (Octets len, buf, answered) in
     subst (λ (p : Place). IsHeardAt p.wire p new) e here
-
--- one look more
-pub looks_more : (n : ℕ) (old mid new : Place) → LooksOn n old mid → Looks mid new →
-    LooksOn (n + 1) old new
-looks_more n old mid new h l = rw add-one (mid, h, l)

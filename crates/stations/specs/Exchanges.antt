@@ -1,8 +1,9 @@
 -- What comes over a line to its outstations, and what goes out (profile).
 use Rattle.std.specs.Prelude.{◌||◌, ◌≡◌, ℕ, ◌+◌, ◌-◌, ◌^◌, ◌≤◌, min, Bool, true, false, List, []}
-use Rattle.std.specs.Prelude.{◌∷◌, ◌++◌, drop, length, Option, Some, None}
+use Rattle.std.specs.Prelude.{◌∷◌, ◌++◌, drop, length, Option, Some, None, zero, suc, count_by}
 use Rattle.std.specs.List.{flat_map, list_all}
 use Rattle.std.specs.Option.{is_none}
+use Rattle.asdu.specs.declared.sizes.Sizes.{Sizes}
 use Rattle.ft12.specs.Reading.{IsFront}
 use Rattle.ft12.specs.Spelling.{spelling}
 use Rattle.ft12.specs.declared.frame.Frame.{Frame}
@@ -16,23 +17,43 @@ use Rattle.stations.specs.declared.outstations.Heard.{Heard}
 use Rattle.stations.specs.declared.outstations.Heard.TheVariants.{Answered, NotTaken, Rest}
 use Rattle.sim.specs.Lives.{IsPutOut, arriving, begun_from}
 use Rattle.sim.specs.Losses.{fate_of}
+use Rattle.sim.specs.Texts.{reports_for}
 use Rattle.sim.specs.declared.directive.Directive.{Directive}
+use Rattle.stations.specs.Progress.{none_replied}
+use Rattle.stations.specs.declared.cue.Cue.{Cue}
+use Rattle.stations.specs.declared.outstations.replying.Progress.{Progress}
+use Rattle.stations.specs.declared.scenario.Scenario.{Scenario}
 
--- The outstations of a line: the size of link addresses, what the script says, how each stands, how
--- many requests came, as far as 64 bits count, and the octets that came since the last frame.
+-- The outstations of a line: the size of link addresses and the sizes of ASDUs, what the script
+-- says, in lines of `sim` and in lines for them alone, how each stands, how many reports each had,
+-- how far its replies are, how many requests came, as far as 64 bits count, and the octets that
+-- came since the last frame.
 pub record Standing : Type 0 where
   pub size : LinkSize
+  pub sizes : Sizes
   pub directives : List Directive
+  pub cues : List Cue
   pub stations : List Secondary
+  pub had : List ℕ
+  pub progress : List Progress
   pub requests : ℕ
   pub so_far : List ℕ
 
+-- how many reports each of so many stations has from the start
+abbrev pub first_counts : (stations : ℕ) → List Directive → List ℕ
+first_counts zero ds = []
+first_counts (suc n) ds = first_counts n ds ++ count_by (reports_for n) ds ∷ []
+
 -- before the first request: each was never reset, and has the reports that the script gives it
-abbrev pub first_standing : Settings → List Directive → Standing
-first_standing c ds = record {
+abbrev pub first_standing : Settings → Scenario → Standing
+first_standing c s = record {
   size = c.line.link;
-  directives = ds;
-  stations = begun_from c.line.link 0 ds c.stations;
+  sizes = c.line.sizes;
+  directives = s.script;
+  cues = s.cues.items;
+  stations = begun_from c.line.link 0 s.script c.stations;
+  had = first_counts (length c.stations) s.script;
+  progress = none_replied (length c.stations);
   requests = 0;
   so_far = [];
 }

@@ -1,2 +1,10 @@
+pub mod CueLines
+pub mod Cues
 pub mod Exchanges
 pub mod Places
+pub mod Progress
+pub mod Replies
+pub mod Replying
+pub mod Scenarios
+pub mod Stages
+pub mod Telling

@@ -1,12 +1,14 @@
 -- The outstations behind a door, as behind a serial device server (profile).
 use Rattle.std.specs.Prelude.{◌≡◌, ℕ, zero, suc, Bool, true, false, if◌then◌else◌, List, [], take}
-use Rattle.std.specs.Prelude.{Option, Some, None}
+use Rattle.std.specs.Prelude.{Option, Some, None, length}
 use Rattle.live.specs.Wires.{History, IsNew, Visits, looked, noted, visited}
 use Rattle.live.specs.declared.wires.Got.{Got}
 use Rattle.live.specs.declared.wires.Got.TheVariants.{Octets, Quiet, Gone}
 use Rattle.gateway.specs.Config.{Settings}
-use Rattle.sim.specs.declared.directive.Directive.{Directive}
 use Rattle.stations.specs.Exchanges.{HasHeard, Standing, first_standing}
+use Rattle.stations.specs.Replying.{RepliesEach}
+use Rattle.stations.specs.Telling.{TellsEach}
+use Rattle.stations.specs.declared.scenario.Scenario.{Scenario}
 
 -- the outstations, what happened at the wire of the gateway that is connected, if one is, and
 -- whether someone came in at each look at the door
@@ -15,9 +17,9 @@ pub record Place : Type 0 where
   pub wire : Option History
   pub door : Visits
 
--- before the first look: the outstations of a script, behind this door, and no gateway
-abbrev pub first_place : Settings → List Directive → Visits → Place
-first_place c ds door = record { standing = first_standing c ds; wire = None; door = door }
+-- before the first look: the outstations of a text, behind this door, and no gateway
+abbrev pub first_place : Settings → Scenario → Visits → Place
+first_place c s door = record { standing = first_standing c s; wire = None; door = door }
 
 -- a look at the door: who comes takes the place of the gateway that was there, and of its octets
 abbrev pub after_visit : Place → Option History → Place
@@ -66,6 +68,12 @@ abbrev pub LooksOn : ℕ → (old new : Place) → Type 0
 LooksOn zero old new = new ≡ old
 LooksOn (suc n) old new = (mid : Place) × LooksOn n old mid × Looks mid new
 
--- the same, as one word: however many looks these are, it is read and not computed
-unfoldable pub PlaysOn : ℕ → (old new : Place) → Type 0
-PlaysOn looks old new = LooksOn looks old new
+-- each line gives its station the report that it has due, so many ms behind the start
+pub record TellsAll (passed : ℕ) (old new : Place) : Type 0 where
+  pub told : TellsEach passed (length old.standing.cues) old.standing new.standing
+  pub new_is : new ≡ record old { standing = new.standing }
+
+-- each station gives its next reply to the commands that it accepted
+pub record RepliesAll (old new : Place) : Type 0 where
+  pub replied : RepliesEach (length old.standing.stations) old.standing new.standing
+  pub new_is : new ≡ record old { standing = new.standing }

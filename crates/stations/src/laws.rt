@@ -1,12 +1,16 @@
 //! What holds of all outstations at a line.
-ghost use Rattle.std.specs.Prelude.{◌≡◌, ◌++◌, List, ℕ, Option, None};
+ghost use Rattle.std.specs.Prelude.{◌≡◌, ◌≤◌, ◌++◌, [], List, ℕ, Bool, Option, None, Some, length};
 ghost use Rattle.ft12.specs.Spelling.{spelling};
 ghost use Rattle.ft12.specs.declared.frame.Frame.{Frame};
 ghost use Rattle.ft12.specs.declared.frame.LinkSize.{LinkSize};
 ghost use Rattle.link.specs.Requests.{reading_of};
 ghost use Rattle.link.specs.declared.request.Reading.TheVariants.{Foreign};
 ghost use Rattle.link.specs.Secondary.{Secondary, HearsOctets};
+ghost use Rattle.stations.specs.Cues.{AreInPeriods, IsOneFrom, given_moments};
 ghost use Rattle.stations.specs.Exchanges.{Brings, Exchange, requests_joined};
+ghost use Rattle.stations.specs.Places.{LooksOn};
+ghost use Rattle.stations.specs.Stages.{RoundsAt, Stage};
+ghost use Rattle.stations.specs.declared.cue.Timer.{Timer};
 
 use ft12::spellings_cancel;
 
@@ -28,3 +32,22 @@ pub fn stations_hear_their_own_requests()
 {
     spellings_cancel();
 }
+
+/// A report with one moment is given once at the most, and not before it. One with a moment every
+/// so many ms is given once at the most in each period of so many ms, and not before its first
+/// moment. This holds for all moments at which the ends are looked at, and whether or not the
+/// station takes a report then.
+pub fn reports_come_at_their_moments()
+    ensures once { (timer : Timer) (due : ℕ) (looks : List (ℕ × Bool)) →
+        timer.every ≡ None → timer.due ≡ Some due → IsOneFrom due (given_moments timer looks) }
+    ensures every { (timer : Timer) (every : ℕ) (looks : List (ℕ × Bool)) → 10 ≤ every →
+        timer.every ≡ Some every → timer.due ≡ Some every →
+        AreInPeriods every 0 (given_moments timer looks) }
+{}
+
+/// Where a script has no lines for the outstations alone, rounds are looks at the ends, and nothing
+/// else, whatever the clock tells.
+pub fn without_lines_of_their_own_all_stays()
+    ensures { (moments : List ℕ) (old new : Stage) → old.place.standing.cues ≡ [] →
+        RoundsAt moments old new → LooksOn (length moments) old.place new.place }
+{}

@@ -1,15 +1,29 @@
 //! Outstations to try a control centre with: those of a `sim` script, behind a socket at which a
-//! gateway finds them as behind a serial device server.
+//! gateway finds them as behind a serial device server, with lines of their own between those of
+//! the script.
 #![tactic(auto)]
 
+mod cue;
+mod cue_line;
 mod doors;
 mod laws;
 mod outstations;
 mod place;
 mod playing;
+mod reading;
+mod replies;
+mod scenario;
+mod stage;
 
+pub use cue::{Cue, Timer};
 pub use doors::{LineGuest, LineListener};
-pub use laws::{requests_are_what_came, stations_hear_their_own_requests};
+pub use laws::{
+    reports_come_at_their_moments, requests_are_what_came, stations_hear_their_own_requests,
+    without_lines_of_their_own_all_stays,
+};
 pub use outstations::Outstations;
 pub use place::Place;
 pub use playing::{play, serve};
+pub use reading::read_scenario;
+pub use scenario::Scenario;
+pub use stage::Stage;

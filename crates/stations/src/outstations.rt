@@ -1,17 +1,26 @@
 //! The outstations of a script at their line.
 ghost use Rattle.std.specs.Prelude.{◌≡◌, ◌||◌, ◌≤◌, [], ℕ, List, Option, IfOk, length, option_map};
+ghost use Rattle.std.specs.Prelude.{count_by};
 ghost use Rattle.std.specs.Option.{is_none};
 ghost use Rattle.ft12.specs.Spelling.{Fits};
-ghost use Rattle.sim.specs.Scripts.{FitsSettings};
+ghost use Rattle.sim.specs.Texts.{reports_for};
+ghost use Rattle.stations.specs.Scenarios.{FitsScenario};
 ghost use Rattle.stations.specs.Exchanges.{HasHeard, IsAnswered, IsHeard, answer_written};
-ghost use Rattle.stations.specs.Exchanges.{first_standing};
+ghost use Rattle.stations.specs.Exchanges.{first_counts, first_standing};
 
+mod replying;
+mod telling;
+
+use self::replying::{Progress, none_replied};
+use crate::cue::Cue;
+use crate::scenario::Scenario;
 use arrayvec::ArrayVec;
+use asdu::Sizes;
 use ft12::{Assembler, Frame, LinkSize, encode};
 use gateway::Config;
 use link::{NoMemory, Station, station_is_an_outstation};
 use live::Wire;
-use sim::{Script, arriving, begin, put_out};
+use sim::{Directive, Script, arriving, begin, put_out};
 use std::alloc::Global;
 use std::marker::Model;
 
@@ -20,8 +29,16 @@ use std::marker::Model;
 #[derive(Drop)]
 pub struct Outstations {
     size: LinkSize,
+    /// The sizes of the numbers in ASDUs.
+    sizes: Sizes,
     script: Script,
+    /// The lines of the script for the outstations alone.
+    cues: Vec<Cue>,
     stations: Vec<Station>,
+    /// How many reports each station had, with those that it gave.
+    had: Vec<u64>,
+    /// How far each station's replies to commands are.
+    progress: Vec<Progress>,
     /// How many requests came.
     requests: u64,
     /// What came since the last frame.
@@ -42,38 +59,85 @@ enum Heard {
 impl Model for Outstations {
     ghost use Rattle.std.specs.Prelude.{◌≡◌, [], Some, unwrap_or};
     ghost use Rattle.std.specs.List.{AllByRecursion};
+    ghost use Rattle.stations.specs.Cues.{FitsLine};
     ghost use Rattle.stations.specs.Exchanges.{Standing};
 
     ghost Value = { Standing };
 
     ghost view = { λ o. record {
       size = o.size;
+      sizes = o.sizes;
       directives = o.script;
+      cues = o.cues.items;
       stations = o.stations.items;
+      had = o.had.items;
+      progress = o.progress.items;
       requests = o.requests;
       so_far = unwrap_or o.line.so_far [];
     } };
 
     ghost invariant = { λ o. record {
       sizes : AllByRecursion (λ s. s.size ≡ o.size) o.stations.items;
+      lines : AllByRecursion (FitsLine o.size) o.cues.items;
       line : o.line.size ≡ o.size;
       listening : o.line.so_far ≡ Some (unwrap_or o.line.so_far []);
     } };
 }
 
+/// Whether a line gives a station a report from the start.
+fn reports_for(station: usize, directive: &Directive) -> bool
+    ensures { result ≡ reports_for station directive.now }
+{
+    match directive {
+        Directive::Report(index, _, _) => *index == station,
+        _ => false,
+    }
+}
+
+/// How many reports a station has from the start.
+fn count_of(script: &Script, station: usize) -> u64
+    ensures { result ≡ count_by (reports_for station) script.now }
+{
+    script
+        .directives()
+        .iter()
+        .filter(|one| reports_for(station, *one))
+        .count() as u64
+}
+
+/// The same of each of so many stations.
+fn counts_of(alloc: Global, script: &Script, stations: usize) -> Result<Vec<u64>, NoMemory>
+    ensures { IfOk result (λ counts. counts.items ≡ first_counts stations script.now) }
+{
+    let mut counts = Vec::new(alloc);
+    for station in 0..stations {
+        counts
+            .push(count_of(script, station))
+            .map_err(|_| NoMemory)?;
+    }
+    Ok(counts)
+}
+
 impl Outstations {
     /// Those of these settings, which were never reset, with the reports that the script gives
     /// them. An `Err` is want of memory.
-    pub fn new(alloc: Global, config: &Config, script: Script) -> Result<Outstations, NoMemory>
-        requires { FitsSettings config.now script }
-        ensures { IfOk result (λ o. o ≡ first_standing config.now script) }
+    pub fn new(alloc: Global, config: &Config, scenario: Scenario) -> Result<Outstations, NoMemory>
+        requires { FitsScenario config.now scenario }
+        ensures { IfOk result (λ o. o ≡ first_standing config.now scenario) }
     {
+        let Scenario { script, cues } = scenario;
         let stations = begin(alloc, config, &script)?;
+        let had = counts_of(alloc, &script, config.stations().len())?;
+        let progress = none_replied(alloc, config.stations().len())?;
         let size = config.line().link;
         Ok(Outstations {
             size,
+            sizes: config.line().sizes,
             script,
+            cues,
             stations,
+            had,
+            progress,
             requests: 0,
             line: Assembler::new(size),
         })

@@ -1,7 +1,8 @@
 //! The outstations behind a door.
-ghost use Rattle.std.specs.Prelude.{◌≡◌, [], None, Option};
+ghost use Rattle.std.specs.Prelude.{◌≡◌, ◌≤◌, [], None, Option, is_some};
 ghost use Rattle.live.specs.Wires.{History};
-ghost use Rattle.stations.specs.Places.{IsHeardAt, IsVisitor, Looks, after_visit};
+ghost use Rattle.stations.specs.Places.{IsHeardAt, IsVisitor, Looks, RepliesAll, TellsAll};
+ghost use Rattle.stations.specs.Places.{after_visit};
 
 use crate::outstations::Outstations;
 use live::{Door, Got, Guests, Visitor, Wire};
@@ -50,6 +51,29 @@ impl<D: Door + Drop> Place<D> {
     {
         self.let_in();
         self.hear();
+    }
+
+    /// Whether a gateway is there.
+    pub(crate) fn is_met(&self) -> bool
+        ensures { result ≡ is_some self.now.wire }
+    {
+        self.connection.is_some()
+    }
+
+    /// Each line of the script gives its station the report that it has due, so many ms behind the
+    /// start.
+    pub(crate) fn tell_all(&mut self, passed: u64)
+        requires { passed ≤ 999999999999999 }
+        ensures { TellsAll passed self.old self.new }
+    {
+        self.outstations.tell_all(passed);
+    }
+
+    /// Each station gives its next reply to the commands that it accepted.
+    pub(crate) fn reply_all(&mut self)
+        ensures { RepliesAll self.old self.new }
+    {
+        self.outstations.reply_all();
     }
 
     /// Looks at the door.

@@ -1,14 +1,15 @@
 //! The outstations, played on.
 ghost use Rattle.std.specs.Prelude.{IfOk};
-ghost use Rattle.sim.specs.Scripts.{FitsSettings};
-ghost use Rattle.stations.specs.Places.{LooksOn, PlaysOn, first_place};
+ghost use Rattle.stations.specs.Scenarios.{FitsScenario};
+ghost use Rattle.stations.specs.Stages.{PlaysOn, first_stage};
 
 use crate::outstations::Outstations;
 use crate::place::Place;
+use crate::scenario::Scenario;
+use crate::stage::Stage;
 use gateway::Config;
 use link::NoMemory;
-use live::Door;
-use sim::Script;
+use live::{Clock, Door};
 use std::alloc::Global;
 use std::thread;
 use std::time::Duration;
@@ -16,33 +17,40 @@ use std::time::Duration;
 /// How long it is from one look to the next, in ms. Far below the time that an answer may take.
 const LOOK_MS: u64 = 1;
 
-/// Looks at the ends of a place so many times, with a pause behind each look.
-#[tactic(auto, using(crate::proofs::Placing::looks_more))]
-pub fn play<R: std::rt::Clock, D: Door + Drop>(rt: &R, place: &mut Place<D>, looks: u64)
-    ensures { LooksOn looks place.old place.new }
+/// Does so many rounds, each at the moment that the clock tells then, with a pause behind each.
+#[tactic(auto, using(crate::proofs::Rounds::plays_more))]
+pub fn play<R: std::rt::Clock, C: Clock, D: Door + Drop>(
+    rt: &R,
+    clock: &mut C,
+    stage: &mut Stage<D>,
+    rounds: u64,
+)
+    ensures { PlaysOn rounds (C.moments clock.old) (C.moments clock.new) stage.old stage.new }
 {
-    for _ in 0..looks {
-        place.look();
+    for _ in 0..rounds {
+        let now = clock.now_ms();
+        stage.round(now);
         thread::sleep(rt, Duration::from_millis(LOOK_MS));
     }
 }
 
-/// Plays the outstations of a script behind a door, and looks at it and at who came in so many
-/// times. An `Err` is want of memory; then nobody was let in.
-#[tactic(auto, unfolding(crate::specs::Places::PlaysOn))]
-pub fn serve<R: std::rt::Clock, D: Door + Drop>(
+/// Plays the outstations of a text behind a door, so many rounds. An `Err` is want of memory; then
+/// nobody was let in.
+pub fn serve<R: std::rt::Clock, C: Clock, D: Door + Drop>(
     rt: &R,
     alloc: Global,
     config: &Config,
-    script: Script,
+    scenario: Scenario,
+    clock: &mut C,
     door: D,
-    looks: u64,
-) -> Result<Place<D>, NoMemory>
-    requires { FitsSettings config.now script }
-    ensures { IfOk result (PlaysOn looks (first_place config.now script (D.visits door))) }
+    rounds: u64,
+) -> Result<Stage<D>, NoMemory>
+    requires { FitsScenario config.now scenario }
+    ensures { IfOk result (PlaysOn rounds (C.moments clock.old) (C.moments clock.new)
+        (first_stage config.now scenario (D.visits door))) }
 {
-    let outstations = Outstations::new(alloc, config, script)?;
-    let mut place = Place::new(outstations, door);
-    play(rt, &mut place, looks);
-    Ok(place)
+    let outstations = Outstations::new(alloc, config, scenario)?;
+    let mut stage = Stage::new(Place::new(outstations, door));
+    play(rt, clock, &mut stage, rounds);
+    Ok(stage)
 }

@@ -101,6 +101,11 @@ SCRIPT has the lines of a script of `sim`. Those of the outstations count:
   lose request N        the Nth request since the start isn't heard
   lose answer N         the answer to it is lost
   spoil answer N P      the octet at place P of that answer is changed
+Other lines are known here alone, with MS from 10 ms to a day:
+  at MS report S CLASS HEX     once MS ms have passed since a gateway came first
+  every MS report S CLASS HEX  and again each MS ms
+  confirm S             station S confirms commands, and tells when they are done
+  refuse S              station S refuses them
 `turns` is required once, and means nothing here, as `ack`, `cut`, `wall` and `send` do. It listens
 at `live.line` of CONFIG (tcp:HOST:PORT or unix:PATH), where `run` finds the outstations, and goes
 on until it is ended. Commands are confirmed on the link and do nothing. Nothing is printed.

@@ -1,6 +1,6 @@
 //! What the program needs of the system that it runs on.
 ghost use Rattle.std.specs.Prelude.{◌≡◌, ℕ, List, Result, IfOk, IfErr};
-ghost use Rattle.sim.specs.Scripts.{FitsSettings};
+ghost use Rattle.stations.specs.Scenarios.{FitsScenario};
 ghost use Rattle.telegate.specs.Playing.{ArePlayed};
 ghost use Rattle.telegate.specs.Ran.{answer_to};
 ghost use Rattle.telegate.specs.Source.{Gives};
@@ -11,21 +11,20 @@ ghost use Rattle.telegate.specs.declared.host.Wishes.{Wishes};
 use crate::fault::Fault;
 use crate::inquiry::ask_at;
 use crate::living::{read_live, run_at};
-use crate::playing::{play_behind, script_of};
+use crate::playing::{play_behind, scenario_of};
 use crate::running::DeviceFailed;
 use crate::site::Process;
 use crate::source::Source;
 use gateway::Config;
 use journal::{Name, Names};
-use live::Guests;
+use live::{Guests, SystemClock};
 use settings::LiveSettings;
-use sim::Script;
 use sitefile::Names as SiteNames;
 use sqlite_disk::Disk;
 use sqlite_std_file::File as DiskFile;
 use state::Folder;
 use state_files::Directory;
-use stations::LineListener;
+use stations::{LineListener, Scenario};
 use std::alloc::{AllocError, Global};
 use std::fs::File;
 use std::io;
@@ -202,8 +201,8 @@ impl Host for System<'_> {
 
     fn play(&self, config: &[u8], script: &[u8]) -> Result<(), Fault> {
         let (settings, places) = read_live(self.rt.alloc(), config)?;
-        let script = script_of(self.rt.alloc(), &settings, script)?;
-        play_at(self.rt, &settings, script, places.line.as_str())
+        let scenario = scenario_of(self.rt.alloc(), &settings, script)?;
+        play_at(self.rt, &settings, scenario, places.line.as_str())
     }
 
     fn ask(&self, place: &str, request: &[u8]) -> Result<Vec<u8>, Unread> {
@@ -216,16 +215,24 @@ impl Host for System<'_> {
 }
 
 /// Plays the outstations of a script at a place: `tcp:HOST:PORT` or `unix:PATH`.
-fn play_at(rt: &HostRuntime, settings: &Config, script: Script, place: &str) -> Result<(), Fault>
-    requires { FitsSettings settings.now script }
-    ensures { ArePlayed settings.now script result }
+fn play_at(
+    rt: &HostRuntime,
+    settings: &Config,
+    scenario: Scenario,
+    place: &str,
+) -> Result<(), Fault>
+    requires { FitsScenario settings.now scenario }
+    ensures { ArePlayed settings.now scenario result }
 {
     // Held until the play is over.
     let Ok(_held) = standard_descriptors(rt) else {
         return Err(Fault::Device);
     };
+    let Ok(mut clock) = SystemClock::start(rt) else {
+        return Err(Fault::Device);
+    };
     match LineListener::listen(rt, place) {
-        Ok(door) => play_behind(rt, rt.alloc(), settings, script, door),
+        Ok(door) => play_behind(rt, rt.alloc(), settings, scenario, &mut clock, door),
         Err(fault) if fault.kind() == io::ErrorKind::OutOfMemory => Err(Fault::NoMemory),
         Err(_) => Err(Fault::Device),
     }

@@ -1,41 +1,42 @@
 //! The command that plays the outstations of a script, to try a control centre with.
 ghost use Rattle.std.specs.Prelude.{◌≡◌, IfErr, IfOk};
 ghost use Rattle.gateway.specs.Config.{Settings};
-ghost use Rattle.sim.specs.Scripts.{FitsSettings};
+ghost use Rattle.stations.specs.Scenarios.{FitsScenario};
 ghost use Rattle.telegate.specs.Playing.{ArePlayed, IsRead};
 ghost use Rattle.telegate.specs.declared.fault.Fault.TheVariants.{NoMemory};
 
 use crate::fault::Fault;
 use gateway::Config;
-use live::Door;
-use sim::{Script, TextFault, read_script};
-use stations::serve;
+use live::{Clock, Door};
+use sim::TextFault;
+use stations::{Scenario, read_scenario, serve};
 use std::alloc::Global;
 
-/// The script of a text, for stations of these settings.
-pub(crate) fn script_of(alloc: Global, config: &Config, text: &[u8]) -> Result<Script, Fault>
-    ensures script { IsRead config.now text.now result }
-    ensures fits { IfOk result (FitsSettings config.now) }
+/// What a text says to stations of these settings.
+pub(crate) fn scenario_of(alloc: Global, config: &Config, text: &[u8]) -> Result<Scenario, Fault>
+    ensures scenario { IsRead config.now text.now result }
+    ensures fits { IfOk result (FitsScenario config.now) }
 {
-    match read_script(alloc, config, text) {
-        Ok(script) => Ok(script),
+    match read_scenario(alloc, config, text) {
+        Ok(scenario) => Ok(scenario),
         Err(TextFault::Line(n)) => Err(Fault::Script(n)),
         Err(TextFault::NoMemory) => Err(Fault::NoMemory),
     }
 }
 
-/// Plays the outstations of a script behind a door, as long as looks can be counted.
-pub(crate) fn play_behind<R: std::rt::Clock, D: Door + Drop>(
+/// Plays the outstations of a text behind a door, as long as rounds can be counted.
+pub(crate) fn play_behind<R: std::rt::Clock, C: Clock, D: Door + Drop>(
     rt: &R,
     alloc: Global,
     config: &Config,
-    script: Script,
+    scenario: Scenario,
+    clock: &mut C,
     door: D,
 ) -> Result<(), Fault>
-    requires { FitsSettings config.now script }
-    ensures { ArePlayed config.now script result }
+    requires { FitsScenario config.now scenario }
+    ensures { ArePlayed config.now scenario result }
 {
-    let Ok(_ended) = serve(rt, alloc, config, script, door, u64::MAX) else {
+    let Ok(_ended) = serve(rt, alloc, config, scenario, clock, door, u64::MAX) else {
         return Err(Fault::NoMemory);
     };
     Ok(())

@@ -1,5 +1,7 @@
-use Rattle.stations.specs.Places.{LooksOn}
+use Rattle.stations.specs.Stages.{PlaysOn}
 use Rattle.stations.proofs.playing.play.Given as goal
 
 abbrev pub invariant-loop : goal.invariant-loop
-invariant-loop g l = LooksOn l.counter l.initial.place l.place
+invariant-loop g l =
+    PlaysOn l.counter (g.C.Clock.moments l.initial.clock) (g.C.Clock.moments l.clock)
+    l.initial.stage l.stage

@@ -4,7 +4,9 @@ use Rattle.telegate.proofs.playing.play_behind.Goals as goal
 pub returns : goal.returns
 returns g c = record {
   door = g.D.Door.visits c.args.door;
-  looks = 18446744073709551615;
+  before = g.C.Clock.moments c.args.clock.now;
+  after = g.C.Clock.moments c.serve.new.clock;
+  rounds = 18446744073709551615;
   many = refl;
   ended = c.in-Ok._ended;
   played = c.in-Ok.ensures;

@@ -32,6 +32,7 @@ invariant_of-self c =
           (omega (arith, same, c.self.inside.stations.ok.0, c.self.inside.stations.ok.1))))
           (sizes_out c.station_is_an_outstation.ensures.size c.self.inside.size c.fate-fate.result
           c.as_slice.result.now before after c.put_out-reply.result out c.self.invariant.sizes);
+      lines = c.self.invariant.lines;
       line = c.self.invariant.line;
       listening = c.self.invariant.listening;
     }
@@ -42,8 +43,12 @@ returns c =
     let after : List Secondary = c.put_out-reply.new.stations in
     let view : Standing = record {
       size = c.self.inside.size;
+      sizes = c.self.inside.sizes;
       directives = c.self.inside.script;
+      cues = c.self.inside.cues.items;
       stations = before;
+      had = c.self.inside.had.items;
+      progress = c.self.inside.progress.items;
       requests = c.self.inside.requests;
       so_far = unwrap_or c.self.inside.line.so_far [];
     } in

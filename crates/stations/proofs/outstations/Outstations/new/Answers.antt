@@ -1,6 +1,8 @@
 use Rattle.std.proofs.Common.{List, sym, subst}
 use Rattle.gateway.specs.declared.settings.LineSettings.{LineSettings}
 use Rattle.link.specs.Secondary.{Secondary}
+use Rattle.std.specs.List.{AllByRecursion}
+use Rattle.stations.specs.Cues.{FitsLine}
 use Rattle.stations.proofs.Hearings.{listens}
 use Rattle.stations.proofs.Sizes.{HaveSize, begun_sizes}
 use Rattle.stations.proofs.outstations.Outstations.new.Goals as goal
@@ -11,6 +13,9 @@ invariant_of-result c = record {
       (sym c.line.ensures)
       (subst (λ (ss : List Secondary). HaveSize c.args.config.now.line.link ss)
       (sym c.in_ok-stations.ensures) (begun_sizes _ 0 _ _));
+  lines = subst (λ (l : LineSettings).
+      AllByRecursion (FitsLine l.link) c.args.scenario.cues.items) (sym c.line.ensures)
+      c.requires.lines;
   line = c.new.ensures.size;
   listening = listens _ _ c.new.ensures.so_far;
 }

@@ -11,22 +11,22 @@ returns-in_err-settings c =
     (unset c.args.config.now c.args.script.now c.in_err-settings.field-0.0
     c.in_err-settings.ensures)
 
-pub returns-in_err-script : goal.returns-in_err-script
-returns-in_err-script c =
+pub returns-in_err-scenario : goal.returns-in_err-scenario
+returns-in_err-scenario c =
     as_err (ArePlayedBy c.args.config.now c.args.script.now)
-    c.from_residual-in_err-script.result c.in_err-script.field-0.0
-    c.from_residual-in_err-script.ensures.1
+    c.from_residual-in_err-scenario.result c.in_err-scenario.field-0.0
+    c.from_residual-in_err-scenario.ensures.1
     (unscripted c.args.config.now c.args.script.now c.in_ok-settings.settings
-    c.in_ok-settings.places c.in_err-script.field-0.0 c.in_ok-settings.ensures
-    c.in_err-script.ensures.script)
+    c.in_ok-settings.places c.in_err-scenario.field-0.0 c.in_ok-settings.ensures
+    c.in_err-scenario.ensures.scenario)
 
 pub returns : goal.returns
 returns c =
     inl (record {
       settings = c.in_ok-settings.settings;
       places = c.in_ok-settings.places;
-      script = c.in_ok-script.script;
+      scenario = c.in_ok-scenario.scenario;
       read_config = c.in_ok-settings.ensures;
-      read_script = c.in_ok-script.ensures.script;
+      read_script = c.in_ok-scenario.ensures.scenario;
       played = c.play_at.ensures;
     })

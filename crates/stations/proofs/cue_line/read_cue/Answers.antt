@@ -1,0 +1,19 @@
+use Rattle.std.proofs.Common.{ℕ, Option, ap, sym, ◌∙◌}
+use Rattle.sim.specs.declared.directive.Directive.{Directive}
+use Rattle.stations.specs.CueLines.{time_of, timed_by}
+use Rattle.stations.proofs.CueLines.{behind_second, cut_off}
+use Rattle.stations.proofs.cue_line.read_cue.Goals as goal
+
+pub returns-clause-said : goal.returns-clause-said
+returns-clause-said c =
+    c.timed.ensures.said
+    ∙ (ap (λ (t : Option ℕ). timed_by c.cut.result.0.now t c.in_ok-directive.directive)
+    c.time.ensures.time
+    ∙ (ap (λ (d : Option Directive). timed_by c.cut.result.0.now
+    (time_of c.cut-2.result.0.now) d) c.in_ok-directive.ensures.said
+    ∙ sym (behind_second c.args.size c.args.stations c.args.line.now c.cut.result.0.now
+    c.in-Some.rest.now c.cut-2.result.0.now c.in-Some-rest.rest.now
+    (cut_off c.args.line.now c.cut.result.0.now c.cut.result.1 c.in-Some.rest
+    c.cut.ensures c.in-Some.is)
+    (cut_off c.in-Some.rest.now c.cut-2.result.0.now c.cut-2.result.1 c.in-Some-rest.rest
+    c.cut-2.ensures c.in-Some-rest.is))))
