@@ -117,6 +117,12 @@ words (note.Refused order peer why) =
     order_words order ++ peer_words peer ++ codes " refused: " ++ reason_words why
 words (note.Fate order station fate) = order_words order ++ fate_words fate station
 words (note.Skipped station kind why) = skipped_words station kind why
+words (note.MirrorDropped address) = codes "station " ++ decimal address
+    ++ codes " answer to a command dropped: data transfer isn't running"
+words (note.Spoilt address) = codes "station " ++ decimal address
+    ++ codes " answer spoilt: octets came, but no answer"
+words (note.Late address) = codes "answers of station " ++ decimal address
+    ++ codes " come late: answer_ms is short"
 
 abbrev pub left_out_words : ℕ → List ℕ
 left_out_words n = if n == 0 then [] else codes " (" ++ decimal n ++ codes " left out)"

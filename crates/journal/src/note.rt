@@ -111,6 +111,12 @@ pub enum Note {
     Fate(Order, u16, Fate),
     /// A report of the station with this link address, with this type octet, isn't passed on.
     Skipped(u16, u8, Skip),
+    /// An answer of it to a command is dropped, since data transfer isn't running.
+    MirrorDropped(u16),
+    /// Octets came in answer to a request to it, but no answer.
+    Spoilt(u16),
+    /// Octets came from it when its exchange was over, before the next request went out.
+    Late(u16),
 }
 
 /// A line of the log.
@@ -300,6 +306,15 @@ impl fmt::Display for Note {
                 write_fate(*fate, *station, f)
             }
             Note::Skipped(station, kind, why) => write_skipped(*station, *kind, *why, f),
+            Note::MirrorDropped(address) => {
+                write!(f, "station {address} answer to a command dropped: data transfer isn't running")
+            }
+            Note::Spoilt(address) => {
+                write!(f, "station {address} answer spoilt: octets came, but no answer")
+            }
+            Note::Late(address) => {
+                write!(f, "answers of station {address} come late: answer_ms is short")
+            }
         }
     }
 }
