@@ -25,20 +25,24 @@ drained old begun mid new count is_set again set began drains done =
     Drained mid again (subst Q (subst P set began) drains) done
 
 -- octets came, so the look brought some
-some_brings : (answer : Result ℕ Error) (n : ℕ) → n ≡ taken_of answer → (n == 0) ≡ false
-    → brings answer ≡ true
-some_brings answer n means some = ap (λ k. not (k == 0)) (sym means) ∙ ap not some
+is_some : (n : ℕ) (b : Bool) → (n == 0) ≡ b → (n ≡ 0 → ⊥) → not b ≡ true
+is_some n true is some = absurd (some (grind (arith, is)))
+is_some n false is some = refl
 
-none_brings : (answer : Result ℕ Error) (n : ℕ) → n ≡ taken_of answer → (n == 0) ≡ true
+some_brings : (answer : Result ℕ Error) (n : ℕ) → n ≡ taken_of answer → (n ≡ 0 → ⊥)
+    → brings answer ≡ true
+some_brings answer n means some =
+    ap (λ k. not (k == 0)) (sym means) ∙ is_some n (n == 0) refl some
+
+none_brings : (answer : Result ℕ Error) (n : ℕ) → n ≡ taken_of answer → n ≡ 0
     → brings answer ≡ true → ⊥
 none_brings answer n means none some =
-    let wrong : false ≡ true = sym (ap (λ k. not (k == 0)) (sym means) ∙ ap not none) ∙ some in
-    absurd (cc)
+    let wrong : false ≡ true = ap (λ k. not (k == 0)) (sym none ∙ means) ∙ some in absurd (cc)
 
 -- one look more
 pub looks_more : (old mid new : Calls) (looks : List (Result ℕ Error)) (n : ℕ)
     → mid ≡ looked looks old
-    → All (λ a. brings a ≡ true) looks → (d : DropsOnce mid n new) → (n == 0) ≡ false
+    → All (λ a. brings a ≡ true) looks → (d : DropsOnce mid n new) → (n ≡ 0 → ⊥)
     → (new ≡ looked (d.answer ∷ looks) old) × All (λ a. brings a ≡ true) (d.answer ∷ looks)
 looks_more old mid new looks n same all d some = (
   d.asked ∙ ap (λ c. called c (Received d.answer)) same,
@@ -68,9 +72,9 @@ pub drains_bare : (old mid new : Calls) (looks : List (Result ℕ Error)) (count
     → mid ≡ looked looks old
     → All (λ a. brings a ≡ true) looks → length looks ≤ 63 → count ≡ brought looks
     → DropsOnce mid n new
-    → (n == 0) ≡ true → Drains old count new
+    → n ≡ 0 → Drains old count new
 drains_bare old mid new looks count n same all most so_far d none =
-    let nothing : count + n ≡ count = grind (arith, none) in
+    let nothing : count + n ≡ count = omega (arith, none) in
     let P : ℕ → Type 0 = λ k. Drains old k new in
     subst P nothing (drains_by old mid new looks count n same all most so_far d
     (λ some. absurd (none_brings d.answer n d.means none some)))
