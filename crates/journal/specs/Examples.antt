@@ -1,8 +1,10 @@
 -- What the worked examples of the log speak of: lines, and those of a list of requests.
-use Rattle.std.specs.Prelude.{ℕ, List, [], ◌∷◌, ◌++◌, option_to_list}
+use Rattle.std.specs.Prelude.{ℕ, List, [], ◌∷◌, ◌++◌, option_to_list, Some}
 use Rattle.ft12.specs.declared.frame.LinkSize.{LinkSize}
+use Rattle.gateway.specs.declared.counts.Counts.{Counts}
 use Rattle.live.specs.declared.wires.Presence.{Presence}
 use Rattle.journal.specs.Ends.{line_seen}
+use Rattle.journal.specs.Exchange.{Exchange, new_exchange}
 use Rattle.journal.specs.Gathering.{Call, Add, Look, nothing, added, line_of}
 use Rattle.journal.specs.Stations.{asked, asking_of, station_asked, standing_of}
 use Rattle.journal.specs.Traffic.{new_traffic, suffered, traffic_line}
@@ -63,3 +65,16 @@ lines_of_traffic (x ∷ xs) t =
 
 abbrev pub lines_of_mishaps : List (ℕ × Mishap) → (address : ℕ) → List Line
 lines_of_mishaps xs address = lines_of_traffic xs (new_traffic address)
+
+-- two stations with which nothing has passed yet
+abbrev pub two_stations : List Traffic
+two_stations = new_traffic 7 ∷ new_traffic 8 ∷ []
+
+-- the station at this place was asked last before the latest event
+abbrev pub asked_before : (place : ℕ) → Exchange
+asked_before place = record (new_exchange 150) { before = Some place }
+
+-- so many answers to commands were dropped, and so many exchanges were spoilt
+abbrev pub counts : (mirrors spoilt : ℕ) → Counts
+counts mirrors spoilt =
+    record { skipped = 0; mirrors = mirrors; lost = 0; spoilt = spoilt }

@@ -24,10 +24,10 @@ use Rattle.journal.specs.declared.exchange.Awaited.TheVariants as awaited
 use Rattle.journal.specs.declared.fate.Fate.TheVariants as fate
 use Rattle.journal.specs.declared.traffic.Traffic.{Traffic}
 
--- the place of the station that was asked last, if it is one of the settings, and when; the same
--- place before the latest event; how long an answer is awaited, in ms, and the place of the station
--- that was asked before, where that exchange had lasted so long; what is awaited of the one that was
--- asked last; and the octets that came since
+-- the place of the station that was asked last, if it is one of the settings; the same before the
+-- latest event; when it was asked; how long an answer is awaited, in ms; the place of the station
+-- that was asked before it, where that exchange had lasted so long; what is awaited of it; and the
+-- octets that came since
 pub record Exchange : Type 0 where
   pub place : Option ℕ
   pub before : Option ℕ

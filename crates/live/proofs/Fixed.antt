@@ -78,4 +78,5 @@ pub put_fixed : (old mid new : Ends) (moment : ℕ) (action : Output) (log : Log
     → Puts old moment action mid
     → new ≡ as_logged log mid → fixed_of new ≡ fixed_of old
 put_fixed old mid new moment action log p done =
-    ap fixed_of done ∙ (ap fixed_of p.done ∙ action_fixed moment action p.written p.taken p.late old)
+    ap fixed_of done
+    ∙ (ap fixed_of p.done ∙ action_fixed moment action p.written p.taken p.late old)

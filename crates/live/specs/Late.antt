@@ -1,6 +1,6 @@
 -- How many octets of the line came too late: those that it dropped before requests, as far as 64
--- bits count (this gateway's own profile). By IEC 60870-5-2, 5.1 a request goes out when the exchange
--- before is over, so octets that wait then are none of its answer.
+-- bits count (this gateway's own profile). A request goes out when the exchange before is over (IEC
+-- 60870-5-2, 5.1), so octets that wait then are no answer to it.
 use Rattle.std.specs.Prelude.{◌≡◌, ℕ, List, [], ◌∷◌, Option, Some, None, option_map}
 use Rattle.live.specs.Wires.{Happening, Dropped}
 use Rattle.live.specs.Ends.{Ends, more}

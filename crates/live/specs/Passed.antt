@@ -136,7 +136,7 @@ example_log =
     ∷ Went 3 (TcpOut (106 ∷ [])) ∷ Came 3 (LineIn (1 ∷ 2 ∷ [])) ∷ Went 2 (LineOut (16 ∷ []))
     ∷ Came 2 (TcpIn (7 ∷ [])) ∷ Came 1 Opened ∷ []
 
--- the same at the line, which didn't take the second request; octets that came before it were dropped
+-- the same at the line, which didn't take the second request, and dropped octets before each
 abbrev pub example_line : List Happening
 example_line =
     Wrote (16 ∷ 4 ∷ []) false ∷ Dropped 4 ∷ Gave (3 ∷ []) ∷ WasQuiet ∷ Gave (1 ∷ 2 ∷ [])
