@@ -75,6 +75,6 @@ abbrev pub asked_before : (place : ℕ) → Exchange
 asked_before place = record (new_exchange 150) { before = Some place }
 
 -- so many answers to commands were dropped, and so many exchanges were spoilt
-abbrev pub counts : (mirrors spoilt : ℕ) → Counts
-counts mirrors spoilt =
+abbrev pub counting : (mirrors spoilt : ℕ) → Counts
+counting mirrors spoilt =
     record { skipped = 0; mirrors = mirrors; lost = 0; spoilt = spoilt }

@@ -10,7 +10,7 @@ ghost use Rattle.journal.specs.Ends.{connection_sent};
 ghost use Rattle.asdu.specs.Sizes.{tcp};
 ghost use Rattle.command.specs.declared.refusal.Refusal.TheVariants as refusal;
 ghost use Rattle.journal.specs.Examples.{at, lines_of_calls, lines_of_looks, lines_of_requests};
-ghost use Rattle.journal.specs.Examples.{asked_before, counts, lines_of_mishaps, order};
+ghost use Rattle.journal.specs.Examples.{asked_before, counting, lines_of_mishaps, order};
 ghost use Rattle.journal.specs.Examples.{standings_of, two_stations};
 ghost use Rattle.journal.specs.Exchange.{asked as request_sent, new_exchange};
 ghost use Rattle.journal.specs.Gathering.{Add, Look};
@@ -247,13 +247,13 @@ pub fn late_answers_by_example()
       exchange = request_sent (Some 1) Poll 150 (request_sent (Some 0) Poll 0 (new_exchange 150));
       traffic = two_stations;
     })).traffic).1 ≡ Some (at 200 (note.Late 7)) }
-    ensures spoilt { (w : Watching) → (first_line 200 (counts_noted (counts 0 1) (record w {
-      seen = counts 0 0;
+    ensures spoilt { (w : Watching) → (first_line 200 (counts_noted (counting 0 1) (record w {
+      seen = counting 0 0;
       exchange = asked_before 1;
       traffic = two_stations;
     })).traffic).1 ≡ Some (at 200 (note.Spoilt 8)) }
-    ensures mirrors { (w : Watching) → (first_line 200 (counts_noted (counts 3 1) (record w {
-      seen = counts 2 1;
+    ensures mirrors { (w : Watching) → (first_line 200 (counts_noted (counting 3 1) (record w {
+      seen = counting 2 1;
       exchange = asked_before 0;
       traffic = two_stations;
     })).traffic).1 ≡ Some (at 200 (note.MirrorDropped 7)) }
