@@ -6,7 +6,7 @@ use Rattle.gateway.specs.Log.{Log, Output, LineOut, TcpOut, Closed, GapOut}
 use Rattle.session.specs.declared.kinds.Close.{Close}
 use Rattle.session.specs.declared.kinds.Close.TheVariants as close
 use Rattle.live.specs.Timing.{is_behind}
-use Rattle.live.specs.Ends.{Ends, Fixture, Peer, Answers, Turns, Puts, as_logged, fixed_of, looking}
+use Rattle.live.specs.Ends.{Ends, Peer, Answers, Turns, Puts, as_logged, fixed_of, looking}
 use Rattle.live.specs.Ends.{told_at, let_in, looked_at, written_open, closed_by, after_action}
 use Rattle.live.proofs.Apart.{Apart, taken_same}
 use Rattle.live.proofs.Rounds.{Aside, looks_kept}

@@ -1,11 +1,11 @@
 -- The late octets are those that the line dropped.
-use Rattle.std.proofs.Common.{◌≡◌, ℕ, Bool, true, false, List, [], ◌∷◌, Option, Some, None}
+use Rattle.std.proofs.Common.{◌≡◌, ℕ, Bool, true, false, List, Option, Some, None}
 use Rattle.std.proofs.Common.{refl, sym, ap, subst, ◌∙◌}
 use Rattle.std.specs.Prelude.{option_map}
 use Rattle.gateway.specs.Log.{Output, LineOut, TcpOut, Closed, GapOut}
 use Rattle.session.specs.declared.kinds.Close.{Close}
 use Rattle.session.specs.declared.kinds.Close.TheVariants as close
-use Rattle.live.specs.Wires.{Happening, Dropped, Wrote, History, IsNew, looked, noted}
+use Rattle.live.specs.Wires.{Dropped, Wrote, History, IsNew, looked, noted}
 use Rattle.live.specs.Ends.{Ends, Peer, Answers, Puts, as_logged, looked_at, let_in, more}
 use Rattle.live.specs.Ends.{written_open, closed_by, after_action}
 use Rattle.live.specs.Late.{dropped_of, IsLate, TellsLate}
