@@ -13,6 +13,8 @@ and `--allow`.
 - Commands are logged: one that is selected, confirmed, executed and done, and those that are
   refused, with the rule. Of many at once the last is logged, and how many came before it.
 - A skipped report is logged with its type and the reason.
+- A station whose answers last longer than `answer_ms` is logged, once a minute; a silent one isn't.
+- An answer to a command that comes behind STOPDT is logged.
 - With --allow a host of another address is sent away, and the open connection stays.
 - A run that can't begin says why. A second run by mistake ends at the port, and leaves the line of
   the first alone.
@@ -128,6 +130,28 @@ class Operated(Station):
                     line.answer(b"\xe5")
                 elif function in (10, 11) and self.reports:
                     line.answer(ends.data(0x08, address, self.reports.pop(0)))
+                else:
+                    line.answer(b"\xe5")
+        except (OSError, EOFError):
+            pass
+
+
+class Late(Station):
+    """An outstation whose answers to polls last for longer than the settings wait."""
+
+    def run(self):
+        self.stream, _ = self.server.accept()
+        line = ends.Line(self.stream)
+        try:
+            while True:
+                function, address, _ = line.request()
+                if function == 9:
+                    line.answer(ends.fixed(0x0B, address))
+                elif function in (10, 11):
+                    # Octets without a pause: some come between a look at the line and the next request.
+                    end = time.monotonic() + 0.4
+                    while time.monotonic() < end:
+                        line.answer(b"\x68")
                 else:
                     line.answer(b"\xe5")
         except (OSError, EOFError):
@@ -252,6 +276,7 @@ def held(count, program, folder):
         time.sleep(1.5)
         told = [line for line in run.log.lines[began:] if line.startswith("station 7 d")]
         count.judge("its silence is told once", told == ["station 7 doesn't answer"], run.log.lines)
+        count.judge("silence is no late answer", not any(" late" in line for line in run.log.lines), run.log.lines)
         station.is_silent = False
         count.judge("it answers again", silent and run.log.waits("station 7 answers again", silent), run.log.lines)
 
@@ -458,6 +483,33 @@ def skipped(count, program, folder):
             count.judge("skipped: told once a minute", len(told) == 1 and told[0].startswith(line), told)
 
 
+def late(count, program, folder):
+    """A station whose answers last longer than `answer_ms` is logged at once, and then each minute."""
+    station = Late()
+    with Run(program, folder, station, "--log", settings=HELD) as run:
+        log = run.log
+        for line in ("answers of station 7 come late: answer_ms is short", "station 7 answer spoilt: octets came, but no answer"):
+            count.judge(line, log.waits(line) is not None, log.lines)
+        time.sleep(2)
+        for words in ("answers of station 7 ", "station 7 answer spoilt"):
+            told = [line for line in log.lines if line.startswith(words)]
+            count.judge(f"{words} is told once a minute", len(told) == 1, log.lines)
+
+
+def stopped(count, program, folder):
+    """A station's answers to a command, behind whose execute the control centre stopped data transfer."""
+    station = Operated()
+    with Run(program, folder, station, "--log", settings=PATIENT) as run:
+        log = run.log
+        count.judge("stopped: the station is up", log.waits("station 7 up") is not None, log.lines)
+        stream = run.connect()
+        count.judge("stopped: STARTDT", exchange(stream, ends.START, ends.STARTED))
+        centre = ends.Centre(stream)
+        stream.sendall(i_frame(centre, 0, EXECUTE) + STOP)
+        line = "station 7 answer to a command dropped: data transfer isn't running"
+        count.judge(line, log.waits(line) is not None, log.lines)
+
+
 def sent_away(log):
     """How many were sent away by the log's lines, once they count five, or no more come."""
     end, told = time.monotonic() + ends.PATIENCE, 0
@@ -520,4 +572,4 @@ def troubles(count, program, folder):
 
 
 if __name__ == "__main__":
-    frame.main(a_run, held, mute, fickle, commands, skipped, guests, troubles, second, closed)
+    frame.main(a_run, held, mute, fickle, commands, skipped, late, stopped, guests, troubles, second, closed)

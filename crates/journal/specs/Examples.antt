@@ -1,10 +1,14 @@
 -- What the worked examples of the log speak of: lines, and those of a list of requests.
-use Rattle.std.specs.Prelude.{ℕ, List, [], ◌∷◌, ◌++◌, option_to_list}
+use Rattle.std.specs.Prelude.{ℕ, List, [], ◌∷◌, ◌++◌, option_to_list, Some}
 use Rattle.ft12.specs.declared.frame.LinkSize.{LinkSize}
+use Rattle.gateway.specs.declared.counts.Counts.{Counts}
 use Rattle.live.specs.declared.wires.Presence.{Presence}
 use Rattle.journal.specs.Ends.{line_seen}
+use Rattle.journal.specs.Exchange.{Exchange, new_exchange}
 use Rattle.journal.specs.Gathering.{Call, Add, Look, nothing, added, line_of}
 use Rattle.journal.specs.Stations.{asked, asking_of, station_asked, standing_of}
+use Rattle.journal.specs.Traffic.{new_traffic, suffered, traffic_line}
+use Rattle.journal.specs.declared.fate.Mishap.{Mishap}
 use Rattle.journal.specs.declared.gathered.Gathered.{Gathered}
 use Rattle.journal.specs.declared.order.Act.{Act}
 use Rattle.journal.specs.declared.order.Value.{Value}
@@ -14,6 +18,7 @@ use Rattle.journal.specs.declared.ends.LineWatch.{LineWatch}
 use Rattle.journal.specs.declared.note.Line.{Line}
 use Rattle.journal.specs.declared.note.Note.{Note}
 use Rattle.journal.specs.declared.stations.StationWatch.{StationWatch}
+use Rattle.journal.specs.declared.traffic.Traffic.{Traffic}
 
 abbrev pub at : ℕ → Note → Line
 at now what = record { moment = now; note = what; left_out = 0 }
@@ -50,3 +55,26 @@ standings_of size [] w = []
 standings_of size (x ∷ xs) w =
     let v = (station_asked (asking_of x.1) x.0 w).0 in
     (standing_of v, v.since) ∷ standings_of size xs v
+
+-- the lines of what befalls a station, each with its moment, at which a line is sought
+abbrev pub lines_of_traffic : List (ℕ × Mishap) → Traffic → List Line
+lines_of_traffic [] t = []
+lines_of_traffic (x ∷ xs) t =
+    let told = traffic_line x.0 (suffered x.1 t) in
+    option_to_list told.1 ++ lines_of_traffic xs told.0
+
+abbrev pub lines_of_mishaps : List (ℕ × Mishap) → (address : ℕ) → List Line
+lines_of_mishaps xs address = lines_of_traffic xs (new_traffic address)
+
+-- two stations with which nothing has passed yet
+abbrev pub two_stations : List Traffic
+two_stations = new_traffic 7 ∷ new_traffic 8 ∷ []
+
+-- the station at this place was asked last before the latest event
+abbrev pub asked_before : (place : ℕ) → Exchange
+asked_before place = record (new_exchange 150) { before = Some place }
+
+-- so many answers to commands were dropped, and so many exchanges were spoilt
+abbrev pub counting : (mirrors spoilt : ℕ) → Counts
+counting mirrors spoilt =
+    record { skipped = 0; mirrors = mirrors; lost = 0; spoilt = spoilt }

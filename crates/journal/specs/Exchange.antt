@@ -1,6 +1,6 @@
 -- The request that went out last, and what is heard in answer to it (IEC 60870-5-2, 5.1).
-use Rattle.std.specs.Prelude.{ℕ, ◌+◌, ◌-◌, ◌==◌, ◌||◌, min, false, not, List, [], ◌++◌, length}
-use Rattle.std.specs.Prelude.{take, position, Option, Some, None, if◌then◌else◌}
+use Rattle.std.specs.Prelude.{ℕ, ◌+◌, ◌-◌, ◌==◌, ◌||◌, min, nat_le, Bool, false, not, List, []}
+use Rattle.std.specs.Prelude.{◌++◌, length, take, position, Option, Some, None, if◌then◌else◌}
 use Rattle.std.specs.List.{slice_range}
 use Rattle.ft12.specs.Fronts.{front_of}
 use Rattle.ft12.specs.Spelling.{address_len}
@@ -25,15 +25,28 @@ use Rattle.journal.specs.declared.fate.Fate.TheVariants as fate
 use Rattle.journal.specs.declared.traffic.Traffic.{Traffic}
 
 -- the place of the station that was asked last, if it is one of the settings; the same before the
--- latest event; what is awaited of it; and the octets that came since
+-- latest event; when it was asked; how long an answer is awaited, in ms; the place of the station
+-- that was asked before it, where that exchange had lasted so long; what is awaited of it; and the
+-- octets that came since
 pub record Exchange : Type 0 where
   pub place : Option ℕ
   pub before : Option ℕ
+  pub since : ℕ
+  pub answer_ms : ℕ
+  pub overdue : Option ℕ
   pub awaited : Awaited
   pub octets : List ℕ
 
-abbrev pub new_exchange : Exchange
-new_exchange = record { place = None; before = None; awaited = awaited.Nothing; octets = [] }
+abbrev pub new_exchange : (answer_ms : ℕ) → Exchange
+new_exchange answer_ms = record {
+  place = None;
+  before = None;
+  since = 0;
+  answer_ms = answer_ms;
+  overdue = None;
+  awaited = awaited.Nothing;
+  octets = [];
+}
 
 -- an event begins
 abbrev pub begun : Exchange → Exchange
@@ -51,8 +64,18 @@ awaited_by control =
 abbrev pub awaited_of : List ℕ → Awaited
 awaited_of request = awaited_by (octet request (control_place request))
 
-abbrev pub asked : Option ℕ → Awaited → Exchange → Exchange
-asked place what e = record e { place = place; awaited = what; octets = [] }
+-- an exchange is over without an answer once it has lasted for answer_ms (5.1)
+abbrev pub is_over : (now : ℕ) → Exchange → Bool
+is_over now e = nat_le e.answer_ms (now - e.since)
+
+abbrev pub asked : Option ℕ → Awaited → (now : ℕ) → Exchange → Exchange
+asked place what now e = record e {
+  place = place;
+  since = now;
+  overdue = if is_over now e then e.place else None;
+  awaited = what;
+  octets = [];
+}
 
 -- the place of the station with this link address
 abbrev pub place_of : (address : ℕ) → List Traffic → Option ℕ

@@ -83,6 +83,14 @@ skipped_words station kind why =
     (codes "station " ++ decimal station ++ codes " report skipped, type " ++ decimal kind)
     ++ type_name kind ++ codes ": " ++ skip_words why
 
+abbrev pub of_station : (address : ℕ) → (words : List ℕ) → List ℕ
+of_station address words = codes "station " ++ decimal address ++ codes " " ++ words
+
+abbrev pub late_words : (address : ℕ) → List ℕ
+late_words address =
+    (codes "answers of station " ++ decimal address ++ codes " come late")
+    ++ codes ": answer_ms is short"
+
 abbrev pub words : Note → List ℕ
 words note.LineReached = codes "line reached"
 words note.LineReachedAgain = codes "line reached again"
@@ -117,6 +125,11 @@ words (note.Refused order peer why) =
     order_words order ++ peer_words peer ++ codes " refused: " ++ reason_words why
 words (note.Fate order station fate) = order_words order ++ fate_words fate station
 words (note.Skipped station kind why) = skipped_words station kind why
+words (note.MirrorDropped address) =
+    of_station address (codes "answer to a command dropped: data transfer isn't running")
+words (note.Spoilt address) =
+    of_station address (codes "answer spoilt: octets came, but no answer")
+words (note.Late address) = late_words address
 
 abbrev pub left_out_words : ℕ → List ℕ
 left_out_words n = if n == 0 then [] else codes " (" ++ decimal n ++ codes " left out)"

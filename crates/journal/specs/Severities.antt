@@ -63,3 +63,6 @@ severity_of (note.Ordered order peer) = Info
 severity_of (note.Refused order peer why) = Warning
 severity_of (note.Fate order station what) = fate_severity what
 severity_of (note.Skipped station kind why) = Warning
+severity_of (note.MirrorDropped address) = Warning
+severity_of (note.Spoilt address) = Warning
+severity_of (note.Late address) = Warning

@@ -14,6 +14,8 @@ use Rattle.journal.specs.Limits.{one_more}
 use Rattle.journal.specs.Orders.{octet, order_of}
 use Rattle.journal.specs.declared.fate.Fate.{Fate}
 use Rattle.journal.specs.declared.fate.Fate.TheVariants as fate
+use Rattle.journal.specs.declared.fate.Mishap.{Mishap}
+use Rattle.journal.specs.declared.fate.Mishap.TheVariants as mishap
 use Rattle.journal.specs.declared.note.Line.{Line}
 use Rattle.journal.specs.declared.note.Note.TheVariants as note
 use Rattle.journal.specs.declared.order.Order.{Order}
@@ -70,6 +72,9 @@ new_traffic address = record {
   terminated = nothing;
   failed = nothing;
   skips = nothing;
+  mirrors = nothing;
+  spoilt = nothing;
+  late = nothing;
 }
 
 abbrev pub new_traffics : List Station → List Traffic
@@ -102,6 +107,14 @@ ended_by (Some o) what t = fate_noted what o t
 
 abbrev pub ended : Fate → Traffic → Traffic
 ended what t = ended_by t.order what t
+
+-- this befell the station
+abbrev pub suffered : Mishap → Traffic → Traffic
+suffered mishap.GivenUp t = ended fate.GivenUp t
+suffered mishap.MirrorDropped t =
+    record t { mirrors = added (note.MirrorDropped t.address) t.mirrors }
+suffered mishap.Spoilt t = record t { spoilt = added (note.Spoilt t.address) t.spoilt }
+suffered mishap.Late t = record t { late = added (note.Late t.address) t.late }
 
 abbrev pub replied_by : Option Fate → Option Order → Traffic → Traffic
 replied_by (Some what) (Some o) t = fate_noted what o t
@@ -151,11 +164,27 @@ failed_line now t = let told = line_of now t.failed in (record t { failed = told
 abbrev pub skips_line : ℕ → Traffic → Traffic × Option Line
 skips_line now t = let told = minute_line_of now t.skips in (record t { skips = told.0 }, told.1)
 
--- the first of its kinds that has a line to be told now
+abbrev pub mirrors_line : ℕ → Traffic → Traffic × Option Line
+mirrors_line now t =
+    let told = minute_line_of now t.mirrors in (record t { mirrors = told.0 }, told.1)
+
+abbrev pub spoilt_line : ℕ → Traffic → Traffic × Option Line
+spoilt_line now t = let told = minute_line_of now t.spoilt in (record t { spoilt = told.0 }, told.1)
+
+abbrev pub late_line : ℕ → Traffic → Traffic × Option Line
+late_line now t = let told = minute_line_of now t.late in (record t { late = told.0 }, told.1)
+
+-- the first of its kinds that are told once a minute that has a line to be told now
+abbrev pub minute_line : ℕ → Traffic → Traffic × Option Line
+minute_line now t =
+    or_else (skips_line now t) (λ t. or_else (mirrors_line now t) (λ t. or_else (spoilt_line now t)
+    (late_line now)))
+
+-- the first of all its kinds
 abbrev pub traffic_line : ℕ → Traffic → Traffic × Option Line
 traffic_line now t =
     or_else (sent_line now t) (λ t. or_else (confirmed_line now t) (λ t. or_else (denied_line now t)
-    (λ t. or_else (terminated_line now t) (λ t. or_else (failed_line now t) (skips_line now)))))
+    (λ t. or_else (terminated_line now t) (λ t. or_else (failed_line now t) (minute_line now)))))
 
 abbrev pub first_by : Traffic × Option Line → List Traffic → List Traffic × Option Line
     → List Traffic × Option Line

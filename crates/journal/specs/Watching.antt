@@ -29,7 +29,8 @@ use Rattle.journal.specs.Traffic as traffic
 use Rattle.journal.specs.Traffic.{new_traffics, first_line}
 use Rattle.journal.specs.declared.exchange.Awaited.{Awaited}
 use Rattle.journal.specs.declared.exchange.Awaited.TheVariants as awaited
-use Rattle.journal.specs.declared.fate.Fate.TheVariants as fate
+use Rattle.journal.specs.declared.fate.Mishap.{Mishap}
+use Rattle.journal.specs.declared.fate.Mishap.TheVariants as mishap
 use Rattle.journal.specs.declared.order.Order.{Order}
 use Rattle.journal.specs.declared.traffic.Traffic.{Traffic}
 use Rattle.journal.specs.declared.watch.WallShown.{WallShown}
@@ -86,8 +87,10 @@ pub record Watching : Type 0 where
   -- the sizes of the line's ASDUs
   pub sizes : Sizes
   pub exchange : Exchange
-  -- how many commands were given up, as far as that was seen
-  pub lost : ℕ
+  -- what the gateway had counted when it was looked at last
+  pub seen : Counts
+  -- how many octets of the line were dropped before requests, as far as that was seen
+  pub late : ℕ
   -- when a line was sought among what is gathered
   pub sought : ℕ
   -- what the wall clock showed last
@@ -111,8 +114,9 @@ new_watching c = record {
   queue = new_queue;
   inbox = new_inbox;
   sizes = c.line.sizes;
-  exchange = new_exchange;
-  lost = 0;
+  exchange = new_exchange c.line.answer_ms;
+  seen = record { skipped = 0; mirrors = 0; lost = 0; spoilt = 0 };
+  late = 0;
   sought = 0;
   wall = None;
   traffic = new_traffics c.stations;
@@ -203,34 +207,54 @@ abbrev pub sent_at : Option ℕ → Awaited → List ℕ → Watching → Watchi
 sent_at (Some place) awaited.Command octets w = command_sent place octets w
 sent_at place what octets w = w
 
-abbrev pub exchanged : Option ℕ → Awaited → List ℕ → Watching → Watching
-exchanged place what octets w =
-    sent_at place what octets (record w { exchange = exchange.asked place what w.exchange })
+abbrev pub exchanged : Option ℕ → Awaited → List ℕ → (now : ℕ) → Watching → Watching
+exchanged place what octets now w =
+    sent_at place what octets (record w { exchange = exchange.asked place what now w.exchange })
 
 -- a request goes out
 abbrev pub asked : List ℕ → (now : ℕ) → Watching → Watching × Option Line
 asked octets now w =
     let v = exchanged (place_of (stations.address_of w.link octets) w.traffic)
-    (awaited_of octets) octets w in
+    (awaited_of octets) octets now w in
     with_stations (stations.asked v.link octets now v.stations) v
 
-abbrev pub given_up_by : Option Traffic → (place : ℕ) → Watching → Watching
-given_up_by None place w = w
-given_up_by (Some t) place w =
-    record w { traffic = slice_set w.traffic place (traffic.ended fate.GivenUp t) }
+abbrev pub suffered_by : Option Traffic → (place : ℕ) → Mishap → Watching → Watching
+suffered_by None place what w = w
+suffered_by (Some t) place what w =
+    record w { traffic = slice_set w.traffic place (traffic.suffered what t) }
 
-abbrev pub given_up : (place : ℕ) → Watching → Watching
-given_up place w = given_up_by (slice_get w.traffic place) place w
+-- this befell the station at this place, if there is one
+abbrev pub suffered : (place : ℕ) → Mishap → Watching → Watching
+suffered place what w = suffered_by (slice_get w.traffic place) place what w
 
-abbrev pub given_up_at : Option ℕ → Watching → Watching
-given_up_at None w = w
-given_up_at (Some place) w = given_up place w
+abbrev pub suffered_at : Option ℕ → Mishap → Watching → Watching
+suffered_at None what w = w
+suffered_at (Some place) what w = suffered place what w
 
--- So many commands were given up: one more is that of the station that was asked last before the
--- latest event.
-abbrev pub lost_noted : (lost : ℕ) → Watching → Watching
-lost_noted lost w =
-    if nat_le lost w.lost then w else given_up_at w.exchange.before (record w { lost = lost })
+abbrev pub suffered_if : Bool → Mishap → Watching → Watching
+suffered_if is_so what w = if is_so then suffered_at w.exchange.before what w else w
+
+abbrev pub as_seen : Counts → Watching → Watching
+as_seen counts w = record w { seen = counts }
+
+-- The gateway counted more commands that it gave up, more answers to commands that it dropped, or
+-- more exchanges that were spoilt: that befell the station that was asked last before the latest
+-- event.
+abbrev pub counts_noted : Counts → Watching → Watching
+counts_noted counts w =
+    as_seen counts (suffered_if (nat_lt w.seen.spoilt counts.spoilt) mishap.Spoilt
+    (suffered_if (nat_lt w.seen.mirrors counts.mirrors) mishap.MirrorDropped
+    (suffered_if (nat_lt w.seen.lost counts.lost) mishap.GivenUp w)))
+
+abbrev pub as_late : (late : ℕ) → Watching → Watching
+as_late late w = record w { late = late }
+
+-- More octets of the line were dropped before the latest request: they came late from the station
+-- that was asked before it.
+abbrev pub late_noted : (late : ℕ) → Watching → Watching
+late_noted late w =
+    as_late late
+    (if nat_lt w.late late then suffered_at w.exchange.overdue mishap.Late w else w)
 
 -- the wall clock shows this at that moment
 abbrev pub walled : (now shown : ℕ) → Watching → Watching
@@ -245,17 +269,21 @@ wall_of w = option_map (wall_at w.moment) w.wall
 
 -- An event, whose octets are the front of the buffer: a connection that is opened or cut, the
 -- line's end; after any other the ends are seen.
-abbrev pub heard : Next → List ℕ → Sight → Watching → Watching × Option Line
-heard (next.Open now) buf s w =
+abbrev pub came : Next → List ℕ → Sight → Watching → Watching × Option Line
+came (next.Open now) buf s w =
     with_connection (connection_opened s.peer now w.connection) (at_end now w)
-heard (next.Cut now) buf s w =
+came (next.Cut now) buf s w =
     with_connection (connection_cut s.why_cut now w.connection) (at_end now w)
-heard (next.Line now len) buf s w = seen s (line_heard (take len buf) (at now w))
-heard (next.Bytes now len) buf s w = seen s (received (take len buf) (at now w))
-heard (next.Tick now) buf s w = seen s (at now w)
-heard (next.Wall now number) buf s w = seen s (walled now number (at now w))
-heard next.Fault buf s w = with_line (line_seen Away w.moment w.line) w
-heard next.Done buf s w = (w, None)
+came (next.Line now len) buf s w = seen s (line_heard (take len buf) (at now w))
+came (next.Bytes now len) buf s w = seen s (received (take len buf) (at now w))
+came (next.Tick now) buf s w = seen s (at now w)
+came (next.Wall now number) buf s w = seen s (walled now number (at now w))
+came next.Fault buf s w = with_line (line_seen Away w.moment w.line) w
+came next.Done buf s w = (w, None)
+
+-- and what was late before it is noted first
+abbrev pub heard : Next → List ℕ → Sight → Watching → Watching × Option Line
+heard event buf s w = came event buf s (late_noted s.late_octets w)
 
 abbrev pub inbox_after : Close → Inbox → Inbox
 inbox_after close.Replaced b = b
@@ -311,9 +339,9 @@ looked_at counts taken w =
 
 -- Between two steps
 
--- what became of the commands that came in the latest step
+-- what became of the commands that came in the latest step, and what was counted in it
 abbrev pub judged : State → Watching → Watching
-judged s w = lost_noted (counts_of s).lost
+judged s w = counts_noted (counts_of s)
     (record w { inbox = inbox.judged s w.connection.peer w.inbox })
 
 abbrev pub traffic_told : Watching → Watching × Option Line

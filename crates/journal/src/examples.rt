@@ -10,7 +10,9 @@ ghost use Rattle.journal.specs.Ends.{connection_sent};
 ghost use Rattle.asdu.specs.Sizes.{tcp};
 ghost use Rattle.command.specs.declared.refusal.Refusal.TheVariants as refusal;
 ghost use Rattle.journal.specs.Examples.{at, lines_of_calls, lines_of_looks, lines_of_requests};
-ghost use Rattle.journal.specs.Examples.{order, standings_of};
+ghost use Rattle.journal.specs.Examples.{asked_before, counting, lines_of_mishaps, order};
+ghost use Rattle.journal.specs.Examples.{standings_of, two_stations};
+ghost use Rattle.journal.specs.Exchange.{asked as request_sent, new_exchange};
 ghost use Rattle.journal.specs.Gathering.{Add, Look};
 ghost use Rattle.journal.specs.Orders.{order_of};
 ghost use Rattle.journal.specs.Traffic.{reply_of};
@@ -23,7 +25,11 @@ ghost use Rattle.journal.specs.declared.stations.Standing.TheVariants as standin
 ghost use Rattle.journal.specs.Notes.{line_text, words};
 ghost use Rattle.journal.specs.Stations.{address_of, asking_of, new_station, asked, gap};
 ghost use Rattle.journal.specs.Stations.{standing_of};
-ghost use Rattle.journal.specs.Watching.{Watching, counted, is_full, is_look_due};
+ghost use Rattle.journal.specs.Traffic.{first_line};
+ghost use Rattle.journal.specs.Watching.{Watching, counted, counts_noted, is_full, is_look_due};
+ghost use Rattle.journal.specs.Watching.{late_noted};
+ghost use Rattle.journal.specs.declared.exchange.Awaited.TheVariants.{Poll};
+ghost use Rattle.journal.specs.declared.fate.Mishap.TheVariants as mishap;
 ghost use Rattle.journal.specs.declared.note.Note.TheVariants as note;
 ghost use Rattle.journal.specs.declared.note.Trouble.TheVariants as trouble;
 ghost use Rattle.journal.specs.declared.stations.Asking.TheVariants.{Status, Counted, Other};
@@ -221,4 +227,44 @@ pub fn standings_by_example()
         ≡ (standing.Asked, 0) ∷ (standing.Up, 1000) ∷ (standing.Up, 1000) ∷ (standing.Up, 1000)
         ∷ (standing.Silent, 4000) ∷ (standing.Up, 5000) ∷ (standing.Down, 6000) ∷ [] }
     ensures unasked { standing_of (new_station 2 7) ≡ standing.NotAsked }
+{}
+
+/// What is told of octets that were dropped before a request: they came late from the station that
+/// was asked before it, where that exchange had lasted for as long as an answer is awaited, here
+/// 150 ms. What is told of the gateway's counts: it befell the station that was asked last before
+/// the event. And the lines of what befell a station: at once, and then once a minute for each
+/// kind, with how many came before.
+pub fn late_answers_by_example()
+    ensures late { (request_sent (Some 1) Poll 150 (request_sent (Some 0) Poll 0
+        (new_exchange 150))).overdue ≡ Some 0 }
+    ensures answered { (request_sent (Some 1) Poll 149 (request_sent (Some 0) Poll 0
+        (new_exchange 150))).overdue ≡ None }
+    ensures first { (request_sent (Some 0) Poll 9000 (new_exchange 150)).overdue ≡ None }
+    ensures nothing_new { (w : Watching) →
+        late_noted 5 (record w { late = 5 }) ≡ record w { late = 5 } }
+    ensures whose { (w : Watching) → (first_line 200 (late_noted 6 (record w {
+      late = 5;
+      exchange = request_sent (Some 1) Poll 150 (request_sent (Some 0) Poll 0 (new_exchange 150));
+      traffic = two_stations;
+    })).traffic).1 ≡ Some (at 200 (note.Late 7)) }
+    ensures spoilt { (w : Watching) → (first_line 200 (counts_noted (counting 0 1) (record w {
+      seen = counting 0 0;
+      exchange = asked_before 1;
+      traffic = two_stations;
+    })).traffic).1 ≡ Some (at 200 (note.Spoilt 8)) }
+    ensures mirrors { (w : Watching) → (first_line 200 (counts_noted (counting 3 1) (record w {
+      seen = counting 2 1;
+      exchange = asked_before 0;
+      traffic = two_stations;
+    })).traffic).1 ≡ Some (at 200 (note.MirrorDropped 7)) }
+    ensures told { lines_of_mishaps ((0, mishap.Late) ∷ (100, mishap.Late) ∷ (200, mishap.Spoilt)
+        ∷ (300, mishap.MirrorDropped) ∷ (60000, mishap.Late) ∷ []) 7
+        ≡ at 0 (note.Late 7) ∷ at 200 (note.Spoilt 7) ∷ at 300 (note.MirrorDropped 7)
+        ∷ record { moment = 60000; note = note.Late 7; left_out = 1 } ∷ [] }
+    ensures words { (words (note.Late 7)
+        ≡ codes "answers of station 7 come late: answer_ms is short")
+        × (words (note.Spoilt 7)
+        ≡ codes "station 7 answer spoilt: octets came, but no answer")
+        × (words (note.MirrorDropped 7)
+        ≡ codes "station 7 answer to a command dropped: data transfer isn't running") }
 {}

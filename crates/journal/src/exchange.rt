@@ -27,8 +27,15 @@ pub(crate) enum Awaited {
 pub(crate) struct Exchange {
     /// The place of its station.
     place: Option<usize>,
+    /// When it went out, in ms.
+    since: u64,
     /// The place of the station that was asked last before the latest event.
     before: Option<usize>,
+    /// How long an answer is awaited, in ms.
+    answer_ms: u64,
+    /// The place of the station that was asked before that request, where that exchange had lasted
+    /// so long.
+    overdue: Option<usize>,
     awaited: Awaited,
     /// What came in answer: no frame has more octets.
     octets: ArrayVec<u8, 261>,
@@ -42,6 +49,9 @@ impl Model for Exchange {
     ghost view = { λ e. record {
       place = e.place;
       before = e.before;
+      since = e.since;
+      answer_ms = e.answer_ms;
+      overdue = e.overdue;
       awaited = e.awaited;
       octets = e.octets.items;
     } };
@@ -103,12 +113,16 @@ fn heard<'a>(
 }
 
 impl Exchange {
-    pub(crate) fn new() -> Exchange
-        ensures { result ≡ spec.new_exchange }
+    /// That of a line whose answers are awaited for so long, in ms, before the first request.
+    pub(crate) fn new(answer_ms: u64) -> Exchange
+        ensures { result ≡ spec.new_exchange answer_ms }
     {
         Exchange {
             place: None,
             before: None,
+            since: 0,
+            answer_ms,
+            overdue: None,
             awaited: Awaited::Nothing,
             octets: ArrayVec::new(),
         }
@@ -128,6 +142,14 @@ impl Exchange {
         self.before
     }
 
+    /// The place of the station that was asked before the latest request, where that exchange had
+    /// lasted for as long as an answer is awaited: whose octets were late that were dropped then.
+    pub(crate) fn overdue(&self) -> Option<usize>
+        ensures { result ≡ self.now.overdue }
+    {
+        self.overdue
+    }
+
     /// An event begins.
     pub(crate) fn begin(&mut self)
         ensures { self.new ≡ spec.begun self.old }
@@ -135,10 +157,19 @@ impl Exchange {
         self.before = self.place;
     }
 
-    /// A request goes out to the station at this place.
-    pub(crate) fn ask(&mut self, place: Option<usize>, awaited: Awaited)
-        ensures { self.new ≡ spec.asked place awaited self.old }
+    /// The latest exchange has lasted for as long as an answer is awaited.
+    fn is_over(&self, now: u64) -> bool
+        ensures { result ≡ spec.is_over now self.now }
     {
+        self.answer_ms <= now.saturating_sub(self.since)
+    }
+
+    /// A request goes out to the station at this place.
+    pub(crate) fn ask(&mut self, place: Option<usize>, awaited: Awaited, now: u64)
+        ensures { self.new ≡ spec.asked place awaited now self.old }
+    {
+        self.overdue = if self.is_over(now) { self.place } else { None };
+        self.since = now;
         self.place = place;
         self.awaited = awaited;
         self.octets.clear();

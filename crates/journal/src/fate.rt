@@ -27,3 +27,16 @@ pub enum Fate {
     /// The station didn't answer, or its link was reset.
     GivenUp,
 }
+
+/// What befell a station, but for a report that was skipped and a command that it answered.
+#[derive(Clone, Copy, Debug, PartialEq, Eq)]
+pub(crate) enum Mishap {
+    /// Its command was given up.
+    GivenUp,
+    /// Its answer to a command was dropped, since data transfer wasn't running.
+    MirrorDropped,
+    /// Octets came in its exchange, but no answer.
+    Spoilt,
+    /// Octets came behind its exchange, and were dropped.
+    Late,
+}

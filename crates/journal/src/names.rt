@@ -43,6 +43,9 @@ pub(crate) fn subject_of(note: &Note) -> Subject
         Note::Again(address) | Note::Down(address) | Note::Gap(address) => {
             Subject::Station(*address)
         }
+        Note::MirrorDropped(address) | Note::Spoilt(address) | Note::Late(address) => {
+            Subject::Station(*address)
+        }
         Note::Fate(_, station, _) | Note::Skipped(station, _, _) => Subject::Station(*station),
         _ => Subject::Other,
     }

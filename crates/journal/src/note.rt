@@ -1,8 +1,9 @@
 //! What the lines tell, and their words.
 ghost use Rattle.std.specs.Prelude.{◌≡◌, Some};
 ghost use Rattle.std.specs.Fmt.{WritesOnOk};
-ghost use Rattle.journal.specs.Notes.{close_words, counts_words, cut_words, left_out_words};
-ghost use Rattle.journal.specs.Notes.{line_text, notice_words, peer_words, sent_away_words};
+ghost use Rattle.journal.specs.Notes.{close_words, counts_words, cut_words, late_words};
+ghost use Rattle.journal.specs.Notes.{left_out_words, line_text, notice_words, of_station};
+ghost use Rattle.journal.specs.Notes.{peer_words, sent_away_words};
 ghost use Rattle.journal.specs.Notes.{skip_words, skipped_words, trouble_words, words};
 
 use crate::content::Skip;
@@ -14,6 +15,12 @@ use live::{CutCause, Notice};
 use session::Close;
 use std::fmt;
 use std::net::{IpAddr, SocketAddr};
+
+/// What stands behind a station whose answer to a command is dropped.
+const MIRROR_DROPPED: &str = "answer to a command dropped: data transfer isn't running";
+
+/// What stands behind a station whose answer is spoilt.
+const SPOILT: &str = "answer spoilt: octets came, but no answer";
 
 /// What was counted since the run began.
 #[derive(Clone, Copy, Debug, PartialEq, Eq)]
@@ -111,6 +118,12 @@ pub enum Note {
     Fate(Order, u16, Fate),
     /// A report of the station with this link address, with this type octet, isn't passed on.
     Skipped(u16, u8, Skip),
+    /// An answer of it to a command is dropped, since data transfer isn't running.
+    MirrorDropped(u16),
+    /// Octets came in answer to a request to it, but no answer.
+    Spoilt(u16),
+    /// Octets came from it when its exchange was over, before the next request went out.
+    Late(u16),
 }
 
 /// A line of the log.
@@ -244,6 +257,23 @@ fn write_skipped<W: fmt::Write>(
     f.write_str(skip_words(why))
 }
 
+fn write_of_station<W: fmt::Write>(
+    address: u16,
+    words: &str,
+    f: &mut fmt::Formatter<W>,
+) -> fmt::Result
+    ensures { WritesOnOk W.write_str_gives f.old result (of_station address words.now) f.new }
+{
+    write!(f, "station {address} {words}")
+}
+
+fn write_late<W: fmt::Write>(address: u16, f: &mut fmt::Formatter<W>) -> fmt::Result
+    ensures { WritesOnOk W.write_str_gives f.old result (late_words address) f.new }
+{
+    write!(f, "answers of station {address} come late")?;
+    f.write_str(": answer_ms is short")
+}
+
 impl fmt::Display for Note {
     ghost output = { λ note. Some (words note) };
 
@@ -300,6 +330,9 @@ impl fmt::Display for Note {
                 write_fate(*fate, *station, f)
             }
             Note::Skipped(station, kind, why) => write_skipped(*station, *kind, *why, f),
+            Note::MirrorDropped(address) => write_of_station(*address, MIRROR_DROPPED, f),
+            Note::Spoilt(address) => write_of_station(*address, SPOILT, f),
+            Note::Late(address) => write_late(*address, f),
         }
     }
 }

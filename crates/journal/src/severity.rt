@@ -62,6 +62,7 @@ impl Note {
             Note::Cut(_) | Note::Closed(_) | Note::SentAway(_, _) => Severity::Warning,
             Note::Silent(_) | Note::Down(_) | Note::StateStale => Severity::Warning,
             Note::Refused(_, _, _) | Note::Skipped(_, _, _) => Severity::Warning,
+            Note::MirrorDropped(_) | Note::Spoilt(_) | Note::Late(_) => Severity::Warning,
             Note::LineReached | Note::LineReachedAgain | Note::QueueFree => Severity::Notice,
             Note::Up(_) | Note::Again(_) | Note::SettingsChanged => Severity::Notice,
             Note::StateBegins | Note::StateGoesOn(_) => Severity::Notice,

@@ -5,7 +5,7 @@ ghost use Rattle.journal.specs.Orders.{octet as octet_of, order_of};
 ghost use Rattle.journal.specs.Traffic as spec;
 
 use crate::content::{Content, Skip, content_of, reply_of};
-use crate::fate::Fate;
+use crate::fate::{Fate, Mishap};
 use crate::gathered::Gathered;
 use crate::note::{Line, Note};
 use crate::order::{Order, octet};
@@ -29,6 +29,9 @@ pub struct Traffic {
     terminated: Gathered,
     failed: Gathered,
     skips: Gathered,
+    mirrors: Gathered,
+    spoilt: Gathered,
+    late: Gathered,
 }
 
 impl Traffic {
@@ -49,6 +52,9 @@ impl Traffic {
             terminated: Gathered::new(),
             failed: Gathered::new(),
             skips: Gathered::new(),
+            mirrors: Gathered::new(),
+            spoilt: Gathered::new(),
+            late: Gathered::new(),
         }
     }
 
@@ -121,6 +127,19 @@ impl Traffic {
         }
     }
 
+    /// This befell the station.
+    pub(crate) fn suffer(&mut self, mishap: Mishap)
+        ensures { self.new ≡ spec.suffered mishap self.old }
+    {
+        let address = self.address;
+        match mishap {
+            Mishap::GivenUp => self.end(Fate::GivenUp),
+            Mishap::MirrorDropped => self.mirrors.add(Note::MirrorDropped(address)),
+            Mishap::Spoilt => self.spoilt.add(Note::Spoilt(address)),
+            Mishap::Late => self.late.add(Note::Late(address)),
+        }
+    }
+
     /// A report isn't passed on.
     fn skip(&mut self, why: Skip, kind: u8)
         ensures { self.new ≡ spec.skip_noted why kind self.old }
@@ -184,7 +203,23 @@ impl Traffic {
         if let Some(line) = self.failed.line(now) {
             return Some(line);
         }
-        self.skips.minute_line(now)
+        self.minute_line(now)
+    }
+
+    /// The same of the kinds that are told once a minute.
+    fn minute_line(&mut self, now: u64) -> Option<Line>
+        ensures { (self.new, result) ≡ spec.minute_line now self.old }
+    {
+        if let Some(line) = self.skips.minute_line(now) {
+            return Some(line);
+        }
+        if let Some(line) = self.mirrors.minute_line(now) {
+            return Some(line);
+        }
+        if let Some(line) = self.spoilt.minute_line(now) {
+            return Some(line);
+        }
+        self.late.minute_line(now)
     }
 }
 

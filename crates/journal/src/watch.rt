@@ -59,8 +59,10 @@ pub struct Watch {
     /// The sizes of the line's ASDUs.
     sizes: Sizes,
     exchange: Exchange,
-    /// How many commands were given up, as far as that was seen.
-    lost: u64,
+    /// What the gateway had counted when it was looked at last.
+    seen: Counts,
+    /// How many octets of the line were dropped before requests, as far as that was seen.
+    late: u64,
     /// The moment at which a line was sought among what is gathered, in ms.
     sought: u64,
     /// What the wall clock showed last; none before it was told.
@@ -89,7 +91,8 @@ impl Model for Watch {
       inbox = w.inbox;
       sizes = w.sizes;
       exchange = w.exchange;
-      lost = w.lost;
+      seen = w.seen;
+      late = w.late;
       sought = w.sought;
       wall = w.wall;
       stations = w.stations.items;
@@ -138,8 +141,14 @@ impl Watch {
             queue: QueueWatch::new(),
             inbox: Inbox::new(),
             sizes: config.line().sizes,
-            exchange: Exchange::new(),
-            lost: 0,
+            exchange: Exchange::new(config.line().answer_ms),
+            seen: Counts {
+                skipped: 0,
+                mirrors: 0,
+                lost: 0,
+                spoilt: 0,
+            },
+            late: 0,
             sought: 0,
             wall: None,
             traffic: traffic_of(alloc, config)?,
@@ -221,6 +230,15 @@ impl Watch {
     pub(crate) fn hear(&mut self, next: Next, buf: &[u8; 1024], sight: &Sight) -> Option<Line>
         requires { FitsBuffer next }
         ensures { (self.new, result) ≡ spec.heard next buf.now sight.now self.old }
+    {
+        self.note_late(sight.late_octets);
+        self.come(next, buf, sight)
+    }
+
+    /// The same, once what was late before it is noted.
+    fn come(&mut self, next: Next, buf: &[u8; 1024], sight: &Sight) -> Option<Line>
+        requires { FitsBuffer next }
+        ensures { (self.new, result) ≡ spec.came next buf.now sight.now self.old }
     {
         match next {
             Next::Open(now) => {
@@ -307,12 +325,13 @@ impl Watch {
         self.connection.close(cause, now)
     }
 
-    /// Between two steps: notes what became of the commands that came in the latest one.
+    /// Between two steps: notes what became of the commands that came in the latest one, and what
+    /// was counted in it.
     pub(crate) fn judge(&mut self, gateway: &Gateway)
         ensures { self.new ≡ spec.judged gateway.now self.old }
     {
         self.inbox.judge(gateway, self.connection.peer());
-        self.note_lost(gateway.counts().lost);
+        self.note_counts(gateway.counts());
     }
 
     /// The next line of what was gathered, if one may be told now. It is sought once a ms.

@@ -1,80 +1,83 @@
 -- What waits at a stream is dropped.
-use Rattle.std.proofs.Common.{◌≡◌, ℕ, ◌==◌, ◌≤◌, true, false, not, Bool, List, ◌∷◌, length, Result}
-use Rattle.std.proofs.Common.{Ok, Err, refl, ap, subst, ◌∙◌}
-use Rattle.std.specs.Prelude.{All, if◌then◌else◌}
+use Rattle.std.proofs.Common.{◌≡◌, ℕ, ◌+◌, ◌==◌, ◌≤◌, true, false, not, Bool, List, ◌∷◌, length}
+use Rattle.std.proofs.Common.{Result, Ok, Err, refl, sym, ap, subst, ◌∙◌, arith}
+use Rattle.std.specs.Prelude.{All}
 use Rattle.std.specs.declared.io.Error.{Error}
 use Rattle.std.specs.Result.{is_ok, is_err}
 use Rattle.std.proofs.lemmas.List.Elements.{All-cons}
-use Rattle.live.specs.Streams.{Calls, Received, Waits, called, MeansGot, ReadsOnce, brings, looked}
-use Rattle.live.specs.Streams.{Drains, DropsWaiting, Refused, Drained}
-use Rattle.live.specs.declared.wires.Got.{Got}
-use Rattle.live.specs.declared.wires.Got.TheVariants.{Octets, Gone}
+use Rattle.live.specs.Streams.{Calls, Received, Waits, called, taken_of, DropsOnce, brings, brought}
+use Rattle.live.specs.Streams.{looked, Drains, DropsWaiting, Refused, Drained}
 
-pub refused : (old new : Calls) (is_set : Bool) → is_set ≡ false
+pub refused : (old new : Calls) (count : ℕ) (is_set : Bool) → count ≡ 0 → is_set ≡ false
     → new ≡ called old (Waits false is_set)
-    → DropsWaiting old new
-refused old new is_set unset done =
-    let P : Bool → Type 0 = λ s. new ≡ called old (Waits false s) in Refused (subst P unset done)
+    → DropsWaiting old count new
+refused old new count is_set none unset done =
+    let P : Bool → Type 0 = λ s. new ≡ called old (Waits false s) in
+    Refused none (subst P unset done)
 
-pub drained : (old begun mid new : Calls) (is_set again : Bool) → is_set ≡ true
-    → begun ≡ called old (Waits false is_set) → Drains begun mid
+pub drained : (old begun mid new : Calls) (count : ℕ) (is_set again : Bool) → is_set ≡ true
+    → begun ≡ called old (Waits false is_set) → Drains begun count mid
     → new ≡ called mid (Waits true again)
-    → DropsWaiting old new
-drained old begun mid new is_set again set began drains done =
+    → DropsWaiting old count new
+drained old begun mid new count is_set again set began drains done =
     let P : Bool → Type 0 = λ s. begun ≡ called old (Waits false s) in
-    let Q : Calls → Type 0 = λ c. Drains c mid in
+    let Q : Calls → Type 0 = λ c. Drains c count mid in
     Drained mid again (subst Q (subst P set began) drains) done
 
--- what an answer means
-len_brings : (len : ℕ) (b : Bool) (n : ℕ) → (len == 0) ≡ b
-    → Octets n ≡ (if b then Gone else Octets len)
-    → not b ≡ true
-len_brings len true n is means = absurd (cc)
-len_brings len false n is means = refl
+-- octets came, so the look brought some
+is_some : (n : ℕ) (b : Bool) → (n == 0) ≡ b → (n ≡ 0 → ⊥) → not b ≡ true
+is_some n true is some = absurd (some (grind (arith, is)))
+is_some n false is some = refl
 
-pub octets_bring : (answer : Result ℕ Error) (n : ℕ) → MeansGot answer (Octets n) → brings answer
-    ≡ true
-octets_bring (Ok len) n means = len_brings len (len == 0) n refl means
-octets_bring (Err fault) n means = absurd means
+some_brings : (answer : Result ℕ Error) (n : ℕ) → n ≡ taken_of answer → (n ≡ 0 → ⊥)
+    → brings answer ≡ true
+some_brings answer n means some =
+    ap (λ k. not (k == 0)) (sym means) ∙ is_some n (n == 0) refl some
 
-len_bare : (len : ℕ) (b : Bool) (got : Got) → got ≡ (if b then Gone else Octets len)
-    → ((n : ℕ) → got ≡ Octets n → ⊥) → not b ≡ true → ⊥
-len_bare len true got means bare some = absurd (cc)
-len_bare len false got means bare some = bare len means
-
-none_brings : (answer : Result ℕ Error) (got : Got) → MeansGot answer got
-    → ((n : ℕ) → got ≡ Octets n → ⊥)
+none_brings : (answer : Result ℕ Error) (n : ℕ) → n ≡ taken_of answer → n ≡ 0
     → brings answer ≡ true → ⊥
-none_brings (Ok len) got means bare some = len_bare len (len == 0) got means bare some
-none_brings (Err fault) got means bare some = absurd (cc)
+none_brings answer n means none some =
+    let wrong : false ≡ true = ap (λ k. not (k == 0)) (sym none ∙ means) ∙ some in absurd (cc)
 
 -- one look more
 pub looks_more : (old mid new : Calls) (looks : List (Result ℕ Error)) (n : ℕ)
     → mid ≡ looked looks old
-    → All (λ a. brings a ≡ true) looks → (r : ReadsOnce mid (Octets n) new)
-    → (new ≡ looked (r.answer ∷ looks) old) × All (λ a. brings a ≡ true) (r.answer ∷ looks)
-looks_more old mid new looks n same all r = (
-  r.asked ∙ ap (λ c. called c (Received r.answer)) same,
-  All-cons (λ a. brings a ≡ true) r.answer looks (octets_bring r.answer n r.means) all,
+    → All (λ a. brings a ≡ true) looks → (d : DropsOnce mid n new) → (n ≡ 0 → ⊥)
+    → (new ≡ looked (d.answer ∷ looks) old) × All (λ a. brings a ≡ true) (d.answer ∷ looks)
+looks_more old mid new looks n same all d some = (
+  d.asked ∙ ap (λ c. called c (Received d.answer)) same,
+  All-cons (λ a. brings a ≡ true) d.answer looks (some_brings d.answer n d.means some) all,
 )
 
-pub drains_by : (old mid new : Calls) (looks : List (Result ℕ Error)) (got : Got)
+-- and how many octets it brought
+pub brought_more : (looks : List (Result ℕ Error)) (count n : ℕ) (mid new : Calls)
+    → count ≡ brought looks
+    → (d : DropsOnce mid n new) → count + n ≡ brought (d.answer ∷ looks)
+brought_more looks count n mid new so_far d = ap (λ k. count + k) d.means
+    ∙ ap (λ k. k + taken_of d.answer) so_far
+
+pub drains_by : (old mid new : Calls) (looks : List (Result ℕ Error)) (count n : ℕ)
     → mid ≡ looked looks old
-    → All (λ a. brings a ≡ true) looks → length looks ≤ 63 → (r : ReadsOnce mid got new)
-    → (brings r.answer ≡ true → length looks ≡ 63) → Drains old new
-drains_by old mid new looks got same all most r last = record {
-  looks = r.answer ∷ looks;
+    → All (λ a. brings a ≡ true) looks → length looks ≤ 63 → count ≡ brought looks
+    → (d : DropsOnce mid n new)
+    → (brings d.answer ≡ true → length looks ≡ 63) → Drains old (count + n) new
+drains_by old mid new looks count n same all most so_far d last = record {
+  looks = d.answer ∷ looks;
   drained = (all, most, last);
-  asked = r.asked ∙ ap (λ c. called c (Received r.answer)) same;
+  counted = brought_more looks count n mid new so_far d;
+  asked = d.asked ∙ ap (λ c. called c (Received d.answer)) same;
 }
 
-pub drains_bare : (old mid new : Calls) (looks : List (Result ℕ Error)) (got : Got)
+pub drains_bare : (old mid new : Calls) (looks : List (Result ℕ Error)) (count n : ℕ)
     → mid ≡ looked looks old
-    → All (λ a. brings a ≡ true) looks → length looks ≤ 63 → ReadsOnce mid got new
-    → ((n : ℕ) → got ≡ Octets n → ⊥) → Drains old new
-drains_bare old mid new looks got same all most r bare =
-    drains_by old mid new looks got same all most r
-    (λ some. absurd (none_brings r.answer got r.means bare some))
+    → All (λ a. brings a ≡ true) looks → length looks ≤ 63 → count ≡ brought looks
+    → DropsOnce mid n new
+    → n ≡ 0 → Drains old count new
+drains_bare old mid new looks count n same all most so_far d none =
+    let nothing : count + n ≡ count = omega (arith, none) in
+    let P : ℕ → Type 0 = λ k. Drains old k new in
+    subst P nothing (drains_by old mid new looks count n same all most so_far d
+    (λ some. absurd (none_brings d.answer n d.means none some)))
 
 pub ok_of : {T E : Type 0} (r : Result T E) → is_err r ≡ false → is_ok r ≡ true
 ok_of (Ok x) good = refl

@@ -6,7 +6,7 @@ use Rattle.gateway.specs.Log.{Log, Output, LineOut, TcpOut, Closed, GapOut}
 use Rattle.session.specs.declared.kinds.Close.{Close}
 use Rattle.session.specs.declared.kinds.Close.TheVariants as close
 use Rattle.live.specs.Timing.{is_behind}
-use Rattle.live.specs.Ends.{Ends, Fixture, Peer, Answers, Turns, Puts, as_logged, fixed_of, looking}
+use Rattle.live.specs.Ends.{Ends, Peer, Answers, Turns, Puts, as_logged, fixed_of, looking}
 use Rattle.live.specs.Ends.{told_at, let_in, looked_at, written_open, closed_by, after_action}
 use Rattle.live.proofs.Apart.{Apart, taken_same}
 use Rattle.live.proofs.Rounds.{Aside, looks_kept}
@@ -60,13 +60,13 @@ closed_fixed close.Timeout e = refl
 closed_fixed close.OwnAnswers e = refl
 closed_fixed close.Replaced e = refl
 
-action_fixed : (moment : ℕ) (action : Output) (written : ℕ) (taken : Bool) (e : Ends)
-    → fixed_of (after_action moment action written taken e) ≡ fixed_of e
-action_fixed moment (LineOut octets) written taken e = refl
-action_fixed moment (TcpOut octets) written taken e =
+action_fixed : (moment : ℕ) (action : Output) (written : ℕ) (taken : Bool) (late : ℕ) (e : Ends)
+    → fixed_of (after_action moment action written taken late e) ≡ fixed_of e
+action_fixed moment (LineOut octets) written taken late e = refl
+action_fixed moment (TcpOut octets) written taken late e =
     written_fixed e.is_cut_due octets taken e.connection e
-action_fixed moment (Closed cause) written taken e = closed_fixed cause e
-action_fixed moment (GapOut station session) written taken e = refl
+action_fixed moment (Closed cause) written taken late e = closed_fixed cause e
+action_fixed moment (GapOut station session) written taken late e = refl
 
 -- a turn, and an action, once they are logged
 pub next_fixed : (old mid new : Ends) (event : Next) (buf : List ℕ) (log : Log)
@@ -78,4 +78,5 @@ pub put_fixed : (old mid new : Ends) (moment : ℕ) (action : Output) (log : Log
     → Puts old moment action mid
     → new ≡ as_logged log mid → fixed_of new ≡ fixed_of old
 put_fixed old mid new moment action log p done =
-    ap fixed_of done ∙ (ap fixed_of p.done ∙ action_fixed moment action p.written p.taken old)
+    ap fixed_of done
+    ∙ (ap fixed_of p.done ∙ action_fixed moment action p.written p.taken p.late old)

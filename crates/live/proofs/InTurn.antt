@@ -222,19 +222,19 @@ closed_first close.Timeout e = refl
 closed_first close.OwnAnswers e = refl
 closed_first close.Replaced e = refl
 
-action_first : (moment : ℕ) (action : Output) (written : ℕ) (taken : Bool) (e : Ends)
-    → (after_action moment action written taken e).first ≡ e.first
-action_first moment (LineOut octets) written taken e = refl
-action_first moment (TcpOut octets) written taken e =
+action_first : (moment : ℕ) (action : Output) (written : ℕ) (taken : Bool) (late : ℕ) (e : Ends)
+    → (after_action moment action written taken late e).first ≡ e.first
+action_first moment (LineOut octets) written taken late e = refl
+action_first moment (TcpOut octets) written taken late e =
     written_first e.is_cut_due octets taken e.connection e
-action_first moment (Closed cause) written taken e = closed_first cause e
-action_first moment (GapOut station session) written taken e = refl
+action_first moment (Closed cause) written taken late e = closed_first cause e
+action_first moment (GapOut station session) written taken late e = refl
 
 pub put_first : (old new : Ends) (moment : ℕ) (action : Output) → LogsPut old moment action new
     → new.first ≡ old.first
 put_first old new moment action l =
     ap (λ (e : Ends). e.first) l.puts.done ∙ action_first moment action l.puts.written l.puts.taken
-    old
+    l.puts.late old
 
 -- at least as much has happened
 IsLeast : {A : Type 0} → (before now : Option (List A)) → Type 0

@@ -16,3 +16,4 @@ pub mod Logs
 pub mod Fixed
 pub mod Passed
 pub mod Telling
+pub mod Late

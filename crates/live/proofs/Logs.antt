@@ -37,18 +37,18 @@ closed_same close.Timeout e = refl
 closed_same close.OwnAnswers e = refl
 closed_same close.Replaced e = refl
 
-action_same : (moment : ℕ) (action : Output) (written : ℕ) (taken : Bool) (e : Ends)
-    → (after_action moment action written taken e).log ≡ e.log
-action_same moment (LineOut octets) written taken e = refl
-action_same moment (TcpOut octets) written taken e =
+action_same : (moment : ℕ) (action : Output) (written : ℕ) (taken : Bool) (late : ℕ) (e : Ends)
+    → (after_action moment action written taken late e).log ≡ e.log
+action_same moment (LineOut octets) written taken late e = refl
+action_same moment (TcpOut octets) written taken late e =
     written_same e.is_cut_due octets taken e.connection e
-action_same moment (Closed cause) written taken e = closed_same cause e
-action_same moment (GapOut station session) written taken e = refl
+action_same moment (Closed cause) written taken late e = closed_same cause e
+action_same moment (GapOut station session) written taken late e = refl
 
 pub puts_same : (old new : Ends) (moment : ℕ) (action : Output) → Puts old moment action new
     → new.log ≡ old.log
 puts_same old new moment action p =
-    ap (λ (e : Ends). e.log) p.done ∙ action_same moment action p.written p.taken old
+    ap (λ (e : Ends). e.log) p.done ∙ action_same moment action p.written p.taken p.late old
 
 -- the event of a turn, once it is logged
 pub next_told : (old mid new : Ends) (event : Next) (buf : List ℕ) → Turns old event buf mid

@@ -6,7 +6,8 @@ use Rattle.gateway.specs.Log.{Log, Went, LineOut, TcpOut, Closed, GapOut, Output
 use Rattle.gateway.specs.Ports.{told_by}
 use Rattle.session.specs.declared.kinds.Close.{Close}
 use Rattle.session.specs.declared.kinds.Close.TheVariants as close
-use Rattle.live.specs.Wires.{Happening, Gave, WasQuiet, WasGone, Wrote, History, IsNew, noted}
+use Rattle.live.specs.Wires.{Happening, Gave, WasQuiet, WasGone, Dropped, Wrote, History, IsNew}
+use Rattle.live.specs.Wires.{noted}
 use Rattle.live.specs.Wires.{Visits, visited}
 use Rattle.live.specs.Timing.{is_behind, moment_at}
 use Rattle.live.specs.Ends.{Ends, Peer, IsGuest, Answers, QuietRounds, NoRound, OneRound, LooksOn}
@@ -41,6 +42,11 @@ line_gave : (i : List ℕ) (o : List (List ℕ)) (octets : List ℕ) (h : Histor
     → TellsLine (i ++ octets) o (noted h (Gave octets))
 line_gave i o octets None t = tt
 line_gave i o octets (Some before) t = (ap (λ x. x ++ octets) t.0, t.1)
+
+line_dropped : (i : List ℕ) (o : List (List ℕ)) (count : ℕ) (h : History) → TellsLine i o h
+    → TellsLine i o (noted h (Dropped count))
+line_dropped i o count None t = tt
+line_dropped i o count (Some before) t = t
 
 line_wrote : (i : List ℕ) (o : List (List ℕ)) (octets : List ℕ) (taken : Bool) (h : History)
     → TellsLine i o h
@@ -396,12 +402,17 @@ closed_tells log close.Timeout e h = (h.0, tt, h.2)
 closed_tells log close.OwnAnswers e h = (h.0, tt, h.2)
 closed_tells log close.Replaced e h = h
 
-action_tells : (log : Log) (moment : ℕ) (action : Output) (written : ℕ) (taken : Bool) (e : Ends)
+action_tells : (log : Log) (moment : ℕ) (action : Output) (written : ℕ) (taken : Bool) (late : ℕ)
+    (e : Ends)
     → TellsEnds log e
-    → TellsEnds (Went moment action ∷ log) (after_action moment action written taken e)
-action_tells log moment (LineOut octets) written taken e h =
-    (line_wrote (line_in log) (line_out log) octets taken e.line h.0, h.1, h.2)
-action_tells log moment (TcpOut octets) written taken e h =
+    → TellsEnds (Went moment action ∷ log) (after_action moment action written taken late e)
+action_tells log moment (LineOut octets) written taken late e h =
+    let dropped = line_dropped (line_in log) (line_out log) late e.line h.0 in (
+      line_wrote (line_in log) (line_out log) octets taken (noted e.line (Dropped late)) dropped,
+      h.1,
+      h.2,
+    )
+action_tells log moment (TcpOut octets) written taken late e h =
     let P : History → Type 0 = λ l. TellsLine (line_in log) (line_out log) l in
     let D : Visits → Type 0 = λ v. TellsDoor (opened_in log) v in
     let after = written_open e.is_cut_due octets taken e.connection e in
@@ -414,14 +425,14 @@ action_tells log moment (TcpOut octets) written taken e h =
           refl refl h.1),
       subst D (sym (written_door octets taken e.is_cut_due e.connection e)) h.2,
     )
-action_tells log moment (Closed cause) written taken e h = closed_tells log cause e h
-action_tells log moment (GapOut station session) written taken e h = h
+action_tells log moment (Closed cause) written taken late e h = closed_tells log cause e h
+action_tells log moment (GapOut station session) written taken late e h = h
 
 told_put : (old new : Ends) (moment : ℕ) (action : Output) (log : Log) → Puts old moment action new
     → TellsEnds log old → TellsEnds (Went moment action ∷ log) new
 told_put old new moment action log p h =
     let Q : Ends → Type 0 = λ e. TellsEnds (Went moment action ∷ log) e in
-    subst Q (sym p.done) (action_tells log moment action p.written p.taken old h)
+    subst Q (sym p.done) (action_tells log moment action p.written p.taken p.late old h)
 
 fresh_tells : (e : Ends) → IsFresh e → TellsEnds e.log e
 fresh_tells e fresh =

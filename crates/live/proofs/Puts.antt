@@ -35,21 +35,24 @@ written old new octets wire taken due there done = record {
       ∙ ap (λ h. written_open false octets taken h old) there);
 }
 
-pub put_line : (old new : Ends) (moment written : ℕ) (octets : List ℕ) (taken : Bool)
-    → new ≡ after_action moment (LineOut octets) written taken old
+pub put_line : (old new : Ends) (moment written : ℕ) (octets : List ℕ) (taken : Bool) (late : ℕ)
+    → new ≡ after_action moment (LineOut octets) written taken late old
     → Puts old moment (LineOut octets) new
-put_line old new moment written octets taken done =
-    record { written = written; taken = taken; done = done }
+put_line old new moment written octets taken late done =
+    record { written = written; taken = taken; late = late; done = done }
 
 pub put_tcp : (old new : Ends) (moment : ℕ) (octets : List ℕ) → IsWritten old octets new
     → Puts old moment (TcpOut octets) new
-put_tcp old new moment octets w = record { written = 0; taken = w.taken; done = w.done }
+put_tcp old new moment octets w =
+    record { written = 0; taken = w.taken; late = 0; done = w.done }
 
 pub put_close : (old new : Ends) (moment : ℕ) (cause : Close)
-    → new ≡ after_action moment (Closed cause) 0 false old
+    → new ≡ after_action moment (Closed cause) 0 false 0 old
     → Puts old moment (Closed cause) new
-put_close old new moment cause done = record { written = 0; taken = false; done = done }
+put_close old new moment cause done =
+    record { written = 0; taken = false; late = 0; done = done }
 
 pub put_gap : (old new : Ends) (moment station session : ℕ) → new ≡ old
     → Puts old moment (GapOut station session) new
-put_gap old new moment station session same = record { written = 0; taken = false; done = same }
+put_gap old new moment station session same =
+    record { written = 0; taken = false; late = 0; done = same }

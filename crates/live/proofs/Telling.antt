@@ -6,7 +6,7 @@ use Rattle.gateway.specs.Log.{Output, LineOut, TcpOut, Closed, GapOut}
 use Rattle.session.specs.declared.kinds.Close.{Close}
 use Rattle.session.specs.declared.kinds.Close.TheVariants as close
 use Rattle.live.specs.Timing.{Moments, read_at, is_behind}
-use Rattle.live.specs.Wires.{Happening, History, noted, Visits, visited}
+use Rattle.live.specs.Wires.{Happening, Dropped, History, noted, Visits, visited}
 use Rattle.live.specs.Ends.{Ends, Peer, Answers, Turns, Puts, as_logged, looking, looked_at, let_in}
 use Rattle.live.specs.Ends.{told_at, wall_told_at, written_open, closed_by, after_action}
 use Rattle.live.specs.Passed.{Run, Begun, Told, Put, TellsStill}
@@ -102,7 +102,7 @@ clock_aside =
     record { apart = apart; told = λ now e. read_still e.clock now }
 
 -- a turn
-turn_still : (part : Ends → Bool) → Aside part
+pub turn_still : {A : Type 0} (part : Ends → A) → Aside part
     → ((e : Ends) (now shown : ℕ) → part (wall_told_at now shown e) ≡ part e)
     → (old new : Ends) (event : Next) (buf : List ℕ) → Turns old event buf new
     → ((e : Ends) → part (looking e) ≡ part e) → part new ≡ part old
@@ -147,26 +147,30 @@ closed_same close.Timeout e = (refl, refl, refl)
 closed_same close.OwnAnswers e = (refl, refl, refl)
 closed_same close.Replaced e = (refl, refl, refl)
 
-action_still : (moment : ℕ) (action : Output) (written : ℕ) (taken : Bool) (e : Ends)
-    → TellsStill e (after_action moment action written taken e)
+action_still : (moment : ℕ) (action : Output) (written : ℕ) (taken : Bool) (late : ℕ) (e : Ends)
+    → TellsStill e (after_action moment action written taken late e)
 unfolding Same
-action_still moment (LineOut octets) written taken e =
-    record { line = noted_still e.line _; door = refl; clock = read_still e.clock written }
-action_still moment (TcpOut octets) written taken e = record {
+action_still moment (LineOut octets) written taken late e =
+    record {
+      line = noted_still (noted e.line (Dropped late)) _ ∙ noted_still e.line _;
+      door = refl;
+      clock = read_still e.clock written;
+    }
+action_still moment (TcpOut octets) written taken late e = record {
   line = ap is_some (written_line e.is_cut_due octets taken e.connection e);
   door = ap is_some (written_door e.is_cut_due octets taken e.connection e);
   clock = ap is_some (written_clock e.is_cut_due octets taken e.connection e);
 }
-action_still moment (Closed cause) written taken e =
+action_still moment (Closed cause) written taken late e =
     let same = closed_same cause e in
     record { line = ap is_some same.0; door = ap is_some same.1; clock = ap is_some same.2 }
-action_still moment (GapOut station session) written taken e =
+action_still moment (GapOut station session) written taken late e =
     record { line = refl; door = refl; clock = refl }
 
 put_still : (old new : Ends) (moment : ℕ) (action : Output) → Puts old moment action new
     → TellsStill old new
 put_still old new moment action p =
-    let still = action_still moment action p.written p.taken old in
+    let still = action_still moment action p.written p.taken p.late old in
     record {
       line = ap tells_line p.done ∙ still.line;
       door = ap tells_door p.done ∙ still.door;

@@ -1,6 +1,7 @@
 -- The ends of a live run, and what its port does with them (this gateway's own profile).
-use Rattle.std.specs.Prelude.{ℕ, ◌+◌, ◌-◌, ◌≤◌, nat_le, ◌⊎◌, List, [], ◌∷◌, ◌++◌, length, take}
-use Rattle.std.specs.Prelude.{Bool, true, false, not, ◌&&◌, ◌||◌, Option, Some, None, IfSome, ◌≡◌}
+use Rattle.std.specs.Prelude.{ℕ, ◌+◌, ◌-◌, ◌^◌, ◌≤◌, min, nat_le, ◌⊎◌, List, [], ◌∷◌, ◌++◌, length}
+use Rattle.std.specs.Prelude.{take, Bool, true, false, not, ◌&&◌, ◌||◌, Option, Some, None, IfSome}
+use Rattle.std.specs.Prelude.{◌≡◌}
 use Rattle.gateway.specs.Log.{Log, Went, Output, LineOut, TcpOut, Closed, GapOut}
 use Rattle.gateway.specs.Ports.{told_by}
 use Rattle.gateway.specs.declared.ports.Next.{Next}
@@ -10,7 +11,7 @@ use Rattle.session.specs.declared.kinds.Close.TheVariants.{Replaced}
 use Rattle.std.specs.declared.net.ip_addr.IpAddr.{IpAddr}
 use Rattle.live.specs.Guests.{LetsIn}
 use Rattle.live.specs.declared.guests.Guests.{Guests}
-use Rattle.live.specs.Wires.{looked, Wrote, History, noted, IsNew, Visits, visited}
+use Rattle.live.specs.Wires.{looked, Dropped, Wrote, History, noted, IsNew, Visits, visited}
 use Rattle.live.specs.declared.wires.Got.{Got}
 use Rattle.live.specs.declared.wires.Got.TheVariants.{Octets, Quiet, Gone}
 use Rattle.live.specs.Timing.{Moments, read_at, moment_at, is_behind, is_awaited, heard_at}
@@ -36,8 +37,9 @@ pub record IsGuest (guests : Guests) (peer : Peer) : Type 0 where
 -- Who may come in; what happened at the line, at the connection, if there is one, and at the door;
 -- octets of that connection that came and haven't been told; what the clock told; the source that
 -- is looked at first; whether a write to the connection failed, so that a cut is due; whether the
--- run goes on after a restart; how often the line was gone; what tells the moment of an event; what
--- the wall clock showed, and when it was told last; and the log, the newest entry first.
+-- run goes on after a restart; how often the line was gone; how many of its octets were dropped
+-- before requests; what tells the moment of an event; what the wall clock showed, and when it was
+-- told last; and the log, the newest entry first.
 pub record Ends : Type 0 where
   pub guests : Guests
   pub line : History
@@ -49,6 +51,7 @@ pub record Ends : Type 0 where
   pub is_cut_due : Bool
   pub goes_on : Bool
   pub failed : ℕ
+  pub late : ℕ
   pub timing : Timing
   pub walls : Moments
   pub walled : Walled
@@ -361,25 +364,32 @@ abbrev pub closed_by : Close → Ends → Ends
 closed_by Replaced ends = ends
 closed_by _ ends = record ends { connection = None; held = []; is_cut_due = false }
 
+-- so many octets more, as far as 64 bits count
+abbrev pub more : (count late : ℕ) → ℕ
+more count late = min (late + count) (2 ^ 64 - 1)
+
 -- The ends after an action of this moment, where the wire that it goes to took the octets, or not:
--- a write to the connection that failed makes a cut due, one to the line loses a request. Once a
--- request is written the clock is read.
-abbrev pub after_action : ℕ → Output → ℕ → Bool → Ends → Ends
-after_action moment (LineOut octets) written taken ends = record ends {
-  line = noted ends.line (Wrote octets taken);
+-- a write to the connection that failed makes a cut due, one to the line loses a request. Before a
+-- request is written so many octets that came from the line are dropped, and once it is written the
+-- clock is read.
+abbrev pub after_action : ℕ → Output → ℕ → Bool → (late : ℕ) → Ends → Ends
+after_action moment (LineOut octets) written taken late ends = record ends {
+  line = noted (noted ends.line (Dropped late)) (Wrote octets taken);
+  late = more late ends.late;
   clock = read_at ends.clock written;
   timing = asked_at moment written ends.timing;
 }
-after_action moment (TcpOut octets) written taken ends =
+after_action moment (TcpOut octets) written taken late ends =
     written_open ends.is_cut_due octets taken ends.connection ends
-after_action moment (Closed cause) written taken ends = closed_by cause ends
-after_action moment (GapOut station session) written taken ends = ends
+after_action moment (Closed cause) written taken late ends = closed_by cause ends
+after_action moment (GapOut station session) written taken late ends = ends
 
 -- the action was put out so
 pub record Puts (old : Ends) (moment : ℕ) (action : Output) (new : Ends) : Type 0 where
   pub written : ℕ
   pub taken : Bool
-  pub done : new ≡ after_action moment action written taken old
+  pub late : ℕ
+  pub done : new ≡ after_action moment action written taken late old
 
 -- the action was put out so, and the log has it
 pub record LogsPut (old : Ends) (moment : ℕ) (action : Output) (new : Ends) : Type 0 where

@@ -11,3 +11,4 @@ pub mod Law
 pub mod Passed
 pub mod Memory
 pub mod Clocks
+pub mod Late

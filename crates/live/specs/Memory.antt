@@ -1,15 +1,16 @@
 -- What has happened at ends in memory, which note it as entries of a log (profile).
 use Rattle.std.specs.Prelude.{ℕ, List, [], ◌∷◌, Bool, true, false, ◌==◌}
 use Rattle.gateway.specs.Log.{Log, Came, Went, LineIn, LineOut, Opened, CutOff, Ticked, WallIs}
-use Rattle.live.specs.Wires.{Happening, Gave, WasQuiet, WasGone, Wrote}
+use Rattle.live.specs.Wires.{Happening, Gave, WasQuiet, WasGone, Dropped, Wrote}
 
--- At a wire: octets came, or a look found nothing, or found it gone; or octets were put on it, with
--- the number 1 where it took them.
+-- At a wire: octets came, or a look found nothing, or found it gone; so many that had come were
+-- dropped; or octets were put on it, with the number 1 where it took them.
 abbrev pub happenings : Log → List Happening
 happenings [] = []
 happenings (Came now (LineIn octets) ∷ log) = Gave octets ∷ happenings log
 happenings (Came now Ticked ∷ log) = WasQuiet ∷ happenings log
 happenings (Came now CutOff ∷ log) = WasGone ∷ happenings log
+happenings (Came now (WallIs count) ∷ log) = Dropped count ∷ happenings log
 happenings (Went taken (LineOut octets) ∷ log) = Wrote octets (taken == 1) ∷ happenings log
 happenings (entry ∷ log) = happenings log
 

@@ -3,7 +3,7 @@ use Rattle.std.specs.Prelude.{◌≡◌, ℕ, ◌+◌, List, [], ◌∷◌, ◌+
 use Rattle.std.specs.Prelude.{None, is_some}
 use Rattle.gateway.specs.Log.{Log, Came, Went, LineIn, LineOut, Opened, TcpIn, TcpOut, Output}
 use Rattle.gateway.specs.declared.ports.Next.{Next}
-use Rattle.live.specs.Wires.{Happening, Gave, WasQuiet, Wrote, History, IsNew, Visits}
+use Rattle.live.specs.Wires.{Happening, Gave, WasQuiet, Dropped, Wrote, History, IsNew, Visits}
 use Rattle.live.specs.Ends.{Ends, Peer, LogsTurn, LogsPut}
 
 -- the octets that came from the line, in their order
@@ -136,8 +136,8 @@ example_log =
     ∷ Went 3 (TcpOut (106 ∷ [])) ∷ Came 3 (LineIn (1 ∷ 2 ∷ [])) ∷ Went 2 (LineOut (16 ∷ []))
     ∷ Came 2 (TcpIn (7 ∷ [])) ∷ Came 1 Opened ∷ []
 
--- the same at the line, which didn't take the second request
+-- the same at the line, which didn't take the second request, and dropped octets before each
 abbrev pub example_line : List Happening
 example_line =
-    Wrote (16 ∷ 4 ∷ []) false ∷ Gave (3 ∷ []) ∷ WasQuiet ∷ Gave (1 ∷ 2 ∷ [])
-    ∷ Wrote (16 ∷ []) true ∷ WasQuiet ∷ []
+    Wrote (16 ∷ 4 ∷ []) false ∷ Dropped 4 ∷ Gave (3 ∷ []) ∷ WasQuiet ∷ Gave (1 ∷ 2 ∷ [])
+    ∷ Wrote (16 ∷ []) true ∷ Dropped 1 ∷ WasQuiet ∷ []

@@ -1,7 +1,7 @@
 -- A wire that is reached again where it has gone (this gateway's own profile).
 use Rattle.std.specs.Prelude.{◌≡◌, ℕ, ◌-◌, ◌*◌, min, nat_le, List, Bool, true, false, Option, Some}
 use Rattle.std.specs.Prelude.{None}
-use Rattle.live.specs.Wires.{History, Wrote, noted, IsNew, Visits, visited}
+use Rattle.live.specs.Wires.{History, Dropped, Wrote, noted, IsNew, Visits, visited}
 use Rattle.live.specs.Timing.{Moments, read_at}
 use Rattle.live.specs.Ends.{read_open}
 use Rattle.live.specs.declared.redial.Dialled.{Dialled}
@@ -118,6 +118,15 @@ pub record IsRedialled (old : Redial) (got : Got) (buf : List ℕ) (new : Redial
   pub is_new : IfReached answer IsNew
   pub found : Got
   pub looked : (got, new) ≡ looked_by old.wire now answer found buf old
+
+-- so many octets that have come are dropped, if there is a wire
+abbrev pub dropped_by : Option History → (count : ℕ) → Redial → ℕ × Redial
+dropped_by None count r = (0, r)
+dropped_by (Some wire) count r = (count, record r { wire = Some (noted wire (Dropped count)) })
+
+pub record HasDropped (old : Redial) (count : ℕ) (new : Redial) : Type 0 where
+  pub waiting : ℕ
+  pub dropped : (count, new) ≡ dropped_by old.wire waiting old
 
 -- octets are put on the wire, if there is one; else they aren't taken
 abbrev pub put_by : Option History → List ℕ → Bool → Redial → Bool × Redial

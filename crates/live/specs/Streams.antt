@@ -1,6 +1,6 @@
 -- What the answer of one call to a stream means (this gateway's own profile).
-use Rattle.std.specs.Prelude.{◌≡◌, ◌≢◌, ℕ, ◌≤◌, ◌==◌, ◌⊎◌, List, [], ◌∷◌, ◌++◌, length, take, All}
-use Rattle.std.specs.Prelude.{not, Bool, true, false, Option, Some, None, Result, Ok, Err}
+use Rattle.std.specs.Prelude.{◌≡◌, ◌≢◌, ℕ, ◌+◌, ◌≤◌, ◌==◌, ◌⊎◌, List, [], ◌∷◌, ◌++◌, length, take}
+use Rattle.std.specs.Prelude.{All, not, Bool, true, false, Option, Some, None, Result, Ok, Err}
 use Rattle.std.specs.Prelude.{MatchResult, if◌then◌else◌}
 use Rattle.std.specs.declared.io.Error.{Error}
 use Rattle.std.specs.declared.io.ErrorKind.{ErrorKind}
@@ -44,7 +44,7 @@ pub record ReadsOnce (old : Calls) (got : Got) (new : Calls) : Type 0 where
   pub asked : new ≡ called old (Received answer)
   pub means : MeansGot answer got
 
--- how many octets were taken
+-- how many octets were taken, or came
 abbrev pub taken_of : Result ℕ Error → ℕ
 taken_of (Ok count) = count
 taken_of (Err fault) = 0
@@ -87,10 +87,20 @@ pub record WritesFront (old : Calls) (octets : List ℕ) (is_taken : Bool) (new 
   pub taken : Took old (take count octets) new
   pub all : is_taken ≡ (count == length octets)
 
+-- one call, and how many octets it brought
+pub record DropsOnce (old : Calls) (count : ℕ) (new : Calls) : Type 0 where
+  pub answer : Result ℕ Error
+  pub asked : new ≡ called old (Received answer)
+  pub means : count ≡ taken_of answer
+
 -- a look brought octets
 abbrev pub brings : Result ℕ Error → Bool
-brings (Ok len) = not (len == 0)
-brings (Err fault) = false
+brings answer = not (taken_of answer == 0)
+
+-- how many octets looks brought
+abbrev pub brought : List (Result ℕ Error) → ℕ
+brought [] = 0
+brought (answer ∷ before) = brought before + taken_of answer
 
 -- looks that were answered so, the newest first
 abbrev pub looked : List (Result ℕ Error) → Calls → Calls
@@ -104,21 +114,15 @@ IsDrained (answer ∷ before) =
     All (λ a. brings a ≡ true) before × (length before ≤ 63)
     × (brings answer ≡ true → length before ≡ 63)
 
-pub record Drains (old new : Calls) : Type 0 where
+pub record Drains (old : Calls) (count : ℕ) (new : Calls) : Type 0 where
   pub looks : List (Result ℕ Error)
   pub drained : IsDrained looks
+  pub counted : count ≡ brought looks
   pub asked : new ≡ looked looks old
 
--- What has come is read, without a wait, until nothing comes or 64 times. A stream that can't be
--- told not to wait isn't read.
-pub data DropsWaiting (old new : Calls) : Type 0 where
-  Refused : new ≡ called old (Waits false false) → DropsWaiting old new
-  Drained : (mid : Calls) → (is_set : Bool) → Drains (called old (Waits false true)) mid
-      → new ≡ called mid (Waits true is_set) → DropsWaiting old new
-
--- first what has come is dropped, and then the octets are handed over in one call
-pub record WritesRequest (old : Calls) (octets : List ℕ) (is_taken : Bool) (new : Calls)
-    : Type 0 where
-  pub mid : Calls
-  pub dropped : DropsWaiting old mid
-  pub written : WritesAll mid octets is_taken new
+-- What has come, so many octets, is read, without a wait, until nothing comes or 64 times. A stream
+-- that can't be told not to wait isn't read.
+pub data DropsWaiting (old : Calls) (count : ℕ) (new : Calls) : Type 0 where
+  Refused : count ≡ 0 → new ≡ called old (Waits false false) → DropsWaiting old count new
+  Drained : (mid : Calls) → (is_set : Bool) → Drains (called old (Waits false true)) count mid
+      → new ≡ called mid (Waits true is_set) → DropsWaiting old count new

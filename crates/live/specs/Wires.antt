@@ -9,12 +9,13 @@ FitsBuffer (Octets len) = (1 ≤ len) × (len ≤ 1024)
 FitsBuffer Quiet = Unit {0}
 FitsBuffer Gone = Unit {0}
 
--- what happens at a wire: a look, at which it gave octets, was quiet, or was gone, or octets put on
--- it, and whether it took them
+-- what happens at a wire: a look, at which it gave octets, was quiet, or was gone; so many octets
+-- dropped that had come; or octets put on it, and whether it took them
 pub data Happening : Type 0 where
   Gave : (octets : List ℕ) → Happening
   WasQuiet : Happening
   WasGone : Happening
+  Dropped : (count : ℕ) → Happening
   Wrote : (octets : List ℕ) → (taken : Bool) → Happening
 
 -- a look that found this; its octets are the front of the buffer

@@ -13,7 +13,9 @@ ghost use Rattle.session.specs.declared.kinds.Close.TheVariants.{Replaced};
 ghost use Rattle.live.specs.Passed.{IsFresh, Run, TellsEnds, TellsStill, line_in, line_out};
 ghost use Rattle.live.specs.Passed.{centre_in, centre_out, opened_in, let_in_at, given, handed};
 ghost use Rattle.live.specs.Passed.{taken_of, example_log, example_line};
+ghost use Rattle.live.specs.Late.{dropped_of, TellsLate};
 ghost use Rattle.live.specs.Walls.{is_wall};
+ghost use Rattle.live.specs.Wires.{IsNew};
 ghost use Rattle.live.specs.declared.timing.Request.{Request};
 
 /// Where an event's moment lets an exchange end (`answer_ms` or more after its request's), a look
@@ -146,8 +148,16 @@ pub fn what_tells_goes_on_telling()
     ensures { (start end : Ends) → Run start end → TellsStill start end }
 {}
 
-/// What the words of that law count, by worked examples: the octets and requests of a log, those of
-/// a line that didn't take its last request, and those of a log whose second connection is open.
+/// The octets that are late are those that the line dropped before requests, in any run in which
+/// none were counted and nothing had happened at the line before, where the line tells that.
+pub fn late_octets_are_those_that_were_dropped()
+    ensures { (start end : Ends) → start.late ≡ 0 → IsNew start.line → Run start end →
+        TellsLate end }
+{}
+
+/// What the words of these laws count, by worked examples: the octets and requests of a log, those
+/// of a line that didn't take its last request, those of a log whose second connection is open, and
+/// how many octets that line dropped.
 pub fn what_passed_by_example()
     ensures line { (line_in example_log ≡ 1 ∷ 2 ∷ 3 ∷ [])
         × (line_out example_log ≡ (16 ∷ 4 ∷ []) ∷ (16 ∷ []) ∷ []) }
@@ -157,4 +167,5 @@ pub fn what_passed_by_example()
         × (handed example_line ≡ (16 ∷ 4 ∷ []) ∷ (16 ∷ []) ∷ [])
         × (taken_of example_line ≡ (16 ∷ []) ∷ []) }
     ensures door { let_in_at (true ∷ false ∷ true ∷ []) ≡ 2 }
+    ensures dropped { dropped_of example_line ≡ 5 }
 {}

@@ -44,10 +44,13 @@
 //! distance, up to 30 s; that no try begins while one goes on, and a look waits for none; and that
 //! it begins as a new wire each time.
 //!
+//! Before a request is written what has come from the line is dropped, since it is no answer to it,
+//! and how many octets that were is counted ([`late_octets_are_those_that_were_dropped`]).
+//!
 //! One call to a stream of the system is read as one fact about its answer: octets, quiet or gone,
 //! and taken only where all was taken; of a write in two calls a stream takes the octets once, in
-//! their order; and before a request is written what has come is read and dropped. What sockets do
-//! beyond that is no matter of a proof.
+//! their order; and what waits is read until nothing comes, or 64 times. What sockets do beyond
+//! that is no matter of a proof.
 #![tactic(auto)]
 
 #[cfg(test)]
@@ -73,12 +76,12 @@ mod wires;
 pub use guests::Guests;
 pub use laws::{
     a_close_shuts_the_connection, a_line_that_is_heard_out_holds_no_moment, a_tick_has_a_reason,
-    an_exchange_that_is_over_is_told_at_once, looks_ask_nothing,
-    looks_for_an_event_begin_within_100_ms, no_exchange_ends_unheard, no_source_hides_another,
-    nobody_but_guests_comes_in, the_ends_are_looked_at_between_wall_moments,
-    the_log_tells_what_passed, the_round_goes_on_behind_the_last_event,
-    the_wall_clock_is_told_each_second, what_passed_by_example, what_tells_goes_on_telling,
-    what_the_centre_sent_is_told_in_time,
+    an_exchange_that_is_over_is_told_at_once, late_octets_are_those_that_were_dropped,
+    looks_ask_nothing, looks_for_an_event_begin_within_100_ms, no_exchange_ends_unheard,
+    no_source_hides_another, nobody_but_guests_comes_in,
+    the_ends_are_looked_at_between_wall_moments, the_log_tells_what_passed,
+    the_round_goes_on_behind_the_last_event, the_wall_clock_is_told_each_second,
+    what_passed_by_example, what_tells_goes_on_telling, what_the_centre_sent_is_told_in_time,
 };
 pub use port::Live;
 pub use redial::{Dialled, Dialler, Redialled};

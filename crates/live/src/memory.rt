@@ -2,7 +2,7 @@
 //! are told to.
 ghost use Rattle.std.specs.Prelude.{◌≡◌, List, [], ◌∷◌, Some, IfSome};
 ghost use Rattle.live.specs.Guests.{LetsIn};
-ghost use Rattle.live.specs.Wires.{FitsBuffer, looked, Wrote};
+ghost use Rattle.live.specs.Wires.{FitsBuffer, looked, Dropped, Wrote};
 ghost use Rattle.live.specs.Memory.{happenings, entrances, moments_in, shown_in};
 
 use crate::guests::Guests;
@@ -22,6 +22,13 @@ fn with_look(log: &History, got: Got, buf: &[u8; 1024]) -> History
         Got::Quiet => log.came(&Next::Tick(0), buf),
         Got::Gone => log.came(&Next::Cut(0), buf),
     }
+}
+
+/// What has happened at a wire, with so many octets that were dropped.
+fn with_drop(log: &History, count: u64) -> History
+    ensures { happenings result.entries ≡ Dropped count ∷ happenings log.now.entries }
+{
+    log.came(&Next::Wall(0, count), &NO_OCTETS)
 }
 
 /// What has happened at a wire, with octets that were put on it.
@@ -44,6 +51,8 @@ pub(crate) struct MemoryWire {
     pub(crate) failing_read: u32,
     /// Which write isn't taken, from 1; 0 for none.
     pub(crate) failing_write: u32,
+    /// How many octets wait at each write.
+    pub(crate) waiting: u64,
     /// How often it was read.
     pub(crate) reads: u32,
     /// How often it was written to.
@@ -60,6 +69,7 @@ impl MemoryWire {
             has_octets,
             failing_read: 0,
             failing_write: 0,
+            waiting: 0,
             reads: 0,
             writes: 0,
             log: History::new(),
@@ -104,6 +114,11 @@ impl Wire for MemoryWire {
         let got = self.look(buf);
         self.log = with_look(&self.log, got, buf);
         got
+    }
+
+    fn drop_waiting(&mut self) -> u64 {
+        self.log = with_drop(&self.log, self.waiting);
+        self.waiting
     }
 
     fn write(&mut self, octets: &[u8]) -> bool {

@@ -53,6 +53,8 @@ pub struct Live<L: Wire, D: Door + Drop, C: Clock + Drop> {
     /// Why the latest connection that was cut was cut.
     why_cut: CutCause,
     failures: u64,
+    /// How many octets of the line were dropped before requests.
+    late_octets: u64,
     timing: Timing,
     walled: Walled,
     /// What was told and put out, for proofs alone.
@@ -79,6 +81,7 @@ impl<L: Wire, D: Door + Drop, C: Clock + Drop> Model for Live<L, D, C> {
       is_cut_due = a.is_cut_due;
       goes_on = a.goes_on;
       failed = a.failures;
+      late = a.late_octets;
       timing = a.timing;
       walls = C.walls a.clock;
       walled = a.walled;
@@ -104,6 +107,7 @@ impl<L: Wire, D: Door + Drop, C: Clock + Drop> Live<L, D, C> {
           is_cut_due = false;
           goes_on = false;
           failed = 0;
+          late = 0;
           timing = record { answer_ms = config.now.line.answer_ms; heard = 0; request = None };
           walls = C.walls clock;
           walled = untold;
@@ -126,6 +130,7 @@ impl<L: Wire, D: Door + Drop, C: Clock + Drop> Live<L, D, C> {
           is_cut_due = false;
           goes_on = false;
           failed = 0;
+          late = 0;
           timing = record { answer_ms = answer_ms; heard = 0; request = None };
           walls = C.walls clock;
           walled = untold;
@@ -144,6 +149,7 @@ impl<L: Wire, D: Door + Drop, C: Clock + Drop> Live<L, D, C> {
             goes_on: false,
             why_cut: CutCause::Gone,
             failures: 0,
+            late_octets: 0,
             timing: Timing {
                 answer_ms,
                 heard: 0,
@@ -178,6 +184,13 @@ impl<L: Wire, D: Door + Drop, C: Clock + Drop> Live<L, D, C> {
     /// Why the latest connection that was cut was cut.
     pub(crate) fn why_cut(&self) -> CutCause {
         self.why_cut
+    }
+
+    /// How many octets of the line were dropped before requests.
+    pub(crate) fn late_octets(&self) -> u64
+        ensures { result ≡ self.now.late }
+    {
+        self.late_octets
     }
 
     /// Who wasn't let in.
@@ -429,8 +442,13 @@ impl<L: Wire, D: Door + Drop, C: Clock + Drop> Live<L, D, C> {
         ensures { Puts self.old now (output_of action.now) self.new }
     {
         match action {
-            // A request that the line doesn't take is lost.
             Action::Line(octets) => {
+                // What came before is no answer to it: the exchange before is over, and what is
+                // late of it the station gives again, since a request that wasn't answered is
+                // repeated with its frame count bit.
+                let late = self.line.drop_waiting();
+                self.late_octets = self.late_octets.saturating_add(late);
+                // A request that the line doesn't take is lost.
                 let _taken = self.line.write(*octets);
                 // Read behind the write, which may have waited.
                 self.timing.ask(now, self.clock.now_ms());

@@ -1,8 +1,8 @@
 //! A wire that comes back.
 ghost use Rattle.std.specs.Prelude.{◌≡◌, ◌≢◌, ℕ, List, None, false};
 ghost use Rattle.live.specs.Wires.{FitsBuffer};
-ghost use Rattle.live.specs.Redial.{IsRedialled, IsPut, IsTriedOn, IsAnswered, dialled_map, is_due};
-ghost use Rattle.live.specs.Redial.{grown, settled, told_at};
+ghost use Rattle.live.specs.Redial.{IsRedialled, HasDropped, IsPut, IsTriedOn, IsAnswered};
+ghost use Rattle.live.specs.Redial.{dialled_map, is_due, grown, settled, told_at};
 ghost use Rattle.live.specs.declared.wires.Got.TheVariants.{Quiet, Gone};
 ghost use Rattle.live.specs.declared.wires.Presence.TheVariants.{Untried};
 
@@ -213,7 +213,7 @@ impl<D: Dialler + Drop, C: Clock + Drop> Reached for Redialled<D, C> {
 }
 
 impl<D: Dialler + Drop, C: Clock + Drop> Wire for Redialled<D, C> {
-    ghost use Rattle.live.specs.Wires.{noted, looked, Wrote};
+    ghost use Rattle.live.specs.Wires.{noted, looked, Dropped, Wrote};
 
     ghost history = { λ _. None };
 
@@ -238,6 +238,16 @@ impl<D: Dialler + Drop, C: Clock + Drop> Wire for Redialled<D, C> {
                 self.presence = Presence::Away;
                 Got::Quiet
             }
+        }
+    }
+
+    fn drop_waiting(&mut self) -> u64
+        ensures told { None ≡ noted None (Dropped result) }
+        ensures dropped { HasDropped self.old result self.new }
+    {
+        match &mut self.wire {
+            None => 0,
+            Some(wire) => wire.drop_waiting(),
         }
     }
 

@@ -8,7 +8,7 @@ ghost use Rattle.live.specs.Clocks.{BeginsAt};
 
 use crate::guests::Guests;
 use crate::redial::{Dialled, Dialler};
-use crate::stream::{read_once, write_in_two, write_request};
+use crate::stream::{drop_waiting, read_once, write_in_two, write_once};
 use crate::wires::{Clock, Door, Got, Presence, Reached, SentAway, Visitor, Wire};
 use std::io::{Eprint, ErrorKind};
 use std::net::{
@@ -100,13 +100,17 @@ impl Wire for LineSocket {
         }
     }
 
-    /// What came before a request is no answer to it and is dropped: the exchange before is over,
-    /// and what is late of it the station gives again, since the request that wasn't answered is
-    /// repeated with its frame count bit.
+    fn drop_waiting(&mut self) -> u64 {
+        match self {
+            LineSocket::Tcp(stream) => drop_waiting(stream),
+            LineSocket::Unix(stream) => drop_waiting(stream),
+        }
+    }
+
     fn write(&mut self, octets: &[u8]) -> bool {
         match self {
-            LineSocket::Tcp(stream) => write_request(stream, octets),
-            LineSocket::Unix(stream) => write_request(stream, octets),
+            LineSocket::Tcp(stream) => write_once(stream, octets),
+            LineSocket::Unix(stream) => write_once(stream, octets),
         }
     }
 }
@@ -259,6 +263,11 @@ impl Wire for CentreSocket {
 
     fn read(&mut self, buf: &mut [u8; 1024]) -> Got {
         read_once(&mut self.0, buf)
+    }
+
+    /// A control centre's octets are all heard.
+    fn drop_waiting(&mut self) -> u64 {
+        0
     }
 
     fn write(&mut self, octets: &[u8]) -> bool {

@@ -1,8 +1,8 @@
 //! One call to a stream of the system, and what its answer means.
 ghost use Rattle.std.specs.Prelude.{◌≤◌, length};
 ghost use Rattle.live.specs.Wires.{FitsBuffer};
-ghost use Rattle.live.specs.Streams.{ReadsOnce, WritesOnce, WritesAll, WritesFront, WritesRequest};
-ghost use Rattle.live.specs.Streams.{DropsWaiting, Drains};
+ghost use Rattle.live.specs.Streams.{ReadsOnce, WritesOnce, WritesAll, WritesFront};
+ghost use Rattle.live.specs.Streams.{DropsOnce, DropsWaiting, Drains};
 
 use crate::wires::Got;
 use std::io;
@@ -129,38 +129,40 @@ pub(crate) fn write_in_two<S: Stream>(stream: &mut S, octets: &[u8]) -> bool
     is_taken
 }
 
-/// Writes a request in one call, and answers whether all octets were taken. What came before it is
-/// no answer to it and is dropped.
-pub(crate) fn write_request<S: Stream>(stream: &mut S, octets: &[u8]) -> bool
-    ensures { WritesRequest (S.calls stream.old) octets.now result (S.calls stream.new) }
-{
-    drop_waiting(stream);
-    write_once(stream, octets)
-}
-
-/// Drops what has come and wasn't read, without a wait.
+/// Drops what has come and wasn't read, without a wait. Answers how many octets that was.
 #[tactic(auto, using(crate::proofs::Drops::refused, crate::proofs::Drops::drained))]
-fn drop_waiting<S: Stream>(stream: &mut S)
-    ensures { DropsWaiting (S.calls stream.old) (S.calls stream.new) }
+pub(crate) fn drop_waiting<S: Stream>(stream: &mut S) -> u64
+    ensures { DropsWaiting (S.calls stream.old) result (S.calls stream.new) }
 {
     if stream.set_waiting(false).is_err() {
         // A quiet line would be waited for, and the request is worth more than what is stale.
-        return;
+        return 0;
     }
-    drop_octets(stream);
+    let count = drop_octets(stream);
     // A stream that refuses this has gone, as the next look at it tells.
     let _ = stream.set_waiting(true);
+    count
 }
 
-/// Reads until nothing comes.
-fn drop_octets<S: Stream>(stream: &mut S)
-    ensures { Drains (S.calls stream.old) (S.calls stream.new) }
+/// Reads until nothing comes, and answers how many octets came.
+fn drop_octets<S: Stream>(stream: &mut S) -> u64
+    ensures { Drains (S.calls stream.old) result (S.calls stream.new) }
 {
-    let mut stale = [0; 1024];
+    let mut count = 0;
     for _ in 1..STALE_READS {
-        let Got::Octets(_) = read_once(stream, &mut stale) else {
-            return;
-        };
+        let len = drop_once(stream);
+        if len == 0 {
+            return count;
+        }
+        count += len;
     }
-    let _last = read_once(stream, &mut stale);
+    count + drop_once(stream)
+}
+
+/// Reads once, and answers how many octets came.
+fn drop_once<S: Stream>(stream: &mut S) -> u64
+    ensures bound { result ≤ 1024 }
+    ensures drops { DropsOnce (S.calls stream.old) result (S.calls stream.new) }
+{
+    stream.receive(&mut [0; 1024]).unwrap_or(0) as u64
 }

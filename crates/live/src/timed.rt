@@ -129,6 +129,10 @@ impl Wire for TimedLine<'_> {
         Got::Octets(piece.len())
     }
 
+    fn drop_waiting(&mut self) -> u64 {
+        0
+    }
+
     fn write(&mut self, octets: &[u8]) -> bool {
         self.time.begin();
         self.time.pass(self.write_ms);
@@ -165,6 +169,10 @@ impl Wire for TimedCentre<'_> {
         self.has_started = true;
         buf[..6].copy_from_slice(&[0x68, 4, control, 0, 0, 0]);
         Got::Octets(6)
+    }
+
+    fn drop_waiting(&mut self) -> u64 {
+        0
     }
 
     fn write(&mut self, _octets: &[u8]) -> bool {

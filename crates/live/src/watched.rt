@@ -18,6 +18,9 @@ pub struct Sight {
     pub why_cut: CutCause,
     /// Who wasn't let in.
     pub sent_away: SentAway,
+    /// How many octets of the line were dropped before requests so far, at most `u64::MAX`: they
+    /// came behind the time of the exchange before.
+    pub late_octets: u64,
 }
 
 /// What is told of the state on the disk.
@@ -56,13 +59,15 @@ impl<L: Wire + Reached, D: Door + Drop, C: Clock + Drop> Watched for Live<L, D, 
     ghost tends = { λ old _ new notice. (new ≡ old) × (notice ≡ None) };
 
     fn sight(&self) -> Sight
-        ensures { result.peer ≡ option_map (λ (p : Peer). p.address) self.now.connection }
+        ensures peer { result.peer ≡ option_map (λ (p : Peer). p.address) self.now.connection }
+        ensures late { result.late_octets ≡ self.now.late }
     {
         Sight {
             line: self.line_presence(),
             peer: self.peer(),
             why_cut: self.why_cut(),
             sent_away: self.sent_away(),
+            late_octets: self.late_octets(),
         }
     }
 

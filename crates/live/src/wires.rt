@@ -18,7 +18,7 @@ pub enum Got {
 /// Octets both ways. A wire that tells what happens at it adds each call, with the octets that it
 /// gave or was handed; dropping it shuts it.
 pub trait Wire: Drop {
-    ghost use Rattle.live.specs.Wires.{History, FitsBuffer, looked, Wrote, noted};
+    ghost use Rattle.live.specs.Wires.{History, FitsBuffer, looked, Dropped, Wrote, noted};
 
     /// What has happened at it, the newest first, where it tells that.
     ghost history: { Self → History };
@@ -27,6 +27,10 @@ pub trait Wire: Drop {
     fn read(&mut self, buf: &mut [u8; 1024]) -> Got
         ensures fits { FitsBuffer result }
         ensures told { history self.new ≡ noted (history self.old) (looked result buf.new) };
+
+    /// Drops what has come and wasn't read, without a wait. Answers how many octets that was.
+    fn drop_waiting(&mut self) -> u64
+        ensures told { history self.new ≡ noted (history self.old) (Dropped result) };
 
     /// Puts octets on it. `false` says that it didn't take them all.
     fn write(&mut self, octets: &[u8]) -> bool

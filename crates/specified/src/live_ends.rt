@@ -44,6 +44,13 @@ impl Wire for Stub {
         Got::Octets(1)
     }
 
+    fn drop_waiting(&mut self) -> u64 {
+        match self.octet.take() {
+            Some(_) => 1,
+            None => 0,
+        }
+    }
+
     fn write(&mut self, _octets: &[u8]) -> bool {
         let was_free = self.is_free;
         self.is_free = false;
@@ -132,6 +139,8 @@ fn ends_one_by_one(rt: HostRuntime) {
     let mut wire = wire_with(0xE5);
     assert_eq!(rt; wire.read(&mut buf), Got::Octets(1));
     assert_eq!(rt; wire.read(&mut buf), Got::Quiet);
+    assert_eq!(rt; wire_with(0xE5).drop_waiting(), 1);
+    assert_eq!(rt; wire.drop_waiting(), 0);
     assert!(rt; wire.write(&[0xE5]));
     assert!(rt; !wire.write(&[0xE5]));
     let mut hall = Hall {

@@ -122,6 +122,13 @@ impl<R: Net<Stream = TcpStream> + Clock> Wire for ProcessLine<'_, R> {
         }
     }
 
+    fn drop_waiting(&mut self) -> u64 {
+        match self {
+            ProcessLine::Once(line) => line.drop_waiting(),
+            ProcessLine::Again(line) => line.drop_waiting(),
+        }
+    }
+
     fn write(&mut self, octets: &[u8]) -> bool {
         match self {
             ProcessLine::Once(line) => line.write(octets),

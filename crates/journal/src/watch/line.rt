@@ -4,10 +4,11 @@ ghost use Rattle.journal.specs.Watching as spec;
 
 use super::Watch;
 use crate::exchange::{Awaited, awaited_of, place_of, user_data};
-use crate::fate::Fate;
+use crate::fate::Mishap;
 use crate::note::Line;
 use crate::order::Order;
 use crate::stations::{address_of, ask, asking_of};
+use gateway::Counts;
 
 impl Watch {
     /// Octets came from the line.
@@ -40,7 +41,7 @@ impl Watch {
     {
         let place = place_of(&self.traffic, address_of(self.link, octets));
         let awaited = awaited_of(octets);
-        self.exchange.ask(place, awaited);
+        self.exchange.ask(place, awaited, now);
         if let (Some(place), Awaited::Command) = (place, awaited) {
             self.send(place, octets);
         }
@@ -68,25 +69,53 @@ impl Watch {
         }
     }
 
-    /// So many commands were given up.
-    pub(super) fn note_lost(&mut self, lost: u64)
-        ensures { self.new ≡ spec.lost_noted lost self.old }
+    /// The gateway has counted this: what is new of it befell the station that was asked last
+    /// before the latest event.
+    pub(super) fn note_counts(&mut self, counts: Counts)
+        ensures { self.new ≡ spec.counts_noted counts self.old }
     {
-        if lost <= self.lost {
-            return;
-        }
-        self.lost = lost;
-        if let Some(place) = self.exchange.before() {
-            self.give_up(place);
+        let seen = self.seen;
+        self.suffer_if(seen.lost < counts.lost, Mishap::GivenUp);
+        self.suffer_if(seen.mirrors < counts.mirrors, Mishap::MirrorDropped);
+        self.suffer_if(seen.spoilt < counts.spoilt, Mishap::Spoilt);
+        self.seen = counts;
+    }
+
+    /// This befell the station that was asked last before the latest event, if it did.
+    fn suffer_if(&mut self, is_so: bool, mishap: Mishap)
+        ensures { self.new ≡ spec.suffered_if is_so mishap self.old }
+    {
+        if is_so {
+            self.suffer(self.exchange.before(), mishap);
         }
     }
 
-    /// The command of the station at this place was given up.
-    fn give_up(&mut self, place: usize)
-        ensures { self.new ≡ spec.given_up place self.old }
+    /// So many octets of the line were dropped before requests: those that are new came late from
+    /// the station that was asked before the latest one.
+    pub(super) fn note_late(&mut self, late: u64)
+        ensures { self.new ≡ spec.late_noted late self.old }
+    {
+        if self.late < late {
+            self.suffer(self.exchange.overdue(), Mishap::Late);
+        }
+        self.late = late;
+    }
+
+    /// This befell the station at this place, if there is one.
+    fn suffer(&mut self, place: Option<usize>, mishap: Mishap)
+        ensures { self.new ≡ spec.suffered_at place mishap self.old }
+    {
+        if let Some(place) = place {
+            self.suffer_at(place, mishap);
+        }
+    }
+
+    /// This befell the station at this place.
+    fn suffer_at(&mut self, place: usize, mishap: Mishap)
+        ensures { self.new ≡ spec.suffered place mishap self.old }
     {
         if place < self.traffic.len() {
-            self.traffic[place].end(Fate::GivenUp);
+            self.traffic[place].suffer(mishap);
         }
     }
 }

@@ -300,3 +300,17 @@ fn each_request_can_be_lost(rt: HostRuntime) {
         assert!(rt; fails_at(n, write, None, &LINE_WRITE, &lost), "{n}");
     }
 }
+
+#[test]
+fn octets_that_wait_before_requests_are_counted(rt: HostRuntime) {
+    let mut port = ends(QUIET, None);
+    port.line.waiting = 3;
+    assert!(rt; port.failures() < 9);
+    assert_eq!(rt; port.late_octets(), 0);
+    assert!(rt; port.put(0, &Action::Line(&[0x10])));
+    assert_eq!(rt; port.late_octets(), 3);
+    port.line.waiting = 4;
+    assert!(rt; port.put(0, &Action::Tcp(&[0x68, 4, 1, 0, 0, 0])));
+    assert!(rt; port.put(0, &Action::Line(&[0x10])));
+    assert_eq!(rt; port.late_octets(), 7);
+}

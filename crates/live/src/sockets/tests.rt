@@ -40,6 +40,8 @@ fn a_quiet_line_does_not_hold_who_looks(rt: HostRuntime) -> Result<(), Fail> {
 
     // What waits when a request goes out is no answer to it.
     station.write_all(&[0x10, 0x0B])?;
+    assert_eq!(rt; line.drop_waiting(), 2);
+    assert_eq!(rt; line.drop_waiting(), 0);
     assert!(rt; line.write(&[0x10, 0x49, 0x01, 0x4A, 0x16]));
     assert_eq!(rt; line.read(&mut buf), Got::Quiet);
     station.read_exact(&mut buf[..5])?;
