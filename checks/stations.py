@@ -367,7 +367,7 @@ def wrong_lines(count, program, folder):
 
 def by_example(count, program, folder):
     """The script that docs/STATIONS.md names."""
-    with open(os.path.join(frame.ROOT, "examples/stations/lively.script")) as file:
+    with open(os.path.join(frame.TOP, "examples/stations/lively.script")) as file:
         script = file.read()
     with Played(program, folder, f"tcp:127.0.0.1:{ends.free_port()}", script) as played, played.met() as stream:
         first, second = Polled(stream, 1), Polled(stream, 2)

@@ -34,7 +34,10 @@ impl Outstations {
         ensures here { OnTrue result (station < length self.now.stations) }
         ensures known { OnTrue result (station < length self.now.had) }
     {
-        if station >= self.had.len() || station >= self.stations.len() {
+        if station >= self.had.len() {
+            return false;
+        }
+        if station >= self.stations.len() {
             return false;
         }
         let waiting = self.had[station].saturating_sub(self.stations[station].given());

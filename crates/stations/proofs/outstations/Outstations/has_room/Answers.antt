@@ -4,26 +4,18 @@ use Rattle.stations.specs.Exchanges.{Standing}
 use Rattle.stations.specs.Telling.{has_room}
 use Rattle.stations.proofs.Telling.{no_room_here, no_room_known, room_here}
 use Rattle.stations.proofs.outstations.Outstations.has_room.Goals as goal
-use Rattle.stations.proofs.outstations.Outstations.has_room.Goals.{then-station-len-via-then-station-len}
-use Rattle.stations.proofs.outstations.Outstations.has_room.Goals.{then-station-len-via-else-station-len+then-station-len-2}
 
 pub returns-then-station-len-clause-value : goal.returns-then-station-len-clause-value
 returns-then-station-len-clause-value c =
-    elim c.then-station-len.branch [
-      | then-station-len-via-then-station-len w ↦
-          sym (no_room_known c.args.station c.self.inside.had.items c.self.inside.stations.items
-          (omega (arith, w.if-station-len.true, c.len.ensures, c.self.inside.had.ok.0)))
-          ∙ ap (λ (s : Standing). has_room c.args.station s.had s.stations) c.self.view_is
-      | then-station-len-via-else-station-len+then-station-len-2 w ↦
-          sym (no_room_here c.args.station c.self.inside.had.items c.self.inside.stations.items
-          (omega (
-            arith,
-            w.if-station-len-2.true,
-            w.len-else-station-len.ensures,
-            c.self.inside.stations.ok.0,
-          )))
-          ∙ ap (λ (s : Standing). has_room c.args.station s.had s.stations) c.self.view_is
-    ]
+    sym (no_room_known c.args.station c.self.inside.had.items c.self.inside.stations.items
+    (omega (arith, c.if-station-len.true, c.len.ensures, c.self.inside.had.ok.0)))
+    ∙ ap (λ (s : Standing). has_room c.args.station s.had s.stations) c.self.view_is
+
+pub returns-then-station-len-2-clause-value : goal.returns-then-station-len-2-clause-value
+returns-then-station-len-2-clause-value c =
+    sym (no_room_here c.args.station c.self.inside.had.items c.self.inside.stations.items
+    (omega (arith, c.if-station-len-2.true, c.len-2.ensures, c.self.inside.stations.ok.0)))
+    ∙ ap (λ (s : Standing). has_room c.args.station s.had s.stations) c.self.view_is
 
 pub returns-clause-value : goal.returns-clause-value
 returns-clause-value c =
@@ -37,7 +29,7 @@ returns-clause-value c =
     (omega (
       arith,
       c.if-station-len-2.false,
-      c.len-else-station-len.ensures,
+      c.len-2.ensures,
       c.self.inside.stations.ok.0,
     )) c.index-2.ensures)
     ∙ ap (λ (s : Standing). has_room c.args.station s.had s.stations) c.self.view_is)
