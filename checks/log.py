@@ -14,7 +14,7 @@ and `--allow`.
   refused, with the rule. Of many at once the last is logged, and how many came before it.
 - A skipped report is logged with its type and the reason.
 - A station whose answers last longer than `answer_ms` is logged, once a minute; a silent one isn't.
-- An answer to a command that comes behind STOPDT is logged.
+- An answer to a command that comes while data transfer isn't running is logged, once a minute.
 - With --allow a host of another address is sent away, and the open connection stays.
 - A run that can't begin says why. A second run by mistake ends at the port, and leaves the line of
   the first alone.
@@ -496,18 +496,19 @@ def late(count, program, folder):
             count.judge(f"{words} is told once a minute", len(told) == 1, log.lines)
 
 
-def stopped(count, program, folder):
-    """A station's answers to a command, behind whose execute the control centre stopped data transfer."""
+def unheard(count, program, folder):
+    """A station's answers to commands that come while no control centre is there are logged."""
     station = Operated()
     with Run(program, folder, station, "--log", settings=PATIENT) as run:
         log = run.log
-        count.judge("stopped: the station is up", log.waits("station 7 up") is not None, log.lines)
-        stream = run.connect()
-        count.judge("stopped: STARTDT", exchange(stream, ends.START, ends.STARTED))
-        centre = ends.Centre(stream)
-        stream.sendall(i_frame(centre, 0, EXECUTE) + STOP)
+        count.judge("unheard: the station is up", log.waits("station 7 up") is not None, log.lines)
+        # A single command to object 100 of common address 1, confirmed (cause 7).
+        station.reports += [bytes.fromhex("2d010701640001")] * 5
         line = "station 7 answer to a command dropped: data transfer isn't running"
         count.judge(line, log.waits(line) is not None, log.lines)
+        time.sleep(2)
+        told = [words for words in log.lines if words.startswith(line)]
+        count.judge("unheard: told once a minute", len(told) == 1, told)
 
 
 def sent_away(log):
@@ -572,4 +573,4 @@ def troubles(count, program, folder):
 
 
 if __name__ == "__main__":
-    frame.main(a_run, held, mute, fickle, commands, skipped, late, stopped, guests, troubles, second, closed)
+    frame.main(a_run, held, mute, fickle, commands, skipped, late, unheard, guests, troubles, second, closed)

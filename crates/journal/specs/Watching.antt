@@ -240,7 +240,7 @@ as_seen counts w = record w { seen = counts }
 -- The gateway counted more commands that it gave up, more answers to commands that it dropped, or
 -- more exchanges that were spoilt: that befell the station that was asked last before the latest
 -- event.
-abbrev pub counts_noted : Counts → Watching → Watching
+unfoldable pub counts_noted : Counts → Watching → Watching
 counts_noted counts w =
     as_seen counts (suffered_if (nat_lt w.seen.spoilt counts.spoilt) mishap.Spoilt
     (suffered_if (nat_lt w.seen.mirrors counts.mirrors) mishap.MirrorDropped

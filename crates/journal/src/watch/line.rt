@@ -71,6 +71,7 @@ impl Watch {
 
     /// The gateway has counted this: what is new of it befell the station that was asked last
     /// before the latest event.
+    #[tactic(auto, unfolding(crate::specs::Watching::counts_noted))]
     pub(super) fn note_counts(&mut self, counts: Counts)
         ensures { self.new ≡ spec.counts_noted counts self.old }
     {
@@ -86,7 +87,8 @@ impl Watch {
         ensures { self.new ≡ spec.suffered_if is_so mishap self.old }
     {
         if is_so {
-            self.suffer(self.exchange.before(), mishap);
+            let place = self.exchange.before();
+            self.suffer(place, mishap);
         }
     }
 
@@ -96,7 +98,8 @@ impl Watch {
         ensures { self.new ≡ spec.late_noted late self.old }
     {
         if self.late < late {
-            self.suffer(self.exchange.overdue(), Mishap::Late);
+            let place = self.exchange.overdue();
+            self.suffer(place, Mishap::Late);
         }
         self.late = late;
     }
