@@ -2,13 +2,13 @@
 use Rattle.std.specs.Prelude.{◌≡◌, ℕ, Bool, true, false, List, [], map, Option, Some, None}
 use Rattle.std.specs.Prelude.{string_bytes}
 use Rattle.gateway.specs.declared.settings.Station.{Station as Setting}
-use Rattle.journal.specs.Names.{name_in}
-use Rattle.journal.specs.Stations as told
-use Rattle.journal.specs.declared.names.Name.{Name}
-use Rattle.journal.specs.declared.stations.Standing.{Standing as Told}
-use Rattle.journal.specs.declared.stations.Standing.TheVariants as stands
-use Rattle.journal.specs.declared.stations.StationWatch.{StationWatch}
-use Rattle.journal.specs.declared.traffic.Traffic.{Traffic}
+use Rattle.runlog.specs.Names.{name_in}
+use Rattle.runlog.specs.Stations as told
+use Rattle.runlog.specs.declared.names.Name.{Name}
+use Rattle.runlog.specs.declared.stations.Standing.{Standing as Told}
+use Rattle.runlog.specs.declared.stations.Standing.TheVariants as stands
+use Rattle.runlog.specs.declared.stations.StationWatch.{StationWatch}
+use Rattle.runlog.specs.declared.traffic.Traffic.{Traffic}
 use Rattle.live.specs.declared.wires.Presence.{Presence}
 use Rattle.live.specs.declared.wires.Presence.TheVariants.{Untried, Away, There, Heard}
 use Rattle.lookout.specs.declared.known.Known.{Known}

@@ -1,10 +1,10 @@
 //! What is known of the stations before a run.
 ghost use Rattle.std.specs.Prelude.{◌≡◌, IfOk, map, string_bytes, length};
 ghost use Rattle.lookout.specs.Shown.{AreKnown, text_or_none};
-ghost use Rattle.journal.specs.Names.{name_in};
+ghost use Rattle.runlog.specs.Names.{name_in};
 
 use gateway::Station;
-use journal::{Name, name_of};
+use runlog::{Name, name_of};
 use std::alloc::{AllocError, Global};
 
 /// A station of the settings, with the name that the site gives it.

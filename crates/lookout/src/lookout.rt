@@ -5,8 +5,8 @@ use crate::known::{Known, known_of};
 use crate::setting::{Chosen, chosen_of, settings_of};
 use crate::shown::{centre_of, keeping_after, line_of, rows_of};
 use gateway::{Config, Gateway};
-use journal::{Names, Watch, taken_places};
 use live::Notice;
+use runlog::{Names, Watch, taken_places};
 use status::{Door, Hour, Keeping, Queue, Snapshot, Visitors};
 use std::alloc::{AllocError, Global};
 

@@ -4,8 +4,8 @@ ghost use Rattle.lookout.specs.Shown as spec;
 
 use crate::known::Known;
 use arrayvec::ArrayVec;
-use journal::{Standing as Told, StationWatch, Traffic, Watch};
 use live::{Notice, Presence};
+use runlog::{Standing as Told, StationWatch, Traffic, Watch};
 use status::{Centre, Keeping, Line, Standing, Station};
 
 /// The most stations that a line has.

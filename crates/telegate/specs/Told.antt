@@ -3,10 +3,10 @@ use Rattle.std.specs.Prelude.{◌≡◌, ℕ, Bool, true, false, Option, Some, N
 use Rattle.std.specs.declared.net.socket_addr.SocketAddr.{SocketAddr}
 use Rattle.gateway.specs.Log.{GapOut}
 use Rattle.gateway.specs.State.{State}
-use Rattle.journal.specs.Telling.{Book, Notes, Puts, taken_in}
-use Rattle.journal.specs.declared.note.Note.{Note}
-use Rattle.journal.specs.declared.note.Note.TheVariants as note
-use Rattle.journal.specs.declared.note.Trouble.TheVariants as trouble
+use Rattle.runlog.specs.Telling.{Book, Notes, Puts, taken_in}
+use Rattle.runlog.specs.declared.note.Note.{Note}
+use Rattle.runlog.specs.declared.note.Note.TheVariants as note
+use Rattle.runlog.specs.declared.note.Trouble.TheVariants as trouble
 use Rattle.state.specs.declared.beginning.Origin.{Origin}
 use Rattle.state.specs.declared.start.Beginning.{Beginning}
 use Rattle.state.specs.declared.start.Beginning.TheVariants as beginnings

@@ -20,10 +20,10 @@ use crate::host::Wishes;
 use crate::running::{DeviceFailed, Lived, Scribes, live};
 use crate::site::{Refusal, Site};
 use gateway::{Action, Config, Gateway, History};
-use journal::{Note, Sink, Teller, Trouble, Watch, taken_places};
 use live::{Door, Guests, Live, Wire};
 use lookout::Lookout;
 use record::{Pen, Sheet};
+use runlog::{Note, Sink, Teller, Trouble, Watch, taken_places};
 use settings::{ConfigFault, LiveSettings, read_live_config};
 use state::{Beginning, Begun, DiskStore, FolderFault, Keeper, Origin, Pair, ToldGap, begin};
 use std::alloc::Global;
@@ -220,7 +220,7 @@ fn run_anew<T: Site>(
     wishes: Wishes<'_>,
 ) -> Result<Lived<Live<T::Line, T::Door, T::Clock>, T::Sheet, T::Sink>, Fault>
     ensures lived { IfOk result (λ lived. HasLived config.now wishes.entry.guests false []
-        lived.journal.port.port.port lived.journal.port.port.pen lived.ended) }
+        lived.run_log.port.port.port lived.run_log.port.port.pen lived.ended) }
     ensures fault { IfErr result IsEndFault }
 {
     let gateway = Gateway::new(site.alloc(), config)?;
@@ -241,8 +241,8 @@ fn run_new<T: Site>(
     requires new { told_first (log_of scribes.pen) (Some []) ≡ Some [] }
     requires begins { Follows (setup_of config.now) gateway (Some []) }
     requires clock { T.begins_at ends.clock 0 }
-    ensures { HasLived config.now guests false [] result.journal.port.port.port
-        result.journal.port.port.pen result.ended }
+    ensures { HasLived config.now guests false [] result.run_log.port.port.port
+        result.run_log.port.port.pen result.ended }
 {
     let port = port_between(config, ends, guests, false);
     live(gateway, port, History::new(), scribes)
@@ -268,8 +268,8 @@ fn run_kept<T: Site>(
     // It went on from what the directory had.
     ensures lived { IfOk result (λ lived. HasLivedFrom
         (BeginsIn T.Folder.File.Disk config.now text.now T.Folder.lineage) config.now
-        wishes.entry.guests lived.journal.port.before.entries
-        lived.journal.port.port.port.ends.port lived.journal.port.port.pen lived.ended) }
+        wishes.entry.guests lived.run_log.port.before.entries
+        lived.run_log.port.port.port.ends.port lived.run_log.port.port.pen lived.ended) }
     ensures fault { IfErr result IsKeptFault }
 {
     let mut scribes = scribes_of(site, config, &wishes)?;
@@ -299,8 +299,8 @@ fn run_from<T: Site>(
     requires new { told_first (log_of scribes.pen) (Some []) ≡ Some [] }
     requires clock { T.begins_at ends.clock (first_moment begun.origin.moment) }
     ensures { HasLivedOn config.now wishes.entry.guests begun.origin
-        result.journal.port.before.entries result.journal.port.port.port.ends.port
-        result.journal.port.port.pen result.ended }
+        result.run_log.port.before.entries result.run_log.port.port.port.ends.port
+        result.run_log.port.port.pen result.ended }
 {
     let Begun { origin, store } = begun;
     let Origin {

@@ -7,10 +7,10 @@ ghost use Rattle.telegate.specs.Running.{HasEnded, HasRun, HasRunFaithfully, IsR
 
 use crate::life::Life;
 use gateway::{End, Gateway, History, drive_on};
-use journal::{Journal, Sink, Teller};
 use live::Watched;
 use lookout::Lookout;
 use record::{Pen, Recorder, Sheet};
+use runlog::{RunLog, Sink, Teller};
 use status::Door;
 
 /// A run has stopped: its line has ended, or its state can't be kept where that isn't borne.
@@ -29,45 +29,45 @@ pub(crate) struct Scribes<S: Sink + Drop, W: Sheet + Drop, D: Door + Drop> {
 /// A run over a port that is over: the port, with what was told, and how it ended.
 #[derive(Drop)]
 pub(crate) struct Lived<P: Watched + Drop, W: Sheet + Drop, S: Sink + Drop> {
-    pub(crate) journal: Journal<Life<Recorder<P, W>>, S>,
+    pub(crate) run_log: RunLog<Life<Recorder<P, W>>, S>,
     pub(crate) ended: Result<(), DeviceFailed>,
 }
 
 /// Runs the gateway over a port until its device fails, or has no more events, or all turns that
-/// can be counted are used up. Between two events the journal, and the port, may look at the
+/// can be counted are used up. Between two events the run_log, and the port, may look at the
 /// gateway, and so may visitors. To these it is lent: whoever looks, every promise stays.
 #[tactic(auto, using(crate::proofs::Turning::no_events_yet))]
 fn serve<P: Watched + Drop, S: Sink + Drop, D: Door + Drop>(
     mut gateway: Gateway,
-    journal: &mut Journal<P, S>,
+    run_log: &mut RunLog<P, S>,
     mut lookout: Option<Lookout<D>>,
 ) -> Result<(), DeviceFailed>
-    requires { P.failed journal.old.port < u64.MAX }
-    ensures device { HasRun (P.failed journal.old.port) (P.failed journal.new.port) result }
+    requires { P.failed run_log.old.port < u64.MAX }
+    ensures device { HasRun (P.failed run_log.old.port) (P.failed run_log.new.port) result }
     // It ended well only after all of its events.
-    ensures over { OnOk result (HasEnded (P.ended journal.new.port) (P.log journal.old.port)
-        (P.log journal.new.port)) }
-    ensures script { P.script journal.new.port ≡ P.script journal.old.port }
+    ensures over { OnOk result (HasEnded (P.ended run_log.new.port) (P.log run_log.old.port)
+        (P.log run_log.new.port)) }
+    ensures script { P.script run_log.new.port ≡ P.script run_log.old.port }
     // Where the gateway begins with the state that the log so far leads to, what the log then shows
     // keeps every promise of a gateway with these settings.
-    ensures faithful { (p : Setup) → Follows p gateway (P.log journal.old.port) →
-        Rests p (P.log journal.old.port) →
-        HasRunFaithfully p (P.log journal.new.port) result }
+    ensures faithful { (p : Setup) → Follows p gateway (P.log run_log.old.port) →
+        Rests p (P.log run_log.old.port) →
+        HasRunFaithfully p (P.log run_log.new.port) result }
 {
     'turning: for _ in 0..u64::MAX {
-        match drive_on(&mut gateway, journal, 1) {
+        match drive_on(&mut gateway, run_log, 1) {
             End::Turns => {
-                let notice = journal.look(&gateway);
+                let notice = run_log.look(&gateway);
                 if let Some(lookout) = &mut lookout {
-                    lookout.look(&gateway, journal.teller().watch(), notice);
+                    lookout.look(&gateway, run_log.teller().watch(), notice);
                 }
             }
             End::Finished => {
-                journal.close(&gateway);
+                run_log.close(&gateway);
                 return Ok(());
             }
             End::Device => {
-                journal.close(&gateway);
+                run_log.close(&gateway);
                 return Err(DeviceFailed);
             }
         }
@@ -83,29 +83,29 @@ pub(crate) fn live<P: Watched + Drop, W: Sheet + Drop, S: Sink + Drop, D: Door +
     scribes: Scribes<S, W, D>,
 ) -> Lived<P, W, S>
     requires { P.failed port < u64.MAX }
-    ensures device { HasRun (P.failed port) (P.failed result.journal.port.port.port) result.ended }
-    ensures over { OnOk result.ended (HasEnded (P.ended result.journal.port.port.port)
+    ensures device { HasRun (P.failed port) (P.failed result.run_log.port.port.port) result.ended }
+    ensures over { OnOk result.ended (HasEnded (P.ended result.run_log.port.port.port)
         (all_told before.entries scribes.pen (P.log port))
-        (all_told before.entries result.journal.port.port.pen
-        (P.log result.journal.port.port.port))) }
-    ensures script { P.script result.journal.port.port.port ≡ P.script port }
-    ensures before { result.journal.port.before.entries ≡ before.entries }
+        (all_told before.entries result.run_log.port.port.pen
+        (P.log result.run_log.port.port.port))) }
+    ensures script { P.script result.run_log.port.port.port ≡ P.script port }
+    ensures before { result.run_log.port.before.entries ≡ before.entries }
     // Where the gateway begins with the state that all that passed before leads to, what has passed
     // then keeps every promise of a gateway with these settings.
     ensures faithful { (p : Setup) →
         Follows p gateway (all_told before.entries scribes.pen (P.log port)) →
         Rests p (all_told before.entries scribes.pen (P.log port)) →
-        HasRunFaithfully p (all_told before.entries result.journal.port.port.pen
-        (P.log result.journal.port.port.port)) result.ended }
+        HasRunFaithfully p (all_told before.entries result.run_log.port.port.pen
+        (P.log result.run_log.port.port.port)) result.ended }
     // And so does what is written of it.
     ensures text { (p : Setup) →
         Follows p gateway (all_told before.entries scribes.pen (P.log port)) →
         Rests p (all_told before.entries scribes.pen (P.log port)) →
-        IsRecorded p before.entries result.journal.port.port.pen result.ended }
+        IsRecorded p before.entries result.run_log.port.port.pen result.ended }
 {
     let recorder = Recorder::new(port, scribes.pen);
-    let mut journal = Journal::new(Life::new(recorder, before), scribes.teller);
-    let ended = serve(gateway, &mut journal, scribes.lookout);
-    let _is_over = journal.port().port().is_over();
-    Lived { journal, ended }
+    let mut run_log = RunLog::new(Life::new(recorder, before), scribes.teller);
+    let ended = serve(gateway, &mut run_log, scribes.lookout);
+    let _is_over = run_log.port().port().is_over();
+    Lived { run_log, ended }
 }

@@ -3,12 +3,12 @@ ghost use Rattle.std.specs.Prelude.{◌≡◌, ℕ, IfOk};
 ghost use Rattle.telegate.specs.Told.{fault_of};
 
 use crate::fault::Fault;
-use journal::{Names, Sink, StandardError, Trouble};
 use live::{
     CentreListener, Door, Got, LineDialler, LineSocket, Presence, Reached, Redialled, SystemClock,
     Wire,
 };
 use record::{Sheet, StandardOutput};
+use runlog::{Names, Sink, StandardError, Trouble};
 use settings::LiveSettings;
 use state::Folder;
 use state_files::Directory;

@@ -4,15 +4,15 @@ use Rattle.telegate.proofs.living.run_at.Goals as goal
 pub returns-in_ok-run_anew-in-None-clause-lived : goal.returns-in_ok-run_anew-in-None-clause-lived
 returns-in_ok-run_anew-in-None-clause-lived g c =
     lived_anew _ c.args.config.now c.args.wishes
-    c.in_ok-run_anew-in-None.field-0.journal.port.port.port
-    c.in_ok-run_anew-in-None.field-0.journal.port.port.pen c.in_ok-run_anew-in-None.field-0.ended
+    c.in_ok-run_anew-in-None.field-0.run_log.port.port.port
+    c.in_ok-run_anew-in-None.field-0.run_log.port.port.pen c.in_ok-run_anew-in-None.field-0.ended
     c.in-None.is
     c.in_ok-run_anew-in-None.ensures.lived
 
 pub returns-in_ok-run_kept-in-Some-clause-lived : goal.returns-in_ok-run_kept-in-Some-clause-lived
 returns-in_ok-run_kept-in-Some-clause-lived g c =
     lived_kept _ c.args.config.now c.args.wishes c.in-Some.directory
-    c.in_ok-run_kept-in-Some.field-0.journal.port.before.entries
-    c.in_ok-run_kept-in-Some.field-0.journal.port.port.port.ends.port
-    c.in_ok-run_kept-in-Some.field-0.journal.port.port.pen
+    c.in_ok-run_kept-in-Some.field-0.run_log.port.before.entries
+    c.in_ok-run_kept-in-Some.field-0.run_log.port.port.port.ends.port
+    c.in_ok-run_kept-in-Some.field-0.run_log.port.port.pen
     c.in_ok-run_kept-in-Some.field-0.ended c.in-Some.is c.in_ok-run_kept-in-Some.ensures.lived

@@ -7,13 +7,13 @@ use Rattle.telegate.proofs.running.serve.Given as goal
 
 abbrev pub invariant-turning : goal.invariant-turning
 invariant-turning g l = record {
-  healthy : g.P.Port.failed l.journal.port ≡ g.P.Port.failed l.initial.journal.port;
-  fixed : g.P.Port.script l.journal.port ≡ g.P.Port.script l.initial.journal.port;
-  more : MoreEvents l.counter (g.P.Port.log l.initial.journal.port) (g.P.Port.log l.journal.port);
-  faithful : (p : Setup) → Follows p l.initial.gateway (g.P.Port.log l.initial.journal.port)
-      → Rests p (g.P.Port.log l.initial.journal.port)
-      → Follows p l.gateway (g.P.Port.log l.journal.port) × Rests p (g.P.Port.log l.journal.port);
-  told : (p : Setup) → Follows p l.initial.gateway (g.P.Port.log l.initial.journal.port)
-      → Rests p (g.P.Port.log l.initial.journal.port) → 0 < l.counter
-      → IsRunTold p (g.P.Port.log l.journal.port);
+  healthy : g.P.Port.failed l.run_log.port ≡ g.P.Port.failed l.initial.run_log.port;
+  fixed : g.P.Port.script l.run_log.port ≡ g.P.Port.script l.initial.run_log.port;
+  more : MoreEvents l.counter (g.P.Port.log l.initial.run_log.port) (g.P.Port.log l.run_log.port);
+  faithful : (p : Setup) → Follows p l.initial.gateway (g.P.Port.log l.initial.run_log.port)
+      → Rests p (g.P.Port.log l.initial.run_log.port)
+      → Follows p l.gateway (g.P.Port.log l.run_log.port) × Rests p (g.P.Port.log l.run_log.port);
+  told : (p : Setup) → Follows p l.initial.gateway (g.P.Port.log l.initial.run_log.port)
+      → Rests p (g.P.Port.log l.initial.run_log.port) → 0 < l.counter
+      → IsRunTold p (g.P.Port.log l.run_log.port);
 }

@@ -1,0 +1,203 @@
+-- What is told of the line, of the door and of the connection (this gateway's own profile).
+use Rattle.std.specs.Prelude.{ℕ, ◌-◌, nat_le, bytes_eq, Bool, true, false, List, [], ◌∷◌, Option}
+use Rattle.std.specs.Prelude.{Some, None, if◌then◌else◌}
+use Rattle.std.specs.declared.net.ip_addr.IpAddr.{IpAddr}
+use Rattle.std.specs.Bool.{beq}
+use Rattle.session.specs.declared.kinds.Close.{Close}
+use Rattle.session.specs.declared.kinds.Close.TheVariants as close
+use Rattle.live.specs.declared.wires.CutCause.{CutCause}
+use Rattle.live.specs.declared.wires.SentAway.{SentAway}
+use Rattle.live.specs.declared.wires.Presence.{Presence}
+use Rattle.live.specs.declared.wires.Presence.TheVariants as presence
+use Rattle.live.specs.declared.wires.Presence.TheVariants.{Untried, Away}
+use Rattle.runlog.specs.Limits.{asked, is_free, is_minute_after, one_more}
+use Rattle.runlog.specs.declared.limit.Limit.{Limit}
+use Rattle.runlog.specs.declared.note.Line.{Line}
+use Rattle.runlog.specs.declared.note.Note.{Note}
+use Rattle.runlog.specs.declared.note.Note.TheVariants as note
+use Rattle.runlog.specs.declared.ends.LineTold.{LineTold}
+use Rattle.runlog.specs.declared.ends.LineTold.TheVariants.{Nothing, NotThere, There, Lost}
+use Rattle.runlog.specs.declared.ends.LineWatch.{LineWatch}
+use Rattle.runlog.specs.declared.ends.DoorWatch.{DoorWatch}
+use Rattle.runlog.specs.declared.ends.ConnectionWatch.{ConnectionWatch}
+use Rattle.runlog.specs.declared.ends.Opening.{Opening}
+
+abbrev pub new_limit : Limit
+new_limit = record { told = None; left_out = 0 }
+
+abbrev pub line_by : Note → ℕ → Option ℕ → Option Line
+line_by what now None = None
+line_by what now (Some left_out) = Some (record { moment = now; note = what; left_out = left_out })
+
+-- something happened: a line, or it is counted as left out
+abbrev pub happened : Note → Limit → ℕ → Limit × Option Line
+happened what limit now = ((asked limit now).0, line_by what now (asked limit now).1)
+
+-- something is in another state: a line, or it is told once a second has passed
+abbrev pub changed : Note → Limit → ℕ → Limit × Option Line
+changed what limit now = if is_free limit now then happened what limit now else (limit, None)
+
+-- The line
+
+abbrev pub new_line : LineWatch
+new_line = record {
+  told = Nothing;
+  there = new_limit;
+  away = new_limit;
+  is_heard = false;
+  presence = Untried;
+  since = 0;
+}
+
+-- A line is told once it was tried, and that it isn't there again each minute. One that was lost is
+-- there again once it has given octets, or is there for a minute.
+abbrev pub line_change : LineTold → Presence → (is_minute : Bool) → Option (LineTold × Note)
+line_change told Untried is_minute = None
+line_change Nothing Away is_minute = Some (NotThere, note.LineNotThere)
+line_change NotThere Away true = Some (NotThere, note.LineNotThere)
+line_change NotThere Away false = None
+line_change There Away is_minute = Some (Lost, note.LineLost)
+line_change Lost Away true = Some (Lost, note.LineNotThere)
+line_change Lost Away false = None
+line_change There presence is_minute = None
+line_change Lost presence.Heard is_minute = Some (There, note.LineReachedAgain)
+line_change Lost presence.There true = Some (There, note.LineReachedAgain)
+line_change Lost presence.There false = None
+line_change told presence is_minute = Some (There, note.LineReached)
+
+-- it was told, or not yet
+abbrev pub line_told : LineTold → Option Line → LineWatch → LineWatch × Option Line
+line_told told None w = (w, None)
+line_told told (Some line) w = (record w { told = told }, Some line)
+
+abbrev pub is_away : Presence → Bool
+is_away Away = true
+is_away presence = false
+
+abbrev pub line_tried : (is_away : Bool) → ℕ → LineTold → Note → LineWatch
+    → LineWatch × Option Line
+line_tried true now told what w = line_told told (changed what w.away now).1
+    (record w { away = (changed what w.away now).0 })
+line_tried false now told what w = line_told told (changed what w.there now).1
+    (record w { there = (changed what w.there now).0 })
+
+abbrev pub line_changed : Option (LineTold × Note) → (is_away : Bool) → ℕ → LineWatch
+    → LineWatch × Option Line
+line_changed None is_away now w = (w, None)
+line_changed (Some (told, what)) is_away now w = line_tried is_away now told what w
+
+-- A line that is there, and from which nothing has come, was away if octets had come before.
+abbrev pub seen_as : (was_heard : Bool) → Presence → Presence
+seen_as true presence.There = Away
+seen_as was_heard presence = presence
+
+abbrev pub is_heard : Presence → Bool
+is_heard presence.Heard = true
+is_heard presence = false
+
+abbrev pub is_there : Presence → Bool
+is_there presence.There = true
+is_there presence.Heard = true
+is_there presence = false
+
+-- how it is seen, and since when it is there or not
+abbrev pub presence_noted : Presence → ℕ → LineWatch → LineWatch
+presence_noted presence now w = record w {
+  is_heard = is_heard presence;
+  presence = presence;
+  since = if beq (is_there presence) (is_there w.presence) then w.since else now;
+}
+
+abbrev pub line_seen_so : Presence → ℕ → LineWatch → LineWatch × Option Line
+line_seen_so presence now w =
+    line_changed (line_change w.told presence (is_minute_after w.away.told now)) (is_away presence)
+    now (presence_noted presence now w)
+
+abbrev pub line_seen : Presence → ℕ → LineWatch → LineWatch × Option Line
+line_seen presence now w = line_seen_so (seen_as w.is_heard presence) now w
+
+-- Those who aren't let in
+
+abbrev pub new_door : DoorWatch
+new_door = record { told = 0; limit = new_limit }
+
+abbrev pub door_told : ℕ → Option Line → DoorWatch → DoorWatch × Option Line
+door_told count None w = (w, None)
+door_told count (Some line) w = (record w { told = count }, Some line)
+
+-- a line tells how many came since the one before
+abbrev pub door_tried : SentAway → ℕ → DoorWatch → DoorWatch × Option Line
+door_tried s now w =
+    let told = changed (note.SentAway (s.count - w.told) s.last) w.limit now in
+    door_told s.count told.1 (record w { limit = told.0 })
+
+abbrev pub door_seen : SentAway → ℕ → DoorWatch → DoorWatch × Option Line
+door_seen s now w = if nat_le s.count w.told then (w, None) else door_tried s now w
+
+-- The connection
+
+abbrev pub new_connection : ConnectionWatch
+new_connection = record {
+  count = 0;
+  peer = None;
+  opening = None;
+  opened = new_limit;
+  started = new_limit;
+  stopped = new_limit;
+  cut = new_limit;
+  closed = new_limit;
+}
+
+abbrev pub connection_opened : Option IpAddr → ℕ → ConnectionWatch → ConnectionWatch × Option Line
+connection_opened peer now w =
+    let told = happened (note.Opened peer) w.opened now in (
+      record w {
+        count = one_more w.count;
+        peer = peer;
+        opening = Some (record { since = now; is_started = false });
+        opened = told.0;
+      },
+      told.1,
+    )
+
+abbrev pub connection_cut : CutCause → ℕ → ConnectionWatch → ConnectionWatch × Option Line
+connection_cut cause now w = let told = happened (note.Cut cause) w.cut now in
+    (record w { opening = None; cut = told.0 }, told.1)
+
+-- the one in whose place another comes is closed after that is opened
+abbrev pub open_after : Close → Option Opening → Option Opening
+open_after close.Replaced opening = opening
+open_after cause opening = None
+
+abbrev pub connection_closed : Close → ℕ → ConnectionWatch → ConnectionWatch × Option Line
+connection_closed cause now w = let told = happened (note.Closed cause) w.closed now in
+    (record w { opening = open_after cause w.opening; closed = told.0 }, told.1)
+
+-- STARTDT con and STOPDT con, as they go out (IEC 60870-5-104, 5.1)
+abbrev pub start_confirmed : List ℕ
+start_confirmed = 104 ∷ 4 ∷ 11 ∷ 0 ∷ 0 ∷ 0 ∷ []
+
+abbrev pub stop_confirmed : List ℕ
+stop_confirmed = 104 ∷ 4 ∷ 35 ∷ 0 ∷ 0 ∷ 0 ∷ []
+
+abbrev pub started_so : (is_started : Bool) → Option Opening → Option Opening
+started_so is_started None = None
+started_so is_started (Some opening) =
+    Some (record { since = opening.since; is_started = is_started })
+
+-- data transfer is started, or stopped, where one is open
+abbrev pub transfer_noted : (is_started : Bool) → ConnectionWatch → ConnectionWatch
+transfer_noted is_started w = record w { opening = started_so is_started w.opening }
+
+abbrev pub connection_started : ℕ → ConnectionWatch → ConnectionWatch × Option Line
+connection_started now w = let told = happened note.Started w.started now in
+    (record (transfer_noted true w) { started = told.0 }, told.1)
+
+abbrev pub connection_stopped : ℕ → ConnectionWatch → ConnectionWatch × Option Line
+connection_stopped now w = let told = happened note.Stopped w.stopped now in
+    (record (transfer_noted false w) { stopped = told.0 }, told.1)
+
+abbrev pub connection_sent : List ℕ → ℕ → ConnectionWatch → ConnectionWatch × Option Line
+connection_sent octets now w =
+    if bytes_eq octets start_confirmed then connection_started now w else
+    if bytes_eq octets stop_confirmed then connection_stopped now w else (w, None)

@@ -1,0 +1,129 @@
+-- What is told of the commands that come from the control centre (IEC 60870-5-104, 5, for the
+-- frames; the lines are this gateway's own profile).
+use Rattle.std.specs.Prelude.{ℕ, zero, suc, ◌+◌, ◌-◌, ◌%◌, ◌==◌, ◌&&◌, nat_le, Bool, true, false}
+use Rattle.std.specs.Prelude.{List, [], ◌++◌, length, take, drop, Option, Some, None, if◌then◌else◌}
+use Rattle.std.specs.declared.net.ip_addr.IpAddr.{IpAddr}
+use Rattle.asdu.specs.Sizes.{tcp}
+use Rattle.command.specs.Refusals.{Seen, seen_judged, glance_of}
+use Rattle.command.specs.declared.refusal.Refusal.{Refusal}
+use Rattle.gateway.specs.State.{State, wall_now}
+use Rattle.runlog.specs.Gathering.{nothing, added}
+use Rattle.runlog.specs.Gathering as gathering
+use Rattle.runlog.specs.Orders.{octet, order_of}
+use Rattle.runlog.specs.declared.fate.Reason.TheVariants as reason
+use Rattle.runlog.specs.declared.gathered.Gathered.{Gathered}
+use Rattle.runlog.specs.declared.note.Line.{Line}
+use Rattle.runlog.specs.declared.note.Note.TheVariants as note
+use Rattle.runlog.specs.declared.order.Order.{Order}
+
+-- what a judgement looked at before the commands that come, and those that go on or are refused
+pub record Orders : Type 0 where
+  pub seen : Seen
+  pub ordered : Gathered
+  pub refused : Gathered
+
+-- what came in the latest step behind what wasn't whole before, and whether the connection was
+-- closed in it
+pub record Inbox : Type 0 where
+  pub octets : List ℕ
+  pub is_closed : Bool
+  pub orders : Orders
+
+abbrev pub new_orders : Orders
+new_orders = record {
+  seen = record { waiting = 0; selections = [] };
+  ordered = nothing;
+  refused = nothing;
+}
+
+abbrev pub new_inbox : Inbox
+new_inbox = record { octets = []; is_closed = false; orders = new_orders }
+
+-- a connection begins, or is cut: nothing has come on it
+abbrev pub emptied : Inbox → Inbox
+emptied b = record b { octets = []; is_closed = false }
+
+-- as many octets as there is place for
+abbrev pub received : List ℕ → Inbox → Inbox
+received octets b = record b {
+  octets = b.octets ++ take (1279 - length b.octets) octets;
+}
+
+abbrev pub closed : Inbox → Inbox
+closed b = record b { is_closed = true }
+
+-- ---- One command
+
+-- it goes on to its station, or is refused by a rule
+abbrev pub rule_noted : Option Refusal × Seen → Option IpAddr → Order → Orders → Orders
+rule_noted (None, seen) peer o c =
+    record c { seen = seen; ordered = added (note.Ordered o peer) c.ordered }
+rule_noted (Some rule, seen) peer o c =
+    record c { seen = seen; refused = added (note.Refused o peer (reason.Rule rule)) c.refused }
+
+-- Where the connection was closed in the step in which it came, it goes nowhere.
+abbrev pub order_noted : State → (is_closed : Bool) → Option IpAddr → List ℕ → Order → Orders
+    → Orders
+order_noted s true peer asdu o c =
+    record c { refused = added (note.Refused o peer reason.Closed) c.refused }
+order_noted s false peer asdu o c = rule_noted
+    (seen_judged s.serial.commands asdu s.moment (wall_now s) c.seen) peer o c
+
+abbrev pub asdu_by : Option Order → State → (is_closed : Bool) → Option IpAddr → List ℕ → Orders
+    → Orders
+asdu_by None s is_closed peer asdu c = c
+asdu_by (Some o) s is_closed peer asdu c = order_noted s is_closed peer asdu o c
+
+abbrev pub asdu_noted : State → (is_closed : Bool) → Option IpAddr → List ℕ → Orders → Orders
+asdu_noted s is_closed peer asdu c = asdu_by (order_of tcp asdu) s is_closed peer asdu c
+
+-- ---- APDUs, of which the second octet tells how many octets follow
+
+abbrev pub apdu_len : List ℕ → ℕ
+apdu_len octets = octet octets 1 + 2
+
+abbrev pub is_whole : List ℕ → Bool
+is_whole octets = nat_le 2 (length octets) && nat_le (apdu_len octets) (length octets)
+
+-- An I frame, whose first control octet is even, has an ASDU behind four control octets.
+abbrev pub apdu_noted : State → (is_closed : Bool) → Option IpAddr → List ℕ → Orders → Orders
+apdu_noted s is_closed peer apdu c =
+    if octet apdu 2 % 2 == 0 then asdu_noted s is_closed peer (drop 6 apdu) c else c
+
+-- the whole APDUs at the front, one after another, at most so many; and what is left behind them
+abbrev pub all_noted : (most : ℕ) → State → (is_closed : Bool) → Option IpAddr → List ℕ → Orders
+    → Orders × List ℕ
+all_noted zero s is_closed peer octets c = (c, octets)
+all_noted (suc most) s is_closed peer octets c =
+    if is_whole octets
+    then all_noted most s is_closed peer (drop (apdu_len octets) octets)
+    (apdu_noted s is_closed peer (take (apdu_len octets) octets) c)
+    else (c, octets)
+
+-- ---- Between two steps
+
+abbrev pub judged_by : Orders × List ℕ → State → Inbox → Inbox
+judged_by (orders, rest) s b = record {
+  octets = if b.is_closed then [] else rest;
+  is_closed = false;
+  orders = record orders { seen = glance_of s.serial.commands };
+}
+
+-- the commands of the step are told of, and what the next judgement looks at is seen
+abbrev pub judged : State → Option IpAddr → Inbox → Inbox
+judged s peer b = judged_by (all_noted (length b.octets) s b.is_closed peer b.octets b.orders) s b
+
+abbrev pub refused_line : ℕ → Orders → Orders × Option Line
+refused_line now c =
+    let told = gathering.line_of now c.refused in (record c { refused = told.0 }, told.1)
+
+abbrev pub unless_ordered : Gathered × Option Line → ℕ → Orders → Orders × Option Line
+unless_ordered (ordered, Some line) now c = (record c { ordered = ordered }, Some line)
+unless_ordered (ordered, None) now c = refused_line now (record c { ordered = ordered })
+
+-- a line of the commands that came, if one is to be told
+abbrev pub orders_line : ℕ → Orders → Orders × Option Line
+orders_line now c = unless_ordered (gathering.line_of now c.ordered) now c
+
+abbrev pub line_of : ℕ → Inbox → Inbox × Option Line
+line_of now b = let told = orders_line now b.orders in (record b { orders = told.0 }, told.1)

@@ -1,0 +1,61 @@
+-- At most a line a second of each kind (this gateway's own profile).
+use Rattle.std.specs.Prelude.{ℕ, ◌+◌, ◌-◌, ◌^◌, ◌≤◌, min, nat_le, Bool, true, false, List, [], ◌∷◌}
+use Rattle.std.specs.Prelude.{Option, Some, None}
+use Rattle.runlog.specs.declared.limit.Limit.{Limit}
+
+-- none was told yet, or the last one a second ago
+abbrev pub is_free_after : Option ℕ → ℕ → Bool
+is_free_after None now = true
+is_free_after (Some told) now = nat_le 1000 (now - told)
+
+abbrev pub is_free : Limit → ℕ → Bool
+is_free limit now = is_free_after limit.told now
+
+-- a minute has passed since a line was told, if one was
+abbrev pub is_minute_after : Option ℕ → ℕ → Bool
+is_minute_after None now = true
+is_minute_after (Some told) now = nat_le 60000 (now - told)
+
+-- a number that stays at the greatest of its type
+abbrev pub one_more : ℕ → ℕ
+one_more n = min (n + 1) (2 ^ 64 - 1)
+
+-- a line that is told says how many were left out before it
+abbrev pub asked_by : Bool → Limit → ℕ → Limit × Option ℕ
+asked_by true limit now = (record { told = Some now; left_out = 0 }, Some limit.left_out)
+asked_by false limit now = (record limit { left_out = one_more limit.left_out }, None)
+
+abbrev pub asked : Limit → ℕ → Limit × Option ℕ
+asked limit now = asked_by (is_free limit now) limit now
+
+-- The law: of any calls
+
+-- the moments at which lines were told, and how many each says that were left out before it
+abbrev pub told_by : Option ℕ → ℕ → List (ℕ × ℕ) → List (ℕ × ℕ)
+told_by None now told = told
+told_by (Some left_out) now told = (now, left_out) ∷ told
+
+abbrev pub told_in : Limit → List ℕ → List (ℕ × ℕ)
+told_in limit [] = []
+told_in limit (now ∷ moments) = told_by (asked limit now).1 now
+    (told_in (asked limit now).0 moments)
+
+-- each line is a second after the one before
+abbrev pub IsSecondAfter : Option ℕ → ℕ → Type 0
+IsSecondAfter None now = Unit {0}
+IsSecondAfter (Some before) now = before + 1000 ≤ now
+
+abbrev pub AreSecondsApart : Option ℕ → List (ℕ × ℕ) → Type 0
+AreSecondsApart before [] = Unit {0}
+AreSecondsApart before (line ∷ lines) = IsSecondAfter before line.0
+    × AreSecondsApart (Some line.0) lines
+
+-- how many requests these lines speak of: each of itself, and of those left out before it
+abbrev pub told_of : List (ℕ × ℕ) → ℕ
+told_of [] = 0
+told_of (line ∷ lines) = (line.1 + 1) + told_of lines
+
+-- how many were left out since the last line
+abbrev pub left_in : Limit → List ℕ → ℕ
+left_in limit [] = limit.left_out
+left_in limit (now ∷ moments) = left_in (asked limit now).0 moments

@@ -1,0 +1,139 @@
+-- The words of the log's lines (texts of this gateway's own profile).
+use Rattle.std.specs.Prelude.{ℕ, ◌==◌, List, [], ◌++◌, Option, Some, None, codes, if◌then◌else◌}
+use Rattle.std.specs.Fmt.{decimal}
+use Rattle.std.specs.Net.Text.{ip_text, socket_text}
+use Rattle.std.specs.declared.net.ip_addr.IpAddr.{IpAddr}
+use Rattle.session.specs.declared.kinds.Close.{Close}
+use Rattle.session.specs.declared.kinds.Close.TheVariants as close
+use Rattle.live.specs.declared.wires.CutCause.{CutCause}
+use Rattle.live.specs.declared.wires.CutCause.TheVariants as cut
+use Rattle.live.specs.declared.watched.Notice.{Notice}
+use Rattle.live.specs.declared.watched.Notice.TheVariants as notices
+use Rattle.runlog.specs.OrderWords.{order_words, reason_words, fate_words, type_name}
+use Rattle.runlog.specs.declared.content.Skip.{Skip}
+use Rattle.runlog.specs.declared.content.Skip.TheVariants as skip
+use Rattle.runlog.specs.declared.note.Line.{Line}
+use Rattle.runlog.specs.declared.note.Tally.{Tally}
+use Rattle.runlog.specs.declared.note.Trouble.{Trouble}
+use Rattle.runlog.specs.declared.note.Trouble.TheVariants as trouble
+use Rattle.runlog.specs.declared.note.Note.{Note}
+use Rattle.runlog.specs.declared.note.Note.TheVariants as note
+
+abbrev pub peer_words : Option IpAddr → List ℕ
+peer_words None = []
+peer_words (Some address) = codes " by " ++ ip_text address
+
+-- why the gateway closes a connection (IEC 60870-5-104, 5.1 to 5.3, and this gateway's own causes)
+abbrev pub close_words : Close → List ℕ
+close_words close.Grammar = codes "octets that begin no APDU"
+close_words close.SendNumber = codes "an N(S) that isn't the next one"
+close_words close.ReceiveNumber = codes "an N(R) of frames that weren't sent"
+close_words close.Stopped = codes "an I frame while data transfer is stopped"
+close_words close.Timeout = codes "no acknowledgement for t1"
+close_words close.OwnAnswers = codes "an own answer found no place"
+close_words close.Replaced = codes "a new connection takes its place"
+
+abbrev pub cut_words : CutCause → List ℕ
+cut_words cut.Gone = codes "its other end has gone"
+cut_words cut.NotTaken = codes "it didn't take what was written"
+cut_words cut.Restarted = codes "the gateway was started again"
+
+abbrev pub trouble_words : Trouble → List ℕ
+trouble_words trouble.LineRefused = codes "line refused"
+trouble_words trouble.NameUnknown = codes "name unknown"
+trouble_words trouble.LineUnreached = codes "line not reached"
+trouble_words trouble.PortInUse = codes "port in use"
+trouble_words trouble.PortForbidden = codes "port not allowed"
+trouble_words trouble.PortUnusable = codes "port can't be listened at"
+trouble_words trouble.StateInUse = codes "state in use by another process"
+trouble_words trouble.StateUnusable = codes "state can't be kept there"
+trouble_words trouble.StatusUnusable = codes "status port can't be used"
+
+abbrev pub notice_words : Notice → List ℕ
+notice_words notices.NotKept =
+    codes "state isn't kept: what is polled now is lost if the gateway stops"
+notice_words notices.KeptAgain = codes "state is kept again"
+
+abbrev pub counts_words : Tally → List ℕ
+counts_words t =
+    (codes "counts skipped " ++ decimal t.counts.skipped
+    ++ codes " mirrors " ++ decimal t.counts.mirrors
+    ++ codes " lost " ++ decimal t.counts.lost ++ codes " spoilt " ++ decimal t.counts.spoilt)
+    ++ (codes " taken " ++ decimal t.taken ++ codes " of " ++ decimal t.places
+    ++ codes " connections " ++ decimal t.connections)
+
+abbrev pub last_words : Option IpAddr → List ℕ
+last_words None = []
+last_words (Some address) = codes ", the last at " ++ ip_text address
+
+abbrev pub sent_away_words : ℕ → Option IpAddr → List ℕ
+sent_away_words count last = (decimal count ++ codes " sent away") ++ last_words last
+
+-- why a report isn't passed on
+abbrev pub skip_words : Skip → List ℕ
+skip_words skip.TooShort = codes "too short"
+skip_words skip.TypeUnknown = codes "type not known"
+skip_words skip.NoObjects = codes "no objects"
+skip_words skip.OtherLength = codes "length doesn't fit, look at line.ioa"
+skip_words skip.PastSize = codes "object address past its size"
+skip_words skip.Negative = codes "it says that a type is unknown"
+
+abbrev pub skipped_words : (station kind : ℕ) → Skip → List ℕ
+skipped_words station kind why =
+    (codes "station " ++ decimal station ++ codes " report skipped, type " ++ decimal kind)
+    ++ type_name kind ++ codes ": " ++ skip_words why
+
+abbrev pub of_station : (address : ℕ) → (words : List ℕ) → List ℕ
+of_station address words = codes "station " ++ decimal address ++ codes " " ++ words
+
+abbrev pub late_words : (address : ℕ) → List ℕ
+late_words address =
+    (codes "answers of station " ++ decimal address ++ codes " come late")
+    ++ codes ": answer_ms is short"
+
+abbrev pub words : Note → List ℕ
+words note.LineReached = codes "line reached"
+words note.LineReachedAgain = codes "line reached again"
+words note.LineLost = codes "line lost"
+words note.LineNotThere = codes "line not there"
+words (note.Listening address) = codes "listening at " ++ socket_text address
+words (note.Opened peer) = codes "connection opened" ++ peer_words peer
+words note.Started = codes "connection started"
+words note.Stopped = codes "connection stopped"
+words (note.Cut cause) = codes "connection cut: " ++ cut_words cause
+words (note.Closed cause) = codes "connection closed: " ++ close_words cause
+words (note.SentAway count last) = sent_away_words count last
+words (note.Asked address) = codes "station " ++ decimal address ++ codes " asked for its status"
+words (note.Up address) = codes "station " ++ decimal address ++ codes " up"
+words (note.Silent address) = codes "station " ++ decimal address ++ codes " doesn't answer"
+words (note.Again address) = codes "station " ++ decimal address ++ codes " answers again"
+words (note.Down address) = codes "station " ++ decimal address ++ codes " down"
+words (note.Gap address) = codes "station " ++ decimal address
+    ++ codes " gap: reports of it may be lost"
+words note.QueueFull = codes "queue full"
+words note.QueueFree = codes "queue free again"
+words (note.Counts tally) = counts_words tally
+words note.StateBegins = codes "state: begins anew"
+words (note.StateGoesOn queued) = codes "state: goes on, " ++ decimal queued ++ codes " queued"
+words note.SettingsChanged = codes "state: settings have changed"
+words note.StateStale = codes "state is stale: each link is reset"
+words note.StatePutAside = codes "state can't be read: put aside"
+words (note.State notice) = notice_words notice
+words (note.Trouble why) = trouble_words why
+words (note.Ordered order peer) = order_words order ++ peer_words peer
+words (note.Refused order peer why) =
+    order_words order ++ peer_words peer ++ codes " refused: " ++ reason_words why
+words (note.Fate order station fate) = order_words order ++ fate_words fate station
+words (note.Skipped station kind why) = skipped_words station kind why
+words (note.MirrorDropped address) =
+    of_station address (codes "answer to a command dropped: data transfer isn't running")
+words (note.Spoilt address) =
+    of_station address (codes "answer spoilt: octets came, but no answer")
+words (note.Late address) = late_words address
+
+abbrev pub left_out_words : ℕ → List ℕ
+left_out_words n = if n == 0 then [] else codes " (" ++ decimal n ++ codes " left out)"
+
+-- what stands behind the line's UTC time
+abbrev pub line_text : Line → List ℕ
+line_text l = (decimal l.moment ++ codes " " ++ words l.note) ++ left_out_words l.left_out

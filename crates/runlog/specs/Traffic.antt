@@ -1,0 +1,201 @@
+-- What passes between the gateway and each station, as it is told (IEC 60870-5-101, 7.2; which
+-- lines follow is this gateway's own profile).
+use Rattle.std.specs.Prelude.{ℕ, ◌%◌, ◌==◌, ◌||◌, nat_le, Bool, List, [], ◌∷◌, ◌++◌, map, Option}
+use Rattle.std.specs.Prelude.{Some, None, slice_index, if◌then◌else◌}
+use Rattle.asdu.specs.InformationObjects.{is_passed_on}
+use Rattle.asdu.specs.Refusals.{refusal}
+use Rattle.asdu.specs.declared.sizes.Sizes.{Sizes}
+use Rattle.elements.specs.Types.{type_of}
+use Rattle.elements.specs.declared.types.TypeId.{TypeId}
+use Rattle.gateway.specs.Counting.{is_answer_type}
+use Rattle.gateway.specs.declared.settings.Station.{Station}
+use Rattle.runlog.specs.Gathering.{nothing, added, line_of, minute_line_of}
+use Rattle.runlog.specs.Limits.{one_more}
+use Rattle.runlog.specs.Orders.{octet, order_of}
+use Rattle.runlog.specs.declared.fate.Fate.{Fate}
+use Rattle.runlog.specs.declared.fate.Fate.TheVariants as fate
+use Rattle.runlog.specs.declared.fate.Mishap.{Mishap}
+use Rattle.runlog.specs.declared.fate.Mishap.TheVariants as mishap
+use Rattle.runlog.specs.declared.note.Line.{Line}
+use Rattle.runlog.specs.declared.note.Note.TheVariants as note
+use Rattle.runlog.specs.declared.order.Order.{Order}
+use Rattle.runlog.specs.declared.content.Content.{Content}
+use Rattle.runlog.specs.declared.content.Content.TheVariants as content
+use Rattle.runlog.specs.declared.content.Skip.{Skip}
+use Rattle.runlog.specs.declared.content.Skip.TheVariants as skip
+use Rattle.runlog.specs.declared.traffic.Traffic.{Traffic}
+
+-- ---- What a report holds
+
+-- why octets are no ASDU, by the number that `asdu` gives
+abbrev pub skip_by : ℕ → Skip
+skip_by n =
+    if n == 1 then skip.TooShort else if n == 2 then skip.TypeUnknown
+    else if n == 3 then skip.NoObjects else if n == 4 then skip.OtherLength else skip.PastSize
+
+-- an answer to a command, a report that goes on to the control centre, or one that is skipped
+abbrev pub content_by : Option ℕ → Option TypeId → (cause : ℕ) → Content
+content_by (Some n) kind cause = content.Skipped (skip_by n)
+content_by None None cause = content.Skipped skip.TypeUnknown
+content_by None (Some kind) cause =
+    if is_answer_type kind then content.Reply
+    else if is_passed_on kind cause then content.Report else content.Skipped skip.Negative
+
+abbrev pub content_of : Sizes → List ℕ → Content
+content_of sizes report =
+    content_by (refusal sizes report) (type_of (slice_index report 0)) (slice_index report 2)
+
+-- What a station answers a command: by its cause, of which 44 to 47 say that it is unknown, and by
+-- P/N, bit 6 (7.2.3).
+abbrev pub is_denied : (cause : ℕ) → Bool
+is_denied cause = nat_le 44 (cause % 64) || nat_le 64 (cause % 128)
+
+abbrev pub reply_of : (cause : ℕ) → Option Fate
+reply_of cause =
+    if is_denied cause then Some fate.Denied
+    else if cause % 64 == 10 then Some fate.Terminated
+    else if cause % 64 == 7 || cause % 64 == 9 then Some fate.Confirmed else None
+
+-- ---- A station
+
+abbrev pub new_traffic : (address : ℕ) → Traffic
+new_traffic address = record {
+  address = address;
+  reports = 0;
+  last_report = None;
+  skipped = 0;
+  commands = 0;
+  order = None;
+  sent = nothing;
+  confirmed = nothing;
+  denied = nothing;
+  terminated = nothing;
+  failed = nothing;
+  skips = nothing;
+  mirrors = nothing;
+  spoilt = nothing;
+  late = nothing;
+}
+
+abbrev pub new_traffics : List Station → List Traffic
+new_traffics settings = map (λ (s : Station). new_traffic s.address) settings
+
+-- what became of a command
+abbrev pub fate_noted : Fate → Order → Traffic → Traffic
+fate_noted fate.Sent o t = record t { sent = added (note.Fate o t.address fate.Sent) t.sent }
+fate_noted fate.Confirmed o t =
+    record t { confirmed = added (note.Fate o t.address fate.Confirmed) t.confirmed }
+fate_noted fate.Denied o t =
+    record t { denied = added (note.Fate o t.address fate.Denied) t.denied }
+fate_noted fate.Terminated o t =
+    record t { terminated = added (note.Fate o t.address fate.Terminated) t.terminated }
+fate_noted fate.Busy o t =
+    record t { failed = added (note.Fate o t.address fate.Busy) t.failed }
+fate_noted fate.GivenUp o t =
+    record t { failed = added (note.Fate o t.address fate.GivenUp) t.failed }
+
+-- a command went out for the first time
+abbrev pub sent : Option Order → Traffic → Traffic
+sent None t = record t { commands = one_more t.commands; order = None }
+sent (Some o) t =
+    fate_noted fate.Sent o (record t { commands = one_more t.commands; order = Some o })
+
+-- and this became of it there
+abbrev pub ended_by : Option Order → Fate → Traffic → Traffic
+ended_by None what t = t
+ended_by (Some o) what t = fate_noted what o t
+
+abbrev pub ended : Fate → Traffic → Traffic
+ended what t = ended_by t.order what t
+
+-- this befell the station
+abbrev pub suffered : Mishap → Traffic → Traffic
+suffered mishap.GivenUp t = ended fate.GivenUp t
+suffered mishap.MirrorDropped t =
+    record t { mirrors = added (note.MirrorDropped t.address) t.mirrors }
+suffered mishap.Spoilt t = record t { spoilt = added (note.Spoilt t.address) t.spoilt }
+suffered mishap.Late t = record t { late = added (note.Late t.address) t.late }
+
+abbrev pub replied_by : Option Fate → Option Order → Traffic → Traffic
+replied_by (Some what) (Some o) t = fate_noted what o t
+replied_by what o t = t
+
+abbrev pub skip_noted : Skip → (kind : ℕ) → Traffic → Traffic
+skip_noted why kind t = record t {
+  skipped = one_more t.skipped;
+  skips = added (note.Skipped t.address kind why) t.skips;
+}
+
+abbrev pub content_noted : Content → Sizes → List ℕ → Traffic → Traffic
+content_noted content.Report sizes report t = t
+content_noted content.Reply sizes report t =
+    replied_by (reply_of (octet report 2)) (order_of sizes report) t
+content_noted (content.Skipped why) sizes report t = skip_noted why (octet report 0) t
+
+-- the station answered a poll with these user data
+abbrev pub reported : Sizes → (now : ℕ) → List ℕ → Traffic → Traffic
+reported sizes now report t =
+    content_noted (content_of sizes report) sizes report
+    (record t { reports = one_more t.reports; last_report = Some now })
+
+-- ---- Its lines
+
+abbrev pub or_else : {A : Type 0} → A × Option Line → (A → A × Option Line) → A × Option Line
+or_else (a, Some line) f = (a, Some line)
+or_else (a, None) f = f a
+
+abbrev pub sent_line : ℕ → Traffic → Traffic × Option Line
+sent_line now t = let told = line_of now t.sent in (record t { sent = told.0 }, told.1)
+
+abbrev pub confirmed_line : ℕ → Traffic → Traffic × Option Line
+confirmed_line now t =
+    let told = line_of now t.confirmed in (record t { confirmed = told.0 }, told.1)
+
+abbrev pub denied_line : ℕ → Traffic → Traffic × Option Line
+denied_line now t = let told = line_of now t.denied in (record t { denied = told.0 }, told.1)
+
+abbrev pub terminated_line : ℕ → Traffic → Traffic × Option Line
+terminated_line now t =
+    let told = line_of now t.terminated in (record t { terminated = told.0 }, told.1)
+
+abbrev pub failed_line : ℕ → Traffic → Traffic × Option Line
+failed_line now t = let told = line_of now t.failed in (record t { failed = told.0 }, told.1)
+
+abbrev pub skips_line : ℕ → Traffic → Traffic × Option Line
+skips_line now t = let told = minute_line_of now t.skips in (record t { skips = told.0 }, told.1)
+
+abbrev pub mirrors_line : ℕ → Traffic → Traffic × Option Line
+mirrors_line now t =
+    let told = minute_line_of now t.mirrors in (record t { mirrors = told.0 }, told.1)
+
+abbrev pub spoilt_line : ℕ → Traffic → Traffic × Option Line
+spoilt_line now t = let told = minute_line_of now t.spoilt in (record t { spoilt = told.0 }, told.1)
+
+abbrev pub late_line : ℕ → Traffic → Traffic × Option Line
+late_line now t = let told = minute_line_of now t.late in (record t { late = told.0 }, told.1)
+
+-- the first of its kinds that are told once a minute that has a line to be told now
+abbrev pub minute_line : ℕ → Traffic → Traffic × Option Line
+minute_line now t =
+    or_else (skips_line now t) (λ t. or_else (mirrors_line now t) (λ t. or_else (spoilt_line now t)
+    (late_line now)))
+
+-- the first of all its kinds
+abbrev pub traffic_line : ℕ → Traffic → Traffic × Option Line
+traffic_line now t =
+    or_else (sent_line now t) (λ t. or_else (confirmed_line now t) (λ t. or_else (denied_line now t)
+    (λ t. or_else (terminated_line now t) (λ t. or_else (failed_line now t) (minute_line now)))))
+
+abbrev pub first_by : Traffic × Option Line → List Traffic → List Traffic × Option Line
+    → List Traffic × Option Line
+first_by (t, Some line) ts rest = (t ∷ ts, Some line)
+first_by (t, None) ts rest = (t ∷ rest.0, rest.1)
+
+-- the first station that has a line to be told now
+abbrev pub first_line : ℕ → List Traffic → List Traffic × Option Line
+first_line now [] = ([], None)
+first_line now (t ∷ ts) = first_by (traffic_line now t) ts (first_line now ts)
+
+-- what stands behind others
+abbrev pub behind : List Traffic → List Traffic × Option Line → List Traffic × Option Line
+behind front told = (front ++ told.0, told.1)

@@ -1,0 +1,270 @@
+//! What is told, by worked examples: literal octets, moments and lines.
+ghost use Rattle.std.specs.Prelude.{◌≡◌, ◌∷◌, [], codes, true, false, Some, None};
+ghost use Rattle.ft12.specs.declared.frame.LinkSize.TheVariants.{One, Two};
+ghost use Rattle.gateway.specs.declared.counts.Counts.{Counts};
+ghost use Rattle.live.specs.declared.wires.CutCause.TheVariants as cut;
+ghost use Rattle.live.specs.declared.wires.Presence.TheVariants.{Untried, Away, There, Heard};
+ghost use Rattle.session.specs.declared.kinds.Close.TheVariants as close;
+ghost use Rattle.runlog.specs.Ends.{new_line, new_door, new_connection, door_seen};
+ghost use Rattle.runlog.specs.Ends.{connection_sent};
+ghost use Rattle.asdu.specs.Sizes.{tcp};
+ghost use Rattle.command.specs.declared.refusal.Refusal.TheVariants as refusal;
+ghost use Rattle.runlog.specs.Examples.{at, lines_of_calls, lines_of_looks, lines_of_requests};
+ghost use Rattle.runlog.specs.Examples.{asked_before, counting, lines_of_mishaps, order};
+ghost use Rattle.runlog.specs.Examples.{standings_of, two_stations};
+ghost use Rattle.runlog.specs.Exchange.{asked as request_sent, new_exchange};
+ghost use Rattle.runlog.specs.Gathering.{Add, Look};
+ghost use Rattle.runlog.specs.Orders.{order_of};
+ghost use Rattle.runlog.specs.Traffic.{reply_of};
+ghost use Rattle.runlog.specs.declared.content.Skip.TheVariants as skip;
+ghost use Rattle.runlog.specs.declared.fate.Fate.TheVariants as fate;
+ghost use Rattle.runlog.specs.declared.fate.Reason.TheVariants as reason;
+ghost use Rattle.runlog.specs.declared.order.Act.TheVariants as act;
+ghost use Rattle.runlog.specs.declared.order.Value.TheVariants as value;
+ghost use Rattle.runlog.specs.declared.stations.Standing.TheVariants as standing;
+ghost use Rattle.runlog.specs.Notes.{line_text, words};
+ghost use Rattle.runlog.specs.Stations.{address_of, asking_of, new_station, asked, gap};
+ghost use Rattle.runlog.specs.Stations.{standing_of};
+ghost use Rattle.runlog.specs.Traffic.{first_line};
+ghost use Rattle.runlog.specs.Watching.{Watching, counted, counts_noted, is_full, is_look_due};
+ghost use Rattle.runlog.specs.Watching.{late_noted};
+ghost use Rattle.runlog.specs.declared.exchange.Awaited.TheVariants.{Poll};
+ghost use Rattle.runlog.specs.declared.fate.Mishap.TheVariants as mishap;
+ghost use Rattle.runlog.specs.declared.note.Note.TheVariants as note;
+ghost use Rattle.runlog.specs.declared.note.Trouble.TheVariants as trouble;
+ghost use Rattle.runlog.specs.declared.stations.Asking.TheVariants.{Status, Counted, Other};
+
+/// What is told of stations, by the octets of requests to them (IEC 60870-5-2, 5.1.2): whose they
+/// are, what they ask for, the lines of a station that is asked, reset, polled, silent, polled
+/// again and asked once more, and those of one that never answered. Another station's requests tell
+/// nothing of it.
+pub fn stations_by_example()
+    ensures addresses { (address_of One (0x10 ∷ 0x49 ∷ 0x07 ∷ 0x50 ∷ 0x16 ∷ []) ≡ 7)
+        × (address_of Two (0x10 ∷ 0x49 ∷ 0x02 ∷ 0x01 ∷ 0x4C ∷ 0x16 ∷ []) ≡ 258)
+        × (address_of One (0x68 ∷ 0x03 ∷ 0x03 ∷ 0x68 ∷ 0x73 ∷ 0x07 ∷ 0x05 ∷ 0x7F ∷ 0x16 ∷ [])
+        ≡ 7) }
+    ensures askings { (asking_of (0x10 ∷ 0x49 ∷ 0x07 ∷ []) ≡ Status)
+        × (asking_of (0x10 ∷ 0x40 ∷ 0x07 ∷ []) ≡ Other)
+        × (asking_of (0x10 ∷ 0x7A ∷ 0x07 ∷ []) ≡ Counted true)
+        × (asking_of (0x10 ∷ 0x5B ∷ 0x07 ∷ []) ≡ Counted false)
+        × (asking_of (0x68 ∷ 0x03 ∷ 0x03 ∷ 0x68 ∷ 0x73 ∷ []) ≡ Counted true)
+        × (asking_of (0x10 ∷ 0x09 ∷ 0x07 ∷ []) ≡ Other) }
+    // `retries` is 1: a third sending is one too many.
+    ensures life { lines_of_requests One ((0, 0x10 ∷ 0x49 ∷ 0x07 ∷ [])
+        ∷ (1000, 0x10 ∷ 0x40 ∷ 0x07 ∷ []) ∷ (2000, 0x10 ∷ 0x7B ∷ 0x07 ∷ [])
+        ∷ (3000, 0x10 ∷ 0x7B ∷ 0x07 ∷ []) ∷ (4000, 0x10 ∷ 0x7B ∷ 0x07 ∷ [])
+        ∷ (63999, 0x10 ∷ 0x7B ∷ 0x07 ∷ []) ∷ (64000, 0x10 ∷ 0x7B ∷ 0x07 ∷ [])
+        ∷ (65000, 0x10 ∷ 0x5B ∷ 0x07 ∷ []) ∷ (66000, 0x10 ∷ 0x49 ∷ 0x07 ∷ []) ∷ [])
+        (new_station 2 7 ∷ [])
+        ≡ at 0 (note.Asked 7) ∷ at 2000 (note.Up 7) ∷ at 4000 (note.Silent 7)
+        ∷ at 64000 (note.Silent 7) ∷ at 65000 (note.Again 7) ∷ at 66000 (note.Down 7) ∷ [] }
+    // One that never answered is told, and each minute; it may be up then.
+    ensures unheard { lines_of_requests One ((0, 0x10 ∷ 0x49 ∷ 0x07 ∷ [])
+        ∷ (200, 0x10 ∷ 0x49 ∷ 0x07 ∷ []) ∷ (400, 0x10 ∷ 0x49 ∷ 0x07 ∷ [])
+        ∷ (60399, 0x10 ∷ 0x49 ∷ 0x07 ∷ []) ∷ (60400, 0x10 ∷ 0x49 ∷ 0x07 ∷ [])
+        ∷ (60600, 0x10 ∷ 0x40 ∷ 0x07 ∷ []) ∷ (60700, 0x10 ∷ 0x7B ∷ 0x07 ∷ []) ∷ [])
+        (new_station 2 7 ∷ [])
+        ≡ at 0 (note.Asked 7) ∷ at 400 (note.Silent 7) ∷ at 60400 (note.Silent 7)
+        ∷ at 60700 (note.Up 7) ∷ [] }
+    ensures others { (asked One (0x10 ∷ 0x49 ∷ 0x08 ∷ []) 0 (new_station 2 7 ∷ [])
+        ≡ (new_station 2 7 ∷ [], None))
+        × ((gap 1 5 (new_station 2 7 ∷ new_station 2 8 ∷ [])).1 ≡ Some (at 5 (note.Gap 8)))
+        × ((gap 2 5 (new_station 2 7 ∷ [])).1 ≡ None) }
+{}
+
+/// What is told of the line, of who is sent away, of the connection, of the queue and of the
+/// counts, and when.
+pub fn moments_by_example()
+    ensures line { lines_of_looks
+        ((0, Untried) ∷ (100, Away) ∷ (500, Away) ∷ (1000, There) ∷ (2000, Away) ∷ (3000, Heard)
+        ∷ (3500, Away) ∷ (4000, Away) ∷ []) new_line
+        ≡ at 100 note.LineNotThere ∷ at 1000 note.LineReached ∷ at 2000 note.LineLost
+        ∷ at 3000 note.LineReachedAgain ∷ at 3500 note.LineLost ∷ [] }
+    // A server that accepts and closes: one line a minute.
+    ensures flicker { lines_of_looks
+        ((0, There) ∷ (10, Away) ∷ (2000, There) ∷ (2010, Away) ∷ (6000, There) ∷ (6010, Away)
+        ∷ (60009, Away) ∷ (60010, Away) ∷ (120009, There) ∷ (120010, There) ∷ []) new_line
+        ≡ at 0 note.LineReached ∷ at 10 note.LineLost ∷ at 60010 note.LineNotThere
+        ∷ at 120010 note.LineReachedAgain ∷ [] }
+    ensures door { ((door_seen (record { count = 3; last = None }) 7 new_door).1
+        ≡ Some (at 7 (note.SentAway 3 None)))
+        × ((door_seen (record { count = 5; last = None }) 1007
+        (door_seen (record { count = 3; last = None }) 7 new_door).0).1
+        ≡ Some (at 1007 (note.SentAway 2 None)))
+        × ((door_seen (record { count = 5; last = None }) 1006
+        (door_seen (record { count = 3; last = None }) 7 new_door).0).1 ≡ None)
+        × ((door_seen (record { count = 0; last = None }) 7 new_door).1 ≡ None) }
+    // STARTDT con, STOPDT con and TESTFR act (IEC 60870-5-104, 5)
+    ensures connection { ((connection_sent (0x68 ∷ 0x04 ∷ 0x0B ∷ 0x00 ∷ 0x00 ∷ 0x00 ∷ []) 5
+        new_connection).1 ≡ Some (at 5 note.Started))
+        × ((connection_sent (0x68 ∷ 0x04 ∷ 0x23 ∷ 0x00 ∷ 0x00 ∷ 0x00 ∷ []) 5 new_connection).1
+        ≡ Some (at 5 note.Stopped))
+        × ((connection_sent (0x68 ∷ 0x04 ∷ 0x43 ∷ 0x00 ∷ 0x00 ∷ 0x00 ∷ []) 5 new_connection).1
+        ≡ None) }
+    ensures queue { (is_full 97 100 ≡ false) × (is_full 98 100 ≡ true) × (is_full 100 100 ≡ true) }
+    ensures looks { (w : Watching) →
+        (is_look_due (record w { moment = 5999; looked = 5000 }) ≡ false)
+        × (is_look_due (record w { moment = 6000; looked = 5000 }) ≡ true) }
+    ensures counts { (w : Watching) (c : Counts) →
+        ((counted c 5 (record w { moment = 64999; counted = 5000 })).1 ≡ None)
+        × ((counted c 5 (record w { moment = 65000; counted = 5000; places = 9 })).1
+        ≡ Some (at 65000 (note.Counts (record {
+          counts = c;
+          taken = 5;
+          places = 9;
+          connections = w.connection.count;
+        })))) }
+{}
+
+/// The lines behind their UTC time (docs/TEXTS.md has them in words).
+pub fn log_lines_by_example()
+    ensures lines { (line_text (at 10 (note.Up 1)) ≡ codes "10 station 1 up")
+        × (line_text (record { moment = 10; note = note.LineLost; left_out = 3 })
+        ≡ codes "10 line lost (3 left out)") }
+    ensures ends { (words note.LineReached ≡ codes "line reached")
+        × (words note.LineReachedAgain ≡ codes "line reached again")
+        × (words note.LineLost ≡ codes "line lost")
+        × (words note.LineNotThere ≡ codes "line not there")
+        × (words (note.Opened None) ≡ codes "connection opened")
+        × (words note.Started ≡ codes "connection started")
+        × (words note.Stopped ≡ codes "connection stopped")
+        × (words (note.SentAway 2 None) ≡ codes "2 sent away") }
+    ensures stations { (words (note.Asked 7) ≡ codes "station 7 asked for its status")
+        × (words (note.Silent 7) ≡ codes "station 7 doesn't answer")
+        × (words (note.Again 7) ≡ codes "station 7 answers again")
+        × (words (note.Down 7) ≡ codes "station 7 down")
+        × (words (note.Gap 7) ≡ codes "station 7 gap: reports of it may be lost")
+        × (words note.QueueFull ≡ codes "queue full")
+        × (words note.QueueFree ≡ codes "queue free again") }
+    ensures cuts { (words (note.Cut cut.Gone) ≡ codes "connection cut: its other end has gone")
+        × (words (note.Cut cut.NotTaken)
+        ≡ codes "connection cut: it didn't take what was written")
+        × (words (note.Cut cut.Restarted)
+        ≡ codes "connection cut: the gateway was started again") }
+    ensures closes { (words (note.Closed close.Grammar)
+        ≡ codes "connection closed: octets that begin no APDU")
+        × (words (note.Closed close.SendNumber)
+        ≡ codes "connection closed: an N(S) that isn't the next one")
+        × (words (note.Closed close.ReceiveNumber)
+        ≡ codes "connection closed: an N(R) of frames that weren't sent")
+        × (words (note.Closed close.Stopped)
+        ≡ codes "connection closed: an I frame while data transfer is stopped")
+        × (words (note.Closed close.Timeout)
+        ≡ codes "connection closed: no acknowledgement for t1")
+        × (words (note.Closed close.OwnAnswers)
+        ≡ codes "connection closed: an own answer found no place")
+        × (words (note.Closed close.Replaced)
+        ≡ codes "connection closed: a new connection takes its place") }
+    ensures troubles { (words (note.Trouble trouble.LineRefused) ≡ codes "line refused")
+        × (words (note.Trouble trouble.NameUnknown) ≡ codes "name unknown")
+        × (words (note.Trouble trouble.LineUnreached) ≡ codes "line not reached")
+        × (words (note.Trouble trouble.PortInUse) ≡ codes "port in use")
+        × (words (note.Trouble trouble.PortForbidden) ≡ codes "port not allowed")
+        × (words (note.Trouble trouble.PortUnusable) ≡ codes "port can't be listened at") }
+    ensures counts { words (note.Counts (record {
+      counts = record { skipped = 1; mirrors = 2; lost = 3; spoilt = 4 };
+      taken = 5;
+      places = 6;
+      connections = 7;
+    })) ≡ codes "counts skipped 1 mirrors 2 lost 3 spoilt 4 taken 5 of 6 connections 7" }
+{}
+
+/// What lines tell of commands: by the octets of an ASDU (IEC 60870-5-101, 7.2.6 and 7.3.2), and in
+/// words; what a station answers a command by its cause octet (7.2.3); and what is gathered within
+/// a second.
+pub fn commands_by_example()
+    ensures orders { (order_of tcp (0x2D ∷ 0x01 ∷ 0x06 ∷ 0x00 ∷ 0xE9 ∷ 0x03 ∷ 0x64 ∷ 0x00 ∷ 0x00
+        ∷ 0x81 ∷ []) ≡ Some (order 45 act.Select 1001 100 value.On))
+        × (order_of tcp (0x2E ∷ 0x01 ∷ 0x06 ∷ 0x00 ∷ 0x02 ∷ 0x00 ∷ 0x64 ∷ 0x00 ∷ 0x00 ∷ 0x01 ∷ [])
+        ≡ Some (order 46 act.Execute 2 100 value.Off))
+        × (order_of tcp (0x3C ∷ 0x01 ∷ 0x06 ∷ 0x00 ∷ 0x02 ∷ 0x00 ∷ 0x64 ∷ 0x00 ∷ 0x00 ∷ 0x02 ∷ [])
+        ≡ Some (order 60 act.Execute 2 100 value.Higher))
+        × (order_of tcp (0x31 ∷ 0x01 ∷ 0x06 ∷ 0x00 ∷ 0x02 ∷ 0x00 ∷ 0x64 ∷ 0x00 ∷ 0x00 ∷ 0xFF ∷ 0xFF
+        ∷ 0x80 ∷ []) ≡ Some (order 49 act.Select 2 100 (value.Below 1)))
+        × (order_of tcp (0x64 ∷ 0x01 ∷ 0x08 ∷ 0x00 ∷ 0xFF ∷ 0xFF ∷ 0x00 ∷ 0x00 ∷ 0x00 ∷ 0x14 ∷ [])
+        ≡ Some (order 100 act.Deactivate 65535 0 (value.Number 20)))
+        × (order_of tcp (0x67 ∷ 0x01 ∷ 0x06 ∷ 0x00 ∷ 0x02 ∷ 0x00 ∷ 0x00 ∷ 0x00 ∷ 0x00 ∷ [])
+        ≡ Some (order 103 act.Other 2 0 value.Unknown))
+        × (order_of tcp (0x2D ∷ 0x01 ∷ 0x06 ∷ 0x00 ∷ 0xE9 ∷ 0x03 ∷ 0x64 ∷ 0x00 ∷ []) ≡ None) }
+    ensures replies { (reply_of 0x07 ≡ Some fate.Confirmed) × (reply_of 0x47 ≡ Some fate.Denied)
+        × (reply_of 0x87 ≡ Some fate.Confirmed) × (reply_of 0x09 ≡ Some fate.Confirmed)
+        × (reply_of 0x0A ≡ Some fate.Terminated) × (reply_of 0x2F ≡ Some fate.Denied)
+        × (reply_of 0x14 ≡ None) }
+    ensures words { (words (note.Ordered (order 45 act.Select 1001 100 value.On) None)
+        ≡ codes "command C_SC_NA_1 select 1001/100 on")
+        × (words (note.Refused (order 45 act.Execute 1001 100 value.Off) None
+        (reason.Rule refusal.NotSelected))
+        ≡ codes "command C_SC_NA_1 execute 1001/100 off refused: not selected")
+        × (words (note.Refused (order 103 act.Other 2 0 value.Unknown) None
+        (reason.Rule refusal.TypeUnknown))
+        ≡ codes "command type 103 2/0 refused: type not known")
+        × (words (note.Refused (order 58 act.Execute 1 7 value.On) None
+        (reason.Rule (refusal.TagOld 3600500)))
+        ≡ codes "command C_SC_TA_1 execute 1/7 on refused: time tag 3600 s old")
+        × (words (note.Fate (order 49 act.Execute 1 7 (value.Below 12)) 5 fate.GivenUp)
+        ≡ codes "command C_SE_NB_1 execute 1/7 -12 given up: station 5 doesn't answer")
+        × (words (note.Fate (order 100 act.Activate 1 0 (value.Number 20)) 5 fate.Confirmed)
+        ≡ codes "command C_IC_NA_1 activate 1/0 20 confirmed by station 5")
+        × (words (note.Skipped 7 2 skip.TypeUnknown)
+        ≡ codes "station 7 report skipped, type 2: type not known")
+        × (words (note.Skipped 7 1 skip.OtherLength)
+        ≡ codes
+        "station 7 report skipped, type 1 M_SP_NA_1: length doesn't fit, look at line.ioa") }
+    // The first at once; of three more within the second the last, once that is over.
+    ensures gathered { lines_of_calls (Add (note.Up 1) ∷ Look 5 ∷ Add (note.Up 2) ∷ Look 6
+        ∷ Add (note.Up 3) ∷ Add (note.Up 4) ∷ Look 1004 ∷ Look 1005 ∷ Look 3000 ∷ [])
+        ≡ at 5 (note.Up 1) ∷ record { moment = 1005; note = note.Up 4; left_out = 2 } ∷ [] }
+{}
+
+/// How a station stands, by the requests to it, each with its moment; since when; and how many
+/// reports of it may have been lost.
+pub fn standings_by_example()
+    ensures standings { standings_of One ((0, 0x10 ∷ 0x49 ∷ 0x07 ∷ [])
+        ∷ (1000, 0x10 ∷ 0x7B ∷ 0x07 ∷ []) ∷ (2000, 0x10 ∷ 0x5B ∷ 0x07 ∷ [])
+        ∷ (3000, 0x10 ∷ 0x5B ∷ 0x07 ∷ []) ∷ (4000, 0x10 ∷ 0x5B ∷ 0x07 ∷ [])
+        ∷ (5000, 0x10 ∷ 0x7B ∷ 0x07 ∷ []) ∷ (6000, 0x10 ∷ 0x49 ∷ 0x07 ∷ []) ∷ [])
+        (new_station 2 7)
+        ≡ (standing.Asked, 0) ∷ (standing.Up, 1000) ∷ (standing.Up, 1000) ∷ (standing.Up, 1000)
+        ∷ (standing.Silent, 4000) ∷ (standing.Up, 5000) ∷ (standing.Down, 6000) ∷ [] }
+    ensures unasked { standing_of (new_station 2 7) ≡ standing.NotAsked }
+{}
+
+/// What is told of octets that were dropped before a request: they came late from the station that
+/// was asked before it, where that exchange had lasted for as long as an answer is awaited, here
+/// 150 ms. What is told of the gateway's counts: it befell the station that was asked last before
+/// the event. And the lines of what befell a station: at once, and then once a minute for each
+/// kind, with how many came before.
+pub fn late_answers_by_example()
+    ensures late { (request_sent (Some 1) Poll 150 (request_sent (Some 0) Poll 0
+        (new_exchange 150))).overdue ≡ Some 0 }
+    ensures answered { (request_sent (Some 1) Poll 149 (request_sent (Some 0) Poll 0
+        (new_exchange 150))).overdue ≡ None }
+    ensures first { (request_sent (Some 0) Poll 9000 (new_exchange 150)).overdue ≡ None }
+    ensures nothing_new { (w : Watching) →
+        late_noted 5 (record w { late = 5 }) ≡ record w { late = 5 } }
+    ensures whose { (w : Watching) → (first_line 200 (late_noted 6 (record w {
+      late = 5;
+      exchange = request_sent (Some 1) Poll 150 (request_sent (Some 0) Poll 0 (new_exchange 150));
+      traffic = two_stations;
+    })).traffic).1 ≡ Some (at 200 (note.Late 7)) }
+    ensures spoilt { (w : Watching) → (first_line 200 (counts_noted (counting 0 1) (record w {
+      seen = counting 0 0;
+      exchange = asked_before 1;
+      traffic = two_stations;
+    })).traffic).1 ≡ Some (at 200 (note.Spoilt 8)) }
+    ensures mirrors { (w : Watching) → (first_line 200 (counts_noted (counting 3 1) (record w {
+      seen = counting 2 1;
+      exchange = asked_before 0;
+      traffic = two_stations;
+    })).traffic).1 ≡ Some (at 200 (note.MirrorDropped 7)) }
+    ensures told { lines_of_mishaps ((0, mishap.Late) ∷ (100, mishap.Late) ∷ (200, mishap.Spoilt)
+        ∷ (300, mishap.MirrorDropped) ∷ (60000, mishap.Late) ∷ []) 7
+        ≡ at 0 (note.Late 7) ∷ at 200 (note.Spoilt 7) ∷ at 300 (note.MirrorDropped 7)
+        ∷ record { moment = 60000; note = note.Late 7; left_out = 1 } ∷ [] }
+    ensures words { (words (note.Late 7)
+        ≡ codes "answers of station 7 come late: answer_ms is short")
+        × (words (note.Spoilt 7)
+        ≡ codes "station 7 answer spoilt: octets came, but no answer")
+        × (words (note.MirrorDropped 7)
+        ≡ codes "station 7 answer to a command dropped: data transfer isn't running") }
+{}

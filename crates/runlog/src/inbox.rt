@@ -1,0 +1,235 @@
+//! What is told of the commands that come from the control centre.
+ghost use Rattle.std.specs.Prelude.{◌≡◌, ◌≤◌, ◌<◌, ◌+◌, length, drop, List, ℕ};
+ghost use Rattle.runlog.specs.Inbox as spec;
+
+use crate::fate::Reason;
+use crate::gathered::Gathered;
+use crate::note::{Line, Note};
+use crate::order::{Order, octet};
+use arrayvec::ArrayVec;
+use asdu::Sizes;
+use command::Glance;
+use gateway::Gateway;
+use std::marker::Model;
+use std::net::IpAddr;
+
+/// The commands of the connection, as they are told.
+#[derive(Drop)]
+pub(crate) struct Orders {
+    /// What the next judgement looks at.
+    glance: Glance,
+    ordered: Gathered,
+    refused: Gathered,
+}
+
+impl Model for Orders {
+    ghost use Rattle.runlog.specs.Inbox.{Orders as Seen};
+
+    ghost Value = { Seen };
+
+    ghost view = { λ c. record { seen = c.glance; ordered = c.ordered; refused = c.refused } };
+}
+
+impl Orders {
+    fn new() -> Orders
+        ensures { result ≡ spec.new_orders }
+    {
+        Orders {
+            glance: Glance::new(),
+            ordered: Gathered::new(),
+            refused: Gathered::new(),
+        }
+    }
+
+    /// A command came in the latest step.
+    fn note_order(
+        &mut self,
+        gateway: &Gateway,
+        is_closed: bool,
+        peer: Option<IpAddr>,
+        asdu: &[u8],
+        order: Order,
+    )
+        requires { 9 ≤ length asdu.now }
+        ensures { self.new ≡ spec.order_noted gateway.now is_closed peer asdu.now order self.old }
+    {
+        if is_closed {
+            self.refused.add(Note::Refused(order, peer, Reason::Closed));
+            return;
+        }
+        match gateway.refusal_at(&mut self.glance, asdu) {
+            None => self.ordered.add(Note::Ordered(order, peer)),
+            Some(rule) => self
+                .refused
+                .add(Note::Refused(order, peer, Reason::Rule(rule))),
+        }
+    }
+
+    /// An ASDU came in the latest step.
+    fn note_asdu(&mut self, gateway: &Gateway, is_closed: bool, peer: Option<IpAddr>, asdu: &[u8])
+        ensures { self.new ≡ spec.asdu_noted gateway.now is_closed peer asdu.now self.old }
+    {
+        if let Some(order) = Order::read(Sizes::TCP, asdu) {
+            self.note_order(gateway, is_closed, peer, asdu, order);
+        }
+    }
+
+    /// An APDU came in the latest step.
+    fn note_apdu(&mut self, gateway: &Gateway, is_closed: bool, peer: Option<IpAddr>, apdu: &[u8])
+        ensures { self.new ≡ spec.apdu_noted gateway.now is_closed peer apdu.now self.old }
+    {
+        if octet(apdu, 2) % 2 == 0 {
+            self.note_asdu(gateway, is_closed, peer, behind_control(apdu));
+        }
+    }
+
+    /// These octets came in the latest step: how many of them are those of whole APDUs.
+    fn note_all(
+        &mut self,
+        gateway: &Gateway,
+        is_closed: bool,
+        peer: Option<IpAddr>,
+        octets: &[u8],
+    ) -> usize
+        ensures all { (self.new, drop result octets.now) ≡ spec.all_noted (length octets.now)
+            gateway.now is_closed peer octets.now self.old }
+        ensures within { result ≤ length octets.now }
+    {
+        let mut done = 0;
+        for turn in 0..octets.len() {
+            let rest = &octets[done..];
+            if !is_whole(rest) {
+                return done;
+            }
+            let len = apdu_len(rest);
+            self.note_apdu(gateway, is_closed, peer, &rest[..len]);
+            done += len;
+        }
+        done
+    }
+
+    /// The line of the last command that came, where one is to be told and may be told now.
+    fn line(&mut self, now: u64) -> Option<Line>
+        ensures { (self.new, result) ≡ spec.orders_line now self.old }
+    {
+        match self.ordered.line(now) {
+            Some(line) => Some(line),
+            None => self.refused.line(now),
+        }
+    }
+}
+
+/// What stands behind the control octets of an APDU.
+fn behind_control(apdu: &[u8]) -> &[u8]
+    ensures { result.now ≡ drop 6 apdu.now }
+{
+    if apdu.len() < 6 { &[] } else { &apdu[6..] }
+}
+
+/// How many octets the APDU at the front has.
+fn apdu_len(octets: &[u8]) -> usize
+    ensures value { result ≡ spec.apdu_len octets.now }
+    ensures some { 0 < result }
+{
+    usize::from(octet(octets, 1)) + 2
+}
+
+fn is_whole(octets: &[u8]) -> bool
+    ensures { result ≡ spec.is_whole octets.now }
+{
+    2 <= octets.len() && apdu_len(octets) <= octets.len()
+}
+
+/// What came on the connection, and what is told of the commands in it.
+#[derive(Drop)]
+pub(crate) struct Inbox {
+    /// What came in the latest step, behind what wasn't whole before: a piece has at most 1,024
+    /// octets, and what isn't whole 254.
+    octets: ArrayVec<u8, 1279>,
+    /// The connection was closed in the latest step.
+    is_closed: bool,
+    orders: Orders,
+}
+
+impl Model for Inbox {
+    ghost use Rattle.runlog.specs.Inbox.{Inbox as Seen};
+
+    ghost Value = { Seen };
+
+    ghost view = { λ b. record {
+      octets = b.octets.items;
+      is_closed = b.is_closed;
+      orders = b.orders;
+    } };
+}
+
+impl Inbox {
+    pub(crate) fn new() -> Inbox
+        ensures { result ≡ spec.new_inbox }
+    {
+        Inbox {
+            octets: ArrayVec::new(),
+            is_closed: false,
+            orders: Orders::new(),
+        }
+    }
+
+    /// A connection begins, or is cut.
+    pub(crate) fn empty(&mut self)
+        ensures { self.new ≡ spec.emptied self.old }
+    {
+        self.octets.clear();
+        self.is_closed = false;
+    }
+
+    /// Octets came on the connection.
+    pub(crate) fn receive(&mut self, octets: &[u8])
+        ensures { self.new ≡ spec.received octets.now self.old }
+    {
+        let count = octets.len().min(self.octets.remaining_capacity());
+        let _ = self.octets.try_extend_from_slice(&octets[..count]);
+    }
+
+    /// The gateway closed the connection.
+    pub(crate) fn close(&mut self)
+        ensures { self.new ≡ spec.closed self.old }
+    {
+        self.is_closed = true;
+    }
+
+    /// Between two steps: notes what became of the commands that came in the latest one.
+    pub(crate) fn judge(&mut self, gateway: &Gateway, peer: Option<IpAddr>)
+        ensures { self.new ≡ spec.judged gateway.now peer self.old }
+    {
+        let is_closed = self.is_closed;
+        let done = self
+            .orders
+            .note_all(gateway, is_closed, peer, self.octets.as_slice());
+        if is_closed {
+            self.empty();
+        } else {
+            self.leave(done);
+        }
+        self.orders.glance = gateway.glance();
+    }
+
+    /// Leaves the first octets.
+    fn leave(&mut self, count: usize)
+        requires { count ≤ length self.old.octets }
+        ensures { self.new ≡ record self.old { octets = drop count self.old.octets } }
+    {
+        if count == 0 {
+            return;
+        }
+        let mut rest = ArrayVec::new();
+        let _ = rest.try_extend_from_slice(&self.octets.as_slice()[count..]);
+        self.octets = rest;
+    }
+
+    /// The line of the last command that came, where one is to be told and may be told now.
+    pub(crate) fn line(&mut self, now: u64) -> Option<Line>
+        ensures { (self.new, result) ≡ spec.line_of now self.old }
+    {
+        self.orders.line(now)
+    }
+}

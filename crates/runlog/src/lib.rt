@@ -1,0 +1,69 @@
+//! What a live run tells: a line for each thing that happens, at most one a second of each kind
+//! (this gateway's own profile).
+//!
+//! [`RunLog`] is a port around any port: it passes each event and each action on unchanged, so
+//! what is proved of a run over a port holds of a run over it, and tells of them to a [`Sink`].
+//! [`StandardError`] is the sink of a process.
+//!
+//! [`Watch`] is what is known of the run, for those who show it: each station's standing, what has
+//! passed between it and the gateway, the line, and the connection. It goes on where nothing is
+//! told, if that is wanted ([`Teller::watching`]).
+//!
+//! Proved: the run log's log, script and failures are those of the port inside; which line follows
+//! from which event or action is one small function of what has passed, of what was seen of the
+//! port's ends ([`Watch`]), and of the gateway between two steps; an event, an action or a look has
+//! one line at most; lines of one kind are a second apart, and those left out are counted
+//! ([`lines_of_a_kind_are_a_second_apart`]); of commands, and of reports that are skipped, each is
+//! told, or counted by a later line ([`what_is_gathered_is_told_or_counted`]); by which rule a
+//! command is refused is the judgement's own (`command::Commands::refusal_at`), and each rule has
+//! its own words ([`refusals_are_told_by_their_rules`]); a sink that takes no line any more ends
+//! the telling, and nothing else; how severe each line is ([`Note::severity`]); the words of each
+//! line, and the name behind them ([`NamedLine`]). Of all this there are literal examples
+//! ([`stations_by_example`], [`standings_by_example`], [`commands_by_example`],
+//! [`moments_by_example`], [`late_answers_by_example`], [`log_lines_by_example`]). That a line's
+//! UTC time is right, and what standard error does with it, is no matter of a proof.
+#![tactic(auto)]
+
+mod content;
+mod ends;
+mod examples;
+mod exchange;
+mod fate;
+mod gathered;
+mod inbox;
+mod laws;
+mod limit;
+mod names;
+mod note;
+mod order;
+mod order_words;
+mod port;
+mod queue;
+mod severity;
+mod sink;
+mod stations;
+mod teller;
+mod traffic;
+mod watch;
+
+pub use content::Skip;
+pub use ends::Opening;
+pub use examples::{
+    commands_by_example, late_answers_by_example, log_lines_by_example, moments_by_example,
+    standings_by_example, stations_by_example,
+};
+pub use fate::{Fate, Reason};
+pub use laws::{
+    lines_of_a_kind_are_a_second_apart, refusals_are_told_by_their_rules,
+    what_is_gathered_is_told_or_counted,
+};
+pub use names::{Name, NamedLine, Names, name_of};
+pub use note::{Line, Note, Tally, Trouble};
+pub use order::{Act, Order, Value};
+pub use port::RunLog;
+pub use severity::Severity;
+pub use sink::{Sink, StandardError};
+pub use stations::{Standing, StationWatch};
+pub use teller::{Teller, taken_places};
+pub use traffic::Traffic;
+pub use watch::Watch;

@@ -1,0 +1,102 @@
+//! What a site calls its line and its stations, and lines with these names.
+ghost use Rattle.std.specs.List.{find};
+ghost use Rattle.std.specs.Prelude.{◌==◌, ◌≡◌, Some, option_map};
+ghost use Rattle.std.specs.Fmt.{WritesOnOk};
+ghost use Rattle.runlog.specs.Names as spec;
+
+use crate::note::{Line, Note};
+use std::fmt;
+
+/// What a site calls the station with this link address: up to 40 characters.
+#[derive(Clone, Copy, Debug)]
+pub struct Name<'a> {
+    pub link: u16,
+    pub name: &'a str,
+}
+
+/// What a site calls its line, if it has a name, and its stations.
+#[derive(Clone, Copy, Debug)]
+pub struct Names<'a> {
+    pub line: Option<&'a str>,
+    pub stations: &'a [Name<'a>],
+}
+
+/// Of what something is told.
+#[derive(Clone, Copy, Debug, PartialEq, Eq)]
+pub(crate) enum Subject {
+    Line,
+    /// The station with this link address.
+    Station(u16),
+    Other,
+}
+
+/// Of what this is told.
+pub(crate) fn subject_of(note: &Note) -> Subject
+    ensures { result ≡ spec.subject_of note.now }
+{
+    match note {
+        Note::LineReached | Note::LineReachedAgain => Subject::Line,
+        Note::LineLost | Note::LineNotThere => Subject::Line,
+        Note::Asked(address) | Note::Up(address) | Note::Silent(address) => {
+            Subject::Station(*address)
+        }
+        Note::Again(address) | Note::Down(address) | Note::Gap(address) => {
+            Subject::Station(*address)
+        }
+        Note::MirrorDropped(address) | Note::Spoilt(address) | Note::Late(address) => {
+            Subject::Station(*address)
+        }
+        Note::Fate(_, station, _) | Note::Skipped(station, _, _) => Subject::Station(*station),
+        _ => Subject::Other,
+    }
+}
+
+/// The name of the station with this link address, if it has one.
+pub fn name_of<'a>(stations: &[Name<'a>], link: u16) -> Option<&'a str>
+    ensures { option_map (λ s. s.now) result ≡ spec.name_in link stations.now }
+{
+    match stations.iter().find(|station| station.link == link) {
+        Some(station) => Some(station.name),
+        None => None,
+    }
+}
+
+impl<'a> Names<'a> {
+    /// The name of what this is told of, if it has one.
+    fn name_for(&self, note: &Note) -> Option<&'a str>
+        ensures { option_map (λ s. s.now) result ≡ spec.name_for self.now note.now }
+    {
+        match subject_of(note) {
+            Subject::Line => self.line,
+            Subject::Station(link) => name_of(self.stations, link),
+            Subject::Other => None,
+        }
+    }
+}
+
+/// A line of the log, with the name of what it is told of behind it, if that has one.
+#[derive(Clone, Copy, Debug)]
+pub struct NamedLine<'l, 'n> {
+    pub line: &'l Line,
+    pub names: Names<'n>,
+}
+
+fn write_name<W: fmt::Write>(name: Option<&str>, f: &mut fmt::Formatter<W>) -> fmt::Result
+    ensures { WritesOnOk W.write_str_gives f.old result
+        (spec.name_words (option_map (λ s. s.now) name.entry)) f.new }
+{
+    match name {
+        Some(name) => write!(f, " [{name}]"),
+        None => Ok(()),
+    }
+}
+
+impl fmt::Display for NamedLine<'_, '_> {
+    ghost output = { λ named. Some (spec.named_text named.names named.line.now) };
+
+    fn fmt<W: fmt::Write>(&self, f: &mut fmt::Formatter<W>) -> fmt::Result {
+        let NamedLine { line, names } = *self;
+        write!(f, "{line}")?;
+        write_name(names.name_for(&line.note), f)
+    }
+}

@@ -1,0 +1,361 @@
+//! What the lines tell, and their words.
+ghost use Rattle.std.specs.Prelude.{◌≡◌, Some};
+ghost use Rattle.std.specs.Fmt.{WritesOnOk};
+ghost use Rattle.runlog.specs.Notes.{close_words, counts_words, cut_words, late_words};
+ghost use Rattle.runlog.specs.Notes.{left_out_words, line_text, notice_words, of_station};
+ghost use Rattle.runlog.specs.Notes.{peer_words, sent_away_words};
+ghost use Rattle.runlog.specs.Notes.{skip_words, skipped_words, trouble_words, words};
+
+use crate::content::Skip;
+use crate::fate::{Fate, Reason};
+use crate::order::Order;
+use crate::order_words::{write_fate, write_order, write_reason, write_type_name};
+use gateway::Counts;
+use live::{CutCause, Notice};
+use session::Close;
+use std::fmt;
+use std::net::{IpAddr, SocketAddr};
+
+/// What stands behind a station whose answer to a command is dropped.
+const MIRROR_DROPPED: &str = "answer to a command dropped: data transfer isn't running";
+
+/// What stands behind a station whose answer is spoilt.
+const SPOILT: &str = "answer spoilt: octets came, but no answer";
+
+/// What was counted since the run began.
+#[derive(Clone, Copy, Debug, PartialEq, Eq)]
+pub struct Tally {
+    /// What the gateway counts.
+    pub counts: Counts,
+    /// How many places of the queue are taken.
+    pub taken: u64,
+    /// How many places it has.
+    pub places: u64,
+    /// How many connections were opened.
+    pub connections: u64,
+}
+
+/// Why a run can't begin.
+#[derive(Clone, Copy, Debug, PartialEq, Eq)]
+pub enum Trouble {
+    /// Nobody listens where the line should be.
+    LineRefused,
+    /// The host or the path of the line isn't known.
+    NameUnknown,
+    /// The line can't be reached for another cause.
+    LineUnreached,
+    /// Somebody listens there already.
+    PortInUse,
+    /// The system doesn't allow to listen there.
+    PortForbidden,
+    /// It can't be listened there for another cause.
+    PortUnusable,
+    /// Another process keeps its state there.
+    StateInUse,
+    /// The state can't be kept there.
+    StateUnusable,
+    /// Who wants to look at the run can't come in there.
+    StatusUnusable,
+}
+
+/// What a line tells.
+#[derive(Clone, Copy, Debug, PartialEq, Eq)]
+pub enum Note {
+    LineReached,
+    /// After it was lost.
+    LineReachedAgain,
+    LineLost,
+    /// It hasn't been reached yet.
+    LineNotThere,
+    /// Control centres may connect there.
+    Listening(SocketAddr),
+    /// By whom, if that is known.
+    Opened(Option<IpAddr>),
+    /// STARTDT con went out (IEC 60870-5-104, 5.3).
+    Started,
+    /// STOPDT con went out (IEC 60870-5-104, 5.3).
+    Stopped,
+    Cut(CutCause),
+    /// The gateway closed the connection.
+    Closed(Close),
+    /// How many were not let in since the last such line, and the last of them.
+    SentAway(u64, Option<IpAddr>),
+    /// The station with this link address is asked for the status of its link (IEC 60870-5-2).
+    Asked(u16),
+    /// It gets requests that are counted, so its link was reset.
+    Up(u16),
+    /// The same request has gone out to it more often than the settings' `retries` at first let it.
+    Silent(u16),
+    /// After that another request goes out to it, so it has answered.
+    Again(u16),
+    /// It is asked for the status again.
+    Down(u16),
+    /// Reports of it may be lost.
+    Gap(u16),
+    /// Fewer places of the queue are free than a report may take, so nothing is polled.
+    QueueFull,
+    QueueFree,
+    Counts(Tally),
+    /// No state is kept yet where it is to be kept.
+    StateBegins,
+    /// The run goes on from the state that is kept, with so many pieces in its queue.
+    StateGoesOn(u64),
+    /// The state was kept under other settings.
+    SettingsChanged,
+    /// Events are missing from the state, so nothing is known of the links.
+    StateStale,
+    /// What is kept can't be read, and stands under another name now.
+    StatePutAside,
+    /// The state on the disk, from now on or still.
+    State(Notice),
+    /// The run can't begin.
+    Trouble(Trouble),
+    /// This command of the control centre, whose address may be known, goes on to its station.
+    Ordered(Order, Option<IpAddr>),
+    /// It doesn't go on.
+    Refused(Order, Option<IpAddr>, Reason),
+    /// What became of it at the station with this link address.
+    Fate(Order, u16, Fate),
+    /// A report of the station with this link address, with this type octet, isn't passed on.
+    Skipped(u16, u8, Skip),
+    /// An answer of it to a command is dropped, since data transfer isn't running.
+    MirrorDropped(u16),
+    /// Octets came in answer to a request to it, but no answer.
+    Spoilt(u16),
+    /// Octets came from it when its exchange was over, before the next request went out.
+    Late(u16),
+}
+
+/// A line of the log.
+#[derive(Clone, Copy, Debug, PartialEq, Eq)]
+pub struct Line {
+    /// The moment of the run, in ms.
+    pub moment: u64,
+    pub note: Note,
+    /// How many lines of this kind were left out before it.
+    pub left_out: u64,
+}
+
+fn peer_words<W: fmt::Write>(peer: Option<IpAddr>, f: &mut fmt::Formatter<W>) -> fmt::Result
+    ensures { WritesOnOk W.write_str_gives f.old result (peer_words peer) f.new }
+{
+    match peer {
+        Some(address) => write!(f, " by {address}"),
+        None => Ok(()),
+    }
+}
+
+fn close_words(cause: Close) -> &'static str
+    ensures { result.now ≡ close_words cause }
+{
+    match cause {
+        Close::Grammar => "octets that begin no APDU",
+        Close::SendNumber => "an N(S) that isn't the next one",
+        Close::ReceiveNumber => "an N(R) of frames that weren't sent",
+        Close::Stopped => "an I frame while data transfer is stopped",
+        Close::Timeout => "no acknowledgement for t1",
+        Close::OwnAnswers => "an own answer found no place",
+        Close::Replaced => "a new connection takes its place",
+    }
+}
+
+fn cut_words(cause: CutCause) -> &'static str
+    ensures { result.now ≡ cut_words cause }
+{
+    match cause {
+        CutCause::Gone => "its other end has gone",
+        CutCause::NotTaken => "it didn't take what was written",
+        CutCause::Restarted => "the gateway was started again",
+    }
+}
+
+fn trouble_words(trouble: Trouble) -> &'static str
+    ensures { result.now ≡ trouble_words trouble }
+{
+    match trouble {
+        Trouble::LineRefused => "line refused",
+        Trouble::NameUnknown => "name unknown",
+        Trouble::LineUnreached => "line not reached",
+        Trouble::PortInUse => "port in use",
+        Trouble::PortForbidden => "port not allowed",
+        Trouble::PortUnusable => "port can't be listened at",
+        Trouble::StateInUse => "state in use by another process",
+        Trouble::StateUnusable => "state can't be kept there",
+        Trouble::StatusUnusable => "status port can't be used",
+    }
+}
+
+fn notice_words(notice: Notice) -> &'static str
+    ensures { result.now ≡ notice_words notice }
+{
+    match notice {
+        Notice::NotKept => "state isn't kept: what is polled now is lost if the gateway stops",
+        Notice::KeptAgain => "state is kept again",
+    }
+}
+
+fn write_sent_away<W: fmt::Write>(
+    count: u64,
+    last: Option<IpAddr>,
+    f: &mut fmt::Formatter<W>,
+) -> fmt::Result
+    ensures { WritesOnOk W.write_str_gives f.old result (sent_away_words count last) f.new }
+{
+    write!(f, "{count} sent away")?;
+    match last {
+        Some(address) => write!(f, ", the last at {address}"),
+        None => Ok(()),
+    }
+}
+
+fn write_counts<W: fmt::Write>(tally: &Tally, f: &mut fmt::Formatter<W>) -> fmt::Result
+    ensures { WritesOnOk W.write_str_gives f.old result (counts_words tally.now) f.new }
+{
+    let Counts {
+        skipped,
+        mirrors,
+        lost,
+        spoilt,
+    } = tally.counts;
+    let Tally {
+        taken,
+        places,
+        connections,
+        ..
+    } = *tally;
+    write!(
+        f,
+        "counts skipped {skipped} mirrors {mirrors} lost {lost} spoilt {spoilt}"
+    )?;
+    write!(f, " taken {taken} of {places} connections {connections}")
+}
+
+fn skip_words(why: Skip) -> &'static str
+    ensures { result.now ≡ skip_words why }
+{
+    match why {
+        Skip::TooShort => "too short",
+        Skip::TypeUnknown => "type not known",
+        Skip::NoObjects => "no objects",
+        Skip::OtherLength => "length doesn't fit, look at line.ioa",
+        Skip::PastSize => "object address past its size",
+        Skip::Negative => "it says that a type is unknown",
+    }
+}
+
+fn write_skipped<W: fmt::Write>(
+    station: u16,
+    kind: u8,
+    why: Skip,
+    f: &mut fmt::Formatter<W>,
+) -> fmt::Result
+    ensures { WritesOnOk W.write_str_gives f.old result (skipped_words station kind why) f.new }
+{
+    write!(f, "station {station} report skipped, type {kind}")?;
+    write_type_name(kind, f)?;
+    f.write_str(": ")?;
+    f.write_str(skip_words(why))
+}
+
+fn write_of_station<W: fmt::Write>(
+    address: u16,
+    words: &str,
+    f: &mut fmt::Formatter<W>,
+) -> fmt::Result
+    ensures { WritesOnOk W.write_str_gives f.old result (of_station address words.now) f.new }
+{
+    write!(f, "station {address} {words}")
+}
+
+fn write_late<W: fmt::Write>(address: u16, f: &mut fmt::Formatter<W>) -> fmt::Result
+    ensures { WritesOnOk W.write_str_gives f.old result (late_words address) f.new }
+{
+    write!(f, "answers of station {address} come late")?;
+    f.write_str(": answer_ms is short")
+}
+
+impl fmt::Display for Note {
+    ghost output = { λ note. Some (words note) };
+
+    fn fmt<W: fmt::Write>(&self, f: &mut fmt::Formatter<W>) -> fmt::Result {
+        match self {
+            Note::LineReached => f.write_str("line reached"),
+            Note::LineReachedAgain => f.write_str("line reached again"),
+            Note::LineLost => f.write_str("line lost"),
+            Note::LineNotThere => f.write_str("line not there"),
+            Note::Listening(address) => write!(f, "listening at {address}"),
+            Note::Opened(peer) => {
+                f.write_str("connection opened")?;
+                peer_words(*peer, f)
+            }
+            Note::Started => f.write_str("connection started"),
+            Note::Stopped => f.write_str("connection stopped"),
+            Note::Cut(cause) => {
+                let cause = cut_words(*cause);
+                write!(f, "connection cut: {cause}")
+            }
+            Note::Closed(cause) => {
+                let cause = close_words(*cause);
+                write!(f, "connection closed: {cause}")
+            }
+            Note::SentAway(count, last) => write_sent_away(*count, *last, f),
+            Note::Asked(address) => write!(f, "station {address} asked for its status"),
+            Note::Up(address) => write!(f, "station {address} up"),
+            Note::Silent(address) => write!(f, "station {address} doesn't answer"),
+            Note::Again(address) => write!(f, "station {address} answers again"),
+            Note::Down(address) => write!(f, "station {address} down"),
+            Note::Gap(address) => write!(f, "station {address} gap: reports of it may be lost"),
+            Note::QueueFull => f.write_str("queue full"),
+            Note::QueueFree => f.write_str("queue free again"),
+            Note::Counts(tally) => write_counts(tally, f),
+            Note::StateBegins => f.write_str("state: begins anew"),
+            Note::StateGoesOn(queued) => write!(f, "state: goes on, {queued} queued"),
+            Note::SettingsChanged => f.write_str("state: settings have changed"),
+            Note::StateStale => f.write_str("state is stale: each link is reset"),
+            Note::StatePutAside => f.write_str("state can't be read: put aside"),
+            Note::State(notice) => f.write_str(notice_words(*notice)),
+            Note::Trouble(trouble) => f.write_str(trouble_words(*trouble)),
+            Note::Ordered(order, peer) => {
+                write_order(order, f)?;
+                peer_words(*peer, f)
+            }
+            Note::Refused(order, peer, reason) => {
+                write_order(order, f)?;
+                peer_words(*peer, f)?;
+                f.write_str(" refused: ")?;
+                write_reason(*reason, f)
+            }
+            Note::Fate(order, station, fate) => {
+                write_order(order, f)?;
+                write_fate(*fate, *station, f)
+            }
+            Note::Skipped(station, kind, why) => write_skipped(*station, *kind, *why, f),
+            Note::MirrorDropped(address) => write_of_station(*address, MIRROR_DROPPED, f),
+            Note::Spoilt(address) => write_of_station(*address, SPOILT, f),
+            Note::Late(address) => write_late(*address, f),
+        }
+    }
+}
+
+fn write_left_out<W: fmt::Write>(left_out: u64, f: &mut fmt::Formatter<W>) -> fmt::Result
+    ensures { WritesOnOk W.write_str_gives f.old result (left_out_words left_out) f.new }
+{
+    if left_out == 0 {
+        return Ok(());
+    }
+    write!(f, " ({left_out} left out)")
+}
+
+impl fmt::Display for Line {
+    ghost output = { λ line. Some (line_text line) };
+
+    fn fmt<W: fmt::Write>(&self, f: &mut fmt::Formatter<W>) -> fmt::Result {
+        let Line {
+            moment,
+            note,
+            left_out,
+        } = self;
+        write!(f, "{moment} {note}")?;
+        write_left_out(*left_out, f)
+    }
+}

@@ -1,0 +1,167 @@
+//! The words for commands.
+ghost use Rattle.std.specs.Prelude.{◌≡◌};
+ghost use Rattle.std.specs.Fmt.{WritesOnOk};
+ghost use Rattle.runlog.specs.OrderWords as spec;
+
+use crate::fate::{Fate, Reason};
+use crate::order::{Act, Order, Value};
+use command::Refusal;
+use elements::{TypeId, kind};
+use std::fmt;
+
+/// The standard's name of a type.
+fn name_of(kind: TypeId) -> &'static str
+    ensures { result.now ≡ spec.name_of kind }
+{
+    match kind {
+        TypeId::MSpNa1 => "M_SP_NA_1",
+        TypeId::MDpNa1 => "M_DP_NA_1",
+        TypeId::MStNa1 => "M_ST_NA_1",
+        TypeId::MBoNa1 => "M_BO_NA_1",
+        TypeId::MMeNa1 => "M_ME_NA_1",
+        TypeId::MMeNb1 => "M_ME_NB_1",
+        TypeId::MMeNc1 => "M_ME_NC_1",
+        TypeId::MItNa1 => "M_IT_NA_1",
+        TypeId::MSpTb1 => "M_SP_TB_1",
+        TypeId::MDpTb1 => "M_DP_TB_1",
+        TypeId::MStTb1 => "M_ST_TB_1",
+        TypeId::MBoTb1 => "M_BO_TB_1",
+        TypeId::MMeTd1 => "M_ME_TD_1",
+        TypeId::MMeTe1 => "M_ME_TE_1",
+        TypeId::MMeTf1 => "M_ME_TF_1",
+        TypeId::MItTb1 => "M_IT_TB_1",
+        TypeId::MEiNa1 => "M_EI_NA_1",
+        TypeId::CScNa1 => "C_SC_NA_1",
+        TypeId::CDcNa1 => "C_DC_NA_1",
+        TypeId::CRcNa1 => "C_RC_NA_1",
+        TypeId::CSeNa1 => "C_SE_NA_1",
+        TypeId::CSeNb1 => "C_SE_NB_1",
+        TypeId::CIcNa1 => "C_IC_NA_1",
+        TypeId::CScTa1 => "C_SC_TA_1",
+        TypeId::CDcTa1 => "C_DC_TA_1",
+        TypeId::CRcTa1 => "C_RC_TA_1",
+        TypeId::CSeTa1 => "C_SE_TA_1",
+        TypeId::CSeTb1 => "C_SE_TB_1",
+    }
+}
+
+/// Writes the name of the type that an octet names, or its number.
+pub(crate) fn write_type<W: fmt::Write>(octet: u8, f: &mut fmt::Formatter<W>) -> fmt::Result
+    ensures { WritesOnOk W.write_str_gives f.old result (spec.type_words octet) f.new }
+{
+    match kind(octet) {
+        Some(kind) => f.write_str(name_of(kind)),
+        None => write!(f, "type {octet}"),
+    }
+}
+
+/// Writes the name of the type that an octet names, if that is known, behind a blank.
+pub(crate) fn write_type_name<W: fmt::Write>(octet: u8, f: &mut fmt::Formatter<W>) -> fmt::Result
+    ensures { WritesOnOk W.write_str_gives f.old result (spec.type_name octet) f.new }
+{
+    match kind(octet) {
+        Some(kind) => {
+            let name = name_of(kind);
+            write!(f, " {name}")
+        }
+        None => Ok(()),
+    }
+}
+
+fn act_words(act: Act) -> &'static str
+    ensures { result.now ≡ spec.act_words act }
+{
+    match act {
+        Act::Select => " select",
+        Act::Execute => " execute",
+        Act::Activate => " activate",
+        Act::Deactivate => " deactivate",
+        Act::Other => "",
+    }
+}
+
+fn write_value<W: fmt::Write>(value: Value, f: &mut fmt::Formatter<W>) -> fmt::Result
+    ensures { WritesOnOk W.write_str_gives f.old result (spec.value_words value) f.new }
+{
+    match value {
+        Value::Off => f.write_str(" off"),
+        Value::On => f.write_str(" on"),
+        Value::Lower => f.write_str(" lower"),
+        Value::Higher => f.write_str(" higher"),
+        Value::Number(number) => write!(f, " {number}"),
+        Value::Below(number) => write!(f, " -{number}"),
+        Value::Unknown => Ok(()),
+    }
+}
+
+/// Writes what a line tells of a command.
+pub(crate) fn write_order<W: fmt::Write>(order: &Order, f: &mut fmt::Formatter<W>) -> fmt::Result
+    ensures { WritesOnOk W.write_str_gives f.old result (spec.order_words order.now) f.new }
+{
+    let Order {
+        kind,
+        act,
+        ca,
+        object,
+        value,
+    } = *order;
+    f.write_str("command ")?;
+    write_type(kind, f)?;
+    f.write_str(act_words(act))?;
+    write!(f, " {ca}/{object}")?;
+    write_value(value, f)
+}
+
+/// Writes by which rule a command is refused.
+fn write_rule<W: fmt::Write>(rule: Refusal, f: &mut fmt::Formatter<W>) -> fmt::Result
+    ensures { WritesOnOk W.write_str_gives f.old result (spec.rule_words rule) f.new }
+{
+    match rule {
+        Refusal::TypeUnknown => f.write_str("type not known"),
+        Refusal::CauseUnknown => f.write_str("cause not known"),
+        Refusal::AddressUnknown => f.write_str("common address not known"),
+        Refusal::ObjectUnknown => f.write_str("object not known"),
+        Refusal::NotOneObject => f.write_str("not one object"),
+        Refusal::NotPermitted => f.write_str("qualifier not permitted"),
+        Refusal::TagOld(ms) => {
+            let seconds = ms / 1000;
+            write!(f, "time tag {seconds} s old")
+        }
+        Refusal::TagAhead(ms) => {
+            let seconds = ms / 1000;
+            write!(f, "time tag {seconds} s in the future")
+        }
+        Refusal::TagInvalid => f.write_str("time tag invalid"),
+        Refusal::WallUnknown => f.write_str("time of day not known yet"),
+        Refusal::NotSelected => f.write_str("not selected"),
+        Refusal::NoPlace => f.write_str("no place"),
+    }
+}
+
+/// Writes why a command doesn't go on to its station.
+pub(crate) fn write_reason<W: fmt::Write>(reason: Reason, f: &mut fmt::Formatter<W>) -> fmt::Result
+    ensures { WritesOnOk W.write_str_gives f.old result (spec.reason_words reason) f.new }
+{
+    match reason {
+        Reason::Rule(rule) => write_rule(rule, f),
+        Reason::Closed => f.write_str("its connection was closed"),
+    }
+}
+
+/// Writes what became of a command at the station with this link address.
+pub(crate) fn write_fate<W: fmt::Write>(
+    fate: Fate,
+    station: u16,
+    f: &mut fmt::Formatter<W>,
+) -> fmt::Result
+    ensures { WritesOnOk W.write_str_gives f.old result (spec.fate_words fate station) f.new }
+{
+    match fate {
+        Fate::Sent => write!(f, " sent to station {station}"),
+        Fate::Confirmed => write!(f, " confirmed by station {station}"),
+        Fate::Denied => write!(f, " refused by station {station}"),
+        Fate::Terminated => write!(f, " terminated by station {station}"),
+        Fate::Busy => write!(f, " not taken: station {station} is busy"),
+        Fate::GivenUp => write!(f, " given up: station {station} doesn't answer"),
+    }
+}

@@ -1,0 +1,79 @@
+//! Where the lines go.
+ghost use Rattle.std.specs.Prelude.{None};
+
+use crate::names::{NamedLine, Names};
+use crate::note::Line;
+use jiff::Timestamp;
+use std::io::Eprint;
+
+/// Where lines go. One that tells its lines adds each that it takes.
+pub trait Sink {
+    ghost use Rattle.runlog.specs.Telling.{Lines, kept};
+    ghost use Rattle.std.specs.Prelude.{◌≡◌};
+
+    /// The lines so far, the newest first, where it tells them.
+    ghost lines: { Self → Lines };
+
+    /// Takes a line. `false` says that it takes none any more.
+    fn tell(&mut self, line: &Line) -> bool
+        ensures { lines self.new ≡ kept result line.now (lines self.old) };
+}
+
+/// Standard error: each line has its UTC time (RFC 3339) before it.
+#[derive(Drop)]
+pub struct StandardError<'a, 'n, R> {
+    rt: &'a R,
+    names: Names<'n>,
+    has_severity: bool,
+}
+
+impl<'a, 'n, R> StandardError<'a, 'n, R> {
+    /// That of this process. Behind each line stands the name of what it is told of, if it has one.
+    pub fn new(rt: &'a R, names: Names<'n>) -> StandardError<'a, 'n, R> {
+        StandardError {
+            rt,
+            names,
+            has_severity: false,
+        }
+    }
+
+    /// The same, where each line begins with how severe it is, as `<4>`: so systemd's journal takes
+    /// it, which leaves that out of the text.
+    pub fn with_severity(self) -> StandardError<'a, 'n, R> {
+        StandardError {
+            rt: self.rt,
+            names: self.names,
+            has_severity: true,
+        }
+    }
+}
+
+impl<R: Eprint + std::rt::Clock> StandardError<'_, '_, R> {
+    /// Writes how severe a line is, if that is wanted.
+    fn write_severity(&self, line: &Line) -> bool {
+        if !self.has_severity {
+            return true;
+        }
+        let number = line.note.severity().number();
+        eprint!(self.rt; "<{number}>").is_ok()
+    }
+}
+
+impl<R: Eprint + std::rt::Clock> Sink for StandardError<'_, '_, R> {
+    ghost lines = { λ _. None };
+
+    fn tell(&mut self, line: &Line) -> bool {
+        if !self.write_severity(line) {
+            return false;
+        }
+        let line = NamedLine {
+            line,
+            names: self.names,
+        };
+        match Timestamp::now(self.rt) {
+            Ok(now) => eprintln!(self.rt; "{now:.3} {line}").is_ok(),
+            // No time is better than no line.
+            Err(_) => eprintln!(self.rt; "- {line}").is_ok(),
+        }
+    }
+}

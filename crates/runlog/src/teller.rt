@@ -1,0 +1,185 @@
+//! Lines told.
+ghost use Rattle.std.specs.Prelude.{◌≡◌, ◌&&◌, false, true, length, not};
+ghost use Rattle.events.specs.Queue.{kept};
+ghost use Rattle.gateway.specs.Ports.{FitsBuffer, output_of};
+ghost use Rattle.runlog.specs.Telling.{counted, looked_if_due, HearsSeeing, Puts, Looks, Closes};
+ghost use Rattle.runlog.specs.Telling.{Notes, Tells, IsTold};
+
+use crate::note::{Line, Note};
+use crate::sink::Sink;
+use crate::watch::Watch;
+use gateway::{Action, Gateway, Next};
+use live::{Notice, Sight};
+use std::marker::Model;
+
+/// Tells the lines of a run to a sink, until that takes none any more.
+#[derive(Drop)]
+pub struct Teller<S: Sink + Drop> {
+    watch: Watch,
+    sink: S,
+    is_over: bool,
+    is_watching: bool,
+}
+
+impl<S: Sink + Drop> Model for Teller<S> {
+    ghost use Rattle.runlog.specs.Telling.{Book};
+
+    ghost Value = { Book };
+
+    ghost view = { λ t. record {
+      watching = t.watch;
+      lines = S.lines t.sink;
+      is_over = t.is_over;
+      is_watching = t.is_watching;
+    } };
+}
+
+/// How many pieces the gateway keeps.
+pub fn taken_places(gateway: &Gateway) -> u64
+    ensures { result ≡ counted (length (kept gateway.now.centre.queue)) }
+{
+    let mut taken = 0u64;
+    for piece in gateway.kept() {
+        let _ = piece;
+        taken = taken.saturating_add(1);
+    }
+    taken
+}
+
+impl<S: Sink + Drop> Teller<S> {
+    /// One that tells this sink from the first event on, or, where nothing is to be told, never.
+    pub fn new(watch: Watch, sink: S, is_telling: bool) -> Teller<S>
+        ensures { result ≡ record {
+          watching = watch;
+          lines = S.lines sink;
+          is_over = not is_telling;
+          is_watching = false;
+        } }
+    {
+        Teller {
+            watch,
+            sink,
+            is_over: !is_telling,
+            is_watching: false,
+        }
+    }
+
+    /// The same, where the run is watched even if nothing is told.
+    pub fn watching(self) -> Teller<S>
+        ensures { result ≡ record self { is_watching = true } }
+    {
+        Teller {
+            watch: self.watch,
+            sink: self.sink,
+            is_over: self.is_over,
+            is_watching: true,
+        }
+    }
+
+    /// What is known of the run: how it was watched so far.
+    pub fn watch(&self) -> &Watch
+        ensures { result.now ≡ self.now.watching }
+    {
+        &self.watch
+    }
+
+    /// Nothing is told any more, and the run isn't watched.
+    fn is_idle(&self) -> bool
+        ensures { result ≡ (self.now.is_over && not self.now.is_watching) }
+    {
+        self.is_over && !self.is_watching
+    }
+
+    /// Tells something that no event says, at the moment of the latest event.
+    pub fn note(&mut self, note: Note)
+        ensures { Notes self.old note self.new }
+    {
+        if self.is_idle() {
+            return;
+        }
+        let line = self.watch.line(note);
+        self.tell(Some(line));
+    }
+
+    fn tell(&mut self, line: Option<Line>)
+        ensures { IsTold line self.old self.new }
+    {
+        if self.is_over {
+            return;
+        }
+        if let Some(line) = line {
+            self.is_over = !self.sink.tell(&line);
+        }
+    }
+
+    /// An event came, whose octets are the front of the buffer, and the ends are seen so.
+    pub(crate) fn hear(&mut self, event: Next, buf: &[u8; 1024], sight: &Sight)
+        requires { FitsBuffer event }
+        ensures { HearsSeeing sight.now self.old event buf.now self.new }
+    {
+        if self.is_idle() {
+            return;
+        }
+        let line = self.watch.hear(event, buf, sight);
+        self.tell(line);
+    }
+
+    /// An action goes out.
+    pub fn put(&mut self, now: u64, action: &Action<'_>)
+        ensures { Puts self.old now (output_of action.now) self.new }
+    {
+        if self.is_idle() {
+            return;
+        }
+        let line = self.watch.put(now, action);
+        self.tell(line);
+    }
+
+    /// This is to be told of the state on the disk, if anything.
+    pub(crate) fn tend(&mut self, notice: Option<Notice>)
+        ensures { Tells notice self.old self.new }
+    {
+        if let Some(notice) = notice {
+            self.note(Note::State(notice));
+        }
+    }
+
+    /// Looks at the gateway between two steps.
+    pub(crate) fn look(&mut self, gateway: &Gateway)
+        ensures { Looks self.old gateway.now self.new }
+    {
+        if self.is_idle() {
+            return;
+        }
+        self.watch.judge(gateway);
+        let line = self.look_if_due(gateway);
+        let line = match line {
+            Some(line) => Some(line),
+            None => self.watch.gathered(),
+        };
+        self.tell(line);
+    }
+
+    /// Looks at the queue and the counts, if that is due.
+    fn look_if_due(&mut self, gateway: &Gateway) -> Option<Line>
+        ensures watching { (self.new.watching, result)
+            ≡ looked_if_due gateway.now self.old.watching }
+        ensures rest { self.new ≡ record self.old { watching = self.new.watching } }
+    {
+        if !self.watch.is_look_due() {
+            return None;
+        }
+        self.watch.look(gateway.counts(), taken_places(gateway))
+    }
+
+    /// The run is over.
+    pub(crate) fn close(&mut self, gateway: &Gateway)
+        ensures { Closes self.old gateway.now self.new }
+    {
+        if self.is_idle() {
+            return;
+        }
+        let line = self.watch.sum(gateway.counts(), taken_places(gateway));
+        self.tell(Some(line));
+    }
+}
