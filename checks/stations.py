@@ -220,7 +220,7 @@ class Polled:
 
     def poll(self, class_number):
         """A report of this class, or no octets."""
-        return self.ask(12 - class_number)[1]
+        return self.ask(9 + class_number)[1]
 
 
 def polled_for(station, class_number, seconds):

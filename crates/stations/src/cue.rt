@@ -32,8 +32,6 @@ pub enum Cue {
     Confirm(usize),
     /// The station with this index refuses each command that it accepts.
     Refuse(usize),
-    /// The answer to the request with the first number goes out so many ms late.
-    Delay(u64, u64),
 }
 
 /// A report that is due.

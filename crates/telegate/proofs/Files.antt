@@ -6,16 +6,13 @@ use Rattle.std.specs.Borrow.{Bor}
 use Rattle.clap.specs.Words.{Text}
 use Rattle.sitefile.specs.declared.site.Site.{Site as SiteFile}
 use Rattle.telegate.specs.Shell.{IsNoSite, IsNotRead, IsUnread, ReplaysFile, Responds, RunsAsSaid}
-use Rattle.telegate.specs.Checks.{IsRefusalTold}
-use Rattle.telegate.specs.Shell.{ChecksBehind, ChecksFile, PlayFiles, RunsAtSite}
-use Rattle.telegate.specs.Shell.{files_of}
+use Rattle.telegate.specs.Shell.{ChecksBehind, PlayFiles, RunsAtSite, files_of}
 use Rattle.telegate.specs.CommandLine.{text_of}
-use Rattle.telegate.specs.Wishes.{IsFirstSiteFault, IsGoodSite, IsSiteIn, site_files}
+use Rattle.telegate.specs.Wishes.{IsSiteIn, site_files}
 use Rattle.telegate.specs.declared.run_words.RunWords.{RunWords}
 use Rattle.telegate.specs.Manners.{manner_of}
 use Rattle.telegate.specs.declared.host.Wishes.{Wishes}
 use Rattle.telegate.specs.declared.command_line.Request.{Request}
-use Rattle.telegate.specs.declared.check.Checking.{Checking}
 use Rattle.telegate.specs.declared.command_line.Request.TheVariants.{Check, Replay, Run, Stations}
 use Rattle.telegate.specs.declared.fault.Fault.{Fault}
 use Rattle.telegate.specs.declared.host.Unread.{Unread}
@@ -83,46 +80,6 @@ module _ (has : Text → List ℕ → Type 0) (lacks : Text → Type 0) where
         deeper file octets files h.name h.why read h.unread;
     status = h.status;
   }
-
-  -- settings that are judged alone
-  pub checked_alone : (site : Option (Bor Text)) (config : Text) (how : Checking)
-      (old new : Option (List ℕ)) (exit : ℕ) → site ≡ None
-      → ChecksFile has lacks config how old new exit
-      → ChecksBehind has lacks (text_of site) config how old new exit
-  checked_alone site config how old new exit none h =
-      subst (λ (s : Option (Bor Text)). ChecksBehind has lacks (text_of s) config how old new exit)
-      (sym none) h
-
-  -- or behind the file of a site: one that is good, one that is refused, or one that can't be read
-  module _ (site : Option (Bor Text)) (name : Bor Text) (is : site ≡ Some name) (config : Text)
-      (how : Checking) where
-    behind : (old new : Option (List ℕ)) (exit : ℕ)
-        → ChecksBehind has lacks (Some name.now) config how old new exit
-        → ChecksBehind has lacks (text_of site) config how old new exit
-    behind old new exit h =
-        subst (λ (s : Option (Bor Text)). ChecksBehind has lacks (text_of s) config how old new
-        exit) (sym is) h
-
-    pub checked_behind : (octets : List ℕ) (old new : Option (List ℕ)) (exit : ℕ)
-        → has name.now octets → IsGoodSite octets → ChecksFile has lacks config how old new exit
-        → ChecksBehind has lacks (text_of site) config how old new exit
-    checked_behind octets old new exit read good h =
-        behind old new exit
-        (inl (inr (record { octets = octets; read = read; good = good }, h)))
-
-    pub site_refused : (octets : List ℕ) (fault : Fault) (old new : Option (List ℕ)) (exit : ℕ)
-        → has name.now octets → IsFirstSiteFault octets fault
-        → IsRefusalTold how.explain octets fault old new exit
-        → ChecksBehind has lacks (text_of site) config how old new exit
-    site_refused octets fault old new exit read first h =
-        behind old new exit
-        (inl
-        (inl (record { octets = octets; read = read; fault = fault; is = first; told = h })))
-
-    pub site_unread : (known : Option (List ℕ)) (exit : ℕ)
-        → IsNotRead has lacks (name.now ∷ []) exit
-        → ChecksBehind has lacks (text_of site) config how known known exit
-    site_unread known exit unread = behind known known exit (inr (unread, keeps_same known))
 
   -- the settings can't be read, behind the file of the site
   behind_site : (name : Option Text) (config : Text) (site : SiteFile) (exit : ℕ)

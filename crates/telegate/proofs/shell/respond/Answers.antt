@@ -75,7 +75,7 @@ returns-in-Ok g c =
     (record { left = c.in-Replay.left; counts = c.in-Replay.counts })
     (g.W.Write.contents c.args.out.now)
     (g.W.Write.contents c.replay_file.new.out) c.replay_file.result)
-    c.as_slice-in-Ok.ensures.value
+    c.as_slice.ensures.value
     c.replay_file.ensures))
 
 pub returns-in-Err-read_file-2 : goal.returns-in-Err-read_file-2

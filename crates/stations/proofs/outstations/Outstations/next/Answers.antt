@@ -11,7 +11,7 @@ returns-in-Some c = (
   next_now _ _ c.self.view_is c.args.station c.args.refuses c.index.result.now
       c.index-2.result.now (map octets c.accepted-accepted.result.now) c.as_slice-command.result.now
       (Some c.in-Some.reply)
-    (omega (arith, c.if-station-len.false, c.len.ensures, c.self.inside.progress.ok.0))
+      (omega (arith, c.if-station-len.false, c.len.ensures, c.self.inside.progress.ok.0))
       c.index.ensures
       (omega (
         arith,
