@@ -10,5 +10,6 @@ returns-in-Ok-wishes_of c =
 
 pub returns-in-Ok : goal.returns-in-Ok
 returns-in-Ok c =
-    unfit (said_by c.none.result) c.args.octets.now c.in-Ok.site c.in-Err-wishes_of.fault c.none.ensures
+    unfit (said_by c.none.result) c.args.octets.now c.in-Ok.site c.in-Err-wishes_of.fault
+    c.none.ensures
     c.in-Ok.ensures c.in-Err-wishes_of.ensures.fault
