@@ -91,7 +91,7 @@ def deployment():
     p.box(440, 250, 150, 55, "disk", "`--state DIR`: the queue,\nwhat is on its way", "disk")
     p.way([(530, 180), (530, 250)])
     p.text(520, 215, "before it asks", "small", "end")
-    p.box(640, 250, 140, 55, "runlog", "`--log`: lines with\na severity", "far")
+    p.box(640, 250, 140, 55, "journal", "`--log`: lines with\na severity", "far")
     p.way([(610, 180), (610, 215), (710, 215), (710, 250)])
     p.box(560, 10, 190, 48, "browser, monitoring", "`--status HOST:PORT`: pages", "far")
     p.way([(600, 58), (600, 95)])
