@@ -5,11 +5,13 @@
 
 Nothing in the gate depends on these figures (docs/PERFORMANCE.md has them). Parts, all by default:
 
-    polls   one outstation answers each poll with a report, so many polls a second (`--polls`, 25), for so long (`--seconds`, 60); a
-            control centre acknowledges each eighth. Told are syncs, writes and octets a poll, octets an event, and what a day of it is.
+    polls   one outstation is polled so many times a second (`--polls`, 25), for so long (`--seconds`, 60): each poll brings a report,
+            each fourth, or none. A control centre acknowledges each eighth. Told are syncs, writes and octets a poll, what a day of
+            it is, and how many of the octets are lines of each kind of event: S of the line, R of a control centre, T ticks, W the
+            wall clock.
     pace    the same as fast as it goes, without `--state` and with it in turn: what a sync adds to a poll.
     way     reports at that pace, without and with `--state`, `--log` and visitors of `--status`: how long each takes from the line's
-            last octet to its I frame.
+            last octet to its I frame. Both ends are one process of one thread in C (bench/way.c).
     start   so many pieces of 249 octets are queued (`--pieces`, the most that a queue of 65,535 places takes), the gateway is
             killed, and started again three times: how long until a control centre is told that it may begin, the processor time
             of that, the peak of its memory, and the size of the directory.
@@ -127,8 +129,6 @@ class Field(threading.Thread):
         self.server = ends.socket.create_server(("127.0.0.1", 0))
         self.reports, self.pause = reports, pause
         self.given, self.requests, self.last, self.bit = 0, 0, None, None
-        # When each report was put on the line, in seconds.
-        self.moments = []
         self.start()
 
     def port(self):
@@ -144,10 +144,7 @@ class Field(threading.Thread):
             try:
                 while True:
                     function, _, frame = line.request()
-                    answer = self.answer(function, frame[1])
-                    if len(self.moments) < self.given:
-                        self.moments.append(time.monotonic())
-                    line.answer(answer)
+                    line.answer(self.answer(function, frame[1]))
             except (OSError, EOFError):
                 line.stream.close()
 
@@ -174,8 +171,6 @@ class Centre(threading.Thread):
     def __init__(self, door):
         super().__init__(daemon=True)
         self.door, self.is_over, self.frames = door, False, 0
-        # When each I frame was seen, in seconds.
-        self.moments = []
         self.start()
 
     def run(self):
@@ -186,7 +181,6 @@ class Centre(threading.Thread):
             for apdu in centre.heard(0.2) or []:
                 if apdu == ends.TEST:
                     centre.send(ends.TESTED)
-            self.moments += [time.monotonic()] * (centre.received - self.frames)
             self.frames = centre.received
             if centre.received >= acknowledged + 8:
                 acknowledged = centre.received
@@ -245,24 +239,62 @@ class Gateway:
         return sum(it.st_size for it in found), sum(it.st_blocks * 512 for it in found)
 
 
+class Each:
+    """Reports at each so manieth poll, or at none."""
+
+    def __init__(self, distance):
+        self.distance, self.polls = distance, 0
+
+    def __call__(self, given):
+        self.polls += 1
+        return POINT if self.distance and self.polls % self.distance == 0 else None
+
+
+def events(folder):
+    """The lines of events that the newest segment of a state has, as it stands there."""
+    newest, found = b"", b""
+    for name in os.listdir(folder):
+        with open(os.path.join(folder, name), "rb") as file:
+            head, _, behind = file.read().partition(b"\n")
+        if head.startswith(b"telegate state") and head > newest:
+            newest, found = head, behind[int(head.split(b" octets ")[1][:16], 16) :]
+    return found.partition(b"\0")[0].splitlines(keepends=True)
+
+
 def measure_polls(program, folder, seconds, polls):
-    """What is synced and written at so many polls a second."""
+    """What is synced and written at so many polls a second, of three kinds."""
+    for distance, brings in ((1, "each with a report"), (4, "each fourth with one"), (0, "none")):
+        with tempfile.TemporaryDirectory(dir=folder) as own:
+            measure_day(f"polls, {brings}:", program, own, seconds, 1 / polls, distance)
+
+
+def measure_day(what, program, folder, seconds, pause, distance):
+    """The same of one kind, and what the lines of events hold."""
     counts = Counts(folder)
-    field = Field(lambda n: POINT, 1 / polls)
+    field = Field(Each(distance), pause)
     gateway = Gateway(program, folder, field, environment=counts.environment)
     centre = Centre(gateway.door)
     time.sleep(2)
     before, requests, began = counts.now(), field.requests, time.monotonic()
+    first = len(events(gateway.state))
     time.sleep(seconds)
     after, asked, took = counts.now(), field.requests - requests, time.monotonic() - began
-    sizes = gateway.size()
+    lines = events(gateway.state)[first:]
+    size = gateway.size()[0]
     centre.is_over = True
     gateway.kill()
     syncs, nanoseconds, writes, octets = (now - then for now, then in zip(after, before))
-    day = octets / took * 86400
-    print(f"polls: {asked} polls in {took:.1f} s, {asked / took:.1f} a second, {centre.frames} reports at the control centre")
-    print(f"polls: {syncs / asked:.3f} syncs a poll, {nanoseconds / max(1, syncs) / 1e6:.3f} ms each; {writes / asked:.3f} writes a poll")
-    print(f"polls: {octets / asked:.0f} octets a poll; a day is {day / 1e6:.0f} MB, the directory {sizes[0] / 1e6:.2f} MB", flush=True)
+    print(f"{what} {asked} polls, {asked / took:.1f} a second, {centre.frames} I frames came")
+    waited = nanoseconds / max(1, syncs) / 1e6
+    print(f"{what} {syncs / asked:.3f} syncs a poll, {waited:.3f} ms each; {writes / asked:.3f} writes")
+    day = octets / took * 0.0864
+    print(f"{what} {octets / asked:.1f} octets a poll; a day {day:.0f} MB, the directory {size / 1e6:.2f} MB")
+    for kind in sorted({line.split()[1] for line in lines}):
+        those = [line for line in lines if line.split()[1] == kind]
+        many, octets = len(those) / took, sum(map(len, those)) / asked
+        print(f"{what} {kind.decode()} {many:.2f} lines a second, {octets:.2f} octets a poll")
+    digits = sum(len(line.split()[0]) for line in lines)
+    print(f"{what} {digits / asked:.2f} octets a poll are digits of moments", flush=True)
 
 
 def paced(program, folder, seconds, state):
@@ -300,30 +332,55 @@ def look(door, is_over):
             pass
 
 
-def ways(program, folder, seconds, polls, state=False, log=False, visitors=0):
-    """How long each report takes from the line's last octet to its I frame, which the control centre sees, in ms, in order."""
-    field, door, is_over = Field(lambda n: POINT, 1 / polls), visitors and ends.free_port(), threading.Event()
-    gateway = Gateway(program, folder, field, state=state, log=log, status=door)
-    centre = Centre(gateway.door)
+def compiled(folder):
+    """The two ends of bench/way.c as a program."""
+    text = os.path.join(os.path.dirname(os.path.abspath(__file__)), "way.c")
+    program = os.path.join(folder, "way")
+    subprocess.run(["cc", "-O2", "-o", program, text], check=True)
+    return program
+
+
+class Elsewhere:
+    """A line at which another process listens."""
+
+    def __init__(self):
+        self.place = ends.free_port()
+
+    def port(self):
+        return self.place
+
+
+def ways(program, both, folder, seconds, polls, state=False, log=False, visitors=0):
+    """How long each report takes from the line's last octet to its I frame, in ms, in order."""
+    line, shown, is_over = Elsewhere(), visitors and ends.free_port(), threading.Event()
+    gateway = Gateway(program, folder, line, state=state, log=log, status=shown)
     for _ in range(visitors):
-        threading.Thread(target=look, args=(door, is_over), daemon=True).start()
-    time.sleep(seconds)
-    centre.is_over = True
+        threading.Thread(target=look, args=(shown, is_over), daemon=True).start()
+    words = [both, line.place, gateway.door, polls, int((seconds + 1) * polls)]
+    told = subprocess.run(list(map(str, words)), stdout=subprocess.PIPE, check=True).stdout
     is_over.set()
     gateway.kill()
     # What waited for the control centre took the time of its start.
-    return sorted(1000 * (seen - sent) for sent, seen in list(zip(field.moments, centre.moments))[int(polls) :])
+    return sorted(float(microseconds) / 1000 for microseconds in told.split()[int(polls) :])
 
 
 def measure_way(program, folder, seconds, polls):
     """The way of a report, without and with what a run may do beside."""
-    runs = {"nothing": {}, "a log": {"log": True}, "a state": {"state": True}, "both": {"log": True, "state": True}, "four visitors": {"visitors": 4}}
-    for turn in range(2):
+    runs = {
+        "nothing": {},
+        "a log": {"log": True},
+        "a state": {"state": True},
+        "both": {"log": True, "state": True},
+        "four visitors": {"visitors": 4},
+    }
+    both = compiled(folder)
+    for _ in range(2):
         for beside, what in runs.items():
             with tempfile.TemporaryDirectory(dir=folder) as own:
-                found = ways(program, own, seconds / 4, polls, **what)
-            middle, late, last = (found[int(part * (len(found) - 1))] for part in (0.5, 0.99, 1))
-            print(f"way: beside {beside}: of {len(found)} reports median {middle:.3f} ms, 99 % {late:.3f} ms, at most {last:.3f} ms", flush=True)
+                found = ways(program, both, own, seconds / 4, polls, **what)
+            parts = {"least": 0, "median": 0.5, "99 %": 0.99, "most": 1}
+            told = (f"{word} {found[int(part * (len(found) - 1))]:.3f}" for word, part in parts.items())
+            print(f"way beside {beside}, {len(found)} reports, in ms: {', '.join(told)}", flush=True)
 
 
 def until_started(gateway):

@@ -15,6 +15,7 @@
   a letter and a number.
 - The program, the man page, CHANGELOG.md and each document that names a version name the same one.
 - Lines of src/ and specs/ have at most 100 columns, except imports and attributes.
+- An entry of a document that a comment in src/ names, as `docs/NAME.md, "HEADING"`, is there.
 - The table of docs/TESTS.md has the scripts of checks/list.txt as those of the gate.
 - The pictures are those that docs/pictures/make.py makes.
 """
@@ -144,6 +145,16 @@ def judge_sources(judge):
         judge.case(not wide, f"{crate}: more than {COLUMNS} columns in {len(wide)} lines, the first {wide[:1]}")
 
 
+def judge_entries(judge):
+    """Each heading of a document that a comment names is there: a heading of a part, or the bold
+    words that a point begins with."""
+    for name in sorted(glob.glob("crates/*/src/**/*.rt", root_dir=TOP, recursive=True)):
+        comments = re.sub(r"\n\s*// ", " ", read(name))
+        for document, heading in re.findall(r'(docs/\w+\.md), "([^"]*)"', comments):
+            headings = re.findall(r"^(?:- \*\*(.*?)\.\*\*|#+ (.*))", read(document), re.M)
+            judge.case(any(heading in found for found in headings), f'{name} names {document}, "{heading}", which isn\'t there')
+
+
 def judge_names(judge, name, text):
     """Each file that a document names is there: from the top, beside the document, or in some
     crate."""
@@ -194,6 +205,7 @@ def sources(count, _program, _folder):
     for name in sorted(glob.glob("examples/**/*.*", root_dir=TOP, recursive=True)):
         judge_alone(count, name, read(name))
     judge_sources(count)
+    judge_entries(count)
 
 
 def lists(count, program, _folder):

@@ -17,11 +17,13 @@ centre goes and comes.
   command was operated twice, or confirmed by nobody.
 - Then come a second process on the directory, a state that can't be read, a line of it that can't,
   a disk that is full (a limit of file size), and settings that change between two runs, row by row.
+- `telegate state` shows each of these, beside a run and without one, and changes nothing.
 
 All of it is on the loopback.
 """
 import os
 import random
+import re
 import resource
 import shutil
 import signal
@@ -580,6 +582,8 @@ def a_command_at_a_restart(count, program):
         visitor.commands = 0
         time.sleep(0.5)
         gateway.kill()
+        lines, _, _ = looked(gateway, gateway.state)
+        count.judge("a command without an answer is shown", "command without an answer, given up at a start" in row_of(lines, 1), lines)
         visitor.is_over = True
         gateway.field.mute_at_command = False
         gateway.field.silent.clear()
@@ -597,6 +601,108 @@ def a_command_at_a_restart(count, program):
                 got[where].append(number)
         count.judge("no report is lost by it", all(sorted(set(n)) == [1, 2, 3, 4] for n in got.values()), got)
         count.judge("and no gap told", "gap" not in told, told)
+        gateway.field.server.close()
+
+
+def stood(folder):
+    """All that stands in a directory, with when it was changed."""
+    found = {}
+    for name in sorted(os.listdir(folder)):
+        path = os.path.join(folder, name)
+        with open(path, "rb") as file:
+            found[name] = (os.stat(path).st_mtime_ns, file.read())
+    return found
+
+
+def looked(gateway, *words):
+    """What `telegate state` prints, line by line, and its exit status."""
+    answer = subprocess.run([gateway.program, "state", *words], capture_output=True, text=True, timeout=60)
+    return answer.stdout.splitlines(), answer.returncode, answer.stderr
+
+
+def row_of(lines, address):
+    return next((line for line in lines if line.startswith(f"station {address} ")), "")
+
+
+ROW = re.compile(
+    r"station \d+ up, frame count bit ([01])(, poll of class [12] without an answer)?, session (\d+)(, gap if it is reset)?"
+)
+
+
+def fits(row, station):
+    """Whether a row is that of a station that has answered each request but the latest."""
+    told = ROW.fullmatch(row)
+    if told is None:
+        return False
+    bit, poll, session, gap = told.groups()
+    # A request that isn't answered may have reached the station, so that it has the bit already.
+    bits = {0, 1} if poll else {0 if station.bit else 1}
+    return int(bit) in bits and int(session) == station.resets and (gap is None) == (poll is None)
+
+
+def a_look(count, program):
+    """What `telegate state` shows is what the next start tells, and it changes nothing."""
+    with tempfile.TemporaryDirectory() as folder:
+        gateway = quiet(program, folder)
+        lines, status, told = looked(gateway, gateway.state)
+        count.judge("no directory", status == 3 and not lines and told == f"cannot read {gateway.state}\n", (status, lines, told))
+        os.mkdir(gateway.state)
+        lines, status, _ = looked(gateway, gateway.state)
+        count.judge("an empty directory", (lines, status) == (["state: begins anew"], 0), (lines, status))
+        count.judge("stays empty", os.listdir(gateway.state) == [], os.listdir(gateway.state))
+        gateway.start()
+        gateway.waits("listening")
+        queue_up(gateway, 3)
+        lines, status, told = looked(gateway, gateway.state, gateway.config)
+        count.judge("beside a run", status == 0 and lines[:2] == ["state in use by another process", "state: goes on, 6 queued"], (lines[:3], told))
+        queue_up(gateway, 1)
+        count.judge("which goes on", gateway.process.poll() is None and "isn't kept" not in gateway.said, gateway.said)
+        gateway.kill()
+        before = stood(gateway.state)
+        lines, status, _ = looked(gateway, gateway.state, gateway.config)
+        queued = sum(station.given for station in gateway.field.stations.values())
+        count.judge("behind a kill", status == 0 and lines[0] == f"state: goes on, {queued} queued", lines)
+        path = max((os.path.join(gateway.state, name) for name in os.listdir(gateway.state)), key=head_of)
+        number, begin = head_of(path)
+        with open(path, "rb") as file:
+            events = file.read()[begin:].split(b"\0")[0].count(b"\n")
+        count.judge("the segment", lines[1] == f"segment {number} in {os.path.basename(path)}, events behind its head: {events}", (lines, number, path, events))
+        count.judge("the clock", re.fullmatch(r"moment in ms \d+, wall clock in ms 1\d{12} at moment \d+", lines[2]), lines[2])
+        stations = gateway.field.stations
+        count.judge("the stations", all(fits(row_of(lines, a), stations[a]) for a in stations), (lines, [(s.bit, s.resets) for s in stations.values()]))
+        with open(gateway.config) as file:
+            settings = file.read().splitlines()
+        count.judge("the settings", lines[lines.index("kept under these settings:") + 1 :] == settings, lines)
+        other = os.path.join(folder, "other.toml")
+        with open(other, "w") as file:
+            file.write("\n".join(settings) + "\n# another\n")
+        lines, _, _ = looked(gateway, gateway.state, other)
+        count.judge("other settings", lines[0] == "state: settings have changed", lines[:2])
+        with open("/dev/full", "w") as full:
+            status = subprocess.run([program, "state", gateway.state], stdout=full, stderr=subprocess.DEVNULL, timeout=60).returncode
+        count.judge("an output that fails", status == 3, status)
+        count.judge("nothing is changed", stood(gateway.state) == before, os.listdir(gateway.state))
+        os.rename(os.path.join(gateway.state, "kept"), os.path.join(gateway.state, "stale"))
+        lines, status, _ = looked(gateway, gateway.state)
+        marked = ["the directory is marked as stale", "state is stale: each link is reset", f"state: goes on, {queued} queued"]
+        count.judge("a stale one", lines[:3] == marked and status == 0, lines)
+        os.rename(os.path.join(gateway.state, "stale"), os.path.join(gateway.state, "kept"))
+        rot_a_line(gateway.state)
+        with open(path, "rb") as file:
+            rotten = file.read()[begin:].split(b"\0")[0].split(b"\n")
+        lines, status, _ = looked(gateway, gateway.state)
+        count.judge("a rotten line", status == 0 and lines[0] == "state is stale: each link is reset", lines)
+        wanted = f"lines there that can be read: {len(rotten) // 2} of {len(rotten) - 1}"
+        count.judge("and which", wanted in lines, (lines, wanted))
+        for name in ("segments", "segments-wal"):
+            with open(os.path.join(gateway.state, name), "r+b") as file:
+                if file.read(14) == b"telegate state":
+                    file.seek(15)
+                    file.write(b"2")
+        before = stood(gateway.state)
+        lines, status, _ = looked(gateway, gateway.state)
+        count.judge("another version's", (lines, status) == (["state can't be read: put aside"], 1), (lines, status))
+        count.judge("nothing is put aside", stood(gateway.state) == before, os.listdir(gateway.state))
         gateway.field.server.close()
 
 
@@ -636,6 +742,7 @@ if __name__ == "__main__":
         alone("second", a_second_process),
         alone("unread", a_state_that_is_no_state),
         alone("rotten line", a_rotten_line),
+        alone("look", a_look),
         alone("full disk", a_full_disk),
         alone("command", a_command_at_a_restart),
         *(alone(f"settings {n}", settings_that_change, *row) for n, row in enumerate(CHANGES)),

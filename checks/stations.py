@@ -8,6 +8,9 @@ or an answer that the script loses isn't answered, a spoilt one has one octet ch
 and goes on where that one was. Then `telegate run` finds the outstations of examples/stations there, and a control centre gets both
 reports, once each, though an answer was lost; a command of its is confirmed on the link alone. A port that is taken ends the command.
 
+An answer that the script delays comes late, with its own octets, while others are heard and answered. Behind a cut, or where a later
+answer is delayed, it doesn't come. `telegate run` waits for it if `answer_ms` is longer than the delay, and else repeats the request.
+
 In time: a report of `at` comes once, and not before its moment; one of `every` comes in each period; the time begins with the first
 connection. A station that confirms or refuses gives what docs/STATIONS.md says to each kind of command. Wrong lines are told by their
 numbers, of either kind, and `sim` refuses these lines.
@@ -25,16 +28,15 @@ link = 1
 cause = 1
 ca = 1
 ioa = 2
-[[station]]
-address = 1
-ca = 1
-[[station]]
-address = 2
-ca = 2
+answer_ms = {answer_ms}
 [live]
 line = "{line}"
 listen = "127.0.0.1:{door}"
+[[station]]
+address = 1
+ca = 1
 """
+SECOND = "[[station]]\naddress = 2\nca = 2\n"
 # A single point and a scaled value, spontaneous, as ASDUs of the line and of the connection.
 POINT, VALUE = bytes.fromhex("01010301640001"), bytes.fromhex("0B010302C800E80300")
 SENT = [bytes.fromhex("010103000100640000" "01"), bytes.fromhex("0B0103000200C80000E80300")]
@@ -46,11 +48,11 @@ CONFIRMED = b"\xE5"
 class Played:
     """`telegate stations` at a place, over a script."""
 
-    def __init__(self, program, folder, place, script):
+    def __init__(self, program, folder, place, script, answer_ms=200, more=SECOND):
         self.place, self.door = place, ends.free_port()
         self.config, named = os.path.join(folder, "config.toml"), os.path.join(folder, "one.script")
         with open(self.config, "w") as file:
-            file.write(SETTINGS.format(line=place, door=self.door))
+            file.write(SETTINGS.format(line=place, door=self.door, answer_ms=answer_ms) + more)
         with open(named, "w") as file:
             file.write(script)
         self.process = subprocess.Popen(
@@ -150,6 +152,109 @@ def at_a_port(count, program, folder):
 
 def at_a_socket(count, program, folder):
     by_frames(count, program, folder, "unix:" + os.path.join(folder, "line"), "socket")
+
+
+DELAYED = """turns 1
+report 1 2 %s
+delay answer 3 400
+delay answer 4 300
+delay answer 6 300
+delay answer 7 300
+delay answer 8 300
+lose answer 10
+delay answer 10 100
+spoil answer 11 1
+delay answer 11 100
+delay answer 12 100
+delay answer 13 100
+""" % POINT.hex()
+UP = ends.fixed(0x0B, 1)
+# The time of a look, in seconds, on a busy machine.
+LOOK = 0.01
+
+
+def comes_late(count, name, stream, began, least, wanted):
+    """These octets come, at the earliest so many seconds behind that moment, and not much later. A look lasts some milliseconds, and
+    its moment is told before it."""
+    count.compare(name, exactly(stream, len(wanted)), wanted)
+    passed = time.monotonic() - began
+    count.judge(f"{name}: when", least - LOOK <= passed < least + 1.5, f"after {passed:.3f} s")
+
+
+def late(count, program, folder):
+    ask, poll, again = ends.fixed(0x49, 1), ends.fixed(0x7B, 1), ends.fixed(0x5B, 1)
+    with Played(program, folder, f"tcp:127.0.0.1:{ends.free_port()}", DELAYED) as played, played.met() as stream:
+        exchange(count, "late: status", stream, ask, UP)
+        exchange(count, "late: reset", stream, ends.fixed(0x40, 1), CONFIRMED)
+        began = time.monotonic()
+        exchange(count, "late: nothing at once", stream, poll, b"")
+        comes_late(count, "late: the answer", stream, began, 0.4, ends.data(0x08, 1, POINT))
+        # It comes behind the next answer, which isn't late.
+        began = time.monotonic()
+        stream.sendall(again)
+        exchange(count, "late: the next one meanwhile", stream, ask, UP)
+        count.judge("late: before it", time.monotonic() - began < 0.3, "the machine is slow")
+        comes_late(count, "late: amid a later exchange", stream, began, 0.3, CONFIRMED)
+        # Of two the later one comes.
+        stream.sendall(poll)
+        began = time.monotonic()
+        stream.sendall(ask)
+        comes_late(count, "late: the second of two", stream, began, 0.3, UP)
+        count.judge("late: not the first", silent(stream))
+        # A cut: what would have come is lost.
+        stream.sendall(ask)
+        time.sleep(0.05)
+        with played.met() as second:
+            count.judge("late: nothing behind a cut", silent(second) and silent(second))
+            exchange(count, "late: the next one behind a cut", second, ask, UP)
+            exchange(count, "late: a lost one", second, ask, b"")
+            began = time.monotonic()
+            second.sendall(ask)
+            spoilt = bytearray(UP)
+            spoilt[1] ^= 0xFF
+            comes_late(count, "late: a spoilt one", second, began, 0.1, bytes(spoilt))
+            exchange(count, "late: nobody's", second, ends.fixed(0x49, 3), b"")
+            # Two requests in one piece, of which the first is answered late.
+            began = time.monotonic()
+            second.sendall(ask + ends.fixed(0x40, 1))
+            comes_late(count, "late: the second in a piece", second, began, 0, CONFIRMED)
+            comes_late(count, "late: the first in a piece", second, began, 0.1, UP)
+
+
+def late_to_a_gateway(count, program, folder):
+    """`telegate run` with a time for an answer that is shorter than the delay, and one that is longer. A station alone is asked for
+    its status, reset and polled, so that the third request brings the report."""
+    answer = ends.data(0x08, 1, POINT).hex().upper()
+    for answer_ms, is_repeated in ((150, True), (3000, False)):
+        script = "turns 1\nreport 1 2 %s\ndelay answer 3 600\n" % POINT.hex()
+        with Played(program, folder, f"tcp:127.0.0.1:{ends.free_port()}", script, answer_ms, more="") as played:
+            played.met().close()
+            named = os.path.join(folder, f"{answer_ms}.record")
+            with open(named, "w") as file:
+                run = subprocess.Popen(
+                    [program, "run", "--record", played.config], stdin=subprocess.DEVNULL, stdout=file, stderr=subprocess.PIPE
+                )
+            try:
+                centre = connected(run, played.door)
+                centre.send(ends.START)
+                count.compare(f"answer_ms {answer_ms}: the report", heard(centre, 1)[:1], SENT[:1])
+                time.sleep(1)
+            finally:
+                run.terminate()
+                run.communicate()
+        with open(named) as file:
+            lines = [line.split() for line in file if line.endswith("\n")]
+        requests = [(int(line[0]), line[3]) for line in lines if line[1:3] == [">", "S"]]
+        asked, request = requests[2]
+        count.compare(f"answer_ms {answer_ms}: the third request", request, ends.fixed(0x7B, 1).hex().upper())
+        count.judge(f"answer_ms {answer_ms}: repeated", (requests[3][1] == request) == is_repeated, requests[:5])
+        first = next((int(line[0]) for line in lines if line[1] == "S" and answer in line[2]), 0)
+        least, most = (150, 600) if is_repeated else (600, 2000)
+        count.judge(f"answer_ms {answer_ms}: when", least - LOOK * 1000 <= first - asked < most, f"after {first - asked} ms")
+        events = "".join(" ".join(line) + "\n" for line in lines if line[1] not in (">", "!"))
+        words = [program, "replay", "--words", played.config, "-"]
+        told = subprocess.run(words, input=events.encode(), capture_output=True, timeout=ends.PATIENCE)
+        count.compare(f"answer_ms {answer_ms}: in words", b", repeat" in told.stdout, is_repeated)
 
 
 def with_a_gateway(count, program, folder):
@@ -330,6 +435,16 @@ WRONG = [
     ("turns 1\nat 10\n", 2),
     ("turns 1\nevery\n", 2),
     ("turns 1\nAT 10 report 1 1 AA\n", 2),
+    ("turns 1\ndelay answer 3 9\n", 2),
+    ("turns 1\ndelay answer 3 86400001\n", 2),
+    ("turns 1\ndelay request 3 100\n", 2),
+    ("turns 1\ndelay answer x 100\n", 2),
+    ("turns 1\ndelay answer 1000000000 100\n", 2),
+    ("turns 1\ndelay answer 3 100 5\n", 2),
+    ("turns 1\ndelay answer 3\n", 2),
+    ("turns 1\ndelay answer\n", 2),
+    ("turns 1\ndelay\n", 2),
+    ("turns 1\ndelay answer 3 100\ndelay answer 4 100\ndelay answer 3 200\n", 4),
     ("turns 1\nconfirm 0\n", 2),
     ("turns 1\nconfirm 3\n", 2),
     ("turns 1\nrefuse x\n", 2),
@@ -353,12 +468,13 @@ def wrong_lines(count, program, folder):
             wanted = (b"", b"script: line %d\n" % line, 1)
             count.compare(f"wrong script {number}", (out, err, played.process.returncode), wanted)
     # The edges of the ranges, comments between them, and 1,000 lines are right.
-    right = f"# at 1\nturns 1\nat 10 {REPORT}\nevery 86400000 {REPORT}\nconfirm 2\nrefuse 1\n" + f"at 10 {REPORT}\n" * 996
+    own = f"at 10 {REPORT}\nevery 86400000 {REPORT}\nconfirm 2\nrefuse 1\ndelay answer 0 10\ndelay answer 1 86400000\n"
+    right = f"# at 1\nturns 1\n{own}lose answer 1\nspoil answer 1 1\n" + f"at 10 {REPORT}\n" * 994
     with Played(program, folder, f"tcp:127.0.0.1:{ends.free_port()}", right) as played:
         played.met().close()
         count.judge("1,000 lines", played.process.poll() is None)
         named = os.path.join(folder, "sim.script")
-        for word in (f"at 10 {REPORT}", f"every 10 {REPORT}", "confirm 1", "refuse 1"):
+        for word in (f"at 10 {REPORT}", f"every 10 {REPORT}", "confirm 1", "refuse 1", "delay answer 3 100"):
             with open(named, "w") as file:
                 file.write(f"turns 1\n{word}\n")
             made = subprocess.run([program, "sim", played.config, named], capture_output=True, timeout=ends.PATIENCE)
@@ -366,7 +482,7 @@ def wrong_lines(count, program, folder):
 
 
 def by_example(count, program, folder):
-    """The script that docs/STATIONS.md names."""
+    """The scripts that docs/STATIONS.md names."""
     with open(os.path.join(frame.TOP, "examples/stations/lively.script")) as file:
         script = file.read()
     with Played(program, folder, f"tcp:127.0.0.1:{ends.free_port()}", script) as played, played.met() as stream:
@@ -377,6 +493,17 @@ def by_example(count, program, folder):
         first.ask(3, bytes.fromhex(REPLIES[0][1]))
         time.sleep(0.05)
         count.compare("example: confirmed", first.poll(1).hex().upper(), REPLIES[0][2][0])
+    with open(os.path.join(frame.TOP, "examples/stations/late.script")) as file:
+        script = file.read()
+    with Played(program, folder, f"tcp:127.0.0.1:{ends.free_port()}", script) as played, played.met() as stream:
+        # A reset, and 998 polls.
+        first = Polled(stream, 1)
+        for _ in range(998):
+            first.poll(2)
+        began = time.monotonic()
+        first.poll(2)
+        passed = time.monotonic() - began
+        count.judge("example: the 1,000th answer is late", 0.6 - LOOK <= passed < 2.1, f"after {passed:.3f} s")
 
 
 def taken(count, program, folder):
@@ -389,4 +516,4 @@ def taken(count, program, folder):
 
 
 if __name__ == "__main__":
-    frame.main(at_a_port, at_a_socket, with_a_gateway, in_time, full, replied, wrong_lines, by_example, taken)
+    frame.main(at_a_port, at_a_socket, late, late_to_a_gateway, with_a_gateway, in_time, full, replied, wrong_lines, by_example, taken)

@@ -2,7 +2,7 @@
 _telegate() {
     local word=${COMP_WORDS[COMP_CWORD]} command=${COMP_WORDS[1]}
     if [ "$COMP_CWORD" -eq 1 ]; then
-        COMPREPLY=($(compgen -W "show101 show104 check replay sim audit run status capture stations help --help --version" -- "$word"))
+        COMPREPLY=($(compgen -W "show101 show104 check replay sim audit run status state capture stations help --help --version" -- "$word"))
         return
     fi
     case $command in
@@ -12,12 +12,13 @@ _telegate() {
         show101 | show104) COMPREPLY=($(compgen -W "--words --help" -- "$word")) ;;
         sim) COMPREPLY=($(compgen -W "--words --color --help" -- "$word")) ;;
         audit | capture | stations) COMPREPLY=($(compgen -W "--help" -- "$word")) ;;
+        state) COMPREPLY=($(compgen -W "--help" -- "$word")) ;;
         status) COMPREPLY=($(compgen -W "--json --help" -- "$word")) ;;
-        help) COMPREPLY=($(compgen -W "show101 show104 check replay sim audit run status capture stations" -- "$word")) ;;
+        help) COMPREPLY=($(compgen -W "show101 show104 check replay sim audit run status state capture stations" -- "$word")) ;;
     esac
     case $command,$word in
         *,-*) ;;
-        check,* | replay,* | sim,* | audit,* | run,* | capture,* | stations,*) COMPREPLY=($(compgen -f -- "$word")) ;;
+        check,* | replay,* | sim,* | audit,* | run,* | state,* | capture,* | stations,*) COMPREPLY=($(compgen -f -- "$word")) ;;
     esac
 }
 complete -o filenames -F _telegate telegate

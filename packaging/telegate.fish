@@ -1,5 +1,5 @@
 # Completion of telegate for fish: a file of its completions folder.
-set -l commands show101 show104 check replay sim audit run status capture stations help
+set -l commands show101 show104 check replay sim audit run status state capture stations help
 complete -c telegate -f
 complete -c telegate -n "not __fish_seen_subcommand_from $commands" -l help -s h -d "tells what it does"
 complete -c telegate -n "not __fish_seen_subcommand_from $commands" -l version -s V -d "tells the version"
@@ -11,6 +11,7 @@ complete -c telegate -n "not __fish_seen_subcommand_from $commands" -a sim -d "r
 complete -c telegate -n "not __fish_seen_subcommand_from $commands" -a audit -d "audits a recorded run"
 complete -c telegate -n "not __fish_seen_subcommand_from $commands" -a run -d "runs on a line"
 complete -c telegate -n "not __fish_seen_subcommand_from $commands" -a status -d "asks a live run how it stands"
+complete -c telegate -n "not __fish_seen_subcommand_from $commands" -a state -d "shows what a run would go on with"
 complete -c telegate -n "not __fish_seen_subcommand_from $commands" -a capture -d "writes a record as a capture"
 complete -c telegate -n "not __fish_seen_subcommand_from $commands" -a stations -d "plays outstations"
 complete -c telegate -n "not __fish_seen_subcommand_from $commands" -a help -d "tells what a command does"

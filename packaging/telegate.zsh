@@ -10,6 +10,7 @@ commands=(
     'audit:compares a recorded run with the run over its events'
     'run:runs the gateway between a line and a control centre'
     'status:asks a live run how it stands'
+    'state:shows what a run would go on with'
     'capture:writes a recorded run as a capture that Wireshark reads'
     'stations:plays outstations in real time'
     'help:tells what a command does'
@@ -48,6 +49,7 @@ case $words[2] in
         _arguments '--json[JSON in place of the table]' '--help[tells what the command does]' \
             '2:host and port:'
         ;;
+    state) _arguments '--help[tells what the command does]' '2:directory:_files -/' '3:settings:_files' ;;
     audit | capture) _arguments '--help[tells what the command does]' '2:settings:_files' '3:record:_files' ;;
     stations) _arguments '--help[tells what the command does]' '2:settings:_files' '3:script:_files' ;;
     show101) _arguments '--words[on one line, in words]' '--help[tells what the command does]' '2:sizes:' '3:octets:' ;;

@@ -74,6 +74,8 @@ impl State {
     {
         match self {
             State::Deaf => put_all(&[0], line),
+            // What is whole isn't put: a state is put between two steps, and a step takes what is
+            // whole.
             State::Start | State::Information { .. } | State::Short(_) => put_all(&[1], line),
             State::Length => put_all(&[1, START], line),
             State::Control { len } => put_all(&[1, START, len], line),
@@ -124,6 +126,7 @@ enum Step {
 fn length_step(octet: u8) -> Step
     ensures { Gives (0x68 ∷ octet ∷ []) [] octet State.Length result }
 {
+    // At least four control octets, and at most what the standard allows (IEC 60870-5-104, 5).
     if octet < 4 || octet > 253 {
         return Step::Never(1, Why::Length);
     }
@@ -136,6 +139,8 @@ fn control_step(len: u8, octet: u8) -> Step
     requires short { len ≤ 253 }
     ensures { Gives (0x68 ∷ len ∷ octet ∷ []) [] octet (State.Control len) result }
 {
+    // The format before the length: it says which lengths there are (docs/DECISIONS.md, "APDUs
+    // whose length decides too early").
     match format_of(octet) {
         Format::Unknown => Step::Never(2, Why::Control),
         Format::I => {
@@ -170,6 +175,7 @@ fn stepped(state: State, asdu: &[u8], octet: u8) -> Step
         Gives (octets ++ octet ∷ []) asdu.now octet state result) }
 {
     match state {
+        // Never from these: `feed` answers for a deaf one, and forgets what is whole.
         State::Deaf | State::Information { .. } | State::Short(_) => Step::Goes(State::Deaf),
         State::Start if octet != START => Step::Never(0, Why::Start),
         State::Start => Step::Goes(State::Length),
@@ -179,6 +185,7 @@ fn stepped(state: State, asdu: &[u8], octet: u8) -> Step
             len,
             ns: counter_of(low, octet),
         }),
+        // The bit below N(R) is fixed to 0 (IEC 60870-5-104, 5).
         State::IThird { .. } if octet % 2 == 1 => Step::Never(4, Why::Control),
         State::IThird { len, ns } => Step::Goes(State::IFourth {
             len,
@@ -247,6 +254,8 @@ fn look(looked: &mut u64, octet: &u8) -> u8
     ensures value { result ≡ octet.now }
     ensures counted { looked.new ≡ min (2 ^ 64 - 1) (looked.old + 1) }
 {
+    // At its limit the count stays: one that wrapped would say too little (docs/DECISIONS.md,
+    // "Octets looked at").
     *looked = looked.saturating_add(1);
     *octet
 }
@@ -272,6 +281,7 @@ impl Assembler {
         ensures whole { IsMore octets.now → result.whole ≡ None }
     {
         let mut assembler = Assembler::new();
+        // What was heard shows in the assembler, and the caller asks for it there.
         let _heard = assembler.feed(octets);
         assembler
     }
@@ -359,6 +369,8 @@ impl Assembler {
                     return (i + 1, Heard::Whole);
                 }
                 Step::Never(place, why) => {
+                    // Nothing in a stream says where the next APDU would begin, so the rest of it
+                    // can't be read.
                     self.state = State::Deaf;
                     return (piece.len(), Heard::Never(place, why));
                 }
@@ -371,6 +383,7 @@ impl Assembler {
     fn forget(&mut self)
         ensures { self.new ≡ record self.old { whole = None } }
     {
+        // There is one place for an ASDU, and the next octets want it.
         if let State::Information { .. } | State::Short(_) = self.state {
             self.clear();
         }

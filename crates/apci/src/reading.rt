@@ -19,10 +19,12 @@ fn i_format(len: u8, control: u8, rest: &[u8]) -> FrontRef<'_>
     requires short { len ≤ 253 }
     ensures { IsFront (0x68 ∷ len ∷ control ∷ rest.now) (owned_front result) }
 {
+    // Four control octets, and the shortest ASDU: a header with one object address has nine.
     if len < 13 {
         return FrontRef::Never(1, Why::Short);
     }
     let len = usize::from(len);
+    // Before the end is awaited: a refusal comes as soon as the octets decide it.
     if rest.len() > 1 && rest[1] % 2 == 1 {
         return FrontRef::Never(4, Why::Control);
     }

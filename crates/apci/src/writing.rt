@@ -18,6 +18,8 @@ pub(crate) fn counter_octets(n: u16) -> [u8; 2]
     requires { n < 2 ^ 15 }
     ensures { result ≡ counter n }
 {
+    // Bit 0 of the low octet belongs to the format, so the number begins at bit 1 (IEC
+    // 60870-5-104, 5).
     [(n % 128 * 2) as u8, (n / 128) as u8]
 }
 

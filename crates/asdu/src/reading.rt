@@ -69,6 +69,7 @@ fn check(sizes: Sizes, octets: &[u8]) -> Result<Asdu<'_>, Refused>
         return Err(Refused(2));
     };
     let number = usize::from(head.vsq & 0x7F);
+    // Before the length: with SQ 1 an address without elements would fit it.
     if number == 0 {
         return Err(Refused(3));
     }
@@ -76,6 +77,7 @@ fn check(sizes: Sizes, octets: &[u8]) -> Result<Asdu<'_>, Refused>
     if octets.len() != sizes.header() + body_octets(kind, sizes.ioa, sequence, number) {
         return Err(Refused(4));
     }
+    // Addresses past their size would begin again at 0, where other objects are.
     if sequence && head.ioa + u32::from(head.vsq & 0x7F) > sizes.ioa.limit() {
         return Err(Refused(5));
     }

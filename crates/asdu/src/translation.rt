@@ -126,8 +126,10 @@ fn most_objects(kind: TypeId, sequence: bool) -> usize
 {
     let content = content_octets(kind);
     if sequence {
+        // 249 octets less a header with one address. The number of objects has seven bits.
         (240 / content).min(127)
     } else {
+        // 249 octets less a header. Each object has an address of three.
         243 / (3 + content)
     }
 }

@@ -115,6 +115,7 @@ impl<'a> Asdu<'a> {
         ensures { IsHeadOf self.now.sizes self.now.octets.now result }
     {
         let Some(head) = head(self.sizes, self.octets) else {
+            // What was read has a header.
             unreachable!();
         };
         head

@@ -16,7 +16,7 @@ use Rattle.std.specs.Option.{is_some, option_copied}
 use Rattle.std.specs.List.{count_by, join_with_byte, onto_first}
 use Rattle.gateway.specs.Entries.{number_of}
 use Rattle.gateway.specs.Log.{Log, LogEntry, LineIn, Opened, TcpIn, CutOff, Ticked, WallIs, LineOut}
-use Rattle.gateway.specs.Log.{TcpOut, Closed, GapOut, Came, Went}
+use Rattle.gateway.specs.Log.{Restarted, TcpOut, Closed, GapOut, Came, Went}
 use Rattle.traces.specs.Fields.{parts_after}
 use Rattle.traces.specs.Printed.{line_of_entry, lines_of_log}
 use Rattle.traces.specs.Trace.{lines_of}
@@ -177,6 +177,7 @@ entry_whole (Came now (TcpIn octets)) =
 entry_whole (Came now CutOff) = ended_whole (decimal now ++ codes " C")
 entry_whole (Came now Ticked) = ended_whole (decimal now ++ codes " T")
 entry_whole (Came now (WallIs number)) = ended_whole (decimal now ++ codes " W " ++ decimal number)
+entry_whole (Came now Restarted) = none_whole
 entry_whole (Went now (LineOut octets)) =
     ended_whole (decimal now ++ codes " > S " ++ encode_upper octets)
 entry_whole (Went now (TcpOut octets)) =

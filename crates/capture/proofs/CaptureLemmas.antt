@@ -10,7 +10,7 @@ use Rattle.ft12.specs.declared.frame.Front.{Front}
 use Rattle.ft12.specs.declared.frame.Front.TheVariants.{Whole, More, Never}
 use Rattle.ft12.specs.declared.frame.LinkSize.{LinkSize}
 use Rattle.gateway.specs.Log.{LogEntry, Came, Went, LineIn, Opened, TcpIn, CutOff, Ticked, WallIs}
-use Rattle.gateway.specs.Log.{LineOut, TcpOut, Closed, GapOut}
+use Rattle.gateway.specs.Log.{Restarted, LineOut, TcpOut, Closed, GapOut}
 use Rattle.session.specs.declared.kinds.Close.TheVariants.{Grammar, SendNumber, ReceiveNumber}
 use Rattle.session.specs.declared.kinds.Close.TheVariants.{Stopped, Timeout, OwnAnswers, Replaced}
 use Rattle.capture.specs.Blocks.{file_header}
@@ -37,6 +37,7 @@ deeds_octets true (Came now (TcpIn octets)) = refl
 deeds_octets true (Came now CutOff) = refl
 deeds_octets true (Came now Ticked) = refl
 deeds_octets true (Came now (WallIs number)) = refl
+deeds_octets true (Came now Restarted) = refl
 deeds_octets true (Went now (LineOut octets)) = refl
 deeds_octets true (Went now (TcpOut octets)) = append-nil octets
 deeds_octets true (Went now (Closed Grammar)) = refl
@@ -53,6 +54,7 @@ deeds_octets false (Came now (TcpIn octets)) = append-nil octets
 deeds_octets false (Came now CutOff) = refl
 deeds_octets false (Came now Ticked) = refl
 deeds_octets false (Came now (WallIs number)) = refl
+deeds_octets false (Came now Restarted) = refl
 deeds_octets false (Went now (LineOut octets)) = refl
 deeds_octets false (Went now (TcpOut octets)) = refl
 deeds_octets false (Went now (Closed Grammar)) = refl
@@ -154,6 +156,7 @@ entry_heard line (Came now (TcpIn octets)) = sym (append-nil line.pending)
 entry_heard line (Came now CutOff) = sym (append-nil line.pending)
 entry_heard line (Came now Ticked) = sym (append-nil line.pending)
 entry_heard line (Came now (WallIs number)) = sym (append-nil line.pending)
+entry_heard line (Came now Restarted) = sym (append-nil line.pending)
 entry_heard line (Went now (LineOut octets)) =
     ap (λ (xs : List ℕ). xs ++ []) (asked_joined line octets)
 entry_heard line (Went now (TcpOut octets)) = sym (append-nil line.pending)
@@ -195,6 +198,7 @@ entry_asked line (Came now (TcpIn octets)) = refl
 entry_asked line (Came now CutOff) = refl
 entry_asked line (Came now Ticked) = refl
 entry_asked line (Came now (WallIs number)) = refl
+entry_asked line (Came now Restarted) = refl
 entry_asked line (Went now (LineOut octets)) =
     flat_map-append (serial_data true) (no_frame unfinished line.pending)
     (request_of line octets ∷ [])

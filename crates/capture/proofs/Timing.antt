@@ -3,7 +3,7 @@ use Rattle.std.proofs.Common.{◌≡◌, ℕ, ◌+◌, ◌-◌, ◌*◌, ◌^◌
 use Rattle.std.proofs.Common.{ap, ◌∙◌, arith}
 use Rattle.std.specs.Prelude.{unwrap_or}
 use Rattle.gateway.specs.Log.{Log, LogEntry, Came, Went, LineIn, Opened, TcpIn, CutOff, Ticked}
-use Rattle.gateway.specs.Log.{WallIs, last_moment, latest}
+use Rattle.gateway.specs.Log.{WallIs, Restarted, last_moment, latest}
 use Rattle.gateway.specs.Walls.{wall_on}
 use Rattle.capture.specs.Captures.{Captured, Packets, after, packets_in}
 use Rattle.capture.specs.Clocks.{clock_after, micros_of, time_of, times_of}
@@ -28,6 +28,8 @@ latest_is (Came now Ticked ∷ log) =
     ap (λ (l : ℕ). max l (min now last_moment)) (latest_is log)
 latest_is (Came now (WallIs number) ∷ log) =
     ap (λ (l : ℕ). max l (min now last_moment)) (latest_is log)
+latest_is (Came now Restarted ∷ log) =
+    ap (λ (l : ℕ). max l (min now last_moment)) (latest_is log)
 latest_is (Went now action ∷ log) = latest_is log
 
 latest_bounded : (log : Log) → latest log ≤ 999999999999999
@@ -47,6 +49,7 @@ wall_is (Came now CutOff ∷ log) at h = wall_is log at h
 wall_is (Came now Ticked ∷ log) at h = wall_is log at h
 wall_is (Came now (WallIs number) ∷ log) at h =
     ap (λ (l : ℕ). min (number + (at - max l (min now last_moment))) (2 ^ 64 - 1)) (latest_is log)
+wall_is (Came now Restarted ∷ log) at h = wall_is log at h
 wall_is (Went now action ∷ log) at h = wall_is log at h
 
 time_is : (log : Log) → micros_of (clock_of log) ≡ time_of log

@@ -561,7 +561,8 @@ captured_as size has more old new r wider = by r
 
 -- what a fault says where no more of a record is had
 pub read_fault : (size : LinkSize) (known old new : Option (List ℕ)) (fault : CaptureFault)
-    → IsReadFault fault → IsPartly size (Gives known) old new → IsCaptureFault size (Gives known) old new fault
+    → IsReadFault fault → IsPartly size (Gives known) old new
+    → IsCaptureFault size (Gives known) old new fault
 read_fault size known old new (Line n) is h = absurd is
 read_fault size known old new Unread is h = h
 read_fault size known old new Unwritten is h = absurd is

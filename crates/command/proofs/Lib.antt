@@ -28,3 +28,4 @@ pub mod Wholes
 pub mod Heard
 pub mod Glances
 pub mod Outlived
+pub mod Faultless

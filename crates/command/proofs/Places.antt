@@ -23,6 +23,7 @@ use Rattle.command.specs.Rules.{not_selected, no_place, rules_for}
 use Rattle.command.specs.Standard.{first_cause, own_rules, cause_of_fault, executes, selects}
 use Rattle.command.specs.Standard.{must_be_selected, is_for_station}
 use Rattle.command.specs.History.{Judged, History, forwarded_in_all, sent_in_all}
+use Rattle.command.specs.Passing.{FindsPlaces}
 use Rattle.command.specs.Calls.{Call, Judge, PutOnLine, Accept, Busy, Lose, Mirror, Own, SendOwn}
 use Rattle.command.specs.Calls.{Cut, Due, Run, after_call, run, after_sending, after_answer}
 use Rattle.command.proofs.Kept.{copies_count}
@@ -254,27 +255,22 @@ run_counts stations sizes ms age (call ∷ earlier) =
     (run_holds sizes stations ms age earlier).same_stations
     (run_counts stations sizes ms age earlier) call
 
--- ---- a command that has a place passes
+-- ---- a command that has a place
 
-or_off : (a b : Bool) → a ≡ false → b ≡ false → (a || b) ≡ false
+pub or_off : (a b : Bool) → a ≡ false → b ≡ false → (a || b) ≡ false
 or_off a b e f = rw (e, f) refl
 
-and_off : (a b c : Bool) → (a && b) ≡ false → (a && b && c) ≡ false
+pub and_off : (a b c : Bool) → (a && b) ≡ false → (a && b && c) ≡ false
 and_off a b c e = rw e refl
-
-first_off : (a b : Bool) → a ≡ false → (a && b) ≡ false
-first_off a b e = rw e refl
 
 module _ (stations : List StationInfo) (sizes : Sizes) (ms age : ℕ) (calls : List Call)
     (xs : List ℕ) where
   abbrev after : State
   after = (run stations sizes ms age calls).state
 
-  pub has_room : forwarded_in_all stations (run stations sizes ms age calls).history
-      + count_by (is_for_station xs) stations
-      ≤ sent_in_all (run stations sizes ms age calls).history + 64
-      → (must_be_selected stations xs && selects xs) ≡ false → (no_place xs after).applies ≡ false
-  has_room room unselected =
+  pub has_waiting_room : FindsPlaces stations xs (run stations sizes ms age calls).history
+      → nat_lt 64 (length after.waiting + count_by (is_for_station xs) after.stations) ≡ false
+  has_waiting_room room =
       let counts = run_counts stations sizes ms age calls in
       let same : after.stations ≡ stations =
       (run_holds sizes stations ms age calls).same_stations in
@@ -282,39 +278,18 @@ module _ (stations : List StationInfo) (sizes : Sizes) (ms age : ℕ) (calls : L
       omega (arith, room, counts.waiting) in
       let few : nat_lt 64 (length after.waiting + count_by (is_for_station xs) stations) ≡ false =
       grind (arith, fits) in
+      ap (λ (sts : List StationInfo). nat_lt 64 (length after.waiting
+      + count_by (is_for_station xs) sts)) same
+      ∙ few
+
+  pub has_room : FindsPlaces stations xs (run stations sizes ms age calls).history
+      → (must_be_selected stations xs && selects xs) ≡ false → (no_place xs after).applies ≡ false
+  has_room room unselected =
       or_off (nat_lt 64 (length after.waiting + count_by (is_for_station xs) after.stations))
       (must_be_selected after.stations xs && selects xs
       && nat_le 16 (length (judging.others (command_at xs) after)))
-      (ap (λ (sts : List StationInfo). nat_lt 64 (length after.waiting
-      + count_by (is_for_station xs) sts)) same
-      ∙ few)
+      (has_waiting_room room)
       (and_off (must_be_selected after.stations xs) (selects xs)
       (nat_le 16 (length (judging.others (command_at xs) after)))
-      (ap (λ (sts : List StationInfo). must_be_selected sts xs && selects xs) same ∙ unselected))
-
-  pub passes : (now : ℕ) (wall : Option ℕ) → cause_of_fault sizes stations age wall xs ≡ None
-      → must_be_selected stations xs ≡ false
-      → forwarded_in_all stations (run stations sizes ms age calls).history
-      + count_by (is_for_station xs) stations
-      ≤ sent_in_all (run stations sizes ms age calls).history + 64
-      → (judging.judged xs now wall after).0 ≡ None
-  passes now wall faultless free room =
-      let same : after.stations ≡ stations =
-      (run_holds sizes stations ms age calls).same_stations in
-      let no_fault : first_cause (own_rules after.sizes after.stations after.max_age_ms wall xs)
-      ≡ None =
-      owned (λ sizes stations ms age. cause_of_fault sizes stations age wall xs ≡ None)
-      (run stations sizes ms age calls) (run_holds sizes stations ms age calls) faultless in
-      let placed : (no_place xs after).applies ≡ false =
-      has_room room (first_off (must_be_selected stations xs) (selects xs) free) in
-      let unguarded : must_be_selected after.stations xs ≡ false =
-      ap (λ (sts : List StationInfo). must_be_selected sts xs) same ∙ free in
-      let chosen : (not_selected xs now after).applies ≡ false =
-      and_off (must_be_selected after.stations xs) (executes xs)
-      (not (list_any (lets_through after.select_ms (command_at xs) now) after.selections))
-      (first_off (must_be_selected after.stations xs) (executes xs) unguarded) in
-      let none : first_cause (rules_for xs now wall after) ≡ None =
-      more_rules (own_rules after.sizes after.stations after.max_age_ms wall xs)
-      (not_selected xs now after ∷ no_place xs after ∷ []) ∙ rw (no_fault, chosen, placed) refl in
-      first_rule xs now wall after ∙ ap (λ (o : Option ℕ). option_map (λ cause. answer cause xs) o)
-      none
+      (ap (λ (sts : List StationInfo). must_be_selected sts xs && selects xs)
+      (run_holds sizes stations ms age calls).same_stations ∙ unselected))

@@ -44,7 +44,7 @@ both P Q R f (x ∷ xs) p q = (f x p.0 q.0, both P Q R f xs p.1 q.1)
 abbrev target : ℕ → ℕ → ℕ → Target
 target kind ca address = record { kind = kind; ca = ca; address = address }
 
-one_target : (xs : List ℕ) (y : Selection) → is_of xs y ≡ true → target_of y.command
+pub one_target : (xs : List ℕ) (y : Selection) → is_of xs y ≡ true → target_of y.command
     ≡ target_of (command_at xs)
 one_target xs y h =
     let p : _ =

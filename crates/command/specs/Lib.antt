@@ -19,3 +19,4 @@ pub mod Saved
 pub mod Restored
 pub mod Refusals
 pub mod Carried
+pub mod Passing

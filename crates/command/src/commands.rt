@@ -350,6 +350,8 @@ impl Commands {
             ≡ placed octets.now command now self.old }
         ensures known { IfSome result (λ cause. cause < 64) }
     {
+        // Behind the end of the selection, which an execute without a place has used up too
+        // (docs/DECISIONS.md, "No place left").
         if self.lacks_place(command) {
             return Some(negative_cause(octets));
         }
@@ -479,6 +481,7 @@ impl Commands {
     {
         // An interrogation is answered without the tag of a command.
         if is_process_command(line_kind(octets[0])) {
+            // The oldest gives way: its answer then goes out without a tag.
             let _oldest = self.sendings.push_back(Sending::of(octets));
         }
     }

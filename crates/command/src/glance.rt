@@ -46,6 +46,7 @@ impl Selection {
         ensures { result ≡ settled self }
     {
         let stage = match self.stage {
+            // The line goes on within the step, and no judgement looks at this number.
             Stage::Queued(_) => Stage::Queued(0),
             stage => stage,
         };

@@ -31,6 +31,8 @@ pub(crate) fn negative_cause(octets: &[u8]) -> u8
 pub(crate) fn is_other_cause(octet: u8) -> bool
     ensures { result ≡ (not (octet % 64 == 6) && not (octet % 64 == 8)) }
 {
+    // Bits 5 to 0 alone: test and P/N change nothing of what is asked (docs/DECISIONS.md, "A cause
+    // octet with P/N set").
     octet & 0x3F != 6 && octet & 0x3F != 8
 }
 
@@ -74,6 +76,8 @@ pub(crate) fn form_fault(octets: &[u8], max_age_ms: u64, wall: Option<u64>) -> O
     if !read_command(octets).is_permitted() {
         return Some(negative_cause(octets));
     }
+    // Before the selection is sought, so a refusal for the tag leaves it (docs/DECISIONS.md, "A
+    // tag is judged before the selection").
     if is_stale(max_age_ms, wall, octets) {
         return Some(negative_cause(octets));
     }

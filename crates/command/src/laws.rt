@@ -4,8 +4,9 @@
 //! stations and what they answered, and the own answers. Each law says what the calls do by what
 //! the rules make of that history.
 
-ghost use Rattle.std.specs.Prelude.{◌≡◌, ◌≤◌, ◌<◌, ◌==◌, ◌+◌, ◌&&◌, ◌++◌, ℕ, List, [], length};
-ghost use Rattle.std.specs.Prelude.{count_by, slice_get, slice_index, Option, Some, None, false};
+ghost use Rattle.std.specs.Prelude.{◌≡◌, ◌≤◌, ◌<◌, ◌==◌, ◌+◌, ◌&&◌, ◌||◌, ◌++◌, ℕ, List, []};
+ghost use Rattle.std.specs.Prelude.{length};
+ghost use Rattle.std.specs.Prelude.{slice_get, slice_index, Option, Some, None, false};
 ghost use Rattle.std.specs.Prelude.{true, option_map};
 ghost use Rattle.std.specs.List.{AllByRecursion};
 ghost use Rattle.asdu.specs.Asdu.{AsduValue};
@@ -18,13 +19,14 @@ ghost use Rattle.command.specs.Mirrors.{mirrored, tag_for};
 ghost use Rattle.asdu.specs.declared.sizes.Sizes.{Sizes};
 ghost use Rattle.command.specs.declared.station.StationInfo.{StationInfo};
 ghost use Rattle.command.specs.Standard.{first_cause, cause_of_fault, executes, selects};
-ghost use Rattle.command.specs.Standard.{must_be_selected, is_for_station, is_deactivating};
+ghost use Rattle.command.specs.Standard.{must_be_selected, is_deactivating};
 ghost use Rattle.command.specs.Standard.{IsRefusal};
 ghost use Rattle.command.specs.Rules.{rules_for, not_selected, no_place};
 ghost use Rattle.command.specs.History.{ForwardsCommands, next_octets, SendsFreshCommands};
 ghost use Rattle.command.specs.History.{mirror_tag, ExecutesAreSelected, IsSelected};
 ghost use Rattle.command.specs.History.{GivesOwnAnswers, own_kept, own_sent, KeepsOwnAnswers};
 ghost use Rattle.command.specs.History.{AnswersWholly, IsGuarded, forwarded_in_all, sent_in_all};
+ghost use Rattle.command.specs.Passing.{FindsPlaces, of_others};
 ghost use Rattle.command.specs.Selections.{AreDistinct, IsStanding, IsInTime};
 ghost use Rattle.command.specs.Examples.{OctetExamples, IsRight, WaitsSo, rule_examples};
 ghost use Rattle.command.specs.Examples.{selection_examples, line_examples, tag_examples, BearsIt};
@@ -65,23 +67,39 @@ pub fn sent_activations_are_fresh()
 
 /// Places come back: the commands that wait are those that were forwarded on the open connection
 /// less those that went out, over all stations, and at most 64. So a command finds its places where
-/// no more than 64 wait with it, and where nothing is wrong with it and it needs no selection, it
-/// is forwarded then.
+/// no more than 64 wait with it.
 pub fn places_come_back()
     ensures waiting { AfterEachRun (λ stations sizes select_ms max_age_ms s h.
         length s.waiting + sent_in_all h ≡ forwarded_in_all stations h) }
     ensures few { AfterEachRun (λ stations sizes select_ms max_age_ms s h.
         length s.waiting ≤ 64) }
     ensures room { AfterEachRun (λ stations sizes select_ms max_age_ms s h. (xs : List ℕ) →
-        forwarded_in_all stations h + count_by (is_for_station xs) stations ≤ sent_in_all h + 64
+        FindsPlaces stations xs h
         → (must_be_selected stations xs && selects xs) ≡ false
         → (no_place xs s).applies ≡ false) }
-    ensures forwarded { AfterEachRun (λ stations sizes select_ms max_age_ms s h. (xs : List ℕ)
+{}
+
+/// A command with which nothing is wrong, and which finds its places, is forwarded, whatever its
+/// station and its addresses. Two things alone can keep it back, and only at a station that asks
+/// for selects: an execute that isn't selected is refused, and so is a select where 16 selections
+/// of other targets are kept. So a deactivation needs no selection, and neither does an
+/// interrogation.
+pub fn faultless_commands_pass()
+    ensures others { AfterEachRun (λ stations sizes select_ms max_age_ms s h. (xs : List ℕ)
         (now : ℕ) (wall : Option ℕ) →
         cause_of_fault sizes stations max_age_ms wall xs ≡ None
-        → must_be_selected stations xs ≡ false
-        → forwarded_in_all stations h + count_by (is_for_station xs) stations ≤ sent_in_all h + 64
-        → (judged xs now wall s).0 ≡ None) }
+        → (must_be_selected stations xs && (selects xs || executes xs)) ≡ false
+        → FindsPlaces stations xs h → (judged xs now wall s).0 ≡ None) }
+    ensures selects { AfterEachRun (λ stations sizes select_ms max_age_ms s h. (xs : List ℕ)
+        (now : ℕ) (wall : Option ℕ) →
+        cause_of_fault sizes stations max_age_ms wall xs ≡ None → selects xs ≡ true
+        → of_others xs s.selections < 16
+        → FindsPlaces stations xs h → (judged xs now wall s).0 ≡ None) }
+    ensures executes { AtEachMoment (λ stations sizes select_ms max_age_ms now s h.
+        (xs : List ℕ) (wall : Option ℕ) →
+        cause_of_fault sizes stations max_age_ms wall xs ≡ None → executes xs ≡ true
+        → IsSelected sizes stations select_ms max_age_ms xs now h
+        → FindsPlaces stations xs h → (judged xs now wall s).0 ≡ None) }
 {}
 
 /// The tag with which a station's answer to a command is passed on is that of the newest first

@@ -58,7 +58,7 @@ pub use commands::{Commands, NoMemory};
 pub use glance::Glance;
 pub use laws::{
     commands_are_forwarded, commands_keep_the_rules, executes_are_selected,
-    judgement_is_the_first_rule_that_applies, mirrors_bear_the_newest_tag,
+    faultless_commands_pass, judgement_is_the_first_rule_that_applies, mirrors_bear_the_newest_tag,
     nothing_of_a_connection_outlives_new_settings, own_answers_are_given,
     own_answers_bear_no_objects, places_come_back, selected_executes_pass,
     selections_are_selects_that_stand, sent_activations_are_fresh, settings_stay,

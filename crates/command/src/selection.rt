@@ -111,6 +111,7 @@ impl Selection {
         ensures { result ≡ loss self.stage self }
     {
         match self.stage {
+            // Only this one is on the line. What the station accepted before isn't touched.
             Stage::Sent => None,
             Stage::Queued(_) | Stage::Accepted | Stage::Live(_) => Some(self),
         }
@@ -205,6 +206,8 @@ impl Selection {
     ) -> Option<Selection>
         ensures { result ≡ next_of select_ms (ConSign target element now) self }
     {
+        // A con before the acceptance answers an older select, and one past `select_ms` is too
+        // late (docs/DECISIONS.md, "An answer to an older select").
         if self.is_named(target, element)
             && self.is_accepted()
             && now.saturating_sub(self.came) < select_ms

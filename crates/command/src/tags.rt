@@ -95,6 +95,8 @@ fn is_tagged_activation(octets: &[u8]) -> bool
     requires { 9 ≤ length octets.now }
     ensures { result ≡ (has_tag (slice_index octets.now 0) && slice_index octets.now 2 % 64 == 6) }
 {
+    // To call a command off is safe at any age (docs/DECISIONS.md, "A deactivation's tag isn't
+    // judged").
     is_tagged(octets[0]) && octets[2] & 0x3F == 6
 }
 
@@ -117,6 +119,8 @@ pub(crate) fn newest_tag(sendings: &HeapCircularBuffer<Sending>, target: Target)
         let Some(sending) = sendings.get(place) else {
             unreachable!();
         };
+        // The newest decides, even if it has no tag (docs/DECISIONS.md, "The newest transmission
+        // gives the tag").
         if same_target(sending.target, target) {
             return sending.tag;
         }

@@ -14,6 +14,7 @@ use Rattle.apci.specs.Spelling.{IsApdu, Fits, spelling}
 use Rattle.apci.specs.Reading.{IsFront, IsMore}
 use Rattle.session.specs.declared.kinds.Close.TheVariants.{Grammar, SendNumber, ReceiveNumber}
 use Rattle.session.specs.declared.kinds.Close.TheVariants.{Stopped, Timeout, OwnAnswers, Replaced}
+use Rattle.gateway.specs.Log.{Restarted}
 use Rattle.gateway.specs.Log.{Log, LogEntry, Came, Went, Opened, LineIn, TcpIn, CutOff, Ticked}
 use Rattle.gateway.specs.Log.{WallIs, LineOut, TcpOut, Closed, GapOut, latest}
 use Rattle.gateway.specs.Streams.{spelled}
@@ -83,6 +84,7 @@ logs_as_octets (Came now (TcpIn octets) ∷ log) = go (present log).is_open refl
 logs_as_octets (Came now (LineIn octets) ∷ log) = logs_as_octets log
 logs_as_octets (Came now Ticked ∷ log) = logs_as_octets log
 logs_as_octets (Came now (WallIs number) ∷ log) = logs_as_octets log
+logs_as_octets (Came now Restarted ∷ log) = logs_as_octets log
 logs_as_octets (Went now (LineOut octets) ∷ log) = logs_as_octets log
 logs_as_octets (Went now (GapOut station session) ∷ log) = logs_as_octets log
 logs_as_octets (Went now (TcpOut octets) ∷ log) = logs_as_octets log
@@ -137,6 +139,7 @@ came_now (Came now (TcpIn octets) ∷ log) n low high = go (present log).is_open
 came_now (Came now (LineIn octets) ∷ log) n low high = absurd (omega (arith, low, high))
 came_now (Came now Ticked ∷ log) n low high = absurd (omega (arith, low, high))
 came_now (Came now (WallIs number) ∷ log) n low high = absurd (omega (arith, low, high))
+came_now (Came now Restarted ∷ log) n low high = absurd (omega (arith, low, high))
 came_now (Went now (LineOut octets) ∷ log) n low high = came_now log n low high
 came_now (Went now (GapOut station session) ∷ log) n low high = came_now log n low high
 came_now (Went now (TcpOut octets) ∷ log) n low high = came_now log n low high
@@ -216,6 +219,9 @@ shown (Came now (LineIn octets) ∷ log) at clock h = further (Came now (LineIn 
     (λ (l : Log) (t : TellsNoWall l). t) (shown log at clock h)
 shown (Came now Ticked ∷ log) at clock h =
     further (Came now Ticked) log at clock (λ (l : Log) (t : TellsNoWall l). t)
+    (shown log at clock h)
+shown (Came now Restarted ∷ log) at clock h =
+    further (Came now Restarted) log at clock (λ (l : Log) (t : TellsNoWall l). t)
     (shown log at clock h)
 shown (Went now action ∷ log) at clock h =
     further (Went now action) log at clock (λ (l : Log) (t : TellsNoWall l). t)

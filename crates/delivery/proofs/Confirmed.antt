@@ -1,5 +1,5 @@
 -- The commands confirmed are those that the primary learnt to be accepted.
-use Rattle.std.specs.Prelude.{◌==◌}
+use Rattle.std.specs.Prelude.{◌==◌, ◌||◌}
 use Rattle.std.proofs.Common.{◌≡◌, ℕ, List, [], ◌∷◌, ◌++◌, map, Bool, true, false, if◌then◌else◌}
 use Rattle.std.proofs.Common.{Option, Some, None, refl, ap, sym, ◌∙◌}
 use Rattle.std.proofs.lemmas.List.{append-nil}
@@ -71,7 +71,7 @@ confirmed_learnt s a missed pending (x ∷ xs) =
     let begun : List LineStep =
     map (λ (asdu : List ℕ). Begun asdu) (first_sending pending x.request) in
     let said : List LineStep = said_of x.request (answer_to a x) in
-    let down : Bool = goes_down s missed x.request x.closed (answer_to a x) in
+    let down : Bool = x.given_up || goes_down s missed x.request x.closed (answer_to a x) in
     let lost : List LineStep = if down then Lost ∷ [] else [] in
     confirmed-append (steps_at s a missed pending x) (steps_in s a more later xs)
     ∙ ap (λ (l : List (List ℕ)). l ++ confirmed_by (steps_in s a more later xs))

@@ -17,7 +17,7 @@ use Rattle.link.specs.Outstation.{Turn, Accepted as Done}
 use Rattle.link.specs.Delivery.{Session}
 use Rattle.command.specs.History.{History, Told, Judged, Sent, Accepted, Refused, GivenUp, Ended}
 use Rattle.gateway.specs.Log.{Log, Came, Went, Opened, CutOff, TcpIn, LineIn, LineOut, Ticked}
-use Rattle.gateway.specs.Log.{WallIs}
+use Rattle.gateway.specs.Log.{WallIs, Restarted}
 use Rattle.gateway.specs.Frames.{Connection, new_connection}
 use Rattle.gateway.specs.Reports.{Setup, AreFound, exchanges_with}
 use Rattle.delivery.specs.Merges.{IsSublist}
@@ -223,6 +223,22 @@ held_back : steps (Came 320 Ticked ∷ Went 220 (LineOut command) ∷ Came 220 T
 unfolding front_of
 held_back = refl
 
+-- A restart gives up a command without an answer, and what comes behind it says nothing more.
+given_up : steps (Came 25 Restarted ∷ put) ≡ Begun to_line ∷ Lost ∷ []
+unfolding front_of
+given_up = refl
+
+answered_behind : steps (Came 30 (LineIn (0xE5 ∷ [])) ∷ Came 25 Restarted ∷ put)
+    ≡ Begun to_line ∷ Lost ∷ []
+unfolding front_of
+answered_behind = refl
+
+-- and one that was answered before is none
+answered_before : steps (Came 35 Restarted ∷ Came 30 (LineIn (0xE5 ∷ [])) ∷ put)
+    ≡ Begun to_line ∷ Confirmed to_line ∷ []
+unfolding front_of
+answered_before = refl
+
 -- Sessions: the status alone is before the first one
 
 abbrev turns : List Turn
@@ -231,7 +247,8 @@ turns = record { answer = Some (Fixed 0x0B 1); done = [] }
     ∷ record { answer = Some Single; done = Done to_line ∷ [] } ∷ []
 
 before_is : (before_sessions example (Came 30 (LineIn (0xE5 ∷ [])) ∷ put) 0 turns).exchanges
-    ≡ record { request = Status; front = Some (Fixed 0x0B 1); closed = false } ∷ []
+    ≡ record { request = Status; front = Some (Fixed 0x0B 1); closed = false; given_up = false }
+    ∷ []
 unfolding front_of
 before_is = refl
 

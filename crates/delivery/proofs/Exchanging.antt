@@ -1,6 +1,7 @@
 -- What an event or a request makes of the steps of commands, as the exchanges show them and as the
 -- course tells them.
-use Rattle.std.specs.Prelude.{◌==◌, ◌&&◌, not, suc, nat_lt}
+use Rattle.std.specs.Prelude.{◌==◌, ◌&&◌, ◌||◌, not, suc, nat_lt, option_and_then}
+use Rattle.link.specs.Answers.{answer_of}
 use Rattle.std.proofs.Common.{◌≡◌, ℕ, Bool, true, false, List, [], ◌∷◌, ◌++◌, map, Option, Some}
 use Rattle.std.proofs.Common.{None, refl, ap, sym, ◌∙◌, append_assoc, eq-eqb, if◌then◌else◌}
 use Rattle.std.proofs.lemmas.List.{append-nil}
@@ -82,35 +83,54 @@ stays_told s a xs k h new same t = record {
   sent = ap (λ (l : LineTold). l.sent) same ∙ t.sent;
 }
 
-abbrev lost_if : Bool → List LineStep
+abbrev pub lost_if : Bool → List LineStep
 lost_if b = if b then Lost ∷ [] else []
 
 -- another exchange with the same answer in place of the last one
 pub alike_told : (s : LinkSettings) (a k : ℕ) (xs : List Exchange) (request : Asked)
     (front later : Option Frame)
-    (closed over : Bool) (h new : History) →
-    answer_to a (record { request = request; front = front; closed = closed })
-    ≡ answer_to a (record { request = request; front = later; closed = over }) →
-    goes_down s (missed_after a 0 xs) request closed (answer_to a
-    (record { request = request; front = later; closed = over }))
+    (closed over given : Bool) (h new : History) →
+    option_and_then (answer_of a request) front ≡ option_and_then (answer_of a request) later →
+    goes_down s (missed_after a 0 xs) request closed (option_and_then (answer_of a request) later)
     ≡ goes_down s (missed_after a 0 xs) request over
-    (answer_to a (record { request = request; front = later; closed = over })) →
+    (option_and_then (answer_of a request) later) →
     line_told k new ≡ line_told k h →
-    IsTold s a (xs ++ record { request = request; front = front; closed = closed } ∷ []) k h
-    → IsTold s a (xs ++ record { request = request; front = later; closed = over } ∷ []) k new
-alike_told s a k xs request front later closed over h new alike down same t =
+    IsTold s a (xs ++ record {
+      request = request;
+      front = front;
+      closed = closed;
+      given_up = given;
+    } ∷ []) k h
+    → IsTold s a (xs ++ record {
+      request = request;
+      front = later;
+      closed = over;
+      given_up = given;
+    } ∷ []) k new
+alike_told s a k xs request front later closed over given h new alike down same t =
     let pending : Option Service = pending_after a None xs in
-    let x : Exchange = record { request = request; front = front; closed = closed } in
-    let y : Exchange = record { request = request; front = later; closed = over } in
+    let x : Exchange = record {
+      request = request;
+      front = front;
+      closed = closed;
+      given_up = given;
+    } in
+    let y : Exchange = record {
+      request = request;
+      front = later;
+      closed = over;
+      given_up = given;
+    } in
     record {
       steps = ap (λ (l : LineTold). l.steps) same ∙ t.steps ∙ steps_more s a 0 None xs x
           ∙ ap (λ (o : Option Answer). steps_in s a 0 None xs
           ++ (map (λ (asdu : List ℕ). Begun asdu) (first_sending pending request)
-          ++ (said_of request o ++ lost_if (goes_down s (missed_after a 0 xs) request closed o))))
+          ++ (said_of request o
+          ++ lost_if (given || goes_down s (missed_after a 0 xs) request closed o))))
           alike
           ∙ ap (λ (b : Bool). steps_in s a 0 None xs ++
           (map (λ (asdu : List ℕ). Begun asdu) (first_sending pending request)
-          ++ (said_of request (answer_to a y) ++ lost_if b))) down
+          ++ (said_of request (answer_to a y) ++ lost_if (given || b)))) down
           ∙ sym (steps_more s a 0 None xs y);
       last = λ asdu e. ap (λ (l : LineTold). l.last) same
           ∙ t.last asdu (pending_more a None xs x
@@ -153,10 +173,10 @@ module _ (s : LinkSettings) (a k : ℕ) (xs : List Exchange) (request : Asked)
     (front later : Option Frame)
     (over : Bool) where
   abbrev before_it : Exchange
-  before_it = record { request = request; front = front; closed = false }
+  before_it = record { request = request; front = front; closed = false; given_up = false }
 
   abbrev after_it : Exchange
-  after_it = record { request = request; front = later; closed = over }
+  after_it = record { request = request; front = later; closed = over; given_up = false }
 
   -- the steps grow by what the answer says, or its want
   grown : (m : Option Answer) → answer_to a before_it ≡ None → answer_to a after_it ≡ m →
@@ -255,18 +275,27 @@ module _ (s : LinkSettings) (a k : ℕ) (xs : List Exchange) (request : Asked)
     sent = ap (λ (l : LineTold). l.sent) same ∙ t.sent ∙ sym same_sendings;
   }
 
-here_is : (k : ℕ) → (k == k) ≡ true
+pub here_is : (k : ℕ) → (k == k) ≡ true
 here_is k = eq-eqb k k refl
 
 pub heard_one : (s : LinkSettings) (a k : ℕ) (xs : List Exchange) (request : Asked)
     (front later : Option Frame)
     (m : Option Answer) (h new : History) →
-    answer_to a (record { request = request; front = front; closed = false }) ≡ None
-    → answer_to a (record { request = request; front = later; closed = false }) ≡ m
+    answer_to a (record { request = request; front = front; closed = false; given_up = false })
+    ≡ None
+    → answer_to a (record { request = request; front = later; closed = false; given_up = false })
+    ≡ m
     → AreProper request m →
     line_told k new ≡ line_told k (told_by (outcome_of k request m) h) →
-    IsTold s a (xs ++ record { request = request; front = front; closed = false } ∷ []) k h
-    → IsTold s a (xs ++ record { request = request; front = later; closed = false } ∷ []) k new
+    IsTold s a (xs ++ record { request = request; front = front; closed = false; given_up = false }
+    ∷ []) k h
+    → IsTold s a (xs ++ record {
+      request = request;
+      front = later;
+      closed = false;
+      given_up =
+          false;
+    } ∷ []) k new
 heard_one s a k xs request front later None h new none is proper same t =
     quiet_told s a k xs request front later false None h new none is
     (ap (λ (l : List LineStep). l ++ lost_if (goes_down s (missed_after a 0 xs) request false None))
@@ -378,7 +407,8 @@ busy_far k j h far =
       sent = sent_to k h;
     } in r) far
 
-lost_far : (k j : ℕ) (was : Bool) (h : History) → (k == j) ≡ false → line_told k (GivenUp j was ∷ h)
+pub lost_far : (k j : ℕ) (was : Bool) (h : History) → (k == j) ≡ false
+    → line_told k (GivenUp j was ∷ h)
     ≡ line_told k h
 lost_far k j was h far =
     ap (λ (t : Bool).
@@ -462,7 +492,7 @@ asked_far false k j request h far = refl
 module _ (s : LinkSettings) (a k : ℕ) (xs : List Exchange) (request : Asked)
     (front : Option Frame) where
   abbrev new_one : Exchange
-  new_one = record { request = request; front = front; closed = false }
+  new_one = record { request = request; front = front; closed = false; given_up = false }
 
   asked_steps : (first : List (List ℕ)) → answer_to a new_one ≡ None
       → first_sending (pending_after a None xs) request ≡ first
@@ -543,13 +573,20 @@ module _ (s : LinkSettings) (a k : ℕ) (xs : List Exchange) (request : Asked)
 pub asked_one : (s : LinkSettings) (a k : ℕ) (xs : List Exchange) (request : Asked)
     (front : Option Frame)
     (link : Link) (h new : History) →
-    answer_to a (record { request = request; front = front; closed = false }) ≡ None
+    answer_to a (record { request = request; front = front; closed = false; given_up = false })
+    ≡ None
     → MaySend link request
     → Pends link (pending_after a None xs) →
     line_told k new
     ≡ line_told k (told_asked (is_command request && not (is_held link)) k request h) →
     IsTold s a xs k h
-    → IsTold s a (xs ++ record { request = request; front = front; closed = false } ∷ []) k new
+    → IsTold s a (xs ++ record {
+      request = request;
+      front = front;
+      closed = false;
+      given_up =
+          false;
+    } ∷ []) k new
 asked_one s a k xs Status front link h new none may pends same t =
     again_told s a k xs Status front h new none
     (no_first (pending_after a None xs) Status (λ fcb asdu e. cc))
@@ -624,13 +661,16 @@ silence_is s j (Counted fcb service) (Held due other missed) n may c =
 pub closed_one : (s : LinkSettings) (a k : ℕ) (xs : List Exchange) (request : Asked)
     (front : Option Frame)
     (link : Link) (h new : History) →
-    answer_to a (record { request = request; front = front; closed = false }) ≡ None
+    answer_to a (record { request = request; front = front; closed = false; given_up = false })
+    ≡ None
     → MaySend link request
     → Counts s link (missed_after a 0 xs) →
     line_told k new
     ≡ line_told k (told_due (silence_outcome k link (after_silence s request true link)) h) →
-    IsTold s a (xs ++ record { request = request; front = front; closed = false } ∷ []) k h
-    → IsTold s a (xs ++ record { request = request; front = front; closed = true } ∷ []) k new
+    IsTold s a (xs ++ record { request = request; front = front; closed = false; given_up = false }
+    ∷ []) k h
+    → IsTold s a (xs ++ record { request = request; front = front; closed = true; given_up = false }
+    ∷ []) k new
 closed_one s a k xs request front link h new none may counts same t =
     go (is_silent s (missed_after a 0 xs) request true) refl (same
     ∙ ap (λ (o : Outcome). line_told k (told_due o h))
@@ -645,7 +685,13 @@ closed_one s a k xs request front link h new none may counts same t =
 
     go : (b : Bool) → is_silent s (missed_after a 0 xs) request true ≡ b
         → line_told k new ≡ line_told k (told_due (down_if k b) h)
-        → IsTold s a (xs ++ record { request = request; front = front; closed = true } ∷ []) k new
+        → IsTold s a (xs ++ record {
+          request = request;
+          front = front;
+          closed = true;
+          given_up =
+              false;
+        } ∷ []) k new
     go true is same = lost_told s a k xs request front front true None h new none none
         (says true is) same t
     go false is same = quiet_told s a k xs request front front true None h new none none

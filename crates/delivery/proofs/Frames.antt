@@ -7,6 +7,7 @@ use Rattle.apci.specs.Spelling.{spelling}
 use Rattle.session.specs.declared.kinds.Close.TheVariants.{Grammar, SendNumber, ReceiveNumber}
 use Rattle.session.specs.declared.kinds.Close.TheVariants.{Stopped, Timeout, OwnAnswers, Replaced}
 use Rattle.session.specs.History.{History}
+use Rattle.gateway.specs.Log.{Restarted}
 use Rattle.gateway.specs.Log.{Log, Came, Went, Opened, LineIn, TcpIn, CutOff, Ticked, WallIs}
 use Rattle.gateway.specs.Log.{LineOut, TcpOut, Closed, GapOut, latest}
 use Rattle.gateway.specs.Streams.{spelled, AllFit}
@@ -52,6 +53,7 @@ none_received (Came now (TcpIn octets) ∷ log) h =
 none_received (Came now (LineIn octets) ∷ log) h = none_received log h
 none_received (Came now Ticked ∷ log) h = none_received log h
 none_received (Came now (WallIs number) ∷ log) h = none_received log h
+none_received (Came now Restarted ∷ log) h = none_received log h
 none_received (Went now (LineOut octets) ∷ log) h = none_received log h
 none_received (Went now (GapOut station session) ∷ log) h = none_received log h
 none_received (Went now (TcpOut octets) ∷ log) h = none_received log h
@@ -93,6 +95,9 @@ none_came p (Came now Ticked ∷ log) c r closed = ap (λ (x : Course). came_fra
     ∙ ap (λ (x : Course). came_frames x.talk) r.4.is ∙ none_came p log r.0 r.2 closed
 none_came p (Came now (WallIs number) ∷ log) c r closed =
     ap (λ (x : Course). came_frames x.talk) r.5
+    ∙ ap (λ (x : Course). came_frames x.talk) r.4.is ∙ none_came p log r.0 r.2 closed
+none_came p (Came now Restarted ∷ log) c r closed =
+    ap (λ (x : Course). came_frames x.talk) r.5.1
     ∙ ap (λ (x : Course). came_frames x.talk) r.4.is ∙ none_came p log r.0 r.2 closed
 none_came p (Went now (LineOut octets) ∷ log) c r closed =
     ap (λ (x : Course). came_frames x.talk) r.2.is

@@ -3,7 +3,8 @@
 -- no selection that is over.
 use Rattle.std.specs.Prelude.{if◌then◌else◌, min}
 use Rattle.std.specs.List.{AllByRecursion}
-use Rattle.std.proofs.Common.{◌≡◌, ℕ, ◌≤◌, Bool, true, false, List, [], ◌∷◌, Option, Some, None}
+use Rattle.std.proofs.Common.{◌≡◌, ℕ, zero, suc, length, ◌≤◌, Bool, true, false, List, [], ◌∷◌}
+use Rattle.std.proofs.Common.{Option, Some, None}
 use Rattle.std.proofs.Common.{refl, ap, sym, ◌∙◌, subst, le_refl, le_trans}
 use Rattle.std.proofs.Math.Nat.{le-max_left, le_antisymm}
 use Rattle.asdu.specs.Asdu.{AsduValue}
@@ -28,6 +29,7 @@ use Rattle.command.specs.Calls.{after_sending, NeverFall}
 use Rattle.command.specs.Laws.{AfterEachDue}
 use Rattle.command.specs.Selections.{IsInTime}
 use Rattle.gateway.specs.Objects.{has_objects}
+use Rattle.gateway.specs.Log.{Restarted}
 use Rattle.gateway.specs.Log.{Log, LogEntry, Input, LineIn, Opened, TcpIn, CutOff, Ticked, WallIs}
 use Rattle.gateway.specs.Log.{Came, Went, LineOut, TcpOut, Closed, GapOut, latest, last_moment}
 use Rattle.gateway.specs.Connections.{present}
@@ -37,6 +39,9 @@ use Rattle.gateway.specs.Serial.{unless_silent}
 use Rattle.gateway.specs.Works.{Works, tasks_of, told_kept, is_command_report, mirrored_works}
 use Rattle.gateway.specs.Works.{LearnsReport, LearnsOf, heard_works, answered_works, told_silent}
 use Rattle.gateway.specs.Works.{settled_works, ready_works, unasked_works, done_works, told_put}
+use Rattle.gateway.specs.Works.{link_given_up_works, command_given_up_works}
+use Rattle.gateway.specs.Works.{commands_given_up_works_upto, restarted_works}
+use Rattle.link.specs.Carried.{awaits_command}
 use Rattle.gateway.specs.Course.{Course, with_frames, with_sent, IsNext, closed_course, IsLeft}
 use Rattle.gateway.specs.Course.{room_in, Runs}
 use Rattle.delivery.specs.Selections.{EndInTime, AreAt, TellsAtMoments}
@@ -226,6 +231,22 @@ module _ (p : Setup) (at : ℕ) (Q : Run → Type 0) (one : (call : Call) (r : R
                 (after_sending (Some x) k (tasks_of w)).history;
           } in r) is
 
+  given_up_one : (k : ℕ) (w : Works) → Q (tasks_of w) → Q (tasks_of (command_given_up_works k w))
+  given_up_one k w c = go (awaits_command w.serial.line k)
+    where
+      go : (b : Bool) → Q (tasks_of (if b then link_given_up_works k w else w))
+      go true = one (Lose k) (tasks_of w) still c
+      go false = c
+
+  given_up_all : (count : ℕ) (w : Works) → Q (tasks_of w)
+      → Q (tasks_of (commands_given_up_works_upto count w))
+  given_up_all zero w c = c
+  given_up_all (suc k) w c =
+      given_up_one k (commands_given_up_works_upto k w) (given_up_all k w c)
+
+  restart : (w : Works) → Q (tasks_of w) → Q (tasks_of (restarted_works w))
+  restart w c = given_up_all (length w.serial.line.stations) w c
+
   cut : (w : Works) → Q (tasks_of w) → Q (after_call Cut (tasks_of w))
   cut w c = one Cut (tasks_of w) still c
 
@@ -265,6 +286,10 @@ module _ (p : Setup) (P : Log → Run → Type 0) (one : (log : Log) (call : Cal
   all_so start (Came now (WallIs number) ∷ log) c r = subst (So (Came now (WallIs number) ∷ log))
       (sym r.5)
       (left_so log now (WallIs number) r.0 r.1 r.4 (all_so start log r.0 r.2))
+  all_so start (Came now Restarted ∷ log) c r =
+      let new : Log = Came now Restarted ∷ log in
+      subst (So new) (sym r.5.1) (restart p (latest new) (P new) (one new) r.1.works
+      (left_so log now Restarted r.0 r.1 r.4 (all_so start log r.0 r.2)))
   all_so start (Came now (LineIn octets) ∷ log) c r =
       let new : Log = Came now (LineIn octets) ∷ log in
       subst (So new) (sym r.5.2) (learn p (latest new) (P new) (one new) _ _ _ r.5.0 r.5.1

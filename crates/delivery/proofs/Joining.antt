@@ -9,6 +9,7 @@ use Rattle.asdu.specs.Asdu.{AsduValue}
 use Rattle.apci.specs.declared.apdu.Apdu.{Apdu}
 use Rattle.link.specs.declared.service.Service.TheVariants.{Command}
 use Rattle.link.specs.declared.service.Asked.TheVariants.{Counted}
+use Rattle.link.specs.Carried.{commands_given_up}
 use Rattle.link.specs.Counts.{saturated}
 use Rattle.link.specs.Exchanges.{Exchanges, Sending, begun_by, heard_current, timed_current}
 use Rattle.link.specs.Exchanges.{reports_of_exchanges}
@@ -23,7 +24,7 @@ use Rattle.session.specs.declared.kinds.Close.TheVariants.{Stopped, Timeout, Own
 use Rattle.command.specs.State.{octets_waiting}
 use Rattle.command.specs.Calls.{Cut}
 use Rattle.gateway.specs.Log.{Log, Came, Went, Opened, LineIn, TcpIn, CutOff, Ticked, WallIs}
-use Rattle.gateway.specs.Log.{LineOut, TcpOut, Closed, GapOut, latest}
+use Rattle.gateway.specs.Log.{Restarted, LineOut, TcpOut, Closed, GapOut, latest}
 use Rattle.gateway.specs.Streams.{AllFit}
 use Rattle.gateway.specs.Connections.{present}
 use Rattle.gateway.specs.Reports.{Setup, address_at, sent_to, sending_in, exchanges_of}
@@ -31,7 +32,7 @@ use Rattle.gateway.specs.Traffic.{ActsRightly}
 use Rattle.gateway.specs.Serial.{heard_outcome, is_first_command}
 use Rattle.gateway.specs.Works.{Works, tasks_of, LearnsOf, octets_works, begun_works, cut_works}
 use Rattle.gateway.specs.Works.{gapless_works, ready_works, settled_works, unasked_works}
-use Rattle.gateway.specs.Works.{done_works, told_put, told_silent, asked_works}
+use Rattle.gateway.specs.Works.{done_works, told_put, told_silent, asked_works, restarted_works}
 use Rattle.gateway.specs.Course.{Course, with_frames, with_sent, closed_course, with_works, IsLeft}
 use Rattle.gateway.specs.Course.{SendsNext, room_in, Runs}
 use Rattle.delivery.specs.Joined.{IsSetUp, mirrored_in, command_reports, skipped_among, AreValues}
@@ -44,6 +45,7 @@ use Rattle.delivery.proofs.Works.{IsQuiet, heard_quiet, heard_line, sent_quiet, 
 use Rattle.delivery.proofs.Works.{settled_quiet, settled_line, offers_tell, put_told, put_mirrors}
 use Rattle.delivery.proofs.Works.{put_fits}
 use Rattle.delivery.proofs.Frames.{taken_fit}
+use Rattle.delivery.proofs.Restarts.{IsGiven, all_given}
 
 -- the works are what these exchanges make them
 pub record Joins (p : Setup) (e : Exchanges) (w : Works) : Type 0 where
@@ -193,6 +195,40 @@ module _ (laws : LinkLaws) (stay : AnswersStay) (p : Setup) where
               (sym (laws.octets_report p.link p.addresses w.serial.line e octets j.tells));
         },
       )
+
+  -- A restart
+
+  restarted_joins : (e : Exchanges) (w : Works) → w.serial.silent ≡ None → Joins p e w
+      → Joins p (commands_given_up p.link (front_of p.link.size) p.addresses e) (restarted_works w)
+  restarted_joins e w none j =
+      let g : IsGiven p w (restarted_works w)
+      (commands_given_up p.link (front_of p.link.size) p.addresses e) =
+      all_given laws stay p w e (record {
+        tells = j.tells;
+        told = λ k. subst (λ (o : Option ℕ). IsTold p.link (address_at p.addresses k)
+            (exchanges_at (front_of p.link.size) k e) k (told_silent o w)) none (j.told k);
+        silent = none;
+        fits = j.fits;
+        mirrored = refl;
+        skipped = refl;
+      }) in
+      let same = laws.given_reports p.link p.link.size p.addresses (address_at p.addresses) e in
+      record {
+        tells = g.tells;
+        told = λ k. subst (λ (o : Option ℕ). IsTold p.link (address_at p.addresses k)
+            (exchanges_at (front_of p.link.size) k
+            (commands_given_up p.link (front_of p.link.size) p.addresses e)) k
+            (told_silent o (restarted_works w))) (sym g.silent) (g.told k);
+        left = λ due. g.silent;
+        mirrors = subst (λ (vs : List AsduValue). AreValues p.sizes vs (command_reports p.sizes
+            (reports_by (commands_given_up p.link (front_of p.link.size) p.addresses e))))
+            (sym g.mirrored)
+            (subst (λ (l : List (ℕ × List ℕ)). AreValues p.sizes (mirrored_in w.history)
+            (command_reports p.sizes l)) (sym same) j.mirrors);
+        fits = g.fits;
+        skips = g.skipped ∙ j.skips
+            ∙ ap (λ (l : List (ℕ × List ℕ)). saturated (skipped_among p.sizes l)) (sym same);
+      }
 
   -- The step before is done
 
@@ -394,6 +430,11 @@ module _ (laws : LinkLaws) (stay : AnswersStay) (p : Setup) where
       subst (λ (x : Course). Joins p (exchanges_of p (Came now CutOff ∷ log)) x.works) (sym r.5)
       (cut_joins (exchanges_of p (Came now CutOff ∷ log)) (begun_works at r.1.works)
       (timed_joins at (exchanges_of p log) r.1.works left.0 left.1))
+  joins set (Came now Restarted ∷ log) c r acts =
+      let left : (r.1.works.serial.silent ≡ None) × Joins p (exchanges_of p log) r.1.works =
+      left_joins log r.0 r.1 (exchanges_of p log) r.4 (joins set log r.0 r.2 acts) in
+      subst (λ (x : Course). Joins p (exchanges_of p (Came now Restarted ∷ log)) x.works)
+      (sym r.5.1) (restarted_joins (exchanges_of p log) r.1.works left.0 left.1)
   joins set (Went now (LineOut octets) ∷ log) c r acts =
       sends_joins set log now octets r.0 c (moment_of log now octets acts) r.2
       (joins set log r.0 r.1 acts.1)

@@ -1,6 +1,7 @@
 -- What the course judged are the ASDUs of the I frames that came, when they came.
 use Rattle.std.specs.Prelude.{get_or}
-use Rattle.std.proofs.Common.{◌≡◌, ℕ, ◌-◌, ◌<◌, ◌≤◌, Bool, true, false, Option, List, [], ◌∷◌, ◌++◌}
+use Rattle.std.proofs.Common.{◌≡◌, ℕ, zero, suc, ◌-◌, ◌<◌, ◌≤◌, Bool, true, false, Option, List, []}
+use Rattle.std.proofs.Common.{◌∷◌, ◌++◌}
 use Rattle.std.proofs.Common.{length, map, refl, ap, sym, subst, ◌∙◌, append_assoc, length-append}
 use Rattle.std.proofs.Common.{arith, if◌then◌else◌}
 use Rattle.std.proofs.lemmas.List.{append-nil, map-append, append_cancel_left}
@@ -11,6 +12,7 @@ use Rattle.session.specs.declared.kinds.Close.{Close}
 use Rattle.session.specs.declared.kinds.Close.TheVariants.{Grammar, SendNumber, ReceiveNumber}
 use Rattle.session.specs.declared.kinds.Close.TheVariants.{Stopped, Timeout, OwnAnswers, Replaced}
 use Rattle.session.specs.History as talk
+use Rattle.gateway.specs.Log.{Restarted}
 use Rattle.gateway.specs.Log.{Log, Came, Went, Opened, LineIn, TcpIn, CutOff, Ticked, WallIs}
 use Rattle.gateway.specs.Log.{LineOut, TcpOut, Closed, GapOut, latest}
 use Rattle.gateway.specs.Streams.{spelled}
@@ -20,7 +22,8 @@ use Rattle.gateway.specs.Reports.{Setup}
 use Rattle.gateway.specs.Serial.{heard_outcome, is_first_command}
 use Rattle.gateway.specs.Walls.{wall_on}
 use Rattle.gateway.specs.Works.{Works, octets_works, begun_works, ready_works, unasked_works}
-use Rattle.gateway.specs.Works.{done_works}
+use Rattle.gateway.specs.Works.{done_works, link_given_up_works, commands_given_up_works_upto}
+use Rattle.link.specs.Carried.{awaits_command}
 use Rattle.gateway.specs.Course.{Course, HasTakenAll, AreTaken, came_frames, here_of, with_frames}
 use Rattle.gateway.specs.Course.{ended_course, closed_course, works_at, with_works, IsLeft, room_in}
 use Rattle.gateway.specs.Course.{Runs}
@@ -270,6 +273,18 @@ module _ (one : HaveOneFront) (stay : AnswersStay) (p : Setup) where
       go true = settled_judged at w
       go false = refl
 
+  -- giving up judges nothing
+  given_judged : (count : ℕ) (w : Works)
+      → judged_of (commands_given_up_works_upto count w) ≡ judged_of w
+  given_judged zero w = refl
+  given_judged (suc k) w = go (commands_given_up_works_upto k w)
+      (awaits_command (commands_given_up_works_upto k w).serial.line k) ∙ given_judged k w
+    where
+      go : (z : Works) (b : Bool)
+          → judged_of (if b then link_given_up_works k z else z) ≡ judged_of z
+      go z true = refl
+      go z false = refl
+
   left_judged : (log : Log) (before after : Course) → IsLeft p log before after
       → judged_of after.works ≡ judged_of before.works
   left_judged log before after left = ap (λ (c : Course). judged_of c.works) left.is
@@ -398,6 +413,13 @@ module _ (one : HaveOneFront) (stay : AnswersStay) (p : Setup) where
       (ap (λ (x : Course). came_frames x.talk) r.5)
       (ap (λ (x : Course). x.earlier) r.5) (ap (λ (x : Course). judged_of x.works) r.5) refl refl
       refl refl
+      (all_so log r.0 r.2)
+  all_so (Came now Restarted ∷ log) c r =
+      quiet_so log (Came now Restarted ∷ log) r.0 r.1 c r.3 r.4
+      (ap (λ (x : Course). came_frames x.talk) r.5.1)
+      (ap (λ (x : Course). x.earlier) r.5.1)
+      (ap (λ (x : Course). judged_of x.works) r.5.1
+      ∙ given_judged (length r.1.works.serial.line.stations) r.1.works) refl refl refl refl
       (all_so log r.0 r.2)
   all_so (Came now Opened ∷ log) c r =
       ended_so log (Came now Opened ∷ log) r.1 c (ap (λ (x : Course). came_frames x.talk) r.5)

@@ -13,6 +13,8 @@ pub mod Skipping
 pub mod Works
 pub mod Frames
 pub mod Arriving
+pub mod Restarts
+pub mod OneLife
 pub mod Joining
 pub mod Judgements
 pub mod Given

@@ -1,6 +1,7 @@
 -- The exchanges of the line, and what the course tells of them, as the line goes on.
 use Rattle.std.specs.Prelude.{◌==◌, ◌&&◌, ◌||◌, not, nat_le, option_and_then, slice_index}
-use Rattle.std.proofs.Common.{◌≡◌, ℕ, ◌<◌, ◌+◌, eq-eqb, Bool, true, false, All, List, [], ◌∷◌, ◌++◌}
+use Rattle.std.proofs.Common.{◌≡◌, ◌≢◌, ℕ, ◌<◌, ◌+◌, eq-eqb, Bool, true, false, All, List, [], ◌∷◌}
+use Rattle.std.proofs.Common.{◌++◌}
 use Rattle.std.proofs.Common.{inl, inr, length, Option, Some, None, refl, ap, sym, subst, ◌∙◌}
 use Rattle.std.proofs.Common.{if◌then◌else◌}
 use Rattle.std.proofs.lemmas.List.{append-nil}
@@ -18,12 +19,14 @@ use Rattle.link.specs.Answers.{answer_of}
 use Rattle.link.specs.Exchanges.{Exchange, OpenExchange, Exchanges, Sending, IsOutstanding}
 use Rattle.link.specs.Exchanges.{no_exchanges, all_of, answer_to, begun_by, heard_octets}
 use Rattle.link.specs.Exchanges.{heard_current, timed, timed_current, view, views, whole_of}
-use Rattle.link.specs.Exchanges.{with_station, reports_of_exchanges}
+use Rattle.link.specs.Exchanges.{with_station, reports_of_exchanges, given_up_at}
 use Rattle.link.specs.Procedure.{MaySend, KeepsFrameCountBit, is_held, link_after, after_silence}
 use Rattle.link.specs.Runs.{silence_outcome}
 use Rattle.link.specs.Requests.{request_frame, request_in, FitsAddress, FitsAsked, IsUserData}
 use Rattle.link.specs.Turns.{station_at}
-use Rattle.link.specs.Gaps.{gap_at}
+use Rattle.link.specs.Carried.{awaits_command, awaits_command_in, given_up, commands_given_up}
+use Rattle.link.specs.Gaps.{gap_at, exchanges_at as line_exchanges}
+use Rattle.link.specs.Marks.{latest_given_up}
 use Rattle.link.specs.declared.outcome.Outcome.{Outcome}
 use Rattle.link.specs.declared.outcome.Outcome.TheVariants as outcome
 use Rattle.link.specs.Primary.{Outstanding, Primary, start, asked, sending, sending_from, received}
@@ -119,6 +122,21 @@ pub record LinkLaws : Type 0 where
       (after_silence settings x.request true (link_after settings (slice_index addresses x.station)
       Down
       (with_station x.station (views (front_of settings.size) e.ended))))
+  pub awaits : (settings : LinkSettings) (addresses : List ℕ) (q : Primary) (e : Exchanges) (k : ℕ)
+      → Tells settings addresses q e
+      → awaits_command q k ≡ awaits_command_in settings (front_of settings.size) addresses k e
+  pub given_up : (settings : LinkSettings) (addresses : List ℕ) (q : Primary) (e : Exchanges)
+      (k : ℕ) → k < length q.stations → Tells settings addresses q e
+      → Tells settings addresses (given_up k q) (given_up_at k e)
+  pub given_reports : (settings : LinkSettings) (size : LinkSize) (addresses : List ℕ)
+      (address : ℕ → ℕ) (e : Exchanges)
+      → reports_of_exchanges (front_of size) address
+      (commands_given_up settings (front_of size) addresses e)
+      ≡ reports_of_exchanges (front_of size) address e
+  pub itself : (front : List ℕ → Front) (k : ℕ) (e : Exchanges)
+      → line_exchanges front k (given_up_at k e) ≡ latest_given_up (line_exchanges front k e)
+  pub others : (front : List ℕ → Front) (k j : ℕ) (e : Exchanges) → j ≢ k
+      → line_exchanges front j (given_up_at k e) ≡ line_exchanges front j e
   pub early : (settings : LinkSettings) (addresses : List ℕ) (q : Primary) (e : Exchanges) (at : ℕ)
       (x : OpenExchange) →
       Tells settings addresses q e → e.current ≡ Some x
@@ -158,14 +176,47 @@ at_last s a k xs station x y h new hit miss t = go (station == k) refl t
 
 -- An event's octets
 
+or_true : (b : Bool) → (b || true) ≡ true
+or_true true = refl
+or_true false = refl
+
+or_false : (b : Bool) → (b || false) ≡ b
+or_false true = refl
+or_false false = refl
+
+-- an exchange that isn't given up
+as_open : (request : Asked) (front : Option Frame) (closed given b : Bool) → closed ≡ b
+    → given ≡ false →
+    ◌≡◌ {A = Exchange}
+    (record { request = request; front = front; closed = closed; given_up = given })
+    (record { request = request; front = front; closed = b; given_up = false })
+as_open request front closed given b is stands =
+    ap (λ (c : Bool). let x : Exchange = record {
+      request = request;
+      front = front;
+      closed = c;
+      given_up = given;
+    } in x) is
+    ∙ ap (λ (g : Bool). let x : Exchange = record {
+      request = request;
+      front = front;
+      closed = b;
+      given_up = g;
+    } in x) stands
+
 same_when_over : (front : List ℕ → Front) (a : ℕ) (octets : List ℕ) (x : OpenExchange)
     → IsOver front a x
     → answer_to a (view front x).exchange
     ≡ answer_to a (view front (heard_octets octets x)).exchange
 same_when_over front a octets x (inl closed) =
     sym (ap (λ (b : Bool). option_and_then (answer_of a x.request)
-    (whole_of (front (if b then x.octets else x.octets ++ octets)))) closed)
-same_when_over front a octets x (inr over) = go x.closed
+    (whole_of (front (if b || x.given_up then x.octets else x.octets ++ octets)))) closed)
+same_when_over front a octets x (inr (inl given)) =
+    sym (ap (λ (b : Bool). option_and_then (answer_of a x.request)
+    (whole_of (front (if x.closed || b then x.octets else x.octets ++ octets)))) given
+    ∙ ap (λ (b : Bool). option_and_then (answer_of a x.request)
+    (whole_of (front (if b then x.octets else x.octets ++ octets)))) (or_true x.closed))
+same_when_over front a octets x (inr (inr over)) = go (x.closed || x.given_up)
   where
     before : option_and_then (answer_of a x.request) (whole_of (front x.octets)) ≡ Some over.0
     before = ap (λ (l : List ℕ). option_and_then (answer_of a x.request) (whole_of (front l)))
@@ -237,7 +288,7 @@ module _ (laws : LinkLaws) (p : Setup) (q : Primary) (e : Exchanges)
           (λ here told. alike_told p.link (address k) k (with_station k (views front e.ended))
           x.request
           (view front x).exchange.front (view front (heard_octets octets x)).exchange.front x.closed
-          x.closed h new
+          x.closed x.given_up h new
           (subst (λ (i : ℕ). answer_to (address i) (view front x).exchange
           ≡ answer_to (address i) (view front (heard_octets octets x)).exchange) here
           (same_when_over front (address x.station) octets x was))
@@ -264,6 +315,7 @@ module _ (laws : LinkLaws) (p : Setup) (q : Primary) (e : Exchanges)
           is (
             none,
             w.waits,
+            w.stands,
           ))
           ∙ ap (line_told k) (gap_tells_nothing (gap_at front p.addresses x.station e) _ h) in
           subst (λ (l : List Exchange). IsTold p.link (address k) l k new)
@@ -271,14 +323,10 @@ module _ (laws : LinkLaws) (p : Setup) (q : Primary) (e : Exchanges)
           (at_last p.link (address k) k (with_station k (views front e.ended)) x.station
           (view front x).exchange
           (view front (heard_octets octets x)).exchange h new
-          (λ here before. subst (λ (b : Bool). IsTold p.link (address k)
-          (with_station k (views front e.ended)
-          ++ record {
-            request = x.request;
-            front = (view front (heard_octets octets x)).exchange.front;
-            closed =
-                b;
-          } ∷ []) k new) (sym w.waits)
+          (λ here before. subst (λ (y : Exchange). IsTold p.link (address k)
+          (with_station k (views front e.ended) ++ y ∷ []) k new)
+          (sym (as_open x.request (view front (heard_octets octets x)).exchange.front x.closed
+          x.given_up false w.waits w.stands))
           (heard_one p.link (address k) k (with_station k (views front e.ended)) x.request
           (view front x).exchange.front (view front (heard_octets octets x)).exchange.front
           (answer_to (address k) (view front (heard_octets octets x)).exchange) h new
@@ -289,10 +337,10 @@ module _ (laws : LinkLaws) (p : Setup) (q : Primary) (e : Exchanges)
           (outcome_of i x.request
           (answer_to (address i) (view front (heard_octets octets x)).exchange))
           h)) here told)
-          (subst (λ (b : Bool). IsTold p.link (address k) (with_station k (views front e.ended)
-          ++ record { request = x.request; front = (view front x).exchange.front; closed = b } ∷ [])
-          k h) w.waits
-          before)))
+          (subst (λ (y : Exchange). IsTold p.link (address k) (with_station k (views front e.ended)
+          ++ y ∷ []) k h)
+          (as_open x.request (view front x).exchange.front x.closed x.given_up false w.waits
+          w.stands) before)))
           (λ far. told ∙ heard_far k x.station x.request
           (answer_to (address x.station) (view front (heard_octets octets x)).exchange) h far)
           (subst (λ (l : List Exchange). IsTold p.link (address k) l k h) (split k x) t))
@@ -321,7 +369,8 @@ module _ (laws : LinkLaws) (p : Setup) (q : Primary) (e : Exchanges)
   -- A request goes out
 
   abbrev fresh_of : Sending → Exchange
-  fresh_of s = record { request = s.request; front = whole_of (front []); closed = false }
+  fresh_of s =
+      record { request = s.request; front = whole_of (front []); closed = false; given_up = false }
 
   pub asked_told : (may : Bool) (s : Sending) (at k : ℕ) (h new : History) → sending q may ≡ Some s
       →
@@ -342,6 +391,7 @@ module _ (laws : LinkLaws) (p : Setup) (q : Primary) (e : Exchanges)
         octets =
             [];
         closed = false;
+        given_up = false;
       } ∷ [])
 
       free : (o : Option Outstanding) → q.outstanding ≡ o → q.outstanding ≡ None
@@ -413,8 +463,13 @@ module _ (laws : LinkLaws) (p : Setup) (q : Primary) (e : Exchanges)
   alike_down a n at x (inl closed) =
       ap (λ (b : Bool). goes_down p.link n x.request b (answer_to a (view front x).exchange))
       (closed
-      ∙ sym (ap (λ (b : Bool). b || nat_le (x.since + p.link.answer_ms) at) closed))
-  alike_down a n at x (inr over) =
+      ∙ sym (ap (λ (b : Bool). b || (not x.given_up && nat_le (x.since + p.link.answer_ms) at))
+      closed))
+  alike_down a n at x (inr (inl given)) =
+      ap (λ (b : Bool). goes_down p.link n x.request b (answer_to a (view front x).exchange))
+      (sym (ap (λ (g : Bool). x.closed || (not g && nat_le (x.since + p.link.answer_ms) at)) given
+      ∙ or_false x.closed))
+  alike_down a n at x (inr (inr over)) =
       let said : answer_to a (view front x).exchange ≡ Some over.0 =
       ap (λ (l : List ℕ). option_and_then (answer_of a x.request) (whole_of (front l)))
       (sym (append-nil x.octets)) ∙ over.1 [] in
@@ -447,7 +502,7 @@ module _ (laws : LinkLaws) (p : Setup) (q : Primary) (e : Exchanges)
           (λ here told. alike_told p.link (address k) k (with_station k (views front e.ended))
           x.request
           (view front x).exchange.front (view front x).exchange.front x.closed
-          (timed p.link.answer_ms at x).closed h new refl
+          (timed p.link.answer_ms at x).closed x.given_up h new refl
           (alike_down (address k)
           (missed_after (address k) 0 (with_station k (views front e.ended))) at x
           (subst (λ (i : ℕ). IsOver front (address i) x) here was)) (idle out) told)
@@ -468,14 +523,19 @@ module _ (laws : LinkLaws) (p : Setup) (q : Primary) (e : Exchanges)
           ++ alone k (view front (timed p.link.answer_ms at x))) k new
       awaited o x false is cur w t =
           let early : due_outcome q at ≡ outcome.None =
-          (laws.early p.link p.addresses q e at x tells cur (none_yet o x w, w.waits) is).1 in
+          (laws.early p.link p.addresses q e at x tells cur (none_yet o x w, w.waits, w.stands)
+          is).1 in
           let still : line_told k new ≡ line_told k h = same
           ∙ ap (λ (o : Outcome). line_told k (told_due o h)) early in
           subst (λ (b : Bool). IsTold p.link (address k) (with_station k (views front e.ended)
           ++ alone k (record {
             station = x.station;
-            exchange =
-                record { request = x.request; front = (view front x).exchange.front; closed = b };
+            exchange = record {
+              request = x.request;
+              front = (view front x).exchange.front;
+              closed = b;
+              given_up = x.given_up;
+            };
           })) k new)
           (w.waits ∙ sym is) (stays_told p.link (address k) (with_station k (views front e.ended)
           ++ alone k (view front x)) k h new still t)
@@ -488,14 +548,15 @@ module _ (laws : LinkLaws) (p : Setup) (q : Primary) (e : Exchanges)
           (after_silence p.link x.request true (link_after p.link (address x.station) Down
           (with_station x.station (views front e.ended))))) h) =
           same ∙ ap (λ (o : Outcome). line_told k (told_due o h))
-          (laws.silent p.link p.addresses q e at x tells cur (none_yet o x w, w.waits) is) in
+          (laws.silent p.link p.addresses q e at x tells cur (none_yet o x w, w.waits, w.stands)
+          is) in
           at_last p.link (address k) k (with_station k (views front e.ended)) x.station
           (view front x).exchange
           (view front (timed p.link.answer_ms at x)).exchange h new
-          (λ here before. subst (λ (b : Bool). IsTold p.link (address k)
-          (with_station k (views front e.ended)
-          ++ record { request = x.request; front = (view front x).exchange.front; closed = b } ∷ [])
-          k new) (sym is)
+          (λ here before. subst (λ (y : Exchange). IsTold p.link (address k)
+          (with_station k (views front e.ended) ++ y ∷ []) k new)
+          (sym (as_open x.request (view front x).exchange.front
+          (timed p.link.answer_ms at x).closed x.given_up true is w.stands))
           (hit here (subst (λ (i : ℕ). line_told k new
           ≡ line_told k
           (told_due
@@ -503,10 +564,10 @@ module _ (laws : LinkLaws) (p : Setup) (q : Primary) (e : Exchanges)
           (link_after p.link (address i) Down (with_station i (views front e.ended)))
           (after_silence p.link x.request true (link_after p.link (address i) Down
           (with_station i (views front e.ended))))) h)) here due)
-          (subst (λ (b : Bool). IsTold p.link (address k) (with_station k (views front e.ended)
-          ++ record { request = x.request; front = (view front x).exchange.front; closed = b } ∷ [])
-          k h) w.waits
-          before)))
+          (subst (λ (y : Exchange). IsTold p.link (address k) (with_station k (views front e.ended)
+          ++ y ∷ []) k h)
+          (as_open x.request (view front x).exchange.front x.closed x.given_up false w.waits
+          w.stands) before)))
           (λ far. due ∙ closed_far k x.station (link_after p.link (address x.station) Down
           (with_station x.station (views front e.ended)))
           (after_silence p.link x.request true (link_after p.link (address x.station) Down
@@ -522,15 +583,15 @@ module _ (laws : LinkLaws) (p : Setup) (q : Primary) (e : Exchanges)
               ++ record {
                 request = x.request;
                 front = (view front x).exchange.front;
-                closed =
-                    false;
+                closed = false;
+                given_up = false;
               } ∷ []) k h →
               IsTold p.link (address k) (with_station k (views front e.ended)
               ++ record {
                 request = x.request;
                 front = (view front x).exchange.front;
-                closed =
-                    true;
+                closed = true;
+                given_up = false;
               } ∷ []) k new
           hit here told before =
               let ended : List Exchange = with_station k (views front e.ended) in

@@ -1,17 +1,21 @@
 -- Each session loses at most its last report, and one without a gap loses none.
 use Rattle.std.proofs.Common.{◌≡◌, ◌⊎◌, ℕ, suc, ◌+◌, ◌≤◌, Bool, true, false, List, [], ◌∷◌, ◌++◌}
-use Rattle.std.proofs.Common.{length, Some, None, refl, sym, ap, subst, inl, inr, arith}
+use Rattle.std.proofs.Common.{length, Some, None, refl, sym, ap, subst, ◌∙◌, inl, inr, arith}
 use Rattle.std.proofs.Common.{if◌then◌else◌}
 use Rattle.std.specs.List.{AllByRecursion}
 use Rattle.std.proofs.lemmas.List.{length-append}
+use Rattle.ft12.specs.Fronts.{front_of}
 use Rattle.link.specs.Outstation.{all_done}
 use Rattle.link.specs.Delivery.{Session, learnt, reports, is_gap, pending_after, IsAllOrButLast}
 use Rattle.link.specs.Delivery.{HasReports}
 use Rattle.link.specs.Counts.{saturated}
-use Rattle.link.specs.Gaps.{as_numbers, ended_with_gap}
+use Rattle.link.specs.Carried.{commands_given_up}
+use Rattle.link.specs.Exchanges.{Exchanges}
+use Rattle.link.specs.Gaps.{as_numbers, ended_with_gap, gaps_at}
 use Rattle.gateway.specs.Gaps.{gaps_of, gaps_told}
-use Rattle.gateway.specs.Log.{Log}
-use Rattle.gateway.specs.Reports.{Setup}
+use Rattle.gateway.specs.Log.{Log, Came, Went, Opened, LineIn, TcpIn, CutOff, Ticked, WallIs}
+use Rattle.gateway.specs.Log.{Restarted}
+use Rattle.gateway.specs.Reports.{Setup, exchanges_of}
 use Rattle.gateway.specs.Traffic.{HasRested}
 use Rattle.delivery.specs.Sessions.{ended, gaps_in, given_in, taken_in, LosesNone, LosesLastAtMost}
 use Rattle.delivery.specs.Sessions.{LoseAsTold}
@@ -47,11 +51,22 @@ pub told_so : (station : ℕ) (ss : List Session) (told : List ℕ)
     → told ≡ ended_with_gap station 1 ss → LoseAsTold station 1 ss told
 told_so station ss told all is = subst (LoseAsTold station 1 ss) (sym is) (as_told station 1 ss all)
 
--- once a step is over each gap is told
-pub gaps_rested : (p : Setup) (log : Log) (i : ℕ) → HasRested p log → gaps_told i log
-    ≡ gaps_of p i log
-gaps_rested p [] i rests = refl
-gaps_rested p (entry ∷ log) i rests = rests.gaps i
+-- once a step is over each gap is told, and a restart makes none
+pub gaps_rested : (p : Setup) → ((e : Exchanges) (i : ℕ)
+    → gaps_at (front_of p.link.size) p.addresses i
+    (commands_given_up p.link (front_of p.link.size) p.addresses e)
+    ≡ gaps_at (front_of p.link.size) p.addresses i e)
+    → (log : Log) (i : ℕ) → HasRested p log → gaps_told i log ≡ gaps_of p i log
+gaps_rested p same [] i rests = refl
+gaps_rested p same (Came now Restarted ∷ log) i rests =
+    gaps_rested p same log i rests ∙ sym (same (exchanges_of p log) i)
+gaps_rested p same (Came now (LineIn octets) ∷ log) i rests = rests.gaps i
+gaps_rested p same (Came now Opened ∷ log) i rests = rests.gaps i
+gaps_rested p same (Came now (TcpIn octets) ∷ log) i rests = rests.gaps i
+gaps_rested p same (Came now CutOff ∷ log) i rests = rests.gaps i
+gaps_rested p same (Came now Ticked ∷ log) i rests = rests.gaps i
+gaps_rested p same (Came now (WallIs number) ∷ log) i rests = rests.gaps i
+gaps_rested p same (Went now action ∷ log) i rests = rests.gaps i
 
 -- at most one fewer
 within_one : (all some : List (List ℕ)) → IsAllOrButLast all some

@@ -1,6 +1,7 @@
 -- Each exchange of a log is one of a station of the settings.
-use Rattle.std.specs.Prelude.{◌==◌, option_map, option_and_then}
-use Rattle.std.proofs.Common.{◌≡◌, ℕ, suc, ◌<◌, Bool, true, false, List, [], ◌∷◌, ◌++◌, length}
+use Rattle.std.specs.Prelude.{◌==◌, ◌&&◌, not, option_map, option_and_then}
+use Rattle.std.proofs.Common.{◌≡◌, ℕ, zero, suc, ◌<◌, Bool, true, false, List, [], ◌∷◌, ◌++◌}
+use Rattle.std.proofs.Common.{length}
 use Rattle.std.proofs.Common.{Option, Some, None, refl, subst, arith, if◌then◌else◌}
 use Rattle.std.specs.List.{AllByRecursion}
 use Rattle.ft12.specs.declared.frame.Front.{Front}
@@ -11,10 +12,12 @@ use Rattle.link.specs.declared.answer.Answer.TheVariants.{Report, Ready, Confirm
 use Rattle.link.specs.declared.answer.Answer.TheVariants.{Unable}
 use Rattle.link.specs.Exchanges.{OpenExchange, Exchanges, Sending, as_list, all_of, heard_current}
 use Rattle.link.specs.Exchanges.{timed_current, begun_by, view, views, answer_to, report_by}
-use Rattle.link.specs.Exchanges.{reports_of}
+use Rattle.link.specs.Exchanges.{reports_of, marked, has_one_with, latest_marked, given_up_from}
+use Rattle.link.specs.Exchanges.{given_up_at}
+use Rattle.link.specs.Carried.{awaits_command_in, given_up_upto}
 use Rattle.link.specs.Requests.{request_in}
 use Rattle.gateway.specs.Log.{Log, Came, Went, Opened, LineIn, TcpIn, CutOff, Ticked, WallIs}
-use Rattle.gateway.specs.Log.{LineOut, TcpOut, Closed, GapOut, latest}
+use Rattle.gateway.specs.Log.{Restarted, LineOut, TcpOut, Closed, GapOut, latest}
 use Rattle.gateway.specs.Reports.{Setup, address_at, index_of, sent_to, sending_in, exchanges_of}
 use Rattle.gateway.specs.Reports.{reports_in}
 
@@ -113,6 +116,48 @@ heard_below p octets at e h = record {
       (below_heard (length p.addresses) octets e.current h.current);
 }
 
+-- A link that is given up leaves each exchange its station.
+marked_below : (n k : ℕ) (xs : List OpenExchange)
+    → AllByRecursion (λ (x : OpenExchange). x.station < n) xs
+    → AllByRecursion (λ (x : OpenExchange). x.station < n) (latest_marked k xs)
+marked_below n k [] h = tt
+marked_below n k (x ∷ xs) h =
+    go ((x.station == k) && not (has_one_with k xs)) (marked_below n k xs h.1)
+  where
+    go : (b : Bool) → AllByRecursion (λ (x : OpenExchange). x.station < n) (latest_marked k xs)
+        → AllByRecursion (λ (x : OpenExchange). x.station < n)
+        (if b then marked x ∷ xs else x ∷ latest_marked k xs)
+    go true rest = (h.0, h.1)
+    go false rest = (h.0, rest)
+
+given_below : (n k : ℕ) (e : Exchanges) → AreBelow n e → AreBelow n (given_up_at k e)
+given_below n k e h = go e.current h.current
+  where
+    go : (c : Option OpenExchange) → IsBelow n c → AreBelow n (given_up_from k e.ended c)
+    go None there = record { ended = marked_below n k e.ended h.ended; current = tt }
+    go (Some x) there = by_place (x.station == k)
+      where
+        by_place : (b : Bool) → AreBelow n
+            (if b then record { ended = e.ended; current = Some (marked x) }
+            else record { ended = latest_marked k e.ended; current = Some x })
+        by_place true = record { ended = h.ended; current = there }
+        by_place false =
+            record { ended = marked_below n k e.ended h.ended; current = there }
+
+upto_below : (p : Setup) (count : ℕ) (e : Exchanges) → AreBelow (length p.addresses) e
+    → AreBelow (length p.addresses)
+    (given_up_upto p.link (front_of p.link.size) p.addresses count e)
+upto_below p zero e h = h
+upto_below p (suc k) e h =
+    go (given_up_upto p.link (front_of p.link.size) p.addresses k e)
+    (awaits_command_in p.link (front_of p.link.size) p.addresses k
+    (given_up_upto p.link (front_of p.link.size) p.addresses k e)) (upto_below p k e h)
+  where
+    go : (f : Exchanges) (b : Bool) → AreBelow (length p.addresses) f
+        → AreBelow (length p.addresses) (if b then given_up_at k f else f)
+    go f true before = given_below (length p.addresses) k f before
+    go f false before = before
+
 are_below : (p : Setup) (log : Log) → AreBelow (length p.addresses) (exchanges_of p log)
 are_below p [] = record { ended = tt; current = tt }
 are_below p (Came now (LineIn octets) ∷ log) =
@@ -132,6 +177,8 @@ are_below p (Came now Ticked ∷ log) = timed_below p (latest (Came now Ticked �
 are_below p (Came now (WallIs number) ∷ log) =
     timed_below p (latest (Came now (WallIs number) ∷ log))
     (exchanges_of p log) (are_below p log)
+are_below p (Came now Restarted ∷ log) =
+    upto_below p (length p.addresses) (exchanges_of p log) (are_below p log)
 are_below p (Went now (LineOut octets) ∷ log) = below_begun p now (sending_in p octets) octets
     (exchanges_of p log) refl (are_below p log)
 are_below p (Went now (TcpOut octets) ∷ log) = are_below p log

@@ -76,6 +76,12 @@ front_keeps settings a link [] x h = tt
 front_keeps settings a link (y ∷ xs) x h =
     (h.0, front_keeps settings a (after settings a y link) xs x h.1)
 
+-- What holds of a link, and of one that is down, holds whether it is given up or not.
+pub by_mark : (P : Link → Type 0) (given : Bool) (link : Link) → P link → P Down
+    → P (if given then Down else link)
+by_mark P true link here down = down
+by_mark P false link here down = here
+
 -- The service that isn't done is the one that the link holds.
 
 abbrev pub Pends : Link → Option Service → Type 0
@@ -106,12 +112,7 @@ silent_pends settings fcb service false link = refl
 counted_pends : (settings : LinkSettings) (fcb : Bool) (service : Service) (m : Option Answer)
     (front : Option Frame)
     (closed : Bool) (link : Link) (pending : Option Service) →
-    Pends (after_outcome settings m (record {
-      request = Counted fcb service;
-      front = front;
-      closed =
-          closed;
-    }) link)
+    Pends (after_outcome settings m (Counted fcb service) closed link)
     (pending_by (Counted fcb service) m pending)
 counted_pends settings fcb service None front closed link pending =
     silent_pends settings fcb service closed link
@@ -138,7 +139,7 @@ down_pends (Held fcb service missed) pending h = absurd h
 status_pends : (settings : LinkSettings) (m : Option Answer) (front : Option Frame) (closed : Bool)
     (link : Link)
     (pending : Option Service) → IsDown link →
-    Pends (after_outcome settings m (record { request = Status; front = front; closed = closed })
+    Pends (after_outcome settings m Status closed
     link)
     (pending_by Status m pending)
 status_pends settings None front closed link pending h = tt
@@ -152,7 +153,7 @@ status_pends settings (Some Unable) front closed link pending h = tt
 reset_pends : (settings : LinkSettings) (m : Option Answer) (front : Option Frame) (closed : Bool)
     (link : Link)
     (pending : Option Service) → IsDown link →
-    Pends (after_outcome settings m (record { request = Reset; front = front; closed = closed })
+    Pends (after_outcome settings m Reset closed
     link)
     (pending_by Reset m pending)
 reset_pends settings None front closed link pending h = tt
@@ -178,7 +179,7 @@ may_reset (Held fcb service missed) h = h
 one_pends : (settings : LinkSettings) (request : Asked) (m : Option Answer) (front : Option Frame)
     (closed : Bool)
     (link : Link) (pending : Option Service) → MaySend link request →
-    Pends (after_outcome settings m (record { request = request; front = front; closed = closed })
+    Pends (after_outcome settings m request closed
     link)
     (pending_by request m pending)
 one_pends settings Status m front closed link pending h =
@@ -195,7 +196,8 @@ pub pends : (settings : LinkSettings) (a : ℕ) (link : Link) (pending : Option 
 pends settings a link pending [] h p = p
 pends settings a link pending (x ∷ xs) h p =
     pends settings a (after settings a x link) (pending_by x.request (answer_to a x) pending) xs h.1
-    (one_pends settings x.request (answer_to a x) x.front x.closed link pending h.0)
+    (by_mark (λ (l : Link). Pends l (pending_by x.request (answer_to a x) pending)) x.given_up _
+    (one_pends settings x.request (answer_to a x) x.front x.closed link pending h.0) tt)
 
 -- What an answer says
 
@@ -332,7 +334,7 @@ down_counts s (Held fcb service missed) n h = absurd h
 one_counts : (s : LinkSettings) (request : Asked) (m : Option Answer) (front : Option Frame)
     (closed : Bool)
     (link : Link) (n : ℕ) → MaySend link request → Counts s link n →
-    Counts s (after_outcome s m (record { request = request; front = front; closed = closed }) link)
+    Counts s (after_outcome s m request closed link)
     (missed_by request closed m n)
 one_counts s Status None front closed link n may c = tt
 one_counts s Status (Some Ready) front closed link n may c = tt
@@ -373,7 +375,8 @@ pub counts : (s : LinkSettings) (a : ℕ) (link : Link) (n : ℕ) (xs : List Exc
 counts s a link n [] h c = c
 counts s a link n (x ∷ xs) h c =
     counts s a (after s a x link) (missed_by x.request x.closed (answer_to a x) n) xs h.1
-    (one_counts s x.request (answer_to a x) x.front x.closed link n h.0 c)
+    (by_mark (λ (l : Link). Counts s l (missed_by x.request x.closed (answer_to a x) n)) x.given_up
+    _ (one_counts s x.request (answer_to a x) x.front x.closed link n h.0 c) tt)
 
 -- No link goes down where an answer is still awaited.
 pub still_up : (s : LinkSettings) (missed : ℕ) (request : Asked)

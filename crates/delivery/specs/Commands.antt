@@ -1,7 +1,7 @@
 -- Commands on a station's line: what the exchanges of the log show of them, and what the gateway's
 -- course tells of them (IEC 60870-5-2, unbalanced transmission procedures: SEND/CONFIRM; IEC
 -- 60870-5-101, 7.2).
-use Rattle.std.specs.Prelude.{◌≡◌, ℕ, suc, ◌==◌, ◌&&◌, not, nat_lt, Bool, true, false}
+use Rattle.std.specs.Prelude.{◌≡◌, ℕ, suc, ◌==◌, ◌&&◌, ◌||◌, not, nat_lt, Bool, true, false}
 use Rattle.std.specs.Prelude.{List, [], ◌∷◌, ◌++◌, map}
 use Rattle.std.specs.Prelude.{slice_get, slice_index, Option, Some, None, if◌then◌else◌}
 use Rattle.std.specs.Option.{option_map_or}
@@ -67,14 +67,14 @@ goes_down settings missed request closed (Some said) = false
 goes_down settings missed request closed None = is_silent settings missed request closed
 
 -- an exchange: its command, where it isn't the repeat of an unanswered one, what the answer says of
--- it, and whether the link goes down
+-- it, and whether the link goes down; it does, too, where it is given up at a restart
 abbrev pub steps_at : LinkSettings → (station missed : ℕ) → Option Service → Exchange →
     List LineStep
 steps_at settings station missed pending x =
     map (λ asdu. Begun asdu) (first_sending pending x.request)
     ++ (said_of x.request (answer_to station x)
-    ++ (if goes_down settings missed x.request x.closed (answer_to station x) then Lost ∷ []
-    else []))
+    ++ (if x.given_up || goes_down settings missed x.request x.closed (answer_to station x)
+    then Lost ∷ [] else []))
 
 -- exchanges with the station, one after another, the oldest first
 abbrev pub steps_in : LinkSettings → (station missed : ℕ) → Option Service → List Exchange →

@@ -11,7 +11,7 @@ use Rattle.link.specs.Delivery as outstation
 use Rattle.link.specs.Delivery.{Session, before_reset, sessions, learnt, reports, commands}
 use Rattle.link.specs.Delivery.{IsAllOrButLast, IsLatestAnswered, sendings_not_busy}
 use Rattle.link.specs.Delivery.{is_command_pending, pending_after}
-use Rattle.gateway.specs.Log.{Log}
+use Rattle.gateway.specs.Log.{Log, Came, Restarted}
 use Rattle.gateway.specs.Objects.{monitor_objects}
 use Rattle.gateway.specs.Reports.{Setup, address_at, exchanges_with, reports_in, taken_objects}
 use Rattle.gateway.specs.Frames.{AreInOrder}
@@ -33,6 +33,12 @@ IsHonest p log i turns =
 -- From its first answered reset on, the station is always up: no reset of the link was caused.
 abbrev pub IsSteady : Setup → Log → ℕ → Type 0
 IsSteady p log i = link.IsSteady p.link (address_at p.addresses i) Down (exchanges_with p i log)
+
+-- The log is that of one life: the gateway wasn't started again.
+abbrev pub IsOneLife : Log → Type 0
+IsOneLife [] = Unit {0}
+IsOneLife (Came now Restarted ∷ log) = ⊥
+IsOneLife (entry ∷ log) = IsOneLife log
 
 -- What was taken
 

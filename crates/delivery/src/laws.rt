@@ -1,5 +1,5 @@
 //! The laws.
-ghost use Rattle.std.specs.Prelude.{◌≡◌, ◌≢◌, ◌<◌, ◌≤◌, ◌++◌, ℕ, true, List, length, Some};
+ghost use Rattle.std.specs.Prelude.{◌≡◌, ◌≢◌, ◌<◌, ◌≤◌, ◌++◌, ℕ, true, false, List, length, Some};
 ghost use Rattle.std.specs.Prelude.{flat_map};
 ghost use Rattle.std.specs.List.{AllByRecursion};
 ghost use Rattle.link.specs.declared.answer.Answer.TheVariants.{Unable};
@@ -12,14 +12,14 @@ ghost use Rattle.gateway.specs.Reports.{Setup, address_at, exchanges_with};
 ghost use Rattle.gateway.specs.Gaps.{gaps_told};
 ghost use Rattle.gateway.specs.Traffic.{IsFaithful, HasRested};
 ghost use Rattle.delivery.specs.Delivery.{IsHonest, IsSteady, reports_from, Delivers};
-ghost use Rattle.delivery.specs.Delivery.{before_sessions, sessions_of, IsIdle};
+ghost use Rattle.delivery.specs.Delivery.{before_sessions, sessions_of, IsIdle, IsOneLife};
 ghost use Rattle.delivery.specs.Sessions.{ended, given_in, taken_in, session_counts};
 ghost use Rattle.delivery.specs.Sessions.{LoseAsTold};
 
 use crate::commands::each_command_is_given_once;
 use link::{
-    commands_are_accepted, each_service_acts_once, gaps_are_ended_sessions, reports_are_learnt,
-    sessions_are_known,
+    commands_are_accepted, each_service_acts_once, gaps_are_ended_sessions, giving_up_is_told,
+    reports_are_learnt, sessions_are_known,
 };
 
 /// Whatever serial frames are lost or refused by their check, whatever answers time out, however
@@ -82,6 +82,7 @@ pub fn losses_are_told()
 {
     each_session_is_known();
     gaps_are_ended_sessions();
+    giving_up_is_told();
 }
 
 /// Of the reports that the outstation gave in sessions that ended, at most as many were not taken
@@ -99,12 +100,16 @@ pub fn losses_have_gaps()
 }
 
 /// Where unanswered services are held, a link stays up as long as its station never answers that it
-/// can't serve (14 or 15).
+/// can't serve (14 or 15) and no restart gives up a command to it. In one life of a gateway there
+/// is no restart.
 pub fn silence_is_no_reset()
-    ensures { (p : Setup) (log : Log) (i : ℕ) → IsFaithful p log → i < length p.addresses →
+    ensures held { (p : Setup) (log : Log) (i : ℕ) → IsFaithful p log → i < length p.addresses →
         p.link.hold ≡ true →
         AllByRecursion (λ x. answer_to (address_at p.addresses i) x ≢ Some Unable)
-        (exchanges_with p i log) → IsSteady p log i }
+        (exchanges_with p i log) →
+        AllByRecursion (λ x. x.given_up ≡ false) (exchanges_with p i log) → IsSteady p log i }
+    ensures one_life { (p : Setup) (log : Log) (i : ℕ) → IsOneLife log →
+        AllByRecursion (λ x. x.given_up ≡ false) (exchanges_with p i log) }
 {
     link::silence_is_no_reset();
 }

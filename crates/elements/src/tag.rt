@@ -51,6 +51,7 @@ fn read_fields(tag: &Cp56) -> Fields
         millisecond: u16::from(low) + 256 * u16::from(high),
         minute: minute & 0x3F,
         invalid: minute >= 0x80,
+        // Summer time (SU) and reserved bits play no part: a tag counts as UTC (profile).
         hour: hour & 0x1F,
         day: day & 0x1F,
         weekday: day >> 5,
@@ -83,6 +84,7 @@ fn judge_fields(tag: Fields) -> Verdict
     {
         return Verdict::OutOfRange;
     }
+    // The standard's year names no century. From 2000 on is this gateway's profile.
     let year = 2000 + i16::from(tag.year);
     let Ok(date) = Date::new(year, tag.month as i8, tag.day as i8) else {
         return Verdict::NoSuchDay;

@@ -103,6 +103,7 @@ pub fn kind(octet: u8) -> Option<TypeId>
         60 => TypeId::CRcTa1,
         61 => TypeId::CSeTa1,
         62 => TypeId::CSeTb1,
+        // Types with the short tag CP24Time2a are among them: IEC 60870-5-104 doesn't use it.
         _ => return None,
     })
 }
@@ -185,6 +186,8 @@ impl TypeId {
             TypeId::MSpNa1 | TypeId::MSpTb1 => i64::from(Siq::get(octets).0 & 1),
             TypeId::MDpNa1 | TypeId::MDpTb1 => i64::from(Diq::get(octets).0 & 3),
             TypeId::MStNa1 | TypeId::MStTb1 => seven_bits(Vti::get(octets).vti & 0x7F),
+            // A short float too: as bits it isn't rounded, and no NaN is lost (docs/DECISIONS.md,
+            // "Short floats as bits").
             TypeId::MBoNa1 | TypeId::MMeNc1 | TypeId::MBoTb1 | TypeId::MMeTf1 => i64::from(
                 Bsi::get(octets).bits,
             ),

@@ -12,6 +12,7 @@ impl Events {
         ensures ok { OnOk result (self.new ≡ carried places self.old) }
         ensures err { OnErr result (self.new ≡ self.old) }
     {
+        // Never smaller: each piece that is kept stays (docs/DECISIONS.md, "The queue's places").
         if self.ring.capacity() < places {
             self.ring.resize(places).map_err(|_| NoMemory)?;
         }

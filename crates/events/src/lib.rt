@@ -75,6 +75,8 @@ impl Events {
     pub fn new(alloc: Global, places: usize) -> Result<Events, NoMemory>
         ensures { IfOk result (λ e. e ≡ empty places) }
     {
+        // All its room now, since nothing takes memory later (docs/DECISIONS.md, "Rings from the
+        // start").
         let ring = HeapCircularBuffer::with_capacity(alloc, places).map_err(|_| NoMemory)?;
         Ok(Events {
             ring,
@@ -87,6 +89,7 @@ impl Events {
     pub fn free(&self) -> usize
         ensures { result ≡ free_places self.now }
     {
+        // After settings with a smaller queue there may be more pieces than places.
         self.places.saturating_sub(self.ring.len())
     }
 
@@ -140,6 +143,7 @@ impl Events {
         ensures queue { self.new ≡ pushed (take 1 left.old) self.old }
         ensures others { left.new ≡ drop 1 left.old }
     {
+        // Where it will stand: a move would copy 249 octets.
         let newest = self.ring.len();
         let _ = self.ring.try_push_back(Piece::new());
         let Some(piece) = self.ring.get_mut(newest) else {

@@ -75,6 +75,8 @@ impl Events {
             return Err(StateFault::Wrong);
         }
         let count = kept as usize;
+        // All pieces stay, even if there are fewer places now (docs/DECISIONS.md, "The queue's
+        // places").
         let Ok(mut events) = Events::new(alloc, places.max(count)) else {
             return Err(StateFault::NoMemory);
         };

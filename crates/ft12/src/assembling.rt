@@ -66,6 +66,8 @@ fn look(looked: &mut u64, octet: &u8) -> u8
     ensures value { result ≡ octet.now }
     ensures counted { looked.new ≡ min (looked.old + 1) (2 ^ 64 - 1) }
 {
+    // At its limit the count stays: one that wrapped would say too little (docs/DECISIONS.md,
+    // "Octets looked at").
     *looked = looked.saturating_add(1);
     *octet
 }
@@ -90,6 +92,9 @@ impl Assembler {
     pub fn put_so_far(&self, line: &mut Vec<u64>) -> Result<(), AllocError>
         ensures { OnOk result (line.new.items ≡ line.old.items ++ so_far_numbers self.now.so_far) }
     {
+        // The octets are put and not the stage: they are read back by feeding them, so no line
+        // makes a stage that no octets make (docs/DECISIONS.md, "The state that was put, or
+        // nothing").
         match self.stage {
             None => line.push(0)?,
             Some(stage) => {
@@ -117,6 +122,7 @@ impl Assembler {
         ensures fresh { octets.now ≡ [] → IsSome result }
     {
         let mut assembler = Assembler::new(size);
+        // A whole frame would have been given out, so no assembler that was put has one.
         match assembler.feed(octets).1 {
             Heard::More => Some(assembler),
             _ => None,
@@ -155,6 +161,8 @@ impl Assembler {
         ensures counted { self.new.looked
             ≡ min (self.old.looked + looked_at self.old.so_far result.0 result.1) (2 ^ 64 - 1) }
     {
+        // No frame is sought behind a fault: a station sends its next one only when it is asked
+        // again, and the caller then clears.
         let Some(mut stage) = self.stage else {
             return (piece.len(), Heard::Deaf);
         };
@@ -252,6 +260,8 @@ impl Assembler {
                     self.stage = None;
                     return piece.len();
                 }
+                // A frame ends with its end octet, before which this loop stops, or is the single
+                // character, which the caller keeps from it.
                 Step::Whole(_) => unreachable!(),
             }
         }

@@ -25,6 +25,8 @@ fn tail_of(len: usize, octets: &[u8]) -> Tail
     let Some(sum) = octets.get(len) else {
         return Tail::Incomplete;
     };
+    // The sum before the end octet: the lowest wrong place counts (docs/DECISIONS.md, "The place
+    // of a refusal").
     if *sum != sum_of(&octets[..len]) {
         return Tail::WrongSum;
     }
@@ -94,6 +96,7 @@ fn variable(size: LinkSize, rest: &[u8]) -> FrontRef<'_>
     let Some((len, rest)) = rest.split_first() else {
         return FrontRef::More;
     };
+    // Before the second length has come: a refusal comes as soon as the octets decide it.
     if usize::from(*len) < 1 + size.octets() {
         return FrontRef::Never(1, Why::LengthSmall);
     }

@@ -225,6 +225,7 @@ impl Summing {
                 c,
                 a,
             }),
+            // A length without room for the fields was refused when it came.
             _ => unreachable!(),
         }
     }
@@ -297,6 +298,7 @@ fn at_start(size: LinkSize, octet: u8) -> Step
 {
     match octet {
         SINGLE => Step::Whole(BareFrame::Single),
+        // A fixed frame doesn't say its length: it has no data.
         START_FIXED => Step::More(Stage::User(Summing {
             kind: Kind::Fixed,
             len: 1 + size.octets() as u8,
@@ -337,6 +339,7 @@ fn at_second_start(len: u8, octet: u8) -> Step
     ensures inner { EndsNoFrame result }
 {
     if octet == START_DATA {
+        // From 0, since neither start octets nor lengths are in the sum (IEC 60870-5-1, 6.2.4.2).
         Step::More(Stage::User(Summing {
             kind: Kind::Variable,
             len,

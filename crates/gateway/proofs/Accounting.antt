@@ -1,21 +1,19 @@
 -- What a state between two steps keeps and has counted.
 use Rattle.std.proofs.Common.{◌≡◌, [], ◌∷◌, length, drop, refl, ap, sym, subst, ◌∙◌, Option, Some}
 use Rattle.std.proofs.Common.{None}
-use Rattle.std.specs.Prelude.{IfSome, Bool, true, false, if◌then◌else◌}
+use Rattle.std.specs.Prelude.{IfSome, Bool, true, false}
 use Rattle.std.specs.List.{flat_map}
 use Rattle.std.specs.Bool.{OnTrue}
 use Rattle.std.proofs.Math.Seq.{drop-append_seam}
 use Rattle.events.specs.Queue.{kept}
-use Rattle.gateway.specs.Log.{Log, latest, tell}
+use Rattle.gateway.specs.Log.{Log, tell}
 use Rattle.gateway.specs.Runs.{UnlessDevice}
 use Rattle.gateway.specs.declared.runs.End.{End}
 use Rattle.gateway.specs.declared.runs.End.TheVariants.{Finished, Turns, Device}
 use Rattle.gateway.specs.Objects.{objects}
 use Rattle.gateway.specs.Reports.{Setup, taken_objects, taken_pieces, reports_in, parts_of_all}
-use Rattle.gateway.specs.Course.{here_of, room_in}
+use Rattle.gateway.specs.Course.{here_of}
 use Rattle.gateway.specs.Serial.{Serial}
-use Rattle.gateway.specs.Works.{unasked_works, ready_works}
-use Rattle.gateway.specs.Line.{done_in}
 use Rattle.gateway.specs.Phases.{resting}
 use Rattle.gateway.specs.State.{State}
 use Rattle.gateway.specs.Agrees.{Agrees, Carries, Follows}
@@ -24,6 +22,7 @@ use Rattle.gateway.specs.Traffic.{IsFaithful}
 use Rattle.gateway.specs.Order.{KeepsOrder}
 use Rattle.gateway.proofs.Agreement.{faithful}
 use Rattle.gateway.proofs.Closing.{stands_now}
+use Rattle.gateway.proofs.Learning.{at_rest_works}
 use Rattle.gateway.proofs.Objects.{carries_end}
 
 accounted_at : (p : Setup) (s : State) (log : Log) (a : Agrees p s log [] (resting log))
@@ -35,7 +34,7 @@ accounted_at p s log a = record {
   left = sym (ap (λ n. drop n (taken_objects p log)) (sym all.front)
       ∙ ap (drop (length all.gone)) all.joined
       ∙ drop-append_seam all.gone (flat_map objects (kept s.centre.queue)));
-  counts = counted log a;
+  counts = ap (λ (z : Serial). z.counts) (at_rest_works p s log a);
   spoilt = a.line.spoilt;
 }
   where
@@ -46,14 +45,6 @@ accounted_at p s log a = record {
         (taken_pieces p log) a.course.earlier
         (here_of a.course) s.centre.session s.centre.queue.sent s.centre.queue.unsent a.here.tied
         a.carries
-
-    counted : (log : Log) (a : Agrees p s log [] (resting log))
-        → s.serial.counts ≡ (done_in p log a.course).serial.counts
-    counted [] a = ap (λ (z : Serial). z.counts) a.stands.does
-        ∙ sym (ap (λ b. (if b then unasked_works (latest []) (room_in p [] a.course)
-        (ready_works (latest []) a.course.works) else a.course.works).serial.counts)
-        a.stands.asks.0)
-    counted (entry ∷ log) a = ap (λ (z : Serial). z.counts) a.stands.does
 
 untold : (old : Option Log) → tell old [] ≡ old
 untold None = refl

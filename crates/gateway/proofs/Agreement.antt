@@ -169,17 +169,15 @@ pub same_asks : (phase : Phase) (at : ℕ) (room other : Bool) (w : Works) → o
     → IsAsked phase at other w
 same_asks phase at room other w same h = subst (λ r. IsAsked phase at r w) (sym same) h
 
-pub phase_out : (phase : Phase) (log : Log) (now : ℕ) (octets : List ℕ) → (present log).is_open
-    ≡ true
+pub phase_out : (phase : Phase) (log : Log) (now : ℕ) (octets : List ℕ) → IsFlushing phase
     → IsPhase phase log → IsPhase phase (Went now (TcpOut octets) ∷ log)
-phase_out Fresh log now octets on h = let no : false ≡ true = sym (ap (λ l. (present l).is_open) h)
-    ∙ on in cc
-phase_out Taking log now octets on h = h
-phase_out Idle log now octets on h = tt
-phase_out Crowded log now octets on h = tt
-phase_out Judged log now octets on h = h
-phase_out Timed log now octets on h = tt
-phase_out Asked log now octets on h = tt
+phase_out Fresh log now octets flushing h = absurd flushing
+phase_out Taking log now octets flushing h = h
+phase_out Idle log now octets flushing h = tt
+phase_out Crowded log now octets flushing h = tt
+phase_out Judged log now octets flushing h = h
+phase_out Timed log now octets flushing h = tt
+phase_out Asked log now octets flushing h = tt
 
 left_out : (phase : Phase) (log : Log) (now : ℕ) (octets so_far unjudged : List ℕ)
     → IsLeftIn phase log so_far unjudged
@@ -209,7 +207,7 @@ placed_on Asked log new h g on same k = λ o. same ∙ k (on o)
 placed_in : (phase : Phase) (log : Log) (h : happened.History) → IsFlushing phase
     → IsPlaced phase log h
     → (present log).is_open ≡ true → has_lacked_place h ≡ false
-placed_in Fresh log h flushing placed on = placed on
+placed_in Fresh log h flushing placed on = absurd flushing
 placed_in Taking log h flushing placed on = absurd flushing
 placed_in Judged log h flushing placed on = placed on
 placed_in Idle log h flushing placed on = placed on
@@ -286,7 +284,7 @@ begun_by p s log unjudged phase a flushing = by_phase phase flushing a.left
     by_phase : (phase : Phase) → IsFlushing phase
         → IsLeftIn phase log (pending s.centre.so_far) unjudged
         → HasBegun log a.course
-    by_phase Fresh f h = none_left h
+    by_phase Fresh f h = absurd f
     by_phase Taking f h = absurd f
     by_phase Judged f h = some_left h
     by_phase Idle f h = none_left h
@@ -480,7 +478,7 @@ after_piece p s log unjudged asdu rest phase a flushing ready may on none unsent
         asks =
             same_asks phase (latest log) _ _ a.course.works room a.stands.asks;
         phase_is =
-            phase_out phase log s.moment _ (sym a.here.link ∙ on) a.stands.phase_is;
+            phase_out phase log s.moment _ flushing a.stands.phase_is;
         placed =
             placed_on phase log _ _ _ (λ o. o) refl a.stands.placed;
       };
@@ -575,7 +573,7 @@ after_own p s log unjudged asdu phase a flushing ready may on first fits =
         asks = same_asks phase (latest log) _ _ w room
             (asked_own a.course.works asdu oldest phase (latest log) (room_in p log a.course)
             a.stands.asks);
-        phase_is = phase_out phase log s.moment _ (sym a.here.link ∙ on) a.stands.phase_is;
+        phase_is = phase_out phase log s.moment _ flushing a.stands.phase_is;
         placed = placed_on phase log _ _ _ (λ o. o) (own_placed a.course.works asdu oldest)
             a.stands.placed;
       };
@@ -645,7 +643,7 @@ after_due p s t log unjudged f phase a flushing next on fits none goes same = re
     does = a.stands.does;
     asks = a.stands.asks;
     phase_is =
-        phase_out phase log s.moment _ (sym a.here.link ∙ on) a.stands.phase_is;
+        phase_out phase log s.moment _ flushing a.stands.phase_is;
     placed =
         placed_on phase log _ _ _ (λ o. o) refl a.stands.placed;
   };

@@ -4,18 +4,19 @@ use Rattle.std.specs.Prelude.{if◌then◌else◌}
 use Rattle.session.specs.declared.kinds.Close.{Close}
 use Rattle.session.specs.declared.kinds.Close.TheVariants.{Grammar, SendNumber, ReceiveNumber}
 use Rattle.session.specs.declared.kinds.Close.TheVariants.{Stopped, Timeout, OwnAnswers, Replaced}
-use Rattle.gateway.specs.Log.{Log, LineIn, Opened, TcpIn, CutOff, Ticked, WallIs, LineOut, TcpOut}
-use Rattle.gateway.specs.Log.{Closed, GapOut, Came, Went, latest}
+use Rattle.gateway.specs.Log.{Log, LineIn, Opened, TcpIn, CutOff, Ticked, WallIs, Restarted}
+use Rattle.gateway.specs.Log.{LineOut, TcpOut, Closed, GapOut, Came, Went, latest}
 use Rattle.gateway.specs.Connections.{present}
 use Rattle.gateway.specs.Reports.{Setup}
 use Rattle.gateway.specs.Serial.{Serial}
-use Rattle.gateway.specs.Works.{Works, unasked_works, ready_works}
+use Rattle.gateway.specs.Works.{Works, unasked_works, ready_works, done_works}
 use Rattle.gateway.specs.Course.{Course, closed_course, room_in, Runs}
-use Rattle.gateway.specs.Phases.{Asked, resting}
+use Rattle.gateway.specs.Phases.{resting}
 use Rattle.gateway.specs.State.{State, IsBetweenSteps}
 use Rattle.gateway.specs.Agrees.{Agrees}
 use Rattle.gateway.proofs.Order.{frames_due, sent_due, closed_due, frames_others, sent_others}
-use Rattle.gateway.proofs.Working.{gap_in}
+use Rattle.gateway.proofs.Restarting.{restarted_silent}
+use Rattle.gateway.proofs.Learning.{at_rest_works, none_left}
 
 -- Nothing but the timers touches the silence of a step
 
@@ -29,6 +30,15 @@ closed_silent p Stopped is_open at c h = h
 closed_silent p Timeout is_open at c h = refl
 closed_silent p OwnAnswers is_open at c h = h
 closed_silent p Replaced is_open at c h = h
+
+done_silent : (at : ℕ) (room : Bool) (w : Works)
+    → (w.is_due ≡ false → w.serial.silent ≡ None) → (done_works at room w).serial.silent ≡ None
+done_silent at room w h = by_due w.is_due h
+  where
+    by_due : (b : Bool) → (b ≡ false → w.serial.silent ≡ None)
+        → (if b then unasked_works at room (ready_works at w) else w).serial.silent ≡ None
+    by_due true h = refl
+    by_due false h = h refl
 
 -- and a request goes out behind the timers
 none_silent : (p : Setup) (log : Log) (c : Course) → Runs p log c → c.works.is_due ≡ false
@@ -47,6 +57,10 @@ none_silent p (Came now Opened ∷ log) c r due =
     let no : true ≡ false = sym (ap (λ (d : Course). d.works.is_due) r.5) ∙ due in absurd (cc)
 none_silent p (Came now CutOff ∷ log) c r due =
     let no : true ≡ false = sym (ap (λ (d : Course). d.works.is_due) r.5) ∙ due in absurd (cc)
+none_silent p (Came now Restarted ∷ log) c r due =
+    ap (λ (d : Course). d.works.serial.silent) r.5.1 ∙ restarted_silent r.1.works
+    ∙ ap (λ (d : Course). d.works.serial.silent) r.4.is
+    ∙ done_silent (latest log) (room_in p log r.0) r.0.works (none_silent p log r.0 r.2)
 none_silent p (Went now (LineOut octets) ∷ log) c r due =
     ap (λ (d : Course). d.works.serial.silent) r.2.is
 none_silent p (Went now (GapOut station session) ∷ log) c r due =
@@ -68,25 +82,12 @@ none_silent p (Went now (Closed cause) ∷ log) c r due =
 
 -- The end of a step
 
-done_silent : (b : Bool) (at : ℕ) (room : Bool) (w : Works) → (b ≡ false → w.serial.silent ≡ None)
-    → (if b then unasked_works at room (ready_works at w) else w).serial.silent ≡ None
-done_silent true at room w h = refl
-done_silent false at room w h = h refl
-
 pub between_steps : (p : Setup) (s : State) (log : Log) → Agrees p s log [] (resting log)
     → IsBetweenSteps s
-between_steps p s [] a = record {
-  silent = ap (λ (t : Serial). t.silent) a.stands.does
-      ∙ none_silent p [] a.course a.talk.course_runs a.stands.asks.0;
-  gap = ap (λ (t : Serial). t.gap) a.stands.does ∙ a.stands.asks.1;
-  heard = a.here.taken;
-}
-between_steps p s (entry ∷ log) a = record {
-  silent = ap (λ (t : Serial). t.silent) a.stands.does
-      ∙ done_silent a.course.works.is_due _ (room_in p (entry ∷ log) a.course) a.course.works
-      (none_silent p (entry ∷ log) a.course a.talk.course_runs);
-  gap = ap (λ (t : Serial). t.gap) a.stands.does
-      ∙ gap_in Asked (latest (entry ∷ log)) (room_in p (entry ∷ log) a.course) a.course.works
-      ∙ a.stands.asks.2;
+between_steps p s log a = record {
+  silent = ap (λ (t : Serial). t.silent) (at_rest_works p s log a)
+      ∙ done_silent (latest log) (room_in p log a.course) a.course.works
+      (none_silent p log a.course a.talk.course_runs);
+  gap = none_left p s log a;
   heard = a.here.taken;
 }

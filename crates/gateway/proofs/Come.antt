@@ -19,8 +19,9 @@ use Rattle.link.specs.Telling.{Tells, report_in, gap_in_outcome}
 use Rattle.session.specs.Session.{is_transferring as is_transferring_of}
 use Rattle.gateway.specs.Objects.{objects, has_objects, monitor_objects, parts_of, typed_pieces}
 use Rattle.gateway.specs.Objects.{pieces_of_report}
-use Rattle.gateway.specs.Log.{Log, Input, LineIn, Opened, TcpIn, CutOff, Ticked, WallIs, Came}
-use Rattle.gateway.specs.Log.{latest, last_moment}
+use Rattle.gateway.specs.Log.{Log, Input, LineIn, Opened, TcpIn, CutOff, Ticked, WallIs, Restarted}
+use Rattle.gateway.specs.Log.{Came, latest, last_moment}
+use Rattle.gateway.specs.Ports.{IsOfPort}
 use Rattle.gateway.specs.Gaps.{gaps_told}
 use Rattle.gateway.specs.Frames.{transfers}
 use Rattle.gateway.specs.Connections.{present}
@@ -342,28 +343,29 @@ only_time laws p s t log now event fits a other works is b =
       whole = refl;
     })
 
--- the same for each event
+-- the same for each event of a port
 pub heard_event : (laws : LineLaws) (p : Setup) (s t : State) (log : Log) (now : ℕ) (event : Input)
     (fits : Bool)
-    → (a : Agrees p s log [] (resting log)) → steps.Begins s now event fits t
+    → IsOfPort event → (a : Agrees p s log [] (resting log)) → steps.Begins s now event fits t
     → Heard p s t log now event (left_of p log a.course) fits
-heard_event laws p s t log now (LineIn octets) fits a b =
+heard_event laws p s t log now (LineIn octets) fits of a b =
     heard_line laws p s t log now octets fits a b
-heard_event laws p s t log now Opened fits a b =
+heard_event laws p s t log now Opened fits of a b =
     only_time laws p s t log now Opened fits a (λ middle t fits h. h)
     (λ at c z is. is) refl b
-heard_event laws p s t log now (TcpIn octets) fits a b =
+heard_event laws p s t log now (TcpIn octets) fits of a b =
     only_time laws p s t log now (TcpIn octets) fits a (λ middle t fits h. h) (λ at c z is. is) refl
     b
-heard_event laws p s t log now CutOff fits a b =
+heard_event laws p s t log now CutOff fits of a b =
     only_time laws p s t log now CutOff fits a (λ middle t fits h. h)
     (λ at c z is. is) refl b
-heard_event laws p s t log now (WallIs number) fits a b =
+heard_event laws p s t log now (WallIs number) fits of a b =
     only_time laws p s t log now (WallIs number) fits a (λ middle t fits h. h) (λ at c z is. is)
     refl b
-heard_event laws p s t log now Ticked fits a b =
+heard_event laws p s t log now Ticked fits of a b =
     only_time laws p s t log now Ticked fits a (λ middle t fits h. h)
     (λ at c z is. is) refl b
+heard_event laws p s t log now Restarted fits of a b = absurd of
 
 -- what found a place before the event
 pub placed_before : (p : Setup) (s : State) (log : Log) (a : Agrees p s log [] (resting log))
@@ -375,4 +377,5 @@ placed_before p s log a on = done_placed (latest log) (room_in p log a.course) a
         → IsPlaced (resting log) log a.course.works.history
         → has_lacked_place a.course.works.history ≡ false
     at_rest [] on h = h on
+    at_rest (Came now Restarted ∷ log) on h = h on
     at_rest (entry ∷ log) on h = h on

@@ -54,6 +54,7 @@ use Rattle.gateway.proofs.Agreement.{has_places, same_room}
 use Rattle.gateway.proofs.Hearing.{now_idle}
 use Rattle.gateway.proofs.Put.{told_faithful}
 use Rattle.gateway.proofs.Stations.{octets_of, taken_grows, pieces_grow, parts_grow, after_request}
+use Rattle.gateway.specs.Ports.{IsOfPort}
 use Rattle.gateway.proofs.Come.{Heard, heard_event, Worked}
 use Rattle.gateway.proofs.Connecting.{Counts, come_other, come_course, come_open, come_replaced}
 use Rattle.gateway.proofs.Connecting.{come_cut, come_bytes, opened_faithful}
@@ -573,10 +574,10 @@ begins s a m t now event fits e hears times = record {
 
 heard_in : (laws : LineLaws) (p : Setup) (s t : State) (now : ℕ) (event : Input) (fits : Bool)
     (log : Log)
-    → Begins s now event fits t → (h : HasCome p s now event log)
+    → IsOfPort event → Begins s now event fits t → (h : HasCome p s now event log)
     → Heard p s t h.before now event (left_of p h.before h.agrees.course) fits
-heard_in laws p s t now event fits log b h = heard_event laws p s t h.before now event fits h.agrees
-    b
+heard_in laws p s t now event fits log of b h = heard_event laws p s t h.before now event fits of
+    h.agrees b
 
 as_log : (p : Setup) (t : State) (now : ℕ) (event : Input) (log before : Log) (unjudged : List ℕ)
     (phase : Phase)
@@ -599,7 +600,7 @@ pub told_line : (p : Setup) (told : Option Log) (s t : State) (now : ℕ) (octet
     → IfSome told (HasCome p s now (LineIn octets)) → Tracks p t told [] Idle
 told_line p None s t now octets fits laws fit b h = tt
 told_line p (Some log) s t now octets fits laws fit b h =
-    let heard = heard_in laws p s t now (LineIn octets) fits log b h in
+    let heard = heard_in laws p s t now (LineIn octets) fits log tt b h in
     as_log p t now (LineIn octets) log h.before [] Idle h.is
     (come_other p s t h.before now (LineIn octets) fits true t.wall (heard.wall
     ∙ h.agrees.wall) (λ yes on. fit (ap (λ (c : Centre). is_open c.session) heard.centre
@@ -613,7 +614,7 @@ pub told_overfull : (p : Setup) (told : Option Log) (s t : State) (now : ℕ) (o
     → IfSome told (HasCome p s now (LineIn octets)) → IfSome told (MayClose p t OwnAnswers Idle)
 told_overfull p None s t now octets fits laws off on b h = tt
 told_overfull p (Some log) s t now octets fits laws off on b h =
-    let heard = heard_in laws p s t now (LineIn octets) fits log b h in
+    let heard = heard_in laws p s t now (LineIn octets) fits log tt b h in
     let none : Counts false fits h.before = λ no on. let never : false ≡ true = no in cc in
     let a = come_other p s t h.before now (LineIn octets) fits false t.wall (heard.wall
     ∙ h.agrees.wall) none (refl, refl, refl) (on_line h.before now octets) h.rested h.agrees
@@ -641,7 +642,7 @@ pub told_tick : (p : Setup) (told : Option Log) (s t : State) (now : ℕ) (fits 
     → Begins s now Ticked fits t → IfSome told (HasCome p s now Ticked) → Tracks p t told [] Idle
 told_tick p None s t now fits laws b h = tt
 told_tick p (Some log) s t now fits laws b h =
-    let heard = heard_in laws p s t now Ticked fits log b h in
+    let heard = heard_in laws p s t now Ticked fits log tt b h in
     as_log p t now Ticked log h.before [] Idle h.is
     (come_other p s t h.before now Ticked fits true t.wall (heard.wall
     ∙ h.agrees.wall) (λ yes on. b.hears.1) (refl, refl, refl)
@@ -655,7 +656,7 @@ pub told_wall : (p : Setup) (told : Option Log) (s t u : State) (now number : �
     → Tracks p u told [] Idle
 told_wall p None s t u now number fits laws b is h = tt
 told_wall p (Some log) s t u now number fits laws b is h =
-    let heard = heard_in laws p s t now (WallIs number) fits log b h in
+    let heard = heard_in laws p s t now (WallIs number) fits log tt b h in
     let shown : Option Wall = Some (record { moment = t.moment; number = number }) in
     subst (λ x. Agrees p x log [] Idle) (sym is) (as_log p (with_wall number t) now (WallIs number)
     log h.before
@@ -672,7 +673,7 @@ told_cut p None s t u now fits laws b is h = tt
 told_cut p (Some log) s t u now fits laws b is h = subst (λ x. Agrees p x log [] Idle) (sym is)
     (as_log p (disconnected t) now CutOff log h.before [] Idle h.is
     (come_cut laws p s t h.before now fits h.rested h.agrees
-    (heard_in laws p s t now CutOff fits log b h)))
+    (heard_in laws p s t now CutOff fits log tt b h)))
 
 pub told_open : (p : Setup) (told : Option Log) (s t u : State) (now : ℕ) (fits : Bool) → LineLaws
     → Begins s now Opened fits t → is_open t.centre.session ≡ false → u ≡ connected (disconnected t)
@@ -682,7 +683,7 @@ told_open p (Some log) s t u now fits laws b off is h =
     subst (λ x. Agrees p x log [] Idle) (sym is) (as_log p (connected (disconnected t)) now Opened
     log h.before
     [] Idle h.is (come_open laws p s t h.before now fits h.rested h.agrees
-    (heard_in laws p s t now Opened fits log b h) off))
+    (heard_in laws p s t now Opened fits log tt b h) off))
 
 pub told_replaced : (p : Setup) (told after : Option Log) (s t u : State) (now moment : ℕ)
     (fits : Bool) → LineLaws
@@ -701,7 +702,7 @@ told_replaced p told after s t u now moment fits laws b on is e same h =
         subst (λ l. Agrees p (connected (disconnected t)) (Went t.moment (Closed Replaced) ∷ l) []
         Idle) (sym h.is)
         (come_replaced laws p s t h.before now fits h.rested h.agrees
-        (heard_in laws p s t now Opened fits log b h) on)
+        (heard_in laws p s t now Opened fits log tt b h) on)
 
 -- where the close couldn't be put out
 pub told_unreplaced : (p : Setup) (told : Option Log) (s t : State) (now : ℕ) (fits : Bool)
@@ -710,7 +711,7 @@ pub told_unreplaced : (p : Setup) (told : Option Log) (s t : State) (now : ℕ) 
 told_unreplaced p None s t now fits laws b h = tt
 told_unreplaced p (Some log) s t now fits laws b h = subst (IsFaithful p) (sym h.is)
     (opened_faithful laws p s t h.before now fits h.rested h.agrees
-    (heard_in laws p s t now Opened fits log b h))
+    (heard_in laws p s t now Opened fits log tt b h))
 
 -- how many octets have been received once more came
 received_by : (b : Bool) (c : Channel) (octets : List ℕ) → c.is_open ≡ b
@@ -739,7 +740,7 @@ pub told_bytes : (b : Bool) (p : Setup) (told : Option Log) (s t : State) (now :
 told_bytes b p None s t now octets fits laws begun is h = tt
 told_bytes b p (Some log) s t now octets fits laws begun is h =
     let agrees = come_bytes p s t h.before now octets fits begun.hears.1 h.rested h.agrees
-    (heard_in laws p s t now (TcpIn octets) fits log begun h) in
+    (heard_in laws p s t now (TcpIn octets) fits log tt begun h) in
     let same : t ≡ line_timed (at_moment s now) = begun.times ∙ ap line_timed begun.hears.0 in
     let more : List ℕ = if b then octets else [] in
     let open_is : (present h.before).is_open ≡ b = sym h.agrees.here.link

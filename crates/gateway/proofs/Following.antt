@@ -5,34 +5,74 @@ use Rattle.std.proofs.Common.{length-append}
 use Rattle.std.specs.Prelude.{IfSome, option_map}
 use Rattle.std.specs.Bool.{OnTrue}
 use Rattle.session.specs.Ends.{IsConfirmed}
-use Rattle.gateway.specs.Log.{Log, LogEntry, events_of, Input}
+use Rattle.gateway.specs.Log.{Log, LogEntry, events_of, Input, Restarted, latest}
 use Rattle.gateway.specs.Log.{Came, tell}
 use Rattle.gateway.specs.Reports.{Setup}
-use Rattle.gateway.specs.Serial as serial
-use Rattle.gateway.specs.Course.{Course, first_course}
-use Rattle.gateway.specs.Phases.{Fresh, Asked, IsOut}
+use Rattle.gateway.specs.Course.{Course, room_in, Runs}
+use Rattle.gateway.specs.Phases.{Fresh, Asked, IsFresh, resting}
 use Rattle.link.specs.LineLaws.{LineLaws}
 use Rattle.gateway.specs.Runs.{events_told, MoreEvents}
 use Rattle.gateway.specs.State.{State}
 use Rattle.gateway.specs.Agrees.{Agrees, Tracks, Leaves}
 use Rattle.gateway.specs.Agrees.{Follows, HasCome, Rests, IsClear, IsSpent}
+use Rattle.gateway.proofs.Restarting.{restarted_due, done_due}
+use Rattle.gateway.proofs.Learning.{done_fresh}
 
 -- Runs
 
--- after a step some event has come, so a log without entries has works that nothing is due of
-started : (p : Setup) (s : State) → Agrees p s [] [] Asked → Agrees p s [] [] Fresh
-started p s a =
-    let first : a.course ≡ first_course p = a.talk.course_runs in
-    let none : a.course.works.is_due ≡ false = ap (λ (c : Course). c.works.is_due) first in
-    absurd (subst (λ (c : Course). IsOut c.works.serial.line.outstanding) first
-    (a.stands.asks.1 none))
+-- where nothing has come, or not since a restart, nothing is due
+pub fresh_due : (p : Setup) (log : Log) (c : Course) → IsFresh log → Runs p log c
+    → c.works.is_due ≡ false
+fresh_due p [] c fresh r = ap (λ (d : Course). d.works.is_due) r
+fresh_due p (Came now Restarted ∷ log) c fresh r = ap (λ (d : Course). d.works.is_due) r.5.1
+    ∙ restarted_due r.1.works ∙ ap (λ (d : Course). d.works.is_due) r.4.is
+    ∙ done_due (latest log) (room_in p log r.0) r.0.works
+fresh_due p (entry ∷ log) c fresh r = absurd fresh
+
+-- so what is done behind a step is done there, too
+started : (p : Setup) (s : State) (log : Log) → IsFresh log → Agrees p s log [] Asked
+    → Agrees p s log [] Fresh
+started p s log fresh a =
+    let none : a.course.works.is_due ≡ false =
+    fresh_due p log a.course fresh a.talk.course_runs in
+    record {
+      k = a.k;
+      sizes = a.sizes;
+      places = a.places;
+      clock = a.clock;
+      wall = a.wall;
+      settled = a.settled;
+      found = a.found;
+      line = a.line;
+      course = a.course;
+      here = a.here;
+      left = a.left;
+      talk = a.talk;
+      stands = record {
+        does = a.stands.does
+            ∙ done_fresh (latest log) (room_in p log a.course) a.course.works none;
+        asks = (none, a.stands.asks.2);
+        phase_is = fresh;
+        placed = a.stands.placed;
+      };
+      gaps = a.gaps;
+      offers = a.offers;
+      plain = a.plain;
+      carries = a.carries;
+      before = a.before;
+    }
+
+at_rest : (p : Setup) (s : State) (log : Log) → Agrees p s log [] Asked
+    → Agrees p s log [] (resting log)
+at_rest p s [] a = started p s [] tt a
+at_rest p s (Came now Restarted ∷ log) a = started p s (Came now Restarted ∷ log) tt a
+at_rest p s (entry ∷ log) a = a
 
 pub follows : (laws : LineLaws) (p : Setup) (told : Option Log) (s : State) → IsClear s
     → Tracks p s told [] Asked
     → Follows p s told
 follows laws p None s last h = tt
-follows laws p (Some []) s last a = (started p s a, last)
-follows laws p (Some (entry ∷ log)) s last a = (a, last)
+follows laws p (Some log) s last a = (at_rest p s log a, last)
 
 pub step_follows : (laws : LineLaws) (p : Setup) (result : Bool) (told : Option Log) (s : State)
     → OnTrue result (IsConfirmed s.centre.session) → OnTrue result (IsSpent s)

@@ -21,8 +21,8 @@ use Rattle.command.specs.History.{History, Judged, Refused, Mirrored, Offered, m
 use Rattle.command.specs.Calls.{Run, after_answer, after_sending}
 use Rattle.command.specs.CommandLaws.{CommandLaws}
 use Rattle.gateway.specs.Objects.{has_objects}
-use Rattle.gateway.specs.Log.{Log, LineIn, Opened, TcpIn, CutOff, Ticked, WallIs, Came, Went}
-use Rattle.gateway.specs.Log.{LineOut, TcpOut, Closed, GapOut, latest}
+use Rattle.gateway.specs.Log.{Log, LineIn, Opened, TcpIn, CutOff, Ticked, WallIs, Restarted, Came}
+use Rattle.gateway.specs.Log.{Went, LineOut, TcpOut, Closed, GapOut, latest}
 use Rattle.gateway.specs.Connections.{present}
 use Rattle.gateway.specs.Reports.{Setup}
 use Rattle.gateway.specs.Serial.{listed, is_first_command, heard_outcome}
@@ -35,6 +35,7 @@ use Rattle.gateway.specs.Course.{Runs}
 use Rattle.gateway.specs.Frames.{transfers}
 use Rattle.gateway.specs.Given.{due_in, is_passing_on, IsOwed, GivesWhatIsDue, AreHandedOver}
 use Rattle.gateway.specs.Given.{IsGivenOn, GivesAnswer}
+use Rattle.gateway.proofs.Restarting.{kept_over}
 use Rattle.gateway.proofs.Reached.{IsReached, left_reached}
 
 -- nothing is left due
@@ -236,6 +237,10 @@ so_far p (Came now Opened ∷ log) d r =
 so_far p (Came now CutOff ∷ log) d r =
     let g = left p log r.0 r.1 r.4 (so_far p log r.0 r.2) in
     subst (λ (e : Course). AreGiven e.works.history) (sym r.5) ((g.1, g.0), refl)
+so_far p (Came now Restarted ∷ log) d r = subst (λ (e : Course). AreGiven e.works.history)
+    (sym r.5.1)
+    (kept_over (λ (w : Works). AreGiven w.history) (λ station w g. ((g.1, g.0), refl)) r.1.works
+    (left p log r.0 r.1 r.4 (so_far p log r.0 r.2)))
 so_far p (Went now (LineOut octets) ∷ log) d r =
     subst (λ (e : Course). AreGiven e.works.history) (sym r.2.is)
     (asked (latest log) (room_in p log r.0) r.2.request (ready_works (latest log) r.0.works)

@@ -15,7 +15,7 @@ use Rattle.command.specs.State.{line_of, refusal_of}
 use Rattle.command.specs.History.{History}
 use Rattle.command.specs.Mirrors as mirrors
 use Rattle.command.specs.Calls.{Run, Busy, Mirror}
-use Rattle.gateway.specs.Log.{Log, latest}
+use Rattle.gateway.specs.Log.{Log, Restarted, Came, latest}
 use Rattle.gateway.specs.Gaps.{gaps_of, gaps_told, gap_for}
 use Rattle.gateway.specs.Reports.{Setup}
 use Rattle.gateway.specs.Serial as serial
@@ -44,21 +44,37 @@ left_of p log c = record {
       done_works (latest log) (room_in p log c) c.works;
 }
 
+-- where nothing is due nothing is left to be done
+pub done_fresh : (at : ℕ) (room : Bool) (w : Works) → w.is_due ≡ false
+    → (done_works at room w).serial ≡ w.serial
+done_fresh at room w none = ap (λ b. (if b then unasked_works at room (ready_works at w)
+    else w).serial) none
+
+fresh_works : (p : Setup) (s : State) (log : Log) (c : Course) → s.serial ≡ c.works.serial
+    → c.works.is_due ≡ false → s.serial ≡ (left_of p log c).works.serial
+fresh_works p s log c does none = does
+    ∙ sym (done_fresh (latest log) (room_in p log c) c.works none)
+
+fresh_left : (p : Setup) (log : Log) (c : Course) → c.works.is_due ≡ false
+    → c.works.serial.gap ≡ None → IsLeft p log c (left_of p log c)
+fresh_left p log c none told = record {
+  told = told;
+  none = λ due. let no : false ≡ true = sym none ∙ due in cc;
+  is = refl;
+}
+
 pub at_rest_works : (p : Setup) (s : State) (log : Log) (a : Agrees p s log [] (resting log))
     → s.serial ≡ (left_of p log a.course).works.serial
-at_rest_works p s [] a = a.stands.does
-    ∙ sym (ap (λ b. (if b then unasked_works 0 (room_in p [] a.course)
-    (ready_works 0 a.course.works) else a.course.works).serial) a.stands.asks.0)
+at_rest_works p s [] a = fresh_works p s [] a.course a.stands.does a.stands.asks.0
+at_rest_works p s (Came now Restarted ∷ log) a =
+    fresh_works p s (Came now Restarted ∷ log) a.course a.stands.does a.stands.asks.0
 at_rest_works p s (entry ∷ log) a = a.stands.does
 
 pub is_left : (p : Setup) (s : State) (log : Log) (a : Agrees p s log [] (resting log))
     → IsLeft p log a.course (left_of p log a.course)
-is_left p s [] a = record {
-  told = a.stands.asks.1;
-  none = λ due. let no : false ≡ true = sym a.stands.asks.0 ∙ due in
-      cc;
-  is = refl;
-}
+is_left p s [] a = fresh_left p [] a.course a.stands.asks.0 a.stands.asks.1
+is_left p s (Came now Restarted ∷ log) a =
+    fresh_left p (Came now Restarted ∷ log) a.course a.stands.asks.0 a.stands.asks.1
 is_left p s (entry ∷ log) a = record { told = a.stands.asks.2; none = a.stands.asks.0; is = refl }
 
 -- no gap is left of the step before, and each is told

@@ -6,6 +6,7 @@ pub mod Frames
 pub mod Objects
 pub mod Acknowledging
 pub mod Working
+pub mod Restarting
 pub mod Reached
 pub mod Offering
 pub mod Serving
@@ -42,8 +43,12 @@ pub mod Between
 pub mod ReadBack
 pub mod Unchanging
 pub mod Carrying
+pub mod Restarted
+pub mod Quiet
 pub mod Reseating
 pub mod Given
 pub mod Going
 pub mod Unchanged
 pub mod LineTurns
+pub mod GoingOut
+pub mod WholePieces

@@ -20,7 +20,7 @@ use Rattle.gateway.specs.Agrees.{Carries, Tied, pieces_of}
 use Rattle.gateway.proofs.Pieces.{objects-pieces_of, all-pieces_of, pieces_of-append}
 
 -- a run stays one as more is taken
-run_grows : (run objs more : List InformationObject) (start : ℕ)
+pub run_grows : {A : Type 0} (run objs more : List A) (start : ℕ)
     → run ≡ take (length run) (drop start objs)
     → run ≡ take (length run) (drop start (objs ++ more))
 run_grows run objs more start h =
@@ -67,7 +67,7 @@ length_by : (f : Sent) (rest : List (List ℕ)) (n : ℕ) (b : Bool) → length 
 length_by f rest n true h = omega (arith, h)
 length_by f rest n false h = h
 
-length-pieces_of : (fs : List Sent) → length (pieces_of fs) ≡ reports_among fs
+pub length-pieces_of : (fs : List Sent) → length (pieces_of fs) ≡ reports_among fs
 length-pieces_of [] = refl
 length-pieces_of (f ∷ fs) = length_by f (pieces_of fs) (reports_among fs) (has_objects f.asdu)
     (length-pieces_of fs)

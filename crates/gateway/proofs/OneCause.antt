@@ -18,8 +18,8 @@ use Rattle.session.specs.Session.{is_close}
 use Rattle.session.specs.History as talk
 use Rattle.session.specs.History.{History, reached, sent_frames, received_count, is_started}
 use Rattle.session.specs.History.{is_valid_receive_number, verdict_on}
-use Rattle.gateway.specs.Log.{Log, Input, LineIn, Opened, TcpIn, CutOff, Ticked, WallIs, Came, Went}
-use Rattle.gateway.specs.Log.{LineOut, TcpOut, Closed, GapOut, latest}
+use Rattle.gateway.specs.Log.{Log, Input, LineIn, Opened, TcpIn, CutOff, Ticked, WallIs, Restarted}
+use Rattle.gateway.specs.Log.{Came, Went, LineOut, TcpOut, Closed, GapOut, latest}
 use Rattle.gateway.specs.Frames.{transfers, i_frames, acknowledged_count, fault_of}
 use Rattle.gateway.specs.Streams.{spelled, IsRefused}
 use Rattle.gateway.specs.Connections.{present, ends, IsConnection, BeginsWithFault}
@@ -36,7 +36,7 @@ use Rattle.gateway.proofs.OneCourse.{stays, one_course}
 
 -- The frames that came say what the history says.
 
-came_transfers : (h : History) → transfers (came_frames h) ≡ is_started h
+pub came_transfers : (h : History) → transfers (came_frames h) ≡ is_started h
 came_transfers [] = refl
 came_transfers (talk.Opened now ∷ h) = came_transfers h
 came_transfers (talk.Came (I ns nr asdu) now ∷ h) = came_transfers h
@@ -61,7 +61,8 @@ came_count (talk.Refused now ∷ h) = came_count h
 came_count (talk.Sent ns nr kind now ∷ h) = came_count h
 came_count (talk.Went f now ∷ h) = came_count h
 
-came_acknowledged : (h : History) → acknowledged_count (came_frames h) ≡ talk.acknowledged_count h
+pub came_acknowledged : (h : History) → acknowledged_count (came_frames h)
+    ≡ talk.acknowledged_count h
 came_acknowledged [] = refl
 came_acknowledged (talk.Opened now ∷ h) = came_acknowledged h
 came_acknowledged (talk.Came (I ns nr asdu) now ∷ h) = ap (λ n. reached n nr) (came_acknowledged h)
@@ -72,7 +73,7 @@ came_acknowledged (talk.Sent ns nr kind now ∷ h) = came_acknowledged h
 came_acknowledged (talk.Went f now ∷ h) = came_acknowledged h
 
 -- as many I frames went out as the history says
-abbrev IsCounted : Course → Type 0
+abbrev pub IsCounted : Course → Type 0
 IsCounted c = length c.sent ≡ length (sent_frames c.talk)
 
 counted_frames : (p : Setup) (fs : List Apdu) (now : ℕ) (wall : Option ℕ) (c : Course) → IsCounted c
@@ -110,8 +111,9 @@ counted_come p log at Ticked l c k h = subst IsCounted (sym k) h
 counted_come p log at (WallIs number) l c k h = subst IsCounted (sym k) h
 counted_come p log at Opened l c k h = subst IsCounted (sym k) refl
 counted_come p log at CutOff l c k h = subst IsCounted (sym k) refl
+counted_come p log at Restarted l c k h = subst IsCounted (sym k.1) h
 
-counted : (p : Setup) (log : Log) (c : Course) → Runs p log c → IsCounted c
+pub counted : (p : Setup) (log : Log) (c : Course) → Runs p log c → IsCounted c
 counted p [] c r = subst IsCounted (sym r) refl
 counted p (Came now event ∷ log) c r = counted_come p log _ event r.1 c r.5
     (subst IsCounted (sym r.4.is) (counted p log r.0 r.2))

@@ -17,8 +17,8 @@ use Rattle.session.specs.Rules.{KeepsRules}
 use Rattle.session.specs.History.{confirmation_of, frame_due}
 use Rattle.command.specs.State.{first_answer}
 use Rattle.gateway.specs.Objects.{objects, has_objects}
-use Rattle.gateway.specs.Log.{Log, Input, LineIn, Opened, TcpIn, CutOff, Ticked, WallIs, Came, Went}
-use Rattle.gateway.specs.Log.{LineOut, TcpOut, Closed, GapOut, latest}
+use Rattle.gateway.specs.Log.{Log, Input, LineIn, Opened, TcpIn, CutOff, Ticked, WallIs, Restarted}
+use Rattle.gateway.specs.Log.{Came, Went, LineOut, TcpOut, Closed, GapOut, latest}
 use Rattle.gateway.specs.Streams.{spelled}
 use Rattle.gateway.specs.Frames.{Connection}
 use Rattle.gateway.specs.Connections.{no_channel, present, is_replaced, ends, IsConnection}
@@ -192,7 +192,7 @@ some_objects zero e = cc
 some_objects (suc n) e = omega arith
 
 -- a report that is next isn't sent yet
-not_sent_all : (n : ℕ) (os taken : List InformationObject) → not (length os == 0) ≡ true
+pub not_sent_all : (n : ℕ) (os taken : List InformationObject) → not (length os == 0) ≡ true
     → os ≡ take (length os) (drop n taken) → n ≡ length taken → ⊥
 not_sent_all n os taken some next all =
     omega (
@@ -264,6 +264,7 @@ present_plain (Came now (TcpIn octets) ∷ log) = by_open (present log).is_open 
 present_plain (Came now CutOff ∷ log) = refl
 present_plain (Came now Ticked ∷ log) = present_plain log
 present_plain (Came now (WallIs number) ∷ log) = present_plain log
+present_plain (Came now Restarted ∷ log) = present_plain log
 present_plain (Went now (LineOut octets) ∷ log) = present_plain log
 present_plain (Went now (GapOut station session) ∷ log) = present_plain log
 present_plain (Went now (TcpOut octets) ∷ log) = present_plain log
@@ -310,6 +311,7 @@ replaced_nothing (Came now (TcpIn octets) ∷ log) e = cc
 replaced_nothing (Came now CutOff ∷ log) e = cc
 replaced_nothing (Came now Ticked ∷ log) e = cc
 replaced_nothing (Came now (WallIs number) ∷ log) e = cc
+replaced_nothing (Came now Restarted ∷ log) e = cc
 replaced_nothing (Went now action ∷ log) e = cc
 
 pub replaced_none : (p : Setup) (log : Log) (now : ℕ) (f : Apdu) (c : Course) → is_replaced log
@@ -374,6 +376,8 @@ comes_one laws p log now (WallIs number) l c d h k = same_one p (Came now (WallI
 comes_one laws p log now Ticked l c d h k = same_one p (Came now Ticked ∷ log) c d (h ∙ sym k)
 comes_one laws p log now Opened l c d h k = same_one p (Came now Opened ∷ log) c d (h ∙ sym k)
 comes_one laws p log now CutOff l c d h k = same_one p (Came now CutOff ∷ log) c d (h ∙ sym k)
+comes_one laws p log now Restarted l c d h k = same_one p (Came now Restarted ∷ log) c d
+    (h.1 ∙ sym k.1)
 
 -- what the step before leaves
 left_one : (p : Setup) (log : Log) (b c x y : Course) → b ≡ c → IsLeft p log b x → IsLeft p log c y

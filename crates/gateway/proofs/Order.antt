@@ -21,8 +21,8 @@ use Rattle.session.specs.declared.kinds.Close.{Close}
 use Rattle.session.specs.declared.kinds.Close.TheVariants.{Grammar, SendNumber, ReceiveNumber}
 use Rattle.session.specs.declared.kinds.Close.TheVariants.{Stopped, Timeout, OwnAnswers, Replaced}
 use Rattle.gateway.specs.Objects.{has_objects}
-use Rattle.gateway.specs.Log.{Log, LineIn, Opened, TcpIn, CutOff, Ticked, WallIs, Output, LineOut}
-use Rattle.gateway.specs.Log.{TcpOut, Closed, GapOut, Came, Went, latest}
+use Rattle.gateway.specs.Log.{Log, LineIn, Opened, TcpIn, CutOff, Ticked, WallIs, Restarted, Output}
+use Rattle.gateway.specs.Log.{LineOut, TcpOut, Closed, GapOut, Came, Went, latest}
 use Rattle.gateway.specs.Streams.{spelled, IsRefused}
 use Rattle.gateway.specs.Frames.{Connection}
 use Rattle.gateway.specs.Connections.{is_replaced, Channel, new_channel, present, BeginsWithFault}
@@ -165,6 +165,7 @@ replaced_one p (Came moment (TcpIn octets) ∷ log) now h = absurd (cc)
 replaced_one p (Came moment CutOff ∷ log) now h = absurd (cc)
 replaced_one p (Came moment Ticked ∷ log) now h = absurd (cc)
 replaced_one p (Came moment (WallIs number) ∷ log) now h = absurd (cc)
+replaced_one p (Came moment Restarted ∷ log) now h = absurd (cc)
 replaced_one p (Came moment Opened ∷ log) now h = record {
   channel = refl;
   settled = refl;

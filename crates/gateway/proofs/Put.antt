@@ -11,7 +11,8 @@ use Rattle.apci.specs.Spelling.{spelling, Fits}
 use Rattle.session.specs.declared.kinds.Close.{Close}
 use Rattle.session.specs.Session as session
 use Rattle.session.specs.Session.{Session, may_send, is_transferring}
-use Rattle.gateway.specs.Log.{latest, Log, events_of, Went, Output, TcpOut, Closed, tell}
+use Rattle.gateway.specs.Log.{latest, Log, events_of, Restarted, Came, Went, Output, TcpOut, Closed}
+use Rattle.gateway.specs.Log.{tell}
 use Rattle.gateway.specs.Reports.{Setup}
 use Rattle.gateway.specs.Traffic.{IsFaithful}
 use Rattle.gateway.specs.Runs.{events_told}
@@ -378,6 +379,7 @@ pub told_rested : (laws : LineLaws) (p : Setup) (told : Option Log) (s : State) 
     → Tracks p s told [] Asked → Rests p told
 told_rested laws p None s spent quiet h = tt
 told_rested laws p (Some []) s spent quiet a = tt
+told_rested laws p (Some (Came now Restarted ∷ log)) s spent quiet a = a.before.rests.0
 told_rested laws p (Some (t ∷ log)) s spent quiet a = rested laws p s (t ∷ log) a spent quiet
 
 -- t1 is some time

@@ -21,8 +21,8 @@ use Rattle.command.specs.Calls.{Cut, Due, Run, after_call, after_answer, after_s
 use Rattle.command.specs.Laws.{IsRun}
 use Rattle.command.specs.CommandLaws.{CommandLaws}
 use Rattle.gateway.specs.Objects.{has_objects}
-use Rattle.gateway.specs.Log.{Log, LineIn, Opened, TcpIn, CutOff, Ticked, WallIs, Came, Went}
-use Rattle.gateway.specs.Log.{LineOut, TcpOut, Closed, GapOut, latest}
+use Rattle.gateway.specs.Log.{Log, LineIn, Opened, TcpIn, CutOff, Ticked, WallIs, Restarted, Came}
+use Rattle.gateway.specs.Log.{Went, LineOut, TcpOut, Closed, GapOut, latest}
 use Rattle.gateway.specs.Connections.{present}
 use Rattle.gateway.specs.Reports.{Setup}
 use Rattle.gateway.specs.Serial.{kept_until, listed, refusals, is_first_command, put_on_line}
@@ -30,10 +30,11 @@ use Rattle.gateway.specs.Serial.{unless_silent}
 use Rattle.gateway.specs.Works.{Works, tasks_of, told_kept, is_command_report, mirrored_works}
 use Rattle.gateway.specs.Works.{LearnsReport, LearnsOf, heard_works, answered_works, told_silent}
 use Rattle.gateway.specs.Works.{settled_works, ready_works, unasked_works, done_works, told_put}
-use Rattle.gateway.specs.Works.{asked_works}
+use Rattle.gateway.specs.Works.{asked_works, restarted_works}
 use Rattle.gateway.specs.Conversation.{KeepsCommands}
 use Rattle.gateway.specs.Course.{Course, with_frames, with_sent, IsNext, closed_course, IsLeft}
 use Rattle.gateway.specs.Course.{room_in, Runs}
+use Rattle.gateway.proofs.Restarting.{kept_over}
 
 abbrev pub IsCalled : Setup → Run → Type 0
 IsCalled p r = IsRun p.stations p.sizes p.select_ms p.max_age_ms r
@@ -204,6 +205,9 @@ module _ (p : Setup) where
       → IsReached p (asked_works at room x w)
   asked at room x w h = put (is_first_command w.serial.line x) x.station w h
 
+  restarted : (w : Works) → IsReached p w → IsReached p (restarted_works w)
+  restarted w h = kept_over (IsReached p) (λ station v k. one (Lose station) (tasks_of v) k) w h
+
   cut : (w : Works) → IsReached p w → IsCalled p (after_call Cut (tasks_of w))
   cut w h = one Cut (tasks_of w) h
 
@@ -239,6 +243,8 @@ module _ (p : Setup) where
       (cut r.1.works (left log r.0 r.1 r.4 (reached log r.0 r.2)))
   reached (Came now CutOff ∷ log) c r = subst (λ (d : Course). IsReached p d.works) (sym r.5)
       (cut r.1.works (left log r.0 r.1 r.4 (reached log r.0 r.2)))
+  reached (Came now Restarted ∷ log) c r = subst (λ (d : Course). IsReached p d.works) (sym r.5.1)
+      (restarted r.1.works (left log r.0 r.1 r.4 (reached log r.0 r.2)))
   reached (Went now (LineOut octets) ∷ log) c r =
       subst (λ (d : Course). IsReached p d.works) (sym r.2.is)
       (asked (latest log) (room_in p log r.0) r.2.request (ready_works (latest log) r.0.works)

@@ -206,7 +206,7 @@ waits_for p q log o h out = go (exchanges_of p log).current refl
     go (Some x) is =
         let w : IsAwaited (front_of p.link.size) (address_at p.addresses q.turn) q.turn o x =
         subst (telling.IsCurrent (front_of p.link.size) p.addresses q.turn (Some o)) is current in
-        record { exchange = x; latest_is = is; waits = (at_station x w, w.waits) }
+        record { exchange = x; latest_is = is; waits = (at_station x w, w.waits, w.stands) }
 
 pub line_rests : (laws : LineLaws) (p : Setup) (q : Primary) (log : Log) (course : Course)
     (may : Bool)

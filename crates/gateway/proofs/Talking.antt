@@ -24,8 +24,8 @@ use Rattle.session.specs.Runs.{Settings, Call, Take, Send, Confirm, Pull, Open, 
 use Rattle.session.specs.Runs.{gone, may_take, after_call}
 use Rattle.session.specs.Rules.{KeepsRules}
 use Rattle.session.specs.Ends.{IsConfirmed, after_confirm, after_pull}
-use Rattle.gateway.specs.Log.{Log, LineIn, Opened, TcpIn, CutOff, Ticked, WallIs, Came, Went}
-use Rattle.gateway.specs.Log.{LineOut, TcpOut, Closed, GapOut, latest}
+use Rattle.gateway.specs.Log.{Log, LineIn, Opened, TcpIn, CutOff, Ticked, WallIs, Restarted, Came}
+use Rattle.gateway.specs.Log.{Went, LineOut, TcpOut, Closed, GapOut, latest}
 use Rattle.gateway.specs.Walls.{wall_on}
 use Rattle.gateway.specs.Streams.{spelled}
 use Rattle.gateway.specs.Frames.{data_frames}
@@ -109,6 +109,7 @@ runs_more laws p (Came now (TcpIn octets) ∷ log) c f takes may k = (
 runs_more laws p (Came now CutOff ∷ log) c f takes may k = absurd takes
 runs_more laws p (Came now Ticked ∷ log) c f takes may k = absurd takes
 runs_more laws p (Came now (WallIs number) ∷ log) c f takes may k = absurd takes
+runs_more laws p (Came now Restarted ∷ log) c f takes may k = absurd takes
 runs_more laws p (Went now (LineOut octets) ∷ log) c f takes may k = absurd takes
 runs_more laws p (Went now (TcpOut octets) ∷ log) c f takes may k =
     (k.0, k.1, k.2, k.3, taken_more p (Went now (TcpOut octets) ∷ log) _ k.1 c f may k.4)

@@ -25,8 +25,8 @@ use Rattle.command.specs.Calls.{after_answer, after_sending}
 use Rattle.gateway.specs.declared.counts.Tally.{Tally}
 use Rattle.gateway.specs.Objects.{has_objects}
 use Rattle.gateway.specs.Counting.{one_more, one_lost, one_skipped, is_answer_type, counted_by}
-use Rattle.gateway.specs.Log.{Log, LineIn, Opened, TcpIn, CutOff, Ticked, WallIs, Came, Went}
-use Rattle.gateway.specs.Log.{LineOut, TcpOut, Closed, GapOut, latest}
+use Rattle.gateway.specs.Log.{Log, LineIn, Opened, TcpIn, CutOff, Ticked, WallIs, Restarted, Came}
+use Rattle.gateway.specs.Log.{Went, LineOut, TcpOut, Closed, GapOut, latest}
 use Rattle.gateway.specs.Connections.{present}
 use Rattle.gateway.specs.Reports.{Setup}
 use Rattle.gateway.specs.Tags.{AreTagged}
@@ -34,10 +34,11 @@ use Rattle.gateway.specs.Serial.{listed, refusals, is_first_command, unless_sile
 use Rattle.gateway.specs.Works.{Works, tasks_of, told_kept, is_command_by, is_command_report}
 use Rattle.gateway.specs.Works.{IsPassedOn, mirrored_works, LearnsReport, LearnsOf, heard_works}
 use Rattle.gateway.specs.Works.{sent_works, answered_works, told_silent, settled_works, ready_works}
-use Rattle.gateway.specs.Works.{unasked_works, done_works, told_put, asked_works}
+use Rattle.gateway.specs.Works.{unasked_works, done_works, told_put, asked_works, restarted_works}
 use Rattle.gateway.specs.Course.{Course, with_frames, closed_course, IsLeft, room_in, Runs}
 use Rattle.gateway.specs.Line.{done_in}
 use Rattle.gateway.specs.Tallies.{given_up_in, unpassed_in}
+use Rattle.gateway.proofs.Restarting.{kept_over}
 
 abbrev AreCounted : History → Tally → Type 0
 AreCounted h t = (t.lost ≡ saturated (given_up_in h))
@@ -259,6 +260,10 @@ asked : (at : ℕ) (room : Bool) (x : Sending) (w : Works) → IsCounted w
     → IsCounted (asked_works at room x w)
 asked at room x w c = put (is_first_command w.serial.line x) x.station w c
 
+restarted : (w : Works) → IsCounted w → IsCounted (restarted_works w)
+restarted w c = kept_over IsCounted (λ station v c.
+    given_up (is_used (line_of station v.serial.commands)) station v.history v.serial.counts c) w c
+
 closed : (p : Setup) (cause : Close) (is_open : Bool) (at : ℕ) (d : Course) → IsCounted d.works
     → IsCounted (closed_course p cause is_open at d).works
 closed p Grammar is_open at d c = c
@@ -291,6 +296,8 @@ so_far p (Came now Opened ∷ log) d r = subst (λ (e : Course). IsCounted e.wor
     (left p log r.0 r.1 r.4 (so_far p log r.0 r.2))
 so_far p (Came now CutOff ∷ log) d r = subst (λ (e : Course). IsCounted e.works) (sym r.5)
     (left p log r.0 r.1 r.4 (so_far p log r.0 r.2))
+so_far p (Came now Restarted ∷ log) d r = subst (λ (e : Course). IsCounted e.works) (sym r.5.1)
+    (restarted r.1.works (left p log r.0 r.1 r.4 (so_far p log r.0 r.2)))
 so_far p (Went now (LineOut octets) ∷ log) d r =
     subst (λ (e : Course). IsCounted e.works) (sym r.2.is)
     (asked (latest log) (room_in p log r.0) r.2.request (ready_works (latest log) r.0.works)

@@ -1,6 +1,6 @@
 -- No link is up after a start but that of a station which is as it was.
-use Rattle.std.proofs.Common.{◌≡◌, ◌<◌, ◌==◌, ◌&&◌, ℕ, Bool, true, false, cond, get_or, length}
-use Rattle.std.proofs.Common.{List, Option, Some, None, refl, sym, ap, subst, ◌∙◌, arith}
+use Rattle.std.proofs.Common.{◌≡◌, ◌<◌, ◌==◌, ℕ, Bool, true, false, cond, get_or, length}
+use Rattle.std.proofs.Common.{Option, Some, None, refl, sym, ap, ◌∙◌, arith}
 use Rattle.std.specs.Prelude.{slice_get, option_and_then}
 use Rattle.std.proofs.lemmas.Bool.{and_parts, eqb-true}
 use Rattle.std.proofs.lemmas.List.Quantifiers.{position-Some}
@@ -11,7 +11,7 @@ use Rattle.link.specs.Procedure.{is_up}
 use Rattle.link.specs.declared.turn.StationState.{StationState}
 use Rattle.link.specs.Turns.{station_at}
 use Rattle.link.specs.Primary.{station_down}
-use Rattle.link.specs.Carried.{released, station_carried, link_carried, station_given_up}
+use Rattle.link.specs.Carried.{released, station_carried, station_given_up}
 use Rattle.gateway.specs.declared.settings.LineSettings.{LineSettings}
 use Rattle.gateway.specs.declared.settings.Station.{Station}
 use Rattle.gateway.specs.declared.starting_links.LinkStart.{LinkStart}

@@ -1,5 +1,5 @@
 -- A gateway keeps its settings.
-use Rattle.std.proofs.Common.{◌≡◌, [], ◌∷◌, refl, sym, ap, subst, ◌∙◌}
+use Rattle.std.proofs.Common.{◌≡◌, [], sym, ap, subst, ◌∙◌}
 use Rattle.std.proofs.lemmas.List.{length-map}
 use Rattle.session.specs.Runs.{Run as SessionRun, run}
 use Rattle.session.specs.Restored.{HasSettings as HasSessionSettings}
@@ -10,16 +10,17 @@ use Rattle.command.specs.Restored.{HasSettings as HaveCommandSettings}
 use Rattle.gateway.specs.declared.settings.Station.{Station}
 use Rattle.gateway.specs.Config.{Settings}
 use Rattle.gateway.specs.Setups.{setup_of}
-use Rattle.gateway.specs.Log.{Log, latest}
+use Rattle.gateway.specs.Log.{Log}
 use Rattle.gateway.specs.Reports.{Setup}
 use Rattle.gateway.specs.Serial.{Serial}
-use Rattle.gateway.specs.Works.{Works, tasks_of, done_works}
-use Rattle.gateway.specs.Course.{Course, room_in}
+use Rattle.gateway.specs.Works.{Works, tasks_of}
+use Rattle.gateway.specs.Course.{Course}
 use Rattle.gateway.specs.Phases.{resting}
 use Rattle.gateway.specs.State.{State}
 use Rattle.gateway.specs.Agrees.{Agrees, Talks}
 use Rattle.gateway.specs.Restored.{HasSettings}
-use Rattle.gateway.proofs.Reached.{IsReached, reached, left_reached}
+use Rattle.gateway.proofs.Reached.{IsReached, left_reached}
+use Rattle.gateway.proofs.Learning.{left_of, at_rest_works, is_left}
 
 commands_set : RunLaws → (p : Setup) (w : Works) → IsReached p w
     → HaveCommandSettings p.stations p.sizes p.select_ms p.max_age_ms w.serial.commands
@@ -41,26 +42,13 @@ session_set p s log c k =
 
 works_set : RunLaws → (p : Setup) (s : State) (log : Log) → Agrees p s log [] (resting log)
     → HaveCommandSettings p.stations p.sizes p.select_ms p.max_age_ms s.serial.commands
-works_set laws p s [] a =
+works_set laws p s log a =
+    let left : Course = left_of p log a.course in
     subst (λ (x : Serial). HaveCommandSettings p.stations p.sizes p.select_ms p.max_age_ms
     x.commands)
-    (sym a.stands.does)
-    (commands_set laws p a.course.works (reached p [] a.course a.talk.course_runs))
-works_set laws p s (entry ∷ log) a =
-    let all : Log = entry ∷ log in
-    let done : Works = done_works (latest all) (room_in p all a.course) a.course.works in
-    let left : Course = record {
-      talk = a.course.talk;
-      sent = a.course.sent;
-      earlier =
-          a.course.earlier;
-      works = done;
-    } in
-    subst (λ (x : Serial). HaveCommandSettings p.stations p.sizes p.select_ms p.max_age_ms
-    x.commands)
-    (sym a.stands.does)
-    (commands_set laws p done (left_reached p all a.course left a.talk.course_runs
-    (record { told = a.stands.asks.2; none = a.stands.asks.0; is = refl })))
+    (sym (at_rest_works p s log a))
+    (commands_set laws p left.works (left_reached p log a.course left a.talk.course_runs
+    (is_left p s log a)))
 
 pub settings_kept : RunLaws → (c : Settings) (s : State) (log : Log)
     → Agrees (setup_of c) s log [] (resting log)

@@ -25,8 +25,8 @@ use Rattle.session.specs.History.{frame_due, has_timed_out}
 use Rattle.session.specs.Rules.{KeepsRules}
 use Rattle.command.specs.State.{octets_waiting, first_answer}
 use Rattle.gateway.specs.Objects.{objects, has_objects}
-use Rattle.gateway.specs.Log.{Log, Input, LineIn, Opened, TcpIn, CutOff, Ticked, WallIs, Came, Went}
-use Rattle.gateway.specs.Log.{LineOut, TcpOut, Closed, GapOut, latest}
+use Rattle.gateway.specs.Log.{Log, Input, LineIn, Opened, TcpIn, CutOff, Ticked, WallIs, Restarted}
+use Rattle.gateway.specs.Log.{Came, Went, LineOut, TcpOut, Closed, GapOut, latest}
 use Rattle.gateway.specs.Walls.{wall_on}
 use Rattle.gateway.specs.Streams.{spelled}
 use Rattle.gateway.specs.Frames.{Sent, Connection, transfers, first_unacknowledged}
@@ -38,6 +38,7 @@ use Rattle.gateway.specs.Serial.{is_first_command, heard_outcome}
 use Rattle.gateway.specs.Works.{Works, first_works, has_lacked_place, LearnsOf, heard_works}
 use Rattle.gateway.specs.Works.{sent_works, cut_works, octets_works, begun_works, settled_works}
 use Rattle.gateway.specs.Works.{ready_works, gapless_works, asked_works, done_works}
+use Rattle.gateway.specs.Works.{restarted_works}
 
 pub record Course : Type 0 where
   -- what was said on the open connection: frames that came and frames that went out, each with its
@@ -279,7 +280,8 @@ pub record IsLeft (p : Setup) (log : Log) (before after : Course) : Type 0 where
 abbrev pub with_works : Works → Course → Course
 with_works w c = record { talk = c.talk; sent = c.sent; earlier = c.earlier; works = w }
 
--- what an event brings
+-- What an event brings. A restart stands between two steps, at the moment of the one before:
+-- nothing is due behind it.
 abbrev pub Comes : Setup → Log → (at : ℕ) → Input → (before after : Course) → Type 0
 Comes p log at (LineIn octets) c d =
     (z : Works)
@@ -293,6 +295,7 @@ Comes p log at (WallIs number) c d = d ≡ with_works (begun_works at c.works) c
 Comes p log at Opened c d = d
     ≡ opened_course at (ended_course (present log).is_open (begun_works at c.works) c)
 Comes p log at CutOff c d = d ≡ ended_course (present log).is_open (begun_works at c.works) c
+Comes p log at Restarted c d = (at ≡ latest log) × (d ≡ with_works (restarted_works c.works) c)
 
 -- The gap of the session that the event's octets have ended is told, once all that came is taken,
 -- and before the step's timers and its request.

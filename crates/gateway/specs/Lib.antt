@@ -40,3 +40,5 @@ pub mod Carried
 pub mod Unchanged
 pub mod Given
 pub mod Turning
+pub mod Restarts
+pub mod GoingOut

@@ -12,6 +12,9 @@ pub data Input : Type 0 where
   Ticked : Input
   -- the wall clock shows so many milliseconds since 1970-01-01 UTC
   WallIs : (number : ℕ) → Input
+  -- The gateway was started again: it goes on from what it had on disk, and gives up each command
+  -- that no station answered. No port tells it.
+  Restarted : Input
 
 -- what goes out
 pub data Output : Type 0 where

@@ -2,12 +2,13 @@
 use Rattle.std.specs.Prelude.{◌≡◌, ℕ, ◌+◌, ◌<◌, Bool, true, false, List, [], ◌∷◌, ◌++◌, length}
 use Rattle.std.specs.Prelude.{Option, Some, None}
 use Rattle.link.specs.Primary.{Outstanding, sending}
-use Rattle.gateway.specs.Log.{Log, TcpIn, Came, Went, TcpOut}
+use Rattle.gateway.specs.Log.{Log, TcpIn, Restarted, Came, Went, TcpOut}
 use Rattle.command.specs.History.{History}
 use Rattle.gateway.specs.Connections.{present, received_before}
 use Rattle.gateway.specs.Works.{Works, has_lacked_place, settled_works, ready_works, done_works}
 
--- nothing has come yet; octets of the connection are being taken; a frame of them was taken, and
+-- nothing has come yet, or not since a restart; octets of the connection are being taken; a frame
+-- of them was taken, and
 -- what follows goes out; the event is taken; an own answer of it found no place; the timers are
 -- done; the request is asked for
 pub data Phase : Type 0 where
@@ -25,8 +26,14 @@ IsTaking (Came now (TcpIn octets) ∷ log) = Unit {0}
 IsTaking (Went now (TcpOut octets) ∷ log) = IsTaking log
 IsTaking log = ⊥
 
+-- nothing has come yet, or not since the gateway was started again
+abbrev pub IsFresh : Log → Type 0
+IsFresh [] = Unit {0}
+IsFresh (Came now Restarted ∷ log) = Unit {0}
+IsFresh log = ⊥
+
 abbrev pub IsPhase : Phase → Log → Type 0
-IsPhase Fresh log = log ≡ []
+IsPhase Fresh log = IsFresh log
 IsPhase Taking log = IsTaking log
 IsPhase Judged log = IsTaking log
 IsPhase phase log = Unit {0}
@@ -57,6 +64,7 @@ IsAsked phase at room w = w.is_due ≡ true
 -- how far it is between two steps
 abbrev pub resting : Log → Phase
 resting [] = Fresh
+resting (Came now Restarted ∷ log) = Fresh
 resting (entry ∷ log) = Asked
 
 -- But where one has just found none, each own answer of the open connection found a place.
@@ -87,6 +95,7 @@ IsLeftIn phase log so_far unjudged = unjudged ≡ []
 
 -- S frames and tests may go out
 abbrev pub IsFlushing : Phase → Type 0
+IsFlushing Fresh = ⊥
 IsFlushing Taking = ⊥
 IsFlushing Crowded = ⊥
 IsFlushing phase = Unit {0}

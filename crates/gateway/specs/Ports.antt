@@ -1,7 +1,7 @@
 -- What a port's answers and an action's octets mean in a log.
 use Rattle.std.specs.Prelude.{ℕ, List, [], ◌∷◌, take, ◌≤◌}
-use Rattle.gateway.specs.Log.{Input, LineIn, Opened, TcpIn, CutOff, Ticked, WallIs, Output, LineOut}
-use Rattle.gateway.specs.Log.{TcpOut, Closed, GapOut, LogEntry, Came}
+use Rattle.gateway.specs.Log.{Input, LineIn, Opened, TcpIn, CutOff, Ticked, WallIs, Restarted}
+use Rattle.gateway.specs.Log.{Output, LineOut, TcpOut, Closed, GapOut, LogEntry, Came}
 use Rattle.gateway.specs.declared.ports.Event.{Event}
 use Rattle.gateway.specs.declared.ports.Event.TheVariants as events
 use Rattle.gateway.specs.declared.ports.Action.{Action}
@@ -16,6 +16,11 @@ input_of (events.Bytes octets) = TcpIn octets.now
 input_of events.Cut = CutOff
 input_of events.Tick = Ticked
 input_of (events.Wall number) = WallIs number
+
+-- a port tells each event but a restart
+abbrev pub IsOfPort : Input → Type 0
+IsOfPort Restarted = ⊥
+IsOfPort event = Unit {0}
 
 abbrev pub output_of : Action → Output
 output_of (actions.Line octets) = LineOut octets.now

@@ -11,11 +11,12 @@ use Rattle.link.specs.declared.settings.LinkSettings.{LinkSettings}
 use Rattle.link.specs.Exchanges.{Exchange, Exchanges, Sending, no_exchanges, heard_current}
 use Rattle.link.specs.Exchanges.{timed_current, begun_by, views, all_of, with_station}
 use Rattle.link.specs.Exchanges.{reports_of_exchanges}
+use Rattle.link.specs.Carried.{commands_given_up}
 use Rattle.link.specs.Procedure.{KeepsFrameCountBit}
 use Rattle.link.specs.Requests.{request_in}
 use Rattle.session.specs.Runs.{Settings}
 use Rattle.command.specs.declared.station.StationInfo.{StationInfo}
-use Rattle.gateway.specs.Log.{Log, Came, Went, LineIn, LineOut, latest}
+use Rattle.gateway.specs.Log.{Log, Came, Went, LineIn, Restarted, LineOut, latest}
 use Rattle.gateway.specs.Objects.{monitor_objects, parts_of, pieces_of_report}
 
 -- What a gateway is set to: its line, the link addresses of its stations, the sizes of the line's
@@ -56,7 +57,8 @@ sending_in p octets = option_and_then (sent_to p.addresses) (request_in p.link.s
 
 -- The exchanges of a log (profile). Each request begins one. Its octets are those that come in
 -- later steps, up to and with the step in which the next request goes out or whose moment is
--- answer_ms past the request, and this moment closes it.
+-- answer_ms past the request, and this moment closes it. A restart gives up each command without an
+-- answer.
 abbrev pub exchanges_of : Setup → Log → Exchanges
 exchanges_of p [] = no_exchanges
 exchanges_of p (Came now (LineIn octets) ∷ log) =
@@ -66,6 +68,8 @@ exchanges_of p (Came now (LineIn octets) ∷ log) =
       current = timed_current p.link.answer_ms (latest (Came now (LineIn octets) ∷ log))
           (heard_current octets before.current);
     }
+exchanges_of p (Came now Restarted ∷ log) =
+    commands_given_up p.link (front_of p.link.size) p.addresses (exchanges_of p log)
 exchanges_of p (Came now event ∷ log) =
     let before = exchanges_of p log in
     record {

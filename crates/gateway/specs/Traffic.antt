@@ -5,7 +5,8 @@ use Rattle.link.specs.declared.service.Asked.{Asked}
 use Rattle.link.specs.Requests.{request_frame}
 use Rattle.session.specs.declared.kinds.Close.{Close}
 use Rattle.session.specs.declared.kinds.Close.TheVariants.{Replaced}
-use Rattle.gateway.specs.Log.{Log, Came, Went, Output, LineOut, TcpOut, Closed, GapOut, latest}
+use Rattle.gateway.specs.Log.{Log, Restarted, Came, Went, Output, LineOut, TcpOut, Closed, GapOut}
+use Rattle.gateway.specs.Log.{latest}
 use Rattle.gateway.specs.Gaps.{gaps_of, gaps_told, TellsGaps}
 use Rattle.gateway.specs.Streams.{IsOneFrame}
 use Rattle.gateway.specs.Frames.{transfers, acknowledged_count, AreInOrder}
@@ -83,9 +84,10 @@ pub record IsAtRest (p : Setup) (log : Log) : Type 0 where
   pub gaps : TellsGaps p log
   pub talk : IsTalkAtRest p log course
 
--- nothing has come yet, or the last step has done all that it could
+-- Nothing has come yet, or the last step has done all that it could. A restart is no step.
 abbrev pub HasRested : Setup → Log → Type 0
 HasRested p [] = Unit {0}
+HasRested p (Came now Restarted ∷ log) = HasRested p log
 HasRested p (entry ∷ log) = IsAtRest p (entry ∷ log)
 
 -- each step had done all that it could when the next event came

@@ -1,5 +1,5 @@
 -- What goes on over a change of settings (profile).
-use Rattle.std.specs.Prelude.{◌≡◌, ℕ, true, Bool, Option, Some, slice_get}
+use Rattle.std.specs.Prelude.{◌≡◌, ℕ, true, Bool, Some, slice_get}
 use Rattle.ft12.specs.Spelling.{address_len}
 use Rattle.asdu.specs.Sizes.{cause_len, ca_len, ioa_len}
 use Rattle.gateway.specs.declared.settings.Station.{Station}

@@ -1,7 +1,8 @@
 -- What the gateway keeps beside the connection: the line's side, and what became of commands. Each
 -- entry of the log changes it (IEC 60870-5-101, 7.2.3). What happens to the line's side is said in
 -- `Serial`; here it is told to the history of commands.
-use Rattle.std.specs.Prelude.{◌≡◌, ℕ, Bool, true, false, if◌then◌else◌, List, [], ◌∷◌, length}
+use Rattle.std.specs.Prelude.{◌≡◌, ℕ, zero, suc, Bool, true, false, if◌then◌else◌, List, []}
+use Rattle.std.specs.Prelude.{◌∷◌, length}
 use Rattle.std.specs.Prelude.{Option, Some, None}
 use Rattle.std.specs.List.{flat_map, AllByRecursion}
 use Rattle.asdu.specs.declared.sizes.Sizes.{Sizes}
@@ -11,6 +12,7 @@ use Rattle.asdu.specs.InformationObjects.{InformationObject, objects_of}
 use Rattle.asdu.specs.Translation.{parts, IsPiece, IsLargest, AllButLast}
 use Rattle.apci.specs.declared.apdu.Apdu.{Apdu}
 use Rattle.apci.specs.declared.apdu.Apdu.TheVariants.{I}
+use Rattle.link.specs.Carried.{awaits_command}
 use Rattle.link.specs.Exchanges.{Sending}
 use Rattle.link.specs.declared.outcome.Outcome.{Outcome}
 use Rattle.link.specs.declared.outcome.Outcome.TheVariants as outcome
@@ -27,6 +29,7 @@ use Rattle.gateway.specs.Reports.{Setup}
 use Rattle.gateway.specs.Tags.{AreTagged}
 use Rattle.gateway.specs.Serial as serial
 use Rattle.gateway.specs.Serial.{Serial, first_serial, refusals, is_first_command, listed}
+use Rattle.gateway.specs.Carried.{link_given_up}
 
 pub record Works : Type 0 where
   pub serial : Serial
@@ -165,6 +168,28 @@ sent_works frame w = w
 
 abbrev pub cut_works : Works → Works
 cut_works w = record w { serial = serial.cut w.serial; history = told Cut w }
+
+-- A restart
+
+-- the link to a station is given up, and the command that stood on its line is lost
+abbrev pub link_given_up_works : (station : ℕ) → Works → Works
+link_given_up_works station w =
+    record w { serial = link_given_up station w.serial; history = told (Lose station) w }
+
+-- a station whose latest service is a command without an answer is given up
+abbrev pub command_given_up_works : (station : ℕ) → Works → Works
+command_given_up_works station w =
+    if awaits_command w.serial.line station then link_given_up_works station w else w
+
+-- the same for so many stations, from the first on
+abbrev pub commands_given_up_works_upto : (count : ℕ) → Works → Works
+commands_given_up_works_upto zero w = w
+commands_given_up_works_upto (suc k) w =
+    command_given_up_works k (commands_given_up_works_upto k w)
+
+-- for all stations
+abbrev pub restarted_works : Works → Works
+restarted_works w = commands_given_up_works_upto (length w.serial.line.stations) w
 
 -- A step: its event, its timers, its request
 

@@ -269,6 +269,20 @@ impl Gateway {
         }
     }
 
+    /// What the wall clock showed last, if that is known.
+    pub fn wall_told(&self) -> Option<Wall>
+        ensures { result ≡ self.now.wall }
+    {
+        self.wall
+    }
+
+    /// The primary station of the line.
+    pub fn line(&self) -> &Master
+        ensures { result.now ≡ self.now.serial.line }
+    {
+        &self.serial.line
+    }
+
     /// The greatest moment so far, in milliseconds: that of the step. The clock of a run that goes
     /// on begins there.
     pub fn moment(&self) -> u64

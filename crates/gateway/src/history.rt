@@ -1,7 +1,7 @@
 //! The log of a run, for who can't keep it.
 ghost use Rattle.std.specs.Prelude.{◌≡◌, List, [], ◌∷◌, ◌++◌};
 ghost use Rattle.std.specs.Borrow.{ftrue};
-ghost use Rattle.gateway.specs.Log.{LogEntry, Went};
+ghost use Rattle.gateway.specs.Log.{Came, LogEntry, Restarted, Went};
 
 use crate::ports::{Action, Next};
 use std::marker::Model;
@@ -47,6 +47,13 @@ impl History {
     /// of the buffer.
     pub fn came(&self, _next: &Next, _buf: &[u8; 1024]) -> History
         ensures { result.entries ≡ told_by _next.now _buf.now ++ self.now.entries }
+    {
+        History {}
+    }
+
+    /// The log with the restart behind it, at the moment of its latest step, in ms.
+    pub fn restarted(&self, _moment: &u64) -> History
+        ensures { result.entries ≡ Came _moment.now Restarted ∷ self.now.entries }
     {
         History {}
     }

@@ -1,4 +1,10 @@
 //! What holds of the definitions.
+pub(crate) mod going_on;
+pub(crate) mod going_out;
+pub(crate) mod ordering;
+pub(crate) mod restarts;
+pub(crate) mod turning;
+
 ghost use Rattle.std.specs.Prelude.{◌≡◌, ◌↔◌, ℕ, List, ◌∷◌, IsTrue, Option, Some, None, true};
 ghost use Rattle.std.specs.Prelude.{false, map};
 ghost use Rattle.session.specs.declared.kinds.Close.{Close};

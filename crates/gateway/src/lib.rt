@@ -26,7 +26,9 @@
 //! At a restart a gateway is read from the lines of its state ([`Gateway::read_state`]), gives up
 //! the commands without an answer ([`Gateway::give_up_commands`]), and goes on with other settings
 //! where these were changed ([`Gateway::carried`], [`stations_go_on_by_their_addresses`]): no link
-//! is up then but of a station as it was ([`no_link_goes_on_but_of_a_station_as_it_was`]).
+//! is up then but of a station as it was ([`no_link_goes_on_but_of_a_station_as_it_was`]). With the
+//! same settings the restart is an event of the log ([`restarts_give_up_commands`]), which goes on:
+//! each promise on a log holds of all lives together.
 #![tactic(auto)]
 
 mod config;
@@ -34,31 +36,35 @@ mod counts;
 mod engine;
 mod entries;
 mod gaps;
-mod going_on;
 mod history;
 mod laws;
-mod ordering;
 mod ports;
 mod runs;
 mod settings;
 mod starting_links;
 mod step;
-mod turning;
 mod walls;
 
 pub use config::Config;
 pub use counts::Counts;
 pub use engine::{Gateway, LAST_MOMENT, NoMemory};
 pub use entries::{Entry, Told, announce, cause_number, keep};
-pub use going_on::{no_link_goes_on_but_of_a_station_as_it_was, stations_go_on_by_their_addresses};
 pub use history::History;
+pub use laws::going_on::{
+    no_link_goes_on_but_of_a_station_as_it_was, stations_go_on_by_their_addresses,
+};
+pub use laws::going_out::{
+    data_wait_for_confirmations, frames_bear_whole_pieces, reports_wait_for_own_answers,
+};
+pub use laws::ordering::{moments_never_fall, steps_keep_their_order};
+pub use laws::restarts::restarts_give_up_commands;
+pub use laws::turning::logs_keep_turns;
 pub use laws::{
     counts_tell_commands, courses_keep_commands, one_cause, one_course, one_reading,
     settings_are_kept, settings_reach_the_promises, steps_leave_nothing_open, what_is_due_is_given,
 };
-pub use ordering::{moments_never_fall, steps_keep_their_order};
 pub use ports::{Action, Event, Next, Port};
 pub use runs::{End, drive, drive_on};
 pub use settings::{LineSettings, Silence, Station, TcpSettings};
 pub use starting_links::{LinkStart, link_start};
-pub use turning::logs_keep_turns;
+pub use walls::Wall;

@@ -14,7 +14,7 @@ ghost use Rattle.gateway.specs.Setups.{setup_of};
 
 use crate::config::Config;
 use crate::engine::{Gateway, NoMemory};
-use crate::ordering::steps_keep_their_order;
+use crate::laws::ordering::steps_keep_their_order;
 use crate::ports::{Event, Next, Port};
 use std::alloc::Global;
 
@@ -50,6 +50,7 @@ pub fn drive_on<P: Port>(gateway: &mut Gateway, port: &mut P, turns: u64) -> End
     ensures device { P.failed port.new ≡ P.failed port.old + faults_at result }
 {
     steps_keep_their_order();
+    // Long enough for what a peer sends in a burst (docs/ARCHITECTURE.md, "Values that we chose").
     let mut buf = [0; 1024];
     for _ in 0..turns {
         let next = port.next(&mut buf);

@@ -105,9 +105,11 @@ pub fn link_start(
     let Some(now) = now else {
         return LinkStart::Dropped;
     };
+    // Before the settings are compared: what went out last isn't known, whatever they are.
     if !goes_on {
         return LinkStart::ResetAfterGap;
     }
+    // Else a held command could be another one at the station, or go past its guard.
     if same_sizes && are_same(&before, &now) {
         LinkStart::GoesOn
     } else {

@@ -103,6 +103,7 @@ impl Gateway {
         if self.is_confirmed() {
             return true;
         }
+        // At most two more: an S frame, a reply and STOPDT con are all that can be due at once.
         if !self.send_confirmation(port) {
             return false;
         }
@@ -195,6 +196,7 @@ impl Gateway {
         ensures in_time { OnTrue result (StaysInTime self.old self.new) }
         ensures puts { Puts P.log P.script P.failed port.old port.new (faults_unless result) }
     {
+        // First: the control centre awaits STARTDT con before any I frame (IEC 60870-5-104, 5.3).
         if !self.send_confirmations(port) {
             return false;
         }
@@ -204,6 +206,7 @@ impl Gateway {
         if !self.send_data(port) {
             return false;
         }
+        // Last: an I frame that has just gone out acknowledges, and no S frame is due any more.
         self.send_dues(port)
     }
 
@@ -241,6 +244,8 @@ impl Gateway {
             Some(cause) => return self.shut(cause, port),
             None => {}
         }
+        // Behind each APDU and not once a piece: the next one is taken when no confirmation is
+        // due.
         if !self.flush(port) {
             return Outcome::Failed;
         }
@@ -317,6 +322,8 @@ impl Gateway {
             let (count, went) = self.take_front(&octets[done..], port);
             match went {
                 Outcome::On => done += count,
+                // The first cause in the octets decides (docs/DECISIONS.md, "Several causes in one
+                // piece").
                 Outcome::Over => return true,
                 Outcome::Failed => return false,
             }
@@ -350,6 +357,8 @@ impl Gateway {
         ensures puts { Puts P.log P.script P.failed port.old port.new (faults_unless result) }
     {
         line_keeps_the_procedures();
+        // A live port shuts nothing now: the new connection has taken the place of the old one
+        // (docs/DECISIONS.md, "A close with cause 7").
         if !port.put(self.moment(), &Action::Close(Close::Replaced)) {
             return false;
         }
@@ -381,7 +390,7 @@ impl Gateway {
 
     /// Takes what an event means for the connection; `fits` says whether what the line brought of
     /// own answers found places.
-    fn take<P: Port>(&mut self, event: Event<'_>, fits: bool, port: &mut P) -> bool
+    fn take_connection_event<P: Port>(&mut self, event: Event<'_>, fits: bool, port: &mut P) -> bool
         requires { P.failed port.old < u64.MAX }
         ensures kept { (p : Setup) (s : State) (now : ℕ) →
             Begins s now (input_of event.entry) fits self.old →
@@ -419,6 +428,8 @@ impl Gateway {
         if fits {
             return true;
         }
+        // Never: without a connection nothing is passed on, and no own answer is made
+        // (docs/DECISIONS.md, "No own answer without a connection").
         if !self.is_open() {
             return true;
         }
@@ -433,6 +444,7 @@ impl Gateway {
             else []) → Leaves result p self.new (P.log port.new) [] Idle }
         ensures puts { Puts P.log P.script P.failed port.old port.new (faults_unless result) }
     {
+        // They came behind a close, of which their sender doesn't know yet.
         if !self.is_open() {
             return true;
         }
@@ -460,7 +472,7 @@ impl Gateway {
     }
 
     /// Closes the connection where an answer is late, once each gap is told.
-    fn watch<P: Port>(&mut self, port: &mut P) -> bool
+    fn close_if_late<P: Port>(&mut self, port: &mut P) -> bool
         requires ready { P.failed port.old < u64.MAX }
         requires told { self.old.serial.gap ≡ None }
         ensures kept { (p : Setup) → Tracks p self.old (P.log port.old) [] Timed →
@@ -476,7 +488,7 @@ impl Gateway {
     }
 
     /// Puts out the line's next request, if there is one, once each gap is told.
-    fn ask<P: Port>(&mut self, port: &mut P) -> bool
+    fn send_request<P: Port>(&mut self, port: &mut P) -> bool
         requires ready { P.failed port.old < u64.MAX }
         requires told { self.old.serial.gap ≡ None }
         ensures kept { (p : Setup) → Tracks p self.old (P.log port.old) [] Timed →
@@ -522,18 +534,23 @@ impl Gateway {
         line_keeps_the_procedures();
         self.advance_to(now);
         let fits = self.hear_event(event);
-        self.time();
-        if !self.take(event, fits, port) {
+        // Behind the octets, which may be the answer, and before any action: in the log the
+        // exchange is closed from this event on.
+        self.end_late_exchange();
+        if !self.take_connection_event(event, fits, port) {
             return false;
         }
+        // Before the timers: the gap follows from the event (docs/DECISIONS.md, "A gap is an
+        // action").
         if !self.tell_gap(port) {
             return false;
         }
-        self.settle();
-        if !self.watch(port) {
+        self.run_command_timers();
+        if !self.close_if_late(port) {
             return false;
         }
-        if !self.ask(port) {
+        // Once all that came is taken (docs/DECISIONS.md, "What is free in a step").
+        if !self.send_request(port) {
             return false;
         }
         self.flush(port)

@@ -3,11 +3,11 @@ ghost use Rattle.std.specs.Prelude.{◌≡◌, ◌+◌, ◌-◌, min};
 
 /// What the wall clock showed at a moment.
 #[derive(Clone, Copy)]
-pub(crate) struct Wall {
+pub struct Wall {
     /// The moment, in milliseconds.
-    pub(crate) moment: u64,
+    pub moment: u64,
     /// Milliseconds since 1970-01-01 UTC.
-    pub(crate) number: u64,
+    pub number: u64,
 }
 
 impl Wall {

@@ -12,7 +12,7 @@ use Rattle.apci.specs.declared.apdu.Apdu.{Apdu}
 use Rattle.apci.specs.declared.assembling.Heard.{Heard as ApduHeard}
 use Rattle.apci.specs.declared.assembling.Heard.TheVariants as tcp
 use Rattle.gateway.specs.Log.{Log, LogEntry, Came, Went, LineIn, Opened, TcpIn, CutOff, Ticked}
-use Rattle.gateway.specs.Log.{WallIs, Output, LineOut, TcpOut, Closed, GapOut}
+use Rattle.gateway.specs.Log.{WallIs, Restarted, Output, LineOut, TcpOut, Closed, GapOut}
 use Rattle.words.specs.Connections.{apdu_words, fault_of as apdu_fault_of}
 use Rattle.words.specs.Faults.{cut_off, no_frame}
 use Rattle.ladder.specs.Rungs.{IsActionLine, head, heard_line, repeat_remark}
@@ -140,7 +140,8 @@ pub record IsActionTold (style : Style) (before : Remembered) (now : ℕ) (actio
   pub remembered : IsRemembered before action after remark
   pub line : IsActionLine style.sizes style.is_coloured now remark action lines
 
--- the lines of an entry of the log; where only time passes there is none
+-- the lines of an entry of the log; where only time passes there is none, nor for a restart, which
+-- no port tells
 abbrev pub IsEntryTold : Style → (before : Remembered) → LogEntry → (after : Remembered)
     → (lines : List ℕ) → Type 0
 IsEntryTold style before (Came now (LineIn octets)) after lines =
@@ -156,6 +157,7 @@ IsEntryTold style before (Came now CutOff) after lines =
 IsEntryTold style before (Came now Ticked) after lines = (after ≡ before) × (lines ≡ [])
 IsEntryTold style before (Came now (WallIs wall)) after lines =
     (after ≡ before) × (lines ≡ wall_line style.is_coloured now wall)
+IsEntryTold style before (Came now Restarted) after lines = (after ≡ before) × (lines ≡ [])
 IsEntryTold style before (Went now action) after lines =
     IsActionTold style before now action after lines
 

@@ -4,7 +4,8 @@ use Rattle.std.specs.Prelude.{◌==◌}
 use Rattle.std.proofs.Common.{◌≡◌, ℕ, zero, suc, ◌<◌, ◌&&◌, ◌||◌, ◌⊎◌, inl, inr, nat_lt, Bool, true}
 use Rattle.std.proofs.Common.{false, List, [], ◌∷◌, length, slice_set, map, Option, Some, None}
 use Rattle.std.proofs.Common.{refl, sym, ap, subst, ◌∙◌, if◌then◌else◌}
-use Rattle.std.proofs.lemmas.List.{get_or-set_same}
+use Rattle.std.proofs.lemmas.Bool.{eqb-true, eqb-false}
+use Rattle.std.proofs.lemmas.List.{get_or-set_same, get_or-set_other}
 use Rattle.link.specs.Answers.{Frame, Single, Fixed, Data, Asked, Status, Reset, Counted, Answer}
 use Rattle.link.specs.Answers.{Ready, Confirmed, Busy, Report, NoData, Unable, answer_of}
 use Rattle.link.specs.Answers.{comes_from}
@@ -16,6 +17,7 @@ use Rattle.link.specs.Turns.{Polling, Class1Polling, Over, Wanted, wants, wanted
 use Rattle.link.specs.Primary.{Outstanding, Primary, start, station_down, station_asked}
 use Rattle.link.specs.Primary.{after_choice, phase_after, with_octets, awaits, station_answered}
 use Rattle.link.specs.Primary.{answered, station_unanswered, unanswered, without_offer}
+use Rattle.link.specs.Carried.{station_given_up, given_up}
 use Rattle.link.proofs.FirstSendings.{set_at}
 use Rattle.link.proofs.Links.{set_view}
 use Rattle.link.proofs.Turning.{present}
@@ -262,6 +264,44 @@ begun_linked p stations same b = record {
   here = subst (λ (l : Link). IsAlong p.outstanding p.phase l) (sym (same p.turn)) b.here;
   away = λ i known. b.away i (sym (same i) ∙ known);
 }
+
+-- the link to a station is given up
+pub begun_given_up : (p : Primary) (k : ℕ) → k < length p.stations → IsBegun p
+    → IsBegun (given_up k p)
+begun_given_up p k within b = record {
+  here = along (p.turn == k) refl;
+  away = λ i known. go i known (set_at p.stations k i s);
+}
+  where
+    s : StationState
+    s = station_given_up (station_at p.stations k)
+
+    go : (i : ℕ) → (station_at (slice_set p.stations k
+        (station_given_up (station_at p.stations k))) i).link ≡ Available →
+        (i ≡ k) × (station_at (slice_set p.stations k
+        (station_given_up (station_at p.stations k))) i
+        ≡ station_given_up (station_at p.stations k))
+        ⊎ (station_at (slice_set p.stations k (station_given_up (station_at p.stations k))) i
+        ≡ station_at p.stations i) → i ≡ p.turn
+    go i known (inl at) =
+        let down : Down ≡ Available = sym (ap (λ (t : StationState). t.link) at.1) ∙ known in
+        cc
+    go i known (inr same) =
+        b.away i (sym (ap (λ (t : StationState). t.link) same) ∙ known)
+
+    along : (c : Bool) → (p.turn == k) ≡ c →
+        IsAlong (if c then None else p.outstanding) (if c then Over else p.phase)
+        (station_at (slice_set p.stations k (station_given_up (station_at p.stations k)))
+        p.turn).link
+    along true e =
+        λ known. let down : Down ≡ Available =
+        sym (ap (λ (i : ℕ). (station_at (slice_set p.stations k s) i).link) (eqb-true p.turn k e)
+        ∙ ap (λ (t : StationState). t.link) (get_or-set_same p.stations k s no_station within))
+        ∙ known in
+        cc
+    along false e =
+        subst (λ (t : StationState). IsAlong p.outstanding p.phase t.link)
+        (sym (get_or-set_other p.stations k p.turn s no_station (eqb-false p.turn k e))) b.here
 
 pub withdrawn_link : (ss : List StationState) (i : ℕ) → (station_at (map without_offer ss) i).link
     ≡ (station_at ss i).link

@@ -43,7 +43,8 @@ pub record Leaves (settings : LinkSettings) (station : ℕ) (link : Link) (pendi
     (x : Exchange)
     (m : Option Answer) (owed done : List Effect) (new : Outstation) : Type 0 where
   pub owed' : List Effect
-  pub agrees : Agrees station (after_outcome settings m x link) (pending_by x.request m pending) new
+  pub agrees : Agrees station (after_outcome settings m x.request x.closed link)
+      (pending_by x.request m pending) new
       owed'
   pub sum : owed ++ done ≡ learnt_by x.request m ++ owed'
 
@@ -159,7 +160,13 @@ module _ (settings : LinkSettings) (station : ℕ) (fcb : Bool) (service : Servi
     (pending : Option Service)
     (old new : Outstation) (turn : Turn) (owed : List Effect) where
   sending : Option Frame → Exchange
-  sending front = record { request = Counted fcb service; front = front; closed = closed }
+  sending front = record {
+    request = Counted fcb service;
+    front = front;
+    closed = closed;
+    given_up =
+        false;
+  }
 
   -- it was answered by what the outstation keeps now
   when_answered : (f frame : Frame) (answer : Answer) → frame ≡ f
@@ -240,8 +247,15 @@ pub service_step : (settings : LinkSettings) (station : ℕ) (fcb : Bool) (servi
       front =
           front;
       closed = closed;
+      given_up = false;
     })
-    (answer_to station (record { request = Counted fcb service; front = front; closed = closed }))
+    (answer_to station (record {
+      request = Counted fcb service;
+      front = front;
+      closed =
+          closed;
+      given_up = false;
+    }))
     owed turn.done new
 unfolding sending
 service_step settings station fcb service closed link pending old new turn owed None a
@@ -275,12 +289,14 @@ service_step settings station fcb service closed link pending old new turn owed 
           front =
               front;
           closed = closed;
+          given_up = false;
         })
         (answer_to station (record {
           request = Counted fcb service;
           front = front;
           closed =
               closed;
+          given_up = false;
         })) owed turn.done
         new
     go front true_front (inl same) = absurd (not-self fcb same.0)
@@ -313,12 +329,14 @@ service_step settings station fcb service closed link pending old new turn owed 
           front =
               front;
           closed = closed;
+          given_up = false;
         })
         (answer_to station (record {
           request = Counted fcb service;
           front = front;
           closed =
               closed;
+          given_up = false;
         })) owed turn.done
         new
     go front true_front (inr s) = absurd (s.0 refl)
@@ -382,6 +400,7 @@ status_leaves : (settings : LinkSettings) (station : ℕ) (link : Link) (pending
       front = front;
       closed =
           closed;
+      given_up = false;
     }) m owed done new
 status_leaves settings station link pending front closed None owed done new down owes idle =
     record { owed' = owed; agrees = owes; sum = no_more owed done idle }
@@ -412,6 +431,7 @@ reset_leaves : (settings : LinkSettings) (station : ℕ) (pending : Option Servi
       front = front;
       closed =
           closed;
+      given_up = false;
     }) m owed done
     new
 reset_leaves settings station pending front closed None owed done new other owes idle =
@@ -435,6 +455,7 @@ pub exchange_step : (settings : LinkSettings) (station : ℕ) (link : Link) (pen
       front = front;
       closed =
           closed;
+      given_up = false;
     })
     (option_and_then (answer_of station request) front) owed turn.done new
 exchange_step settings station Down pending Status front closed old new turn owed agrees may step

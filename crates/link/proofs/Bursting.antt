@@ -4,6 +4,7 @@ use Rattle.std.proofs.Common.{◌≡◌, ℕ, suc, ◌<◌, ◌≤◌, ◌&&◌,
 use Rattle.std.proofs.Common.{◌++◌, length, slice_set, map, Option, Some, None, refl, sym, ap}
 use Rattle.std.proofs.Common.{subst, ◌∙◌, ◌⊎◌, inl, inr, arith, if◌then◌else◌}
 use Rattle.std.proofs.lemmas.Bool.{lt-ltb, eqb-true, eqb-false}
+use Rattle.std.proofs.lemmas.List.{get_or-set_other}
 use Rattle.ft12.specs.declared.frame.Front.{Front}
 use Rattle.ft12.specs.Fronts.{front_of}
 use Rattle.link.specs.Answers.{Frame, Service, Class1, Class2, Asked, Status, Reset, Counted}
@@ -12,7 +13,8 @@ use Rattle.link.specs.Exchanges.{Sending, whole_of}
 use Rattle.link.specs.Procedure.{LinkSettings, Link, Down, Available, Next, Held, is_held}
 use Rattle.link.specs.Procedure.{has_repeats, after_answer, after_silence, missed_so_far}
 use Rattle.link.specs.Turns.{StationState, Phase, Starting, Commanding, Polling, Class1Polling}
-use Rattle.link.specs.Turns.{Over, Wanted, Chosen, station_at, is_poll, wants, wanted_poll}
+use Rattle.link.specs.Turns.{no_station, Over, Wanted, Chosen, station_at, is_poll, wants}
+use Rattle.link.specs.Turns.{wanted_poll}
 use Rattle.link.specs.Turns.{polls_from, wanted_command, commands_from, next_of, wanted_by, wanted}
 use Rattle.link.specs.Turns.{chosen_or, first_after}
 use Rattle.link.specs.Primary.{Outstanding, Primary, start, choice, after_choice, asked_from, asked}
@@ -22,7 +24,8 @@ use Rattle.link.specs.Primary.{received_after, received_from, received, station_
 use Rattle.link.specs.Primary.{unanswered, is_late, due_from, timed_out, may_offer, with_offer}
 use Rattle.link.specs.Primary.{without_offer, offered_to}
 use Rattle.link.specs.Leave.{is_poll_request}
-use Rattle.link.specs.Runs.{Call, Octets, Due, Offer, Withdraw, called}
+use Rattle.link.specs.Carried.{station_given_up, given_up}
+use Rattle.link.specs.Runs.{Call, Octets, Due, Offer, Withdraw, GivesUp, called}
 use Rattle.link.specs.Runs as runs
 use Rattle.link.specs.Bursts.{Row, Polls, Repeat, Other, one_more, row_by_request, row_by, row_out}
 use Rattle.link.specs.Bursts.{row_after, is_answered, PollsGoOn, BurstsGoOn}
@@ -156,7 +159,7 @@ Tells p Other = IsNotBegun p.phase
 
 -- ---- `next`
 
-not_both : (b : Bool) → b ≡ true → b ≡ false → ⊥
+pub not_both : (b : Bool) → b ≡ true → b ≡ false → ⊥
 not_both b e f = cc
 
 same_phase : (p q : Phase) (sent so_far : ℕ) → p ≡ Class1Polling so_far → q ≡ p
@@ -315,7 +318,7 @@ unable_down Status link poll = refl
 unable_down Reset link poll = let bad : ⊥ = cc in absurd bad
 unable_down (Counted fcb service) link poll = refl
 
-silent_down : (settings : LinkSettings) (request : Asked) (link : Link)
+pub silent_down : (settings : LinkSettings) (request : Asked) (link : Link)
     → is_answered (after_silence settings request true link) ≡ false
 silent_down settings Status link = refl
 silent_down settings Reset link = refl
@@ -449,6 +452,36 @@ offer_tells p i asdu row tells = go (may_offer p i)
         tells
     go false = tells
 
+-- Where the link of the station is given up, its poll is lost.
+give_up_tells : (p : Primary) (k : ℕ) (row : Row) → Tells p row → Tells (given_up k p) row
+give_up_tells p k Other tells = go (p.turn == k)
+  where
+    go : (b : Bool) → IsNotBegun (if b then Over else p.phase)
+    go true = tt
+    go false = tells
+give_up_tells p k (Repeat j) tells = tells
+give_up_tells p k (Polls j n) (turn, polls) = (turn, go (p.turn == k) refl polls)
+  where
+    s : StationState
+    s = station_given_up (station_at p.stations k)
+
+    stays : (p.turn == k) ≡ false → station_at (given_up k p).stations j ≡ station_at p.stations j
+    stays e = get_or-set_other p.stations k j s no_station
+        (λ same. eqb-false p.turn k e (turn ∙ same))
+
+    go : (b : Bool) → (p.turn == k) ≡ b → IsPolling p j n → IsPolling (given_up k p) j n
+    go true e polls =
+        lost (ap (λ (b : Bool). if b then None else p.outstanding) e)
+        (subst (λ (i : ℕ). is_answered (station_at (given_up k p).stations i).link ≡ false)
+        (sym (eqb-true p.turn k e) ∙ turn)
+        (set_none (λ (t : StationState). is_answered t.link) p.stations k s refl refl))
+    go false e (going so_far le is poll) =
+        going so_far le (ap (λ (b : Bool). if b then Over else p.phase) e ∙ is)
+        (subst PollIsOut (sym (ap (λ (b : Bool). if b then None else p.outstanding) e)) poll)
+    go false e (lost free down) =
+        lost (ap (λ (b : Bool). if b then None else p.outstanding) e ∙ free)
+        (ap (λ (t : StationState). is_answered t.link) (stays e) ∙ down)
+
 call_tells : (p : Primary) (row : Row) (call : Call) → Tells p row
     → Tells (called p call) (row_after p call row)
 call_tells p row (runs.Next now may_poll) tells = asked_tells p row now may_poll tells
@@ -457,6 +490,7 @@ call_tells p row (Due now) tells = due_tells p now row tells
 call_tells p row (Offer station asdu) tells = offer_tells p station asdu row tells
 call_tells p row Withdraw tells = offers_tell p (map without_offer p.stations) row
     (without_links p.stations) tells
+call_tells p row (GivesUp station) tells = give_up_tells p station row tells
 
 -- ---- one more
 
@@ -498,6 +532,7 @@ goes_on p (Polls k n) (Octets octets) tells = tt
 goes_on p (Polls k n) (Due now) tells = tt
 goes_on p (Polls k n) (Offer station asdu) tells = tt
 goes_on p (Polls k n) Withdraw tells = tt
+goes_on p (Polls k n) (GivesUp station) tells = tt
 goes_on p (Repeat k) call tells = tt
 goes_on p Other call tells = tt
 

@@ -4,17 +4,20 @@ use Rattle.std.proofs.Common.{subst, ◌∙◌, Option}
 use Rattle.ft12.specs.declared.frame.Front.{Front}
 use Rattle.ft12.specs.Fronts.{front_of}
 use Rattle.link.specs.Exchanges.{Exchanges, no_exchanges, heard_current, timed_current, begun_by}
+use Rattle.link.specs.Exchanges.{given_up_at}
 use Rattle.link.specs.Procedure.{LinkSettings}
 use Rattle.link.specs.Requests.{IsUserData, FitsAddress}
 use Rattle.link.specs.Primary.{Outstanding, Primary, start, asked, sending, received, timed_out}
 use Rattle.link.specs.Primary.{offered_to, withdrawn}
-use Rattle.link.specs.Runs.{Call, Next, Octets, Due, Offer, Withdraw, called, exchanged, MayCall}
-use Rattle.link.specs.Runs.{MayCallAll, called_all, exchanged_all, AreCalled}
+use Rattle.link.specs.Carried.{given_up}
+use Rattle.link.specs.Runs.{Call, Next, Octets, Due, Offer, Withdraw, GivesUp, called, exchanged}
+use Rattle.link.specs.Runs.{MayCall, MayCallAll, called_all, exchanged_all, AreCalled}
 use Rattle.link.specs.Telling.{IsStable, AreLinks, past, TellsBy, Tells}
 use Rattle.link.proofs.Telling.{SaysBy, says, tells, links_said, hear_says, due_says}
 use Rattle.link.proofs.TellingOffers.{start_says}
 use Rattle.link.proofs.Telling.{ask_says}
 use Rattle.link.proofs.TellingOffers.{offer_says, withdraw_says}
+use Rattle.link.proofs.GivenUpTold.{given_up_says}
 
 -- one call more
 
@@ -120,6 +123,15 @@ withdraw_tells settings addresses p e t =
     (withdraw_says (front_of settings.size) settings addresses p e
     (says (front_of settings.size) settings addresses p e t))
     (one_more settings addresses p e Withdraw tt t.called)
+
+pub give_up_tells : (settings : LinkSettings) (addresses : List ℕ) (p : Primary) (e : Exchanges)
+    (k : ℕ) → k < length p.stations → Tells settings addresses p e
+    → Tells settings addresses (given_up k p) (given_up_at k e)
+give_up_tells settings addresses p e k within t =
+    tells (front_of settings.size) settings addresses (given_up k p) (given_up_at k e)
+    (given_up_says (front_of settings.size) settings addresses p e k within
+    (says (front_of settings.size) settings addresses p e t))
+    (one_more settings addresses p e (GivesUp k) within t.called)
 
 -- the links that are known while nothing, or something, is outstanding
 pub links_at : (front : List ℕ → Front) (settings : LinkSettings) (addresses : List ℕ) (p : Primary)

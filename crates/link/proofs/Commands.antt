@@ -18,6 +18,7 @@ use Rattle.link.specs.Delivery.{accepted_by, commands, command_of, is_busy_by, i
 use Rattle.link.specs.Delivery.{first_sending, sendings_not_busy, AcceptsSendings}
 use Rattle.link.specs.Delivery.{is_command_pending, AcceptsAllSendings}
 use Rattle.link.proofs.Bit.{confirmed_reset}
+use Rattle.link.proofs.Marks.{by_mark}
 use Rattle.link.proofs.Sessions.{reset_learns, idle_down, reset_from_down}
 
 -- what may be said to a command
@@ -148,12 +149,7 @@ service_pends : (settings : LinkSettings) (fcb : Bool) (service : Service) (m : 
     (front : Option Frame)
     (closed : Bool) (link : Link) (pending : Option Service) →
     LinkPends
-    (after_outcome settings m (record {
-      request = Counted fcb service;
-      front = front;
-      closed =
-          closed;
-    })
+    (after_outcome settings m (Counted fcb service) closed
     link) (pending_by (Counted fcb service) m pending)
 service_pends settings fcb service None front false link pending = refl
 service_pends settings fcb service None front true link pending =
@@ -307,7 +303,7 @@ exchange_pends : (settings : LinkSettings) (station : ℕ) (link : Link) (pendin
     (front : Option Frame) (closed : Bool)
     (m : Option Answer) → LinkPends link pending → MaySend link request →
     LinkPends
-    (after_outcome settings m (record { request = request; front = front; closed = closed }) link)
+    (after_outcome settings m request closed link)
     (pending_by request m pending)
 exchange_pends settings station Down pending Status front closed None pends may = tt
 exchange_pends settings station Down pending Status front closed (Some Ready) pends may = tt
@@ -370,8 +366,9 @@ sendings_from settings station link pending (x ∷ xs) (turn ∷ turns) pends ke
     go (is_reset x.request (answer_to station x)) refl
     (sendings_from settings station (after settings station x link)
     (pending_by x.request (answer_to station x) pending) xs turns
-    (exchange_pends settings station link pending x.request x.front x.closed (answer_to station x)
-    pends keeps.0)
+    (by_mark (λ (l : Link). LinkPends l (pending_by x.request (answer_to station x) pending))
+    x.given_up _ (exchange_pends settings station link pending x.request x.front x.closed
+    (answer_to station x) pends keeps.0) tt)
     keeps.1)
   where
     go : (b : Bool) → is_reset x.request (answer_to station x) ≡ b →
@@ -517,8 +514,9 @@ sendings_steady settings station link pending (x ∷ xs) pends clear keeps stead
     → pending_by x.request (answer_to station x) pending ≡ None).
     sendings_steady settings station (after settings station x link)
     (pending_by x.request (answer_to station x) pending) xs
-    (exchange_pends settings station link pending x.request x.front x.closed (answer_to station x)
-    pends keeps.0) c
+    (by_mark (λ (l : Link). LinkPends l (pending_by x.request (answer_to station x) pending))
+    x.given_up _ (exchange_pends settings station link pending x.request x.front x.closed
+    (answer_to station x) pends keeps.0) tt) c
     keeps.1 steady.1)
   where
     down : (b : Bool) → is_reset x.request (answer_to station x) ≡ b → (u : Bool) → is_up link ≡ u →
@@ -552,17 +550,20 @@ sendings_steady settings station link pending (x ∷ xs) pends clear keeps stead
         (answer_to station x) xs pends keeps.0 is refl
         (ih (down false is (is_up link) refl))
 
--- Where services are held, only a refusal takes a link down.
+-- Where services are held, only a refusal takes a link down, or that it is given up.
 pub hold_steady :
     (settings : LinkSettings) (station : ℕ) (link : Link) (xs : List Exchange) → settings.hold
     ≡ true
     → KeepsFrameCountBit settings station link xs →
     AllByRecursion (λ (x : Exchange). answer_to station x ≢ Some Unable) xs
+    → AllByRecursion (λ (x : Exchange). x.given_up ≡ false) xs
     → IsSteady settings station link xs
-hold_steady settings station link [] hold keeps able = tt
-hold_steady settings station link (x ∷ xs) hold keeps able = (
-  λ up. one link x.request (answer_to station x) keeps.0 up able.0,
-  hold_steady settings station (after settings station x link) xs hold keeps.1 able.1,
+hold_steady settings station link [] hold keeps able stands = tt
+hold_steady settings station link (x ∷ xs) hold keeps able stands = (
+  λ up. ap (λ (b : Bool). is_up (if b then Down
+      else after_outcome settings (answer_to station x) x.request x.closed link)) stands.0
+      ∙ one link x.request (answer_to station x) keeps.0 up able.0,
+  hold_steady settings station (after settings station x link) xs hold keeps.1 able.1 stands.1,
 )
   where
     waits : (fcb : Bool) (service : Service) (missed : ℕ) (b h : Bool) → h ≡ true →
@@ -581,12 +582,7 @@ hold_steady settings station link (x ∷ xs) hold keeps able = (
 
     counted : (fcb : Bool) (service : Service) (link : Link) (m : Option Answer) → m ≢ Some Unable →
         is_up
-        (after_outcome settings m (record {
-          request = Counted fcb service;
-          front = x.front;
-          closed =
-              x.closed;
-        })
+        (after_outcome settings m (Counted fcb service) x.closed
         link) ≡ true
     counted fcb service link None able = unanswered_up fcb service link x.closed
     counted fcb service link (Some Unable) able = absurd (able refl)
@@ -600,7 +596,7 @@ hold_steady settings station link (x ∷ xs) hold keeps able = (
         ≡ true
         → m ≢ Some Unable →
         is_up
-        (after_outcome settings m (record { request = request; front = x.front; closed = x.closed })
+        (after_outcome settings m request x.closed
         link) ≡ true
     one Down request m may up able = cc
     one Available request m may up able = cc

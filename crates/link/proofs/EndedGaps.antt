@@ -12,6 +12,7 @@ use Rattle.link.specs.Delivery.{requests_of, pending_by, pending_after, is_reset
 use Rattle.link.specs.Delivery.{with_first, before_reset, sessions}
 use Rattle.link.specs.Gaps.{resets_in, gap_numbered, gap_in, as_numbers, gaps_from, ended_with_gap}
 use Rattle.link.proofs.OneMore.{nil, pending_push, resets_push}
+use Rattle.link.proofs.Marks.{down_mark}
 use Rattle.link.proofs.Sessions.{reset_learns}
 
 -- what a session has been so far, and the rest of it
@@ -98,7 +99,7 @@ stays_down : (settings : LinkSettings) (link : Link) (request : Asked) (front : 
     (closed : Bool)
     (m : Option Answer) → MaySend link request →
     is_up link ≡ false → is_reset request m ≡ false →
-    (is_up (after_outcome settings m (record { request = request; front = front; closed = closed })
+    (is_up (after_outcome settings m request closed
     link) ≡ false)
     × (pending_by request m None ≡ None)
 stays_down settings Down Status front closed None may down none = (refl, refl)
@@ -173,7 +174,7 @@ before_first settings station link before (x ∷ xs) (turn ∷ turns) even down 
     go false e from =
         let stays = stays_down settings link x.request x.front x.closed (answer_to station x)
         keeps.0 down e in
-        from stays.0 (pushed ∙ stays.1)
+        from (down_mark x.given_up _ stays.0) (pushed ∙ stays.1)
         (resets_push station before x
         ∙ ap (λ (b : Bool). resets_in station before + (if b then 1 else 0)) e
         ∙ ap (λ (n : ℕ). n + 0) resets ∙ omega arith)

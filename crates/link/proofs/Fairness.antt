@@ -15,8 +15,8 @@ use Rattle.link.specs.Turns.{Starting, station_at, wanted, place_after}
 use Rattle.link.specs.Primary.{Primary, start, asked, sending, received}
 use Rattle.link.specs.Telling.{IsStable, TellsBy, Tells}
 use Rattle.link.specs.Leave.{IsLeftToPolls}
-use Rattle.link.specs.Runs.{Call, Next, Octets, Due, Offer, Withdraw, called, exchanged, MayCall}
-use Rattle.link.specs.Runs.{MayCallAll, called_all, exchanged_all, nth_after}
+use Rattle.link.specs.Runs.{Call, Next, Octets, Due, Offer, Withdraw, GivesUp, called, exchanged}
+use Rattle.link.specs.Runs.{MayCall, MayCallAll, called_all, exchanged_all, nth_after}
 use Rattle.link.specs.Visits.{AreInVisits, most_of_visit}
 use Rattle.link.specs.Waits.{WantsAt, AlwaysWants, station_in, stations_by, stations_asked, waited}
 use Rattle.link.proofs.Choice.{place_fits}
@@ -26,6 +26,7 @@ use Rattle.link.proofs.Called.{start_tells}
 use Rattle.link.proofs.VisitRuns.{InVisit, Stays, IsAsked, nothing, goes_on, begins, in_visits}
 use Rattle.link.proofs.VisitRuns.{many_most, asked_visits, heard_visits, due_visits, offer_visits}
 use Rattle.link.proofs.VisitRuns.{withdraw_visits, start_visits}
+use Rattle.link.proofs.VisitsGiven.{give_up_visits}
 
 -- ---- the exchanges are visits
 
@@ -79,6 +80,8 @@ stays settings addresses p e many (Offer station asdu) other may t v =
     offer_visits (front_of settings.size) addresses p e many station asdu v
 stays settings addresses p e many Withdraw other may t v =
     withdraw_visits (front_of settings.size) addresses p e many v
+stays settings addresses p e many (GivesUp station) other may t v =
+    give_up_visits (front_of settings.size) addresses p e many station may v
 
 call_visits : (settings : LinkSettings) (addresses : List ℕ) (p : Primary) (e : Exchanges)
     (call : Call)
@@ -98,6 +101,8 @@ call_visits settings addresses p e (Offer station asdu) some may t v =
     (v.0, (stays settings addresses p e v.0 (Offer station asdu) tt may t v.1).0)
 call_visits settings addresses p e Withdraw some may t v =
     (v.0, (stays settings addresses p e v.0 Withdraw tt may t v.1).0)
+call_visits settings addresses p e (GivesUp station) some may t v =
+    (v.0, (stays settings addresses p e v.0 (GivesUp station) tt may t v.1).0)
 
 calls_visit : (settings : LinkSettings) (addresses : List ℕ) → IsStable (front_of settings.size)
     → (p : Primary) (e : Exchanges) (calls : List Call) → 0 < settings.burst →
@@ -470,6 +475,8 @@ call_waits settings addresses p e (Offer station asdu) k before some there may w
     stay_waits settings addresses p e w.0 k before (Offer station asdu) tt may t w.1 w.2
 call_waits settings addresses p e Withdraw k before some there may wants t w =
     stay_waits settings addresses p e w.0 k before Withdraw tt may t w.1 w.2
+call_waits settings addresses p e (GivesUp station) k before some there may wants t w =
+    stay_waits settings addresses p e w.0 k before (GivesUp station) tt may t w.1 w.2
 
 calls_wait : (settings : LinkSettings) (addresses : List ℕ) → IsStable (front_of settings.size)
     → (p : Primary) (e : Exchanges) (calls : List Call) (k before : ℕ) →

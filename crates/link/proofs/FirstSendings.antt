@@ -24,7 +24,9 @@ use Rattle.link.specs.Primary.{due_from, timed_out, is_command, is_sending_comma
 use Rattle.link.specs.Primary.{with_offer, offered_to, without_offer, withdrawn}
 use Rattle.link.specs.Holding.{IsFitting}
 use Rattle.link.specs.Runs as runs
-use Rattle.link.specs.Runs.{Call, Octets, Due, Offer, Withdraw, MayCall, MayCallAll, called}
+use Rattle.link.specs.Carried.{station_given_up, given_up}
+use Rattle.link.specs.Runs.{Call, Octets, Due, Offer, Withdraw, GivesUp, MayCall, MayCallAll}
+use Rattle.link.specs.Runs.{called}
 use Rattle.link.specs.Runs.{exchanged, Deed, Offered, FirstSent, Withdrawn, first_sent, sent_deeds}
 use Rattle.link.specs.Runs.{deeds, all_deeds, AreInOrder}
 use Rattle.link.proofs.Running.{call_tells}
@@ -452,6 +454,23 @@ withdraw_leaves p = record {
       ok;
 }
 
+-- a link is given up
+
+give_up_leaves : (p : Primary) (k : ℕ) → WaitAlone p → Leaves p (given_up k p) (λ i. [])
+give_up_leaves p k alone = leaves_same p (given_up k p)
+    (record {
+      held = each_set HasOneCommand p.stations k (station_given_up (station_at p.stations k))
+          (λ h. cc) alone.held;
+      sent = λ is. same_offer p k (station_given_up (station_at p.stations k)) refl p.turn
+          ∙ alone.sent (sent_before (p.turn == k) p.outstanding is);
+    })
+    (same_offer p k (station_given_up (station_at p.stations k)) refl)
+  where
+    sent_before : (b : Bool) (o : Option Outstanding)
+        → is_sending_command (if b then None else o) ≡ true → is_sending_command o ≡ true
+    sent_before true o is = cc
+    sent_before false o is = is
+
 call_leaves : (p : Primary) (call : Call) → MayCall p call → IsFitting p → WaitAlone p
     → Leaves p (called p call) (λ i. deeds p i call)
 call_leaves p (runs.Next now may_poll) may fits alone = next_leaves p now may_poll fits alone
@@ -460,6 +479,7 @@ call_leaves p (Octets octets) may fits alone = octets_leave (front_of p.settings
 call_leaves p (Due now) may fits alone = due_leaves p now alone
 call_leaves p (Offer station asdu) may fits alone = offer_leaves p station asdu may.0 alone
 call_leaves p Withdraw may fits alone = withdraw_leaves p
+call_leaves p (GivesUp station) may fits alone = give_up_leaves p station alone
 
 -- Each call keeps what fits: so the primary tells some exchanges all the while.
 pub in_order : (settings : LinkSettings) (addresses : List ℕ) → IsStable (front_of settings.size)

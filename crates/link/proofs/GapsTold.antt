@@ -1,8 +1,8 @@
 -- The gaps of a line's exchanges, call by call.
 use Rattle.std.specs.Prelude.{◌==◌}
 use Rattle.std.proofs.Common.{◌≡◌, ℕ, slice_index, Bool, true, false, List, [], ◌∷◌, ◌++◌, Option}
-use Rattle.std.proofs.Common.{Some, None, option_and_then, refl, sym, ap, subst, ◌∙◌, inl, inr}
-use Rattle.std.proofs.Common.{append_assoc, if◌then◌else◌}
+use Rattle.std.proofs.Common.{Some, None, option_and_then, refl, sym, ap, subst, ◌∙◌}
+use Rattle.std.proofs.Common.{◌||◌, append_assoc, if◌then◌else◌}
 use Rattle.std.proofs.lemmas.Bool.{eqb-true, eqb-false}
 use Rattle.ft12.specs.declared.frame.Front.{Front}
 use Rattle.ft12.specs.declared.frame.Front.TheVariants.{Whole, More, Never}
@@ -17,9 +17,10 @@ use Rattle.link.specs.Procedure.{LinkSettings}
 use Rattle.link.specs.Turns.{SessionState}
 use Rattle.link.specs.Primary.{Outstanding, Primary, outcome_of, outcome_at, outcome_after}
 use Rattle.link.specs.Primary.{outcome_from, received_outcome, gap_of, turn_gap, started, with_gap}
-use Rattle.link.specs.Telling.{IsHeard, IsOver, IsCurrent, TellsBy, gap_in_outcome}
+use Rattle.link.specs.Telling.{IsHeard, IsCurrent, TellsBy, gap_in_outcome}
 use Rattle.link.proofs.Links.{with_one}
-use Rattle.link.proofs.Telling.{said_now, grown, heard_open, heard_closed, unheard}
+use Rattle.link.proofs.Telling.{said_now, grown, heard_open, heard_frozen, neither}
+use Rattle.link.proofs.Telling.{over_said, unheard}
 use Rattle.link.proofs.OneMore.{nil, step, session_of, one_session}
 
 none : (xs : List ℕ) → xs ++ [] ≡ xs
@@ -171,7 +172,14 @@ pub next_gaps : (front : List ℕ → Front) (addresses : List ℕ) (now : ℕ) 
 next_gaps front addresses now None e i nothing = refl
 next_gaps front addresses now (Some s) e i nothing =
     quiet_gaps front addresses (e.ended ++ as_list e.current)
-    (record { station = s.station; request = s.request; since = now; octets = []; closed = false })
+    (record {
+      station = s.station;
+      request = s.request;
+      since = now;
+      octets = [];
+      closed = false;
+      given_up = false;
+    })
     (ap (λ (f : Front). option_and_then (answer_of (slice_index addresses s.station) s.request)
     (whole_of f)) nothing) i
 
@@ -265,25 +273,26 @@ hear_gaps front settings addresses p ended cur octets i t = go p.outstanding cur
         ++ gap_in_outcome i (outcome_from front p o octets)
     go None None t so = sym (none (gaps_of front (slice_index addresses i) i (ended ++ [])))
     go (Some o) None t so = absurd so
-    go None (Some x) t over = by_closed x.closed refl over
+    go None (Some x) t over = by_frozen (x.closed || x.given_up) refl
         ∙ sym (none (gaps_of front (slice_index addresses i) i (ended ++ x ∷ [])))
       where
-        by_closed : (b : Bool) → x.closed ≡ b → IsOver front (slice_index addresses x.station) x →
+        by_frozen : (b : Bool) → (x.closed || x.given_up) ≡ b →
             gaps_of front (slice_index addresses i) i (ended ++ heard_octets octets x ∷ [])
             ≡ gaps_of front (slice_index addresses i) i (ended ++ x ∷ [])
-        by_closed true e so =
+        by_frozen true e =
             ap (λ (z : OpenExchange). gaps_of front (slice_index addresses i) i (ended ++ z ∷ []))
-            (heard_closed octets x e)
-        by_closed false e (inl closed) = cc
-        by_closed false e (inr said) =
+            (heard_frozen octets x e)
+        by_frozen false e =
+            let both = neither x.closed x.given_up e in
+            let said = over_said front (slice_index addresses x.station) x over e in
             ap (λ (z : OpenExchange). gaps_of front (slice_index addresses i) i (ended ++ z ∷ []))
-            (heard_open octets x e)
+            (heard_open octets x both.0 both.1)
             ∙ alike_gaps front addresses ended x (grown x octets) refl refl
             (said.1 octets
             ∙ sym (said_now front (slice_index addresses x.station) x (Some said.0) said.1)) i
     go (Some q) (Some x) t w =
         ap (λ (z : OpenExchange). gaps_of front (slice_index addresses i) i (ended ++ z ∷ []))
-        (heard_open octets x w.waits)
+        (heard_open octets x w.waits w.stands)
         ∙ one_gap front (slice_index addresses i) i ended (grown x octets)
         ∙ ap (λ (l : List ℕ). gaps_of front (slice_index addresses i) i ended ++ l)
         (sym (by_heard q.heard w.heard ∙ here (x.station == i) refl))

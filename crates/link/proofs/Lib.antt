@@ -6,6 +6,7 @@ pub mod Controls
 pub mod Hearing
 pub mod Fitting
 pub mod Links
+pub mod Marks
 pub mod Known
 pub mod FirstSendings
 pub mod Offering
@@ -37,6 +38,7 @@ pub mod Heeding
 pub mod Visiting
 pub mod Statuses
 pub mod VisitRuns
+pub mod VisitsGiven
 pub mod Fairness
 pub mod Telltale
 pub mod Saved
@@ -45,7 +47,11 @@ pub mod RestoredBack
 pub mod Preceding
 pub mod Tabled
 pub mod Bursting
+pub mod Repeating
+pub mod BehindCommands
 pub mod GivenUp
 pub mod GoingOn
 pub mod SessionsOn
 pub mod Called
+pub mod GivenUpTold
+pub mod AllGivenUp

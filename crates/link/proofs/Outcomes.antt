@@ -24,8 +24,9 @@ use Rattle.link.proofs.Called.{links_at}
 -- an exchange that is over isn't outstanding
 over_not : (front : List ℕ → Front) (address : ℕ) (x : OpenExchange) → IsOver front address x
     → IsOutstanding address (view front x).exchange → ⊥
-over_not front address x (inl closed) out = cc
-over_not front address x (inr a) out = let now = said_now front address x (Some a.0) a.1 in
+over_not front address x (inl closed) out = let no : x.closed ≡ false = out.1 in cc
+over_not front address x (inr (inl given)) out = let no : x.given_up ≡ false = out.2 in cc
+over_not front address x (inr (inr a)) out = let now = said_now front address x (Some a.0) a.1 in
     let none = out.0 in cc
 
 -- nothing is heard yet
@@ -45,6 +46,7 @@ awaited_out front addresses turn o x w = (
       (whole_of (front x.octets))) w.station
       ∙ none_yet front (slice_index addresses turn) x o.heard w.heard,
   w.waits,
+  w.stands,
 )
 
 -- the exchange that is awaited, where one is outstanding
@@ -90,7 +92,7 @@ told_octets front settings addresses p e octets x t latest out =
         ∙ ap (λ (z : OpenExchange). with_gap (gap_at front addresses x.station e)
         (outcome_of x.station x.request (answer_to (slice_index addresses x.station)
         (view front z).exchange)))
-        (sym (heard_open octets x w.waits))
+        (sym (heard_open octets x w.waits w.stands))
       where
         gap : turn_gap p ≡ gap_at front addresses p.turn e
         gap = ap gap_of (sym (t.sessions p.turn))
@@ -172,7 +174,9 @@ late_so : (front : List ℕ → Front) (settings : LinkSettings) (addresses : Li
 late_so front settings addresses p e at x q t w =
     ap (λ (s : LinkSettings). nat_le (q.since + s.answer_ms) at) t.settings_are
     ∙ ap (λ (s : ℕ). nat_le (s + settings.answer_ms) at) (sym w.since)
-    ∙ ap (λ (c : Bool). c || nat_le (x.since + settings.answer_ms) at) (sym w.waits)
+    ∙ ap (λ (g : Bool). not g && nat_le (x.since + settings.answer_ms) at) (sym w.stands)
+    ∙ ap (λ (c : Bool). c || (not x.given_up && nat_le (x.since + settings.answer_ms) at))
+    (sym w.waits)
 
 pub early_due : (front : List ℕ → Front) (settings : LinkSettings) (addresses : List ℕ)
     (p : Primary) (e : Exchanges)

@@ -22,7 +22,8 @@ use Rattle.link.specs.Primary.{received_after, received_from, received, station_
 use Rattle.link.specs.Primary.{unanswered, is_late, due_from, timed_out, is_command, may_offer}
 use Rattle.link.specs.Primary.{with_offer, offered_to}
 use Rattle.link.specs.Leave.{is_poll_request}
-use Rattle.link.specs.Runs.{Call, Octets, Due, Offer, Withdraw, called}
+use Rattle.link.specs.Carried.{given_up}
+use Rattle.link.specs.Runs.{Call, Octets, Due, Offer, Withdraw, GivesUp, called}
 use Rattle.link.specs.Runs as runs
 use Rattle.link.specs.Precedence.{command_waits, command_waits_at, is_new_poll, is_new_poll_of}
 use Rattle.link.specs.Precedence.{passes_command, left_after, left_by_request, polls_left}
@@ -426,6 +427,14 @@ offer_rest p i asdu k = go (may_offer p i)
     go true = omega arith
     go false = omega arith
 
+give_up_rest : (p : Primary) (i : ℕ) (k : ℕ) → rest_at (given_up i p) k ≤ rest_at p k
+give_up_rest p i k = less_left (p.turn == k) _ _ (go (p.turn == i))
+  where
+    go : (b : Bool) → rest p.settings.burst (if b then Over else p.phase)
+        ≤ rest p.settings.burst p.phase
+    go true = omega arith
+    go false = omega arith
+
 other_rest : (p : Primary) (k : ℕ) (call : Call) → IsOther call → rest_at (called p call) k
     ≤ rest_at p k
 other_rest p k (runs.Next now may_poll) is = absurd is
@@ -433,6 +442,7 @@ other_rest p k (Octets octets) is = octets_rest (front_of p.settings.size) p oct
 other_rest p k (Due now) is = due_rest p now k
 other_rest p k (Offer station asdu) is = offer_rest p station asdu k
 other_rest p k Withdraw is = omega arith
+other_rest p k (GivesUp station) is = give_up_rest p station k
 
 other_inv : (p p' : Primary) (k left : ℕ) → rest_at p' k ≤ rest_at p k → Inv p k left
     → Inv p' k (if command_waits_at p k then left else suc p.settings.burst)
@@ -454,6 +464,8 @@ call_steps p k left (Offer station asdu) inv = other_inv p (called p (Offer stat
     (other_rest p k (Offer station asdu) tt) inv
 call_steps p k left Withdraw inv =
     other_inv p (called p Withdraw) k left (other_rest p k Withdraw tt) inv
+call_steps p k left (GivesUp station) inv = other_inv p (called p (GivesUp station)) k left
+    (other_rest p k (GivesUp station) tt) inv
 
 -- ---- a poll passes only where one is left
 
@@ -463,6 +475,7 @@ passes_some p k left (Octets octets) inv is = let no : ⊥ = cc in absurd no
 passes_some p k left (Due now) inv is = let no : ⊥ = cc in absurd no
 passes_some p k left (Offer station asdu) inv is = let no : ⊥ = cc in absurd no
 passes_some p k left Withdraw inv is = let no : ⊥ = cc in absurd no
+passes_some p k left (GivesUp station) inv is = let no : ⊥ = cc in absurd no
 passes_some p k left (runs.Next now may_poll) inv is = go (command_waits_at p k) refl is
   where
     by : command_waits_at p k ≡ true → (c : Option Chosen) → choice p may_poll ≡ c

@@ -1,7 +1,7 @@
 -- The reports of a line's exchanges, call by call.
 use Rattle.std.proofs.Common.{◌≡◌, ℕ, slice_index, Bool, true, false, List, [], ◌∷◌, ◌++◌, Option}
-use Rattle.std.proofs.Common.{Some, None, option_and_then, refl, sym, ap, ◌∙◌, inl, inr}
-use Rattle.std.proofs.Common.{append_assoc}
+use Rattle.std.proofs.Common.{Some, None, option_and_then, refl, sym, ap, ◌∙◌}
+use Rattle.std.proofs.Common.{◌||◌, append_assoc}
 use Rattle.ft12.specs.declared.frame.Front.{Front}
 use Rattle.ft12.specs.declared.frame.Front.TheVariants.{Whole, More, Never}
 use Rattle.link.specs.Answers.{Asked, Status, Reset, Counted, Answer, Ready, Confirmed, Busy}
@@ -15,9 +15,10 @@ use Rattle.link.specs.Primary.{Outstanding, Primary, answer_at, outcome_of, outc
 use Rattle.link.specs.Primary.{outcome_after, outcome_from, received_outcome, Outcome, turn_gap}
 use Rattle.link.specs.Primary.{started, with_gap}
 use Rattle.link.specs.declared.outcome.Outcome.TheVariants as outcome
-use Rattle.link.specs.Telling.{IsHeard, IsOver, IsCurrent, TellsBy, report_in}
+use Rattle.link.specs.Telling.{IsHeard, IsCurrent, TellsBy, report_in}
 use Rattle.link.proofs.Links.{views-append}
-use Rattle.link.proofs.Telling.{said_now, grown, heard_open, heard_closed}
+use Rattle.link.proofs.Telling.{said_now, grown, heard_open, heard_frozen, neither}
+use Rattle.link.proofs.Telling.{over_said}
 
 nil : (xs : List (ℕ × List ℕ)) → xs ++ [] ≡ xs
 nil [] = refl
@@ -146,22 +147,23 @@ hear_reports front settings addresses p ended cur octets t = go p.outstanding cu
     go None None so =
         sym (nil (reports_of (λ i. slice_index addresses i) (views front (ended ++ []))))
     go (Some o) None so = absurd so
-    go None (Some x) over = by_closed x.closed refl over
+    go None (Some x) over = by_frozen (x.closed || x.given_up) refl
         ∙ sym (nil (reports_of (λ i. slice_index addresses i) (views front (ended ++ x ∷ []))))
       where
-        by_closed : (b : Bool) → x.closed ≡ b → IsOver front (slice_index addresses x.station) x →
+        by_frozen : (b : Bool) → (x.closed || x.given_up) ≡ b →
             reports_of (λ i. slice_index addresses i)
             (views front (ended ++ heard_octets octets x ∷ []))
             ≡ reports_of (λ i. slice_index addresses i) (views front (ended ++ x ∷ []))
-        by_closed true e so =
+        by_frozen true e =
             ap (λ (z : OpenExchange). reports_of (λ i. slice_index addresses i)
             (views front (ended ++ z ∷ [])))
-            (heard_closed octets x e)
-        by_closed false e (inl closed) = cc
-        by_closed false e (inr a) =
+            (heard_frozen octets x e)
+        by_frozen false e =
+            let both = neither x.closed x.given_up e in
+            let a = over_said front (slice_index addresses x.station) x over e in
             ap (λ (z : OpenExchange). reports_of (λ i. slice_index addresses i)
             (views front (ended ++ z ∷ [])))
-            (heard_open octets x e)
+            (heard_open octets x both.0 both.1)
             ∙ reports-push front (λ i. slice_index addresses i) ended (grown x octets)
             ∙ ap (λ (m : Option Answer). reports_of (λ i. slice_index addresses i)
             (views front ended)
@@ -171,7 +173,7 @@ hear_reports front settings addresses p ended cur octets t = go p.outstanding cu
     go (Some q) (Some x) w =
         ap (λ (z : OpenExchange). reports_of (λ i. slice_index addresses i)
         (views front (ended ++ z ∷ [])))
-        (heard_open octets x w.waits)
+        (heard_open octets x w.waits w.stands)
         ∙ said_more front (λ i. slice_index addresses i) ended x (grown x octets)
         (report_in (outcome_after front p q q.heard octets)) refl (by_heard q.heard w.heard)
       where

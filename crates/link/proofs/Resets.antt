@@ -9,22 +9,26 @@ use Rattle.link.specs.Procedure.{after_outcome}
 use Rattle.link.specs.Requests.{RequestKind}
 use Rattle.link.specs.Visits.{Left, whole_visit, MayFollow, IsVisitFrom, IsVisit, EndsReady}
 use Rattle.link.proofs.Beginning.{known_after, unknown_after}
+use Rattle.link.proofs.Marks.{known_mark}
 
 -- after which exchange the status of a link is known
 known_by : (settings : LinkSettings) (station : ℕ) (x : Exchange) (link : Link)
     → after settings station x link ≡ Available →
     (x.request ≡ Status) × (answer_to station x ≡ Some Ready)
-known_by settings station x link known = go (answer_to station x) refl known
+known_by settings station x link known =
+    go (answer_to station x) refl (known_mark x.given_up _ known)
   where
     said : (front : Option Frame) (answer : Answer)
         → option_and_then (answer_of station x.request) front ≡ Some answer
         →
-        after_outcome settings (Some answer) x link ≡ Available → (x.request ≡ Status)
+        after_outcome settings (Some answer) x.request x.closed link ≡ Available
+        → (x.request ≡ Status)
         × (answer ≡ Ready)
     said None answer is k = cc
     said (Some frame) answer is k = known_after station x.request frame answer link is k
 
-    go : (m : Option Answer) → answer_to station x ≡ m → after_outcome settings m x link ≡ Available
+    go : (m : Option Answer) → answer_to station x ≡ m
+        → after_outcome settings m x.request x.closed link ≡ Available
         →
         (x.request ≡ Status) × (m ≡ Some Ready)
     go None is k = absurd (unknown_after settings x.request x.closed link k)

@@ -7,10 +7,10 @@ use Rattle.link.specs.Procedure.{LinkSettings, Down, KeepsFrameCountBit}
 use Rattle.link.specs.Requests.{FitsAddress}
 use Rattle.link.specs.Primary.{Primary, start, timed_out}
 use Rattle.link.specs.Telling.{IsStable, AreSpoilt, Tells}
-use Rattle.link.specs.Runs.{Call, Next, Octets, Due, Offer, Withdraw, called, exchanged, MayCall}
-use Rattle.link.specs.Runs.{MayCallAll, called_all, exchanged_all}
+use Rattle.link.specs.Runs.{Call, Next, Octets, Due, Offer, Withdraw, GivesUp, called, exchanged}
+use Rattle.link.specs.Runs.{MayCall, MayCallAll, called_all, exchanged_all}
 use Rattle.link.proofs.Called.{start_tells, hear_tells, due_tells, ask_tells, offer_tells}
-use Rattle.link.proofs.Called.{withdraw_tells}
+use Rattle.link.proofs.Called.{withdraw_tells, give_up_tells}
 
 pub call_tells : (settings : LinkSettings) (addresses : List ℕ) → IsStable (front_of settings.size)
     → (p : Primary) (e : Exchanges) (call : Call) →
@@ -29,6 +29,8 @@ call_tells settings addresses stable p e (Offer station asdu) may t =
     offer_tells settings addresses p e station asdu may.0 may.1 t
 call_tells settings addresses stable p e Withdraw may t =
     withdraw_tells settings addresses p e t
+call_tells settings addresses stable p e (GivesUp station) may t =
+    give_up_tells settings addresses p e station may t
 
 pub calls_tell : (settings : LinkSettings) (addresses : List ℕ) → IsStable (front_of settings.size)
     → (p : Primary) (e : Exchanges) (calls : List Call) →

@@ -18,6 +18,7 @@ use Rattle.link.specs.Delivery.{IsAllOrButLast, IsLatestAnswered, given_by, repo
 use Rattle.link.specs.Delivery.{HasReports}
 use Rattle.link.proofs.Bit.{Agrees, owes_of, exchange_step, reset_taken, idle_status, idle_reset}
 use Rattle.link.proofs.Bit.{confirmed_reset, append-nil}
+use Rattle.link.proofs.Marks.{by_mark, up_mark, down_mark}
 
 -- From a place with this pending and owed: the rest of its session is known, and the later ones.
 pub record AreKnown (station : ℕ) (pending : Option Service) (owed : List Effect) (rest : Session)
@@ -61,6 +62,14 @@ one_more first pending owed done some all owed' sum k = record {
       ∙ ap (λ (e : List Effect). e ++ all) (sym sum) ∙ append_assoc owed done all;
 }
 
+-- a link that is given up knows no less
+given_agrees : (station : ℕ) (given : Bool) (link : Link) (pending : Option Service)
+    (state : Outstation) (owed : List Effect) → Agrees station link pending state owed
+    → Agrees station (if given then Down else link) pending state owed
+given_agrees station given link pending state owed a =
+    by_mark (λ (l : Link). Agrees station l pending state owed) given link a
+    (owes_of station link pending state owed a)
+
 -- a confirmed reset, of which the outstation's turn is known
 after_reset : (settings : LinkSettings) (station : ℕ) (link : Link) (pending : Option Service)
     (x : Exchange)
@@ -83,16 +92,18 @@ after_reset settings station link pending x old mid turn is step true_front =
         ap (λ (r : Asked). option_and_then (answer_of station r) x.front) (sym c.0) ∙ c.1 in
         let reset : mid ≡ reset_link = reset_taken station x.front old mid turn taken true_front
         confirmed in
-        let up : after settings station x link ≡ Next true =
-        ap (λ (m : Option Answer). after_outcome settings m x link) c.1
+        let up : after_outcome settings (answer_to station x) x.request x.closed link ≡ Next true =
+        ap (λ (m : Option Answer). after_outcome settings m x.request x.closed link) c.1
         ∙ ap (λ (r : Asked). after_outcome settings (Some Confirmed)
-        (record { request = r; front = x.front; closed = x.closed }) link) c.0 in
+        r x.closed link) c.0 in
         let clear : pending_by x.request (answer_to station x) pending ≡ None =
         (reset_learns x.request (answer_to station x) pending is).1 in (
           idle_reset station old mid turn taken,
-          subst (λ (l : Link). Agrees station l (pending_by x.request (answer_to station x) pending)
+          given_agrees station x.given_up _ _ mid []
+              (subst
+              (λ (l : Link). Agrees station l (pending_by x.request (answer_to station x) pending)
               mid []) (sym up)
-              (clear, record { bit = ap (λ (o : Outstation). o.bit) reset; owes = refl }),
+              (clear, record { bit = ap (λ (o : Outstation). o.bit) reset; owes = refl })),
         )
 
 pub known_from : (settings : LinkSettings) (station : ℕ) (link : Link) (pending : Option Service)
@@ -161,7 +172,8 @@ known_from settings station link pending (x ∷ xs) (turn ∷ turns) old end owe
         let step = exchange_step settings station link pending x.request x.front x.closed old run.0
         turn owed agrees
         keeps.0 run.1 fronts.0 is in
-        let next = ih (pending_by x.request (answer_to station x) pending) step.owed' step.agrees in
+        let next = ih (pending_by x.request (answer_to station x) pending) step.owed'
+        (given_agrees station x.given_up _ _ run.0 step.owed' step.agrees) in
         record {
           present = one_more (learnt_by x.request (answer_to station x)) _ owed turn.done _ _
               step.owed' step.sum
@@ -173,7 +185,7 @@ known_from settings station link pending (x ∷ xs) (turn ∷ turns) old end owe
 pub record IsIdle (settings : LinkSettings) (station : ℕ) (link : Link) (request : Asked)
     (m : Option Answer)
     (x : Exchange) : Type 0 where
-  pub down : is_up (after_outcome settings m x link) ≡ false
+  pub down : is_up (after_outcome settings m x.request x.closed link) ≡ false
   pub nothing : learnt_by request m ≡ []
   pub same : (pending : Option Service) → pending_by request m pending ≡ pending
 
@@ -186,6 +198,7 @@ pub idle_down : (settings : LinkSettings) (station : ℕ) (link : Link) (request
       front = front;
       closed =
           closed;
+      given_up = false;
     })
 idle_down settings station Down Status None front closed down may other =
     record { down = refl; nothing = refl; same = λ p. refl }
@@ -267,7 +280,7 @@ nothing_before settings station link (x ∷ xs) (turn ∷ turns) down keeps =
     go false is ih =
         let idle = idle_down settings station link x.request (answer_to station x) x.front x.closed
         down keeps.0 is in
-        let rest = ih idle.down in (
+        let rest = ih (down_mark x.given_up _ idle.down) in (
           ap (λ (e : List Effect). e ++ learnt station (before_reset station xs turns).exchanges)
               idle.nothing ∙ rest.0,
           ap (λ (p : Option Service). pending_after station p
@@ -383,7 +396,8 @@ steady_from settings station link pending (x ∷ xs) (turn ∷ turns) old end ow
         keeps.0 run.1 fronts.0 is in
         one_more (learnt_by x.request (answer_to station x)) _ owed turn.done _ _ step.owed'
         step.sum
-        (ih (pending_by x.request (answer_to station x) pending) step.owed' step.agrees
+        (ih (pending_by x.request (answer_to station x) pending) step.owed'
+        (given_agrees station x.given_up _ _ run.0 step.owed' step.agrees)
         (λ (d : is_up (after settings station x link) ≡ false). down (is_up link) refl step.owed'
         step.sum d))
       where
@@ -409,12 +423,7 @@ answered_clears : (settings : LinkSettings) (link : Link) (request : Asked) (ans
     (pending : Option Service) →
     x.request ≡ request → MaySend link request → (is_up link ≡ false → pending ≡ None) →
     (is_up link ≡ true
-    → is_up (after_outcome settings (Some answer) (record {
-      request = request;
-      front = x.front;
-      closed =
-          x.closed;
-    }) link) ≡ true) →
+    → is_up (after_outcome settings (Some answer) request x.closed link) ≡ true) →
     pending_by request (Some answer) pending ≡ None
 answered_clears settings Down Status answer x pending same may clear steady = clear refl
 answered_clears settings Available Status answer x pending same may clear steady = clear refl
@@ -448,8 +457,10 @@ latest_known settings station link pending (x ∷ []) clear keeps steady latest 
     go (Some answer) e l =
         ap (λ (m : Option Answer). pending_by x.request m pending) e
         ∙ answered_clears settings link x.request answer x pending refl keeps.0 clear
-        (subst (λ (m : Option Answer). is_up link ≡ true → is_up (after_outcome settings m x link)
-        ≡ true) e steady.0)
+        (subst (λ (m : Option Answer). is_up link ≡ true
+        → is_up (after_outcome settings m x.request x.closed link)
+        ≡ true) e
+        (λ up. (up_mark x.given_up _ (steady.0 up)).1))
 latest_known settings station link pending (x ∷ (y ∷ ys)) clear keeps steady latest none =
     latest_known settings station (after settings station x link)
     (pending_by x.request (answer_to station x) pending)

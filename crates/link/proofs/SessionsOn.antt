@@ -3,7 +3,7 @@ use Rattle.std.proofs.Common.{◌≡◌, ◌≢◌, ◌<◌, ◌≤◌, ℕ, tru
 use Rattle.std.proofs.Common.{slice_set, refl, sym, ap, subst, ◌∙◌, inl, inr, ◌⊎◌, arith}
 use Rattle.std.proofs.lemmas.Bool.{cases_eq, cases_lt}
 use Rattle.std.proofs.lemmas.List.{get_or-set_same, get_or-set_other, get_or_past, length-set}
-use Rattle.link.specs.Turns.{SessionState, StationState, no_station, station_at}
+use Rattle.link.specs.Turns.{StationState, no_station, station_at}
 use Rattle.link.specs.Primary.{Primary, Outstanding}
 use Rattle.link.specs.Carried.{gap_marked, given_up, released, released_from, station_carried}
 use Rattle.link.specs.Carried.{station_given_up, station_left, with_gap_mark}

@@ -1,5 +1,5 @@
 -- The primary's state is what the exchanges of its line make it: kept by each call.
-use Rattle.std.proofs.Common.{◌≡◌, ℕ, ◌+◌, ◌<◌, ◌||◌, nat_le, slice_index, Bool, true}
+use Rattle.std.proofs.Common.{◌≡◌, ℕ, ◌+◌, ◌<◌, ◌||◌, ◌&&◌, not, nat_le, slice_index, Bool, true}
 use Rattle.std.proofs.Common.{false, List, [], ◌∷◌, ◌++◌, length, Option, Some}
 use Rattle.std.proofs.Common.{None, option_and_then, refl, sym, ap, subst, ◌∙◌, inl, inr}
 use Rattle.std.proofs.Common.{append_assoc, if◌then◌else◌}
@@ -9,10 +9,10 @@ use Rattle.ft12.specs.declared.frame.Front.TheVariants.{Whole, More, Never}
 use Rattle.link.specs.Answers.{Frame, Single, Fixed, Data, Asked, Answer, answer_of}
 use Rattle.link.specs.Counts.{saturated}
 use Rattle.link.specs.Exchanges.{OpenExchange, Exchanges, all_of, as_list, whole_of}
-use Rattle.link.specs.Exchanges.{view, heard_octets, heard_current, timed, timed_current, begun_by}
+use Rattle.link.specs.Exchanges.{heard_octets, heard_current, timed, timed_current, begun_by}
 use Rattle.link.specs.Exchanges.{spoilt_count}
 use Rattle.link.specs.Flags.{flags_in}
-use Rattle.link.specs.Procedure.{LinkSettings, Link, MaySend, after_outcome, after_answer}
+use Rattle.link.specs.Procedure.{LinkSettings, Link, Down, MaySend, after_outcome, after_answer}
 use Rattle.link.specs.Procedure.{after_silence}
 use Rattle.link.specs.Requests.{FitsAsked}
 use Rattle.link.specs.Turns.{StationState, Chosen, station_at}
@@ -108,6 +108,7 @@ grown x octets = record {
   octets =
       x.octets ++ octets;
   closed = x.closed;
+  given_up = x.given_up;
 }
 
 said_later : (front : List ℕ → Front) (address : ℕ) (x : OpenExchange) (octets : List ℕ)
@@ -118,10 +119,10 @@ said_later front address x octets m said more =
     ap (λ (l : List ℕ). option_and_then (answer_of address x.request) (whole_of (front l)))
     (append_assoc x.octets octets more) ∙ said (octets ++ more)
 
--- octets that come to an exchange that isn't closed
-pub heard_open : (octets : List ℕ) (x : OpenExchange) → x.closed ≡ false → heard_octets octets x
-    ≡ grown x octets
-heard_open octets x alive =
+-- octets that come to an exchange that is neither closed nor given up
+pub heard_open : (octets : List ℕ) (x : OpenExchange) → x.closed ≡ false → x.given_up ≡ false
+    → heard_octets octets x ≡ grown x octets
+heard_open octets x alive stands =
     ap (λ (b : Bool). record {
       station = x.station;
       request = x.request;
@@ -129,11 +130,13 @@ heard_open octets x alive =
       octets =
           if b then x.octets else x.octets ++ octets;
       closed = x.closed;
-    }) alive
+      given_up = x.given_up;
+    }) (ap (λ (b : Bool). b || x.given_up) alive ∙ stands)
 
-pub heard_closed : (octets : List ℕ) (x : OpenExchange) → x.closed ≡ true → heard_octets octets x
-    ≡ x
-heard_closed octets x closed =
+-- and to one that is closed or given up
+pub heard_frozen : (octets : List ℕ) (x : OpenExchange) → (x.closed || x.given_up) ≡ true
+    → heard_octets octets x ≡ x
+heard_frozen octets x frozen =
     ap (λ (b : Bool). record {
       station = x.station;
       request = x.request;
@@ -141,7 +144,73 @@ heard_closed octets x closed =
       octets =
           if b then x.octets else x.octets ++ octets;
       closed = x.closed;
+      given_up = x.given_up;
+    }) frozen
+
+pub neither : (a b : Bool) → (a || b) ≡ false → (a ≡ false) × (b ≡ false)
+neither true b e = cc
+neither false b e = (refl, e)
+
+-- an exchange that is over, and still takes octets, is answered
+pub over_said : (front : List ℕ → Front) (address : ℕ) (x : OpenExchange)
+    → IsOver front address x → (x.closed || x.given_up) ≡ false
+    → (answer : Answer) × IsSaid front address x (Some answer)
+over_said front address x (inl closed) alive =
+    let e = neither x.closed x.given_up alive in
+    let no : x.closed ≡ false = e.0 in
+    cc
+over_said front address x (inr (inl given)) alive =
+    let e = neither x.closed x.given_up alive in
+    let no : x.given_up ≡ false = e.1 in
+    cc
+over_said front address x (inr (inr said)) alive = said
+
+or_false : (b : Bool) → (b || false) ≡ b
+or_false true = refl
+or_false false = refl
+
+-- time doesn't touch an exchange that is closed or given up
+timed_closed : (answer_ms at : ℕ) (x : OpenExchange) → x.closed ≡ true → timed answer_ms at x ≡ x
+timed_closed answer_ms at x closed =
+    ap (λ (b : Bool). record {
+      station = x.station;
+      request = x.request;
+      since = x.since;
+      octets =
+          x.octets;
+      closed = b || (not x.given_up && nat_le (x.since + answer_ms) at);
+      given_up = x.given_up;
     }) closed
+    ∙ ap (λ (b : Bool). record {
+      station = x.station;
+      request = x.request;
+      since = x.since;
+      octets =
+          x.octets;
+      closed = b;
+      given_up = x.given_up;
+    }) (sym closed)
+
+timed_given : (answer_ms at : ℕ) (x : OpenExchange) → x.given_up ≡ true → timed answer_ms at x ≡ x
+timed_given answer_ms at x given =
+    ap (λ (g : Bool). record {
+      station = x.station;
+      request = x.request;
+      since = x.since;
+      octets =
+          x.octets;
+      closed = x.closed || (not g && nat_le (x.since + answer_ms) at);
+      given_up = x.given_up;
+    }) given
+    ∙ ap (λ (b : Bool). record {
+      station = x.station;
+      request = x.request;
+      since = x.since;
+      octets =
+          x.octets;
+      closed = b;
+      given_up = x.given_up;
+    }) (or_false x.closed)
 
 -- the primary is as it was, and the latest exchange another
 same_state : (front : List ℕ → Front) (settings : LinkSettings) (addresses : List ℕ) (p : Primary)
@@ -252,6 +321,7 @@ ask_says front settings addresses p e now may_poll stable t = go p.outstanding r
               octets =
                   [];
               closed = false;
+              given_up = false;
             } in
             let links = links_said front settings addresses p e None is t in
             let there = station_fits p.settings.size p.stations c.station may.within
@@ -278,6 +348,7 @@ ask_says front settings addresses p e now may_poll stable t = go p.outstanding r
                 request = refl;
                 since = refl;
                 waits = refl;
+                stands = refl;
                 heard =
                     (refl, stable.nothing);
                 has_octets = refl;
@@ -338,37 +409,25 @@ due_says front settings addresses p ended cur at t = go p.outstanding cur refl t
                   Some (timed settings.answer_ms at x);
             })
         over_case (inl closed) =
-            let same : timed settings.answer_ms at x ≡ x =
-            ap (λ (b : Bool). record {
-              station = x.station;
-              request = x.request;
-              since = x.since;
-              octets =
-                  x.octets;
-              closed = b || nat_le (x.since + settings.answer_ms) at;
-            }) closed
-            ∙ ap (λ (b : Bool). record {
-              station = x.station;
-              request = x.request;
-              since = x.since;
-              octets =
-                  x.octets;
-              closed = b;
-            }) (sym closed) in
             subst (λ (z : OpenExchange). SaysBy front settings addresses p
-            (record { ended = ended; current = Some z })) (sym same) t
-        over_case (inr a) =
+            (record { ended = ended; current = Some z }))
+            (sym (timed_closed settings.answer_ms at x closed)) t
+        over_case (inr (inl given)) =
+            subst (λ (z : OpenExchange). SaysBy front settings addresses p
+            (record { ended = ended; current = Some z }))
+            (sym (timed_given settings.answer_ms at x given)) t
+        over_case (inr (inr a)) =
             let e = said_now front (slice_index addresses x.station) x (Some a.0) a.1 in
             same_state front settings addresses p ended (Some x)
             (Some (timed settings.answer_ms at x)) None is t
-            (inr (a.0, a.1))
+            (inr (inr (a.0, a.1)))
             (grown_keeps front settings addresses ended x (timed settings.answer_ms at x) refl refl
             t.keeps)
             (λ i. alike_links front settings addresses ended x (timed settings.answer_ms at x) refl
-            (λ (l : Link). ap (λ (m : Option Answer). after_outcome settings m
-            (view front (timed settings.answer_ms at x)).exchange l) e
-            ∙ ap (λ (m : Option Answer). after_outcome settings m (view front x).exchange l)
-            (sym e)) i ∙ links i)
+            (λ (l : Link). ap (λ (m : Option Answer). if x.given_up then Down
+            else after_outcome settings m x.request (timed settings.answer_ms at x).closed l) e
+            ∙ ap (λ (m : Option Answer). if x.given_up then Down
+            else after_outcome settings m x.request x.closed l) (sym e)) i ∙ links i)
             (λ i. alike_flags front addresses ended x (timed settings.answer_ms at x) refl refl refl
             i ∙ t.flags i)
             (λ i. alike_sessions front addresses ended x (timed settings.answer_ms at x) refl refl
@@ -389,7 +448,9 @@ due_says front settings addresses p ended cur at t = go p.outstanding cur refl t
 
         closes : (b : Bool) → is_late p q at ≡ b → (timed settings.answer_ms at x).closed ≡ b
         closes b e =
-            ap (λ (c : Bool). c || nat_le (x.since + settings.answer_ms) at) w.waits
+            ap (λ (c : Bool). c || (not x.given_up && nat_le (x.since + settings.answer_ms) at))
+            w.waits
+            ∙ ap (λ (g : Bool). not g && nat_le (x.since + settings.answer_ms) at) w.stands
             ∙ ap (λ (s : ℕ). nat_le (s + settings.answer_ms) at) w.since
             ∙ ap (λ (s : LinkSettings). nat_le (q.since + s.answer_ms) at) (sym t.settings_are) ∙ e
 
@@ -404,6 +465,7 @@ due_says front settings addresses p ended cur at t = go p.outstanding cur refl t
               request = w.request;
               since = w.since;
               waits = closes false e;
+              stands = w.stands;
               heard =
                   same_heard q.heard w.heard;
               has_octets = w.has_octets;
@@ -455,10 +517,14 @@ due_says front settings addresses p ended cur at t = go p.outstanding cur refl t
                   ∙ ap (λ (c : Bool). after_silence settings x.request c
                   (station_at p.stations p.turn).link)
                   (sym (closes true e))
-                  ∙ ap (λ (m : Option Answer). after_outcome settings m
-                  (view front (timed settings.answer_ms at x)).exchange
-                  (station_at p.stations p.turn).link)
-                  (sym (unheard front (slice_index addresses p.turn) x q.heard w.heard)));
+                  ∙ ap (λ (m : Option Answer). after_outcome settings m x.request
+                  (timed settings.answer_ms at x).closed (station_at p.stations p.turn).link)
+                  (sym (unheard front (slice_index addresses p.turn) x q.heard w.heard))
+                  ∙ ap (λ (g : Bool). if g then Down else after_outcome settings
+                  (option_and_then (answer_of (slice_index addresses p.turn) x.request)
+                  (whole_of (front x.octets))) x.request
+                  (timed settings.answer_ms at x).closed (station_at p.stations p.turn).link)
+                  (sym w.stands));
               flags = λ i.
                   alike_flags front addresses ended x (timed settings.answer_ms at x) refl refl refl
                   i ∙ t.flags i
@@ -501,26 +567,26 @@ hear_says front settings addresses p ended cur octets stable t =
         (record { ended = ended; current = heard_current octets c })
     go None None is t c = t
     go (Some o) None is t c = absurd c
-    go None (Some x) is t over = by_closed x.closed refl
+    go None (Some x) is t over = by_frozen (x.closed || x.given_up) refl
       where
         links : AreLinks front settings addresses p.stations (ended ++ x ∷ [])
         links = links_said front settings addresses p (record { ended = ended; current = Some x })
             None is t
 
-        over_case : x.closed ≡ false → IsOver front (slice_index addresses x.station) x →
+        answered_case : (a : (answer : Answer)
+            × IsSaid front (slice_index addresses x.station) x (Some answer)) →
             SaysBy front settings addresses p
             (record { ended = ended; current = Some (grown x octets) })
-        over_case alive (inl closed) = cc
-        over_case alive (inr a) =
+        answered_case a =
             let before = said_now front (slice_index addresses x.station) x (Some a.0) a.1 in
             same_state front settings addresses p ended (Some x) (Some (grown x octets)) None is t
-            (inr (a.0, said_later front (slice_index addresses x.station) x octets (Some a.0) a.1))
+            (inr (inr
+            (a.0, said_later front (slice_index addresses x.station) x octets (Some a.0) a.1)))
             (grown_keeps front settings addresses ended x (grown x octets) refl refl t.keeps)
             (λ i. alike_links front settings addresses ended x (grown x octets) refl
-            (λ (l : Link). ap (λ (m : Option Answer). after_outcome settings m
-            (view front (grown x octets)).exchange l) (a.1 octets)
-            ∙ ap (λ (m : Option Answer). after_outcome settings m (view front x).exchange l)
-            (sym before)) i ∙ links i)
+            (λ (l : Link). ap (λ (m : Option Answer). if x.given_up then Down
+            else after_outcome settings m x.request x.closed l) (a.1 octets ∙ sym before)) i
+            ∙ links i)
             (λ i. alike_flags front addresses ended x (grown x octets) refl refl
             (answered_front front (slice_index addresses x.station) x octets a.0 stable before) i
             ∙ t.flags i)
@@ -531,20 +597,23 @@ hear_says front settings addresses p ended cur octets stable t =
             (a.1 octets)
             ∙ sym (answered_push front (λ i. slice_index addresses i) ended x a.0 before))
 
-        by_closed : (b : Bool) → x.closed ≡ b → SaysBy front settings addresses p
+        by_frozen : (b : Bool) → (x.closed || x.given_up) ≡ b
+            → SaysBy front settings addresses p
             (record { ended = ended; current = Some (heard_octets octets x) })
-        by_closed true e =
+        by_frozen true e =
             subst (λ (z : OpenExchange). SaysBy front settings addresses p
-            (record { ended = ended; current = Some z })) (sym (heard_closed octets x e)) t
-        by_closed false e =
+            (record { ended = ended; current = Some z })) (sym (heard_frozen octets x e)) t
+        by_frozen false e =
+            let both = neither x.closed x.given_up e in
             subst (λ (z : OpenExchange). SaysBy front settings addresses p
-            (record { ended = ended; current = Some z })) (sym (heard_open octets x e))
-            (over_case e over)
+            (record { ended = ended; current = Some z }))
+            (sym (heard_open octets x both.0 both.1))
+            (answered_case (over_said front (slice_index addresses x.station) x over e))
     go (Some q) (Some x) is t w =
         subst (λ (z : OpenExchange). SaysBy front settings addresses
         (received_from front p (Some q) octets)
         (record { ended = ended; current = Some z }))
-        (sym (heard_open octets x w.waits)) (by_heard q.heard refl w.heard)
+        (sym (heard_open octets x w.waits w.stands)) (by_heard q.heard refl w.heard)
       where
         here : ℕ
         here = slice_index addresses p.turn
@@ -598,6 +667,7 @@ hear_says front settings addresses p ended cur octets stable t =
             request = w.request;
             since = w.since;
             waits = w.waits;
+            stands = w.stands;
             heard = so;
             has_octets = more_octets x.octets octets q.has_octets w.has_octets;
           };
@@ -672,23 +742,27 @@ hear_says front settings addresses p ended cur octets stable t =
                   address = λ i. set_view (λ (r : StationState). r.address) p.stations p.turn s refl
                       i ∙ t.address i;
                   allowed = tt;
-                  current = inr (
+                  current = inr (inr (
                     answer,
                     subst (λ (i : ℕ). IsSaid front (slice_index addresses i) (grown x octets)
                         (Some answer))
                         (sym w.station) (said (Some answer) e'),
-                  );
+                  ));
                   keeps = keeps;
                   links = ended_links front settings addresses p.stations p.turn ended
                       (grown x octets) s t.fits.turn links w.station
                       (ap (λ (r : Asked). after_answer r answer (station_at p.stations p.turn).link)
                       (sym w.request)
-                      ∙ ap (λ (m : Option Answer). after_outcome settings m
-                      (view front (grown x octets)).exchange
+                      ∙ ap (λ (m : Option Answer). after_outcome settings m x.request x.closed
                       (station_at p.stations p.turn).link)
                       (sym (said_now front (slice_index addresses p.turn) (grown x octets)
                       (Some answer)
-                      (said (Some answer) e'))));
+                      (said (Some answer) e')))
+                      ∙ ap (λ (g : Bool). if g then Down else after_outcome settings
+                      (option_and_then (answer_of (slice_index addresses p.turn) x.request)
+                      (whole_of (front (x.octets ++ octets)))) x.request x.closed
+                      (station_at p.stations p.turn).link)
+                      (sym w.stands));
                   flags = answered_flags front addresses p.stations p.turn ended
                       (grown x octets) s answer frame t.fits.turn before_it w.station
                       (subst

@@ -18,6 +18,7 @@ use Rattle.link.specs.Turns.{station_at}
 use Rattle.link.specs.Primary.{Outstanding, Primary, is_command, is_sending_command, may_offer}
 use Rattle.link.specs.Telling.{IsAllowed, IsAwaited, IsCurrent, AreLinks, TellsBy}
 use Rattle.link.proofs.Links.{nil, with_one, link_after-push}
+use Rattle.link.proofs.Marks.{by_mark}
 use Rattle.link.proofs.Telling.{unheard}
 use Rattle.link.proofs.Called.{links_at}
 
@@ -44,7 +45,7 @@ step_suits : (settings : LinkSettings) (request : Asked) (front : Option Frame) 
     (m : Option Answer)
     (link : Link) (pending : Option Service) →
     Suits link pending →
-    Suits (after_outcome settings m (record { request = request; front = front; closed = closed })
+    Suits (after_outcome settings m request closed
     link)
     (pending_by request m pending)
 step_suits settings Status front closed None link pending suits = tt
@@ -79,7 +80,8 @@ all_suit : (settings : LinkSettings) (a : ℕ) (link : Link) (pending : Option S
 all_suit settings a link pending [] suits = suits
 all_suit settings a link pending (x ∷ xs) suits =
     all_suit settings a (after settings a x link) (pending_by x.request (answer_to a x) pending) xs
-    (step_suits settings x.request x.front x.closed (answer_to a x) link pending suits)
+    (by_mark (λ (l : Link). Suits l (pending_by x.request (answer_to a x) pending)) x.given_up _
+    (step_suits settings x.request x.front x.closed (answer_to a x) link pending suits) tt)
 
 command_held : (fcb : Bool) (service : Service) (missed : ℕ)
     → is_command_pending (Some service) ≡ holds_command (Held fcb service missed)
@@ -139,21 +141,14 @@ neither : (holds command : Bool) → (not holds && not (true && command)) ≡ no
 neither true command = refl
 neither false command = refl
 
-pub taken : (front : List ℕ → Front) (settings : LinkSettings) (addresses : List ℕ) (p : Primary)
-    (e : Exchanges)
-    (i : ℕ) →
-    TellsBy front settings addresses p e →
-    may_offer p i
-    ≡ (is_none (station_at p.stations i).offered
-    && not (is_under_way settings (slice_index addresses i)
+-- no command is on the line or held, exactly where the exchanges leave none held
+pub not_awaited : (front : List ℕ → Front) (settings : LinkSettings) (addresses : List ℕ)
+    (p : Primary) (e : Exchanges) (i : ℕ) → TellsBy front settings addresses p e →
+    (not (holds_command (station_at p.stations i).link)
+    && not ((p.turn == i) && is_sending_command p.outstanding))
+    ≡ not (holds_command (link_after settings (slice_index addresses i) Down
     (with_station i (views front (e.ended ++ as_list e.current)))))
-taken front settings addresses p e i t =
-    ap (λ (b : Bool). is_none (station_at p.stations i).offered && b)
-    (ap (λ (o : Option Outstanding). not (holds_command (station_at p.stations i).link)
-    && not ((p.turn == i) && is_sending_command o)) refl
-    ∙ go p.outstanding e.current refl t
-    ∙ ap not (sym (under_way settings (slice_index addresses i)
-    (with_station i (views front (e.ended ++ as_list e.current))))))
+not_awaited front settings addresses p e i t = go p.outstanding e.current refl t
   where
     ended : List OpenExchange
     ended = e.ended
@@ -224,10 +219,27 @@ taken front settings addresses p e i t =
             (sym w.waits)
             ∙ ap
             (λ (m : Option Answer). not
-            (holds_command (after_outcome settings m (view front x).exchange link)))
+            (holds_command (after_outcome settings m x.request x.closed link)))
             (sym none)
+            ∙ ap (λ (b : Bool). not (holds_command (if b then Down
+            else after_outcome settings (answer_to a (view front x).exchange) x.request x.closed
+            link))) (sym w.stands)
             ∙ ap (λ (l : Link). not (holds_command (after settings a (view front x).exchange l)))
             (sym (links i))
             ∙ ap (λ (l : Link). not (holds_command l))
             (sym (link_after-push settings a Down (with_station i (views front ended))
             (view front x).exchange))
+
+pub taken : (front : List ℕ → Front) (settings : LinkSettings) (addresses : List ℕ) (p : Primary)
+    (e : Exchanges)
+    (i : ℕ) →
+    TellsBy front settings addresses p e →
+    may_offer p i
+    ≡ (is_none (station_at p.stations i).offered
+    && not (is_under_way settings (slice_index addresses i)
+    (with_station i (views front (e.ended ++ as_list e.current)))))
+taken front settings addresses p e i t =
+    ap (λ (b : Bool). is_none (station_at p.stations i).offered && b)
+    (not_awaited front settings addresses p e i t
+    ∙ ap not (sym (under_way settings (slice_index addresses i)
+    (with_station i (views front (e.ended ++ as_list e.current))))))

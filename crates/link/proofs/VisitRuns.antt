@@ -70,7 +70,7 @@ link-append : (settings : LinkSettings) (a : ℕ) (link : Link) (xs ys : List Ex
 link-append settings a link [] ys = refl
 link-append settings a link (x ∷ xs) ys = link-append settings a (after settings a x link) xs ys
 
-one_longer : (xs : List Exchange) (x : Exchange) (n : ℕ) → length xs ≡ n → length (xs ++ x ∷ [])
+pub one_longer : (xs : List Exchange) (x : Exchange) (n : ℕ) → length xs ≡ n → length (xs ++ x ∷ [])
     ≡ suc n
 one_longer [] x n is = ap (λ (m : ℕ). suc m) is
 one_longer (y ∷ ys) x n is = ap (λ (m : ℕ). suc m) (one_longer ys x (length ys) refl)
@@ -112,6 +112,7 @@ pub record InVisit (front : List ℕ → Front) (addresses : List ℕ) (p : Prim
       (link_left p.settings addresses earlier p.turn)
       (whole_visit p.settings (link_left p.settings addresses earlier p.turn)) before mid
   pub ended : views front e.ended ≡ line_of earlier ++ at_station p.turn before
+  pub first : e.current ≡ None → e.ended ≡ []
   pub latest : IsLatest p.settings (link_after p.settings (slice_index addresses p.turn)
       (link_left p.settings addresses earlier p.turn) before) p.turn mid now e.current
   pub fits : FitsPhase p.settings p.outstanding p.again p.phase (station_at p.stations p.turn).link
@@ -270,6 +271,7 @@ on_visit front addresses p e many now may_poll w some t free is v =
       now = f.later;
       leads = leads_all front addresses p e many v;
       ended = sym (whole_line front addresses p e many v);
+      first = λ none. cc;
       latest = (
         refl,
         subst (λ (l : Link). MaySend l w.request) (sym here)
@@ -329,6 +331,7 @@ new_visit front addresses p e many now may_poll c some t free gone within is v =
       leads = refl;
       ended = sym (whole_line front addresses p e many v)
           ∙ sym (nil (line_of (latest ∷ v.earlier)));
+      first = λ none. cc;
       latest = (
         refl,
         subst (λ (l : Link). MaySend l c.wanted.request) (sym here)
@@ -361,6 +364,7 @@ no_visit front addresses p e many now may_poll free gone v = record {
   now = v.now;
   leads = v.leads;
   ended = v.ended;
+  first = v.first;
   latest = v.latest;
   fits = subst (λ (o : Option Outstanding). FitsPhase p.settings o false Over
       (station_at p.stations p.turn).link v.now) (sym free) (over refl refl);
@@ -440,6 +444,7 @@ kept : (front : List ℕ → Front) (addresses : List ℕ) (p : Primary) (ended 
     (v : InVisit front addresses p (record { ended = ended; current = cur }) many) →
     ((link : Link) → IsLatest p.settings link p.turn v.mid v.now cur
     → IsLatest p.settings link p.turn v.mid v.now cur') →
+    (cur' ≡ None → cur ≡ None) →
     length (v.before ++ shown front cur') ≡ length (v.before ++ shown front cur) →
     FitsPhase p.settings outstanding again phase (station_at stations p.turn).link v.now →
     IsBegun (record p {
@@ -459,8 +464,8 @@ kept : (front : List ℕ → Front) (addresses : List ℕ) (p : Primary) (ended 
       spoilt = spoilt;
     })
     (record { ended = ended; current = cur' }) many
-kept front addresses p ended cur cur' many stations phase again outstanding spoilt v same long fits
-    begun = (
+kept front addresses p ended cur cur' many stations phase again outstanding spoilt v same still
+    long fits begun = (
       record {
         earlier = v.earlier;
         are = v.are;
@@ -469,6 +474,7 @@ kept front addresses p ended cur cur' many stations phase again outstanding spoi
         now = v.now;
         leads = v.leads;
         ended = v.ended;
+        first = λ none. v.first (still none);
         latest = same _ v.latest;
         fits = fits;
         begun = begun;
@@ -490,6 +496,16 @@ timed_latest : (settings : LinkSettings) (link : Link) (turn : ℕ) (mid now : L
     → IsLatest settings link turn mid now (timed_current ms at cur)
 timed_latest settings link turn mid now ms at None latest = latest
 timed_latest settings link turn mid now ms at (Some x) latest = latest
+
+heard_none : (octets : List ℕ) (cur : Option OpenExchange) → heard_current octets cur ≡ None
+    → cur ≡ None
+heard_none octets None none = refl
+heard_none octets (Some x) none = cc
+
+timed_none : (ms at : ℕ) (cur : Option OpenExchange) → timed_current ms at cur ≡ None
+    → cur ≡ None
+timed_none ms at None none = refl
+timed_none ms at (Some x) none = cc
 
 heard_long : (front : List ℕ → Front) (before : List Exchange) (octets : List ℕ)
     (cur : Option OpenExchange) →
@@ -537,7 +553,7 @@ heard_visits front addresses p ended cur octets many within v = go p.outstanding
         kept front addresses p ended cur (heard_current octets cur) many stations phase again
         outstanding p.spoilt v
         (λ link latest. heard_latest p.settings link p.turn v.mid v.now octets cur latest)
-        (heard_long front v.before octets cur) fits begun
+        (heard_none octets cur) (heard_long front v.before octets cur) fits begun
 
     go : (o : Option Outstanding) → p.outstanding ≡ o →
         Stays front addresses p.turn (received_from front p o octets)
@@ -623,7 +639,7 @@ due_visits front addresses p ended cur ms at many within v = go p.outstanding re
         kept front addresses p ended cur (timed_current ms at cur) many stations phase again
         outstanding spoilt v
         (λ link latest. timed_latest p.settings link p.turn v.mid v.now ms at cur latest)
-        (timed_long front v.before ms at cur) fits begun
+        (timed_none ms at cur) (timed_long front v.before ms at cur) fits begun
 
     go : (o : Option Outstanding) → p.outstanding ≡ o →
         Stays front addresses p.turn (due_from p o at)
@@ -661,7 +677,7 @@ linked_visits : (front : List ℕ → Front) (addresses : List ℕ) (p : Primary
 linked_visits front addresses p e many stations same v =
     kept front addresses p e.ended e.current e.current many stations p.phase p.again p.outstanding
     p.spoilt v
-    (λ link latest. latest) refl
+    (λ link latest. latest) (λ none. none) refl
     (subst (λ (l : Link). FitsPhase p.settings p.outstanding p.again p.phase l v.now)
     (sym (same p.turn)) v.fits)
     (begun_linked p stations same v.begun)
@@ -701,6 +717,7 @@ start_visits front settings addresses = record {
   now = whole_visit settings Down;
   leads = refl;
   ended = refl;
+  first = λ none. refl;
   latest = refl;
   fits = starting refl (down addresses);
   begun = begun_start settings addresses;

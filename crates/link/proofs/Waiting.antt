@@ -1,5 +1,6 @@
 -- A request goes out only while no exchange is outstanding.
-use Rattle.std.proofs.Common.{◌≡◌, ℕ, ◌<◌, slice_index, Bool, List, Option, Some, None, ap, subst}
+use Rattle.std.proofs.Common.{false, ◌≡◌, ℕ, ◌<◌, slice_index, Bool, List, Option, Some, None, ap}
+use Rattle.std.proofs.Common.{subst}
 use Rattle.std.proofs.Common.{◌∙◌, inl, inr}
 use Rattle.ft12.specs.declared.frame.Front.{Front}
 use Rattle.ft12.specs.Spelling.{spelling}
@@ -67,7 +68,9 @@ sending_alone front settings addresses p e may_poll s x t is latest out =
     go : (o : Option Outstanding) → sending_from p o may_poll ≡ Some s
         → IsCurrent front addresses p.turn o (Some x) → ⊥
     go (Some o) none so = cc
-    go None some (inl closed) = cc
-    go None some (inr a) = let now = said_now front (slice_index addresses x.station) x (Some a.0)
+    go None some (inl closed) = let no : x.closed ≡ false = out.1 in cc
+    go None some (inr (inl given)) = let no : x.given_up ≡ false = out.2 in cc
+    go None some (inr (inr a)) = let now = said_now front (slice_index addresses x.station) x
+        (Some a.0)
         a.1 in
         let none = out.0 in cc

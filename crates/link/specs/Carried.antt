@@ -1,7 +1,10 @@
 -- What a restart makes of a primary station (this gateway's own profile).
-use Rattle.std.specs.Prelude.{ℕ, ◌==◌, ◌&&◌, ◌||◌, min, Bool, true, false, List, map, slice_set}
-use Rattle.std.specs.Prelude.{Option, Some, None, if◌then◌else◌}
+use Rattle.std.specs.Prelude.{ℕ, zero, suc, ◌==◌, ◌&&◌, ◌||◌, min, Bool, true, false, List, length}
+use Rattle.std.specs.Prelude.{map, slice_set, Option, Some, None, if◌then◌else◌}
+use Rattle.ft12.specs.declared.frame.Front.{Front}
 use Rattle.link.specs.Answers.{Asked}
+use Rattle.link.specs.Exchanges.{Exchanges, given_up_at}
+use Rattle.link.specs.Flags.{link_at}
 use Rattle.link.specs.Procedure.{LinkSettings, Link, Down, Available, Next, Held, holds_command}
 use Rattle.link.specs.Procedure.{after_silence}
 use Rattle.link.specs.Turns.{StationState, Starting, Over, station_at}
@@ -36,6 +39,44 @@ given_up station p = record p {
   again = if p.turn == station then false else p.again;
   outstanding = if p.turn == station then None else p.outstanding;
 }
+
+-- where its latest service is a command without an answer
+abbrev pub command_given_up : (station : ℕ) → Primary → Primary
+command_given_up station p = if awaits_command p station then given_up station p else p
+
+-- the same for so many stations, from the first on
+abbrev pub commands_given_up_upto : (count : ℕ) → Primary → Primary
+commands_given_up_upto zero p = p
+commands_given_up_upto (suc k) p = command_given_up k (commands_given_up_upto k p)
+
+-- for all stations
+abbrev pub without_commands : Primary → Primary
+without_commands p = commands_given_up_upto (length p.stations) p
+
+-- By the exchanges of the line, the latest service to the station is a command without an answer.
+abbrev pub awaits_command_in : LinkSettings → (front : List ℕ → Front) → (addresses : List ℕ) →
+    (station : ℕ) → Exchanges → Bool
+awaits_command_in settings front addresses station e =
+    holds_command (link_at settings front addresses station e)
+
+-- Its link is given up then,
+abbrev pub command_given_up_in : LinkSettings → (front : List ℕ → Front) → (addresses : List ℕ) →
+    (station : ℕ) → Exchanges → Exchanges
+command_given_up_in settings front addresses station e =
+    if awaits_command_in settings front addresses station e then given_up_at station e else e
+
+-- so it is at so many stations, from the first on,
+abbrev pub given_up_upto : LinkSettings → (front : List ℕ → Front) → (addresses : List ℕ) →
+    (count : ℕ) → Exchanges → Exchanges
+given_up_upto settings front addresses zero e = e
+given_up_upto settings front addresses (suc k) e =
+    command_given_up_in settings front addresses k (given_up_upto settings front addresses k e)
+
+-- and at all of them.
+abbrev pub commands_given_up : LinkSettings → (front : List ℕ → Front) → (addresses : List ℕ) →
+    Exchanges → Exchanges
+commands_given_up settings front addresses e =
+    given_up_upto settings front addresses (length addresses) e
 
 -- ---- A line of other stations
 

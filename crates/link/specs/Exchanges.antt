@@ -9,11 +9,13 @@ use Rattle.ft12.specs.declared.frame.Front.TheVariants.{Whole, More, Never}
 use Rattle.link.specs.Answers.{Frame, Asked, Answer, Report, answer_of}
 
 -- A request to one station, the whole frame at the front of the octets of its exchange, if there
--- was one, and whether the time to answer is over.
+-- was one, whether the time to answer is over, and whether the link to the station was given up
+-- behind it, at a restart.
 pub record Exchange : Type 0 where
   pub request : Asked
   pub front : Option Frame
   pub closed : Bool
+  pub given_up : Bool
 
 -- The answer: what the frame at the front says, where it fits the request.
 abbrev pub answer_to : (station : ℕ) → Exchange → Option Answer
@@ -22,9 +24,10 @@ answer_to station x = option_and_then (answer_of station x.request) x.front
 abbrev pub IsAnswered : (station : ℕ) → Exchange → Type 0
 IsAnswered station x = IsSome (answer_to station x)
 
--- neither answered nor closed
+-- neither answered, nor closed, nor given up
 abbrev pub IsOutstanding : (station : ℕ) → Exchange → Type 0
-IsOutstanding station x = (answer_to station x ≡ None) × (x.closed ≡ false)
+IsOutstanding station x =
+    (answer_to station x ≡ None) × (x.closed ≡ false) × (x.given_up ≡ false)
 
 -- closed, and not answered
 abbrev pub IsUnanswered : (station : ℕ) → Exchange → Type 0
@@ -47,13 +50,14 @@ pub record Sending : Type 0 where
   pub request : Asked
 
 -- An exchange so far, with the moment of its request, and all octets that came. None are added once
--- it is closed.
+-- it is closed, and nothing changes it once the link to its station was given up.
 pub record OpenExchange : Type 0 where
   pub station : ℕ
   pub request : Asked
   pub since : ℕ
   pub octets : List ℕ
   pub closed : Bool
+  pub given_up : Bool
 
 -- the exchanges of a line: those that ended by a next request, and the latest
 pub record Exchanges : Type 0 where
@@ -76,8 +80,9 @@ heard_octets octets x = record {
   station = x.station;
   request = x.request;
   since = x.since;
-  octets = if x.closed then x.octets else x.octets ++ octets;
+  octets = if x.closed || x.given_up then x.octets else x.octets ++ octets;
   closed = x.closed;
+  given_up = x.given_up;
 }
 
 abbrev pub heard_current : List ℕ → Option OpenExchange → Option OpenExchange
@@ -91,7 +96,8 @@ timed answer_ms at x = record {
   request = x.request;
   since = x.since;
   octets = x.octets;
-  closed = x.closed || nat_le (x.since + answer_ms) at;
+  closed = x.closed || (not x.given_up && nat_le (x.since + answer_ms) at);
+  given_up = x.given_up;
 }
 
 abbrev pub timed_current : (answer_ms at : ℕ) → Option OpenExchange → Option OpenExchange
@@ -109,8 +115,42 @@ begun_by at (Some s) e = record {
     since = at;
     octets = [];
     closed = false;
+    given_up = false;
   });
 }
+
+-- The link to the station is given up behind this exchange.
+abbrev pub marked : OpenExchange → OpenExchange
+marked x = record {
+  station = x.station;
+  request = x.request;
+  since = x.since;
+  octets = x.octets;
+  closed = x.closed;
+  given_up = true;
+}
+
+-- One of these exchanges is with the station.
+abbrev pub has_one_with : (station : ℕ) → List OpenExchange → Bool
+has_one_with station [] = false
+has_one_with station (x ∷ xs) = (x.station == station) || has_one_with station xs
+
+-- The latest of these exchanges with the station is marked, if there is one.
+abbrev pub latest_marked : (station : ℕ) → List OpenExchange → List OpenExchange
+latest_marked station [] = []
+latest_marked station (x ∷ xs) =
+    if (x.station == station) && not (has_one_with station xs) then marked x ∷ xs
+    else x ∷ latest_marked station xs
+
+abbrev pub given_up_from : (station : ℕ) → List OpenExchange → Option OpenExchange → Exchanges
+given_up_from station ended None = record { ended = latest_marked station ended; current = None }
+given_up_from station ended (Some x) =
+    if x.station == station then record { ended = ended; current = Some (marked x) }
+    else record { ended = latest_marked station ended; current = Some x }
+
+-- The link to the station is given up, behind the latest exchange with it.
+abbrev pub given_up_at : (station : ℕ) → Exchanges → Exchanges
+given_up_at station e = given_up_from station e.ended e.current
 
 -- the frame at the front of octets, by a reader of fronts
 abbrev pub whole_of : Front → Option Frame
@@ -126,6 +166,7 @@ view front x = record {
     request = x.request;
     front = whole_of (front x.octets);
     closed = x.closed;
+    given_up = x.given_up;
   };
 }
 

@@ -29,4 +29,6 @@ pub mod Outcomes
 pub mod Precedence
 pub mod Tables
 pub mod Bursts
+pub mod AtOnce
 pub mod Carried
+pub mod Marks

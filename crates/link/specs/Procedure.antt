@@ -38,12 +38,15 @@ after_silence settings (Counted fcb service) true link =
     held settings fcb service (suc (missed_so_far link))
 after_silence settings (Counted fcb service) false link = Held fcb service (missed_so_far link)
 
-abbrev pub after_outcome : LinkSettings → Option Answer → Exchange → Link → Link
-after_outcome settings (Some answer) x link = after_answer x.request answer link
-after_outcome settings None x link = after_silence settings x.request x.closed link
+abbrev pub after_outcome : LinkSettings → Option Answer → Asked → (closed : Bool) → Link → Link
+after_outcome settings (Some answer) request closed link = after_answer request answer link
+after_outcome settings None request closed link = after_silence settings request closed link
 
+-- the link after an exchange; whatever came of it, one that is given up is down
 abbrev pub after : LinkSettings → (station : ℕ) → Exchange → Link → Link
-after settings station x link = after_outcome settings (answer_to station x) x link
+after settings station x link =
+    if x.given_up then Down
+    else after_outcome settings (answer_to station x) x.request x.closed link
 
 abbrev pub link_after : LinkSettings → (station : ℕ) → Link → List Exchange → Link
 link_after settings station link [] = link

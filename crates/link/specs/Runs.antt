@@ -5,7 +5,8 @@ use Rattle.std.specs.Prelude.{◌++◌, length, Option, Some, None, if◌then◌
 use Rattle.ft12.specs.Fronts.{front_of}
 use Rattle.link.specs.Answers.{Asked, Counted, Command}
 use Rattle.link.specs.Exchanges.{Exchanges, Sending, no_exchanges, heard_current, timed_current}
-use Rattle.link.specs.Exchanges.{begun_by}
+use Rattle.link.specs.Exchanges.{begun_by, given_up_at}
+use Rattle.link.specs.Carried.{given_up}
 use Rattle.link.specs.Procedure.{LinkSettings, Link, is_held, is_up}
 use Rattle.link.specs.Requests.{IsUserData}
 use Rattle.link.specs.Turns.{Starting, Wanted, station_at, wanted, place_after}
@@ -19,6 +20,7 @@ pub data Call : Type 0 where
   Due : (now : ℕ) → Call
   Offer : (station : ℕ) → (asdu : List ℕ) → Call
   Withdraw : Call
+  GivesUp : (station : ℕ) → Call
 
 -- the primary after a call
 abbrev pub called : Primary → Call → Primary
@@ -27,6 +29,7 @@ called p (Octets octets) = received (front_of p.settings.size) p octets
 called p (Due now) = timed_out p now
 called p (Offer station asdu) = offered_to p station asdu
 called p Withdraw = withdrawn p
+called p (GivesUp station) = given_up station p
 
 -- the exchanges of its line after the call
 abbrev pub exchanged : Primary → Call → Exchanges → Exchanges
@@ -38,11 +41,13 @@ exchanged p (Due now) e = record {
 }
 exchanged p (Offer station asdu) e = e
 exchanged p Withdraw e = e
+exchanged p (GivesUp station) e = given_up_at station e
 
 -- The call is one that may be made: an offer is to one of the stations, of data that a frame can
--- carry.
+-- carry; and a link that is given up is one of theirs.
 abbrev pub MayCall : Primary → Call → Type 0
 MayCall p (Offer station asdu) = (station < length p.stations) × IsUserData p.settings.size asdu
+MayCall p (GivesUp station) = station < length p.stations
 MayCall p call = Unit {0}
 
 abbrev pub MayCallAll : Primary → List Call → Type 0
@@ -122,6 +127,7 @@ deeds p station (Due now) = []
 deeds p station (Offer other asdu) =
     if (other == station) && may_offer p station then Offered asdu ∷ [] else []
 deeds p station Withdraw = Withdrawn ∷ []
+deeds p station (GivesUp other) = []
 
 abbrev pub all_deeds : Primary → (station : ℕ) → List Call → List Deed
 all_deeds p station [] = []

@@ -54,13 +54,15 @@ pub record IsAwaited (front : List ℕ → Front) (address : ℕ) (turn : ℕ) (
   pub request : x.request ≡ o.request
   pub since : x.since ≡ o.since
   pub waits : x.closed ≡ false
+  pub stands : x.given_up ≡ false
   pub heard : IsHeard front address x o.heard
   pub has_octets : o.has_octets ≡ not (length x.octets == 0)
 
--- an exchange that is over for the primary: closed, or answered
+-- an exchange that is over for the primary: closed, answered, or given up
 abbrev pub IsOver : (front : List ℕ → Front) → (address : ℕ) → OpenExchange → Type 0
 IsOver front address x =
-    (x.closed ≡ true) ⊎ ((answer : Answer) × IsSaid front address x (Some answer))
+    (x.closed ≡ true) ⊎ ((x.given_up ≡ true)
+    ⊎ ((answer : Answer) × IsSaid front address x (Some answer)))
 
 abbrev pub IsCurrent : (front : List ℕ → Front) → (addresses : List ℕ) → (turn : ℕ) →
     Option Outstanding → Option OpenExchange → Type 0

@@ -54,6 +54,7 @@ impl Asked {
         ensures { result ≡ single_answer self.now }
     {
         match self {
+            // The single character stands for an ACK or for 'no data', and a status is neither.
             Asked::Status => None,
             Asked::Reset | Asked::Counted(_, Service::Command(_)) => Some(Answer::Confirmed),
             Asked::Counted(_, _) => Some(Answer::NoData),
@@ -67,6 +68,7 @@ impl Asked {
             (Asked::Status, SecondaryFunction::LinkStatus) => Some(Answer::Ready),
             (Asked::Status, _) => unable(function),
             (Asked::Reset, SecondaryFunction::Confirm) => Some(Answer::Confirmed),
+            // Also 14 and 15 (docs/DECISIONS.md, "14 or 15 in answer to a reset").
             (Asked::Reset, _) => None,
             (Asked::Counted(_, service), _) => to_service(service, function),
         }
@@ -92,6 +94,8 @@ impl Asked {
     {
         match frame {
             FrameRef::Single => self.single(),
+            // Bit 7 isn't looked at: unbalanced transmission reserves it. A frame with PRM 1 is a
+            // request, and one of another address isn't this station's.
             FrameRef::Fixed { c, a } => match Control::from_octet(c) {
                 Control::Secondary { function, .. } if a == station => self.said(function),
                 _ => None,

@@ -57,8 +57,8 @@ impl Asdu {
     }
 }
 
-/// How many octets a command has at most: a set point with a short floating point number, with two
-/// octets each for the common address and the object's address.
+/// How many octets a command has at most: a set point in the largest sizes, with two octets each
+/// for the cause and the common address, and three for the object's address.
 pub const LONGEST_COMMAND: usize = 12;
 
 /// The octets of a command to a station: at most [`LONGEST_COMMAND`].

@@ -1,4 +1,19 @@
 //! What holds of requests, exchanges and stations.
+pub(crate) mod asking;
+pub(crate) mod at_once;
+pub(crate) mod bursts;
+pub(crate) mod carrying;
+pub(crate) mod flags;
+pub(crate) mod gaps;
+pub(crate) mod leave;
+pub(crate) mod life;
+pub(crate) mod offers;
+pub(crate) mod precedence;
+pub(crate) mod refinement;
+pub(crate) mod runs;
+pub(crate) mod tables;
+pub(crate) mod visits;
+
 ghost use Rattle.std.specs.Prelude.{◌≡◌, ◌<◌, ◌++◌, [], ◌∷◌, ℕ, Bool, true, false, List, All};
 ghost use Rattle.std.specs.Prelude.{length, slice_index, Option, Some, option_and_then};
 ghost use Rattle.ft12.specs.declared.frame.LinkSize.{LinkSize};
@@ -16,11 +31,11 @@ ghost use Rattle.link.specs.Primary.{Primary, start, asked, sending, request_of,
 ghost use Rattle.link.specs.Primary.{received_outcome, timed_out, offered_to, withdrawn};
 ghost use Rattle.link.specs.Telling.{Tells, report_in, IsFittingSending};
 
-use crate::asking::next_changes_nothing;
-use crate::gaps::gaps_are_told;
-use crate::leave::rests_mean;
-use crate::offers::offers_wait;
-use crate::runs::outcomes_are_answers;
+use crate::laws::asking::next_changes_nothing;
+use crate::laws::gaps::gaps_are_told;
+use crate::laws::leave::rests_mean;
+use crate::laws::offers::offers_wait;
+use crate::laws::runs::outcomes_are_answers;
 use ft12::front_is_computed;
 
 /// What a request's octets ask for, and of whom, is the request.

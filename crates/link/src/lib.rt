@@ -14,19 +14,21 @@
 //! - over every list of calls the exchanges of the line keep the frame count bit of each station
 //!   ([`frame_count_bits_are_kept`], [`master_tells_the_log`]), no request goes out while one is
 //!   outstanding ([`requests_wait_their_turn`]), turns go round the stations ([`turns_go_round`]),
-//!   a turn ends ([`turns_end`]) and no station starves ([`no_station_starves`]), a command that
-//!   waits goes out before any new poll ([`commands_go_before_polls`]), polls and commands go by
-//!   ACD and DFC ([`flags_are_heeded`], [`class_1_polls_go_on`]), a command is sent for the first
-//!   time once, in order ([`commands_are_sent_in_order`]), what is offered waits until then
-//!   ([`offers_wait`]) and is taken where no other is under way ([`one_command_at_a_time`]), what
-//!   the caller is told is what the exchanges show ([`outcomes_are_answers`],
-//!   [`outcomes_bear_the_reports`]), and those that closed with octets but no answer are counted
-//!   ([`spoilt_exchanges_are_counted`]);
+//!   a turn ends ([`turns_end`]) and no station starves ([`no_station_starves`]), an unanswered
+//!   service is sent again at once ([`repeats_come_at_once`]), a command that waits goes out before
+//!   any new poll ([`commands_go_before_polls`]) and polls follow it in its turn
+//!   ([`polls_follow_commands`]), polls and commands go by ACD and DFC ([`flags_are_heeded`],
+//!   [`class_1_polls_go_on`]), a command is sent for the first time once, in order
+//!   ([`commands_are_sent_in_order`]), what is offered waits until then ([`offers_wait`]) and is
+//!   taken where no other is under way ([`one_command_at_a_time`]), what the caller is told is what
+//!   the exchanges show ([`outcomes_are_answers`], [`outcomes_bear_the_reports`]), and those that
+//!   closed with octets but no answer are counted ([`spoilt_exchanges_are_counted`]);
 //! - a reset that ends a session whose last report may be lost is told, and no other
 //!   ([`gaps_are_told`], [`gaps_are_ended_sessions`]);
 //! - where a link is given up at a restart no other station changes
-//!   ([`giving_up_is_for_one_station`]), and where a line goes on with other settings each station
-//!   that goes on keeps its frame count bit ([`frame_count_bits_go_on`]), and what is known of its
+//!   ([`giving_up_is_for_one_station`]), and the exchanges tell it ([`giving_up_is_told`],
+//!   [`the_latest_exchange_is_marked`]); where a line goes on with other settings each station that
+//!   goes on keeps its frame count bit ([`frame_count_bits_go_on`]), and what is known of its
 //!   session ([`sessions_go_on`]);
 //! - what the crates above go by is one record ([`line_keeps_the_procedures`]);
 //! - a station runs as an outstation that hears each request to it ([`station_is_an_outstation`]),
@@ -46,75 +48,67 @@
 
 mod answer;
 mod asdu;
-mod asking;
 mod awaited;
-mod bursts;
-mod carrying;
 mod control;
 mod examples;
-mod flags;
-mod gaps;
 mod heard_request;
 mod laws;
-mod leave;
-mod life;
 mod master;
 mod no_memory;
-mod offers;
 mod outcome;
-mod precedence;
 mod procedure;
-mod refinement;
 mod request;
-mod runs;
 mod saving;
 mod seat;
 mod service;
 mod session;
 mod settings;
 mod station;
-mod tables;
 mod turn;
-mod visits;
 
 pub use answer::Answer;
 pub use asdu::{Asdu, AsduRef, CommandOctets};
-pub use asking::next_changes_nothing;
-pub use bursts::class_1_polls_go_on;
-pub use carrying::{frame_count_bits_go_on, giving_up_is_for_one_station, sessions_go_on};
 pub use control::{Control, PrimaryFunction, SecondaryFunction, controls_are_octets};
 pub use examples::{
     answers_by_example, controls_by_example, outstations_by_example, requests_by_example,
     turns_by_example,
 };
-pub use flags::flags_are_heeded;
-pub use gaps::{gaps_are_ended_sessions, gaps_are_told};
 pub use heard_request::HeardRequest;
+pub use laws::asking::next_changes_nothing;
+pub use laws::at_once::{polls_follow_commands, repeats_come_at_once};
+pub use laws::bursts::class_1_polls_go_on;
+pub use laws::carrying::{
+    frame_count_bits_go_on, giving_up_is_for_one_station, giving_up_is_told, sessions_go_on,
+    the_latest_exchange_is_marked,
+};
+pub use laws::flags::flags_are_heeded;
+pub use laws::gaps::{gaps_are_ended_sessions, gaps_are_told};
+pub use laws::leave::{polls_wait_for_leave, rests_mean};
+pub use laws::life::{station_is_an_outstation, station_tells_what_waits};
+pub use laws::offers::{offers_wait, one_command_at_a_time};
+pub use laws::precedence::commands_go_before_polls;
+pub use laws::refinement::{
+    commands_are_accepted, each_service_acts_once, reports_are_learnt, sessions_are_known,
+    silence_is_no_reset,
+};
+pub use laws::runs::{
+    commands_are_sent_in_order, frame_count_bits_are_kept, outcomes_are_answers,
+    spoilt_exchanges_are_counted, turns_go_round,
+};
+pub use laws::tables::{answers_are_whole, reserved_bits_are_not_looked_at};
+pub use laws::visits::{no_station_starves, turns_end};
 pub use laws::{
     line_keeps_the_procedures, master_tells_the_log, outcomes_bear_the_reports,
     requests_are_read_back, requests_wait_their_turn, services_need_a_station_that_is_up,
 };
-pub use leave::{polls_wait_for_leave, rests_mean};
-pub use life::{station_is_an_outstation, station_tells_what_waits};
 pub use master::Master;
 pub use no_memory::NoMemory;
-pub use offers::{offers_wait, one_command_at_a_time};
 pub use outcome::{Outcome, OwnedOutcome, ReportRef};
-pub use precedence::commands_go_before_polls;
 pub use procedure::Link;
-pub use refinement::{
-    commands_are_accepted, each_service_acts_once, reports_are_learnt, sessions_are_known,
-    silence_is_no_reset,
-};
 pub use request::{Reading, Request, RequestKind, read_request};
-pub use runs::{
-    commands_are_sent_in_order, frame_count_bits_are_kept, outcomes_are_answers,
-    spoilt_exchanges_are_counted, turns_go_round,
-};
 pub use seat::Seat;
 pub use service::{Asked, Service};
 pub use session::SessionState;
 pub use settings::LinkSettings;
 pub use station::Station;
-pub use tables::{answers_are_whole, reserved_bits_are_not_looked_at};
-pub use visits::{no_station_starves, turns_end};
+pub use turn::StationState;

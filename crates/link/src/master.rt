@@ -102,6 +102,8 @@ impl StationState {
             ≡ station_answered self.old request.now (owned frame.entry) answer.now }
     {
         self.link.answer(request, answer);
+        // Each answer counts, whatever it answers: the flags are those of the latest
+        // (docs/DECISIONS.md, "ACD when the polls begin").
         self.acd = acd_in(frame);
         self.dfc = dfc_in(frame);
         self.session.answer(request, answer);
@@ -120,6 +122,7 @@ fn acd_in(frame: FrameRef<'_>) -> bool
     ensures { result ≡ acd_of (owned frame.entry) }
 {
     match frame {
+        // It has no bits. If class 1 data wait, the next answer with a control octet says so.
         FrameRef::Single => false,
         FrameRef::Fixed { c, .. } | FrameRef::Data { c, .. } => shows_acd(c),
     }
@@ -141,6 +144,7 @@ fn phase_of(answer: &Answer<'_>, phase: Phase) -> Phase
     ensures { result ≡ phase_after answer.now phase }
 {
     match answer {
+        // The next station follows (docs/DECISIONS.md, "A station that goes down in mid-turn").
         Answer::Unable => Phase::Over,
         _ => phase,
     }
@@ -150,6 +154,7 @@ fn phase_of(answer: &Answer<'_>, phase: Phase) -> Phase
 fn phase_missed(again: bool, phase: Phase) -> Phase
     ensures { result ≡ if again then phase else Over }
 {
+    // A silent station with no repeat left would only hold up the others.
     if again { phase } else { Phase::Over }
 }
 
@@ -168,6 +173,7 @@ fn sends_command(outstanding: &Option<Awaited>) -> bool
 fn spoilt_after(spoilt: u64, awaited: &Awaited) -> u64
     ensures { result ≡ if awaited.now.has_octets then saturated (spoilt + 1) else spoilt }
 {
+    // Silence spoils nothing: the request was lost, or the station isn't there.
     if awaited.has_octets {
         spoilt.saturating_add(1)
     } else {
@@ -247,6 +253,7 @@ impl Master {
         for address in addresses {
             let station = StationState {
                 address: *address,
+                // Until a reset is confirmed nobody knows which frame count bit the station has.
                 link: Link::Down,
                 acd: false,
                 dfc: false,
@@ -277,6 +284,31 @@ impl Master {
         ensures { result ≡ length self.now.stations }
     {
         self.stations.len()
+    }
+
+    /// What is kept of each station, in the order of the turns.
+    pub fn stations(&self) -> &[StationState]
+        ensures { result.now ≡ self.now.stations }
+    {
+        &self.stations
+    }
+
+    /// The index of the station whose turn it is.
+    pub fn turn(&self) -> usize
+        ensures { result ≡ self.now.turn }
+    {
+        self.turn
+    }
+
+    /// The request to that station whose answer is awaited, if there is one.
+    pub fn awaited(&self) -> Option<&Asked>
+        ensures { option_map (λ a. a.now) result
+            ≡ option_map (λ o. o.request) self.now.outstanding }
+    {
+        match &self.outstanding {
+            Some(awaited) => Some(&awaited.request),
+            None => None,
+        }
     }
 
     /// How many exchanges were spoilt so far, at most `u64::MAX`: octets came in them, but no
@@ -319,6 +351,7 @@ impl Master {
                 awaited.request,
                 Asked::Counted(_, Service::Class1 | Service::Class2)
             ),
+            // The repeat needs no new leave: nothing else filled the queue while its poll was out.
             None => self.again && self.stations[self.turn].link.holds_poll(),
         }
     }
@@ -346,6 +379,8 @@ impl Master {
         ensures request { result ≡ option_map (request_of self.old) (sending self.old may_poll) }
     {
         let Some(Pick { station, wish }) = self.choose(may_poll) else {
+            // The turn has ended, though no request shows it (docs/DECISIONS.md, "A call that
+            // finds no request").
             self.phase = Phase::Over;
             self.again = false;
             return None;
@@ -411,6 +446,7 @@ impl Master {
             deaf: false,
             has_octets: false,
         });
+        // Half an answer to an earlier request is no beginning of the answer to this one.
         self.assembler.clear();
         request
     }
@@ -552,8 +588,12 @@ impl Master {
     {
         let place = self.turn;
         let there = nth_station(&self.stations, place);
+        // Asked for first: with the answer to a reset the next session begins, and the gap is of
+        // the one before.
         let gap = there.session.gap();
         match awaited.request.answered_by(there.address, frame) {
+            // Deaf until the timeout: behind a frame that doesn't fit, nothing says which request
+            // the next one answers.
             None => {
                 self.outstanding = Some(Awaited {
                     request: awaited.request,
@@ -626,6 +666,8 @@ impl Master {
         ensures { result ≡ may_offer self.now station }
     {
         let there = nth_station(&self.stations, station);
+        // One at a time: an outcome names a station, and so the one command that is under way
+        // there.
         there.offered.is_none()
             && !there.link.holds_command()
             && !(self.turn == station && sends_command(&self.outstanding))
@@ -652,6 +694,7 @@ impl Master {
     pub fn withdraw(&mut self)
         ensures { self.new ≡ withdrawn self.old }
     {
+        // What is on the line, or held, stays: the station may have taken it.
         withdraw_all(&mut self.stations);
     }
 }

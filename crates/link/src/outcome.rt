@@ -135,7 +135,9 @@ pub(crate) fn told<'a>(
         (_, Answer::Busy) => Outcome::Busy(station),
         (_, Answer::Report(asdu)) => Outcome::Report(station, ReportRef::new(asdu)),
         (_, Answer::NoData) => Outcome::Empty(station),
+        // Also of a station that was down already (docs/DECISIONS.md, "What is an outcome").
         (_, Answer::Unable) => Outcome::Down(station),
+        // The status was answered. The reset follows, and its answer is what is told.
         (_, _) => Outcome::None,
     }
 }

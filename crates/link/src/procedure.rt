@@ -26,8 +26,12 @@ impl Link {
     {
         match (request, answer) {
             (Asked::Status, Answer::Ready) => *self = Link::Available,
+            // A service that goes with it is given up: the station says that it can't be served.
             (Asked::Status | Asked::Counted(_, _), Answer::Unable) => *self = Link::Down,
+            // The reset has set the station's bit to 0, so 1 marks a new service (IEC 60870-5-2,
+            // 5.1.2).
             (Asked::Reset, Answer::Confirmed) => *self = Link::Next(true),
+            // The station has this bit now, so the other one marks a new service.
             (Asked::Counted(fcb, _), _) => *self = Link::Next(!*fcb),
             (_, _) => {}
         }
@@ -47,15 +51,23 @@ impl Link {
         ensures { self.new ≡ after_silence settings request.now true self.old }
     {
         match request {
+            // The status first, also after a reset without an answer (docs/DECISIONS.md, "A reset
+            // needs a status").
             Asked::Status | Asked::Reset => *self = Link::Down,
             Asked::Counted(fcb, service) => {
+                // In 16 bits, where one more than any `retries` fits (docs/DECISIONS.md,
+                // "Unanswered transmissions in 16 bits").
                 let missed = self.missed();
                 let most = u16::from(settings.retries);
                 if missed < most {
+                    // The same bit: the station may have acted, and only its answer was lost.
                     *self = Link::Held(*fcb, service.copied(), missed + 1);
                 } else if settings.hold {
+                    // One above the repeats says that none is left. Nothing more is counted,
+                    // however long the silence.
                     *self = Link::Held(*fcb, service.copied(), most + 1);
                 } else {
+                    // It may have restarted, and then it answers no service before a reset.
                     *self = Link::Down;
                 }
             }

@@ -90,6 +90,7 @@ fn plain_control(function: PrimaryFunction) -> u8
 {
     let control = Control::Primary {
         reserved: false,
+        // A bit that isn't valid is sent as 0 (IEC 60870-5-2, 5.1.2).
         fcb: false,
         fcv: false,
         function,
@@ -191,6 +192,8 @@ fn with_data(fcb: bool, fcv: bool, function: PrimaryFunction, octets: &[u8]) -> 
     requires { length octets.now ≤ 253 }
     ensures { result ≡ data_by fcb fcv (primary_code function) octets.now }
 {
+    // A command without octets is none that could be taken (docs/DECISIONS.md, "What `Station`
+    // doesn't take").
     if octets.is_empty() {
         return Reading::Unknown;
     }
@@ -205,6 +208,7 @@ pub fn read_request(station: u16, frame: &Frame) -> Reading
     ensures { result ≡ reading_of station frame.now }
 {
     match frame {
+        // It has no address, and no request is one.
         Frame::Single => Reading::Foreign,
         Frame::Fixed { c, a } => match Control::from_octet(*c) {
             Control::Primary {

@@ -21,6 +21,8 @@ impl SessionState {
     pub(crate) fn ask(&mut self, request: &Asked)
         ensures { self.new ≡ session_asked self.old request.now }
     {
+        // The station may have given a report that is lost with the session. A command brings
+        // none.
         if let Asked::Counted(_, service) = request {
             self.has_gap = poll_service(service);
         }
@@ -34,8 +36,11 @@ impl SessionState {
         match (request, answer) {
             (Asked::Reset, Answer::Confirmed) => {
                 self.number = self.number.saturating_add(1);
+                // A second reset in a row ends a session without a poll.
                 self.has_gap = false;
             }
+            // 14 or 15 says nothing of a report: the station may have given it in an answer that
+            // was lost (docs/DECISIONS.md, "A gap may be none").
             (Asked::Counted(_, _), Answer::Unable) => {}
             (Asked::Counted(_, _), _) => self.has_gap = false,
             (_, _) => {}

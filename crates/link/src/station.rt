@@ -115,6 +115,7 @@ impl Station {
     {
         let control = Control::Secondary {
             reserved: false,
+            // As it is behind this answer: the report that goes with it waits no more.
             acd: !self.class1.is_empty(),
             dfc: false,
             function: by,
@@ -126,6 +127,7 @@ impl Station {
         ensures frame { result ≡ short_of (number by) self.now.address self.now.class1 }
         ensures fits { Fits self.now.size result }
     {
+        // The single character can't show ACD.
         if self.class1.is_empty() {
             Frame::Single
         } else {
@@ -144,6 +146,7 @@ impl Station {
         ensures fits { IfSome result (Fits self.old.size) }
     {
         self.bit = Some(fcb);
+        // For a repeat with the same bit, which gets this very answer (IEC 60870-5-2, 5.1.2).
         self.last = Some(copy_of(&frame));
         Some(frame)
     }
@@ -216,6 +219,7 @@ impl Station {
             let frame = self.short(SecondaryFunction::Confirm);
             self.keep(fcb, frame)
         } else {
+            // Busy says that the command wasn't taken, which is what want of memory means here.
             let frame = Frame::Fixed {
                 c: self.control(SecondaryFunction::Busy),
                 a: self.address,
@@ -241,6 +245,7 @@ impl Station {
         ensures fits { IfSome result (Fits self.old.size) }
     {
         match self.bit {
+            // There is no bit to compare with before the first reset.
             None => None,
             Some(bit) if same(fcb, bit) => self.again(),
             Some(_) => match service {
@@ -263,6 +268,7 @@ impl Station {
             }),
             Asked::Reset => {
                 self.bit = Some(false);
+                // An answer from before the reset belongs to no service behind it.
                 self.last = None;
                 Some(self.short(SecondaryFunction::Confirm))
             }
@@ -275,6 +281,7 @@ impl Station {
         ensures fits { IfSome result (Fits self.old.size) }
     {
         match reading {
+            // Silence: an answer would collide with that of the station which was asked.
             Reading::Foreign => None,
             Reading::Unknown => Some(Frame::Fixed {
                 c: self.control(SecondaryFunction::NotImplemented),
@@ -296,6 +303,7 @@ impl Station {
         let Front::Whole(frame, len) = front(self.size, octets) else {
             return None;
         };
+        // More than one frame is no request (docs/DECISIONS.md, "What `Station` doesn't take").
         if len != octets.len() {
             return None;
         }

@@ -93,8 +93,11 @@ impl StationState {
             ≡ wanted_poll burst fcb self.now.acd phase }
     {
         match phase {
+            // As ACD is now, behind the command (docs/DECISIONS.md, "ACD when the polls begin").
             Phase::Polling if self.acd => Some(Wish::PollClass1(fcb, 1)),
             Phase::Polling => Some(Wish::PollClass2(fcb)),
+            // At most `burst`, so a station with much to tell doesn't keep the line from the
+            // others.
             Phase::Class1Polling(sent) if self.acd && sent < burst => {
                 Some(Wish::PollClass1(fcb, sent + 1))
             }
@@ -107,6 +110,7 @@ impl StationState {
         ensures { option_map (wished self.now) result
             ≡ polls_from burst may_poll fcb self.now phase }
     {
+        // A report that finds no room would be lost, since the station has given it.
         if may_poll {
             self.poll_wish(burst, fcb, phase)
         } else {
@@ -120,6 +124,7 @@ impl StationState {
             ≡ commands_from burst may_poll fcb self.now self.now.offered }
     {
         match &self.offered {
+            // DFC asks for no more user data. A poll brings the station none.
             Some(_) if !self.dfc => Some(Wish::SendOffered(fcb)),
             _ => self.polls_wish(burst, may_poll, fcb, Phase::Polling),
         }
@@ -149,9 +154,13 @@ impl StationState {
             (Link::Down, Phase::Starting) => Some(Wish::AskStatus),
             (Link::Available, Phase::Starting) => Some(Wish::AskReset),
             (Link::Next(fcb), phase) => self.next_wish(burst, may_poll, *fcb, phase),
+            // A held service counts as no step of the turn: all of them follow (docs/DECISIONS.md,
+            // "A held service").
             (Link::Held(_, service, _), Phase::Starting) if may_poll || !poll_service(service) => {
                 Some(Wish::SendHeld(Phase::Commanding))
             }
+            // Nothing passes it: a new bit would tell the station that its answer came
+            // (docs/DECISIONS.md, "A held service").
             (Link::Held(_, _, _), Phase::Starting) => None,
             (Link::Held(_, _, _), phase) if again => Some(Wish::SendHeld(phase)),
             _ => None,
@@ -164,6 +173,7 @@ impl StationState {
     {
         match &self.offered {
             Some(command) => Asked::Counted(fcb, Service::Command(command.copied())),
+            // Never: only a station with an offered command has this wish.
             None => Asked::Status,
         }
     }
@@ -174,6 +184,7 @@ impl StationState {
     {
         match &self.link {
             Link::Held(fcb, service, _) => Asked::Counted(*fcb, service.copied()),
+            // Never: only a link that holds a service has this wish.
             _ => Asked::Status,
         }
     }
@@ -183,6 +194,7 @@ impl StationState {
         ensures { result ≡ wished self.now wish }
     {
         match wish {
+            // The reset belongs to the same turn.
             Wish::AskStatus => Wanted {
                 request: Asked::Status,
                 following: Phase::Starting,
@@ -195,6 +207,7 @@ impl StationState {
                 request: Asked::Counted(fcb, Service::Class1),
                 following: Phase::Class1Polling(sent),
             },
+            // Its answer may show ACD, and class 1 polls then follow.
             Wish::PollClass2(fcb) => Wanted {
                 request: Asked::Counted(fcb, Service::Class2),
                 following: Phase::Class1Polling(0),
@@ -244,6 +257,7 @@ pub(crate) fn first_wanted(
     ensures in_range { IfSome result (λ pick. pick.station < length stations.now) }
 {
     let mut place = turn;
+    // All of them, and last the one that was served last: it may be the only one with a request.
     for _seen in 0..stations.len() {
         place = next_place(stations.len(), place);
         let wish = nth_station(stations, place).wish(burst, may_poll, false, Phase::Starting);

@@ -5,6 +5,7 @@ pub mod Puts
 pub mod Closes
 pub mod Writes
 pub mod Drops
+pub mod Lines
 pub mod Tries
 pub mod Law
 pub mod Strangers

@@ -1,5 +1,6 @@
 -- What the answer of one call to a stream means (this gateway's own profile).
-use Rattle.std.specs.Prelude.{◌≡◌, ◌≢◌, ℕ, ◌+◌, ◌≤◌, ◌==◌, ◌⊎◌, List, [], ◌∷◌, ◌++◌, length, take}
+use Rattle.std.specs.Prelude.{◌≡◌, ◌≢◌, ℕ, ◌+◌, ◌-◌, ◌≤◌, ◌==◌, ◌⊎◌, List, [], ◌∷◌, ◌++◌}
+use Rattle.std.specs.Prelude.{length, take, slice_index, ◌||◌}
 use Rattle.std.specs.Prelude.{All, not, Bool, true, false, Option, Some, None, Result, Ok, Err}
 use Rattle.std.specs.Prelude.{MatchResult, if◌then◌else◌}
 use Rattle.std.specs.declared.io.Error.{Error}
@@ -9,11 +10,11 @@ use Rattle.std.specs.IoError.{error_kind}
 use Rattle.live.specs.declared.wires.Got.{Got}
 use Rattle.live.specs.declared.wires.Got.TheVariants.{Octets, Quiet, Gone}
 
--- a call of a stream, and what the system answered: how many octets came, or how many of those that
--- were handed to it were taken, from the front; or it was told to wait at calls, or not to, and
--- whether that was done
+-- a call of a stream, and what the system answered: which octets came, and how many, or how many of
+-- those that were handed to it were taken, from the front; or it was told to wait at calls, or not
+-- to, and whether that was done
 pub data Call : Type 0 where
-  Received : (answer : Result ℕ Error) → Call
+  Received : (octets : List ℕ) → (answer : Result ℕ Error) → Call
   Sent : (octets : List ℕ) → (answer : Result ℕ Error) → Call
   Waits : (is_waiting : Bool) → (is_set : Bool) → Call
 
@@ -38,16 +39,75 @@ MeansGot answer got =
     MatchResult answer (λ len. got ≡ (if len == 0 then Gone else Octets len))
     (λ fault. MeansFault (error_kind fault) got)
 
--- one call, and what its answer means
-pub record ReadsOnce (old : Calls) (got : Got) (new : Calls) : Type 0 where
-  pub answer : Result ℕ Error
-  pub asked : new ≡ called old (Received answer)
-  pub means : MeansGot answer got
-
 -- how many octets were taken, or came
 abbrev pub taken_of : Result ℕ Error → ℕ
 taken_of (Ok count) = count
 taken_of (Err fault) = 0
+
+-- a call that put what came at the front of this buffer
+abbrev pub received : (buf : List ℕ) → Result ℕ Error → Call
+received buf answer = Received (take (taken_of answer) buf) answer
+
+-- one call, and what its answer means
+pub record ReadsOnce (old : Calls) (got : Got) (buf : List ℕ) (new : Calls) : Type 0 where
+  pub answer : Result ℕ Error
+  pub asked : new ≡ called old (received buf answer)
+  pub means : MeansGot answer got
+
+-- one call, and the octets that came at it, so many
+pub record ReceivesOnce (old : Calls) (octets : List ℕ) (count : ℕ) (new : Calls) : Type 0 where
+  pub answer : Result ℕ Error
+  pub asked : new ≡ called old (Received octets answer)
+  pub means : count ≡ taken_of answer
+
+-- The octets end as a line frame does: with the end character 16h of formats with fixed and
+-- variable
+-- length, or with the single character E5h (IEC 60870-5-1, 6.2.4.2). Others may end so too.
+abbrev pub ends_frame : List ℕ → Bool
+ends_frame octets =
+    let last = slice_index octets (length octets - 1) in (last == 0x16) || (last == 0xE5)
+
+-- So many calls behind these first octets, each of which brought some, where those before didn't
+-- end
+-- as a frame does; and all octets that came by then, in their order.
+pub data ReadsOn (old : Calls) (first : List ℕ) : (count : ℕ) → (came : List ℕ) → Calls
+    → Type 0 where
+  NoMore : ReadsOn old first 0 first old
+  OneMore : (count n : ℕ) (came more : List ℕ) (mid new : Calls)
+      → ReadsOn old first count came mid → ends_frame came ≡ false
+      → ReceivesOnce mid more n new → 1 ≤ n
+      → ReadsOn old first (count + 1) (came ++ more) new
+
+-- No more is read: the octets end as a frame does, or a call brought none, or it were 15 calls.
+pub data IsReadOut (count : ℕ) (came : List ℕ) (mid new : Calls) : Type 0 where
+  Whole : ends_frame came ≡ true → new ≡ mid → IsReadOut count came mid new
+  NoneCame : (octets : List ℕ) → ends_frame came ≡ false → ReceivesOnce mid octets 0 new
+      → IsReadOut count came mid new
+  Enough : count ≡ 15 → new ≡ mid → IsReadOut count came mid new
+
+-- Behind these first octets a look goes on until no more is read, and these are all that came.
+pub record ReadsFrame (old : Calls) (first came : List ℕ) (new : Calls) : Type 0 where
+  pub count : ℕ
+  pub mid : Calls
+  pub reads : ReadsOn old first count came mid
+  pub out : IsReadOut count came mid new
+
+-- What a look finds whose first call found this, and left the front of the buffer so.
+abbrev pub LooksOnwards : (first : Got) → (before : List ℕ) → (mid : Calls) → (got : Got)
+    → (buf : List ℕ) → (new : Calls) → Type 0
+LooksOnwards (Octets len) before mid (Octets all) buf new =
+    ReadsFrame mid (take len before) (take all buf) new
+LooksOnwards Quiet before mid Quiet buf new = new ≡ mid
+LooksOnwards Gone before mid Gone buf new = new ≡ mid
+LooksOnwards first before mid got buf new = ⊥
+
+-- A look at the line: one call, and where octets came, further ones until no more is read.
+pub record ReadsLine (old : Calls) (got : Got) (buf : List ℕ) (new : Calls) : Type 0 where
+  pub first : Got
+  pub before : List ℕ
+  pub mid : Calls
+  pub once : ReadsOnce old first before mid
+  pub onwards : LooksOnwards first before mid got buf new
 
 -- one call, and how many of the octets it took
 pub record WritesOnce (old : Calls) (octets : List ℕ) (taken : ℕ) (new : Calls) : Type 0 where
@@ -69,7 +129,7 @@ pub record WritesAll (old : Calls) (octets : List ℕ) (is_taken : Bool) (new : 
 -- the octets that a stream took, in their order
 abbrev pub took : List Call → List ℕ
 took [] = []
-took (Received answer ∷ before) = took before
+took (Received octets answer ∷ before) = took before
 took (Waits is_waiting is_set ∷ before) = took before
 took (Sent octets answer ∷ before) = took before ++ take (taken_of answer) octets
 
@@ -87,35 +147,41 @@ pub record WritesFront (old : Calls) (octets : List ℕ) (is_taken : Bool) (new 
   pub taken : Took old (take count octets) new
   pub all : is_taken ≡ (count == length octets)
 
+-- what a look was answered: the octets that came, and how many, or why none did
+pub record Answer : Type 0 where
+  pub octets : List ℕ
+  pub count : Result ℕ Error
+
 -- one call, and how many octets it brought
 pub record DropsOnce (old : Calls) (count : ℕ) (new : Calls) : Type 0 where
-  pub answer : Result ℕ Error
-  pub asked : new ≡ called old (Received answer)
-  pub means : count ≡ taken_of answer
+  pub answer : Answer
+  pub asked : new ≡ called old (Received answer.octets answer.count)
+  pub means : count ≡ taken_of answer.count
 
 -- a look brought octets
-abbrev pub brings : Result ℕ Error → Bool
-brings answer = not (taken_of answer == 0)
+abbrev pub brings : Answer → Bool
+brings answer = not (taken_of answer.count == 0)
 
 -- how many octets looks brought
-abbrev pub brought : List (Result ℕ Error) → ℕ
+abbrev pub brought : List Answer → ℕ
 brought [] = 0
-brought (answer ∷ before) = brought before + taken_of answer
+brought (answer ∷ before) = brought before + taken_of answer.count
 
 -- looks that were answered so, the newest first
-abbrev pub looked : List (Result ℕ Error) → Calls → Calls
+abbrev pub looked : List Answer → Calls → Calls
 looked [] calls = calls
-looked (answer ∷ before) calls = called (looked before calls) (Received answer)
+looked (answer ∷ before) calls =
+    called (looked before calls) (Received answer.octets answer.count)
 
 -- They are at most 64, and each but the newest brought octets, which did so only if it is the 64th.
-abbrev pub IsDrained : List (Result ℕ Error) → Type 0
+abbrev pub IsDrained : List Answer → Type 0
 IsDrained [] = ⊥
 IsDrained (answer ∷ before) =
     All (λ a. brings a ≡ true) before × (length before ≤ 63)
     × (brings answer ≡ true → length before ≡ 63)
 
 pub record Drains (old : Calls) (count : ℕ) (new : Calls) : Type 0 where
-  pub looks : List (Result ℕ Error)
+  pub looks : List Answer
   pub drained : IsDrained looks
   pub counted : count ≡ brought looks
   pub asked : new ≡ looked looks old

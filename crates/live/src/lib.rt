@@ -48,7 +48,8 @@
 //! and how many octets that were is counted ([`late_octets_are_those_that_were_dropped`]).
 //!
 //! One call to a stream of the system is read as one fact about its answer: octets, quiet or gone,
-//! and taken only where all was taken; of a write in two calls a stream takes the octets once, in
+//! and taken only where all was taken; a look at the line goes on until its octets end as a line
+//! frame does, none come, or 15 times; of a write in two calls a stream takes the octets once, in
 //! their order; and what waits is read until nothing comes, or 64 times. What sockets do beyond
 //! that is no matter of a proof.
 #![tactic(auto)]

@@ -1,14 +1,14 @@
 //! Ends on the system's sockets and clock.
 //!
-//! Only a look at the line waits, for some milliseconds; the door and a connection are asked
-//! without a wait. So octets of the line are seen at once, those of a control centre after one look
-//! at a quiet line.
+//! Only a look at the line waits, for some milliseconds, and again behind octets that don't end a
+//! frame; the door and a connection are asked without a wait. So a frame of the line is seen at
+//! once, octets of a control centre after one look at a quiet line.
 ghost use Rattle.std.specs.Prelude.{◌≡◌, ◌≤◌, IfOk, None};
 ghost use Rattle.live.specs.Clocks.{BeginsAt};
 
 use crate::guests::Guests;
 use crate::redial::{Dialled, Dialler};
-use crate::stream::{drop_waiting, read_once, write_in_two, write_once};
+use crate::stream::{drop_waiting, read_line, read_once, write_in_two, write_once};
 use crate::wires::{Clock, Door, Got, Presence, Reached, SentAway, Visitor, Wire};
 use std::io::{Eprint, ErrorKind};
 use std::net::{
@@ -95,8 +95,8 @@ impl Wire for LineSocket {
 
     fn read(&mut self, buf: &mut [u8; 1024]) -> Got {
         match self {
-            LineSocket::Tcp(stream) => read_once(stream, buf),
-            LineSocket::Unix(stream) => read_once(stream, buf),
+            LineSocket::Tcp(stream) => read_line(stream, buf),
+            LineSocket::Unix(stream) => read_line(stream, buf),
         }
     }
 

@@ -1,8 +1,9 @@
 //! One call to a stream of the system, and what its answer means.
-ghost use Rattle.std.specs.Prelude.{◌≤◌, length};
+ghost use Rattle.std.specs.Prelude.{◌≡◌, ◌≤◌, length, take};
 ghost use Rattle.live.specs.Wires.{FitsBuffer};
 ghost use Rattle.live.specs.Streams.{ReadsOnce, WritesOnce, WritesAll, WritesFront};
-ghost use Rattle.live.specs.Streams.{DropsOnce, DropsWaiting, Drains};
+ghost use Rattle.live.specs.Streams.{DropsOnce, DropsWaiting, Drains, ReadsFrame, ReadsLine};
+ghost use Rattle.live.specs.Streams.{ReceivesOnce, ends_frame};
 
 use crate::wires::Got;
 use std::io;
@@ -14,19 +15,29 @@ use std::os::unix::net::UnixStream;
 // An end where octets never cease to come.
 const STALE_READS: u32 = 64;
 
+/// How often a look at the line goes on at the most behind its first octets.
+// A control centre isn't looked at meanwhile.
+const MORE_READS: u32 = 15;
+
+/// The end character of a line frame.
+const FRAME_END: u8 = 0x16;
+
+/// The single character.
+const SINGLE: u8 = 0xE5;
+
 /// Octets both ways, as the system has them. A stream that tells its calls adds the answer of each.
 pub(crate) trait Stream {
     ghost use Rattle.std.specs.Prelude.{◌≡◌, ◌≤◌, length, IfOk};
-    ghost use Rattle.live.specs.Streams.{Calls, Received, Sent, Waits, called};
+    ghost use Rattle.live.specs.Streams.{Calls, received, Sent, Waits, called};
     ghost use Rattle.std.specs.Result.{is_ok};
 
     /// Its calls, with what the system answered, the newest first, where it tells them.
     ghost calls: { Self → Calls };
 
     /// Octets that came, at the front of the buffer; 0 at the stream's end.
-    fn receive(&mut self, buf: &mut [u8; 1024]) -> io::Result<usize>
-        ensures bound { IfOk result (λ len. len ≤ 1024) }
-        ensures told { calls self.new ≡ called (calls self.old) (Received result) };
+    fn receive(&mut self, buf: &mut [u8]) -> io::Result<usize>
+        ensures bound { IfOk result (λ len. len ≤ length buf.new) }
+        ensures told { calls self.new ≡ called (calls self.old) (received buf.new result) };
 
     /// How many octets were taken, from the front.
     fn send(&mut self, octets: &[u8]) -> io::Result<usize>
@@ -43,7 +54,7 @@ impl Stream for TcpStream {
 
     ghost calls = { λ _. None };
 
-    fn receive(&mut self, buf: &mut [u8; 1024]) -> io::Result<usize> {
+    fn receive(&mut self, buf: &mut [u8]) -> io::Result<usize> {
         self.read(buf)
     }
 
@@ -61,7 +72,7 @@ impl Stream for UnixStream {
 
     ghost calls = { λ _. None };
 
-    fn receive(&mut self, buf: &mut [u8; 1024]) -> io::Result<usize> {
+    fn receive(&mut self, buf: &mut [u8]) -> io::Result<usize> {
         self.read(buf)
     }
 
@@ -78,7 +89,7 @@ impl Stream for UnixStream {
 /// wire's end.
 pub(crate) fn read_once<S: Stream>(stream: &mut S, buf: &mut [u8; 1024]) -> Got
     ensures fits { FitsBuffer result }
-    ensures reads { ReadsOnce (S.calls stream.old) result (S.calls stream.new) }
+    ensures reads { ReadsOnce (S.calls stream.old) result buf.new (S.calls stream.new) }
 {
     match stream.receive(buf) {
         Ok(0) => Got::Gone,
@@ -88,6 +99,62 @@ pub(crate) fn read_once<S: Stream>(stream: &mut S, buf: &mut [u8; 1024]) -> Got
             _ => Got::Gone,
         },
     }
+}
+
+/// Reads once, and goes on where octets came that don't end as a line frame does, for as long as
+/// each call brings some, 15 times at the most. Behind a whole frame it waits for nothing.
+// Where a device server gives an answer octet by octet each octet would else be an event, and a
+// line of the state on disk.
+pub(crate) fn read_line<S: Stream>(stream: &mut S, buf: &mut [u8; 1024]) -> Got
+    ensures fits { FitsBuffer result }
+    ensures reads { ReadsLine (S.calls stream.old) result buf.new (S.calls stream.new) }
+{
+    match read_once(stream, buf) {
+        Got::Octets(len) => Got::Octets(read_on(stream, buf, len)),
+        Got::Quiet => Got::Quiet,
+        Got::Gone => Got::Gone,
+    }
+}
+
+/// Reads on behind so many octets, and answers how many there are then.
+fn read_on<S: Stream>(stream: &mut S, buf: &mut [u8; 1024], first: usize) -> usize
+    requires some { 1 ≤ first }
+    requires fits { first ≤ 1024 }
+    ensures least { first ≤ result }
+    ensures bound { result ≤ 1024 }
+    ensures reads { ReadsFrame (S.calls stream.old) (take first buf.old) (take result buf.new)
+        (S.calls stream.new) }
+{
+    let mut len = first;
+    for _ in 0..MORE_READS {
+        if ends_frame(&buf[..len]) {
+            return len;
+        }
+        let count = receive_once(stream, &mut buf[len..]);
+        if count == 0 {
+            return len;
+        }
+        len += count;
+    }
+    len
+}
+
+/// The octets end as a line frame does.
+fn ends_frame(octets: &[u8]) -> bool
+    requires { 1 ≤ length octets.now }
+    ensures { result ≡ ends_frame octets.now }
+{
+    let last = octets[octets.len() - 1];
+    last == FRAME_END || last == SINGLE
+}
+
+/// Reads once, and answers how many octets came.
+fn receive_once<S: Stream>(stream: &mut S, buf: &mut [u8]) -> usize
+    ensures bound { result ≤ length buf.new }
+    ensures receives { ReceivesOnce (S.calls stream.old) (take result buf.new) result
+        (S.calls stream.new) }
+{
+    stream.receive(buf).unwrap_or(0)
 }
 
 /// Writes in one call, so that it waits no longer than the stream's timeout, and answers whether
@@ -164,5 +231,8 @@ fn drop_once<S: Stream>(stream: &mut S) -> u64
     ensures bound { result ≤ 1024 }
     ensures drops { DropsOnce (S.calls stream.old) result (S.calls stream.new) }
 {
-    stream.receive(&mut [0; 1024]).unwrap_or(0) as u64
+    receive_once(stream, &mut [0; 1024]) as u64
 }
+
+#[cfg(test)]
+mod tests;

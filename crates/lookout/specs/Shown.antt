@@ -12,9 +12,9 @@ use Rattle.runlog.specs.declared.traffic.Traffic.{Traffic}
 use Rattle.live.specs.declared.wires.Presence.{Presence}
 use Rattle.live.specs.declared.wires.Presence.TheVariants.{Untried, Away, There, Heard}
 use Rattle.lookout.specs.declared.known.Known.{Known}
-use Rattle.status.specs.declared.snapshot.Standing.{Standing}
-use Rattle.status.specs.declared.snapshot.Standing.TheVariants as standing
-use Rattle.status.specs.declared.snapshot.Station.{Station}
+use Rattle.status.specs.declared.snapshot.LinkState.{LinkState}
+use Rattle.status.specs.declared.snapshot.LinkState.TheVariants as standing
+use Rattle.status.specs.declared.snapshot.StationView.{StationView}
 use Rattle.status.specs.declared.snapshot.Keeping.{Keeping}
 use Rattle.status.specs.declared.snapshot.Keeping.TheVariants.{Kept, NotKept}
 use Rattle.live.specs.declared.watched.Notice.{Notice}
@@ -43,7 +43,7 @@ shown_as names s = record {
 abbrev pub AreKnown : List Name → List Setting → List Known → Type 0
 AreKnown names settings known = map known_as known ≡ map (shown_as names) settings
 
-abbrev pub standing_of : Told → Standing
+abbrev pub standing_of : Told → LinkState
 standing_of stands.NotAsked = standing.NotAsked
 standing_of stands.Asked = standing.Asked
 standing_of stands.Up = standing.Up
@@ -51,7 +51,7 @@ standing_of stands.Silent = standing.Silent
 standing_of stands.Down = standing.Down
 
 -- a row has the numbers of its station
-pub record IsStation (known : Known) (watch : StationWatch) (traffic : Traffic) (row : Station)
+pub record IsStation (known : Known) (watch : StationWatch) (traffic : Traffic) (row : StationView)
     : Type 0 where
   pub name : row.name.now ≡ string_bytes known.name
   pub address : row.address ≡ watch.address

@@ -7,7 +7,7 @@ use crate::shown::{centre_of, keeping_after, line_of, rows_of};
 use gateway::{Config, Gateway};
 use live::Notice;
 use runlog::{Names, Watch, taken_places};
-use status::{Door, Hour, Keeping, Queue, Snapshot, Visitors};
+use status::{Hour, Keeping, Queue, Snapshot, StreamSource, Visitors};
 use std::alloc::{AllocError, Global};
 
 /// How long after a turn of the visitors the next one follows, in ms of the run.
@@ -46,14 +46,14 @@ struct Shown {
 
 /// Who looks at a run through this door.
 #[derive(Drop)]
-pub struct Lookout<D: Door + Drop> {
+pub struct Lookout<D: StreamSource + Drop> {
     visitors: Visitors<D>,
     shown: Shown,
     /// When the visitors had a turn last, in ms.
     turned: Option<u64>,
 }
 
-impl<D: Door + Drop> Lookout<D> {
+impl<D: StreamSource + Drop> Lookout<D> {
     /// Who looks through this door at a run with these settings. All memory is taken here.
     ///
     /// # Errors
@@ -170,7 +170,7 @@ impl Shown {
 }
 
 /// Gives the visitors a turn at what is shown.
-fn turn<D: Door + Drop>(visitors: &mut Visitors<D>, shown: &Shown, watch: &Watch) {
+fn turn<D: StreamSource + Drop>(visitors: &mut Visitors<D>, shown: &Shown, watch: &Watch) {
     let rows = rows_of(shown.known.as_slice(), watch);
     let settings = settings_of(shown.chosen.as_slice());
     let now = watch.moment();

@@ -6,32 +6,32 @@ use crate::known::Known;
 use arrayvec::ArrayVec;
 use live::{Notice, Presence};
 use runlog::{Standing as Told, StationWatch, Traffic, Watch};
-use status::{Centre, Keeping, Line, Standing, Station};
+use status::{CentreView, Keeping, LineView, LinkState, StationView};
 
 /// The most stations that a line has.
 const MOST_STATIONS: usize = 32;
 
 /// The rows of a page.
-pub(crate) type Rows<'a> = ArrayVec<Station<'a>, MOST_STATIONS>;
+pub(crate) type Rows<'a> = ArrayVec<StationView<'a>, MOST_STATIONS>;
 
 /// How a station stands, in the words of a page.
-fn standing_of(told: Told) -> Standing
+fn standing_of(told: Told) -> LinkState
     ensures { result ≡ spec.standing_of told }
 {
     match told {
-        Told::NotAsked => Standing::NotAsked,
-        Told::Asked => Standing::Asked,
-        Told::Up => Standing::Up,
-        Told::Silent => Standing::Silent,
-        Told::Down => Standing::Down,
+        Told::NotAsked => LinkState::NotAsked,
+        Told::Asked => LinkState::Asked,
+        Told::Up => LinkState::Up,
+        Told::Silent => LinkState::Silent,
+        Told::Down => LinkState::Down,
     }
 }
 
 /// A station's row.
-fn station_of<'a>(known: &'a Known, watch: &StationWatch, traffic: &Traffic) -> Station<'a>
+fn station_of<'a>(known: &'a Known, watch: &StationWatch, traffic: &Traffic) -> StationView<'a>
     ensures { spec.IsStation known.entry.now watch.now traffic.now result }
 {
-    Station {
+    StationView {
         name: known.name.as_str(),
         address: watch.address(),
         common_address: known.common_address,
@@ -78,11 +78,11 @@ fn is_there(presence: Presence) -> bool
 }
 
 /// The line.
-pub(crate) fn line_of(watch: &Watch) -> Line
+pub(crate) fn line_of(watch: &Watch) -> LineView
     ensures there { result.is_there ≡ spec.is_there watch.now.line.presence }
     ensures since { result.since_ms ≡ watch.now.line.since }
 {
-    Line {
+    LineView {
         is_there: is_there(watch.line_presence()),
         since_ms: watch.line_since(),
     }
@@ -94,15 +94,15 @@ pub(crate) fn centre_of<'a>(
     peer: &'a str,
     gone_since: u64,
     unacknowledged: u64,
-) -> Centre<'a> {
+) -> CentreView<'a> {
     match watch.opening() {
-        Some(opening) => Centre {
+        Some(opening) => CentreView {
             peer: Some(peer),
             is_started: opening.is_started,
             since_ms: opening.since,
             unacknowledged,
         },
-        None => Centre {
+        None => CentreView {
             peer: None,
             is_started: false,
             since_ms: gone_since,

@@ -2,7 +2,7 @@
 use Rattle.std.proofs.Common.{◌≡◌, ℕ, zero, suc, ◌<◌, List, [], ◌∷◌, Option, Some, None, length}
 use Rattle.std.proofs.Common.{get_or, set, take, drop, refl, ap, arith}
 use Rattle.runlog.specs.Traffic.{traffic_line, first_line, behind}
-use Rattle.runlog.specs.declared.note.Line.{Line}
+use Rattle.runlog.specs.declared.note.LogLine.{LogLine}
 use Rattle.runlog.specs.declared.traffic.Traffic.{Traffic}
 
 -- this one has none
@@ -13,15 +13,15 @@ pub none_more : (now i : ℕ) (xs : List Traffic) (d t : Traffic) → i < length
 none_more now i [] d t less e = absurd (omega (arith, less))
 none_more now zero (x ∷ xs) d t less e = rw e refl
 none_more now (suc i) (x ∷ xs) d t less e =
-    ap (λ (r : List Traffic × Option Line). (x ∷ r.0, r.1))
+    ap (λ (r : List Traffic × Option LogLine). (x ∷ r.0, r.1))
     (none_more now i xs d t (omega (arith, less)) e)
 
 -- this one has
-pub some_last : (now i : ℕ) (xs : List Traffic) (d t : Traffic) (line : Line) → i < length xs
+pub some_last : (now i : ℕ) (xs : List Traffic) (d t : Traffic) (line : LogLine) → i < length xs
     → traffic_line now (get_or xs i d) ≡ (t, Some line)
     → (set xs i t, Some line) ≡ behind (take i xs) (first_line now (drop i xs))
 some_last now i [] d t line less e = absurd (omega (arith, less))
 some_last now zero (x ∷ xs) d t line less e = rw e refl
 some_last now (suc i) (x ∷ xs) d t line less e =
-    ap (λ (r : List Traffic × Option Line). (x ∷ r.0, r.1))
+    ap (λ (r : List Traffic × Option LogLine). (x ∷ r.0, r.1))
     (some_last now i xs d t line (omega (arith, less)) e)

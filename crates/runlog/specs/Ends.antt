@@ -12,7 +12,7 @@ use Rattle.live.specs.declared.wires.Presence.TheVariants as presence
 use Rattle.live.specs.declared.wires.Presence.TheVariants.{Untried, Away}
 use Rattle.runlog.specs.Limits.{asked, is_free, is_minute_after, one_more}
 use Rattle.runlog.specs.declared.limit.Limit.{Limit}
-use Rattle.runlog.specs.declared.note.Line.{Line}
+use Rattle.runlog.specs.declared.note.LogLine.{LogLine}
 use Rattle.runlog.specs.declared.note.Note.{Note}
 use Rattle.runlog.specs.declared.note.Note.TheVariants as note
 use Rattle.runlog.specs.declared.ends.LineTold.{LineTold}
@@ -25,16 +25,16 @@ use Rattle.runlog.specs.declared.ends.Opening.{Opening}
 abbrev pub new_limit : Limit
 new_limit = record { told = None; left_out = 0 }
 
-abbrev pub line_by : Note → ℕ → Option ℕ → Option Line
+abbrev pub line_by : Note → ℕ → Option ℕ → Option LogLine
 line_by what now None = None
 line_by what now (Some left_out) = Some (record { moment = now; note = what; left_out = left_out })
 
 -- something happened: a line, or it is counted as left out
-abbrev pub happened : Note → Limit → ℕ → Limit × Option Line
+abbrev pub happened : Note → Limit → ℕ → Limit × Option LogLine
 happened what limit now = ((asked limit now).0, line_by what now (asked limit now).1)
 
 -- something is in another state: a line, or it is told once a second has passed
-abbrev pub changed : Note → Limit → ℕ → Limit × Option Line
+abbrev pub changed : Note → Limit → ℕ → Limit × Option LogLine
 changed what limit now = if is_free limit now then happened what limit now else (limit, None)
 
 -- The line
@@ -66,7 +66,7 @@ line_change Lost presence.There false = None
 line_change told presence is_minute = Some (There, note.LineReached)
 
 -- it was told, or not yet
-abbrev pub line_told : LineTold → Option Line → LineWatch → LineWatch × Option Line
+abbrev pub line_told : LineTold → Option LogLine → LineWatch → LineWatch × Option LogLine
 line_told told None w = (w, None)
 line_told told (Some line) w = (record w { told = told }, Some line)
 
@@ -75,14 +75,14 @@ is_away Away = true
 is_away presence = false
 
 abbrev pub line_tried : (is_away : Bool) → ℕ → LineTold → Note → LineWatch
-    → LineWatch × Option Line
+    → LineWatch × Option LogLine
 line_tried true now told what w = line_told told (changed what w.away now).1
     (record w { away = (changed what w.away now).0 })
 line_tried false now told what w = line_told told (changed what w.there now).1
     (record w { there = (changed what w.there now).0 })
 
 abbrev pub line_changed : Option (LineTold × Note) → (is_away : Bool) → ℕ → LineWatch
-    → LineWatch × Option Line
+    → LineWatch × Option LogLine
 line_changed None is_away now w = (w, None)
 line_changed (Some (told, what)) is_away now w = line_tried is_away now told what w
 
@@ -108,12 +108,12 @@ presence_noted presence now w = record w {
   since = if beq (is_there presence) (is_there w.presence) then w.since else now;
 }
 
-abbrev pub line_seen_so : Presence → ℕ → LineWatch → LineWatch × Option Line
+abbrev pub line_seen_so : Presence → ℕ → LineWatch → LineWatch × Option LogLine
 line_seen_so presence now w =
     line_changed (line_change w.told presence (is_minute_after w.away.told now)) (is_away presence)
     now (presence_noted presence now w)
 
-abbrev pub line_seen : Presence → ℕ → LineWatch → LineWatch × Option Line
+abbrev pub line_seen : Presence → ℕ → LineWatch → LineWatch × Option LogLine
 line_seen presence now w = line_seen_so (seen_as w.is_heard presence) now w
 
 -- Those who aren't let in
@@ -121,17 +121,17 @@ line_seen presence now w = line_seen_so (seen_as w.is_heard presence) now w
 abbrev pub new_door : DoorWatch
 new_door = record { told = 0; limit = new_limit }
 
-abbrev pub door_told : ℕ → Option Line → DoorWatch → DoorWatch × Option Line
+abbrev pub door_told : ℕ → Option LogLine → DoorWatch → DoorWatch × Option LogLine
 door_told count None w = (w, None)
 door_told count (Some line) w = (record w { told = count }, Some line)
 
 -- a line tells how many came since the one before
-abbrev pub door_tried : SentAway → ℕ → DoorWatch → DoorWatch × Option Line
+abbrev pub door_tried : SentAway → ℕ → DoorWatch → DoorWatch × Option LogLine
 door_tried s now w =
     let told = changed (note.SentAway (s.count - w.told) s.last) w.limit now in
     door_told s.count told.1 (record w { limit = told.0 })
 
-abbrev pub door_seen : SentAway → ℕ → DoorWatch → DoorWatch × Option Line
+abbrev pub door_seen : SentAway → ℕ → DoorWatch → DoorWatch × Option LogLine
 door_seen s now w = if nat_le s.count w.told then (w, None) else door_tried s now w
 
 -- The connection
@@ -148,7 +148,8 @@ new_connection = record {
   closed = new_limit;
 }
 
-abbrev pub connection_opened : Option IpAddr → ℕ → ConnectionWatch → ConnectionWatch × Option Line
+abbrev pub connection_opened : Option IpAddr → ℕ → ConnectionWatch → ConnectionWatch
+    × Option LogLine
 connection_opened peer now w =
     let told = happened (note.Opened peer) w.opened now in (
       record w {
@@ -160,7 +161,7 @@ connection_opened peer now w =
       told.1,
     )
 
-abbrev pub connection_cut : CutCause → ℕ → ConnectionWatch → ConnectionWatch × Option Line
+abbrev pub connection_cut : CutCause → ℕ → ConnectionWatch → ConnectionWatch × Option LogLine
 connection_cut cause now w = let told = happened (note.Cut cause) w.cut now in
     (record w { opening = None; cut = told.0 }, told.1)
 
@@ -169,7 +170,7 @@ abbrev pub open_after : Close → Option Opening → Option Opening
 open_after close.Replaced opening = opening
 open_after cause opening = None
 
-abbrev pub connection_closed : Close → ℕ → ConnectionWatch → ConnectionWatch × Option Line
+abbrev pub connection_closed : Close → ℕ → ConnectionWatch → ConnectionWatch × Option LogLine
 connection_closed cause now w = let told = happened (note.Closed cause) w.closed now in
     (record w { opening = open_after cause w.opening; closed = told.0 }, told.1)
 
@@ -189,15 +190,15 @@ started_so is_started (Some opening) =
 abbrev pub transfer_noted : (is_started : Bool) → ConnectionWatch → ConnectionWatch
 transfer_noted is_started w = record w { opening = started_so is_started w.opening }
 
-abbrev pub connection_started : ℕ → ConnectionWatch → ConnectionWatch × Option Line
+abbrev pub connection_started : ℕ → ConnectionWatch → ConnectionWatch × Option LogLine
 connection_started now w = let told = happened note.Started w.started now in
     (record (transfer_noted true w) { started = told.0 }, told.1)
 
-abbrev pub connection_stopped : ℕ → ConnectionWatch → ConnectionWatch × Option Line
+abbrev pub connection_stopped : ℕ → ConnectionWatch → ConnectionWatch × Option LogLine
 connection_stopped now w = let told = happened note.Stopped w.stopped now in
     (record (transfer_noted false w) { stopped = told.0 }, told.1)
 
-abbrev pub connection_sent : List ℕ → ℕ → ConnectionWatch → ConnectionWatch × Option Line
+abbrev pub connection_sent : List ℕ → ℕ → ConnectionWatch → ConnectionWatch × Option LogLine
 connection_sent octets now w =
     if bytes_eq octets start_confirmed then connection_started now w else
     if bytes_eq octets stop_confirmed then connection_stopped now w else (w, None)

@@ -15,22 +15,22 @@ use Rattle.runlog.specs.declared.order.Value.{Value}
 use Rattle.runlog.specs.declared.order.Order.{Order}
 use Rattle.runlog.specs.declared.stations.Standing.{Standing}
 use Rattle.runlog.specs.declared.ends.LineWatch.{LineWatch}
-use Rattle.runlog.specs.declared.note.Line.{Line}
+use Rattle.runlog.specs.declared.note.LogLine.{LogLine}
 use Rattle.runlog.specs.declared.note.Note.{Note}
 use Rattle.runlog.specs.declared.stations.StationWatch.{StationWatch}
 use Rattle.runlog.specs.declared.traffic.Traffic.{Traffic}
 
-abbrev pub at : ℕ → Note → Line
+abbrev pub at : ℕ → Note → LogLine
 at now what = record { moment = now; note = what; left_out = 0 }
 
 -- the lines of requests, each with its moment, the oldest first
-abbrev pub lines_of_requests : LinkSize → List (ℕ × List ℕ) → List StationWatch → List Line
+abbrev pub lines_of_requests : LinkSize → List (ℕ × List ℕ) → List StationWatch → List LogLine
 lines_of_requests size [] ws = []
 lines_of_requests size (x ∷ xs) ws =
     option_to_list (asked size x.1 x.0 ws).1 ++ lines_of_requests size xs (asked size x.1 x.0 ws).0
 
 -- and of looks at the line, each with its moment
-abbrev pub lines_of_looks : List (ℕ × Presence) → LineWatch → List Line
+abbrev pub lines_of_looks : List (ℕ × Presence) → LineWatch → List LogLine
 lines_of_looks [] w = []
 lines_of_looks (x ∷ xs) w =
     option_to_list (line_seen x.1 x.0 w).1 ++ lines_of_looks xs (line_seen x.1 x.0 w).0
@@ -40,13 +40,13 @@ order kind act ca object value =
     record { kind = kind; act = act; ca = ca; object = object; value = value }
 
 -- the lines of what is gathered
-abbrev pub lines_after : Gathered → List Call → List Line
+abbrev pub lines_after : Gathered → List Call → List LogLine
 lines_after g [] = []
 lines_after g (Add what ∷ calls) = lines_after (added what g) calls
 lines_after g (Look now ∷ calls) =
     option_to_list (line_of now g).1 ++ lines_after (line_of now g).0 calls
 
-abbrev pub lines_of_calls : List Call → List Line
+abbrev pub lines_of_calls : List Call → List LogLine
 lines_of_calls calls = lines_after nothing calls
 
 -- how a station stands after each request to it, and since when
@@ -57,13 +57,13 @@ standings_of size (x ∷ xs) w =
     (standing_of v, v.since) ∷ standings_of size xs v
 
 -- the lines of what befalls a station, each with its moment, at which a line is sought
-abbrev pub lines_of_traffic : List (ℕ × Mishap) → Traffic → List Line
+abbrev pub lines_of_traffic : List (ℕ × Mishap) → Traffic → List LogLine
 lines_of_traffic [] t = []
 lines_of_traffic (x ∷ xs) t =
     let told = traffic_line x.0 (suffered x.1 t) in
     option_to_list told.1 ++ lines_of_traffic xs told.0
 
-abbrev pub lines_of_mishaps : List (ℕ × Mishap) → (address : ℕ) → List Line
+abbrev pub lines_of_mishaps : List (ℕ × Mishap) → (address : ℕ) → List LogLine
 lines_of_mishaps xs address = lines_of_traffic xs (new_traffic address)
 
 -- two stations with which nothing has passed yet

@@ -21,7 +21,7 @@ use Rattle.runlog.specs.Stations.{control_place}
 use Rattle.runlog.specs.Traffic.{reported, ended}
 use Rattle.runlog.specs.declared.exchange.Awaited.{Awaited}
 use Rattle.runlog.specs.declared.exchange.Awaited.TheVariants as awaited
-use Rattle.runlog.specs.declared.fate.Fate.TheVariants as fate
+use Rattle.runlog.specs.declared.fate.CommandFate.TheVariants as fate
 use Rattle.runlog.specs.declared.traffic.Traffic.{Traffic}
 
 -- the place of the station that was asked last, if it is one of the settings; the same before the

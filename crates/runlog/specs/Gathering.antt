@@ -4,7 +4,7 @@ use Rattle.std.specs.Prelude.{ℕ, ◌+◌, List, [], ◌∷◌, Option, Some, N
 use Rattle.runlog.specs.Ends.{changed, new_limit}
 use Rattle.runlog.specs.Limits.{is_minute_after, one_more}
 use Rattle.runlog.specs.declared.limit.Limit.{Limit}
-use Rattle.runlog.specs.declared.note.Line.{Line}
+use Rattle.runlog.specs.declared.note.LogLine.{LogLine}
 use Rattle.runlog.specs.declared.note.Note.{Note}
 use Rattle.runlog.specs.declared.gathered.Gathered.{Gathered}
 
@@ -20,20 +20,20 @@ added what g = record {
   last = Some what;
 }
 
-abbrev pub told_by : Limit × Option Line → Gathered → Gathered × Option Line
+abbrev pub told_by : Limit × Option LogLine → Gathered → Gathered × Option LogLine
 told_by (limit, None) g = (record g { limit = limit }, None)
 told_by (limit, Some line) g = (record { limit = limit; last = None }, Some line)
 
-abbrev pub line_by : Option Note → ℕ → Gathered → Gathered × Option Line
+abbrev pub line_by : Option Note → ℕ → Gathered → Gathered × Option LogLine
 line_by None now g = (g, None)
 line_by (Some what) now g = told_by (changed what g.limit now) g
 
 -- the line of the last that came, where a second has passed since the one before
-abbrev pub line_of : ℕ → Gathered → Gathered × Option Line
+abbrev pub line_of : ℕ → Gathered → Gathered × Option LogLine
 line_of now g = line_by g.last now g
 
 -- and where a minute has passed
-abbrev pub minute_line_of : ℕ → Gathered → Gathered × Option Line
+abbrev pub minute_line_of : ℕ → Gathered → Gathered × Option LogLine
 minute_line_of now g = if is_minute_after g.limit.told now then line_of now g else (g, None)
 
 -- ---- The law: of any calls
@@ -43,7 +43,7 @@ pub data Call : Type 0 where
   Look : (now : ℕ) → Call
 
 -- the moments at which lines were told, and how many each says that were left out before it
-abbrev pub with_line : Option Line → List (ℕ × ℕ) → List (ℕ × ℕ)
+abbrev pub with_line : Option LogLine → List (ℕ × ℕ) → List (ℕ × ℕ)
 with_line None told = told
 with_line (Some line) told = (line.moment, line.left_out) ∷ told
 

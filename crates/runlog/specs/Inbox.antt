@@ -12,7 +12,7 @@ use Rattle.runlog.specs.Gathering as gathering
 use Rattle.runlog.specs.Orders.{octet, order_of}
 use Rattle.runlog.specs.declared.fate.Reason.TheVariants as reason
 use Rattle.runlog.specs.declared.gathered.Gathered.{Gathered}
-use Rattle.runlog.specs.declared.note.Line.{Line}
+use Rattle.runlog.specs.declared.note.LogLine.{LogLine}
 use Rattle.runlog.specs.declared.note.Note.TheVariants as note
 use Rattle.runlog.specs.declared.order.Order.{Order}
 
@@ -113,17 +113,17 @@ judged_by (orders, rest) s b = record {
 abbrev pub judged : State → Option IpAddr → Inbox → Inbox
 judged s peer b = judged_by (all_noted (length b.octets) s b.is_closed peer b.octets b.orders) s b
 
-abbrev pub refused_line : ℕ → Orders → Orders × Option Line
+abbrev pub refused_line : ℕ → Orders → Orders × Option LogLine
 refused_line now c =
     let told = gathering.line_of now c.refused in (record c { refused = told.0 }, told.1)
 
-abbrev pub unless_ordered : Gathered × Option Line → ℕ → Orders → Orders × Option Line
+abbrev pub unless_ordered : Gathered × Option LogLine → ℕ → Orders → Orders × Option LogLine
 unless_ordered (ordered, Some line) now c = (record c { ordered = ordered }, Some line)
 unless_ordered (ordered, None) now c = refused_line now (record c { ordered = ordered })
 
 -- a line of the commands that came, if one is to be told
-abbrev pub orders_line : ℕ → Orders → Orders × Option Line
+abbrev pub orders_line : ℕ → Orders → Orders × Option LogLine
 orders_line now c = unless_ordered (gathering.line_of now c.ordered) now c
 
-abbrev pub line_of : ℕ → Inbox → Inbox × Option Line
+abbrev pub line_of : ℕ → Inbox → Inbox × Option LogLine
 line_of now b = let told = orders_line now b.orders in (record b { orders = told.0 }, told.1)

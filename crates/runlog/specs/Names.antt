@@ -6,7 +6,7 @@ use Rattle.runlog.specs.declared.names.Name.{Name}
 use Rattle.runlog.specs.declared.names.Names.{Names}
 use Rattle.runlog.specs.declared.names.Subject.{Subject}
 use Rattle.runlog.specs.declared.names.Subject.TheVariants as subject
-use Rattle.runlog.specs.declared.note.Line.{Line}
+use Rattle.runlog.specs.declared.note.LogLine.{LogLine}
 use Rattle.runlog.specs.declared.note.Note.{Note}
 use Rattle.runlog.specs.declared.note.Note.TheVariants as note
 
@@ -46,5 +46,5 @@ name_words None = []
 name_words (Some name) = codes " [" ++ name ++ codes "]"
 
 -- what stands behind the line's UTC time: the name of what it is told of is last
-abbrev pub named_text : Names → Line → List ℕ
+abbrev pub named_text : Names → LogLine → List ℕ
 named_text names l = line_text l ++ name_words (name_for names l.note)

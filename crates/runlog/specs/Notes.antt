@@ -12,7 +12,7 @@ use Rattle.live.specs.declared.watched.Notice.TheVariants as notices
 use Rattle.runlog.specs.OrderWords.{order_words, reason_words, fate_words, type_name}
 use Rattle.runlog.specs.declared.content.Skip.{Skip}
 use Rattle.runlog.specs.declared.content.Skip.TheVariants as skip
-use Rattle.runlog.specs.declared.note.Line.{Line}
+use Rattle.runlog.specs.declared.note.LogLine.{LogLine}
 use Rattle.runlog.specs.declared.note.Tally.{Tally}
 use Rattle.runlog.specs.declared.note.Trouble.{Trouble}
 use Rattle.runlog.specs.declared.note.Trouble.TheVariants as trouble
@@ -135,5 +135,5 @@ abbrev pub left_out_words : ℕ → List ℕ
 left_out_words n = if n == 0 then [] else codes " (" ++ decimal n ++ codes " left out)"
 
 -- what stands behind the line's UTC time
-abbrev pub line_text : Line → List ℕ
+abbrev pub line_text : LogLine → List ℕ
 line_text l = (decimal l.moment ++ codes " " ++ words l.note) ++ left_out_words l.left_out

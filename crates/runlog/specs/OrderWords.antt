@@ -14,8 +14,8 @@ use Rattle.runlog.specs.declared.order.Value.TheVariants as value
 use Rattle.runlog.specs.declared.order.Order.{Order}
 use Rattle.runlog.specs.declared.fate.Reason.{Reason}
 use Rattle.runlog.specs.declared.fate.Reason.TheVariants as reason
-use Rattle.runlog.specs.declared.fate.Fate.{Fate}
-use Rattle.runlog.specs.declared.fate.Fate.TheVariants as fate
+use Rattle.runlog.specs.declared.fate.CommandFate.{CommandFate}
+use Rattle.runlog.specs.declared.fate.CommandFate.TheVariants as fate
 
 abbrev pub name_of : TypeId → List ℕ
 name_of type_id.MSpNa1 = codes "M_SP_NA_1"
@@ -106,7 +106,7 @@ reason_words (reason.Rule rule) = rule_words rule
 reason_words reason.Closed = codes "its connection was closed"
 
 -- what became of a command at its station
-abbrev pub fate_words : Fate → ℕ → List ℕ
+abbrev pub fate_words : CommandFate → ℕ → List ℕ
 fate_words fate.Sent station = codes " sent to station " ++ decimal station
 fate_words fate.Confirmed station = codes " confirmed by station " ++ decimal station
 fate_words fate.Denied station = codes " refused by station " ++ decimal station

@@ -3,8 +3,8 @@
 use Rattle.std.specs.Prelude.{ℕ}
 use Rattle.live.specs.declared.watched.Notice.{Notice}
 use Rattle.live.specs.declared.watched.Notice.TheVariants as notices
-use Rattle.runlog.specs.declared.fate.Fate.{Fate}
-use Rattle.runlog.specs.declared.fate.Fate.TheVariants as fate
+use Rattle.runlog.specs.declared.fate.CommandFate.{CommandFate}
+use Rattle.runlog.specs.declared.fate.CommandFate.TheVariants as fate
 use Rattle.runlog.specs.declared.note.Note.{Note}
 use Rattle.runlog.specs.declared.note.Note.TheVariants as note
 use Rattle.runlog.specs.declared.severity.Severity.{Severity}
@@ -21,7 +21,7 @@ abbrev pub notice_severity : Notice → Severity
 notice_severity notices.NotKept = Error
 notice_severity notices.KeptAgain = Noted
 
-abbrev pub fate_severity : Fate → Severity
+abbrev pub fate_severity : CommandFate → Severity
 fate_severity fate.Sent = Info
 fate_severity fate.Confirmed = Info
 fate_severity fate.Terminated = Info

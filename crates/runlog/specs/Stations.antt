@@ -10,7 +10,7 @@ use Rattle.link.specs.declared.control.PrimaryFunction.TheVariants.{LinkStatus}
 use Rattle.runlog.specs.Ends.{changed, happened, new_limit}
 use Rattle.runlog.specs.Limits.{one_more, is_minute_after}
 use Rattle.runlog.specs.Orders.{octet}
-use Rattle.runlog.specs.declared.note.Line.{Line}
+use Rattle.runlog.specs.declared.note.LogLine.{LogLine}
 use Rattle.runlog.specs.declared.note.Note.TheVariants as note
 use Rattle.runlog.specs.declared.stations.Asking.{Asking}
 use Rattle.runlog.specs.declared.stations.Asking.TheVariants.{Status, Counted, Other, Missed}
@@ -60,31 +60,32 @@ new_station tries address = record {
   gap = new_limit;
 }
 
-abbrev pub station_told : StationTold → Option Line → StationWatch → StationWatch × Option Line
+abbrev pub station_told : StationTold → Option LogLine → StationWatch → StationWatch
+    × Option LogLine
 station_told told None w = (w, None)
 station_told told (Some line) w = (record w { told = told }, Some line)
 
-abbrev pub told_asked : ℕ → StationWatch → StationWatch × Option Line
+abbrev pub told_asked : ℕ → StationWatch → StationWatch × Option LogLine
 told_asked now w = let told = changed (note.Asked w.address) w.asked now in
     station_told Asked told.1 (record w { asked = told.0 })
 
-abbrev pub told_up : ℕ → StationWatch → StationWatch × Option Line
+abbrev pub told_up : ℕ → StationWatch → StationWatch × Option LogLine
 told_up now w = let told = changed (note.Up w.address) w.up now in
     station_told Up told.1 (record w { up = told.0 })
 
-abbrev pub told_down : ℕ → StationWatch → StationWatch × Option Line
+abbrev pub told_down : ℕ → StationWatch → StationWatch × Option LogLine
 told_down now w = let told = changed (note.Down w.address) w.down now in
     station_told Down told.1 (record w { down = told.0 })
 
-abbrev pub told_silent : StationTold → ℕ → StationWatch → StationWatch × Option Line
+abbrev pub told_silent : StationTold → ℕ → StationWatch → StationWatch × Option LogLine
 told_silent next now w = let told = changed (note.Silent w.address) w.silent now in
     station_told next told.1 (record w { silent = told.0 })
 
-abbrev pub told_again : ℕ → StationWatch → StationWatch × Option Line
+abbrev pub told_again : ℕ → StationWatch → StationWatch × Option LogLine
 told_again now w = let told = changed (note.Again w.address) w.again now in
     station_told Up told.1 (record w { again = told.0 })
 
-abbrev pub told_missed : ℕ → StationWatch → StationWatch × Option Line
+abbrev pub told_missed : ℕ → StationWatch → StationWatch × Option LogLine
 told_missed now w = let told = happened (note.Gap w.address) w.gap now in
     (record w { gap = told.0 }, told.1)
 
@@ -143,26 +144,26 @@ counted asking now w = since_noted now w (counting asking w)
 
 -- that it doesn't answer is told
 abbrev pub silent_by : (is_unanswered : Bool) → StationTold → ℕ → StationWatch
-    → StationWatch × Option Line
+    → StationWatch × Option LogLine
 silent_by true next now w = told_silent next now w
 silent_by false next now w = (w, None)
 
 -- and again a minute after it was told last
-abbrev pub still_silent : StationTold → ℕ → StationWatch → StationWatch × Option Line
+abbrev pub still_silent : StationTold → ℕ → StationWatch → StationWatch × Option LogLine
 still_silent next now w = silent_by (is_minute_after w.silent.told now) next now w
 
-abbrev pub unheard_by : (is_unanswered : Bool) → ℕ → StationWatch → StationWatch × Option Line
+abbrev pub unheard_by : (is_unanswered : Bool) → ℕ → StationWatch → StationWatch × Option LogLine
 unheard_by true now w = still_silent Unheard now w
 unheard_by false now w = (w, None)
 
-abbrev pub again_by : (is_unanswered : Bool) → ℕ → StationWatch → StationWatch × Option Line
+abbrev pub again_by : (is_unanswered : Bool) → ℕ → StationWatch → StationWatch × Option LogLine
 again_by true now w = still_silent Silent now w
 again_by false now w = told_again now w
 
 -- A station that is asked for its status is told once; one that gets counted requests is up, and
 -- down once it is asked again. One that doesn't answer is told, be it up or not, again each minute,
 -- and that it answers again.
-abbrev pub station_by : StationTold → Asking → ℕ → StationWatch → StationWatch × Option Line
+abbrev pub station_by : StationTold → Asking → ℕ → StationWatch → StationWatch × Option LogLine
 station_by Nothing Status now w = told_asked now w
 station_by Nothing (Counted bit) now w = told_up now w
 station_by Asked Status now w = silent_by (is_unanswered w) Unheard now w
@@ -178,7 +179,7 @@ station_by Silent Status now w = told_down now w
 station_by told Missed now w = told_missed now w
 station_by told asking now w = (w, None)
 
-abbrev pub station_asked : Asking → ℕ → StationWatch → StationWatch × Option Line
+abbrev pub station_asked : Asking → ℕ → StationWatch → StationWatch × Option LogLine
 station_asked asking now w = station_by w.told asking now (counted asking now w)
 
 -- the station after a request to this link address, if it is its own
@@ -187,24 +188,24 @@ after_request address asking now w =
     if w.address == address then (station_asked asking now w).0 else w
 
 -- what the station with this link address has to tell of it
-abbrev pub line_in : ℕ → Asking → ℕ → List StationWatch → Option Line
+abbrev pub line_in : ℕ → Asking → ℕ → List StationWatch → Option LogLine
 line_in address asking now [] = None
 line_in address asking now (w ∷ ws) =
     if w.address == address then (station_asked asking now w).1 else line_in address asking now ws
 
 -- this is asked of the station with this link address, or told of it
-abbrev pub told : ℕ → Asking → ℕ → List StationWatch → List StationWatch × Option Line
+abbrev pub told : ℕ → Asking → ℕ → List StationWatch → List StationWatch × Option LogLine
 told address asking now ws =
     (map (after_request address asking now) ws, line_in address asking now ws)
 
 -- a request goes out to the station whose address it bears
-abbrev pub asked : LinkSize → List ℕ → ℕ → List StationWatch → List StationWatch × Option Line
+abbrev pub asked : LinkSize → List ℕ → ℕ → List StationWatch → List StationWatch × Option LogLine
 asked size octets now ws = told (address_of size octets) (asking_of octets) now ws
 
 -- reports of the station at this place may be lost
-abbrev pub gap_at : Option StationWatch → ℕ → List StationWatch → List StationWatch × Option Line
+abbrev pub gap_at : Option StationWatch → ℕ → List StationWatch → List StationWatch × Option LogLine
 gap_at None now ws = (ws, None)
 gap_at (Some w) now ws = told w.address Missed now ws
 
-abbrev pub gap : (place : ℕ) → ℕ → List StationWatch → List StationWatch × Option Line
+abbrev pub gap : (place : ℕ) → ℕ → List StationWatch → List StationWatch × Option LogLine
 gap place now ws = gap_at (slice_get ws place) now ws

@@ -9,16 +9,16 @@ use Rattle.live.specs.declared.watched.Notice.{Notice}
 use Rattle.live.specs.declared.watched.Sight.{Sight}
 use Rattle.runlog.specs.Watching.{Watching, heard, put, is_look_due, looked_at, judged}
 use Rattle.runlog.specs.Watching.{unless_line, line_of, sum_line}
-use Rattle.runlog.specs.declared.note.Line.{Line}
+use Rattle.runlog.specs.declared.note.LogLine.{LogLine}
 use Rattle.runlog.specs.declared.note.Note.{Note}
 use Rattle.runlog.specs.declared.note.Note.TheVariants as note
 
 -- the lines so far, the newest first, where they are told
 abbrev pub Lines : Type 0
-Lines = Option (List Line)
+Lines = Option (List LogLine)
 
 -- One more, where it is taken. A sink that tells nothing goes on telling nothing.
-abbrev pub kept : (taken : Bool) → Line → Lines → Lines
+abbrev pub kept : (taken : Bool) → LogLine → Lines → Lines
 kept false line lines = lines
 kept true line None = None
 kept true line (Some before) = Some (line ∷ before)
@@ -32,13 +32,13 @@ pub record Book : Type 0 where
   pub is_watching : Bool
 
 -- a line is told, taken or not, where the telling isn't over
-abbrev pub told : Option Line → (taken : Bool) → Book → Book
+abbrev pub told : Option LogLine → (taken : Bool) → Book → Book
 told None taken b = b
 told (Some line) taken b =
     if b.is_over then b
     else record b { lines = kept taken line b.lines; is_over = not taken }
 
-abbrev pub after : Watching × Option Line → (taken : Bool) → Book → Book
+abbrev pub after : Watching × Option LogLine → (taken : Bool) → Book → Book
 after w taken b = told w.1 taken (record b { watching = w.0 })
 
 -- nothing is done any more once the telling is over, where the run isn't watched
@@ -69,13 +69,13 @@ abbrev pub taken_in : State → ℕ
 taken_in gateway = counted (length (pieces_kept gateway.centre.queue))
 
 -- the queue and the counts were looked at, if that was due
-abbrev pub looked_if_due : State → Watching → Watching × Option Line
+abbrev pub looked_if_due : State → Watching → Watching × Option LogLine
 looked_if_due s w =
     if is_look_due w then looked_at (counts_of s) (taken_in s) w else (w, None)
 
 -- Between two steps: what became of the commands of the latest one; and a line of the queue or the
 -- counts, or else of what was gathered.
-abbrev pub looked : State → Watching → Watching × Option Line
+abbrev pub looked : State → Watching → Watching × Option LogLine
 looked s w = unless_line (looked_if_due s (judged s w))
 
 pub record Looks (old : Book) (gateway : State) (new : Book) : Type 0 where
@@ -88,7 +88,7 @@ pub record Closes (old : Book) (gateway : State) (new : Book) : Type 0 where
   pub done : new ≡ unless_over old
       (told (Some (sum_line (counts_of gateway) (taken_in gateway) old.watching)) taken old)
 
-pub record IsTold (line : Option Line) (old new : Book) : Type 0 where
+pub record IsTold (line : Option LogLine) (old new : Book) : Type 0 where
   pub taken : Bool
   pub done : new ≡ told line taken old
 
@@ -98,7 +98,7 @@ pub record Notes (old : Book) (note : Note) (new : Book) : Type 0 where
   pub done : new ≡ unless_over old (told (Some (line_of note old.watching)) taken old)
 
 -- the line of what there is to tell of the state on the disk
-abbrev pub line_of_notice : Option Notice → Watching → Option Line
+abbrev pub line_of_notice : Option Notice → Watching → Option LogLine
 line_of_notice None w = None
 line_of_notice (Some notice) w = Some (line_of (note.State notice) w)
 

@@ -12,11 +12,11 @@ use Rattle.gateway.specs.declared.settings.Station.{Station}
 use Rattle.runlog.specs.Gathering.{nothing, added, line_of, minute_line_of}
 use Rattle.runlog.specs.Limits.{one_more}
 use Rattle.runlog.specs.Orders.{octet, order_of}
-use Rattle.runlog.specs.declared.fate.Fate.{Fate}
-use Rattle.runlog.specs.declared.fate.Fate.TheVariants as fate
+use Rattle.runlog.specs.declared.fate.CommandFate.{CommandFate}
+use Rattle.runlog.specs.declared.fate.CommandFate.TheVariants as fate
 use Rattle.runlog.specs.declared.fate.Mishap.{Mishap}
 use Rattle.runlog.specs.declared.fate.Mishap.TheVariants as mishap
-use Rattle.runlog.specs.declared.note.Line.{Line}
+use Rattle.runlog.specs.declared.note.LogLine.{LogLine}
 use Rattle.runlog.specs.declared.note.Note.TheVariants as note
 use Rattle.runlog.specs.declared.order.Order.{Order}
 use Rattle.runlog.specs.declared.content.Content.{Content}
@@ -50,7 +50,7 @@ content_of sizes report =
 abbrev pub is_denied : (cause : ℕ) → Bool
 is_denied cause = nat_le 44 (cause % 64) || nat_le 64 (cause % 128)
 
-abbrev pub reply_of : (cause : ℕ) → Option Fate
+abbrev pub reply_of : (cause : ℕ) → Option CommandFate
 reply_of cause =
     if is_denied cause then Some fate.Denied
     else if cause % 64 == 10 then Some fate.Terminated
@@ -81,7 +81,7 @@ abbrev pub new_traffics : List Station → List Traffic
 new_traffics settings = map (λ (s : Station). new_traffic s.address) settings
 
 -- what became of a command
-abbrev pub fate_noted : Fate → Order → Traffic → Traffic
+abbrev pub fate_noted : CommandFate → Order → Traffic → Traffic
 fate_noted fate.Sent o t = record t { sent = added (note.Fate o t.address fate.Sent) t.sent }
 fate_noted fate.Confirmed o t =
     record t { confirmed = added (note.Fate o t.address fate.Confirmed) t.confirmed }
@@ -101,11 +101,11 @@ sent (Some o) t =
     fate_noted fate.Sent o (record t { commands = one_more t.commands; order = Some o })
 
 -- and this became of it there
-abbrev pub ended_by : Option Order → Fate → Traffic → Traffic
+abbrev pub ended_by : Option Order → CommandFate → Traffic → Traffic
 ended_by None what t = t
 ended_by (Some o) what t = fate_noted what o t
 
-abbrev pub ended : Fate → Traffic → Traffic
+abbrev pub ended : CommandFate → Traffic → Traffic
 ended what t = ended_by t.order what t
 
 -- this befell the station
@@ -116,7 +116,7 @@ suffered mishap.MirrorDropped t =
 suffered mishap.Spoilt t = record t { spoilt = added (note.Spoilt t.address) t.spoilt }
 suffered mishap.Late t = record t { late = added (note.Late t.address) t.late }
 
-abbrev pub replied_by : Option Fate → Option Order → Traffic → Traffic
+abbrev pub replied_by : Option CommandFate → Option Order → Traffic → Traffic
 replied_by (Some what) (Some o) t = fate_noted what o t
 replied_by what o t = t
 
@@ -140,62 +140,63 @@ reported sizes now report t =
 
 -- ---- Its lines
 
-abbrev pub or_else : {A : Type 0} → A × Option Line → (A → A × Option Line) → A × Option Line
+abbrev pub or_else : {A : Type 0} → A × Option LogLine → (A → A × Option LogLine)
+    → A × Option LogLine
 or_else (a, Some line) f = (a, Some line)
 or_else (a, None) f = f a
 
-abbrev pub sent_line : ℕ → Traffic → Traffic × Option Line
+abbrev pub sent_line : ℕ → Traffic → Traffic × Option LogLine
 sent_line now t = let told = line_of now t.sent in (record t { sent = told.0 }, told.1)
 
-abbrev pub confirmed_line : ℕ → Traffic → Traffic × Option Line
+abbrev pub confirmed_line : ℕ → Traffic → Traffic × Option LogLine
 confirmed_line now t =
     let told = line_of now t.confirmed in (record t { confirmed = told.0 }, told.1)
 
-abbrev pub denied_line : ℕ → Traffic → Traffic × Option Line
+abbrev pub denied_line : ℕ → Traffic → Traffic × Option LogLine
 denied_line now t = let told = line_of now t.denied in (record t { denied = told.0 }, told.1)
 
-abbrev pub terminated_line : ℕ → Traffic → Traffic × Option Line
+abbrev pub terminated_line : ℕ → Traffic → Traffic × Option LogLine
 terminated_line now t =
     let told = line_of now t.terminated in (record t { terminated = told.0 }, told.1)
 
-abbrev pub failed_line : ℕ → Traffic → Traffic × Option Line
+abbrev pub failed_line : ℕ → Traffic → Traffic × Option LogLine
 failed_line now t = let told = line_of now t.failed in (record t { failed = told.0 }, told.1)
 
-abbrev pub skips_line : ℕ → Traffic → Traffic × Option Line
+abbrev pub skips_line : ℕ → Traffic → Traffic × Option LogLine
 skips_line now t = let told = minute_line_of now t.skips in (record t { skips = told.0 }, told.1)
 
-abbrev pub mirrors_line : ℕ → Traffic → Traffic × Option Line
+abbrev pub mirrors_line : ℕ → Traffic → Traffic × Option LogLine
 mirrors_line now t =
     let told = minute_line_of now t.mirrors in (record t { mirrors = told.0 }, told.1)
 
-abbrev pub spoilt_line : ℕ → Traffic → Traffic × Option Line
+abbrev pub spoilt_line : ℕ → Traffic → Traffic × Option LogLine
 spoilt_line now t = let told = minute_line_of now t.spoilt in (record t { spoilt = told.0 }, told.1)
 
-abbrev pub late_line : ℕ → Traffic → Traffic × Option Line
+abbrev pub late_line : ℕ → Traffic → Traffic × Option LogLine
 late_line now t = let told = minute_line_of now t.late in (record t { late = told.0 }, told.1)
 
 -- the first of its kinds that are told once a minute that has a line to be told now
-abbrev pub minute_line : ℕ → Traffic → Traffic × Option Line
+abbrev pub minute_line : ℕ → Traffic → Traffic × Option LogLine
 minute_line now t =
     or_else (skips_line now t) (λ t. or_else (mirrors_line now t) (λ t. or_else (spoilt_line now t)
     (late_line now)))
 
 -- the first of all its kinds
-abbrev pub traffic_line : ℕ → Traffic → Traffic × Option Line
+abbrev pub traffic_line : ℕ → Traffic → Traffic × Option LogLine
 traffic_line now t =
     or_else (sent_line now t) (λ t. or_else (confirmed_line now t) (λ t. or_else (denied_line now t)
     (λ t. or_else (terminated_line now t) (λ t. or_else (failed_line now t) (minute_line now)))))
 
-abbrev pub first_by : Traffic × Option Line → List Traffic → List Traffic × Option Line
-    → List Traffic × Option Line
+abbrev pub first_by : Traffic × Option LogLine → List Traffic → List Traffic × Option LogLine
+    → List Traffic × Option LogLine
 first_by (t, Some line) ts rest = (t ∷ ts, Some line)
 first_by (t, None) ts rest = (t ∷ rest.0, rest.1)
 
 -- the first station that has a line to be told now
-abbrev pub first_line : ℕ → List Traffic → List Traffic × Option Line
+abbrev pub first_line : ℕ → List Traffic → List Traffic × Option LogLine
 first_line now [] = ([], None)
 first_line now (t ∷ ts) = first_by (traffic_line now t) ts (first_line now ts)
 
 -- what stands behind others
-abbrev pub behind : List Traffic → List Traffic × Option Line → List Traffic × Option Line
+abbrev pub behind : List Traffic → List Traffic × Option LogLine → List Traffic × Option LogLine
 behind front told = (front ++ told.0, told.1)

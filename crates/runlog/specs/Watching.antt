@@ -39,7 +39,7 @@ use Rattle.runlog.specs.Stations.{new_station}
 use Rattle.runlog.specs.declared.ends.LineWatch.{LineWatch}
 use Rattle.runlog.specs.declared.ends.DoorWatch.{DoorWatch}
 use Rattle.runlog.specs.declared.ends.ConnectionWatch.{ConnectionWatch}
-use Rattle.runlog.specs.declared.note.Line.{Line}
+use Rattle.runlog.specs.declared.note.LogLine.{LogLine}
 use Rattle.runlog.specs.declared.note.Note.{Note}
 use Rattle.runlog.specs.declared.note.Note.TheVariants as note
 use Rattle.runlog.specs.declared.note.Tally.{Tally}
@@ -54,11 +54,11 @@ new_queue = record { is_full = false; full = new_limit; free = new_limit }
 abbrev pub is_full : (taken places : ℕ) → Bool
 is_full taken places = nat_lt (places - taken) 3
 
-abbrev pub queue_told : (is_full : Bool) → Option Line → QueueWatch → QueueWatch × Option Line
+abbrev pub queue_told : (is_full : Bool) → Option LogLine → QueueWatch → QueueWatch × Option LogLine
 queue_told is_full None w = (w, None)
 queue_told is_full (Some line) w = (record w { is_full = is_full }, Some line)
 
-abbrev pub queue_by : (was is : Bool) → (now : ℕ) → QueueWatch → QueueWatch × Option Line
+abbrev pub queue_by : (was is : Bool) → (now : ℕ) → QueueWatch → QueueWatch × Option LogLine
 queue_by false true now w = let told = changed note.QueueFull w.full now in
     queue_told true told.1 (record w { full = told.0 })
 queue_by true false now w = let told = changed note.QueueFree w.free now in
@@ -66,7 +66,7 @@ queue_by true false now w = let told = changed note.QueueFree w.free now in
 queue_by true true now w = (w, None)
 queue_by false false now w = (w, None)
 
-abbrev pub queue_seen : (taken places now : ℕ) → QueueWatch → QueueWatch × Option Line
+abbrev pub queue_seen : (taken places now : ℕ) → QueueWatch → QueueWatch × Option LogLine
 queue_seen taken places now w = queue_by w.is_full (is_full taken places) now w
 
 -- The whole
@@ -123,24 +123,24 @@ new_watching c = record {
   stations = new_stations (c.line.retries + 1) c.stations;
 }
 
-abbrev pub with_line : LineWatch × Option Line → Watching → Watching × Option Line
+abbrev pub with_line : LineWatch × Option LogLine → Watching → Watching × Option LogLine
 with_line told w = (record w { line = told.0 }, told.1)
 
-abbrev pub with_door : DoorWatch × Option Line → Watching → Watching × Option Line
+abbrev pub with_door : DoorWatch × Option LogLine → Watching → Watching × Option LogLine
 with_door told w = (record w { door = told.0 }, told.1)
 
-abbrev pub with_connection : ConnectionWatch × Option Line → Watching → Watching × Option Line
+abbrev pub with_connection : ConnectionWatch × Option LogLine → Watching → Watching × Option LogLine
 with_connection told w = (record w { connection = told.0 }, told.1)
 
-abbrev pub with_stations : List StationWatch × Option Line → Watching → Watching × Option Line
+abbrev pub with_stations : List StationWatch × Option LogLine → Watching → Watching × Option LogLine
 with_stations told w = (record w { stations = told.0 }, told.1)
 
 -- the door is seen, unless the line had something to tell: an event has one line at most
-abbrev pub unless_told : Sight → Watching × Option Line → Watching × Option Line
+abbrev pub unless_told : Sight → Watching × Option LogLine → Watching × Option LogLine
 unless_told s (w, Some line) = (w, Some line)
 unless_told s (w, None) = with_door (door_seen s.sent_away w.moment w.door) w
 
-abbrev pub seen : Sight → Watching → Watching × Option Line
+abbrev pub seen : Sight → Watching → Watching × Option LogLine
 seen s w = unless_told s (with_line (line_seen s.line w.moment w.line) w)
 
 -- an event begins
@@ -212,7 +212,7 @@ exchanged place what octets now w =
     sent_at place what octets (record w { exchange = exchange.asked place what now w.exchange })
 
 -- a request goes out
-abbrev pub asked : List ℕ → (now : ℕ) → Watching → Watching × Option Line
+abbrev pub asked : List ℕ → (now : ℕ) → Watching → Watching × Option LogLine
 asked octets now w =
     let v = exchanged (place_of (stations.address_of w.link octets) w.traffic)
     (awaited_of octets) octets now w in
@@ -269,7 +269,7 @@ wall_of w = option_map (wall_at w.moment) w.wall
 
 -- An event, whose octets are the front of the buffer: a connection that is opened or cut, the
 -- line's end; after any other the ends are seen.
-abbrev pub came : Next → List ℕ → Sight → Watching → Watching × Option Line
+abbrev pub came : Next → List ℕ → Sight → Watching → Watching × Option LogLine
 came (next.Open now) buf s w =
     with_connection (connection_opened s.peer now w.connection) (at_end now w)
 came (next.Cut now) buf s w =
@@ -282,7 +282,7 @@ came next.Fault buf s w = with_line (line_seen Away w.moment w.line) w
 came next.Done buf s w = (w, None)
 
 -- and what was late before it is noted first
-abbrev pub heard : Next → List ℕ → Sight → Watching → Watching × Option Line
+abbrev pub heard : Next → List ℕ → Sight → Watching → Watching × Option LogLine
 heard event buf s w = came event buf s (late_noted s.late_octets w)
 
 abbrev pub inbox_after : Close → Inbox → Inbox
@@ -290,13 +290,13 @@ inbox_after close.Replaced b = b
 inbox_after cause b = inbox.closed b
 
 -- the gateway closes the connection
-abbrev pub closed : Close → (now : ℕ) → Watching → Watching × Option Line
+abbrev pub closed : Close → (now : ℕ) → Watching → Watching × Option LogLine
 closed cause now w = with_connection (connection_closed cause now w.connection)
     (record w { inbox = inbox_after cause w.inbox })
 
 -- An action: a request to a station, an APDU, the close of the connection, or a gap in what a
 -- station reported.
-abbrev pub put : (now : ℕ) → Output → Watching → Watching × Option Line
+abbrev pub put : (now : ℕ) → Output → Watching → Watching × Option LogLine
 put now (LineOut octets) w = asked octets now w
 put now (TcpOut octets) w = with_connection (connection_sent octets now w.connection) w
 put now (Closed cause) w = closed cause now w
@@ -315,24 +315,24 @@ tally counts taken w = record {
   connections = w.connection.count;
 }
 
-abbrev pub line_of : Note → Watching → Line
+abbrev pub line_of : Note → Watching → LogLine
 line_of what w = record { moment = w.moment; note = what; left_out = 0 }
 
-abbrev pub sum_line : Counts → (taken : ℕ) → Watching → Line
+abbrev pub sum_line : Counts → (taken : ℕ) → Watching → LogLine
 sum_line counts taken w = line_of (note.Counts (tally counts taken w)) w
 
-abbrev pub counted : Counts → (taken : ℕ) → Watching → Watching × Option Line
+abbrev pub counted : Counts → (taken : ℕ) → Watching → Watching × Option LogLine
 counted counts taken w =
     if nat_lt (w.moment - w.counted) 60000
     then (w, None)
     else (record w { counted = w.moment }, Some (sum_line counts taken w))
 
-abbrev pub unless_queue : Counts → (taken : ℕ) → QueueWatch × Option Line → Watching
-    → Watching × Option Line
+abbrev pub unless_queue : Counts → (taken : ℕ) → QueueWatch × Option LogLine → Watching
+    → Watching × Option LogLine
 unless_queue counts taken (queue, Some line) w = (record w { queue = queue }, Some line)
 unless_queue counts taken (queue, None) w = counted counts taken (record w { queue = queue })
 
-abbrev pub looked_at : Counts → (taken : ℕ) → Watching → Watching × Option Line
+abbrev pub looked_at : Counts → (taken : ℕ) → Watching → Watching × Option LogLine
 looked_at counts taken w =
     unless_queue counts taken (queue_seen taken w.places w.moment w.queue)
     (record w { looked = w.moment })
@@ -344,20 +344,20 @@ abbrev pub judged : State → Watching → Watching
 judged s w = counts_noted (counts_of s)
     (record w { inbox = inbox.judged s w.connection.peer w.inbox })
 
-abbrev pub traffic_told : Watching → Watching × Option Line
+abbrev pub traffic_told : Watching → Watching × Option LogLine
 traffic_told w =
     let told = first_line w.moment w.traffic in (record w { traffic = told.0 }, told.1)
 
-abbrev pub unless_inbox : Inbox × Option Line → Watching → Watching × Option Line
+abbrev pub unless_inbox : Inbox × Option LogLine → Watching → Watching × Option LogLine
 unless_inbox (b, Some line) w = (record w { inbox = b }, Some line)
 unless_inbox (b, None) w = traffic_told (record w { inbox = b })
 
 -- the next line of what was gathered, which is sought once a ms
-abbrev pub gathered : Watching → Watching × Option Line
+abbrev pub gathered : Watching → Watching × Option LogLine
 gathered w =
     if w.sought == w.moment then (w, None)
     else unless_inbox (inbox.line_of w.moment w.inbox) (record w { sought = w.moment })
 
-abbrev pub unless_line : Watching × Option Line → Watching × Option Line
+abbrev pub unless_line : Watching × Option LogLine → Watching × Option LogLine
 unless_line (w, Some line) = (w, Some line)
 unless_line (w, None) = gathered w

@@ -3,7 +3,7 @@ ghost use Rattle.std.specs.Prelude.{◌≡◌};
 ghost use Rattle.gateway.specs.Counting.{is_answer_type};
 ghost use Rattle.runlog.specs.Traffic as spec;
 
-use crate::fate::Fate;
+use crate::fate::CommandFate;
 use asdu::{Sizes, read};
 use elements::TypeId;
 
@@ -73,15 +73,16 @@ pub(crate) fn content_of(sizes: Sizes, report: &[u8]) -> Content
 }
 
 /// What a station answers a command by this cause octet.
-pub(crate) fn reply_of(cause: u8) -> Option<Fate>
+pub(crate) fn reply_of(cause: u8) -> Option<CommandFate>
     ensures { result ≡ spec.reply_of cause }
 {
+    // Causes 44 to 47 name what isn't known there. P/N says that the answer is negative.
     if 44 <= cause % 64 || 64 <= cause % 128 {
-        return Some(Fate::Denied);
+        return Some(CommandFate::Denied);
     }
     match cause % 64 {
-        10 => Some(Fate::Terminated),
-        7 | 9 => Some(Fate::Confirmed),
+        10 => Some(CommandFate::Terminated),
+        7 | 9 => Some(CommandFate::Confirmed),
         _ => None,
     }
 }

@@ -3,7 +3,7 @@ ghost use Rattle.std.specs.Prelude.{◌≡◌};
 ghost use Rattle.runlog.specs.Ends as spec;
 
 use crate::limit::Limit;
-use crate::note::{Line, Note};
+use crate::note::{LogLine, Note};
 use live::{CutCause, Presence, SentAway};
 use session::Close;
 use std::net::IpAddr;
@@ -15,11 +15,11 @@ const START_CONFIRMED: [u8; 6] = [0x68, 0x04, 0x0B, 0x00, 0x00, 0x00];
 const STOP_CONFIRMED: [u8; 6] = [0x68, 0x04, 0x23, 0x00, 0x00, 0x00];
 
 /// The line of something that happened, or none where it is left out.
-pub(crate) fn happened(note: Note, limit: &mut Limit, now: u64) -> Option<Line>
+pub(crate) fn happened(note: Note, limit: &mut Limit, now: u64) -> Option<LogLine>
     ensures { (limit.new, result) ≡ spec.happened note limit.old now }
 {
     let left_out = limit.ask(now)?;
-    Some(Line {
+    Some(LogLine {
         moment: now,
         note,
         left_out,
@@ -27,9 +27,10 @@ pub(crate) fn happened(note: Note, limit: &mut Limit, now: u64) -> Option<Line>
 }
 
 /// The line of a change, or none yet, where the one before is less than a second old.
-pub(crate) fn changed(note: Note, limit: &mut Limit, now: u64) -> Option<Line>
+pub(crate) fn changed(note: Note, limit: &mut Limit, now: u64) -> Option<LogLine>
     ensures { (limit.new, result) ≡ spec.changed note limit.old now }
 {
+    // A change isn't left out. If it still holds, it is told when the second is over.
     if !limit.is_free(now) {
         return None;
     }
@@ -98,7 +99,7 @@ impl LineWatch {
     }
 
     /// The line is seen so.
-    pub(crate) fn see(&mut self, presence: Presence, now: u64) -> Option<Line>
+    pub(crate) fn see(&mut self, presence: Presence, now: u64) -> Option<LogLine>
         ensures { (self.new, result) ≡ spec.line_seen presence now self.old }
     {
         // It may go and come back between two events: then nothing has come from it any more.
@@ -106,6 +107,7 @@ impl LineWatch {
         self.note(presence, now);
         let is_minute = self.away.is_minute_after(now);
         let (told, note) = line_change(self.told, presence, is_minute)?;
+        // A limit for each way: a line that is lost right behind its coming is told as lost.
         let line = if matches!(presence, Presence::Away) {
             changed(note, &mut self.away, now)?
         } else {
@@ -149,6 +151,7 @@ fn line_change(told: LineTold, presence: Presence, is_minute: bool) -> Option<(L
             is_minute.then_some((told, Note::LineNotThere))
         }
         (LineTold::There, _) => None,
+        // A server that accepts and closes is reached at each try, and nothing comes from it.
         (LineTold::Lost, Presence::There) if !is_minute => None,
         (LineTold::Lost, _) => Some((LineTold::There, Note::LineReachedAgain)),
         (LineTold::Nothing, _) | (LineTold::NotThere, _) => {
@@ -176,9 +179,10 @@ impl DoorWatch {
     }
 
     /// So many weren't let in.
-    pub(crate) fn see(&mut self, sent_away: SentAway, now: u64) -> Option<Line>
+    pub(crate) fn see(&mut self, sent_away: SentAway, now: u64) -> Option<LogLine>
         ensures { (self.new, result) ≡ spec.door_seen sent_away now self.old }
     {
+        // The count only grows, so the difference is those who came since.
         if sent_away.count <= self.told {
             return None;
         }
@@ -252,7 +256,7 @@ impl ConnectionWatch {
     }
 
     /// One was opened.
-    pub(crate) fn open(&mut self, peer: Option<IpAddr>, now: u64) -> Option<Line>
+    pub(crate) fn open(&mut self, peer: Option<IpAddr>, now: u64) -> Option<LogLine>
         ensures { (self.new, result) ≡ spec.connection_opened peer now self.old }
     {
         self.count = self.count.saturating_add(1);
@@ -265,7 +269,7 @@ impl ConnectionWatch {
     }
 
     /// It was cut.
-    pub(crate) fn cut(&mut self, cause: CutCause, now: u64) -> Option<Line>
+    pub(crate) fn cut(&mut self, cause: CutCause, now: u64) -> Option<LogLine>
         ensures { (self.new, result) ≡ spec.connection_cut cause now self.old }
     {
         self.opening = None;
@@ -273,7 +277,7 @@ impl ConnectionWatch {
     }
 
     /// An APDU went out.
-    pub(crate) fn send(&mut self, octets: &[u8], now: u64) -> Option<Line>
+    pub(crate) fn send(&mut self, octets: &[u8], now: u64) -> Option<LogLine>
         ensures { (self.new, result) ≡ spec.connection_sent octets.now now self.old }
     {
         if octets == START_CONFIRMED.as_slice() {
@@ -297,7 +301,7 @@ impl ConnectionWatch {
     }
 
     /// The gateway closed it.
-    pub(crate) fn close(&mut self, cause: Close, now: u64) -> Option<Line>
+    pub(crate) fn close(&mut self, cause: Close, now: u64) -> Option<LogLine>
         ensures { (self.new, result) ≡ spec.connection_closed cause now self.old }
     {
         // The one in whose place another comes is closed after that is opened.

@@ -17,7 +17,7 @@ ghost use Rattle.runlog.specs.Gathering.{Add, Look};
 ghost use Rattle.runlog.specs.Orders.{order_of};
 ghost use Rattle.runlog.specs.Traffic.{reply_of};
 ghost use Rattle.runlog.specs.declared.content.Skip.TheVariants as skip;
-ghost use Rattle.runlog.specs.declared.fate.Fate.TheVariants as fate;
+ghost use Rattle.runlog.specs.declared.fate.CommandFate.TheVariants as fate;
 ghost use Rattle.runlog.specs.declared.fate.Reason.TheVariants as reason;
 ghost use Rattle.runlog.specs.declared.order.Act.TheVariants as act;
 ghost use Rattle.runlog.specs.declared.order.Value.TheVariants as value;

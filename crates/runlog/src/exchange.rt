@@ -182,6 +182,7 @@ impl Exchange {
         if matches!(self.awaited, Awaited::Nothing) {
             return;
         }
+        // No frame is longer: what finds no room isn't of the answer.
         let count = octets.len().min(self.octets.remaining_capacity());
         let _ = self.octets.try_extend_from_slice(&octets[..count]);
     }
@@ -192,6 +193,7 @@ impl Exchange {
     {
         let request = match self.awaited {
             Awaited::Nothing => return None,
+            // Neither the bit nor the class changes which answers fit.
             Awaited::Poll => Asked::Counted(false, Service::Class2),
             Awaited::Command => { Asked::Counted(false, Service::Command(CommandOctets::new(&[]))) }
         };

@@ -13,7 +13,7 @@ pub enum Reason {
 
 /// What became of a command at its station.
 #[derive(Clone, Copy, Debug, PartialEq, Eq)]
-pub enum Fate {
+pub enum CommandFate {
     /// It went out to the station for the first time.
     Sent,
     /// The station confirmed it (causes 7 and 9, positive).

@@ -4,7 +4,7 @@ ghost use Rattle.runlog.specs.Gathering as spec;
 
 use crate::ends::changed;
 use crate::limit::Limit;
-use crate::note::{Line, Note};
+use crate::note::{LogLine, Note};
 
 /// What came of one kind and isn't told yet: the last of it, and how many came before that since
 /// the last line of the kind.
@@ -36,7 +36,7 @@ impl Gathered {
     }
 
     /// The line of the last that came, where one is to be told and may be told now.
-    pub(crate) fn line(&mut self, now: u64) -> Option<Line>
+    pub(crate) fn line(&mut self, now: u64) -> Option<LogLine>
         ensures { (self.new, result) ≡ spec.line_of now self.old }
     {
         let note = self.last?;
@@ -46,7 +46,7 @@ impl Gathered {
     }
 
     /// The same, at most once a minute.
-    pub(crate) fn minute_line(&mut self, now: u64) -> Option<Line>
+    pub(crate) fn minute_line(&mut self, now: u64) -> Option<LogLine>
         ensures { (self.new, result) ≡ spec.minute_line_of now self.old }
     {
         if !self.limit.is_minute_after(now) {

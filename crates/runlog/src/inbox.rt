@@ -4,7 +4,7 @@ ghost use Rattle.runlog.specs.Inbox as spec;
 
 use crate::fate::Reason;
 use crate::gathered::Gathered;
-use crate::note::{Line, Note};
+use crate::note::{LogLine, Note};
 use crate::order::{Order, octet};
 use arrayvec::ArrayVec;
 use asdu::Sizes;
@@ -53,6 +53,8 @@ impl Orders {
         requires { 9 ≤ length asdu.now }
         ensures { self.new ≡ spec.order_noted gateway.now is_closed peer asdu.now order self.old }
     {
+        // Nothing of the step goes on then, even what was refused before (docs/DECISIONS.md, "The
+        // log judges no command").
         if is_closed {
             self.refused.add(Note::Refused(order, peer, Reason::Closed));
             return;
@@ -78,6 +80,7 @@ impl Orders {
     fn note_apdu(&mut self, gateway: &Gateway, is_closed: bool, peer: Option<IpAddr>, apdu: &[u8])
         ensures { self.new ≡ spec.apdu_noted gateway.now is_closed peer apdu.now self.old }
     {
+        // Only an APDU in I format has an ASDU.
         if octet(apdu, 2) % 2 == 0 {
             self.note_asdu(gateway, is_closed, peer, behind_control(apdu));
         }
@@ -109,7 +112,7 @@ impl Orders {
     }
 
     /// The line of the last command that came, where one is to be told and may be told now.
-    fn line(&mut self, now: u64) -> Option<Line>
+    fn line(&mut self, now: u64) -> Option<LogLine>
         ensures { (self.new, result) ≡ spec.orders_line now self.old }
     {
         match self.ordered.line(now) {
@@ -210,6 +213,8 @@ impl Inbox {
         } else {
             self.leave(done);
         }
+        // For the next step: how commands were judged is told by what stood before it
+        // (docs/DECISIONS.md, "The log judges no command").
         self.orders.glance = gateway.glance();
     }
 
@@ -227,7 +232,7 @@ impl Inbox {
     }
 
     /// The line of the last command that came, where one is to be told and may be told now.
-    pub(crate) fn line(&mut self, now: u64) -> Option<Line>
+    pub(crate) fn line(&mut self, now: u64) -> Option<LogLine>
         ensures { (self.new, result) ≡ spec.line_of now self.old }
     {
         self.orders.line(now)

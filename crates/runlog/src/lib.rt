@@ -52,13 +52,13 @@ pub use examples::{
     commands_by_example, late_answers_by_example, log_lines_by_example, moments_by_example,
     standings_by_example, stations_by_example,
 };
-pub use fate::{Fate, Reason};
+pub use fate::{CommandFate, Reason};
 pub use laws::{
     lines_of_a_kind_are_a_second_apart, refusals_are_told_by_their_rules,
     what_is_gathered_is_told_or_counted,
 };
 pub use names::{Name, NamedLine, Names, name_of};
-pub use note::{Line, Note, Tally, Trouble};
+pub use note::{LogLine, Note, Tally, Trouble};
 pub use order::{Act, Order, Value};
 pub use port::RunLog;
 pub use severity::Severity;

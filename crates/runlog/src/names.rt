@@ -4,7 +4,7 @@ ghost use Rattle.std.specs.Prelude.{◌==◌, ◌≡◌, Some, option_map};
 ghost use Rattle.std.specs.Fmt.{WritesOnOk};
 ghost use Rattle.runlog.specs.Names as spec;
 
-use crate::note::{Line, Note};
+use crate::note::{LogLine, Note};
 use std::fmt;
 
 /// What a site calls the station with this link address: up to 40 characters.
@@ -77,7 +77,7 @@ impl<'a> Names<'a> {
 /// A line of the log, with the name of what it is told of behind it, if that has one.
 #[derive(Clone, Copy, Debug)]
 pub struct NamedLine<'l, 'n> {
-    pub line: &'l Line,
+    pub line: &'l LogLine,
     pub names: Names<'n>,
 }
 

@@ -7,7 +7,7 @@ ghost use Rattle.runlog.specs.Notes.{peer_words, sent_away_words};
 ghost use Rattle.runlog.specs.Notes.{skip_words, skipped_words, trouble_words, words};
 
 use crate::content::Skip;
-use crate::fate::{Fate, Reason};
+use crate::fate::{CommandFate, Reason};
 use crate::order::Order;
 use crate::order_words::{write_fate, write_order, write_reason, write_type_name};
 use gateway::Counts;
@@ -115,7 +115,7 @@ pub enum Note {
     /// It doesn't go on.
     Refused(Order, Option<IpAddr>, Reason),
     /// What became of it at the station with this link address.
-    Fate(Order, u16, Fate),
+    Fate(Order, u16, CommandFate),
     /// A report of the station with this link address, with this type octet, isn't passed on.
     Skipped(u16, u8, Skip),
     /// An answer of it to a command is dropped, since data transfer isn't running.
@@ -128,7 +128,7 @@ pub enum Note {
 
 /// A line of the log.
 #[derive(Clone, Copy, Debug, PartialEq, Eq)]
-pub struct Line {
+pub struct LogLine {
     /// The moment of the run, in ms.
     pub moment: u64,
     pub note: Note,
@@ -346,11 +346,11 @@ fn write_left_out<W: fmt::Write>(left_out: u64, f: &mut fmt::Formatter<W>) -> fm
     write!(f, " ({left_out} left out)")
 }
 
-impl fmt::Display for Line {
+impl fmt::Display for LogLine {
     ghost output = { λ line. Some (line_text line) };
 
     fn fmt<W: fmt::Write>(&self, f: &mut fmt::Formatter<W>) -> fmt::Result {
-        let Line {
+        let LogLine {
             moment,
             note,
             left_out,

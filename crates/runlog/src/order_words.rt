@@ -3,7 +3,7 @@ ghost use Rattle.std.specs.Prelude.{◌≡◌};
 ghost use Rattle.std.specs.Fmt.{WritesOnOk};
 ghost use Rattle.runlog.specs.OrderWords as spec;
 
-use crate::fate::{Fate, Reason};
+use crate::fate::{CommandFate, Reason};
 use crate::order::{Act, Order, Value};
 use command::Refusal;
 use elements::{TypeId, kind};
@@ -150,18 +150,18 @@ pub(crate) fn write_reason<W: fmt::Write>(reason: Reason, f: &mut fmt::Formatter
 
 /// Writes what became of a command at the station with this link address.
 pub(crate) fn write_fate<W: fmt::Write>(
-    fate: Fate,
+    fate: CommandFate,
     station: u16,
     f: &mut fmt::Formatter<W>,
 ) -> fmt::Result
     ensures { WritesOnOk W.write_str_gives f.old result (spec.fate_words fate station) f.new }
 {
     match fate {
-        Fate::Sent => write!(f, " sent to station {station}"),
-        Fate::Confirmed => write!(f, " confirmed by station {station}"),
-        Fate::Denied => write!(f, " refused by station {station}"),
-        Fate::Terminated => write!(f, " terminated by station {station}"),
-        Fate::Busy => write!(f, " not taken: station {station} is busy"),
-        Fate::GivenUp => write!(f, " given up: station {station} doesn't answer"),
+        CommandFate::Sent => write!(f, " sent to station {station}"),
+        CommandFate::Confirmed => write!(f, " confirmed by station {station}"),
+        CommandFate::Denied => write!(f, " refused by station {station}"),
+        CommandFate::Terminated => write!(f, " terminated by station {station}"),
+        CommandFate::Busy => write!(f, " not taken: station {station} is busy"),
+        CommandFate::GivenUp => write!(f, " given up: station {station} doesn't answer"),
     }
 }

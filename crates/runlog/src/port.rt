@@ -86,6 +86,7 @@ impl<P: Watched + Drop, S: Sink + Drop> Port for RunLog<P, S> {
         ensures hears { Hears self.old.teller result buf.new self.new.teller }
     {
         let next = self.port.next(buf);
+        // Behind the call, so that it is what was seen at this event.
         let sight = self.port.sight();
         self.teller.hear(next, buf, &sight);
         next

@@ -4,7 +4,7 @@ ghost use Rattle.runlog.specs.Watching as spec;
 
 use crate::ends::changed;
 use crate::limit::Limit;
-use crate::note::{Line, Note};
+use crate::note::{LogLine, Note};
 
 /// The most places that a report takes: where fewer are free nothing is polled.
 const REPORT_PLACES: u64 = 3;
@@ -30,7 +30,7 @@ impl QueueWatch {
     }
 
     /// So many of its places are taken.
-    pub(crate) fn see(&mut self, taken: u64, places: u64, now: u64) -> Option<Line>
+    pub(crate) fn see(&mut self, taken: u64, places: u64, now: u64) -> Option<LogLine>
         ensures { (self.new, result) ≡ spec.queue_seen taken places now self.old }
     {
         let is_full = places.saturating_sub(taken) < REPORT_PLACES;

@@ -2,7 +2,7 @@
 ghost use Rattle.std.specs.Prelude.{◌≡◌};
 ghost use Rattle.runlog.specs.Severities as spec;
 
-use crate::fate::Fate;
+use crate::fate::CommandFate;
 use crate::note::Note;
 use live::Notice;
 
@@ -42,12 +42,12 @@ fn notice_severity(notice: Notice) -> Severity
     }
 }
 
-fn fate_severity(fate: Fate) -> Severity
+fn fate_severity(fate: CommandFate) -> Severity
     ensures { result ≡ spec.fate_severity fate }
 {
     match fate {
-        Fate::Sent | Fate::Confirmed | Fate::Terminated => Severity::Info,
-        Fate::Denied | Fate::Busy | Fate::GivenUp => Severity::Warning,
+        CommandFate::Sent | CommandFate::Confirmed | CommandFate::Terminated => Severity::Info,
+        CommandFate::Denied | CommandFate::Busy | CommandFate::GivenUp => Severity::Warning,
     }
 }
 

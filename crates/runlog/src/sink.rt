@@ -2,7 +2,7 @@
 ghost use Rattle.std.specs.Prelude.{None};
 
 use crate::names::{NamedLine, Names};
-use crate::note::Line;
+use crate::note::LogLine;
 use jiff::Timestamp;
 use std::io::Eprint;
 
@@ -15,7 +15,7 @@ pub trait Sink {
     ghost lines: { Self → Lines };
 
     /// Takes a line. `false` says that it takes none any more.
-    fn tell(&mut self, line: &Line) -> bool
+    fn tell(&mut self, line: &LogLine) -> bool
         ensures { lines self.new ≡ kept result line.now (lines self.old) };
 }
 
@@ -50,7 +50,7 @@ impl<'a, 'n, R> StandardError<'a, 'n, R> {
 
 impl<R: Eprint + std::rt::Clock> StandardError<'_, '_, R> {
     /// Writes how severe a line is, if that is wanted.
-    fn write_severity(&self, line: &Line) -> bool {
+    fn write_severity(&self, line: &LogLine) -> bool {
         if !self.has_severity {
             return true;
         }
@@ -62,7 +62,7 @@ impl<R: Eprint + std::rt::Clock> StandardError<'_, '_, R> {
 impl<R: Eprint + std::rt::Clock> Sink for StandardError<'_, '_, R> {
     ghost lines = { λ _. None };
 
-    fn tell(&mut self, line: &Line) -> bool {
+    fn tell(&mut self, line: &LogLine) -> bool {
         if !self.write_severity(line) {
             return false;
         }

@@ -5,7 +5,7 @@ ghost use Rattle.runlog.specs.Stations as spec;
 
 use crate::ends::{changed, happened};
 use crate::limit::Limit;
-use crate::note::{Line, Note};
+use crate::note::{LogLine, Note};
 use crate::order::octet;
 use ft12::LinkSize;
 use link::{Control, PrimaryFunction};
@@ -209,6 +209,8 @@ impl StationWatch {
     {
         match asking {
             Asking::Counted(bit) => {
+                // The bit of the one before: it wasn't answered, and goes out again
+                // (docs/DECISIONS.md, "`run --log` is a port around the port").
                 let is_again = match self.bit {
                     None => false,
                     Some(before) => before == bit,
@@ -218,6 +220,7 @@ impl StationWatch {
                 self.was_up = true;
             }
             Asking::Status => {
+                // From the last service on: each further one says that the station is still down.
                 self.sent = self.sent_once_more(self.bit.is_none());
                 self.bit = None;
             }
@@ -256,7 +259,7 @@ impl StationWatch {
     }
 
     /// That it doesn't answer, where it doesn't.
-    fn silence(&mut self, is_silent: bool, told: StationTold, now: u64) -> Option<Line>
+    fn silence(&mut self, is_silent: bool, told: StationTold, now: u64) -> Option<LogLine>
         ensures { (self.new, result) ≡ spec.silent_by is_silent told now self.old }
     {
         if !is_silent {
@@ -268,7 +271,7 @@ impl StationWatch {
     }
 
     /// It was told that it doesn't answer, and its status is asked.
-    fn ask_unheard(&mut self, now: u64) -> Option<Line>
+    fn ask_unheard(&mut self, now: u64) -> Option<LogLine>
         ensures { (self.new, result) ≡ spec.unheard_by (spec.is_unanswered self.old) now self.old }
     {
         if !self.is_unanswered() {
@@ -279,7 +282,7 @@ impl StationWatch {
     }
 
     /// It didn't answer any more, and a counted request goes out to it.
-    fn ask_silent(&mut self, now: u64) -> Option<Line>
+    fn ask_silent(&mut self, now: u64) -> Option<LogLine>
         ensures { (self.new, result) ≡ spec.again_by (spec.is_unanswered self.old) now self.old }
     {
         if self.is_unanswered() {
@@ -292,7 +295,7 @@ impl StationWatch {
     }
 
     /// A request goes out to it.
-    fn ask(&mut self, asking: Asking, now: u64) -> Option<Line>
+    fn ask(&mut self, asking: Asking, now: u64) -> Option<LogLine>
         ensures { (self.new, result) ≡ spec.station_asked asking now self.old }
     {
         self.count_at(asking, now);
@@ -331,7 +334,7 @@ impl StationWatch {
 }
 
 /// What a request to the station with this link address has to tell.
-fn line_of(stations: &[StationWatch], address: u16, asking: Asking, now: u64) -> Option<Line>
+fn line_of(stations: &[StationWatch], address: u16, asking: Asking, now: u64) -> Option<LogLine>
     ensures { result ≡ spec.line_in address asking now stations.now }
 {
     for i in 0..stations.len() {
@@ -354,7 +357,7 @@ fn note_asked(stations: &mut [StationWatch], address: u16, asking: Asking, now: 
 }
 
 /// This is asked of the station with this link address, or told of it.
-fn tell(stations: &mut [StationWatch], address: u16, asking: Asking, now: u64) -> Option<Line>
+fn tell(stations: &mut [StationWatch], address: u16, asking: Asking, now: u64) -> Option<LogLine>
     ensures { (stations.new, result) ≡ spec.told address asking now stations.old }
 {
     let line = line_of(stations, address, asking, now);
@@ -368,14 +371,14 @@ pub(crate) fn ask(
     size: LinkSize,
     octets: &[u8],
     now: u64,
-) -> Option<Line>
+) -> Option<LogLine>
     ensures { (stations.new, result) ≡ spec.asked size octets.now now stations.old }
 {
     tell(stations, address_of(size, octets), asking_of(octets), now)
 }
 
 /// Reports of the station at this place may be lost.
-pub(crate) fn gap(stations: &mut [StationWatch], place: usize, now: u64) -> Option<Line>
+pub(crate) fn gap(stations: &mut [StationWatch], place: usize, now: u64) -> Option<LogLine>
     ensures { (stations.new, result) ≡ spec.gap place now stations.old }
 {
     let Some(station) = stations.get(place) else {

@@ -5,7 +5,7 @@ ghost use Rattle.gateway.specs.Ports.{FitsBuffer, output_of};
 ghost use Rattle.runlog.specs.Telling.{counted, looked_if_due, HearsSeeing, Puts, Looks, Closes};
 ghost use Rattle.runlog.specs.Telling.{Notes, Tells, IsTold};
 
-use crate::note::{Line, Note};
+use crate::note::{LogLine, Note};
 use crate::sink::Sink;
 use crate::watch::Watch;
 use gateway::{Action, Gateway, Next};
@@ -101,13 +101,15 @@ impl<S: Sink + Drop> Teller<S> {
         self.tell(Some(line));
     }
 
-    fn tell(&mut self, line: Option<Line>)
+    fn tell(&mut self, line: Option<LogLine>)
         ensures { IsTold line self.old self.new }
     {
         if self.is_over {
             return;
         }
         if let Some(line) = line {
+            // A sink that takes no line ends the log and not the run (docs/DECISIONS.md, "`run
+            // --log` is a port around the port").
             self.is_over = !self.sink.tell(&line);
         }
     }
@@ -161,7 +163,7 @@ impl<S: Sink + Drop> Teller<S> {
     }
 
     /// Looks at the queue and the counts, if that is due.
-    fn look_if_due(&mut self, gateway: &Gateway) -> Option<Line>
+    fn look_if_due(&mut self, gateway: &Gateway) -> Option<LogLine>
         ensures watching { (self.new.watching, result)
             ≡ looked_if_due gateway.now self.old.watching }
         ensures rest { self.new ≡ record self.old { watching = self.new.watching } }

@@ -5,9 +5,9 @@ ghost use Rattle.runlog.specs.Orders.{octet as octet_of, order_of};
 ghost use Rattle.runlog.specs.Traffic as spec;
 
 use crate::content::{Content, Skip, content_of, reply_of};
-use crate::fate::{Fate, Mishap};
+use crate::fate::{CommandFate, Mishap};
 use crate::gathered::Gathered;
-use crate::note::{Line, Note};
+use crate::note::{LogLine, Note};
 use crate::order::{Order, octet};
 use asdu::Sizes;
 use link::Answer;
@@ -94,16 +94,16 @@ impl Traffic {
     }
 
     /// This became of a command.
-    fn note_fate(&mut self, fate: Fate, order: Order)
+    fn note_fate(&mut self, fate: CommandFate, order: Order)
         ensures { self.new ≡ spec.fate_noted fate order self.old }
     {
         let note = Note::Fate(order, self.address, fate);
         match fate {
-            Fate::Sent => self.sent.add(note),
-            Fate::Confirmed => self.confirmed.add(note),
-            Fate::Denied => self.denied.add(note),
-            Fate::Terminated => self.terminated.add(note),
-            Fate::Busy | Fate::GivenUp => self.failed.add(note),
+            CommandFate::Sent => self.sent.add(note),
+            CommandFate::Confirmed => self.confirmed.add(note),
+            CommandFate::Denied => self.denied.add(note),
+            CommandFate::Terminated => self.terminated.add(note),
+            CommandFate::Busy | CommandFate::GivenUp => self.failed.add(note),
         }
     }
 
@@ -114,12 +114,12 @@ impl Traffic {
         self.commands = self.commands.saturating_add(1);
         self.order = order;
         if let Some(order) = order {
-            self.note_fate(Fate::Sent, order);
+            self.note_fate(CommandFate::Sent, order);
         }
     }
 
     /// This became of the latest command that went out.
-    pub(crate) fn end(&mut self, fate: Fate)
+    pub(crate) fn end(&mut self, fate: CommandFate)
         ensures { self.new ≡ spec.ended fate self.old }
     {
         if let Some(order) = self.order {
@@ -133,7 +133,7 @@ impl Traffic {
     {
         let address = self.address;
         match mishap {
-            Mishap::GivenUp => self.end(Fate::GivenUp),
+            Mishap::GivenUp => self.end(CommandFate::GivenUp),
             Mishap::MirrorDropped => self.mirrors.add(Note::MirrorDropped(address)),
             Mishap::Spoilt => self.spoilt.add(Note::Spoilt(address)),
             Mishap::Late => self.late.add(Note::Late(address)),
@@ -167,7 +167,9 @@ impl Traffic {
     {
         match answer {
             Some(Answer::Report(asdu)) => self.report(sizes, now, asdu.octets()),
-            Some(Answer::Busy) => self.end(Fate::Busy),
+            // What else an answer says is told by the station's ASDU, if at all
+            // (docs/DECISIONS.md, "What became of a command").
+            Some(Answer::Busy) => self.end(CommandFate::Busy),
             _ => {}
         }
     }
@@ -185,9 +187,10 @@ impl Traffic {
     }
 
     /// The line of the first of its kinds that has one to be told now.
-    pub(crate) fn line(&mut self, now: u64) -> Option<Line>
+    pub(crate) fn line(&mut self, now: u64) -> Option<LogLine>
         ensures { (self.new, result) ≡ spec.traffic_line now self.old }
     {
+        // In the order in which a command meets with them.
         if let Some(line) = self.sent.line(now) {
             return Some(line);
         }
@@ -207,9 +210,10 @@ impl Traffic {
     }
 
     /// The same of the kinds that are told once a minute.
-    fn minute_line(&mut self, now: u64) -> Option<Line>
+    fn minute_line(&mut self, now: u64) -> Option<LogLine>
         ensures { (self.new, result) ≡ spec.minute_line now self.old }
     {
+        // A wrong setting brings one of these with each answer, so once a minute is enough.
         if let Some(line) = self.skips.minute_line(now) {
             return Some(line);
         }
@@ -224,7 +228,7 @@ impl Traffic {
 }
 
 /// The line of the first station that has one to be told now.
-pub(crate) fn traffic_line(traffic: &mut [Traffic], now: u64) -> Option<Line>
+pub(crate) fn traffic_line(traffic: &mut [Traffic], now: u64) -> Option<LogLine>
     ensures { (traffic.new, result) ≡ spec.first_line now traffic.old }
 {
     for station in traffic.iter_mut() {

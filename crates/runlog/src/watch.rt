@@ -7,7 +7,7 @@ ghost use Rattle.runlog.specs.Watching as spec;
 use crate::ends::{ConnectionWatch, DoorWatch, LineWatch, Opening};
 use crate::exchange::Exchange;
 use crate::inbox::Inbox;
-use crate::note::{Line, Note, Tally};
+use crate::note::{LogLine, Note, Tally};
 use crate::queue::QueueWatch;
 use crate::stations::{StationWatch, gap};
 use crate::traffic::{Traffic, traffic_line};
@@ -169,6 +169,8 @@ impl Watch {
     {
         match self.wall {
             Some(wall) => {
+                // Between two events of the clock it goes on with the moments (docs/DECISIONS.md,
+                // "The wall clock is an event").
                 let passed = self.moment.saturating_sub(wall.moment);
                 Some(wall.shown.saturating_add(passed))
             }
@@ -227,22 +229,24 @@ impl Watch {
 
     /// An event came, whose octets are the front of the buffer, and after which the ends are seen
     /// so.
-    pub(crate) fn hear(&mut self, next: Next, buf: &[u8; 1024], sight: &Sight) -> Option<Line>
+    pub(crate) fn hear(&mut self, next: Next, buf: &[u8; 1024], sight: &Sight) -> Option<LogLine>
         requires { FitsBuffer next }
         ensures { (self.new, result) ≡ spec.heard next buf.now sight.now self.old }
     {
+        // First: they were dropped before this event, when the latest request went out.
         self.note_late(sight.late_octets);
         self.come(next, buf, sight)
     }
 
     /// The same, once what was late before it is noted.
-    fn come(&mut self, next: Next, buf: &[u8; 1024], sight: &Sight) -> Option<Line>
+    fn come(&mut self, next: Next, buf: &[u8; 1024], sight: &Sight) -> Option<LogLine>
         requires { FitsBuffer next }
         ensures { (self.new, result) ≡ spec.came next buf.now sight.now self.old }
     {
         match next {
             Next::Open(now) => {
                 self.begin(now);
+                // Half an APDU of the connection before is no beginning of one on this.
                 self.inbox.empty();
                 self.connection.open(sight.peer, now)
             }
@@ -287,13 +291,14 @@ impl Watch {
     fn receive(&mut self, octets: &[u8])
         ensures { self.new ≡ spec.received octets.now self.old }
     {
+        // Without a connection the gateway takes none either.
         if self.connection.opening().is_some() {
             self.inbox.receive(octets);
         }
     }
 
     /// The ends are seen so.
-    fn see(&mut self, sight: &Sight) -> Option<Line>
+    fn see(&mut self, sight: &Sight) -> Option<LogLine>
         ensures { (self.new, result) ≡ spec.seen sight.now self.old }
     {
         let now = self.moment;
@@ -304,7 +309,7 @@ impl Watch {
     }
 
     /// An action goes out.
-    pub(crate) fn put(&mut self, now: u64, action: &Action<'_>) -> Option<Line>
+    pub(crate) fn put(&mut self, now: u64, action: &Action<'_>) -> Option<LogLine>
         ensures { (self.new, result) ≡ spec.put now (output_of action.now) self.old }
     {
         match action {
@@ -316,9 +321,10 @@ impl Watch {
     }
 
     /// The gateway closes the connection.
-    fn close(&mut self, cause: Close, now: u64) -> Option<Line>
+    fn close(&mut self, cause: Close, now: u64) -> Option<LogLine>
         ensures { (self.new, result) ≡ spec.closed cause now self.old }
     {
+        // The one that comes in its place stands there already.
         if !matches!(cause, Close::Replaced) {
             self.inbox.close();
         }
@@ -335,10 +341,11 @@ impl Watch {
     }
 
     /// The next line of what was gathered, if one may be told now. It is sought once a ms.
-    pub(crate) fn gathered(&mut self) -> Option<Line>
+    pub(crate) fn gathered(&mut self) -> Option<LogLine>
         ensures { (self.new, result) ≡ spec.gathered self.old }
     {
         let now = self.moment;
+        // A flood has many steps in one moment, and this goes over all stations.
         if self.sought == now {
             return None;
         }
@@ -369,7 +376,7 @@ impl Watch {
     }
 
     /// The gateway has counted this, and so many places of its queue are taken.
-    pub(crate) fn look(&mut self, counts: Counts, taken: u64) -> Option<Line>
+    pub(crate) fn look(&mut self, counts: Counts, taken: u64) -> Option<LogLine>
         ensures { (self.new, result) ≡ spec.looked_at counts taken self.old }
     {
         self.looked = self.moment;
@@ -380,7 +387,7 @@ impl Watch {
     }
 
     /// The counts are told each minute.
-    fn count(&mut self, counts: Counts, taken: u64) -> Option<Line>
+    fn count(&mut self, counts: Counts, taken: u64) -> Option<LogLine>
         ensures { (self.new, result) ≡ spec.counted counts taken self.old }
     {
         if self.moment.saturating_sub(self.counted) < COUNTS_MS {
@@ -391,17 +398,17 @@ impl Watch {
     }
 
     /// The line of the counts.
-    pub(crate) fn sum(&self, counts: Counts, taken: u64) -> Line
+    pub(crate) fn sum(&self, counts: Counts, taken: u64) -> LogLine
         ensures { result ≡ spec.sum_line counts taken self.now }
     {
         self.line(Note::Counts(self.tally(counts, taken)))
     }
 
     /// A line of this moment.
-    pub(crate) fn line(&self, note: Note) -> Line
+    pub(crate) fn line(&self, note: Note) -> LogLine
         ensures { result ≡ spec.line_of note self.now }
     {
-        Line {
+        LogLine {
             moment: self.moment,
             note,
             left_out: 0,

@@ -21,7 +21,7 @@ use Rattle.segments.specs.Head.{Fits, IsWholeText, head_for, head_of, whole_text
 use Rattle.segments.specs.Starts.{BeginsNewer, IsBacked, IsFoundIn, IsHeadIn, IsNewest}
 use Rattle.segments.specs.Starts.{number_in}
 use Rattle.segments.specs.Written.{text_in}
-use Rattle.segments.specs.declared.head.Head.{Head}
+use Rattle.segments.specs.declared.head.SegmentHead.{SegmentHead}
 use Rattle.segments.specs.declared.start.Front.{Front}
 use Rattle.segments.specs.declared.start.Front.TheVariants as fronts
 use Rattle.segments.proofs.Fronts.{head_letter, head_within, not_shut, same_octets}
@@ -53,7 +53,7 @@ sum_told a b fits fits' e =
     sym (from_be_bytes-to_be_bytes_4 a fits) ∙ ap (from_be_bytes w32) octets
     ∙ from_be_bytes-to_be_bytes_4 b fits'
 
-same_line : (a b : Head) → Fits a → Fits b → head_of a ≡ head_of b → a ≡ b
+same_line : (a b : SegmentHead) → Fits a → Fits b → head_of a ≡ head_of b → a ≡ b
 same_line a b fits fits' e =
     let number : a.number ≡ b.number = number_told a.number b.number fits.number fits'.number
     (sym (number_at a) ∙ ap (λ (l : List ℕ). take 16 (drop 33 l)) e ∙ number_at b) in
@@ -70,17 +70,17 @@ empty : (l : List ℕ) → length l ≡ 0 → l ≡ []
 empty [] is = refl
 empty (x ∷ l) is = absurd (omega arith)
 
-same_first : (file : List ℕ) (a b : Head) → Fits a → Fits b → Holds file 0 (head_of a)
+same_first : (file : List ℕ) (a b : SegmentHead) → Fits a → Fits b → Holds file 0 (head_of a)
     → Holds file 0 (head_of b) → a ≡ b
 same_first file a b fits fits' one other =
     same_line a b fits fits' (same_octets file 0 (head_of a) (head_of b) one other
     (head_length a ∙ sym (head_length b)))
 
-same_text : (file : List ℕ) (a b : Head) (one other : List ℕ) → a ≡ b → IsFoundIn file a one
+same_text : (file : List ℕ) (a b : SegmentHead) (one other : List ℕ) → a ≡ b → IsFoundIn file a one
     → IsFoundIn file b other → one ≡ other
 same_text file a b one other same found found' =
     let long : length one ≡ length other =
-    found.octets ∙ ap (λ (h : Head). h.octets) same ∙ sym found'.octets in
+    found.octets ∙ ap (λ (h : SegmentHead). h.octets) same ∙ sym found'.octets in
     elim (cases_lt 0 (length one)) [
       | inl some ↦ same_octets file 87 one other (found.behind some)
           (found'.behind (omega (arith, some, long))) long
@@ -88,13 +88,13 @@ same_text file a b one other same found found' =
     ]
 
 -- a file has no two segments
-pub one_segment : (file : List ℕ) (a b : Head) (one other : List ℕ) → Fits a → Fits b
+pub one_segment : (file : List ℕ) (a b : SegmentHead) (one other : List ℕ) → Fits a → Fits b
     → IsFoundIn file a one → IsFoundIn file b other → one ≡ other
 one_segment file a b one other fits fits' found found' =
     same_text file a b one other (same_first file a b fits fits' found.first found'.first) found
     found'
 
-that : (file : List ℕ) (number : ℕ) (body newest : List ℕ) (head : Head) (text : List ℕ)
+that : (file : List ℕ) (number : ℕ) (body newest : List ℕ) (head : SegmentHead) (text : List ℕ)
     → Fits (head_for number body) → Fits head → newest ≡ file
     → IsFoundIn file (head_for number body) body → IsFoundIn newest head text
     → IsThatOf file number body newest head text
@@ -215,7 +215,7 @@ module _ (outcomes : List ℕ → Type 0) (number : ℕ) (body lines : List ℕ)
 -- Two files
 
 pub newest_left : (mine others : List ℕ → Type 0) (number : ℕ) (body lines : List ℕ) (synced : ℕ)
-    (c d newest other : List ℕ) (head : Head) (text : List ℕ)
+    (c d newest other : List ℕ) (head : SegmentHead) (text : List ℕ)
     → Survives mine number body lines synced → AreOlder others number → mine c → others d
     → AreBoth c d newest other → IsNewest newest other → Fits head
     → IsFoundIn newest head text → IsThatOf c number body newest head text
@@ -241,7 +241,7 @@ pub survived_older : (outcomes : List ℕ → Type 0) (number next : ℕ) (body 
 survived_older outcomes number next body lines synced s less c is head text fits found =
     let whole = whole_left outcomes number body lines synced c s is in
     let same = same_first c head (head_for number body) fits s.fits found.first whole.first in
-    let number_is : head.number ≡ number = ap (λ (h : Head). h.number) same in
+    let number_is : head.number ≡ number = ap (λ (h : SegmentHead). h.number) same in
     omega (arith, number_is, less)
 
 pub shut_older : (outcomes : List ℕ → Type 0) (number : ℕ) → IsShut outcomes
@@ -277,7 +277,8 @@ found_front file number body front = found_so file number body [] 0 begins long
       length-take (length (whole_text number body)) file,
     )
 
-pub finished_whole : (outcomes : List ℕ → Type 0) (number : ℕ) (body c : List ℕ) (head : Head)
+pub finished_whole : (outcomes : List ℕ → Type 0) (number : ℕ) (body c : List ℕ)
+    (head : SegmentHead)
     (text : List ℕ) → Fits (head_for number body) → Fits head
     → IsTextIfOpen outcomes (whole_text number body) → outcomes c → IsFoundIn c head text
     → IsThatOf c number body c head text

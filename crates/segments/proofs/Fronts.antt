@@ -15,7 +15,7 @@ use Rattle.segments.specs.Starts.{ArePlaced, BeginsSo, FitsIn, HasNoNewer, HasNo
 use Rattle.segments.specs.Starts.{IsBacked, IsBackedBy, IsFoundIn, IsWholeIn}
 use Rattle.segments.specs.Starts.{IsHeadIn, IsNewest, IsShut, IsSound, is_doubtful, is_other}
 use Rattle.segments.specs.Starts.{is_shut, number_in, other_side}
-use Rattle.segments.specs.declared.head.Head.{Head}
+use Rattle.segments.specs.declared.head.SegmentHead.{SegmentHead}
 use Rattle.segments.specs.declared.start.Front.{Front}
 use Rattle.segments.specs.declared.start.Front.TheVariants as fronts
 use Rattle.segments.specs.declared.start.Side.{Side}
@@ -30,14 +30,16 @@ same_octets file at a b one other long =
     ext_get_or 0 a b long (λ i lt. sym (one.each i lt) ∙ other.each i (omega (arith, lt, long)))
 
 -- a first line has 87 octets, the first of which is a letter
-pub head_within : (file : List ℕ) (head : Head) → Holds file 0 (head_of head) → 87 ≤ length file
+pub head_within : (file : List ℕ) (head : SegmentHead) → Holds file 0 (head_of head)
+    → 87 ≤ length file
 head_within file head holds = omega (arith, holds.within, head_length head)
 
-pub head_letter : (file : List ℕ) (head : Head) → Holds file 0 (head_of head) → slice_index file 0
+pub head_letter : (file : List ℕ) (head : SegmentHead) → Holds file 0 (head_of head)
+    → slice_index file 0
     ≡ 116
 head_letter file head holds = holds.each 0 (omega (arith, head_length head)) ∙ head_first head
 
-pub not_shut : (file : List ℕ) (head : Head) → Holds file 0 (head_of head) → IsShut file → ⊥
+pub not_shut : (file : List ℕ) (head : SegmentHead) → Holds file 0 (head_of head) → IsShut file → ⊥
 not_shut file head holds (inl short) = omega (arith, short, head_within file head holds)
 not_shut file head holds (inr zero) = let no : 0 ≡ 116 = sym zero ∙ head_letter file head holds in
     absurd (omega (arith, no))
@@ -73,7 +75,7 @@ other_short file first held one some long short = record {
   heads = λ head fits holds. absurd (omega (arith, short, head_within file head holds));
 }
 
-line_of : (file row : List ℕ) (head : Head) → Holds file 0 row → length row ≡ 87
+line_of : (file row : List ℕ) (head : SegmentHead) → Holds file 0 row → length row ≡ 87
     → Holds file 0 (head_of head)
     → row ≡ head_of head
 line_of file row head held long holds = same_octets file 0 row (head_of head) held holds (long
@@ -82,7 +84,7 @@ line_of file row head held long holds = same_octets file 0 row (head_of head) he
 pub other_line : (file first row : List ℕ) → Holds file 0 first → length first ≡ 1
     → (slice_index first 0 ≡ 0 → ⊥)
     → 2 ≤ length file → Holds file 0 row → length row ≡ 87
-    → ((head : Head) → Fits head → row ≡ head_of head → None ≡ Some head)
+    → ((head : SegmentHead) → Fits head → row ≡ head_of head → None ≡ Some head)
     → IsHeadIn file fronts.Other
 other_line file first row held one some long line count none = record {
   begins = open_file file first held one some long;
@@ -90,9 +92,9 @@ other_line file first row held one some long line count none = record {
       absurd (cc);
 }
 
-pub head_line : (file row : List ℕ) (h : Head) → Holds file 0 row → length row ≡ 87
+pub head_line : (file row : List ℕ) (h : SegmentHead) → Holds file 0 row → length row ≡ 87
     → row ≡ head_of h
-    → ((head : Head) → Fits head → row ≡ head_of head → Some h ≡ Some head)
+    → ((head : SegmentHead) → Fits head → row ≡ head_of head → Some h ≡ Some head)
     → IsHeadIn file (fronts.Head h)
 head_line file row h line count is all = record {
   begins = subst (λ (l : List ℕ). Holds file 0 l) is line;
@@ -107,7 +109,7 @@ gone_well (Err e) well p = cc
 
 -- A segment that is whole
 
-pub found_within : (file : List ℕ) (head : Head) (text : List ℕ) → IsFoundIn file head text
+pub found_within : (file : List ℕ) (head : SegmentHead) (text : List ℕ) → IsFoundIn file head text
     → 87 + head.octets ≤ length file
 found_within file head text found = elim (cases_lt 0 (length text)) [
   | inl some ↦ omega (arith, found.octets, (found.behind some).within)
@@ -115,7 +117,8 @@ found_within file head text found = elim (cases_lt 0 (length text)) [
 ]
 
 -- what was read behind the first line is its text
-pub found_sum : (file : List ℕ) (head : Head) (text read : List ℕ) → length read ≡ head.octets
+pub found_sum : (file : List ℕ) (head : SegmentHead) (text read : List ℕ) → length read
+    ≡ head.octets
     → (0 < length read → Holds file 87 read) → IsFoundIn file head text → sum_of read ≡ head.sum
 found_sum file head text read long holds found = elim (cases_lt 0 (length text)) [
   | inl some ↦
@@ -229,7 +232,8 @@ placed_other sides.Db log db a b h = (h.1, h.0)
 
 -- No newer segment stood in the other file
 
-pub sure_first : (newer older : List ℕ) (front other : Front) (own : Head) → IsHeadIn newer front
+pub sure_first : (newer older : List ℕ) (front other : Front) (own : SegmentHead)
+    → IsHeadIn newer front
     → IsHeadIn older other → number_in other ≤ number_in front → front ≡ fronts.Head own
     → is_other other ≡ false
     → HasNoNewer newer older
@@ -264,7 +268,7 @@ if_some_map (Some x) p all = all x p
 
 -- Which file may be written over
 
-pub backed_first : (newer older : List ℕ) (front other : Front) (own : Head) (text : List ℕ)
+pub backed_first : (newer older : List ℕ) (front other : Front) (own : SegmentHead) (text : List ℕ)
     → IsHeadIn older other → number_in other ≤ number_in front → front ≡ fronts.Head own
     → FitsIn front
     → IsFoundIn newer own text → IsBacked newer older
@@ -322,14 +326,15 @@ behind_first file octets within = record {
     count = length-take-le octets (drop 87 file) (omega (arith, within, length-drop 87 file))
 
 -- A file begins so, and this is the sum of the octets behind the first line.
-pub record IsSummed (file : List ℕ) (front : Front) (head : Head) (octets sum : ℕ) : Type 0 where
+pub record IsSummed (file : List ℕ) (front : Front) (head : SegmentHead) (octets sum : ℕ) : Type
+    0 where
   pub is : front ≡ fronts.Head head
   pub begins : IsHeadIn file front
   pub count : octets ≡ head.octets
   pub within : 87 + octets ≤ length file
   pub sum_is : sum ≡ sum_of (take octets (drop 87 file))
 
-pub summed_from : (old between new : List ℕ) (front : Front) (head : Head) (o : Option ℕ)
+pub summed_from : (old between new : List ℕ) (front : Front) (head : SegmentHead) (o : Option ℕ)
     (octets sum : ℕ) → between ≡ old → new ≡ between → front ≡ fronts.Head head
     → IsHeadIn old front → o ≡ Some octets → IfSome o (λ n. n ≡ head.octets)
     → IfSome o (λ n. 87 + n ≤ length between) → sum ≡ sum_of (take octets (drop 87 new))
@@ -344,7 +349,7 @@ summed_from old between new front head o octets sum same same' is begins some co
       sum_is = sum_is;
     }
 
-pub whole_by_sum : (file : List ℕ) (front : Front) (head : Head) (octets sum : ℕ)
+pub whole_by_sum : (file : List ℕ) (front : Front) (head : SegmentHead) (octets sum : ℕ)
     → IsSummed file front head octets sum → sum ≡ head.sum → IsWholeIn file front
 whole_by_sum file front head octets sum s same = (
   head,
@@ -359,7 +364,7 @@ whole_by_sum file front head octets sum s same = (
   },
 )
 
-pub none_by_sum : (file : List ℕ) (front : Front) (own : Head) (octets sum : ℕ)
+pub none_by_sum : (file : List ℕ) (front : Front) (own : SegmentHead) (octets sum : ℕ)
     → IsSummed file front own octets sum → (sum ≡ own.sum → ⊥) → HasNone file
 none_by_sum file front own octets sum s differ head text fits found =
     let heads : fronts.Head head ≡ fronts.Head own =
@@ -368,4 +373,4 @@ none_by_sum file front own octets sum s differ head text fits found =
     differ (s.sum_is ∙ found_sum file own text (take octets (drop 87 file))
     (length-take-le octets (drop 87 file) (omega (arith, s.within, length-drop 87 file)) ∙ s.count)
     (λ some. behind_first file octets s.within)
-    (subst (λ (h : Head). IsFoundIn file h text) same found))
+    (subst (λ (h : SegmentHead). IsFoundIn file h text) same found))

@@ -9,7 +9,7 @@ use Rattle.hex.specs.Hex.{IsBytes, decode_sized, encode_lower, encode_with, lowe
 use Rattle.hex.specs.declared.error.FromHexError.{FromHexError}
 use Rattle.hex.proofs.HexLemmas.{decode_sized-encode_lower, length-encode_with}
 use Rattle.segments.specs.Head.{head_for, head_of, whole_text}
-use Rattle.segments.specs.declared.head.Head.{Head}
+use Rattle.segments.specs.declared.head.SegmentHead.{SegmentHead}
 
 parts : (a b c d e f g : List ℕ) → length (a ++ b ++ c ++ d ++ e ++ f ++ g)
     ≡ length a + length b + length c + length d + length e + length f + length g
@@ -21,7 +21,7 @@ digits xs n is = omega (arith, length-encode_with lower_digits xs, is)
 sums : (a b c : ℕ) → a ≡ 2 * 8 → b ≡ 2 * 8 → c ≡ 2 * 4 → 33 + a + 8 + b + 5 + c + 1 ≡ 87
 sums a b c is-a is-b is-c = omega arith
 
-pub head_length : (h : Head) → length (head_of h) ≡ 87
+pub head_length : (h : SegmentHead) → length (head_of h) ≡ 87
 head_length h =
     parts (codes "telegate state 1 rules 1 segment ") (encode_lower (to_be_bytes w64 h.number))
     (codes " octets ")
@@ -39,7 +39,7 @@ whole_behind number body =
     (sym (head_length (head_for number body)))
     ∙ drop-append_seam (head_of (head_for number body)) body
 
-pub head_first : (h : Head) → slice_index (head_of h) 0 ≡ 116
+pub head_first : (h : SegmentHead) → slice_index (head_of h) 0 ≡ 116
 head_first h = refl
 
 -- Digits are read back
@@ -91,26 +91,29 @@ decoded_4 text new r sum read is =
 
 -- The numbers stand at their places
 
-pub number_at : (h : Head) → take 16 (drop 33 (head_of h)) ≡ encode_lower (to_be_bytes w64 h.number)
+pub number_at : (h : SegmentHead) → take 16 (drop 33 (head_of h))
+    ≡ encode_lower (to_be_bytes w64 h.number)
 unfolding encode_with
 number_at h = refl
 
-pub octets_at : (h : Head) → take 16 (drop 57 (head_of h)) ≡ encode_lower (to_be_bytes w64 h.octets)
+pub octets_at : (h : SegmentHead) → take 16 (drop 57 (head_of h))
+    ≡ encode_lower (to_be_bytes w64 h.octets)
 unfolding encode_with
 octets_at h = refl
 
-pub sum_at : (h : Head) → take 8 (drop 78 (head_of h)) ≡ encode_lower (to_be_bytes w32 h.sum)
+pub sum_at : (h : SegmentHead) → take 8 (drop 78 (head_of h)) ≡ encode_lower (to_be_bytes w32 h.sum)
 unfolding encode_with
 sum_at h = refl
 
 -- those that were read back are those of the line
-pub same_head : (number octets sum : ℕ) (h : Head) → Some number ≡ Some h.number → Some octets
+pub same_head : (number octets sum : ℕ) (h : SegmentHead) → Some number ≡ Some h.number
+    → Some octets
     ≡ Some h.octets
     → Some sum ≡ Some h.sum → record { number = number; octets = octets; sum = sum } ≡ h
 same_head number octets sum h n o s =
-    let by_number : ℕ → Head = λ m. record { number = m; octets = octets; sum = sum } in
-    let by_octets : ℕ → Head = λ m. record { number = h.number; octets = m; sum = sum } in
-    let by_sum : ℕ → Head = λ m. record { number = h.number; octets = h.octets; sum = m } in
+    let by_number : ℕ → SegmentHead = λ m. record { number = m; octets = octets; sum = sum } in
+    let by_octets : ℕ → SegmentHead = λ m. record { number = h.number; octets = m; sum = sum } in
+    let by_sum : ℕ → SegmentHead = λ m. record { number = h.number; octets = h.octets; sum = m } in
     ap by_number (let a : number ≡ h.number = cc in a)
     ∙ ap by_octets (let b : octets ≡ h.octets = cc in b)
     ∙ ap by_sum (let d : sum ≡ h.sum = cc in d)

@@ -4,7 +4,7 @@ use Rattle.std.specs.Prelude.{slice_index}
 use Rattle.segments.specs.Crash.{BeginsWith, HasLength}
 use Rattle.segments.specs.Head.{Fits, head_for, whole_text}
 use Rattle.segments.specs.Starts.{IsFoundIn, before_zero}
-use Rattle.segments.specs.declared.head.Head.{Head}
+use Rattle.segments.specs.declared.head.SegmentHead.{SegmentHead}
 
 -- no octet of these lines is 0
 abbrev pub HasNoZero : List ℕ → Type 0
@@ -25,7 +25,8 @@ pub record Survives (outcomes : List ℕ → Type 0) (number : ℕ) (body lines 
 
 -- each segment that a crash may leave in a file has a number below this one
 abbrev pub AreOlder : (List ℕ → Type 0) → ℕ → Type 0
-AreOlder outcomes number = (c : List ℕ) → outcomes c → (head : Head) (text : List ℕ) → Fits head →
+AreOlder outcomes number = (c : List ℕ) → outcomes c → (head : SegmentHead) (text : List ℕ)
+    → Fits head →
     IsFoundIn c head text → head.number < number
 
 -- the lines that a start reads behind the checkpoint of a file
@@ -37,7 +38,7 @@ abbrev pub AreBoth : (one two newest other : List ℕ) → Type 0
 AreBoth one two newest other = ((newest ≡ one) × (other ≡ two)) ⊎ ((newest ≡ two) × (other ≡ one))
 
 -- a start has found this segment, and no other
-pub record IsThatOf (file : List ℕ) (number : ℕ) (body newest : List ℕ) (head : Head)
+pub record IsThatOf (file : List ℕ) (number : ℕ) (body newest : List ℕ) (head : SegmentHead)
     (text : List ℕ) : Type 0 where
   pub same : newest ≡ file
   pub first : head ≡ head_for number body

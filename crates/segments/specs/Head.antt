@@ -3,23 +3,23 @@ use Rattle.std.specs.Prelude.{◌≡◌, ℕ, ◌<◌, ◌^◌, List, [], ◌∷
 use Rattle.std.specs.Int.{w32, w64, to_be_bytes}
 use Rattle.statetext.specs.Sum.{sum_of}
 use Rattle.hex.specs.Hex.{encode_lower}
-use Rattle.segments.specs.declared.head.Head.{Head}
+use Rattle.segments.specs.declared.head.SegmentHead.{SegmentHead}
 
 -- the form and the rules; then the segment's number, how many octets the checkpoint behind this
 -- line has, and the sum CRC-32 of these, each with all its digits in hexadecimal
-abbrev pub head_of : Head → List ℕ
+abbrev pub head_of : SegmentHead → List ℕ
 head_of h = codes "telegate state 1 rules 1 segment " ++ encode_lower (to_be_bytes w64 h.number)
     ++ codes " octets " ++ encode_lower (to_be_bytes w64 h.octets)
     ++ codes " sum " ++ encode_lower (to_be_bytes w32 h.sum) ++ 10 ∷ []
 
 -- its numbers have so few digits
-pub record Fits (h : Head) : Type 0 where
+pub record Fits (h : SegmentHead) : Type 0 where
   pub number : h.number < 2 ^ 64
   pub octets : h.octets < 2 ^ 64
   pub sum : h.sum < 2 ^ 32
 
 -- the first line of the segment with this number and this checkpoint
-abbrev pub head_for : ℕ → List ℕ → Head
+abbrev pub head_for : ℕ → List ℕ → SegmentHead
 head_for number body = record { number = number; octets = length body; sum = sum_of body }
 
 -- the text of a segment with this checkpoint, before its first line of events

@@ -4,7 +4,7 @@ use Rattle.std.specs.Prelude.{List, length, slice_index, take, position, Option,
 use Rattle.sqlite_disk.specs.Disk.{Holds}
 use Rattle.statetext.specs.Sum.{sum_of}
 use Rattle.segments.specs.Head.{Fits, head_of}
-use Rattle.segments.specs.declared.head.Head.{Head}
+use Rattle.segments.specs.declared.head.SegmentHead.{SegmentHead}
 use Rattle.segments.specs.declared.start.Front.{Front}
 use Rattle.segments.specs.declared.start.Front.TheVariants as fronts
 use Rattle.segments.specs.declared.start.Side.{Side}
@@ -27,7 +27,8 @@ BeginsSo file fronts.Other = IsShut file → ⊥
 -- so does the file begin, and with no other first line of a segment
 pub record IsHeadIn (file : List ℕ) (front : Front) : Type 0 where
   pub begins : BeginsSo file front
-  pub heads : (head : Head) → Fits head → Holds file 0 (head_of head) → front ≡ fronts.Head head
+  pub heads : (head : SegmentHead) → Fits head → Holds file 0 (head_of head)
+      → front ≡ fronts.Head head
 
 abbrev pub number_in : Front → ℕ
 number_in fronts.Shut = 0
@@ -51,7 +52,7 @@ is_doubtful front false behind = not (is_shut front) || not (is_shut behind)
 
 -- the file has a segment with this first line, and this checkpoint, whose length and whose sum the
 -- line tells
-pub record IsFoundIn (file : List ℕ) (head : Head) (text : List ℕ) : Type 0 where
+pub record IsFoundIn (file : List ℕ) (head : SegmentHead) (text : List ℕ) : Type 0 where
   pub first : Holds file 0 (head_of head)
   pub octets : length text ≡ head.octets
   pub sum : sum_of text ≡ head.sum
@@ -67,17 +68,17 @@ before_zero text = up_to (position (λ c. c == 0) text) text
 
 -- the file has no segment
 abbrev pub HasNone : List ℕ → Type 0
-HasNone file = (head : Head) (text : List ℕ) → Fits head → IsFoundIn file head text → ⊥
+HasNone file = (head : SegmentHead) (text : List ℕ) → Fits head → IsFoundIn file head text → ⊥
 
 -- of two files with a segment the first one has the higher number, or both have the same
 abbrev pub IsNewest : (newest other : List ℕ) → Type 0
-IsNewest newest other = (own head : Head) (text others : List ℕ) → Fits own → Fits head →
+IsNewest newest other = (own head : SegmentHead) (text others : List ℕ) → Fits own → Fits head →
     IsFoundIn newest own text → IsFoundIn other head others → head.number ≤ own.number
 
 -- the file is shut, or has a segment: no crash leaves another one
 abbrev pub IsSound : List ℕ → Type 0
 IsSound file = IsShut file
-    ⊎ ((head : Head) × (text : List ℕ) × Fits head × IsFoundIn file head text)
+    ⊎ ((head : SegmentHead) × (text : List ℕ) × Fits head × IsFoundIn file head text)
 
 -- these are the two files as they were, the newest segment being in the one of this side
 abbrev pub ArePlaced : Side → (log db newest other : List ℕ) → Type 0
@@ -87,19 +88,20 @@ ArePlaced sides.Db log db newest other = (newest ≡ db) × (other ≡ log)
 -- a segment whose first line stands in the file has a number below this one, unless this is the
 -- greatest of 64 bits
 abbrev pub IsAbove : ℕ → List ℕ → Type 0
-IsAbove number file = (head : Head) → Fits head → Holds file 0 (head_of head) →
+IsAbove number file = (head : SegmentHead) → Fits head → Holds file 0 (head_of head) →
     min (head.number + 1) 18446744073709551615 ≤ number
 
 -- The other file is shut, or begins with the first line of a segment that isn't newer: so no newer
 -- one than the newest ever stood there.
 abbrev pub HasNoNewer : (newest other : List ℕ) → Type 0
 HasNoNewer newest other = IsShut other
-    ⊎ ((own : Head) × (head : Head) × Holds newest 0 (head_of own) × Holds other 0 (head_of head)
+    ⊎ ((own : SegmentHead) × (head : SegmentHead) × Holds newest 0 (head_of own)
+    × Holds other 0 (head_of head)
     × (head.number ≤ own.number))
 
 -- the file has a segment whose number is at least this one
 pub record HasAsNew (number : ℕ) (file : List ℕ) : Type 0 where
-  pub head : Head
+  pub head : SegmentHead
   pub text : List ℕ
   pub fits : Fits head
   pub found : IsFoundIn file head text
@@ -107,13 +109,14 @@ pub record HasAsNew (number : ℕ) (file : List ℕ) : Type 0 where
 
 -- The other file may be written over: where it has a segment, this one has one that isn't older.
 abbrev pub IsBacked : (newest other : List ℕ) → Type 0
-IsBacked newest other = (head : Head) (text : List ℕ) → Fits head → IsFoundIn other head text →
+IsBacked newest other = (head : SegmentHead) (text : List ℕ) → Fits head → IsFoundIn other head text
+    →
     HasAsNew head.number newest
 
 -- the file begins with the first line of a segment that is newer than the one with this number
 abbrev pub BeginsNewer : ℕ → List ℕ → Type 0
 BeginsNewer number file =
-    (head : Head) × Holds file 0 (head_of head) × (number < head.number)
+    (head : SegmentHead) × Holds file 0 (head_of head) × (number < head.number)
 
 -- so does the file of this side back the other one
 abbrev pub IsBackedBy : Side → (log db : List ℕ) → Type 0
@@ -122,7 +125,7 @@ IsBackedBy sides.Db log db = IsBacked db log
 
 -- a file that begins so has a segment that is whole
 abbrev pub IsWholeIn : List ℕ → Front → Type 0
-IsWholeIn file front = (head : Head) × (text : List ℕ) × (front ≡ fronts.Head head)
+IsWholeIn file front = (head : SegmentHead) × (text : List ℕ) × (front ≡ fronts.Head head)
     × IsFoundIn file head text
 
 -- the numbers of a first line have so few digits

@@ -34,6 +34,8 @@ pub(crate) fn shut<D: Disk>(file: &mut D) -> Result<(), SegmentFault>
     ensures crash { IsTrue (D.Disk.is_mixing file.old)
         → IsOldIfOpen (D.Disk.may_leave file.old) (D.Disk.may_leave file.new) }
 {
+    // The first octet goes first, and is synced: a crash behind it leaves nothing that a start
+    // takes for a segment.
     done(file.write_at(0, &[0]))?;
     done(file.sync())?;
     done(file.set_len(HEAD))
@@ -105,6 +107,8 @@ pub(crate) fn publish<D: Disk>(file: &mut D, head: &[u8]) -> Result<(), SegmentF
     ensures crash { IsWholeIfOpen (D.Disk.may_leave file.new)
         (head.now ++ drop 87 (D.Disk.seen file.old)) }
 {
+    // The first octet last: until all else is on the disk, no start takes the file for a segment
+    // (docs/DECISIONS.md, "Two files, written in turn").
     done(file.write_at(1, &head[1..]))?;
     done(file.sync())?;
     done(file.write_at(0, &head[..1]))?;

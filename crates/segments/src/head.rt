@@ -4,7 +4,7 @@ ghost use Rattle.std.specs.Prelude.{IfSome};
 ghost use Rattle.hex.specs.Hex.{encode_lower};
 ghost use Rattle.std.specs.Int.{w32, w64, to_be_bytes};
 ghost use Rattle.segments.specs.Head.{Fits, head_of};
-ghost use Rattle.segments.specs.declared.head.Head.{Head};
+ghost use Rattle.segments.specs.declared.head.SegmentHead.{SegmentHead};
 
 use crate::gate::HEAD;
 use hex::decode_to_slice;
@@ -13,7 +13,7 @@ use std::alloc::{AllocError, Global};
 
 /// What the first line of a segment tells.
 #[derive(Clone, Copy, Debug, PartialEq, Eq)]
-pub struct Head {
+pub struct SegmentHead {
     /// Which segment it is: they count up.
     pub number: u64,
     /// How many octets the checkpoint behind the line has.
@@ -23,7 +23,7 @@ pub struct Head {
 }
 
 /// The text of the line, and how long it is.
-pub(crate) fn print(alloc: Global, head: &Head) -> Result<Vec<u8>, AllocError>
+pub(crate) fn print(alloc: Global, head: &SegmentHead) -> Result<Vec<u8>, AllocError>
     ensures text { IfOk result (λ row. row.items ≡ head_of head.now) }
     ensures octets { IfOk result (λ row. length row.items ≡ 87) }
     ensures first { IfOk result (λ row. slice_index row.items 0 ≡ 116) }
@@ -33,7 +33,7 @@ pub(crate) fn print(alloc: Global, head: &Head) -> Result<Vec<u8>, AllocError>
 }
 
 /// The text of the line.
-fn spell(alloc: Global, head: &Head) -> Result<Vec<u8>, AllocError>
+fn spell(alloc: Global, head: &SegmentHead) -> Result<Vec<u8>, AllocError>
     ensures { IfOk result (λ row. row.items ≡ head_of head.now) }
 {
     let mut row = Vec::from_slice(alloc, b"telegate state 1 rules 1 segment ")?;
@@ -79,9 +79,9 @@ fn are_same(first: &[u8], second: &[u8]) -> bool
 }
 
 /// What a line tells, if it is the first one of a segment: then it is printed anew as it was.
-pub(crate) fn parse(alloc: Global, text: &[u8]) -> Result<Option<Head>, AllocError>
+pub(crate) fn parse(alloc: Global, text: &[u8]) -> Result<Option<SegmentHead>, AllocError>
     ensures is { IfOk result (λ found. IfSome found (λ head. text.now ≡ head_of head)) }
-    ensures all { (head : Head) → Fits head → text.now ≡ head_of head →
+    ensures all { (head : SegmentHead) → Fits head → text.now ≡ head_of head →
         IfOk result (λ found. found ≡ Some head) }
     ensures fits { IfOk result (λ found. IfSome found Fits) }
 {
@@ -95,11 +95,12 @@ pub(crate) fn parse(alloc: Global, text: &[u8]) -> Result<Option<Head>, AllocErr
     ) else {
         return Ok(None);
     };
-    let head = Head {
+    let head = SegmentHead {
         number,
         octets,
         sum,
     };
+    // Printed anew, since the digits are read in either case and a head has one text.
     let row = print(alloc, &head)?;
     if are_same(row.as_slice(), text) {
         Ok(Some(head))

@@ -5,7 +5,7 @@ ghost use Rattle.segments.specs.Crashes.{AreBoth, AreOlder, IsThatOf, Survives};
 ghost use Rattle.segments.specs.Crashes.{lines_behind};
 ghost use Rattle.segments.specs.Head.{Fits, head_for, whole_text};
 ghost use Rattle.segments.specs.Starts.{IsFoundIn, IsNewest};
-ghost use Rattle.segments.specs.declared.head.Head.{Head};
+ghost use Rattle.segments.specs.declared.head.SegmentHead.{SegmentHead};
 
 use sqlite_disk::Disk;
 
@@ -20,7 +20,7 @@ pub fn a_start_finds_what_was_synced<D: Disk>()
         Survives (D.Disk.may_leave mine) number body lines synced → D.Disk.may_leave mine c →
         IsFoundIn c (head_for number body) body }
     ensures newest { (mine spare : D) (number : ℕ) (body lines : List ℕ) (synced : ℕ)
-        (c d newest other : List ℕ) (head : Head) (text : List ℕ) →
+        (c d newest other : List ℕ) (head : SegmentHead) (text : List ℕ) →
         Survives (D.Disk.may_leave mine) number body lines synced →
         AreOlder (D.Disk.may_leave spare) number → D.Disk.may_leave mine c →
         D.Disk.may_leave spare d → AreBoth c d newest other → IsNewest newest other → Fits head →
@@ -49,7 +49,7 @@ pub fn the_other_file_has_older_segments<D: Disk>()
     ensures unshut { (old new : D) (number : ℕ) →
         IsOldIfOpen (D.Disk.may_leave old) (D.Disk.may_leave new) →
         AreOlder (D.Disk.may_leave old) number → AreOlder (D.Disk.may_leave new) number }
-    ensures finished { (spare : D) (number : ℕ) (body c : List ℕ) (head : Head)
+    ensures finished { (spare : D) (number : ℕ) (body c : List ℕ) (head : SegmentHead)
         (text : List ℕ) → Fits (head_for number body) → Fits head →
         IsTextIfOpen (D.Disk.may_leave spare) (whole_text number body) →
         D.Disk.may_leave spare c → IsFoundIn c head text →

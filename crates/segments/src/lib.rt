@@ -1,7 +1,7 @@
 //! A log of lines on disk in two files, which are written in turn.
 //!
-//! A segment is a first line ([`Head`]: its number, how many octets its checkpoint has, and their
-//! sum), the checkpoint, lines that are appended, and zeros to the file's end.
+//! A segment is a first line ([`SegmentHead`]: its number, how many octets its checkpoint has, and
+//! their sum), the checkpoint, lines that are appended, and zeros to the file's end.
 //!
 //! - A start looks at both files ([`Start`]): the segment of the higher number counts, if it is
 //!   whole. It isn't appended to: behind a torn line older ones may stand.
@@ -27,8 +27,8 @@ mod start;
 mod writer;
 
 pub use fault::SegmentFault;
-pub use head::Head;
+pub use head::SegmentHead;
 pub use laws::{a_start_finds_what_was_synced, the_other_file_has_older_segments};
 pub use segment::Segment;
-pub use start::{Found, Side, Start, newest_side};
+pub use start::{FoundHead, Side, Start, newest_side};
 pub use writer::{Failed, Writer};

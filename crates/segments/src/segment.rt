@@ -140,6 +140,8 @@ impl<D: Disk> Segment<D> {
         ensures usable { IsTrue (D.Disk.is_usable other.new) }
         ensures seen { D.Disk.seen other.new ≡ D.Disk.seen other.old }
     {
+        // One line is enough: which file this run has written is known (docs/DECISIONS.md, "The
+        // newest log is never written over").
         let front = front_at(alloc, other)?;
         Ok(number_of(front) <= self.number)
     }
@@ -243,6 +245,7 @@ impl<D: Disk> Segment<D> {
             return Ok(());
         }
         let _size = self.size;
+        // Until the write has answered: nobody knows how much of a failed one stands in the file.
         self.is_open = false;
         self.mixes = both(self.mixes, self.file.mixes());
         match store(&mut self.file, self.stored, &self.page) {
@@ -269,6 +272,8 @@ impl<D: Disk> Segment<D> {
             return Err(SegmentFault::Device);
         }
         self.write()?;
+        // A file whose sync failed is used no more (docs/DECISIONS.md, "Two files, written in
+        // turn").
         self.is_open = false;
         match self.file.sync() {
             Ok(()) => {

@@ -14,7 +14,7 @@ ghost use Rattle.statetext.specs.Sum.{sum_of};
 
 use crate::SegmentFault;
 use crate::gate::HEAD;
-use crate::head::{Head, parse};
+use crate::head::{SegmentHead, parse};
 use sqlite_disk::{Disk, Files};
 use statetext::Sum;
 use std::alloc::Global;
@@ -56,7 +56,7 @@ pub(crate) enum Front {
     /// It is shut, or it was never written: it has no segment.
     Shut,
     /// With the first line of a segment.
-    Head(Head),
+    Head(SegmentHead),
     /// With something else.
     Other,
 }
@@ -80,6 +80,7 @@ pub(crate) fn front_at<D: Disk>(alloc: Global, file: &mut D) -> Result<Front, Se
     if file.read_at(0, &mut first).is_err() {
         return Err(SegmentFault::Device);
     }
+    // This octet is written last: with 0 there the segment was never finished, or the file is shut.
     if first[0] == 0 {
         return Ok(Front::Shut);
     }
@@ -134,7 +135,7 @@ fn sum_of(text: &[u8]) -> u32
 }
 
 /// How many octets the checkpoint behind a first line has, if the file is as long.
-fn octets_behind<D: Disk>(file: &mut D, head: &Head) -> Result<Option<usize>, SegmentFault>
+fn octets_behind<D: Disk>(file: &mut D, head: &SegmentHead) -> Result<Option<usize>, SegmentFault>
     requires { IsTrue (D.Disk.is_usable file.old) }
     ensures octets { IfOk result (λ found. IfSome found (λ octets. octets ≡ head.now.octets)) }
     ensures small { IfOk result (λ found. IfSome found (λ octets. 87 + octets < 2 ^ 64)) }
@@ -162,7 +163,7 @@ fn octets_behind<D: Disk>(file: &mut D, head: &Head) -> Result<Option<usize>, Se
 fn text_at<D: Disk>(
     alloc: Global,
     file: &mut D,
-    head: &Head,
+    head: &SegmentHead,
 ) -> Result<Option<Vec<u8>>, SegmentFault>
     requires { IsTrue (D.Disk.is_usable file.old) }
     ensures text { IfOk result (λ found. IfSome found (λ text. IsTrue (D.Disk.is_clean file.new)
@@ -230,6 +231,8 @@ fn rest_at<D: Disk>(alloc: Global, file: &mut D, at: usize) -> Result<Vec<u8>, S
 fn cut_at_zero(text: &mut Vec<u8>)
     ensures { text.new.items ≡ before_zero text.old.items }
 {
+    // No line has an octet 0, and zeros were there before the lines (docs/DECISIONS.md, "A line
+    // that can't be read").
     match place_of_zero(text) {
         Some(end) => text.truncate(end),
         None => {}
@@ -245,8 +248,8 @@ fn place_of_zero(text: &[u8]) -> Option<usize>
 
 /// A checkpoint, and the first line before it.
 #[derive(Drop)]
-pub struct Found {
-    pub head: Head,
+pub struct FoundHead {
+    pub head: SegmentHead,
     pub text: Vec<u8>,
 }
 
@@ -259,7 +262,7 @@ pub struct Start<D: Disk> {
     /// Where the newest segment stands.
     side: Side,
     /// Its checkpoint, until it is taken.
-    checkpoint: Option<Found>,
+    checkpoint: Option<FoundHead>,
     /// Where the lines behind it begin.
     at: usize,
     /// Above the number of each segment that stands in a file, whole or not.
@@ -314,7 +317,7 @@ fn found_in<D: Disk>(
     alloc: Global,
     file: &mut D,
     front: Front,
-) -> Result<Option<Found>, SegmentFault>
+) -> Result<Option<FoundHead>, SegmentFault>
     requires usable { IsTrue (D.Disk.is_usable file.old) }
     requires head { IsTrue (D.Disk.is_clean file.old) → IsHeadIn (D.Disk.seen file.old) front }
     ensures found { IfOk result (λ found. IfSome found (λ c. IsTrue (D.Disk.is_clean file.new) →
@@ -330,7 +333,7 @@ fn found_in<D: Disk>(
         return Ok(None);
     };
     match text_at(alloc, file, &head)? {
-        Some(text) => Ok(Some(Found { head, text })),
+        Some(text) => Ok(Some(FoundHead { head, text })),
         None => Ok(None),
     }
 }
@@ -373,6 +376,8 @@ pub fn newest_side<D: Disk>(alloc: Global, log: &mut D, db: &mut D) -> Result<Si
     let first = front_at(alloc, log)?;
     let second = front_at(alloc, db)?;
     if number_of(second) > number_of(first) {
+        // Only a whole one counts: the other file may have all that is left (docs/DECISIONS.md,
+        // "The newest log is never written over").
         let is_newest = is_whole(alloc, db, second)?;
         Ok(Side::Db.or_other(is_newest))
     } else {
@@ -471,7 +476,7 @@ impl<D: Disk + Drop> Start<D> {
         newest: D,
         other: D,
         side: Side,
-        checkpoint: Option<Found>,
+        checkpoint: Option<FoundHead>,
         number: u64,
         is_doubtful: bool,
     ) -> Result<Start<D>, SegmentFault>
@@ -539,7 +544,7 @@ impl<D: Disk> Start<D> {
     }
 
     /// The checkpoint, once.
-    pub fn checkpoint(&mut self) -> Option<Found>
+    pub fn checkpoint(&mut self) -> Option<FoundHead>
         ensures found { IfSome result (λ c. IsTrue (D.Disk.is_clean (newest_of self.new)) →
             IsFoundIn (D.Disk.seen (newest_of self.new)) c.head c.text.items) }
         ensures behind { IfSome result (λ c. begins_at self.new ≡ 87 + length c.text.items) }

@@ -10,7 +10,7 @@ ghost use Rattle.segments.specs.Written.{text_in};
 ghost use Rattle.statetext.specs.Sum.{remainder_after};
 
 use crate::gate::{BLOCK, HEAD, publish, shut, write_behind, write_zeros};
-use crate::head::{Head, print};
+use crate::head::{SegmentHead, print};
 use crate::{Segment, SegmentFault};
 use checkpoint::StateFault;
 use sqlite_disk::Disk;
@@ -224,7 +224,7 @@ fn head_line(alloc: Global, number: u64, octets: usize, sum: Sum) -> Result<Vec<
     ensures octets { IfOk result (λ row. length row.items ≡ 87) }
     ensures first { IfOk result (λ row. slice_index row.items 0 ≡ 116) }
 {
-    let head = Head {
+    let head = SegmentHead {
         number,
         octets: octets as u64,
         sum: sum.value(),
@@ -285,6 +285,8 @@ impl<D: Disk> Writer<D> {
         ensures open { OnOk result (IsTrue (self.new.is_open)) }
         ensures sum { self.new.sum ≡ self.old.sum }
     {
+        // Until the write has answered, as with a segment: nobody knows how much of a failed write
+        // stands in the file.
         self.is_open = false;
         let Some(end) = self.stored.checked_add(self.page.len()) else {
             return Err(StateFault::Device);

@@ -97,6 +97,8 @@ impl Session {
         requires w_in_range { (0 < w) × (w < 32768) }
         ensures { IfOk result (λ s. s ≡ new_session k w t1 t2 t3) }
     {
+        // All its room now, since nothing takes memory later (docs/DECISIONS.md, "Rings from the
+        // start").
         let unacknowledged = HeapCircularBuffer::with_capacity(alloc, usize::from(k)).map_err(
             |_| NoMemory,
         )?;
@@ -132,6 +134,7 @@ impl Session {
         self.next_received = 0;
         self.unconfirmed = 0;
         self.unconfirmed_since = 0;
+        // t3 runs from the opening at first, so a peer that never sends anything is tested too.
         self.last_frame = now;
         self.test_sent = None;
         self.reply = None;
@@ -188,10 +191,12 @@ impl Session {
         ensures fit { (result.0 < 32768) × (result.1 < 32768) }
     {
         let numbers = (self.next_sent, self.next_received);
+        // There is a place: the caller has asked `may_send`, and the ring has k.
         let _ = self
             .unacknowledged
             .try_push_back(Unacknowledged { kind, moment: now });
         self.next_sent = (self.next_sent + 1) % MODULUS;
+        // Its N(R) acknowledges all that came, so no S frame is due for it any more.
         self.unconfirmed = 0;
         numbers
     }
@@ -200,6 +205,7 @@ impl Session {
     fn left_by(&self, nr: u16) -> usize
         ensures value { result ≡ left_by nr self.now }
     {
+        // A sum and no difference: the counters run round, so N(R) may be the greater number.
         usize::from((self.next_sent + (MODULUS - nr % MODULUS)) % MODULUS)
     }
 
@@ -207,6 +213,8 @@ impl Session {
     fn is_valid(&self, nr: u16) -> bool
         ensures { result ≡ is_valid nr self.now }
     {
+        // Against what was sent so far: a refused number closes, and its step sends no more
+        // (docs/DECISIONS.md, "N(R) and its step").
         self.left_by(nr) <= self.unacknowledged.len()
     }
 
@@ -246,8 +254,11 @@ impl Session {
         ensures session { self.new ≡ taken (owned apdu.entry) now self.old }
     {
         let outcome = self.judge(apdu);
+        // Whatever it says, a frame came: t3 starts anew.
         self.last_frame = now;
         if let Taken::Close(_) = outcome {
+            // What it would have acknowledged goes out again on the next connection, so nothing is
+            // lost (docs/DECISIONS.md, "A frame that closes").
             self.acknowledge(0);
             return outcome;
         }
@@ -264,6 +275,8 @@ impl Session {
     fn judge(&self, apdu: ApduRef<'_>) -> Taken
         ensures { result ≡ outcome_of self.now (owned apdu.entry) }
     {
+        // The first fault is the cause that is reported. While no I frame may come, its numbers
+        // say nothing, so this is asked first.
         match apdu {
             ApduRef::I { .. } if !self.runs() => Taken::Close(Close::Stopped),
             ApduRef::I { ns, .. } if ns != self.next_received => Taken::Close(Close::SendNumber),
@@ -294,9 +307,11 @@ impl Session {
         ensures { self.new ≡ counted now self.old }
     {
         self.next_received = (self.next_received + 1) % MODULUS;
+        // t2 runs from the oldest of them.
         if self.unconfirmed == 0 {
             self.unconfirmed_since = now;
         }
+        // Nothing looks at more than w (docs/DECISIONS.md, "Received frames are counted up to w").
         self.unconfirmed = self.unconfirmed.saturating_add(1).min(self.w);
     }
 
@@ -315,13 +330,18 @@ impl Session {
         ensures { self.new ≡ after_u function self.old }
     {
         match function {
+            // Also while a STOPDT is pending: the start is newer, so the stop is forgotten.
             Uf::StartAct => {
                 self.turn_to(Transfer::Started);
                 self.reply = Some(Uf::StartCon);
             }
+            // Its con waits until no sent I frame is unacknowledged (IEC 60870-5-104, 5.3).
             Uf::StopAct => self.turn_to(Transfer::Stopping),
+            // One place for a reply is enough: the caller takes each before the next frame.
             Uf::TestAct => self.reply = Some(Uf::TestCon),
             Uf::TestCon => self.test_sent = None,
+            // Nothing is asked that these would confirm (docs/DECISIONS.md, "Confirmations that
+            // nobody asked for").
             Uf::StartCon | Uf::StopCon => {}
         }
     }
@@ -347,6 +367,7 @@ impl Session {
         if !self.is_open() {
             return None;
         }
+        // The oldest decides: all others went out later.
         let frame_late = match self.unacknowledged.front() {
             Some(frame) => now.saturating_sub(frame.moment) >= self.t1,
             None => false,
@@ -404,6 +425,8 @@ impl Session {
         if !self.is_open() {
             return None;
         }
+        // The S frame first: with STOPDT con data transfer ends, and by then all that came is
+        // acknowledged.
         if self.is_stopping() && self.unconfirmed > 0 {
             return Some(self.confirm_received());
         }
@@ -437,6 +460,7 @@ impl Session {
         if self.unconfirmed > 0 && (self.unconfirmed >= self.w || waited >= self.t2) {
             return Some(self.confirm_received());
         }
+        // One test at a time: the one that is out has t1 to be answered.
         if self.test_sent.is_none() && now.saturating_sub(self.last_frame) >= self.t3 {
             self.test_sent = Some(now);
             return Some(Short::U(Uf::TestAct));
@@ -546,6 +570,7 @@ impl Session {
     {
         let numbers = read_numbers(lines, line)?;
         let dues = read_dues(lines, line)?;
+        // No session with this k has more. One with another k begins without a connection.
         if dues.frames > usize::from(k) {
             return Err(StateFault::Wrong);
         }

@@ -2,3 +2,4 @@ pub mod LiveLemmas
 pub mod SettingsLemmas
 pub mod StationLemmas
 pub mod UnknownLemmas
+mod Naming

@@ -7,3 +7,4 @@ pub mod Stations
 pub mod Tcp
 pub mod Unknown
 pub mod Wanted
+pub mod Named

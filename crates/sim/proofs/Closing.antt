@@ -19,7 +19,7 @@ use Rattle.gateway.specs.Connections.{present, past, over, AreConnections, IsBeg
 use Rattle.gateway.specs.Frames.{Connection, Sent, data_frames, objects_of_frames}
 use Rattle.gateway.specs.Frames.{monitor_objects_sent}
 use Rattle.gateway.specs.Log.{Log, Came, Went, LineIn, Opened, TcpIn, CutOff, Ticked, WallIs}
-use Rattle.gateway.specs.Log.{LineOut, TcpOut, Closed, GapOut}
+use Rattle.gateway.specs.Log.{Restarted, LineOut, TcpOut, Closed, GapOut}
 use Rattle.gateway.specs.Objects.{objects}
 use Rattle.gateway.specs.Reports.{Setup}
 use Rattle.gateway.specs.Streams.{spelled, AreFrames, IsOneFrame}
@@ -85,6 +85,7 @@ counted_so (Came now (TcpIn octets) ∷ log) = counted_so log
 counted_so (Came now CutOff ∷ log) = counted_so log
 counted_so (Came now Ticked ∷ log) = counted_so log
 counted_so (Came now (WallIs number) ∷ log) = counted_so log
+counted_so (Came now Restarted ∷ log) = counted_so log
 counted_so (Went now (LineOut octets) ∷ log) = counted_so log
 counted_so (Went now (TcpOut octets) ∷ log) =
     ap (add_latest (objects_in_apdu octets)) (counted_so log)
@@ -258,6 +259,7 @@ counted_log p (Came now (TcpIn octets) ∷ log) acts =
 counted_log p (Came now (LineIn octets) ∷ log) acts = counted_log p log acts
 counted_log p (Came now Ticked ∷ log) acts = counted_log p log acts
 counted_log p (Came now (WallIs number) ∷ log) acts = counted_log p log acts
+counted_log p (Came now Restarted ∷ log) acts = counted_log p log acts
 counted_log p (Went now (LineOut octets) ∷ log) acts = counted_log p log acts.1
 counted_log p (Went now (TcpOut octets) ∷ log) acts = counted_sent (present log) octets (past log)
     (sent_counts log) acts.0.may.0 acts.0.may.1 (counted_log p log acts.1)

@@ -18,23 +18,24 @@ use Rattle.link.specs.Exchanges.{Exchange, answer_to}
 use Rattle.link.specs.Outstation.{Turn, effects_of, all_done}
 use Rattle.link.specs.Turns.{is_poll}
 use Rattle.delivery.specs.Sessions.{ended, gaps_in, given_in, taken_in, counts_of}
-use Rattle.sim.specs.declared.tally.Tally.{Tally}
+use Rattle.sim.specs.declared.tally.StationTally.{StationTally}
 use Rattle.sim.specs.Tallies.{fresh_tally, tally_asked, tally_reset, tally_served, tally_after}
 use Rattle.sim.specs.Outstations.{IsCounted}
 use Rattle.sim.proofs.Turns.{length_more}
 
 -- one exchange of a station that has given so many reports before
-abbrev pub tally_step : (a : ℕ) → Exchange → (given : ℕ) → Tally → Tally
+abbrev pub tally_step : (a : ℕ) → Exchange → (given : ℕ) → StationTally → StationTally
 tally_step a x given t = tally_after x.request (answer_to a x) (tally_asked x.request given t)
 
 -- exchanges, with its turns at them
-abbrev pub tally_over : (a given : ℕ) → Tally → List Exchange → List Turn → Tally
+abbrev pub tally_over : (a given : ℕ) → StationTally → List Exchange → List Turn → StationTally
 tally_over a given t [] turns = t
 tally_over a given t (x ∷ xs) [] = t
 tally_over a given t (x ∷ xs) (turn ∷ turns) = tally_over a (given + length (reports turn.done))
     (tally_step a x (saturated given) t) xs turns
 
-pub over_snoc : (a given : ℕ) (t : Tally) (xs : List Exchange) (turns : List Turn) (x : Exchange)
+pub over_snoc : (a given : ℕ) (t : StationTally) (xs : List Exchange) (turns : List Turn)
+    (x : Exchange)
     (turn : Turn)
     → length turns ≡ length xs →
     tally_over a given t (xs ++ x ∷ []) (turns ++ turn ∷ [])
@@ -56,7 +57,8 @@ over_snoc a given t (y ∷ ys) (u ∷ us) x turn e =
 -- One exchange
 
 -- what an exchange that is no answered reset makes of a tally whose pending service is this
-record GoesOn (request : Asked) (m : Option Answer) (pending : Option Service) (t s : Tally) : Type
+record GoesOn (request : Asked) (m : Option Answer) (pending : Option Service)
+    (t s : StationTally) : Type
     0 where
   sessions : s.sessions ≡ t.sessions
   gaps : s.gaps ≡ t.gaps
@@ -69,7 +71,7 @@ poll_gap Class1 = refl
 poll_gap Class2 = refl
 poll_gap (Command asdu) = refl
 
-served_taken : (service : Service) (answer : Answer) (t : Tally) → t.taken + 1 < 2 ^ 64
+served_taken : (service : Service) (answer : Answer) (t : StationTally) → t.taken + 1 < 2 ^ 64
     → (tally_served service answer t).taken ≡ t.taken + length (reports (effects_of service answer))
 served_taken Class1 Ready t lt = omega arith
 served_taken Class1 Confirmed t lt = omega arith
@@ -91,7 +93,7 @@ served_taken (Command c) NoData t lt = omega arith
 served_taken (Command c) Unable t lt = omega arith
 
 served_on : (fcb : Bool) (service : Service) (answer : Answer) (given : ℕ)
-    (pending : Option Service) (t : Tally)
+    (pending : Option Service) (t : StationTally)
     → t.taken + 1 < 2 ^ 64 →
     GoesOn (Counted fcb service) (Some answer) pending t
     (tally_served service answer (tally_asked (Counted fcb service) given t))
@@ -145,7 +147,8 @@ served_on fcb service Unable given pending t lt = record {
   polled = poll_gap service;
 }
 
-goes_on : (request : Asked) (m : Option Answer) (given : ℕ) (pending : Option Service) (t : Tally)
+goes_on : (request : Asked) (m : Option Answer) (given : ℕ) (pending : Option Service)
+    (t : StationTally)
     → is_reset request m ≡ false → t.taken + 1 < 2 ^ 64 → t.is_polled ≡ is_gap pending →
     GoesOn request m pending t (tally_after request m (tally_asked request given t))
 goes_on Status None given pending t still lt polled = record {
@@ -190,12 +193,13 @@ goes_on (Counted fcb service) (Some answer) given pending t still lt polled =
     served_on fcb service answer given pending t lt
 
 -- one that is
-record Begins (request : Asked) (m : Option Answer) (given : ℕ) (t s : Tally) : Type 0 where
+record Begins (request : Asked) (m : Option Answer) (given : ℕ) (t s : StationTally) : Type 0 where
   is : s ≡ tally_reset (record t { given = given })
   learns : learnt_by request m ≡ []
   pending : (before : Option Service) → pending_by request m before ≡ None
 
-begins : (request : Asked) (m : Option Answer) (given : ℕ) (t : Tally) → is_reset request m ≡ true
+begins : (request : Asked) (m : Option Answer) (given : ℕ) (t : StationTally) → is_reset request m
+    ≡ true
     → Begins request m given t (tally_after request m (tally_asked request given t))
 begins Status m given t now = let bad : ⊥ = cc in absurd bad
 begins (Counted fcb service) m given t now = let bad : ⊥ = cc in absurd bad
@@ -259,7 +263,7 @@ abbrev taken_here : (a : ℕ) → List Exchange → ℕ
 taken_here a xs = length (reports (learnt a xs))
 
 -- what is counted is what these sessions say, after those before
-record Counts (a given : ℕ) (t s : Tally) (pending : Option Service) (here : Session)
+record Counts (a given : ℕ) (t s : StationTally) (pending : Option Service) (here : Session)
     (ss : List Session) : Type 0 where
   sessions : s.sessions ≡ t.sessions + length ss
   gaps : s.gaps ≡ t.gaps + gap_where ss (not (t.sessions == 0))
@@ -267,14 +271,16 @@ record Counts (a given : ℕ) (t s : Tally) (pending : Option Service) (here : S
   lost : s.lost ≡ where_ended ss t.lost ((given + given_here here.turns + given_in (ended ss)) -
       (t.taken + taken_here a here.exchanges + taken_in a (ended ss)))
 
-record AreBelow (given : ℕ) (t : Tally) (xs : List Exchange) (turns : List Turn) : Type 0 where
+record AreBelow (given : ℕ) (t : StationTally) (xs : List Exchange) (turns : List Turn) : Type
+    0 where
   sessions : t.sessions + length xs < 2 ^ 64
   gaps : t.gaps + length xs < 2 ^ 64
   taken : t.taken + length xs < 2 ^ 64
   gives : given + given_here turns < 2 ^ 64
 
 -- with an answered reset first
-counts_reset : (a given : ℕ) (t s : Tally) (pending : Option Service) (x : Exchange) (turn : Turn)
+counts_reset : (a given : ℕ) (t s : StationTally) (pending : Option Service) (x : Exchange)
+    (turn : Turn)
     (here : Session)
     (ss : List Session) → given < 2 ^ 64 → t.sessions + 1 < 2 ^ 64 → t.gaps + 1 < 2 ^ 64 →
     t.is_polled ≡ is_gap pending → learnt_by x.request (answer_to a x) ≡ []
@@ -289,7 +295,7 @@ counts_reset a given t s pending x turn here ss lt few less polled learns after 
   lost = lost_so ss h.lost;
 }
   where
-    mid : Tally
+    mid : StationTally
     mid = tally_reset (record t { given = saturated given })
 
     opened : not (mid.sessions == 0) ≡ true
@@ -353,7 +359,8 @@ counts_reset a given t s pending x turn here ss lt few less polled learns after 
     lost_so (l ∷ ls) e = omega (arith, e, took_none, gave)
 
 -- with any other exchange first
-counts_on : (a given : ℕ) (t mid s : Tally) (pending : Option Service) (x : Exchange) (turn : Turn)
+counts_on : (a given : ℕ) (t mid s : StationTally) (pending : Option Service) (x : Exchange)
+    (turn : Turn)
     (here : Session)
     (ss : List Session) → GoesOn x.request (answer_to a x) pending t mid →
     Counts a (given + length (reports turn.done)) mid s
@@ -392,7 +399,7 @@ counts_on a given t mid s pending x turn here ss on h = record {
         on.taken in
         omega (arith, e, more, took, gave)
 
-counted : (a given : ℕ) (t : Tally) (pending : Option Service) (xs : List Exchange)
+counted : (a given : ℕ) (t : StationTally) (pending : Option Service) (xs : List Exchange)
     (turns : List Turn)
     → length turns ≡ length xs → AreBelow given t xs turns → t.is_polled ≡ is_gap pending →
     Counts a given t (tally_over a given t xs turns) pending (before_reset a xs turns)
@@ -405,10 +412,10 @@ counted a given t pending (x ∷ xs) (turn ∷ turns) long below polled =
     go (is_reset x.request (answer_to a x)) refl (λ g u p under same. counted a g u p xs turns
     (omega arith) under same)
   where
-    mid : Tally
+    mid : StationTally
     mid = tally_step a x (saturated given) t
 
-    end : Tally
+    end : StationTally
     end = tally_over a (given + length (reports turn.done)) mid xs turns
 
     gave : length (reports (turn.done ++ all_done turns)) ≡ length (reports turn.done)
@@ -416,7 +423,8 @@ counted a given t pending (x ∷ xs) (turn ∷ turns) long below polled =
     gave = length_more turn.done (all_done turns)
 
     go : (b : Bool) → is_reset x.request (answer_to a x) ≡ b →
-        ((g : ℕ) (u : Tally) (p : Option Service) → AreBelow g u xs turns → u.is_polled ≡ is_gap p
+        ((g : ℕ) (u : StationTally) (p : Option Service) → AreBelow g u xs turns → u.is_polled
+        ≡ is_gap p
         → Counts a g u (tally_over a g u xs turns) p (before_reset a xs turns)
         (sessions a xs turns)) →
         Counts a given t end pending (if b then record {
@@ -432,7 +440,7 @@ counted a given t pending (x ∷ xs) (turn ∷ turns) long below polled =
         let few : t.sessions + length (x ∷ xs) < 2 ^ 64 = below.sessions in
         let less : t.gaps + length (x ∷ xs) < 2 ^ 64 = below.gaps in
         let rarely : t.taken + length (x ∷ xs) < 2 ^ 64 = below.taken in
-        let next : Tally = tally_reset (record t { given = saturated given }) in
+        let next : StationTally = tally_reset (record t { given = saturated given }) in
         let room : AreBelow (given + length (reports turn.done)) next xs turns = record {
           sessions = omega arith;
           gaps = below_gaps (t.is_polled && not (t.sessions == 0)) less;
@@ -447,7 +455,7 @@ counted a given t pending (x ∷ xs) (turn ∷ turns) long below polled =
         counts_reset a given t end pending x turn (before_reset a xs turns) (sessions a xs turns)
         (omega arith)
         (omega arith) (omega arith) polled first.learns (first.pending None)
-        (subst (λ (u : Tally). Counts a (given + length (reports turn.done)) next
+        (subst (λ (u : StationTally). Counts a (given + length (reports turn.done)) next
         (tally_over a (given + length (reports turn.done)) u xs turns) None
         (before_reset a xs turns)
         (sessions a xs turns)) (sym first.is) rest)
@@ -509,7 +517,7 @@ counted_all a xs turns long few small learns idle =
       lost = lost_so (sessions a xs turns) all.lost;
     }
   where
-    end : Tally
+    end : StationTally
     end = tally_over a 0 fresh_tally xs turns
 
     closed : (l : List Session) (b : Bool) → gap_where l false b ≡ 0

@@ -2,7 +2,7 @@
 use Rattle.std.proofs.Common.{◌≡◌, ℕ, ◌+◌, ◌%◌, ◌<◌, ◌||◌, ◌⊎◌, Bool, true, false, List, [], ◌∷◌}
 use Rattle.std.proofs.Common.{◌++◌, length, Option, Some, None, IfSome, refl, sym, ap, subst, ◌∙◌}
 use Rattle.std.proofs.Common.{inl, inr, arith, if◌then◌else◌}
-use Rattle.std.specs.Prelude.{◌==◌, nat_le, option_and_then}
+use Rattle.std.specs.Prelude.{◌==◌, ◌&&◌, not, nat_le, option_and_then}
 use Rattle.std.proofs.lemmas.List.{append-nil, length-append}
 use Rattle.std.proofs.lemmas.Bool.{eq-eqb}
 use Rattle.ft12.specs.declared.frame.LinkSize.{LinkSize}
@@ -23,16 +23,16 @@ use Rattle.link.specs.Outstation.{Turn}
 use Rattle.gateway.specs.Log.{Log}
 use Rattle.gateway.specs.Reports.{Setup, address_at, exchanges_of}
 use Rattle.gateway.specs.Line.{IsWaiting}
-use Rattle.sim.specs.declared.directive.Fate.{Fate}
-use Rattle.sim.specs.declared.directive.Fate.TheVariants.{Unheard, AnswerLost, AnswerSpoilt}
-use Rattle.sim.specs.declared.directive.Fate.TheVariants.{Answered}
+use Rattle.sim.specs.declared.directive.RequestFate.{RequestFate}
+use Rattle.sim.specs.declared.directive.RequestFate.TheVariants.{Unheard, AnswerLost, AnswerSpoilt}
+use Rattle.sim.specs.declared.directive.RequestFate.TheVariants.{Answered}
 use Rattle.sim.specs.Lives.{arriving}
 use Rattle.sim.proofs.Below.{Laws}
 use Rattle.sim.proofs.HearingLemmas.{some_spelling}
 
 -- An exchange is settled: it takes no more octets, or has a frame at its front.
 abbrev pub IsSettled : LinkSize → OpenExchange → Type 0
-IsSettled size x = (x.closed ≡ true)
+IsSettled size x = ((x.closed || x.given_up) ≡ true)
     ⊎ ((frame : Frame) × (n : ℕ) × (front_of size x.octets ≡ Whole frame n))
 
 -- what waits may come to the exchange: it has no effect, or is all that comes, and true
@@ -70,10 +70,16 @@ pub record AreFronts (size : LinkSize) (i : ℕ) (e : Exchanges) (turns : List T
 
 -- A moment
 
+still_over : (closed given_up late : Bool) → (closed || given_up) ≡ true
+    → ((closed || (not given_up && late)) || given_up) ≡ true
+still_over true given_up late h = refl
+still_over false true late h = refl
+still_over false false late h = cc
+
 settled_timed : (size : LinkSize) (ms at : ℕ) (x : OpenExchange) → IsSettled size x
     → IsSettled size (timed ms at x)
-settled_timed size ms at x (inl closed) =
-    inl (ap (λ (b : Bool). b || nat_le (x.since + ms) at) closed)
+settled_timed size ms at x (inl over) =
+    inl (still_over x.closed x.given_up (nat_le (x.since + ms) at) over)
 settled_timed size ms at x (inr h) = inr h
 
 may_timed : (size : LinkSize) (ms at : ℕ) (waiting : Option (List ℕ)) (x : OpenExchange)
@@ -114,9 +120,9 @@ fronts_timed size i ms at e turns waiting h =
 front_heard : (laws : Laws) (size : LinkSize) (piece : List ℕ) (x : OpenExchange) (turn : Turn)
     → IsTrueFront (whole_of (front_of size x.octets)) turn → MayCome size (Some piece) x turn →
     IsTrueFront (whole_of (front_of size (heard_octets piece x).octets)) turn
-front_heard laws size piece x turn h may = go x.closed refl may
+front_heard laws size piece x turn h may = go (x.closed || x.given_up) refl may
   where
-    go : (b : Bool) → x.closed ≡ b → MayCome size (Some piece) x turn
+    go : (b : Bool) → (x.closed || x.given_up) ≡ b → MayCome size (Some piece) x turn
         → IsTrueFront (whole_of (front_of size (if b then x.octets else x.octets ++ piece))) turn
     go true is k = h
     go false is (inl (inl closed)) = let bad : ⊥ = cc in absurd bad
@@ -275,8 +281,8 @@ begun now s = record {
   request = s.request;
   since = now;
   octets = [];
-  closed =
-      false;
+  closed = false;
+  given_up = false;
 }
 
 -- one to another station
@@ -347,7 +353,7 @@ spelled_front laws size frame turn fits e =
     ap (front_of size) (sym (append-nil (spelling size frame))) ∙ laws.spelled size frame [] fits in
     subst (λ (f : Front). IsTrueFront (whole_of f) turn) (sym whole) e
 
-pub may_arrive : (laws : Laws) (size : LinkSize) (fate : Fate) (answer : Option Frame)
+pub may_arrive : (laws : Laws) (size : LinkSize) (fate : RequestFate) (answer : Option Frame)
     (x : OpenExchange) (turn : Turn)
     → IfSome answer (Fits size) → x.octets ≡ [] → turn.answer ≡ answer
     → MayCome size (arriving size fate answer) x turn
@@ -383,18 +389,25 @@ answered_whole size a x answer e = go (front_of size x.octets) refl e
 
 settles : (size : LinkSize) (a : ℕ) (x : OpenExchange)
     → ((option_and_then (answer_of a x.request) (whole_of (front_of size x.octets)) ≡ None)
-    × (x.closed ≡ false) → ⊥)
+    × (x.closed ≡ false) × (x.given_up ≡ false) → ⊥)
     → IsSettled size x
 settles size a x never =
-    go x.closed (option_and_then (answer_of a x.request) (whole_of (front_of size x.octets))) refl
-    refl
+    go x.closed x.given_up
+    (option_and_then (answer_of a x.request) (whole_of (front_of size x.octets))) refl refl refl
   where
-    go : (b : Bool) (m : Option Answer) → x.closed ≡ b
+    over : (a b : Bool) → (a ≡ true) ⊎ (b ≡ true) → (a || b) ≡ true
+    over true b h = refl
+    over false true h = refl
+    over false false (inl h) = h
+    over false false (inr h) = h
+
+    go : (b d : Bool) (m : Option Answer) → x.closed ≡ b → x.given_up ≡ d
         → option_and_then (answer_of a x.request) (whole_of (front_of size x.octets)) ≡ m
         → IsSettled size x
-    go true m c e = inl c
-    go false None c e = absurd (never (e, c))
-    go false (Some answer) c e = answered_whole size a x answer e
+    go true d m c g e = inl (over x.closed x.given_up (inl c))
+    go false true m c g e = inl (over x.closed x.given_up (inr g))
+    go false false None c g e = absurd (never (e, c, g))
+    go false false (Some answer) c g e = answered_whole size a x answer e
 
 pub settled_now : (p : Setup) (log : Log) → (IsWaiting p log → ⊥)
     → IsSettledNow p.link.size (exchanges_of p log).current

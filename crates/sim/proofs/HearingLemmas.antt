@@ -11,9 +11,9 @@ use Rattle.ft12.specs.declared.frame.Frame.TheVariants.{Single, Fixed, Data}
 use Rattle.ft12.specs.Spelling.{Fits, spelling}
 use Rattle.link.specs.Life.{Hear}
 use Rattle.link.specs.Secondary.{Secondary, HearsOctets}
-use Rattle.sim.specs.declared.directive.Fate.{Fate}
-use Rattle.sim.specs.declared.directive.Fate.TheVariants.{Unheard, AnswerLost, AnswerSpoilt}
-use Rattle.sim.specs.declared.directive.Fate.TheVariants.{Answered}
+use Rattle.sim.specs.declared.directive.RequestFate.{RequestFate}
+use Rattle.sim.specs.declared.directive.RequestFate.TheVariants.{Unheard, AnswerLost, AnswerSpoilt}
+use Rattle.sim.specs.declared.directive.RequestFate.TheVariants.{Answered}
 use Rattle.gateway.specs.Log.{Log, Came, Went, LineOut, TcpOut, Closed, GapOut}
 use Rattle.sim.specs.Losses.{fate_of}
 use Rattle.sim.specs.Lives.{Plan, later, HeardByAll, IsPutOut, AreLived, requests_in}
@@ -146,7 +146,7 @@ sizes_heard kept size octets (s ∷ ss) (t ∷ ts) answer h all =
     (size_heard kept octets s t h.0 h.2 ∙ all.0, sizes_heard kept size octets ss ts h.1 h.3 all.1)
 
 pub sizes_out : KeepsSize
-    → (size : LinkSize) (fate : Fate) (octets : List ℕ) (ss ts : List Secondary)
+    → (size : LinkSize) (fate : RequestFate) (octets : List ℕ) (ss ts : List Secondary)
     (answer : Option Frame) → IsPutOut fate octets ss answer ts
     → AllByRecursion (λ s. s.size ≡ size) ss
     → AllByRecursion (λ s. s.size ≡ size) ts
@@ -165,7 +165,8 @@ some_spelling size Single = omega arith
 some_spelling size (Fixed c a) = omega arith
 some_spelling size (Data c a body) = omega arith
 
-pub length_out : (fate : Fate) (octets : List ℕ) (ss ts : List Secondary) (answer : Option Frame)
+pub length_out : (fate : RequestFate) (octets : List ℕ) (ss ts : List Secondary)
+    (answer : Option Frame)
     → IsPutOut fate octets ss answer ts → length ts ≡ length ss
 length_out Unheard octets ss ts answer h = ap length h.1
 length_out AnswerLost octets ss ts answer h = heard_length octets ss ts answer h

@@ -20,23 +20,24 @@ use Rattle.link.specs.Outstation.{Turn, silent, all_done}
 use Rattle.link.specs.Requests.{request_in}
 use Rattle.link.specs.Secondary.{Secondary, HearsOctets, served}
 use Rattle.gateway.specs.Log.{Log, Came, Went, LineIn, Opened, TcpIn, CutOff, Ticked, WallIs}
-use Rattle.gateway.specs.Log.{LineOut, TcpOut, Closed, GapOut, latest}
+use Rattle.gateway.specs.Log.{Restarted, LineOut, TcpOut, Closed, GapOut, latest}
+use Rattle.gateway.specs.Ports.{IsOfPort}
 use Rattle.gateway.specs.Line.{IsWaiting}
 use Rattle.gateway.specs.Reports.{Setup, address_at, index_of, AreFound, sending_in, exchanges_of}
 use Rattle.gateway.specs.Reports.{exchanges_with}
 use Rattle.gateway.specs.Traffic.{ActsRightly}
 use Rattle.sim.specs.declared.centre.Centre.{Centre}
 use Rattle.sim.specs.declared.directive.Directive.{Directive}
-use Rattle.sim.specs.declared.directive.Fate.{Fate}
-use Rattle.sim.specs.declared.directive.Fate.TheVariants.{Unheard, AnswerLost, AnswerSpoilt}
-use Rattle.sim.specs.declared.directive.Fate.TheVariants.{Answered}
+use Rattle.sim.specs.declared.directive.RequestFate.{RequestFate}
+use Rattle.sim.specs.declared.directive.RequestFate.TheVariants.{Unheard, AnswerLost, AnswerSpoilt}
+use Rattle.sim.specs.declared.directive.RequestFate.TheVariants.{Answered}
 use Rattle.sim.specs.Centres.{start_apdu, acknowledging_apdu, centre_of}
 use Rattle.sim.specs.Losses.{fate_of, ack_of, is_cut_at, sent_at, wall_at}
 use Rattle.sim.specs.Lives.{Plan, HeardByAll, IsPutOut, AreLived, requests_in, arriving, waiting_in}
 use Rattle.sim.specs.Calls.{calls_in, line_event, quiet_event, sending_event, usual_event}
 use Rattle.sim.specs.Calls.{walled_event, event_at, FollowsPlan}
 use Rattle.sim.specs.Outstations.{is_heard, request_to, requests_to, TakesTurn, TakesTurns}
-use Rattle.sim.specs.declared.tally.Tally.{Tally}
+use Rattle.sim.specs.declared.tally.StationTally.{StationTally}
 use Rattle.sim.specs.Tallies.{tally_at, each_asked, each_heard, awaited_in, tallies_of}
 use Rattle.sim.proofs.Below.{Laws}
 use Rattle.sim.proofs.HearingLemmas.{sizes_out}
@@ -45,7 +46,10 @@ use Rattle.sim.proofs.Requests.{address_in, IsNotTo, Whom, nobody, other, this, 
 use Rattle.sim.proofs.Turns.{IsReadable, asked_of, takes_more, did, length_more}
 use Rattle.sim.proofs.Fronts.{MayCome, its, AreFronts, fronts_timed, fronts_heard, fronts_settled}
 use Rattle.sim.proofs.Fronts.{fronts_other, fronts_this, begun, may_arrive, settled_now, its-append}
+use Rattle.sim.proofs.Exchanging.{its_requests, after_current, timed_requests, heard_requests}
+use Rattle.sim.proofs.Exchanging.{restarted_requests}
 use Rattle.sim.proofs.Counting.{tally_step}
+use Rattle.sim.proofs.Standing.{event_is_of_port}
 use Rattle.sim.proofs.Tallying.{tally_ended, given_by_turns, IsTallied, tally_timed, tally_heard}
 use Rattle.sim.proofs.Tallying.{tally_all, asked_other, asked_this, length_tallies, fresh_at}
 
@@ -69,7 +73,7 @@ addresses_heard laws octets (s ∷ ss) (t ∷ ts) answer h =
     (address_heard laws octets s t h.0 h.2)
     ∙ ap (λ (l : List ℕ). s.address ∷ l) (addresses_heard laws octets ss ts h.1 h.3)
 
-addresses_out : Laws → (fate : Fate) (octets : List ℕ) (ss ts : List Secondary)
+addresses_out : Laws → (fate : RequestFate) (octets : List ℕ) (ss ts : List Secondary)
     (answer : Option Frame)
     → IsPutOut fate octets ss answer ts → map (λ (s : Secondary). s.address) ts
     ≡ map (λ (s : Secondary). s.address) ss
@@ -92,7 +96,7 @@ record AreThese (p : Setup) (size : LinkSize) (stations : List Secondary) : Type
   addresses : map (λ (s : Secondary). s.address) stations ≡ p.addresses
   sizes : AllByRecursion (λ s. s.size ≡ size) stations
 
-these_out : Laws → (p : Setup) (size : LinkSize) (fate : Fate) (octets : List ℕ)
+these_out : Laws → (p : Setup) (size : LinkSize) (fate : RequestFate) (octets : List ℕ)
     (ss ts : List Secondary)
     (answer : Option Frame) → IsPutOut fate octets ss answer ts → AreThese p size ss
     → AreThese p size ts
@@ -156,7 +160,8 @@ others_apart p size ss i d found k lt j less apart e =
     ∙ found i lt in
     apart cc
 
-put_quiet : (laws : Laws) (p : Setup) (fate : Fate) (octets : List ℕ) (ss ts : List Secondary)
+put_quiet : (laws : Laws) (p : Setup) (fate : RequestFate) (octets : List ℕ)
+    (ss ts : List Secondary)
     (answer : Option Frame)
     (i : ℕ) (d : Secondary) → AreThese p p.link.size ss → i < length p.addresses
     → IsNotTo p octets i →
@@ -173,20 +178,22 @@ put_quiet laws p fate octets ss ts answer i d these lt never h = go fate h
         (size_of p.link.size ss i d at.0 these.sizes)
         (λ r e. never r (e ∙ ap (λ (a : ℕ). Some (a, r)) at.1)) one.1
 
-    go : (f : Fate) → IsPutOut f octets ss answer ts → get_or ts i d ≡ get_or ss i d
+    go : (f : RequestFate) → IsPutOut f octets ss answer ts → get_or ts i d ≡ get_or ss i d
     go Unheard k = ap (λ (us : List Secondary). get_or us i d) k.1
     go AnswerLost k = all k
     go (AnswerSpoilt place) k = all k
     go Answered k = all k
 
 -- its turn at a request to it
-record TurnAt (size : LinkSize) (fate : Fate) (answer : Option Frame) (s t : Secondary) (r : Asked)
+record TurnAt (size : LinkSize) (fate : RequestFate) (answer : Option Frame) (s t : Secondary)
+    (r : Asked)
     (x : OpenExchange) : Type 0 where
   turn : Turn
   took : TakesTurn (is_heard fate) s r turn t
   may : MayCome size (arriving size fate answer) x turn
 
-put_asked : (laws : Laws) (p : Setup) (fate : Fate) (octets : List ℕ) (ss ts : List Secondary)
+put_asked : (laws : Laws) (p : Setup) (fate : RequestFate) (octets : List ℕ)
+    (ss ts : List Secondary)
     (answer : Option Frame)
     (i : ℕ) (d : Secondary) (r : Asked) (x : OpenExchange) → AreFound p.addresses
     → AreThese p p.link.size ss →
@@ -211,7 +218,7 @@ put_asked laws p fate octets ss ts answer i d r x found these lt fits empty e h 
         one.1 in
         (two.0, one.2 ∙ two.1, two.2)
 
-    go : (f : Fate) → IsPutOut f octets ss answer ts
+    go : (f : RequestFate) → IsPutOut f octets ss answer ts
         → TurnAt p.link.size f answer (get_or ss i d) (get_or ts i d) r x
     go Unheard k = record {
       turn = silent;
@@ -298,53 +305,9 @@ event_waits octets ds call c waiting e = walled (wall_at ds call) e
 
 -- The requests of its exchanges
 
-same_requests : (size : LinkSize) (i : ℕ) (c e : OpenExchange) → e.station ≡ c.station → e.request
-    ≡ c.request
-    → requests_of (its size i (e ∷ [])) ≡ requests_of (its size i (c ∷ []))
-same_requests size i c e s r =
-    ap (λ (n : ℕ). requests_of (if n == i then (view (front_of size) e).exchange ∷ [] else [])) s
-    ∙ go (c.station == i)
-  where
-    go : (b : Bool) → requests_of (if b then (view (front_of size) e).exchange ∷ [] else [])
-        ≡ requests_of (if b then (view (front_of size) c).exchange ∷ [] else [])
-    go true = ap (λ (q : Asked). q ∷ []) r
-    go false = refl
-
-requests-append : (xs ys : List Exchange) → requests_of (xs ++ ys)
-    ≡ requests_of xs ++ requests_of ys
-requests-append [] ys = refl
-requests-append (x ∷ xs) ys = ap (λ (l : List Asked). x.request ∷ l) (requests-append xs ys)
-
 asked-append : (xs ys : List (Bool × Asked)) → asked_of (xs ++ ys) ≡ asked_of xs ++ asked_of ys
 asked-append [] ys = refl
 asked-append (x ∷ xs) ys = ap (λ (l : List Asked). x.1 ∷ l) (asked-append xs ys)
-
-its_requests : (size : LinkSize) (i : ℕ) (xs ys : List OpenExchange)
-    → requests_of (its size i (xs ++ ys)) ≡ requests_of (its size i xs)
-    ++ requests_of (its size i ys)
-its_requests size i xs ys = ap requests_of (its-append size i xs ys)
-    ∙ requests-append (its size i xs) (its size i ys)
-
-after_current : (size : LinkSize) (i : ℕ) (ended : List OpenExchange) (c e : Option OpenExchange)
-    → requests_of (its size i (as_list e)) ≡ requests_of (its size i (as_list c)) →
-    requests_of (its size i (ended ++ as_list e)) ≡ requests_of (its size i (ended ++ as_list c))
-after_current size i ended c e same =
-    its_requests size i ended (as_list e)
-    ∙ ap (λ (l : List Asked). requests_of (its size i ended) ++ l) same
-    ∙ sym (its_requests size i ended (as_list c))
-
-timed_requests : (size : LinkSize) (i ms at : ℕ) (c : Option OpenExchange)
-    → requests_of (its size i (as_list (timed_current ms at c)))
-    ≡ requests_of (its size i (as_list c))
-timed_requests size i ms at None = refl
-timed_requests size i ms at (Some x) = same_requests size i x (timed ms at x) refl refl
-
-heard_requests : (size : LinkSize) (i ms at : ℕ) (octets : List ℕ) (c : Option OpenExchange)
-    → requests_of (its size i (as_list (timed_current ms at (heard_current octets c))))
-    ≡ requests_of (its size i (as_list c))
-heard_requests size i ms at octets None = refl
-heard_requests size i ms at octets (Some x) =
-    same_requests size i x (timed ms at (heard_octets octets x)) refl refl
 
 begun_requests : (size : LinkSize) (i now : ℕ) (heard : Bool) (m : Option Sending) (e : Exchanges)
     → requests_of (its size i (all_of (begun_by now m e))) ≡ requests_of (its size i (all_of e))
@@ -393,6 +356,8 @@ same_asked p ds i (Came now (WallIs number) ∷ log) =
     let at : ℕ = latest (Came now (WallIs number) ∷ log) in
     after_current p.link.size i e.ended e.current (timed_current p.link.answer_ms at e.current)
     (timed_requests p.link.size i p.link.answer_ms at e.current) ∙ same_asked p ds i log
+same_asked p ds i (Came now Restarted ∷ log) = restarted_requests p i (exchanges_of p log)
+    ∙ same_asked p ds i log
 same_asked p ds i (Went now (LineOut octets) ∷ log) =
     let heard : Bool = is_heard (fate_of ds (requests_in log + 1)) in
     begun_requests p.link.size i now heard (sending_in p octets) (exchanges_of p log)
@@ -407,7 +372,7 @@ same_asked p ds i (Went now (GapOut station session) ∷ log) = same_asked p ds 
 
 pub record Serves (p : Setup) (rs : List (Bool × Asked)) (e : Exchanges) (waiting : Option (List ℕ))
     (i : ℕ)
-    (first s : Secondary) (t : Tally) : Type 0 where
+    (first s : Secondary) (t : StationTally) : Type 0 where
   pub turns : List Turn
   pub took : TakesTurns first rs turns s
   pub readable : AllByRecursion (λ (r : Bool × Asked). IsReadable (address_at p.addresses i) r.1) rs
@@ -417,7 +382,7 @@ pub record Serves (p : Setup) (rs : List (Bool × Asked)) (e : Exchanges) (waiti
 
 serves_timed : (p : Setup) (rs : List (Bool × Asked)) (e : Exchanges) (waiting : Option (List ℕ))
     (i at : ℕ)
-    (first s : Secondary) (t : Tally) → Serves p rs e waiting i first s t →
+    (first s : Secondary) (t : StationTally) → Serves p rs e waiting i first s t →
     Serves p rs (record { ended = e.ended; current = timed_current p.link.answer_ms at e.current })
     waiting i first s t
 serves_timed p rs e waiting i at first s t h = record {
@@ -432,7 +397,7 @@ serves_timed p rs e waiting i at first s t h = record {
 
 serves_heard : (laws : Laws) (p : Setup) (rs : List (Bool × Asked)) (e : Exchanges) (i at : ℕ)
     (octets : List ℕ)
-    (first s : Secondary) (each : List Tally) → i < length each →
+    (first s : Secondary) (each : List StationTally) → i < length each →
     Serves p rs e (Some octets) i first s (tally_at each i) →
     Serves p rs (record {
       ended = e.ended;
@@ -466,7 +431,7 @@ readable_more a (q ∷ rs) r all one = (all.0, readable_more a rs r all.1 one)
 -- a request that isn't to it
 serves_none : (p : Setup) (rs more : List (Bool × Asked)) (old new : Exchanges)
     (waiting next : Option (List ℕ))
-    (i : ℕ) (first s t : Secondary) (before tally : Tally)
+    (i : ℕ) (first s t : Secondary) (before tally : StationTally)
     (h : Serves p rs old waiting i first s before) → more ≡ []
     → t ≡ s →
     (fronts : AreFronts p.link.size i new h.turns next)
@@ -507,8 +472,9 @@ given_more n m turns turn e f =
 -- one that is
 serves_one : (laws : Laws) (p : Setup) (rs : List (Bool × Asked)) (e : Exchanges)
     (waiting next : Option (List ℕ))
-    (i now : ℕ) (heard : Bool) (r : Asked) (turn : Turn) (first s t : Secondary) (tally : Tally)
-    (stations : List Secondary) (each : List Tally) (d : Secondary) →
+    (i now : ℕ) (heard : Bool) (r : Asked) (turn : Turn) (first s t : Secondary)
+    (tally : StationTally)
+    (stations : List Secondary) (each : List StationTally) (d : Secondary) →
     i < length each → i < length stations → get_or stations i d ≡ s → s.address
     ≡ address_at p.addresses i
     → tally_at each i ≡ tally → Serves p rs e waiting i first s tally →
@@ -548,9 +514,10 @@ serves_one laws p rs e waiting next i now heard r turn first s t tally stations 
 -- any
 serves_request : (laws : Laws) (p : Setup) (log : Log) (rs : List (Bool × Asked))
     (waiting : Option (List ℕ))
-    (fate : Fate) (octets : List ℕ) (ss ts : List Secondary) (answer : Option Frame) (i now : ℕ)
+    (fate : RequestFate) (octets : List ℕ) (ss ts : List Secondary) (answer : Option Frame)
+    (i now : ℕ)
     (d first : Secondary)
-    (each : List Tally) →
+    (each : List StationTally) →
     i < length each → AreFound p.addresses → AreThese p p.link.size ss → i < length p.addresses
     → IfSome answer (Fits p.link.size) → (IsWaiting p log → ⊥) → IsPutOut fate octets ss answer ts →
     Serves p rs (exchanges_of p log) waiting i first (get_or ss i d) (tally_at each i) →
@@ -711,16 +678,21 @@ serves laws plan (Came now (WallIs number) ∷ log) answers stations i d none fi
     (get_or stations i d)
     (tally_at (tallies_of plan log answers stations lived) i)
     (serves laws plan log answers stations i d none fits lt lived fit follows.2 acts)
+serves laws plan (Came now Restarted ∷ log) answers stations i d none fits lt lived fit follows
+    acts =
+    absurd (subst IsOfPort (sym follows.0)
+    (event_is_of_port plan.directives (calls_in log + 1) (centre_of log)
+    (waiting_in plan log answers)))
 serves laws plan (Went now (LineOut octets) ∷ log) [] stations i d none fits lt lived fit follows
     acts = absurd lived
 serves laws plan (Went now (LineOut octets) ∷ log) (a ∷ answers) stations i d none fits lt lived fit
     follows acts =
-    let fate : Fate = fate_of plan.directives (requests_in log + 1) in
+    let fate : RequestFate = fate_of plan.directives (requests_in log + 1) in
     let first : Secondary = get_or plan.stations i d in
     let these : AreThese plan.setup plan.size lived.0 =
     these_lived laws plan.setup plan log answers lived.0
     (record { addresses = fits.addresses; sizes = fits.sizes }) lived.2 in
-    let each : List Tally = tallies_of plan log answers lived.0 lived.2 in
+    let each : List StationTally = tallies_of plan log answers lived.0 lived.2 in
     subst (λ (z : LinkSize).
     Serves plan.setup (requests_to plan.setup plan.directives i log
     ++ request_to i (is_heard fate) (sending_in plan.setup octets))

@@ -11,6 +11,7 @@ pub mod Requests
 pub mod Turns
 pub mod Counting
 pub mod Fronts
+pub mod Exchanging
 pub mod Tallying
 pub mod Honest
 pub mod Few

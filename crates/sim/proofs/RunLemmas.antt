@@ -10,7 +10,7 @@ use Rattle.gateway.specs.Setups.{setup_of}
 use Rattle.gateway.specs.Traffic.{IsFaithful, HasRested}
 use Rattle.delivery.specs.Delivery.{Delivers}
 use Rattle.sim.specs.declared.directive.Directive.{Directive}
-use Rattle.sim.specs.declared.tally.Tally.{Tally}
+use Rattle.sim.specs.declared.tally.StationTally.{StationTally}
 use Rattle.sim.specs.Connections.{counted_in}
 use Rattle.sim.specs.Tallies.{tallies_of}
 use Rattle.sim.specs.Losses.{turns_of}
@@ -24,7 +24,7 @@ use Rattle.sim.specs.Runs.{IsRun}
 
 -- a run of the plan, with what is counted of it
 record IsTold (plan : Plan) (log : Log) (stations : List Secondary) (answers : List (Option Frame))
-    (tallies : List Tally) : Type 0 where
+    (tallies : List StationTally) : Type 0 where
   played : IsPlayed plan log answers stations
   counted : tallies ≡ tallies_of plan log answers stations played.lived
 
@@ -36,7 +36,7 @@ pub told_run : (c : Settings) (ds : List Directive) (s : Simulated) (closing : L
     → closing ≡ closing_lines s.plan.directives s.stations (connection_lines 1 s.standing.counts)
     s.standing.tallied.each
     → Stands s.plan s.log s.stations s.standing → Delivers (setup_of c) s.log →
-    ((answers : List (Option Frame)) (ss : List Secondary) (ts : List Tally)
+    ((answers : List (Option Frame)) (ss : List Secondary) (ts : List StationTally)
     (played : IsPlayed (plan_of c ds) s.log answers ss)
     → ts ≡ tallies_of (plan_of c ds) s.log answers ss played.lived
     → requests_in s.log < 2 ^ 64 → HaveServed c ds s.log 0 ss ts) →

@@ -24,9 +24,10 @@ use Rattle.gateway.specs.Reports.{Setup, address_at, index_of, AreFound, exchang
 use Rattle.gateway.specs.Reports.{exchanges_with}
 use Rattle.gateway.specs.Setups.{setup_of, holds}
 use Rattle.gateway.specs.Traffic.{IsFaithful}
-use Rattle.delivery.specs.Delivery.{IsHonest, IsSteady, Delivers, IsIdle, before_sessions}
+use Rattle.delivery.specs.Delivery.{IsHonest, IsSteady, IsOneLife, Delivers, IsIdle}
+use Rattle.delivery.specs.Delivery.{before_sessions}
 use Rattle.delivery.specs.Sessions.{session_counts}
-use Rattle.sim.specs.declared.tally.Tally.{Tally}
+use Rattle.sim.specs.declared.tally.StationTally.{StationTally}
 use Rattle.sim.specs.Tallies.{fresh_tally, tally_at, tallies_of}
 use Rattle.sim.proofs.Few.{exchanges_few, reports_few}
 use Rattle.sim.proofs.Counting.{tally_over, counted_all}
@@ -48,6 +49,7 @@ use Rattle.sim.proofs.HearingLemmas.{length_lived}
 use Rattle.sim.proofs.Turns.{asked_of, DidAll, did_all}
 use Rattle.sim.proofs.Fronts.{HasFronts, all_fronts}
 use Rattle.sim.proofs.Honest.{FitsPlan, Serves, serves, same_asked}
+use Rattle.sim.proofs.Standing.{one_life}
 use Rattle.sim.proofs.Serviceable.{never_unable, willing_turns}
 
 -- The settings fit the plan
@@ -125,7 +127,7 @@ Delivered = (p : Setup) (log : Log) → IsFaithful p log → Delivers p log
 
 abbrev pub Steadied : Type 0
 Steadied = (p : Setup) (log : Log) (i : ℕ) → IsFaithful p log → i < length p.addresses → p.link.hold
-    ≡ true →
+    ≡ true → IsOneLife log →
     AllByRecursion (λ x. answer_to (address_at p.addresses i) x ≢ Some Unable)
     (exchanges_with p i log)
     → IsSteady p log i
@@ -190,12 +192,13 @@ reported_all index (d ∷ ds) =
 
 served_so : (laws : Laws) → Delivered → Steadied → SessionsKnown → Idle → LossesKnown
     → (c : Settings) (ds : List Directive) (log : Log) (waiting : Option (List ℕ)) (i : ℕ)
-    (s : Secondary) (t : Tally)
-    → IsFaithful (setup_of c) log → requests_in log < 2 ^ 64 → i < length (setup_of c).addresses →
+    (s : Secondary) (t : StationTally)
+    → IsFaithful (setup_of c) log → IsOneLife log → requests_in log < 2 ^ 64
+    → i < length (setup_of c).addresses →
     Serves (setup_of c) (requests_to (setup_of c) ds i log) (exchanges_of (setup_of c) log) waiting
     i
     (first_station c ds i) s t → HasServed c ds log i s t
-served_so laws delivers steadies known idle losses c ds log waiting i s t faithful small lt h =
+served_so laws delivers steadies known idle losses c ds log waiting i s t faithful life small lt h =
     let p : Setup = setup_of c in
     let a : ℕ = address_at p.addresses i in
     let asked : requests_of (exchanges_with p i log) ≡ asked_of (requests_to p ds i log) =
@@ -212,7 +215,7 @@ served_so laws delivers steadies known idle losses c ds log waiting i s t faithf
       fronts = fronts.fronts;
     } in
     let steady : c.line.silence ≡ Hold → IsSteady p log i =
-    λ (held : c.line.silence ≡ Hold). steadies p log i faithful lt (ap holds held)
+    λ (held : c.line.silence ≡ Hold). steadies p log i faithful lt (ap holds held) life
     (never_unable a (exchanges_with p i log) h.turns fronts.long
     (willing_turns (first_station c ds i) s (requests_to p ds i log) h.turns tt h.took)
     fronts.fronts) in
@@ -261,7 +264,7 @@ served_so laws delivers steadies known idle losses c ds log waiting i s t faithf
 -- All stations
 
 have_served : (c : Settings) (ds : List Directive) (log : Log) (n : ℕ) (ss : List Secondary)
-    (ts : List Tally)
+    (ts : List StationTally)
     (d : Secondary) → length ts ≡ length ss →
     ((i : ℕ) → i < length ss → HasServed c ds log (n + i) (get_or ss i d) (tally_at ts i))
     → HaveServed c ds log n ss ts
@@ -280,7 +283,7 @@ have_served c ds log n (s ∷ ss) (t ∷ ts) d long h =
 pub all_served : (laws : Laws) → Delivered → Steadied → SessionsKnown → Idle → LossesKnown
     → (c : Settings) (ds : List Directive) (log : Log) (answers : List (Option Frame))
     (stations : List Secondary)
-    (tallies : List Tally) → AreDistinct c.stations →
+    (tallies : List StationTally) → AreDistinct c.stations →
     (played : IsPlayed (plan_of c ds) log answers stations)
     → tallies ≡ tallies_of (plan_of c ds) log answers stations played.lived → requests_in log
     < 2 ^ 64
@@ -290,12 +293,12 @@ all_served laws delivers steadies known idle losses c ds log answers stations ta
     let p : Setup = setup_of c in
     let d : Secondary = fresh_station c.line.link 0 in
     let fits : FitsPlan p (plan_of c ds) = fits_plan c ds apart in
-    let counts : List Tally = tallies_of (plan_of c ds) log answers stations played.lived in
+    let counts : List StationTally = tallies_of (plan_of c ds) log answers stations played.lived in
     let as_long : length counts ≡ length (plan_of c ds).stations =
     length_tallies (plan_of c ds) log answers stations played.lived in
     let stay : length stations ≡ length (plan_of c ds).stations =
     length_lived (plan_of c ds) log answers stations played.lived in
-    subst (λ (ts : List Tally). HaveServed c ds log 0 stations ts) (sym are)
+    subst (λ (ts : List StationTally). HaveServed c ds log 0 stations ts) (sym are)
     (have_served c ds log 0 stations counts d (as_long ∙ sym stay) (λ i lt.
     let short : length stations ≡ length (plan_of c ds).stations =
     length_lived (plan_of c ds) log answers stations played.lived in
@@ -314,7 +317,8 @@ all_served laws delivers steadies known idle losses c ds log answers stations ta
     subst (λ (k : ℕ). HasServed c ds log k (get_or stations i d) (tally_at counts i)) (sym same)
     (served_so laws delivers steadies known idle losses c ds log
     (waiting_in (plan_of c ds) log answers) i
-    (get_or stations i d) (tally_at counts i) faithful small within
+    (get_or stations i d) (tally_at counts i) faithful
+    (one_life (plan_of c ds) log answers played.follows) small within
     (subst (λ (f : Secondary). Serves p (requests_to p ds i log) (exchanges_of p log)
     (waiting_in (plan_of c ds) log answers) i f (get_or stations i d) (tally_at counts i)) begins
     (serves laws (plan_of c ds) log answers stations i d refl fits within played.lived played.fit

@@ -1,30 +1,36 @@
 -- A run goes on by one event or one action.
-use Rattle.std.proofs.Common.{◌≡◌, ℕ, ◌+◌, ◌<◌, ◌≤◌, ◌^◌, ◌||◌, min, Bool, true, false, List, []}
+use Rattle.std.proofs.Common.{◌≡◌, ℕ, ◌+◌, ◌-◌, ◌<◌, ◌≤◌, ◌^◌, ◌&&◌, ◌||◌, min, Bool, true, false}
+use Rattle.std.proofs.Common.{List, []}
 use Rattle.std.proofs.Common.{◌∷◌, ◌++◌, length, replicate, Option, Some, None, IfSome, nat_le}
 use Rattle.std.proofs.Common.{refl, sym, ap, subst, ◌∙◌, arith, if◌then◌else◌}
-use Rattle.std.specs.Prelude.{◌==◌}
+use Rattle.std.specs.Prelude.{◌==◌, not}
 use Rattle.std.specs.List.{AllByRecursion}
 use Rattle.ft12.specs.declared.frame.Frame.{Frame}
 use Rattle.ft12.specs.Spelling.{Fits}
 use Rattle.link.specs.Secondary.{Secondary}
 use Rattle.gateway.specs.Log.{Log, LogEntry, Came, Went, Input, LineIn, Opened, TcpIn, CutOff}
-use Rattle.gateway.specs.Log.{Ticked, WallIs, LineOut, TcpOut, Closed, GapOut, last_moment, latest}
+use Rattle.gateway.specs.Log.{Ticked, WallIs, Restarted, LineOut, TcpOut, Closed, GapOut}
+use Rattle.gateway.specs.Log.{last_moment, latest}
+use Rattle.gateway.specs.Ports.{IsOfPort}
 use Rattle.gateway.specs.Reports.{Setup, sending_in, exchanges_of}
 use Rattle.link.specs.Exchanges.{OpenExchange, Exchanges, Sending, heard_octets, heard_current}
 use Rattle.link.specs.Exchanges.{timed, timed_current, begun_by}
-use Rattle.sim.specs.declared.tally.Tally.{Tally}
-use Rattle.sim.specs.declared.tallies.Awaited.{Awaited}
+use Rattle.sim.specs.declared.tally.StationTally.{StationTally}
+use Rattle.sim.specs.declared.tallies.LatestRequest.{LatestRequest}
 use Rattle.sim.specs.Tallies.{Tallied, fresh_tally, each_asked, each_heard, awaited_heard}
 use Rattle.sim.specs.Tallies.{awaited_timed, awaited_asked, awaited_with, tallied_at, tallied_asked}
 use Rattle.sim.specs.Tallies.{awaited_in, tallies_of}
 use Rattle.session.specs.declared.kinds.Close.{Close}
 use Rattle.sim.specs.declared.centre.Centre.{Centre}
 use Rattle.sim.specs.Centres.{shut, is_data, first_control, after_sending, after_receiving}
-use Rattle.sim.specs.Centres.{after_event, centre_of}
-use Rattle.sim.specs.Losses.{fate_of, turns_of}
+use Rattle.sim.specs.Centres.{after_event, centre_of, start_apdu, acknowledging_apdu}
+use Rattle.sim.specs.declared.directive.Directive.{Directive}
+use Rattle.sim.specs.Losses.{fate_of, turns_of, ack_of, is_cut_at, sent_at, wall_at}
 use Rattle.sim.specs.Lives.{Plan, AreLived, IsPutOut, arriving, waiting_in}
 use Rattle.sim.specs.Connections.{objects_in_apdu, add_latest, counted_after}
-use Rattle.sim.specs.Calls.{event_at, lasting, calls_in}
+use Rattle.sim.specs.Calls.{event_at, lasting, calls_in, line_event, sending_event, usual_event}
+use Rattle.sim.specs.Calls.{walled_event, FollowsPlan}
+use Rattle.delivery.specs.Delivery.{IsOneLife}
 use Rattle.sim.specs.Played.{Standing, Stands, coming, standing_after}
 
 sent_by : (octets : List ℕ) (c : Centre) (n : ℕ) → c.sent ≤ n → (after_sending octets c).sent
@@ -44,6 +50,7 @@ sent_after (TcpIn octets) c n le = sent_by octets c n le
 sent_after CutOff c n le = omega arith
 sent_after Ticked c n le = omega arith
 sent_after (WallIs number) c n le = omega arith
+sent_after Restarted c n le = omega arith
 
 waiting_after : (plan : Plan) (log : Log) (answers : List (Option Frame)) (now : ℕ) (event : Input)
     (at : Standing)
@@ -56,6 +63,7 @@ waiting_after plan log answers now (TcpIn octets) at e = e
 waiting_after plan log answers now CutOff at e = e
 waiting_after plan log answers now Ticked at e = e
 waiting_after plan log answers now (WallIs number) at e = e
+waiting_after plan log answers now Restarted at e = e
 
 -- What may still be answered
 
@@ -63,82 +71,86 @@ waiting_after plan log answers now (WallIs number) at e = e
 awaits_timed : (ms now : ℕ) (c : Option OpenExchange) → awaited_timed ms now (awaited_in c)
     ≡ awaited_in (timed_current ms now c)
 awaits_timed ms now None = refl
-awaits_timed ms now (Some x) = go x.closed x.octets (nat_le (x.since + ms) now) refl
+awaits_timed ms now (Some x) = go x.closed x.given_up x.octets (nat_le (x.since + ms) now) refl
   where
-    go : (closed : Bool) (xs : List ℕ) (late : Bool) → nat_le (x.since + ms) now ≡ late →
-        awaited_timed ms now (if closed then None else awaited_with xs x)
-        ≡ (if closed || late then None else awaited_with xs (timed ms now x))
-    go true xs late is = refl
-    go false [] true is = ap (λ (b : Bool). if b then None else awaited_with [] x) is
-    go false [] false is = ap (λ (b : Bool). if b then None else awaited_with [] x) is
-    go false (y ∷ ys) true is = refl
-    go false (y ∷ ys) false is = refl
+    go : (closed given_up : Bool) (xs : List ℕ) (late : Bool) → nat_le (x.since + ms) now ≡ late →
+        awaited_timed ms now (if closed || given_up then None else awaited_with xs x)
+        ≡ (if (closed || (not given_up && late)) || given_up then None
+        else awaited_with xs (timed ms now x))
+    go true given_up xs late is = refl
+    go false true xs late is = refl
+    go false false [] true is = ap (λ (b : Bool). if b then None else awaited_with [] x) is
+    go false false [] false is = ap (λ (b : Bool). if b then None else awaited_with [] x) is
+    go false false (y ∷ ys) true is = refl
+    go false false (y ∷ ys) false is = refl
 
 -- and octets before it
 awaits_heard : (octets : List ℕ) (c : Option OpenExchange)
     → awaited_heard octets (awaited_in c) ≡ awaited_in (heard_current octets c)
 awaits_heard [] None = refl
 awaits_heard (o ∷ os) None = refl
-awaits_heard [] (Some x) = go x.closed x.octets
+awaits_heard [] (Some x) = go (x.closed || x.given_up) x.octets
   where
-    go : (closed : Bool) (xs : List ℕ) → (if closed then None else awaited_with xs x)
-        ≡ (if closed then None
-        else awaited_with (if closed then xs else xs ++ []) (heard_octets [] x))
+    go : (over : Bool) (xs : List ℕ) → (if over then None else awaited_with xs x)
+        ≡ (if over then None
+        else awaited_with (if over then xs else xs ++ []) (heard_octets [] x))
     go true xs = refl
     go false [] = refl
     go false (y ∷ ys) = refl
-awaits_heard (o ∷ os) (Some x) = go x.closed x.octets
+awaits_heard (o ∷ os) (Some x) = go (x.closed || x.given_up) x.octets
   where
-    none : Option Awaited
+    none : Option LatestRequest
     none = None
 
-    go : (closed : Bool) (xs : List ℕ)
+    go : (over : Bool) (xs : List ℕ)
         → none
-        ≡ (if closed then None else awaited_with (if closed then xs else xs ++ o ∷ os)
+        ≡ (if over then None else awaited_with (if over then xs else xs ++ o ∷ os)
         (heard_octets (o ∷ os) x))
     go true xs = refl
     go false [] = refl
     go false (y ∷ ys) = refl
 
 awaits_came : (p : Setup) (log : Log) (now : ℕ) (event : Input) (t : Tallied)
-    → latest (Came now event ∷ log) ≡ now
+    → IsOfPort event → latest (Came now event ∷ log) ≡ now
     → t.awaited ≡ awaited_in (exchanges_of p log).current →
     (tallied_at p now event t).awaited ≡ awaited_in (exchanges_of p (Came now event ∷ log)).current
-awaits_came p log now (LineIn octets) t at is =
+awaits_came p log now (LineIn octets) t of at is =
     let c : Option OpenExchange = (exchanges_of p log).current in
-    ap (λ (a : Option Awaited). awaited_timed p.link.answer_ms now (awaited_heard octets a)) is
+    ap (λ (a : Option LatestRequest). awaited_timed p.link.answer_ms now (awaited_heard octets a))
+    is
     ∙ ap (awaited_timed p.link.answer_ms now) (awaits_heard octets c)
     ∙ awaits_timed p.link.answer_ms now (heard_current octets c)
     ∙ ap (λ (n : ℕ). awaited_in (timed_current p.link.answer_ms n (heard_current octets c)))
     (sym at)
-awaits_came p log now Opened t at is =
+awaits_came p log now Opened t of at is =
     ap (awaited_timed p.link.answer_ms now) is
     ∙ awaits_timed p.link.answer_ms now (exchanges_of p log).current
     ∙ ap (λ (n : ℕ). awaited_in (timed_current p.link.answer_ms n (exchanges_of p log).current))
     (sym at)
-awaits_came p log now (TcpIn octets) t at is =
+awaits_came p log now (TcpIn octets) t of at is =
     ap (awaited_timed p.link.answer_ms now) is
     ∙ awaits_timed p.link.answer_ms now (exchanges_of p log).current
     ∙ ap (λ (n : ℕ). awaited_in (timed_current p.link.answer_ms n (exchanges_of p log).current))
     (sym at)
-awaits_came p log now CutOff t at is =
+awaits_came p log now CutOff t of at is =
     ap (awaited_timed p.link.answer_ms now) is
     ∙ awaits_timed p.link.answer_ms now (exchanges_of p log).current
     ∙ ap (λ (n : ℕ). awaited_in (timed_current p.link.answer_ms n (exchanges_of p log).current))
     (sym at)
-awaits_came p log now Ticked t at is =
+awaits_came p log now Ticked t of at is =
     ap (awaited_timed p.link.answer_ms now) is
     ∙ awaits_timed p.link.answer_ms now (exchanges_of p log).current
     ∙ ap (λ (n : ℕ). awaited_in (timed_current p.link.answer_ms n (exchanges_of p log).current))
     (sym at)
-awaits_came p log now (WallIs number) t at is =
+awaits_came p log now (WallIs number) t of at is =
     ap (awaited_timed p.link.answer_ms now) is
     ∙ awaits_timed p.link.answer_ms now (exchanges_of p log).current
     ∙ ap (λ (n : ℕ). awaited_in (timed_current p.link.answer_ms n (exchanges_of p log).current))
     (sym at)
+awaits_came p log now Restarted t of at is = absurd of
 
 -- once a request has gone out
-awaits_begun : (now : ℕ) (m : Option Sending) (e : Exchanges) (a : Option Awaited)
+awaits_begun : (now : ℕ) (m : Option Sending) (e : Exchanges) (a : Option LatestRequest)
     → a ≡ awaited_in e.current
     → awaited_asked now m a ≡ awaited_in (begun_by now m e).current
 awaits_begun now None e a is = is
@@ -153,13 +165,63 @@ counts_came : (plan : Plan) (log : Log) (answers : List (Option Frame)) (station
     (tallied_at plan.setup now event t).each ≡ tallies_of plan (Came now event ∷ log) answers
     stations lived
 counts_came plan log answers stations lived now (LineIn octets) t is each =
-    ap (λ (a : Option Awaited). each_heard plan.setup a octets t.each) is
+    ap (λ (a : Option LatestRequest). each_heard plan.setup a octets t.each) is
     ∙ ap (each_heard plan.setup (awaited_in (exchanges_of plan.setup log).current) octets) each
 counts_came plan log answers stations lived now Opened t is each = each
 counts_came plan log answers stations lived now (TcpIn octets) t is each = each
 counts_came plan log answers stations lived now CutOff t is each = each
 counts_came plan log answers stations lived now Ticked t is each = each
 counts_came plan log answers stations lived now (WallIs number) t is each = each
+counts_came plan log answers stations lived now Restarted t is each = each
+
+-- no call gives a restart
+line_is_of_port : (waiting : Option (List ℕ)) → IsOfPort (line_event waiting)
+line_is_of_port None = tt
+line_is_of_port (Some piece) = tt
+
+sending_is_of_port : (asdu : Option (List ℕ)) (ack : ℕ) (c : Centre) (waiting : Option (List ℕ))
+    → IsOfPort (sending_event asdu ack c waiting)
+sending_is_of_port (Some asdu) ack c waiting = tt
+sending_is_of_port None ack c waiting = go (nat_le ack (c.received - c.acknowledged))
+  where
+    go : (b : Bool)
+        → IsOfPort (if b then TcpIn (acknowledging_apdu c) else line_event waiting)
+    go true = tt
+    go false = line_is_of_port waiting
+
+usual_is_of_port : (ds : List Directive) (call : ℕ) (c : Centre) (waiting : Option (List ℕ))
+    → IsOfPort (usual_event ds call c waiting)
+usual_is_of_port ds call c waiting =
+    go (c.is_open && is_cut_at ds call) (not c.is_open) (not c.is_started)
+  where
+    go : (a b d : Bool)
+        → IsOfPort (if a then CutOff else if b then Opened else if d then TcpIn start_apdu
+        else sending_event (sent_at ds call) (ack_of ds) c waiting)
+    go true b d = tt
+    go false true d = tt
+    go false false true = tt
+    go false false false = sending_is_of_port (sent_at ds call) (ack_of ds) c waiting
+
+pub event_is_of_port : (ds : List Directive) (call : ℕ) (c : Centre) (waiting : Option (List ℕ))
+    → IsOfPort (event_at ds call c waiting)
+event_is_of_port ds call c waiting = go (wall_at ds call)
+  where
+    go : (wall : Option ℕ) → IsOfPort (walled_event wall (usual_event ds call c waiting))
+    go (Some number) = tt
+    go None = usual_is_of_port ds call c waiting
+
+-- so a run is one life
+pub one_life : (plan : Plan) (log : Log) (answers : List (Option Frame))
+    → FollowsPlan plan log answers → IsOneLife log
+one_life plan [] answers h = tt
+one_life plan (Came now Restarted ∷ log) answers h =
+    subst IsOfPort (sym h.0)
+    (event_is_of_port plan.directives (calls_in log + 1) (centre_of log)
+    (waiting_in plan log answers))
+one_life plan (Came now event ∷ log) answers h = one_life plan log answers h.2
+one_life plan (Went now (LineOut octets) ∷ log) [] h = absurd h
+one_life plan (Went now (LineOut octets) ∷ log) (answer ∷ answers) h = one_life plan log answers h
+one_life plan (Went now action ∷ log) answers h = one_life plan log answers h
 
 came_with : (plan : Plan) (log : Log) (stations : List Secondary) (at : Standing) (now : ℕ)
     (event : Input)
@@ -189,7 +251,9 @@ came_with plan log stations at now event e f few k = record {
   requests = k.requests;
   counts = ap (counted_after (Came now event)) k.counts;
   latest = moment_is;
-  awaited = awaits_came plan.setup log now event at.tallied moment_is k.awaited;
+  awaited = awaits_came plan.setup log now event at.tallied
+      (subst IsOfPort (sym e)
+      (event_is_of_port plan.directives (at.call + 1) at.centre at.waiting)) moment_is k.awaited;
   each = counts_came plan log k.answers stations k.played.lived now event at.tallied k.awaited
       k.each;
   in_time = let le : now ≤ last_moment = omega arith in le;
@@ -256,7 +320,8 @@ stands_asked plan log stations new at now octets answer out sizes fits small k =
   latest = k.latest;
   awaited = awaits_begun now (sending_in plan.setup octets) (exchanges_of plan.setup log)
       at.tallied.awaited k.awaited;
-  each = ap (λ (ts : List Tally). each_asked (sending_in plan.setup octets) stations ts) k.each;
+  each = ap (λ (ts : List StationTally). each_asked (sending_in plan.setup octets) stations ts)
+      k.each;
   in_time = k.in_time;
   sent = k.sent;
   few = small;

@@ -2,7 +2,7 @@
 use Rattle.std.proofs.Common.{◌≡◌, ℕ, zero, suc, ◌+◌, ◌<◌, Bool, true, false, List, [], ◌∷◌, ◌++◌}
 use Rattle.std.proofs.Common.{length, get_or, replicate, Option, Some, None, refl, sym, ap, subst}
 use Rattle.std.proofs.Common.{◌∙◌, inl, inr, arith, if◌then◌else◌}
-use Rattle.std.specs.Prelude.{◌==◌, slice_set, option_and_then}
+use Rattle.std.specs.Prelude.{◌==◌, ◌||◌, slice_set, option_and_then}
 use Rattle.std.proofs.lemmas.List.{append-nil, length-replicate, length-set, get_or-set_same}
 use Rattle.std.proofs.lemmas.List.{get_or-set_other}
 use Rattle.std.proofs.lemmas.Bool.{eqb-true, eqb-false}
@@ -19,10 +19,10 @@ use Rattle.link.specs.Exchanges.{heard_current, timed_current, whole_of, view}
 use Rattle.link.specs.Outstation.{Turn, all_done}
 use Rattle.link.specs.Secondary.{Secondary}
 use Rattle.gateway.specs.Log.{Log, Came, Went, LineIn, Opened, TcpIn, CutOff, Ticked, WallIs}
-use Rattle.gateway.specs.Log.{LineOut, TcpOut, Closed, GapOut}
+use Rattle.gateway.specs.Log.{Restarted, LineOut, TcpOut, Closed, GapOut}
 use Rattle.gateway.specs.Reports.{Setup, address_at, sending_in, exchanges_of}
-use Rattle.sim.specs.declared.tally.Tally.{Tally}
-use Rattle.sim.specs.declared.tallies.Awaited.{Awaited}
+use Rattle.sim.specs.declared.tally.StationTally.{StationTally}
+use Rattle.sim.specs.declared.tallies.LatestRequest.{LatestRequest}
 use Rattle.sim.specs.Lives.{Plan, AreLived}
 use Rattle.sim.specs.Tallies.{fresh_tally, tally_asked, tally_after, tally_at, given_at, each_asked}
 use Rattle.sim.specs.Tallies.{each_heard, awaited_with, awaited_in, tallies_of}
@@ -31,13 +31,13 @@ use Rattle.sim.proofs.Counting.{tally_step, tally_over, over_snoc}
 use Rattle.sim.proofs.Fronts.{MayCome, IsLatestOf, IsLatest, its, its-append, AreFronts, begun}
 
 -- after the latest exchange, of a station that had given so many reports before it
-abbrev pub tally_latest : Setup → (i given : ℕ) → Option OpenExchange → Tally → Tally
+abbrev pub tally_latest : Setup → (i given : ℕ) → Option OpenExchange → StationTally → StationTally
 tally_latest p i given None t = t
 tally_latest p i given (Some x) t = if x.station == i then tally_step (address_at p.addresses i)
     (view (front_of p.link.size) x).exchange given t else t
 
 -- after those that ended
-abbrev pub tally_ended : Setup → (i : ℕ) → List OpenExchange → List Turn → Tally
+abbrev pub tally_ended : Setup → (i : ℕ) → List OpenExchange → List Turn → StationTally
 tally_ended p i ended turns = tally_over (address_at p.addresses i) 0 fresh_tally
     (its p.link.size i ended) turns
 
@@ -47,13 +47,13 @@ given_by_turns turns = saturated (length (reports (all_done turns)))
 -- after all
 abbrev pub IsTallied : (p : Setup) (i : ℕ) (e : Exchanges) (turns : List Turn)
     (waiting : Option (List ℕ))
-    → AreFronts p.link.size i e turns waiting → Tally → Type 0
+    → AreFronts p.link.size i e turns waiting → StationTally → Type 0
 IsTallied p i e turns waiting fronts t = t ≡ tally_latest p i (given_by_turns fronts.done) e.current
     (tally_ended p i e.ended fronts.done)
 
 -- A moment
 
-pub tally_timed : (p : Setup) (i given ms at : ℕ) (c : Option OpenExchange) (t : Tally)
+pub tally_timed : (p : Setup) (i given ms at : ℕ) (c : Option OpenExchange) (t : StationTally)
     → tally_latest p i given c t ≡ tally_latest p i given (timed_current ms at c) t
 tally_timed p i given ms at None t = refl
 tally_timed p i given ms at (Some x) t = refl
@@ -61,7 +61,7 @@ tally_timed p i given ms at (Some x) t = refl
 -- Octets
 
 -- what says the same in answer
-same_step : (p : Setup) (i given : ℕ) (x : OpenExchange) (octets others : List ℕ) (t : Tally)
+same_step : (p : Setup) (i given : ℕ) (x : OpenExchange) (octets others : List ℕ) (t : StationTally)
     → whole_of (front_of p.link.size octets) ≡ whole_of (front_of p.link.size others) →
     tally_after x.request (option_and_then (answer_of (address_at p.addresses i) x.request)
     (whole_of (front_of p.link.size octets))) (tally_asked x.request given t)
@@ -72,18 +72,19 @@ same_step p i given x octets others t e =
     (answer_of (address_at p.addresses i) x.request) f) (tally_asked x.request given t)) e
 
 -- the awaited exchange, where it is this station's
-heard_this : (laws : Laws) (p : Setup) (i given : ℕ) (each : List Tally) (x : OpenExchange)
+heard_this : (laws : Laws) (p : Setup) (i given : ℕ) (each : List StationTally) (x : OpenExchange)
     (octets : List ℕ)
-    (turn : Turn) (t : Tally) → i < length each → x.station ≡ i
+    (turn : Turn) (t : StationTally) → i < length each → x.station ≡ i
     → MayCome p.link.size (Some octets) x turn →
     tally_at each i ≡ tally_step (address_at p.addresses i) (view (front_of p.link.size) x).exchange
     given t →
     tally_at (each_heard p (awaited_in (Some x)) octets each) i
     ≡ tally_step (address_at p.addresses i)
     (view (front_of p.link.size) (heard_octets octets x)).exchange given t
-heard_this laws p i given each x octets turn t lt here may is = go x.closed x.octets refl refl
+heard_this laws p i given each x octets turn t lt here may is =
+    go (x.closed || x.given_up) x.octets refl refl
   where
-    after : (closed : Bool) → List ℕ → Tally
+    after : (closed : Bool) → List ℕ → StationTally
     after closed xs =
         tally_after x.request (option_and_then (answer_of (address_at p.addresses i) x.request)
         (whole_of (front_of p.link.size (if closed then xs else xs ++ octets))))
@@ -97,7 +98,7 @@ heard_this laws p i given each x octets turn t lt here may is = go x.closed x.oc
         ∙ w in
         ap whole_of (there ∙ sym (laws.whole p.link.size xs octets frame n there))
 
-    later : (o : ℕ) (os : List ℕ) → x.closed ≡ false → x.octets ≡ o ∷ os
+    later : (o : ℕ) (os : List ℕ) → (x.closed || x.given_up) ≡ false → x.octets ≡ o ∷ os
         → MayCome p.link.size (Some octets) x turn
         → tally_at each i ≡ after false (o ∷ os)
     later o os open_now e (inl (inl closed)) = let bad : ⊥ = cc in absurd bad
@@ -112,10 +113,10 @@ heard_this laws p i given each x octets turn t lt here may is = go x.closed x.oc
         nonempty : o ∷ os ≡ [] → ⊥
         nonempty f = cc
 
-    go : (closed : Bool) (xs : List ℕ) → x.closed ≡ closed → x.octets ≡ xs →
-        tally_at (each_heard p (if closed then None else awaited_with xs x) octets each) i
+    go : (over : Bool) (xs : List ℕ) → (x.closed || x.given_up) ≡ over → x.octets ≡ xs →
+        tally_at (each_heard p (if over then None else awaited_with xs x) octets each) i
         ≡ tally_after x.request (option_and_then (answer_of (address_at p.addresses i) x.request)
-        (whole_of (front_of p.link.size (if closed then x.octets else x.octets ++ octets))))
+        (whole_of (front_of p.link.size (if over then x.octets else x.octets ++ octets))))
         (tally_asked x.request given t)
     go true xs shut e = is
     go false (o ∷ os) open_now e =
@@ -154,13 +155,13 @@ heard_this laws p i given each x octets turn t lt here may is = go x.closed x.oc
         (whole_of (front_of p.link.size (xs ++ octets)))) (tally_asked x.request given t)) (sym e))
 
 -- and where it isn't
-heard_other : (p : Setup) (i : ℕ) (each : List Tally) (x : OpenExchange) (octets : List ℕ)
+heard_other : (p : Setup) (i : ℕ) (each : List StationTally) (x : OpenExchange) (octets : List ℕ)
     → (x.station ≡ i → ⊥)
     → tally_at (each_heard p (awaited_in (Some x)) octets each) i ≡ tally_at each i
-heard_other p i each x octets apart = go x.closed x.octets
+heard_other p i each x octets apart = go (x.closed || x.given_up) x.octets
   where
-    go : (closed : Bool) (xs : List ℕ)
-        → tally_at (each_heard p (if closed then None else awaited_with xs x) octets each) i
+    go : (over : Bool) (xs : List ℕ)
+        → tally_at (each_heard p (if over then None else awaited_with xs x) octets each) i
         ≡ tally_at each i
     go true xs = refl
     go false (y ∷ ys) = refl
@@ -170,9 +171,9 @@ heard_other p i each x octets apart = go x.closed x.octets
         (whole_of (front_of p.link.size octets))) (tally_at each x.station)) fresh_tally
         (λ e. apart (sym e))
 
-pub tally_heard : (laws : Laws) (p : Setup) (i given : ℕ) (each : List Tally)
+pub tally_heard : (laws : Laws) (p : Setup) (i given : ℕ) (each : List StationTally)
     (c : Option OpenExchange)
-    (octets : List ℕ) (here : List Turn) (t : Tally) → i < length each
+    (octets : List ℕ) (here : List Turn) (t : StationTally) → i < length each
     → IsLatest p.link.size i c here (Some octets) →
     tally_at each i ≡ tally_latest p i given c t
     → tally_at (each_heard p (awaited_in c) octets each) i
@@ -196,7 +197,8 @@ tally_heard laws p i given each (Some x) octets here t lt latest is =
 
 -- once it isn't the latest any more
 pub tally_all : (p : Setup) (i : ℕ) (e : Exchanges) (turns : List Turn) (waiting : Option (List ℕ))
-    (h : AreFronts p.link.size i e turns waiting) (t : Tally) → IsTallied p i e turns waiting h t
+    (h : AreFronts p.link.size i e turns waiting) (t : StationTally)
+    → IsTallied p i e turns waiting h t
     → t ≡ tally_ended p i (all_of e) turns
 tally_all p i e turns waiting h t is = is ∙ go e.current h.latest
   where
@@ -243,7 +245,7 @@ tally_all p i e turns waiting h t is = is ∙ go e.current h.latest
             k
 
 -- to another station
-pub asked_other : (i : ℕ) (s : Sending) (stations : List Secondary) (each : List Tally)
+pub asked_other : (i : ℕ) (s : Sending) (stations : List Secondary) (each : List StationTally)
     → (s.station == i) ≡ false
     → tally_at (each_asked (Some s) stations each) i ≡ tally_at each i
 asked_other i s stations each apart =
@@ -259,8 +261,9 @@ given_is (s ∷ ss) (suc i) d lt = given_is ss i d (omega arith)
 
 -- to this one
 pub asked_this : (laws : Laws) (p : Setup) (i now : ℕ) (r : Asked) (stations : List Secondary)
-    (each : List Tally)
-    (d : Secondary) (t : Tally) → i < length each → i < length stations → tally_at each i ≡ t →
+    (each : List StationTally)
+    (d : Secondary) (t : StationTally) → i < length each → i < length stations → tally_at each i ≡ t
+    →
     tally_at (each_asked (Some (record { station = i; request = r })) stations each) i
     ≡ tally_step (address_at p.addresses i) (view (front_of p.link.size)
     (begun now (record { station = i; request = r }))).exchange (get_or stations i d).given t
@@ -275,7 +278,7 @@ asked_this laws p i now r stations each d t lt within is =
 
 -- There is a tally for each station.
 
-length_heard : (p : Setup) (a : Option Awaited) (octets : List ℕ) (each : List Tally)
+length_heard : (p : Setup) (a : Option LatestRequest) (octets : List ℕ) (each : List StationTally)
     → length (each_heard p a octets each) ≡ length each
 length_heard p None octets each = refl
 length_heard p (Some a) octets each =
@@ -283,7 +286,7 @@ length_heard p (Some a) octets each =
     (tally_after a.request (option_and_then (answer_of (address_at p.addresses a.station) a.request)
     (whole_of (front_of p.link.size octets))) (tally_at each a.station))
 
-length_asked : (m : Option Sending) (stations : List Secondary) (each : List Tally)
+length_asked : (m : Option Sending) (stations : List Secondary) (each : List StationTally)
     → length (each_asked m stations each) ≡ length each
 length_asked None stations each = refl
 length_asked (Some s) stations each = length-set each s.station
@@ -307,6 +310,8 @@ length_tallies plan (Came now CutOff ∷ log) answers stations lived =
 length_tallies plan (Came now Ticked ∷ log) answers stations lived =
     length_tallies plan log answers stations lived
 length_tallies plan (Came now (WallIs number) ∷ log) answers stations lived =
+    length_tallies plan log answers stations lived
+length_tallies plan (Came now Restarted ∷ log) answers stations lived =
     length_tallies plan log answers stations lived
 length_tallies plan (Went now (LineOut octets) ∷ log) [] stations lived = absurd lived
 length_tallies plan (Went now (LineOut octets) ∷ log) (answer ∷ answers) stations lived =

@@ -9,7 +9,7 @@ use Rattle.link.specs.Secondary.{Secondary}
 use Rattle.sim.specs.declared.directive.Directive.{Directive}
 use Rattle.sim.specs.Texts.{line_of_station, station_lines, connection_line, connection_lines}
 use Rattle.sim.specs.Texts.{line_of_sessions, session_lines}
-use Rattle.sim.specs.declared.tally.Tally.{Tally}
+use Rattle.sim.specs.declared.tally.StationTally.{StationTally}
 
 pub station_more : (ds : List Directive) (ss : List Secondary) (i : ℕ) (d : Secondary)
     (now new whole : List ℕ)
@@ -43,7 +43,8 @@ pub connection_end : (ns : List ℕ) (i k : ℕ) (now whole : List ℕ) → leng
 connection_end ns i k now whole le so = sym (append-nil now)
     ∙ sym (ap (λ (l : List ℕ). now ++ connection_lines k l) (drop_all i ns le)) ∙ so
 
-pub session_more : (ts : List Tally) (i : ℕ) (d : Tally) (now new whole : List ℕ) → i < length ts
+pub session_more : (ts : List StationTally) (i : ℕ) (d : StationTally) (now new whole : List ℕ)
+    → i < length ts
     → now ++ session_lines i (drop i ts) ≡ whole →
     new ≡ now ++ line_of_sessions i (get_or ts i d) → new ++ session_lines (i + 1) (drop (i + 1) ts)
     ≡ whole
@@ -51,12 +52,12 @@ session_more ts i d now new whole lt so e =
     ap (λ (l : List ℕ). l ++ session_lines (i + 1) (drop (i + 1) ts)) e
     ∙ append_assoc now (line_of_sessions i (get_or ts i d))
     (session_lines (i + 1) (drop (i + 1) ts))
-    ∙ sym (ap (λ (l : List Tally). now ++ session_lines i l) (drop_more ts i d lt)) ∙ so
+    ∙ sym (ap (λ (l : List StationTally). now ++ session_lines i l) (drop_more ts i d lt)) ∙ so
 
-pub session_end : (ts : List Tally) (i : ℕ) (now whole : List ℕ) → length ts ≤ i
+pub session_end : (ts : List StationTally) (i : ℕ) (now whole : List ℕ) → length ts ≤ i
     → now ++ session_lines i (drop i ts) ≡ whole → now ≡ whole
 session_end ts i now whole le so = sym (append-nil now)
-    ∙ sym (ap (λ (l : List Tally). now ++ session_lines i l) (drop_all i ts le)) ∙ so
+    ∙ sym (ap (λ (l : List StationTally). now ++ session_lines i l) (drop_all i ts le)) ∙ so
 
 length-objects : (u : AsduValue) (infos : List Info) → length (map (object_in u) infos)
     ≡ length infos

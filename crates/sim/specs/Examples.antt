@@ -8,7 +8,7 @@ use Rattle.link.specs.Secondary.{Secondary, fresh_station}
 use Rattle.sim.specs.declared.centre.Centre.{Centre}
 use Rattle.sim.specs.declared.directive.Directive.{Directive}
 use Rattle.sim.specs.Directives.{directive_in}
-use Rattle.sim.specs.declared.directive.Fate.{Fate}
+use Rattle.sim.specs.declared.directive.RequestFate.{RequestFate}
 use Rattle.sim.specs.Scripts.{first_wrong, lines_of}
 use Rattle.sim.specs.Lives.{Plan, IsPutOut}
 
@@ -63,7 +63,7 @@ abbrev pub spoilt_reset : List ℕ
 spoilt_reset = 0x10 ∷ 0x40 ∷ 0x01 ∷ 0xBE ∷ 0x16 ∷ []
 
 -- where this becomes of a request to the two, it is answered so, and leaves them so
-abbrev pub Leaves : Fate → List ℕ → Option Frame → List Secondary → Type 0
+abbrev pub Leaves : RequestFate → List ℕ → Option Frame → List Secondary → Type 0
 Leaves fate octets answer stations = (given : Option Frame) (after : List Secondary)
     → IsPutOut fate octets two_stations given after → (given ≡ answer) × (after ≡ stations)
 

@@ -14,9 +14,9 @@ use Rattle.gateway.specs.Setups.{setup_of}
 use Rattle.gateway.specs.Log.{Log, Came, Went, LineIn, LineOut}
 use Rattle.sim.specs.declared.directive.Class.TheVariants.{One, Two}
 use Rattle.sim.specs.declared.directive.Directive.{Directive}
-use Rattle.sim.specs.declared.directive.Fate.{Fate}
-use Rattle.sim.specs.declared.directive.Fate.TheVariants.{Unheard, AnswerLost, AnswerSpoilt}
-use Rattle.sim.specs.declared.directive.Fate.TheVariants.{Answered}
+use Rattle.sim.specs.declared.directive.RequestFate.{RequestFate}
+use Rattle.sim.specs.declared.directive.RequestFate.TheVariants.{Unheard, AnswerLost, AnswerSpoilt}
+use Rattle.sim.specs.declared.directive.RequestFate.TheVariants.{Answered}
 use Rattle.sim.specs.Losses.{fate_of, report_said}
 
 -- what is fixed in a run: what the gateway is set to, the size of link addresses, how long an
@@ -63,7 +63,7 @@ HeardByAll octets (s ∷ ss) answer (t ∷ ts) =
 HeardByAll octets ss answer ts = ⊥
 
 -- a request that is lost is heard by none, any other by all
-abbrev pub IsPutOut : Fate → List ℕ → List Secondary → Option Frame → List Secondary → Type 0
+abbrev pub IsPutOut : RequestFate → List ℕ → List Secondary → Option Frame → List Secondary → Type 0
 IsPutOut Unheard octets before answer stations = (answer ≡ None) × (stations ≡ before)
 IsPutOut fate octets before answer stations = HeardByAll octets before answer stations
 
@@ -86,7 +86,7 @@ AreLived plan (entry ∷ log) answers stations = AreLived plan log answers stati
 
 -- what of an answer comes to wait: nothing where it is lost, and one octet is changed where it is
 -- spoilt
-abbrev pub arriving : LinkSize → Fate → Option Frame → Option (List ℕ)
+abbrev pub arriving : LinkSize → RequestFate → Option Frame → Option (List ℕ)
 arriving size fate None = None
 arriving size Unheard (Some frame) = None
 arriving size AnswerLost (Some frame) = None

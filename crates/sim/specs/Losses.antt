@@ -8,9 +8,9 @@ use Rattle.sim.specs.declared.directive.Directive.{Directive}
 use Rattle.sim.specs.declared.directive.Directive.TheVariants.{Turns, Ack, Wall, Report}
 use Rattle.sim.specs.declared.directive.Directive.TheVariants.{LoseRequest, LoseAnswer, SpoilAnswer}
 use Rattle.sim.specs.declared.directive.Directive.TheVariants.{Cut, Send}
-use Rattle.sim.specs.declared.directive.Fate.{Fate}
-use Rattle.sim.specs.declared.directive.Fate.TheVariants.{Unheard, AnswerLost, AnswerSpoilt}
-use Rattle.sim.specs.declared.directive.Fate.TheVariants.{Answered}
+use Rattle.sim.specs.declared.directive.RequestFate.{RequestFate}
+use Rattle.sim.specs.declared.directive.RequestFate.TheVariants.{Unheard, AnswerLost, AnswerSpoilt}
+use Rattle.sim.specs.declared.directive.RequestFate.TheVariants.{Answered}
 
 -- the first of the lines that says something, by what each says
 abbrev pub or_else : {A : Type 0} → Option A → Option A → Option A
@@ -79,13 +79,13 @@ is_cut_at ds call = list_any (cuts call) ds
 abbrev pub sent_at : List Directive → (call : ℕ) → Option (List ℕ)
 sent_at ds call = first_said (send_said call) ds
 
-abbrev pub spoilt_fate : Option ℕ → Fate
+abbrev pub spoilt_fate : Option ℕ → RequestFate
 spoilt_fate None = Answered
 spoilt_fate (Some place) = AnswerSpoilt place
 
 -- what becomes of a request, by its number: it isn't heard, or else its answer is lost, or else
 -- spoilt
-abbrev pub fate_of : List Directive → (request : ℕ) → Fate
+abbrev pub fate_of : List Directive → (request : ℕ) → RequestFate
 fate_of ds request =
     if list_any (loses_request request) ds then Unheard
     else if list_any (loses_answer request) ds then AnswerLost

@@ -16,18 +16,18 @@ use Rattle.gateway.specs.Reports.{Setup, address_at, sending_in, exchanges_with}
 use Rattle.gateway.specs.Setups.{setup_of}
 use Rattle.delivery.specs.Delivery.{IsHonest, IsSteady, IsRelayed, reports_from}
 use Rattle.delivery.specs.Sessions.{SessionCounts, session_counts}
-use Rattle.sim.specs.declared.tally.Tally.{Tally}
+use Rattle.sim.specs.declared.tally.StationTally.{StationTally}
 use Rattle.sim.specs.declared.directive.Class.TheVariants.{One, Two}
 use Rattle.sim.specs.declared.directive.Directive.{Directive}
-use Rattle.sim.specs.declared.directive.Fate.{Fate}
-use Rattle.sim.specs.declared.directive.Fate.TheVariants.{Unheard, AnswerLost, AnswerSpoilt}
-use Rattle.sim.specs.declared.directive.Fate.TheVariants.{Answered}
+use Rattle.sim.specs.declared.directive.RequestFate.{RequestFate}
+use Rattle.sim.specs.declared.directive.RequestFate.TheVariants.{Unheard, AnswerLost, AnswerSpoilt}
+use Rattle.sim.specs.declared.directive.RequestFate.TheVariants.{Answered}
 use Rattle.sim.specs.Losses.{fate_of, report_said}
 use Rattle.sim.specs.Lives.{requests_in}
 use Rattle.sim.specs.Texts.{reports_for}
 
 -- a request is heard unless it is lost
-abbrev pub is_heard : Fate → Bool
+abbrev pub is_heard : RequestFate → Bool
 is_heard Unheard = false
 is_heard AnswerLost = true
 is_heard (AnswerSpoilt place) = true
@@ -89,7 +89,7 @@ pub record HasSessions (p : Setup) (log : Log) (index : ℕ) (turns : List Turn)
       ≡ reports_from p log index
 
 -- the numbers of its closing line of sessions
-pub record IsCounted (counts : SessionCounts) (tally : Tally) : Type 0 where
+pub record IsCounted (counts : SessionCounts) (tally : StationTally) : Type 0 where
   pub sessions : tally.sessions ≡ counts.sessions
   pub gaps : tally.gaps ≡ counts.gaps
   pub lost : tally.lost ≡ counts.lost
@@ -97,7 +97,7 @@ pub record IsCounted (counts : SessionCounts) (tally : Tally) : Type 0 where
 -- What the station with this index did in a run that left it so, and what was counted of its link's
 -- sessions.
 pub record HasServed (c : Settings) (ds : List Directive) (log : Log) (index : ℕ) (s : Secondary)
-    (tally : Tally) : Type 0 where
+    (tally : StationTally) : Type 0 where
   pub turns : List Turn
   -- It took these turns at the requests to it, and heard those that weren't lost.
   pub took : TakesTurns (first_station c ds index) (requests_to (setup_of c) ds index log) turns s
@@ -125,7 +125,8 @@ pub record HasServed (c : Settings) (ds : List Directive) (log : Log) (index : �
   pub relayed : c.line.silence ≡ Hold → IsRelayed (setup_of c) log index turns
 
 -- each of the stations, from this index on
-abbrev pub HaveServed : Settings → List Directive → Log → (index : ℕ) → List Secondary → List Tally
+abbrev pub HaveServed : Settings → List Directive → Log → (index : ℕ) → List Secondary
+    → List StationTally
     → Type 0
 HaveServed c ds log index [] [] = Unit {0}
 HaveServed c ds log index (s ∷ stations) (t ∷ tallies) =

@@ -13,7 +13,7 @@ use Rattle.delivery.specs.Delivery.{Delivers}
 use Rattle.traces.specs.Actions.{lines_of_actions}
 pub use Rattle.pages.specs.Pouring.{IsBegun}
 use Rattle.sim.specs.declared.directive.Directive.{Directive}
-use Rattle.sim.specs.declared.tally.Tally.{Tally}
+use Rattle.sim.specs.declared.tally.StationTally.{StationTally}
 use Rattle.sim.specs.Losses.{turns_of}
 use Rattle.sim.specs.Lives.{plan_of}
 use Rattle.sim.specs.Calls.{calls_in}
@@ -32,7 +32,7 @@ use Rattle.sim.specs.Texts.{closing_lines}
 -- connections count the monitor objects sent on them.
 pub record IsRun (c : Settings) (ds : List Directive) (log : Log) (closing : List ℕ) : Type 0 where
   pub stations : List Secondary
-  pub tallies : List Tally
+  pub tallies : List StationTally
   pub answers : List (Option Frame)
   pub played : IsPlayed (plan_of c ds) log answers stations
   pub calls : calls_in log ≡ turns_of ds

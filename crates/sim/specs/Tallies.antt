@@ -1,7 +1,7 @@
 -- What a simulated line counts of the sessions of each station's link, event by event (this
 -- gateway's own profile). That the counts are those of the log's exchanges, and of what the
 -- stations did, is the promise of `stations_are_honest`.
-use Rattle.std.specs.Prelude.{ℕ, ◌+◌, ◌-◌, ◌==◌, nat_le, ◌&&◌, not, false, if◌then◌else◌}
+use Rattle.std.specs.Prelude.{ℕ, ◌+◌, ◌-◌, ◌==◌, nat_le, ◌&&◌, ◌||◌, not, false, if◌then◌else◌}
 use Rattle.std.specs.Prelude.{List, [], ◌∷◌, length, map, replicate, slice_index_or, slice_index}
 use Rattle.std.specs.Prelude.{slice_set, Option, Some, None, option_and_then}
 use Rattle.ft12.specs.declared.frame.Frame.{Frame}
@@ -18,25 +18,25 @@ use Rattle.link.specs.Secondary.{Secondary}
 use Rattle.link.specs.Turns.{is_poll}
 use Rattle.gateway.specs.Log.{Log, LogEntry, Came, Went, Input, LineIn, LineOut}
 use Rattle.gateway.specs.Reports.{Setup, address_at, sending_in, exchanges_of}
-use Rattle.sim.specs.declared.tally.Tally.{Tally}
-use Rattle.sim.specs.declared.tallies.Awaited.{Awaited}
+use Rattle.sim.specs.declared.tally.StationTally.{StationTally}
+use Rattle.sim.specs.declared.tallies.LatestRequest.{LatestRequest}
 use Rattle.sim.specs.Lives.{Plan, AreLived}
 
 -- One station
 
 -- before the first request
-abbrev pub fresh_tally : Tally
+abbrev pub fresh_tally : StationTally
 fresh_tally = record { sessions = 0; gaps = 0; lost = 0; taken = 0; given = 0; is_polled = false }
 
 -- a request goes out to a station that has given so many reports
-abbrev pub tally_asked : Asked → (given : ℕ) → Tally → Tally
+abbrev pub tally_asked : Asked → (given : ℕ) → StationTally → StationTally
 tally_asked Status given t = record t { given = given }
 tally_asked Reset given t = record t { given = given }
 tally_asked (Counted fcb service) given t =
     record t { given = given; is_polled = is_poll service }
 
 -- a reset is answered: it ends the session before it, if there is one
-abbrev pub tally_reset : Tally → Tally
+abbrev pub tally_reset : StationTally → StationTally
 tally_reset t = record t {
   sessions = saturated (t.sessions + 1);
   gaps = if t.is_polled && not (t.sessions == 0) then saturated (t.gaps + 1) else t.gaps;
@@ -45,7 +45,7 @@ tally_reset t = record t {
 }
 
 -- a poll or a command is answered
-abbrev pub tally_served : Service → Answer → Tally → Tally
+abbrev pub tally_served : Service → Answer → StationTally → StationTally
 tally_served service (Report asdu) t = record t {
   taken = if is_poll service then saturated (t.taken + 1) else t.taken;
   is_polled = false;
@@ -53,13 +53,13 @@ tally_served service (Report asdu) t = record t {
 tally_served service Unable t = t
 tally_served service answer t = record t { is_polled = false }
 
-abbrev pub tally_answered : Asked → Answer → Tally → Tally
+abbrev pub tally_answered : Asked → Answer → StationTally → StationTally
 tally_answered Reset Confirmed t = tally_reset t
 tally_answered (Counted fcb service) answer t = tally_served service answer t
 tally_answered request answer t = t
 
 -- a request is answered, or isn't
-abbrev pub tally_after : Asked → Option Answer → Tally → Tally
+abbrev pub tally_after : Asked → Option Answer → StationTally → StationTally
 tally_after request None t = t
 tally_after request (Some answer) t = tally_answered request answer t
 
@@ -67,10 +67,10 @@ tally_after request (Some answer) t = tally_answered request answer t
 
 -- what is counted of each station, and the request that may still be answered
 pub record Tallied : Type 0 where
-  pub awaited : Option Awaited
-  pub each : List Tally
+  pub awaited : Option LatestRequest
+  pub each : List StationTally
 
-abbrev pub tally_at : List Tally → ℕ → Tally
+abbrev pub tally_at : List StationTally → ℕ → StationTally
 tally_at each i = slice_index_or each i fresh_tally
 
 -- how many reports the station at this place gave
@@ -81,35 +81,36 @@ abbrev pub sending_of : (ℕ × Asked) → Sending
 sending_of sent = record { station = sent.0; request = sent.1 }
 
 -- A request goes out, or octets that are none.
-abbrev pub each_asked : Option Sending → List Secondary → List Tally → List Tally
+abbrev pub each_asked : Option Sending → List Secondary → List StationTally → List StationTally
 each_asked None stations each = each
 each_asked (Some s) stations each =
     slice_set each s.station
     (tally_asked s.request (given_at stations s.station) (tally_at each s.station))
 
-abbrev pub awaited_asked : (now : ℕ) → Option Sending → Option Awaited → Option Awaited
+abbrev pub awaited_asked : (now : ℕ) → Option Sending → Option LatestRequest → Option LatestRequest
 awaited_asked now None awaited = awaited
 awaited_asked now (Some s) awaited =
     Some (record { station = s.station; request = s.request; since = now })
 
 -- Octets come: where a request is awaited, what the frame at their front says in answer to it.
-abbrev pub answer_in : Setup → Awaited → List ℕ → Option Answer
+abbrev pub answer_in : Setup → LatestRequest → List ℕ → Option Answer
 answer_in p a octets =
     option_and_then (answer_of (address_at p.addresses a.station) a.request)
     (whole_of (front_of p.link.size octets))
 
-abbrev pub each_heard : Setup → Option Awaited → List ℕ → List Tally → List Tally
+abbrev pub each_heard : Setup → Option LatestRequest → List ℕ → List StationTally
+    → List StationTally
 each_heard p None octets each = each
 each_heard p (Some a) octets each =
     slice_set each a.station
     (tally_after a.request (answer_in p a octets) (tally_at each a.station))
 
-abbrev pub awaited_heard : List ℕ → Option Awaited → Option Awaited
+abbrev pub awaited_heard : List ℕ → Option LatestRequest → Option LatestRequest
 awaited_heard [] awaited = awaited
 awaited_heard (octet ∷ octets) awaited = None
 
 -- A moment comes: the time to answer may be over.
-abbrev pub awaited_timed : (answer_ms now : ℕ) → Option Awaited → Option Awaited
+abbrev pub awaited_timed : (answer_ms now : ℕ) → Option LatestRequest → Option LatestRequest
 awaited_timed answer_ms now None = None
 awaited_timed answer_ms now (Some a) = if nat_le (a.since + answer_ms) now then None else Some a
 
@@ -140,19 +141,20 @@ tallied_asked p now octets stations t = record {
 
 -- A run
 
--- an exchange that isn't closed may still be answered where no octets came
-abbrev pub awaited_with : (octets : List ℕ) → OpenExchange → Option Awaited
+-- an exchange that isn't over may still be answered where no octets came
+abbrev pub awaited_with : (octets : List ℕ) → OpenExchange → Option LatestRequest
 awaited_with [] x = Some (record { station = x.station; request = x.request; since = x.since })
 awaited_with (octet ∷ octets) x = None
 
--- what may still be answered: the latest exchange, while it isn't closed and no octets came
-abbrev pub awaited_in : Option OpenExchange → Option Awaited
+-- what may still be answered: the latest exchange, while it is neither closed nor given up, and no
+-- octets came
+abbrev pub awaited_in : Option OpenExchange → Option LatestRequest
 awaited_in None = None
-awaited_in (Some x) = if x.closed then None else awaited_with x.octets x
+awaited_in (Some x) = if x.closed || x.given_up then None else awaited_with x.octets x
 
 -- what is counted of each station after this log, in which they lived so
 abbrev pub tallies_of : (plan : Plan) (log : Log) (answers : List (Option Frame))
-    (stations : List Secondary) → AreLived plan log answers stations → List Tally
+    (stations : List Secondary) → AreLived plan log answers stations → List StationTally
 tallies_of plan [] answers stations lived = replicate (length plan.stations) fresh_tally
 tallies_of plan (Came now (LineIn octets) ∷ log) answers stations lived =
     each_heard plan.setup (awaited_in (exchanges_of plan.setup log).current) octets

@@ -6,7 +6,7 @@ use Rattle.std.specs.Fmt.{decimal}
 use Rattle.link.specs.Secondary.{Secondary}
 use Rattle.sim.specs.declared.directive.Directive.{Directive}
 use Rattle.sim.specs.declared.directive.Directive.TheVariants.{Report}
-use Rattle.sim.specs.declared.tally.Tally.{Tally}
+use Rattle.sim.specs.declared.tally.StationTally.{StationTally}
 
 abbrev pub reports_for : (station : ℕ) → Directive → Bool
 reports_for station (Report i class octets) = i == station
@@ -47,18 +47,19 @@ session_line station sessions gaps lost =
     ++ decimal gaps ++ codes " lost " ++ decimal lost ++ 10 ∷ []
 
 -- the line of a station with this index and more than one session, else none
-abbrev pub line_of_sessions : (index : ℕ) → Tally → List ℕ
+abbrev pub line_of_sessions : (index : ℕ) → StationTally → List ℕ
 line_of_sessions index t =
     if nat_lt 1 t.sessions then session_line (index + 1) t.sessions t.gaps t.lost else []
 
 -- the lines of the sessions of stations, from this index on
-abbrev pub session_lines : (index : ℕ) → List Tally → List ℕ
+abbrev pub session_lines : (index : ℕ) → List StationTally → List ℕ
 session_lines index [] = []
 session_lines index (t ∷ ts) = line_of_sessions index t ++ session_lines (index + 1) ts
 
 -- all that stands behind the lines of a run's actions: how the stations and what is counted stand
 -- after it
-abbrev pub closing_lines : List Directive → List Secondary → (connections : List ℕ) → List Tally
+abbrev pub closing_lines : List Directive → List Secondary → (connections : List ℕ)
+    → List StationTally
     → List ℕ
 closing_lines ds stations connections tallies =
     station_lines ds 0 stations ++ connections ++ session_lines 0 tallies

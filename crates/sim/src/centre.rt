@@ -79,6 +79,7 @@ impl Centre {
         } else if is_data(octets) {
             Centre {
                 sent: self.sent + 1,
+                // Its N(R) is for all that came.
                 acknowledged: self.received,
                 ..self
             }
@@ -96,6 +97,8 @@ impl Centre {
     {
         if is_data(octets) {
             Some(Centre {
+                // A number that stopped growing would name another frame (docs/DECISIONS.md, "The
+                // 2^64th request").
                 received: self.received.checked_add(1)?,
                 ..self
             })

@@ -89,6 +89,8 @@ impl Connections {
         ensures err { OnErr result (self.new ≡ self.old) }
     {
         if let Entry::Open(_) = entry {
+            // Room for its number, before its opening is taken (docs/DECISIONS.md, "What the
+            // closing lines say").
             self.counts.push(0)?;
         }
         Ok(())

@@ -17,7 +17,7 @@ pub enum Class {
 
 /// What becomes of a request.
 #[derive(Clone, Copy, Debug, PartialEq, Eq)]
-pub enum Fate {
+pub enum RequestFate {
     /// No station hears it.
     Unheard,
     /// It is heard, and its answer is lost.

@@ -29,12 +29,14 @@ impl Due {
         ensures { (waiting : Option (List ℕ))
             → due_input result waiting ≡ event_at script.now call centre.now waiting }
     {
+        // First of all: the tags of commands are judged by it.
         if let Some(number) = script.wall_at(call) {
             return Due::Wall(number);
         }
         if !centre.is_open {
             return Due::Open;
         }
+        // Only an open one is cut. A cut for a call without one is passed over.
         if script.is_cut_at(call) {
             return Due::Cut;
         }

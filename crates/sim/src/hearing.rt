@@ -6,7 +6,7 @@ ghost use Rattle.ft12.specs.Spelling.{Fits, spelling};
 ghost use Rattle.ft12.specs.Spoiling.{spoilt};
 ghost use Rattle.sim.specs.Lives.{later, HeardByAll, IsPutOut, arriving};
 
-use crate::directive::Fate;
+use crate::directive::RequestFate;
 use arrayvec::ArrayVec;
 use ft12::{Frame, LinkSize, encode};
 use link::Station;
@@ -38,13 +38,13 @@ fn hear_all(stations: &mut [Station], octets: &[u8]) -> Option<Frame>
 }
 
 /// Puts a request out to the stations, of which each hears it where it isn't lost.
-pub fn put_out(stations: &mut [Station], fate: Fate, octets: &[u8]) -> Option<Frame>
+pub fn put_out(stations: &mut [Station], fate: RequestFate, octets: &[u8]) -> Option<Frame>
     ensures out { IsPutOut fate octets.now stations.old result stations.new }
     ensures fits { (size : LinkSize) → AllByRecursion (λ s. s.size ≡ size) stations.old
         → IfSome result (Fits size) }
 {
     match fate {
-        Fate::Unheard => None,
+        RequestFate::Unheard => None,
         _ => hear_all(stations, octets),
     }
 }
@@ -59,15 +59,19 @@ fn spoil(octets: &mut ArrayVec<u8, 261>, place: usize)
 }
 
 /// What of an answer comes to wait.
-pub fn arriving(size: LinkSize, fate: Fate, answer: Option<Frame>) -> Option<ArrayVec<u8, 261>>
+pub fn arriving(
+    size: LinkSize,
+    fate: RequestFate,
+    answer: Option<Frame>,
+) -> Option<ArrayVec<u8, 261>>
     requires { IfSome answer (Fits size) }
     ensures { option_map (λ v. v.items) result ≡ arriving size fate answer }
 {
     let frame = answer?;
     match fate {
-        Fate::Unheard | Fate::AnswerLost => None,
-        Fate::Answered => Some(encode(size, &frame)),
-        Fate::AnswerSpoilt(place) => Some(spoilt(size, place, &frame)),
+        RequestFate::Unheard | RequestFate::AnswerLost => None,
+        RequestFate::Answered => Some(encode(size, &frame)),
+        RequestFate::AnswerSpoilt(place) => Some(spoilt(size, place, &frame)),
     }
 }
 

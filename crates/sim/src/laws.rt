@@ -10,7 +10,7 @@ ghost use Rattle.gateway.specs.Setups.{setup_of};
 ghost use Rattle.gateway.specs.Traffic.{IsFaithful};
 ghost use Rattle.delivery.specs.Delivery.{Delivers};
 ghost use Rattle.sim.specs.declared.directive.Directive.{Directive};
-ghost use Rattle.sim.specs.declared.tally.Tally.{Tally};
+ghost use Rattle.sim.specs.declared.tally.StationTally.{StationTally};
 ghost use Rattle.sim.specs.Tallies.{tallies_of};
 ghost use Rattle.sim.specs.Connections.{counted_in};
 ghost use Rattle.sim.specs.Lives.{plan_of, requests_in};
@@ -34,7 +34,7 @@ use link::station_is_an_outstation;
 /// reset, and this holds of the whole run.
 pub fn stations_are_honest()
     ensures { (c : Settings) (ds : List Directive) (log : Log) (answers : List (Option Frame))
-        (stations : List Secondary) (tallies : List Tally) →
+        (stations : List Secondary) (tallies : List StationTally) →
         AreDistinct c.stations → (played : IsPlayed (plan_of c ds) log answers stations) →
         tallies ≡ tallies_of (plan_of c ds) log answers stations played.lived →
         requests_in log < 2 ^ 64 → IsFaithful (setup_of c) log →

@@ -20,8 +20,8 @@
 //! ([`stations_are_honest`], `specs/Outstations.antt`): no answer comes late or altered unseen, it
 //! gives the script's reports of each class in order, each once, and what is taken from it is what
 //! it gave, or all but the last: in each session of its link, and where unanswered services are
-//! held in the whole run. What is counted of the sessions of each link ([`Tally`]) is what its
-//! exchanges and turns say, and what is counted of each connection is what its frames bear
+//! held in the whole run. What is counted of the sessions of each link ([`StationTally`]) is what
+//! its exchanges and turns say, and what is counted of each connection is what its frames bear
 //! ([`connections_are_counted`], `specs/Closing.antt`). [`Sim::closing`] promises that a run of as
 //! many calls as the script says, in which the gateway keeps every promise of a gateway, keeps the
 //! order of actions in each step and delivers what was taken, and that its lines have the numbers
@@ -59,7 +59,7 @@ mod tally;
 mod text;
 
 pub use beginning::begin;
-pub use directive::{Class, Directive, Fate};
+pub use directive::{Class, Directive, RequestFate};
 pub use examples::{
     calls_by_example, closing_lines_by_example, hearings_by_example, losses_by_example,
     scripts_by_example,
@@ -72,5 +72,5 @@ pub use reading::read_script;
 pub use script::Script;
 pub use sim::Sim;
 pub use simulating::{simulate, simulate_watched};
-pub use tally::Tally;
+pub use tally::StationTally;
 pub use traces::TextFault;

@@ -84,6 +84,8 @@ fn counted(word: &[u8], digits: &[u8]) -> Option<Directive>
     let n = number(digits)?;
     match word {
         b"turns" => Some(Directive::Turns(n)),
+        // With 0 an S frame would be due at each call, and the line would have no turn
+        // (docs/DECISIONS.md, "The number 0").
         b"ack" if 1 <= n && n <= 32767 => Some(Directive::Ack(n)),
         b"cut" => Some(Directive::Cut(n)),
         _ => None,

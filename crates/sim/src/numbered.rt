@@ -12,7 +12,7 @@ ghost use Rattle.sim.specs.Losses.{first_said, spoil_said, send_said, loses_requ
 ghost use Rattle.sim.specs.Losses.{cuts};
 ghost use Rattle.sim.specs.Scripts.{clashes_with, is_turns};
 
-use crate::directive::{Directive, Fate};
+use crate::directive::{Directive, RequestFate};
 use link::Asdu;
 use std::alloc::{AllocError, Global};
 use std::collections::{BTreeMap, BTreeSet};
@@ -191,6 +191,7 @@ impl Numbered {
             Directive::Turns(_) => self.turns.is_some(),
             Directive::Ack(_) => self.ack.is_some(),
             Directive::Wall(_) => self.wall.is_some(),
+            // Two changes in one answer could pass its checksum.
             Directive::SpoilAnswer(n, _) => self.is_spoilt(*n),
             Directive::Send(n, _) => self.is_sent_at(*n),
             _ => false,
@@ -227,17 +228,18 @@ impl Numbered {
     }
 
     /// What becomes of the request with this number.
-    pub(crate) fn fate(&self, request: u64) -> Fate
+    pub(crate) fn fate(&self, request: u64) -> RequestFate
         ensures { result ≡ fate_of self.now request }
     {
+        // Lost before spoilt (docs/DECISIONS.md, "A request both lost and spoilt").
         if self.unheard.contains(&request) {
-            Fate::Unheard
+            RequestFate::Unheard
         } else if self.lost.contains(&request) {
-            Fate::AnswerLost
+            RequestFate::AnswerLost
         } else {
             match self.spoilt.get(&request) {
-                Some(place) => Fate::AnswerSpoilt(*place),
-                None => Fate::Answered,
+                Some(place) => RequestFate::AnswerSpoilt(*place),
+                None => RequestFate::Answered,
             }
         }
     }

@@ -4,7 +4,7 @@ ghost use Rattle.std.specs.Option.{option_copied};
 ghost use Rattle.sim.specs.Scripts.{IsScript};
 ghost use Rattle.sim.specs.Losses.{turns_of, ack_of, wall_at, is_cut_at, sent_at, fate_of};
 
-use crate::directive::{Directive, Fate};
+use crate::directive::{Directive, RequestFate};
 use crate::numbered::Numbered;
 use link::Asdu;
 use std::marker::Model;
@@ -72,7 +72,7 @@ impl Script {
     }
 
     /// What becomes of the request with this number.
-    pub fn fate(&self, request: u64) -> Fate
+    pub fn fate(&self, request: u64) -> RequestFate
         ensures { result ≡ fate_of self.now request }
     {
         self.lines.fate(request)

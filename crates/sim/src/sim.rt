@@ -11,7 +11,7 @@ ghost use Rattle.sim.specs.Lives.{Plan, plan_of};
 ghost use Rattle.sim.specs.Losses.{turns_of};
 ghost use Rattle.sim.specs.Scripts.{FitsSettings};
 ghost use Rattle.sim.specs.Played.{centre_after, moment_at, is_given, coming};
-ghost use Rattle.sim.specs.declared.tally.Tally.{Tally};
+ghost use Rattle.sim.specs.declared.tally.StationTally.{StationTally};
 
 use crate::beginning::begin;
 use crate::centre::Centre;
@@ -22,7 +22,7 @@ use crate::hearing::{arriving, put_out};
 use crate::printout::Printout;
 use crate::script::Script;
 use crate::tallies::Tallies;
-use crate::tally::Tally;
+use crate::tally::StationTally;
 use arrayvec::ArrayVec;
 use gateway::{Action, Config, Entry, LAST_MOMENT, Next, Port, announce};
 use link::{NoMemory, Station, station_is_an_outstation};
@@ -209,7 +209,7 @@ impl<'a> Sim<'a> {
     }
 
     /// What is counted of the sessions of each station's link.
-    pub fn tallies(&self) -> &[Tally]
+    pub fn tallies(&self) -> &[StationTally]
         ensures { result.now ≡ self.now.standing.tallied.each }
     {
         self.tallies.each()
@@ -293,6 +293,7 @@ impl<'a> Sim<'a> {
             .ask(self.config, self.stations.as_slice(), now, octets);
         let fate = self.script.fate(requests);
         let answer = put_out(self.stations.as_mut_slice(), fate, octets);
+        // In place of an answer that still waits: so none is late.
         self.waiting = arriving(self.config.line().link, fate, answer);
         Ok(())
     }

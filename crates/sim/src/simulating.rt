@@ -113,6 +113,7 @@ fn print_closing<W: Write>(lines: &[u8], is_whole: bool, out: &mut W) -> Result<
         IsPoured is_whole before (W.contents out.old) text →
         IsClosedBy before (W.contents out.new) text lines.now result }
 {
+    // Closing lines behind lines that are missing would pass for a whole run's.
     if !is_whole {
         return Err(SimFault::Write);
     }

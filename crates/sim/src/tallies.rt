@@ -8,7 +8,7 @@ ghost use Rattle.sim.specs.Tallies.{fresh_tally, tally_at, given_at, sending_of,
 ghost use Rattle.sim.specs.Tallies.{awaited_timed, tallied_heard, tallied_after, tallied_asked};
 
 use crate::sim::moment_at;
-use crate::tally::Tally;
+use crate::tally::StationTally;
 use ft12::{Frame, Front, FrontRef, LinkSize, front, front_is_computed, front_ref};
 use gateway::{Config, Entry};
 use link::{Answer, HeardRequest, NoMemory, Reading, Station, read_request};
@@ -17,7 +17,7 @@ use std::marker::Model;
 
 /// The latest request, while it may still be answered: it isn't `answer_ms` old, and nothing came.
 #[derive(Drop)]
-pub struct Awaited {
+pub struct LatestRequest {
     /// The index of its station.
     pub station: usize,
     /// What it asks for.
@@ -29,8 +29,8 @@ pub struct Awaited {
 /// What is counted of each station, and the request that may still be answered.
 #[derive(Drop)]
 pub(crate) struct Tallies {
-    awaited: Option<Awaited>,
-    each: Vec<Tally>,
+    awaited: Option<LatestRequest>,
+    each: Vec<StationTally>,
 }
 
 impl Model for Tallies {
@@ -108,16 +108,16 @@ fn given_at(stations: &[Station], index: usize) -> u64
     }
 }
 
-fn tally_at(each: &[Tally], index: usize) -> Tally
+fn tally_at(each: &[StationTally], index: usize) -> StationTally
     ensures { result ≡ tally_at each.now index }
 {
     match each.get(index) {
         Some(tally) => *tally,
-        None => Tally::fresh(),
+        None => StationTally::fresh(),
     }
 }
 
-fn set_tally(each: &mut [Tally], index: usize, tally: Tally)
+fn set_tally(each: &mut [StationTally], index: usize, tally: StationTally)
     ensures { each.new ≡ slice_set each.old index tally }
 {
     if index < each.len() {
@@ -126,7 +126,7 @@ fn set_tally(each: &mut [Tally], index: usize, tally: Tally)
 }
 
 /// What the frame at the front of octets says in answer to the request that is awaited.
-fn answer_in<'a>(config: &Config, awaited: &Awaited, octets: &'a [u8]) -> Option<Answer<'a>>
+fn answer_in<'a>(config: &Config, awaited: &LatestRequest, octets: &'a [u8]) -> Option<Answer<'a>>
     ensures { result ≡ answer_in (setup_of config.now) awaited.now octets.now }
 {
     front_is_computed();
@@ -147,7 +147,7 @@ impl Tallies {
           each = replicate stations fresh_tally;
         }) }
     {
-        match vec![in alloc; Tally::fresh(); stations] {
+        match vec![in alloc; StationTally::fresh(); stations] {
             Ok(each) => Ok(Tallies {
                 awaited: None,
                 each,
@@ -157,7 +157,7 @@ impl Tallies {
     }
 
     /// What is counted of each station.
-    pub(crate) fn each(&self) -> &[Tally]
+    pub(crate) fn each(&self) -> &[StationTally]
         ensures { result.now ≡ self.now.each }
     {
         &self.each
@@ -171,7 +171,7 @@ impl Tallies {
         if let Some((station, request)) = sending_in(config, octets) {
             let tally = tally_at(&self.each, station).asked(&request, given_at(stations, station));
             set_tally(&mut self.each, station, tally);
-            self.awaited = Some(Awaited {
+            self.awaited = Some(LatestRequest {
                 station,
                 request,
                 since: now,
@@ -190,6 +190,7 @@ impl Tallies {
                 set_tally(&mut self.each, station, tally);
             }
         }
+        // The front decides: nothing behind these octets is an answer any more.
         if !octets.is_empty() {
             self.awaited = None;
         }

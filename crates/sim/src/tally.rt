@@ -9,7 +9,7 @@ use link::{Answer, Asked, HeardRequest, Service};
 /// What is counted of a station: of its link's sessions, each from one answered reset to the next,
 /// and of its reports. No count goes past `u64::MAX`.
 #[derive(Clone, Copy, Debug, PartialEq, Eq)]
-pub struct Tally {
+pub struct StationTally {
     /// How many resets of its link were answered.
     pub sessions: u64,
     /// How many of them ended a session with a gap.
@@ -34,12 +34,12 @@ fn is_poll(service: &Service) -> bool
     }
 }
 
-impl Tally {
+impl StationTally {
     /// Before the first request.
-    pub(crate) const fn fresh() -> Tally
+    pub(crate) const fn fresh() -> StationTally
         ensures { result ≡ fresh_tally }
     {
-        Tally {
+        StationTally {
             sessions: 0,
             gaps: 0,
             lost: 0,
@@ -50,19 +50,19 @@ impl Tally {
     }
 
     /// A request goes out to the station, which has given so many reports.
-    pub(crate) fn asked(self, request: &HeardRequest, given: u64) -> Tally
+    pub(crate) fn asked(self, request: &HeardRequest, given: u64) -> StationTally
         ensures { result ≡ tally_asked request.now given self }
     {
         self.asked_bare(request.asked(), given)
     }
 
     /// The same, where of a command no octets are known.
-    fn asked_bare(self, request: &Asked, given: u64) -> Tally
+    fn asked_bare(self, request: &Asked, given: u64) -> StationTally
         ensures { result ≡ tally_asked request.now given self }
     {
         match request {
-            Asked::Status | Asked::Reset => Tally { given, ..self },
-            Asked::Counted(_, service) => Tally {
+            Asked::Status | Asked::Reset => StationTally { given, ..self },
+            Asked::Counted(_, service) => StationTally {
                 given,
                 is_polled: is_poll(service),
                 ..self
@@ -71,11 +71,12 @@ impl Tally {
     }
 
     /// A reset of the link is answered.
-    fn reset(self) -> Tally
+    fn reset(self) -> StationTally
         ensures { result ≡ tally_reset self }
     {
+        // What comes before the first reset is no session.
         let ends_with_gap = self.is_polled && self.sessions != 0;
-        Tally {
+        StationTally {
             sessions: self.sessions.saturating_add(1),
             gaps: if ends_with_gap {
                 self.gaps.saturating_add(1)
@@ -89,11 +90,11 @@ impl Tally {
     }
 
     /// A poll or a command is answered.
-    fn served(self, service: &Service, answer: &Answer<'_>) -> Tally
+    fn served(self, service: &Service, answer: &Answer<'_>) -> StationTally
         ensures { result ≡ tally_served service.now answer.now self }
     {
         match answer {
-            Answer::Report(_) => Tally {
+            Answer::Report(_) => StationTally {
                 taken: if is_poll(service) {
                     self.taken.saturating_add(1)
                 } else {
@@ -102,8 +103,9 @@ impl Tally {
                 is_polled: false,
                 ..self
             },
+            // 14 or 15 says nothing of a report (docs/DECISIONS.md, "A gap may be none").
             Answer::Unable => self,
-            _ => Tally {
+            _ => StationTally {
                 is_polled: false,
                 ..self
             },
@@ -111,14 +113,14 @@ impl Tally {
     }
 
     /// The request that went out last is answered.
-    pub(crate) fn answered(self, request: &HeardRequest, answer: &Answer<'_>) -> Tally
+    pub(crate) fn answered(self, request: &HeardRequest, answer: &Answer<'_>) -> StationTally
         ensures { result ≡ tally_answered request.now answer.now self }
     {
         self.answered_bare(request.asked(), answer)
     }
 
     /// The same, where of a command no octets are known.
-    fn answered_bare(self, request: &Asked, answer: &Answer<'_>) -> Tally
+    fn answered_bare(self, request: &Asked, answer: &Answer<'_>) -> StationTally
         ensures { result ≡ tally_answered request.now answer.now self }
     {
         match (request, answer) {

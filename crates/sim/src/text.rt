@@ -5,7 +5,7 @@ ghost use Rattle.sim.specs.Texts.{connection_lines};
 ghost use Rattle.sim.specs.Texts.{line_of_sessions, session_lines, closing_lines};
 
 use crate::directive::Directive;
-use crate::tally::Tally;
+use crate::tally::StationTally;
 use link::Station;
 use std::alloc::{AllocError, Global};
 
@@ -80,7 +80,7 @@ fn push_connections(lines: &mut String, counts: &[u64]) -> Result<(), AllocError
 
 /// Appends the closing line of the sessions of the station with this index, where there was more
 /// than one.
-fn push_tally(lines: &mut String, index: usize, tally: Tally) -> Result<(), AllocError>
+fn push_tally(lines: &mut String, index: usize, tally: StationTally) -> Result<(), AllocError>
     requires { index + 1 < 2 ^ 64 }
     ensures { OnOk result (string_bytes lines.new ≡ string_bytes lines.old
         ++ line_of_sessions index tally) }
@@ -100,7 +100,7 @@ fn push_tally(lines: &mut String, index: usize, tally: Tally) -> Result<(), Allo
 
 #[tactic(auto, using(crate::proofs::TextLemmas::session_more, crate::proofs::TextLemmas::session_end))]
 /// Appends the closing lines of sessions.
-fn push_tallies(lines: &mut String, tallies: &[Tally]) -> Result<(), AllocError>
+fn push_tallies(lines: &mut String, tallies: &[StationTally]) -> Result<(), AllocError>
     ensures { OnOk result (string_bytes lines.new ≡ string_bytes lines.old
         ++ session_lines 0 tallies.now) }
 {
@@ -117,7 +117,7 @@ pub(crate) fn closing_lines(
     directives: &[Directive],
     stations: &[Station],
     counts: &[u64],
-    tallies: &[Tally],
+    tallies: &[StationTally],
 ) -> Result<String, AllocError>
     ensures { IfOk result (λ text. string_bytes text
         ≡ closing_lines directives.now stations.now (connection_lines 1 counts.now) tallies.now) }

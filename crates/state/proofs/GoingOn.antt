@@ -1,25 +1,35 @@
 -- A gateway that goes on with what a log has.
-use Rattle.std.proofs.Common.{◌≡◌, ℕ, Bool, true, false, List, drop, Option, refl, sym, subst}
+use Rattle.std.proofs.Common.{◌≡◌, ◌∷◌, ℕ, Bool, true, false, List, drop, Option, Some, refl, sym}
+use Rattle.std.proofs.Common.{subst}
 use Rattle.std.specs.Prelude.{not, ◌&&◌}
+use Rattle.gateway.specs.Agrees.{Follows, Rests}
 use Rattle.gateway.specs.Config.{Settings}
-use Rattle.gateway.specs.Log.{Log}
+use Rattle.gateway.specs.Log.{Came, Log, Restarted}
+use Rattle.gateway.specs.Reports.{Setup}
+use Rattle.gateway.specs.Setups.{setup_of}
 use Rattle.gateway.specs.State.{State}
 use Rattle.segments.specs.Starts.{before_zero}
-use Rattle.state.specs.Beginnings.{GoesOnBy, GoesOnFrom, HasNoCommand, IsHeadOf, IsMoved, IsRead}
+use Rattle.state.specs.Beginnings.{GoesOnBy, GoesOnFrom, IsHeadOf, IsMoved, IsRead}
 use Rattle.state.specs.Beginnings.{MovedOn, WentOn, given_up}
 use Rattle.state.specs.Replays.{ToldGap}
 
 pub went_on : (c : Settings) (log : Log) (lines : List (List ℕ)) (events : List ℕ)
-    (gap other : Option ToldGap)
-    (whole others : Log) (left s : State) → IsRead c log lines events gap whole left → other ≡ gap
-    → others ≡ whole
-    → s ≡ given_up left → (HasNoCommand left → s ≡ left) → WentOn c log lines events other others s
-went_on c log lines events gap other whole others left s read same alike given unless = record {
+    (gap other : Option ToldGap) (heard whole : Log) (left s : State)
+    → IsRead c log lines events gap heard left → other ≡ gap → s ≡ given_up left
+    → whole ≡ Came left.moment Restarted ∷ heard
+    → ((p : Setup) → Follows p left (Some heard) → Rests p (Some heard) → Follows p s (Some whole))
+    → WentOn c log lines events other whole s
+went_on c log lines events gap other heard whole left s read same given restarted follows = record {
   left = left;
-  read = subst (λ (l : Log). IsRead c log lines events other l left) (sym alike)
-      (subst (λ (g : Option ToldGap). IsRead c log lines events g whole left) (sym same) read);
+  heard = heard;
+  read = subst (λ (g : Option ToldGap). IsRead c log lines events g heard left) (sym same) read;
   given = given;
-  unless = unless;
+  restarted = restarted;
+  follows = λ first rest are savable before rests.
+      let replayed = read first rest are savable before rests in (
+        follows (setup_of c) replayed.follows replayed.rests,
+        subst (λ (l : Log). Rests (setup_of c) (Some l)) (sym restarted) replayed.rests,
+      );
 }
 
 moved_by : (is_same : Bool) (written text : List ℕ) → (is_same ≡ true → written ≡ text)

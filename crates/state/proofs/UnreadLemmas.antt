@@ -16,8 +16,8 @@ use Rattle.settings.specs.Unknown.{unknown_paths}
 use Rattle.segments.specs.Starts.{HasNone, IsBacked, IsFoundIn, IsSound}
 use Rattle.segments.specs.Starts.{before_zero}
 use Rattle.segments.specs.Head.{Fits}
-use Rattle.segments.specs.declared.head.Head.{Head}
-use Rattle.segments.specs.declared.start.Found.{Found}
+use Rattle.segments.specs.declared.head.SegmentHead.{SegmentHead}
+use Rattle.segments.specs.declared.start.FoundHead.{FoundHead}
 use Rattle.segments.proofs.Crashes.{one_segment}
 use Rattle.segments.proofs.Fronts.{not_shut}
 use Rattle.state.specs.Beginnings.{AreLinesRead, IsHeadOf, has_past}
@@ -56,7 +56,7 @@ unread_none c text newest other wins none doubt = record {
 }
 
 -- a segment was found
-pub unread_found : (c : Settings) (text newest other : List ℕ) (head : Head) (body : List ℕ)
+pub unread_found : (c : Settings) (text newest other : List ℕ) (head : SegmentHead) (body : List ℕ)
     → IsBacked newest other
     → IsFoundIn newest head body → (HasState c text newest → ⊥) → IsUnread c text newest other
 unread_found c text newest other head body wins found none = record {
@@ -67,7 +67,7 @@ unread_found c text newest other head body wins found none = record {
 
 -- A line that can't be read
 
-pub lines_read : (clean : Type 0) (file : List ℕ) (o : Option Found) (at : ℕ) → is_some o ≡ true
+pub lines_read : (clean : Type 0) (file : List ℕ) (o : Option FoundHead) (at : ℕ) → is_some o ≡ true
     → IfSome o (λ c. Fits c.head)
     → ForSome o (λ c. (at ≡ 87 + length c.text.items)
     × (clean → IsFoundIn file c.head c.text.items))
@@ -80,7 +80,8 @@ lines_read clean file (Some c) at some fits stands is read head body fits' found
     (stands c refl).0 ∙ ap (λ (text : List ℕ). 87 + length text) same in
     subst (λ (n : ℕ). AreRead (whole_lines (before_zero (drop n file)))) place read
 
-pub lines_rotten : (clean : Type 0) (file : List ℕ) (o : Option Found) (at : ℕ) → is_some o ≡ true
+pub lines_rotten : (clean : Type 0) (file : List ℕ) (o : Option FoundHead) (at : ℕ) → is_some o
+    ≡ true
     → IfSome o (λ c. Fits c.head)
     → ForSome o (λ c. (at ≡ 87 + length c.text.items)
     × (clean → IsFoundIn file c.head c.text.items))
@@ -113,7 +114,7 @@ never_anew b anew is =
     let no : beginnings.Anew ≡ beginnings.PutAside = sym anew ∙ is in absurd (cc)
 
 -- what was read first is the settings that stand at the head
-pub head_wrong : (file body : List ℕ) (head : Head) (coming : List (List ℕ)) (c : Settings)
+pub head_wrong : (file body : List ℕ) (head : SegmentHead) (coming : List (List ℕ)) (c : Settings)
     (text : List ℕ) → Fits head
     → IsFoundIn file head body → coming ≡ lines_in body
     → ((octets : List ℕ) (rest : List (List ℕ)) → IsOctetLine octets → coming ≡ octets ∷ rest → ⊥)
@@ -123,7 +124,7 @@ head_wrong file body head coming c text fits found are none state =
     (are ∙ ap lines_in (one_segment file head state.head body state.body fits state.fits found
     state.found) ∙ state.says)
 
-pub head_read : (file body : List ℕ) (head : Head) (c : Settings) (text written : List ℕ)
+pub head_read : (file body : List ℕ) (head : SegmentHead) (c : Settings) (text written : List ℕ)
     (lines : List (List ℕ)) → Fits head
     → IsFoundIn file head body → lines_in body ≡ written ∷ lines → (state : HasState c text file)
     → (written ≡ state.written) × (lines ≡ state.lines)
@@ -177,7 +178,7 @@ module _ {D : Type 0} (g : Ghosts D) where
 
   -- one was found, and its head couldn't be read
   pub unread_from : (c : Settings) (text told : List ℕ) (one two new old other : D)
-      (o : Option Found) (at : ℕ) → one ≡ new
+      (o : Option FoundHead) (at : ℕ) → one ≡ new
       → two ≡ other → g.seen new ≡ g.seen old → (IsTrue (g.is_clean new) → IsTrue (g.is_clean old))
       → is_some o ≡ true
       → ForSome o (λ f. (at ≡ 87 + length f.text.items) × (IsTrue (g.is_clean old)

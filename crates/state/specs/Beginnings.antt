@@ -4,15 +4,14 @@ use Rattle.std.specs.Prelude.{length, Option, Some, None, Ok, if◌then◌else�
 use Rattle.gateway.specs.Agrees.{Follows, Rests}
 use Rattle.gateway.specs.Carried.{carried, without_commands}
 use Rattle.gateway.specs.Config.{Settings}
-use Rattle.gateway.specs.Log.{Log}
+use Rattle.gateway.specs.Log.{Came, Log, Restarted}
 use Rattle.gateway.specs.Restored.{IsSavable, state_lines}
 use Rattle.gateway.specs.Setups.{setup_of}
 use Rattle.gateway.specs.State.{State, with_serial}
-use Rattle.link.specs.Carried.{awaits_command}
 use Rattle.segments.specs.Crashes.{lines_behind}
 use Rattle.segments.specs.Head.{Fits}
 use Rattle.segments.specs.Starts.{IsFoundIn, before_zero}
-use Rattle.segments.specs.declared.head.Head.{Head}
+use Rattle.segments.specs.declared.head.SegmentHead.{SegmentHead}
 use Rattle.settings.specs.Settings.{IsReadOfText}
 use Rattle.statetext.specs.Text.{lines_in}
 use Rattle.state.specs.Replays.{AreRead, IsReplayed, ToldGap, events_in_front, whole_lines}
@@ -41,11 +40,6 @@ moment_at beginning moment = if has_past beginning then Some moment else None
 abbrev pub given_up : State → State
 given_up s = with_serial (without_commands s.serial) s
 
--- there is none
-abbrev pub HasNoCommand : State → Type 0
-HasNoCommand s = (station : ℕ) → station < length s.serial.line.stations →
-    awaits_command s.serial.line station ≡ false
-
 -- The gateway is in the state that some lines say, and follows this log if that state does.
 abbrev pub HasRead : Settings → Log → (lines : List (List ℕ)) → State → Type 0
 HasRead c log lines s =
@@ -64,26 +58,45 @@ IsRead c log lines events gap whole s =
 -- These settings and these lines stand at the head of the log in a file, whose events begin there.
 pub record IsHeadOf (file : List ℕ) (begins : ℕ) (settings : List ℕ) (lines : List (List ℕ)) :
     Type 0 where
-  pub head : Head
+  pub head : SegmentHead
   pub body : List ℕ
   pub fits : Fits head
   pub found : IsFoundIn file head body
   pub says : lines_in body ≡ settings ∷ lines
   pub behind : begins ≡ 87 + length body
 
+-- the file's segment has this number
+pub record BearsNumber (file : List ℕ) (number : ℕ) : Type 0 where
+  pub head : SegmentHead
+  pub body : List ℕ
+  pub fits : Fits head
+  pub found : IsFoundIn file head body
+  pub is : number ≡ head.number
+
 -- Each whole line behind the checkpoint of the file's segment tells an event.
 abbrev pub AreLinesRead : List ℕ → Type 0
-AreLinesRead file = (head : Head) (body : List ℕ) → Fits head → IsFoundIn file head body →
+AreLinesRead file = (head : SegmentHead) (body : List ℕ) → Fits head → IsFoundIn file head body →
     AreRead (whole_lines (lines_behind body file))
 
+-- The gateway follows this whole log, where the log before the state that these lines say was that
+-- one.
+abbrev pub GoesOnWith : Settings → (log : Log) → (lines : List (List ℕ)) → (whole : Log) → State
+    → Type 0
+GoesOnWith c log lines whole s =
+    (first : State) (rest : List (List ℕ)) → lines ≡ state_lines first ++ rest → IsSavable first
+    → Follows (setup_of c) first (Some log) → Rests (setup_of c) (Some log)
+    → Follows (setup_of c) s (Some whole) × Rests (setup_of c) (Some whole)
+
 -- It has heard the events behind the state that these lines say, and has then given up each command
--- without an answer. Where there was none it follows the whole log.
+-- without an answer. The whole log has this restart at its end, and the gateway follows it.
 pub record WentOn (c : Settings) (log : Log) (lines : List (List ℕ)) (events : List ℕ)
     (gap : Option ToldGap) (whole : Log) (s : State) : Type 0 where
   pub left : State
-  pub read : IsRead c log lines events gap whole left
+  pub heard : Log
+  pub read : IsRead c log lines events gap heard left
   pub given : s ≡ given_up left
-  pub unless : HasNoCommand left → s ≡ left
+  pub restarted : whole ≡ Came left.moment Restarted ∷ heard
+  pub follows : GoesOnWith c log lines whole s
 
 -- It went on so under the settings that wrote the log, and was then moved to these.
 pub record MovedOn (trusted : Bool) (c : Settings) (written : List ℕ) (log : Log)

@@ -11,3 +11,4 @@ pub mod Beginnings
 pub mod Origins
 pub mod Unread
 pub mod Directories
+pub mod Sights

@@ -6,7 +6,7 @@ use Rattle.gateway.specs.Restored.{HasSettings, IsSavable, state_lines}
 use Rattle.gateway.specs.State.{State}
 use Rattle.segments.specs.Head.{Fits}
 use Rattle.segments.specs.Starts.{IsBacked, IsFoundIn, IsShut}
-use Rattle.segments.specs.declared.head.Head.{Head}
+use Rattle.segments.specs.declared.head.SegmentHead.{SegmentHead}
 use Rattle.settings.specs.Settings.{IsReadOfText}
 use Rattle.sqlite_disk.specs.declared.Disk.{Ghosts}
 use Rattle.statetext.specs.Text.{lines_in}
@@ -23,7 +23,7 @@ pub record AreStateOf (c : Settings) (lines : List (List ℕ)) : Type 0 where
 -- read, and the lines of the state of a gateway with these. Where the settings are this text, they
 -- are those that were read of it.
 pub record HasState (c : Settings) (text file : List ℕ) : Type 0 where
-  pub head : Head
+  pub head : SegmentHead
   pub body : List ℕ
   pub written : List ℕ
   pub lines : List (List ℕ)

@@ -1,14 +1,18 @@
 //! What a run begins with.
-ghost use Rattle.std.specs.Prelude.{◌≡◌, ◌⊎◌, ℕ, List, None, Ok, Some, IfErr, IfOk, IfSome, IsTrue};
+ghost use Rattle.std.specs.Prelude.{◌≡◌, ◌⊎◌, ◌∷◌, ℕ, List, None, Ok, Some, IfErr, IfOk, IfSome};
+ghost use Rattle.std.specs.Prelude.{IsTrue};
 ghost use Rattle.std.specs.Prelude.{true, false};
 ghost use Rattle.std.specs.Option.{is_some};
 ghost use Rattle.segments.specs.Found.{AreClean, begins_at, events_in, newest_in, newest_of};
 ghost use Rattle.segments.specs.Found.{next_of, other_in, other_of};
+ghost use Rattle.gateway.specs.Agrees.{Follows, Rests};
 ghost use Rattle.gateway.specs.Config.{Settings};
+ghost use Rattle.gateway.specs.Log.{Came, Restarted};
+ghost use Rattle.gateway.specs.Reports.{Setup};
 ghost use Rattle.segments.specs.Head.{Fits};
 ghost use Rattle.segments.specs.Starts.{HasNoNewer, IsAbove, IsBacked, IsNewest, IsSound};
 ghost use Rattle.settings.specs.Settings.{IsReadOfText};
-ghost use Rattle.state.specs.Beginnings.{AreLinesRead, GoesOnFrom, HasNoCommand, HasRead};
+ghost use Rattle.state.specs.Beginnings.{AreLinesRead, BearsNumber, GoesOnFrom, HasRead};
 ghost use Rattle.state.specs.Beginnings.{IsHeadOf, IsRead, MovedOn, WentOn, given_up, has_past};
 ghost use Rattle.state.specs.Beginnings.{is_trusted};
 ghost use Rattle.state.specs.Origins.{IsBegun, IsNew, IsNumbered};
@@ -56,8 +60,8 @@ pub struct Begun<F: Folder + Drop> {
 
 /// A gateway that goes on.
 #[derive(Drop)]
-struct Resumed {
-    gateway: Gateway,
+pub(crate) struct Resumed {
+    pub(crate) gateway: Gateway,
     /// The gap that its last step told, if it did.
     gap: Option<ToldGap>,
     /// What passed before.
@@ -85,7 +89,7 @@ impl From<SegmentFault> for FolderFault {
 }
 
 /// Why a state isn't read, where its settings aren't.
-fn unread(fault: ConfigFault) -> StateFault
+pub(crate) fn unread(fault: ConfigFault) -> StateFault
     ensures memory { fault ≡ ConfigFault.NoMemory → result ≡ StateFault.NoMemory }
 {
     match fault {
@@ -95,7 +99,7 @@ fn unread(fault: ConfigFault) -> StateFault
 }
 
 /// What the two files are, and their mark.
-fn found_in<D: Disk + Drop>(start: &Start<D>, is_stale: bool) -> Found
+pub(crate) fn found_in<D: Disk + Drop>(start: &Start<D>, is_stale: bool) -> Found
     ensures trusted { beginning_of result ≡ Beginning.GoesOn → is_stale ≡ false }
     ensures sure { beginning_of result ≡ Beginning.GoesOn →
         (is_some start.now.checkpoint ≡ true) × (start.now.is_doubtful ≡ false) }
@@ -133,7 +137,10 @@ fn read<K: Lineage>(alloc: Global, config: &Config, lines: TextLines) -> Result<
 }
 
 /// The whole lines behind the checkpoint that was found.
-fn lines_of<D: Disk + Drop>(alloc: Global, start: &mut Start<D>) -> Result<EventText, StateFault>
+pub(crate) fn lines_of<D: Disk + Drop>(
+    alloc: Global,
+    start: &mut Start<D>,
+) -> Result<EventText, StateFault>
     ensures lines { IfOk result (λ lines. IsTrue (D.Disk.is_clean (newest_of start.new)) →
         ⟦<EventText as EventLines>⟧.coming lines ≡ whole_lines (events_in start.new)) }
     ensures fault { IfErr result (λ fault. fault ≡ StateFault.Wrong → ⊥) }
@@ -153,7 +160,7 @@ fn lines_of<D: Disk + Drop>(alloc: Global, start: &mut Start<D>) -> Result<Event
 }
 
 /// The gateway with these settings that stood at the head of a log, behind the lines of its events.
-fn replayed<K: Lineage, D: Disk + Drop>(
+pub(crate) fn replayed<K: Lineage, D: Disk + Drop>(
     alloc: Global,
     config: &Config,
     lines: TextLines,
@@ -186,16 +193,23 @@ fn replayed<K: Lineage, D: Disk + Drop>(
 
 /// What stands at the head of a log.
 #[derive(Drop)]
-struct Opening {
-    settings: Vec<u8>,
-    lines: TextLines,
+pub(crate) struct Opening {
+    /// The number of its segment.
+    pub(crate) number: u64,
+    pub(crate) settings: Vec<u8>,
+    pub(crate) lines: TextLines,
 }
 
 /// The settings at the head of the log that was found, and the lines behind them.
-fn read_opening<D: Disk + Drop>(alloc: Global, start: &mut Start<D>) -> Result<Opening, StateFault>
+pub(crate) fn read_opening<D: Disk + Drop>(
+    alloc: Global,
+    start: &mut Start<D>,
+) -> Result<Opening, StateFault>
     ensures head { IfOk result (λ o. IsTrue (D.Disk.is_clean (newest_of start.new)) →
         IsHeadOf (D.Disk.seen (newest_of start.new)) (begins_at start.new) o.settings.items
         (⟦<TextLines as Lines>⟧.coming o.lines)) }
+    ensures number { IfOk result (λ o. IsTrue (D.Disk.is_clean (newest_of start.new)) →
+        BearsNumber (D.Disk.seen (newest_of start.new)) o.number) }
     ensures wrong { IfErr result (λ fault. fault ≡ StateFault.Wrong →
         is_some start.old.checkpoint ≡ true → IsTrue (D.Disk.is_clean (newest_of start.new)) →
         (c : Settings) (text : List ℕ) →
@@ -207,10 +221,15 @@ fn read_opening<D: Disk + Drop>(alloc: Global, start: &mut Start<D>) -> Result<O
     let Some(checkpoint) = start.checkpoint() else {
         return Err(StateFault::Wrong);
     };
+    let number = checkpoint.head.number;
     let mut lines = TextLines::new(alloc, checkpoint.text);
     let mut settings = Vec::new(alloc);
     lines.next_octets(&mut settings)?;
-    Ok(Opening { settings, lines })
+    Ok(Opening {
+        number,
+        settings,
+        lines,
+    })
 }
 
 /// Whether both are the same octets.
@@ -221,12 +240,16 @@ fn are_same(first: &[u8], second: &[u8]) -> bool
     first == second
 }
 
-/// It has given up each command without an answer.
+/// It has given up each command without an answer, which is the restart in its log.
 fn without_commands(resumed: Resumed) -> Resumed
     ensures gateway { result.gateway ≡ given_up resumed.gateway }
-    // Where it had none it is as it was.
-    ensures same { HasNoCommand resumed.gateway → result.gateway ≡ resumed.gateway }
-    ensures others { result ≡ record resumed { gateway = result.gateway } }
+    ensures before { result.before.entries
+        ≡ Came resumed.gateway.moment Restarted ∷ resumed.before.entries }
+    ensures follows { (p : Setup) → Follows p resumed.gateway (Some resumed.before.entries) →
+        Rests p (Some resumed.before.entries) →
+        Follows p result.gateway (Some result.before.entries) }
+    ensures gap { result.gap ≡ resumed.gap }
+    ensures moved { result.is_moved ≡ resumed.is_moved }
 {
     let Resumed {
         mut gateway,
@@ -234,6 +257,8 @@ fn without_commands(resumed: Resumed) -> Resumed
         before,
         is_moved,
     } = resumed;
+    let moment = gateway.moment();
+    let before = before.restarted(&moment);
     gateway.give_up_commands();
     Resumed {
         gateway,
@@ -294,7 +319,11 @@ fn move_on<K: Lineage, D: Disk + Drop>(
     ensures other { other_of start.new ≡ other_of start.old }
     ensures next { next_of start.new ≡ next_of start.old }
 {
-    let Opening { settings, lines } = opening;
+    let Opening {
+        number: _,
+        settings,
+        lines,
+    } = opening;
     let wrote = match read_config(alloc, &settings, false) {
         Ok(wrote) => wrote,
         Err(fault) => return Err(unread(fault)),
@@ -340,7 +369,7 @@ fn resume<K: Lineage, D: Disk + Drop>(
     let opening = read_opening(alloc, start)?;
     let is_same = are_same(&opening.settings, text);
     if goes_on && is_same {
-        let Opening { settings: _, lines } = opening;
+        let lines = opening.lines;
         return go_on::<K, D>(alloc, config, lines, start);
     }
     move_on::<K, D>(alloc, config, opening, start, goes_on, !is_same)
@@ -392,7 +421,7 @@ pub fn begin<F: Folder + Drop>(
 
 /// Whether the links go on: where the state is trusted, and each whole line of its log can be read.
 /// Where one can't, events behind it are lost, and what went out on them isn't known.
-fn may_go_on<D: Disk + Drop>(
+pub(crate) fn may_go_on<D: Disk + Drop>(
     alloc: Global,
     start: &mut Start<D>,
     is_trusted: bool,
@@ -422,7 +451,7 @@ fn may_go_on<D: Disk + Drop>(
 }
 
 /// How a run begins that has a past.
-fn with_past(goes_on: bool) -> Beginning
+pub(crate) fn with_past(goes_on: bool) -> Beginning
     ensures past { has_past result ≡ true }
     ensures trusted { is_trusted result ≡ goes_on }
 {

@@ -2,6 +2,7 @@
 #![tactic(auto)]
 
 mod beginning;
+mod counting;
 mod disk_store;
 mod ends;
 mod event_text;
@@ -9,6 +10,7 @@ mod folder;
 mod keeper;
 mod keeping;
 mod laws;
+mod looking;
 mod loss;
 mod opened;
 mod pair;
@@ -26,6 +28,7 @@ pub use event_text::EventText;
 pub use folder::{Folder, FolderFault};
 pub use keeper::Keeper;
 pub use laws::{nothing_goes_out_before_it_is_on_disk, what_is_on_disk_is_in_the_log};
+pub use looking::{Seen, Sight, look};
 pub use loss::Loss;
 pub use pair::Pair;
 pub use renewal::{Patience, is_renewal_due};

@@ -155,7 +155,7 @@ fn announce_line(
 }
 
 /// Gives the event of the next line as a port does, or nothing where there is none.
-fn next_event<L: EventLines>(
+pub(crate) fn next_event<L: EventLines>(
     alloc: Global,
     lines: &mut L,
     line: &mut Vec<u8>,
@@ -296,7 +296,7 @@ impl<K: Script, L: EventLines + Drop> Port for Repeater<K, L> {
 
 /// Why a replay didn't come to its end. That a line can't be had says nothing against the state
 /// that it stands behind.
-fn broken_off(fault: StateFault) -> StateFault
+pub(crate) fn broken_off(fault: StateFault) -> StateFault
     ensures { result ≡ StateFault.Wrong → ⊥ }
 {
     match fault {

@@ -8,12 +8,18 @@
 //!   state is stale. `kept` is made before the first segment is begun.
 //! - `unread-1` to `unread-9`, each with a `-wal`, are files that couldn't be read.
 //!
+//! [`stood_in`] reads what stands in such a directory, beside a process that has it or alone, and
+//! changes nothing.
+//!
 //! Not proved is what the system does. What is proved is what this crate makes of its answers: the
 //! mark counts as made or taken away only where the rename and the sync behind it have succeeded.
 #![tactic(auto)]
 
 ghost use Rattle.std.specs.Prelude.{◌≡◌, true};
 
+mod looking;
+
+pub use looking::{Stood, stood_in};
 use sqlite_disk::Files;
 use sqlite_std_file::{File, OpenError, Unknown};
 use state::{Folder, FolderFault};

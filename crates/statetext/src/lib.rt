@@ -1,4 +1,4 @@
-//! Lines of numbers and of octets as text.
+//! Lines of numbers and of octets, as text.
 //!
 //! A line of numbers is these in decimal with one space between two; a line of octets is `x` and
 //! these in hexadecimal. Each line ends in a line feed. Proved: the lines that are read of a text

@@ -14,9 +14,12 @@ use Rattle.ft12.specs.declared.frame.Frame.{Frame}
 use Rattle.ft12.specs.declared.frame.Front.TheVariants.{Whole}
 use Rattle.ft12.specs.declared.frame.LinkSize.{LinkSize}
 use Rattle.live.specs.Wires.{History}
-use Rattle.stations.specs.Exchanges.{Brings, Exchange, Exchanged, HasHeard, IsAnswered}
+use Rattle.stations.specs.Exchanges.{Brings, ComesBack, Exchange, Exchanged, HasHeard, IsAnswered}
 use Rattle.stations.specs.Exchanges.{IsFrameHeard, IsKept, NoneLeft, Begun, Spoilt, IsRestKept}
-use Rattle.stations.specs.Exchanges.{Standing, answer_written, took, written}
+use Rattle.stations.specs.Exchanges.{Standing, answer_written, latest_delay, next_number, took}
+use Rattle.stations.specs.Exchanges.{written}
+use Rattle.stations.specs.Late.{at_once, delay_of, late_behind}
+use Rattle.stations.specs.declared.cue.Cue.{Cue}
 
 -- what was heard so far, while only whole frames were
 pub record IsHearing (old : Standing) (octets left : List ℕ) (before now : History)
@@ -73,20 +76,86 @@ answered_over : (old new : Standing) (so_far : List ℕ) (request : Frame)
     (answer : Option (List ℕ)) →
     IsAnswered (record old { so_far = so_far }) request answer new →
     IsAnswered old request answer (record new { so_far = old.so_far })
-answered_over old new so_far request answer a = record {
-  reply = a.reply;
-  stations = a.stations;
-  heard = a.heard;
-  answered = a.answered;
-  new_is = ap (λ (s : Standing). record s { so_far = old.so_far }) a.new_is;
-}
+answered_over old new so_far request answer a =
+    let c = a.comes in
+    record {
+      back = a.back;
+      heard = record a.heard { so_far = old.so_far };
+      comes = record {
+        reply = c.reply;
+        stations = c.stations;
+        heard = c.heard;
+        answered = c.answered;
+        new_is = ap (λ (s : Standing). record s { so_far = old.so_far }) c.new_is;
+      };
+      answered = a.answered;
+      new_is = ap (λ (s : Standing). record s { so_far = old.so_far }) a.new_is;
+    }
+
+-- of a request nothing changes but the stations, the count of requests and what waits
+pub answered_size : (old new : Standing) (request : Frame) (answer : Option (List ℕ)) →
+    IsAnswered old request answer new → new.size ≡ old.size
+answered_size old new request answer a =
+    ap (λ (s : Standing). s.size) a.new_is ∙ ap (λ (s : Standing). s.size) a.comes.new_is
+
+pub answered_cues : (old new : Standing) (request : Frame) (answer : Option (List ℕ)) →
+    IsAnswered old request answer new → new.cues ≡ old.cues
+answered_cues old new request answer a =
+    ap (λ (s : Standing). s.cues) a.new_is ∙ ap (λ (s : Standing). s.cues) a.comes.new_is
+
+-- where no line delays it, it goes out at once, and nothing else waits
+pub goes_at_once : (old new : Standing) (request : Frame) (answer : Option (List ℕ)) →
+    delay_of (next_number old) old.cues ≡ None → IsAnswered old request answer new →
+    ComesBack old request answer new
+goes_at_once old new request answer none a =
+    let heard : latest_delay a.heard ≡ None =
+    ap (λ (s : Standing). delay_of s.requests s.cues) a.comes.new_is ∙ none in
+    let back : answer ≡ a.back =
+    a.answered ∙ ap (λ (d : Option ℕ). at_once d a.back) heard in
+    let same : new ≡ a.heard =
+    a.new_is
+    ∙ ap (λ (d : Option ℕ). record a.heard { late = late_behind d a.back a.heard.late }) heard in
+    subst (λ (s : Standing). ComesBack old request answer s) (sym same)
+    (subst (λ (o : Option (List ℕ)). ComesBack old request o a.heard) (sym back) a.comes)
+
+-- where one does, it waits as it came back
+pub goes_late : (old new : Standing) (request : Frame) (answer : Option (List ℕ)) (ms : ℕ) →
+    delay_of (next_number old) old.cues ≡ Some ms → IsAnswered old request answer new →
+    (answer ≡ None) × (back : Option (List ℕ)) × (heard : Standing)
+    × ComesBack old request back heard
+    × (new ≡ record heard { late = late_behind (Some ms) back heard.late })
+goes_late old new request answer ms late a =
+    let heard : latest_delay a.heard ≡ Some ms =
+    ap (λ (s : Standing). delay_of s.requests s.cues) a.comes.new_is ∙ late in (
+      a.answered ∙ ap (λ (d : Option ℕ). at_once d a.back) heard,
+      a.back,
+      a.heard,
+      a.comes,
+      a.new_is
+          ∙ ap (λ (d : Option ℕ). record a.heard {
+            late = late_behind d a.back a.heard.late;
+          }) heard,
+    )
+
+pub answered_late : (old new : Standing) (request : Frame) (answer : Option (List ℕ)) →
+    old.cues ≡ [] → IsAnswered old request answer new → new.late ≡ old.late
+answered_late old new request answer none a =
+    let back : ComesBack old request answer new =
+    goes_at_once old new request answer
+    (ap (λ (cues : List Cue). delay_of (next_number old) cues) none) a in
+    ap (λ (s : Standing). s.late) back.new_is
+
+pub answered_so_far : (old new : Standing) (request : Frame) (answer : Option (List ℕ)) →
+    IsAnswered old request answer new → new.so_far ≡ old.so_far
+answered_so_far old new request answer a =
+    ap (λ (s : Standing). s.so_far) a.new_is ∙ ap (λ (s : Standing). s.so_far) a.comes.new_is
 
 -- the size of addresses stays
 exchanged_size : (old new : Standing) (xs : List Exchange) → Exchanged old xs new →
     new.size ≡ old.size
 exchanged_size old new [] h = ap (λ (s : Standing). s.size) h
 exchanged_size old new (x ∷ xs) h =
-    exchanged_size h.0 new xs h.2 ∙ ap (λ (s : Standing). s.size) h.1.new_is
+    exchanged_size h.0 new xs h.2 ∙ answered_size old h.0 x.request x.answer h.1
 
 hearing_size : (old : Standing) (octets left : List ℕ) (before mid : History) (now : Standing) →
     IsHearing old octets left before mid now true → now.size ≡ old.size
@@ -200,11 +269,11 @@ pub listens : (o : Option (List ℕ)) (so_far : List ℕ) → o ≡ Some so_far 
 listens None so_far e = absurd (let no : ⊥ = cc in no)
 listens (Some octets) so_far e = refl
 
-pub answered_so : (view now : Standing) → view ≡ now → (request : Frame)
-    (answer : Option (List ℕ)) (new : Standing) → IsAnswered view request answer new →
-    IsAnswered now request answer new
-answered_so view now e request answer new a =
-    subst (λ (s : Standing). IsAnswered s request answer new) e a
+pub comes_back_so : (view now : Standing) → view ≡ now → (request : Frame)
+    (back : Option (List ℕ)) (new : Standing) → ComesBack view request back new →
+    ComesBack now request back new
+comes_back_so view now e request back new c =
+    subst (λ (s : Standing). ComesBack s request back new) e c
 
 -- what an assembler says that hears
 heard_by : (size : LinkSize) (o : Option (List ℕ)) (so_far octets : List ℕ) (n : ℕ) (h : Heard)
@@ -237,7 +306,8 @@ front_heard view now new e octets before after n result is_taken t request h f o
     let empty : unwrap_or next [] ≡ [] = ap (λ (x : Option (List ℕ)). unwrap_or x []) heard_now.1 in
     let fresh : IsAnswered (record view { so_far = [] }) request a.0 new =
     subst (λ (l : List ℕ). IsAnswered (record view { so_far = l }) request a.0 new) empty a.1 in
-    let none : new.so_far ≡ [] = ap (λ (s : Standing). s.so_far) fresh.new_is in
+    let none : new.so_far ≡ [] =
+    answered_so_far (record view { so_far = [] }) new request a.0 fresh in
     let seen : IsFrameHeard view octets before after n is_taken new = record {
       exchange = record { request = request; answer = a.0; is_taken = is_taken };
       mid = record new { so_far = view.so_far };

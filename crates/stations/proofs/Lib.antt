@@ -1,7 +1,9 @@
 pub mod Commenting
 pub mod CueLines
 pub mod CueReading
+pub mod Delays
 pub mod Hearings
+pub mod Holding
 pub mod Placing
 pub mod Rounds
 pub mod BothReadings

@@ -5,11 +5,12 @@ use Rattle.std.specs.Prelude.{if◌then◌else◌}
 use Rattle.live.specs.Wires.{History, Visits, looked, noted, visited}
 use Rattle.live.specs.declared.wires.Got.TheVariants.{Octets}
 use Rattle.stations.specs.Exchanges.{HasHeard, Standing}
-use Rattle.stations.specs.Places.{IsAnsweredAt, IsHeardAt, Place, after_visit}
+use Rattle.stations.specs.Places.{IsAnsweredAt, IsHeardAt, OutstationServer, after_visit}
 
 -- somebody came in
-pub came_in : (view now new : Place) → view ≡ now → (wire : History) (standing : Standing)
-    (door : Visits) (here : Bool) → standing ≡ record view.standing { so_far = [] } →
+pub came_in : (view now new : OutstationServer) → view ≡ now
+    → (wire : History) (standing : Standing)
+    (door : Visits) (here : Bool) → standing ≡ record view.standing { late = None; so_far = [] } →
     door ≡ visited view.door here → here ≡ true →
     new ≡ record { standing = standing; wire = Some wire; door = door } →
     new ≡ after_visit now (Some wire)
@@ -17,14 +18,14 @@ came_in view now new e wire standing door here s d h n =
     n
     ∙ (ap (λ (x : Standing). record { standing = x; wire = Some wire; door = door }) s
     ∙ (ap (λ (x : Visits). record view {
-      standing = record view.standing { so_far = [] };
+      standing = record view.standing { late = None; so_far = [] };
       wire = Some wire;
       door = x;
     }) (d ∙ ap (λ (b : Bool). visited view.door b) h)
-    ∙ ap (λ (p : Place). after_visit p (Some wire)) e))
+    ∙ ap (λ (p : OutstationServer). after_visit p (Some wire)) e))
 
 -- octets came, and were answered
-pub octets_heard : (view now new : Place) → view ≡ now → (before mid after : History) →
+pub octets_heard : (view now new : OutstationServer) → view ≡ now → (before mid after : History) →
     view.wire ≡ Some before → (len : ℕ) (buf octets : List ℕ) → octets ≡ take len buf →
     mid ≡ noted before (looked (Octets len) buf) → (result is_taken : Bool) → result ≡ is_taken →
     (standing : Standing) → HasHeard view.standing octets mid after result standing →
@@ -39,7 +40,7 @@ octets_heard view now new e before mid after w len buf octets o m result is_take
     (noted before (looked (Octets len) buf)) after b standing) t
     (subst (λ (x : History). HasHeard view.standing (take len buf) x after result standing) m
     (subst (λ (x : List ℕ). HasHeard view.standing x mid after result standing) o h)) in
-    let stands : new.standing ≡ standing = ap (λ (p : Place). p.standing) n in
+    let stands : new.standing ≡ standing = ap (λ (p : OutstationServer). p.standing) n in
     let new_is : new ≡ record view {
       standing = new.standing;
       wire = if is_taken then Some after else None;
@@ -59,4 +60,4 @@ octets_heard view now new e before mid after w len buf octets o m result is_take
     ) in
     let here : IsHeardAt view.wire view new =
     subst (λ (x : Option History). IsHeardAt x view new) (sym w) (Octets len, buf, answered) in
-    subst (λ (p : Place). IsHeardAt p.wire p new) e here
+    subst (λ (p : OutstationServer). IsHeardAt p.wire p new) e here

@@ -10,9 +10,9 @@ use Rattle.link.specs.Life.{Call, Hear, after}
 use Rattle.link.specs.Secondary.{Secondary, HearsOctets}
 use Rattle.sim.specs.Lives.{HeardByAll, IsPutOut, begun_from}
 use Rattle.sim.specs.declared.directive.Directive.{Directive}
-use Rattle.sim.specs.declared.directive.Fate.{Fate}
-use Rattle.sim.specs.declared.directive.Fate.TheVariants.{Unheard, AnswerLost, AnswerSpoilt}
-use Rattle.sim.specs.declared.directive.Fate.TheVariants.{Answered}
+use Rattle.sim.specs.declared.directive.RequestFate.{RequestFate}
+use Rattle.sim.specs.declared.directive.RequestFate.TheVariants.{Unheard, AnswerLost, AnswerSpoilt}
+use Rattle.sim.specs.declared.directive.RequestFate.TheVariants.{Answered}
 
 -- what `link` says of a station's size
 abbrev pub KeepsSize : Type 0
@@ -40,7 +40,7 @@ sizes_heard kept size octets (s ∷ ss) [] answer h all = absurd h
 sizes_heard kept size octets (s ∷ ss) (t ∷ ts) answer h all =
     (size_heard kept octets s t h.0 h.2 ∙ all.0, sizes_heard kept size octets ss ts h.1 h.3 all.1)
 
-pub sizes_out : KeepsSize → (size : LinkSize) (fate : Fate) (octets : List ℕ)
+pub sizes_out : KeepsSize → (size : LinkSize) (fate : RequestFate) (octets : List ℕ)
     (ss ts : List Secondary) (answer : Option Frame) → IsPutOut fate octets ss answer ts →
     HaveSize size ss → HaveSize size ts
 sizes_out kept size Unheard octets ss ts answer h all =
@@ -60,7 +60,8 @@ length_heard octets (s ∷ ss) [] answer h = absurd h
 length_heard octets (s ∷ ss) (t ∷ ts) answer h =
     omega (arith, length_heard octets ss ts h.1 h.3)
 
-pub length_out : (fate : Fate) (octets : List ℕ) (ss ts : List Secondary) (answer : Option Frame) →
+pub length_out : (fate : RequestFate) (octets : List ℕ) (ss ts : List Secondary)
+    (answer : Option Frame) →
     IsPutOut fate octets ss answer ts → length ts ≡ length ss
 length_out Unheard octets ss ts answer h = ap length h.1
 length_out AnswerLost octets ss ts answer h = length_heard octets ss ts answer h

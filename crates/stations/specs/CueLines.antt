@@ -10,12 +10,12 @@ use Rattle.sim.specs.declared.directive.Class.{Class}
 use Rattle.sim.specs.declared.directive.Directive.{Directive}
 use Rattle.sim.specs.declared.directive.Directive.TheVariants.{Report}
 use Rattle.stations.specs.declared.cue.Cue.{Cue}
-use Rattle.stations.specs.declared.cue.Cue.TheVariants.{Confirm, Refuse, Timed}
+use Rattle.stations.specs.declared.cue.Cue.TheVariants.{Confirm, Delayed, Refuse, Timed}
 
 abbrev pub is_cue_word : List ℕ → Bool
 is_cue_word word =
     bytes_eq word (codes "at") || bytes_eq word (codes "every") || bytes_eq word (codes "confirm")
-    || bytes_eq word (codes "refuse")
+    || bytes_eq word (codes "refuse") || bytes_eq word (codes "delay")
 
 abbrev pub first_is_cue : (fields : List (List ℕ)) → Bool
 first_is_cue [] = is_cue_word []
@@ -75,12 +75,24 @@ timed_by word None directive = None
 timed_by word (Some ms) (Some (Report station class report)) = timed word ms station class report
 timed_by word (Some ms) directive = None
 
--- what stands behind its second field is a line of a script of `sim`
+-- `delay answer N MS`: the answer to the request with this number goes out so many ms late
+abbrev pub delayed_by : (what : List ℕ) → (request ms : Option ℕ) → Option Cue
+delayed_by what None ms = None
+delayed_by what (Some request) None = None
+delayed_by what (Some request) (Some ms) =
+    if bytes_eq what (codes "answer") then Some (Delayed request ms) else None
+
+abbrev pub delayed_from : (what : List ℕ) → (fields : List (List ℕ)) → Option Cue
+delayed_from what (request ∷ ms ∷ []) = delayed_by what (number_of request) (time_of ms)
+delayed_from what fields = None
+
+-- what stands behind the second field of `at` and `every` is a line of a script of `sim`
 abbrev pub cue_of : LinkSize → (stations : ℕ) → (word second : List ℕ) → (fields : List (List ℕ))
     → Option Cue
 cue_of size stations word second [] = habit_by word (index_of stations second)
 cue_of size stations word second fields =
-    timed_by word (time_of second) (directive_from size stations fields)
+    if bytes_eq word (codes "delay") then delayed_from second fields
+    else timed_by word (time_of second) (directive_from size stations fields)
 
 abbrev pub cue_from : LinkSize → (stations : ℕ) → (fields : List (List ℕ)) → Option Cue
 cue_from size stations (word ∷ second ∷ fields) = cue_of size stations word second fields

@@ -19,6 +19,7 @@ use Rattle.sim.specs.Lives.{IsPutOut, arriving, begun_from}
 use Rattle.sim.specs.Losses.{fate_of}
 use Rattle.sim.specs.Texts.{reports_for}
 use Rattle.sim.specs.declared.directive.Directive.{Directive}
+use Rattle.stations.specs.Late.{LateAnswer, at_once, delay_of, late_behind}
 use Rattle.stations.specs.Progress.{none_replied}
 use Rattle.stations.specs.declared.cue.Cue.{Cue}
 use Rattle.stations.specs.declared.outstations.replying.Progress.{Progress}
@@ -26,8 +27,9 @@ use Rattle.stations.specs.declared.scenario.Scenario.{Scenario}
 
 -- The outstations of a line: the size of link addresses and the sizes of ASDUs, what the script
 -- says, in lines of `sim` and in lines for them alone, how each stands, how many reports each had,
--- how far its replies are, how many requests came, as far as 64 bits count, and the octets that
--- came since the last frame.
+-- how far its replies are, how many requests came, as far as 64 bits count, the answer that goes
+-- out
+-- late, if one waits, and the octets that came since the last frame.
 pub record Standing : Type 0 where
   pub size : LinkSize
   pub sizes : Sizes
@@ -37,6 +39,7 @@ pub record Standing : Type 0 where
   pub had : List ℕ
   pub progress : List Progress
   pub requests : ℕ
+  pub late : Option LateAnswer
   pub so_far : List ℕ
 
 -- how many reports each of so many stations has from the start
@@ -55,6 +58,7 @@ first_standing c s = record {
   had = first_counts (length c.stations) s.script;
   progress = none_replied (length c.stations);
   requests = 0;
+  late = None;
   so_far = [];
 }
 
@@ -64,14 +68,29 @@ next_number s = min (s.requests + 1) (2 ^ 64 - 1)
 
 -- A request is put out to the stations as the script says of its number, of which each hears it or
 -- none does; what comes back is what the script leaves of the answer.
-pub record IsAnswered (old : Standing) (request : Frame) (answer : Option (List ℕ))
+pub record ComesBack (old : Standing) (request : Frame) (back : Option (List ℕ))
     (new : Standing) : Type 0 where
   pub reply : Option Frame
   pub stations : List Secondary
   pub heard : IsPutOut (fate_of old.directives (next_number old)) (spelling old.size request)
       old.stations reply stations
-  pub answered : answer ≡ arriving old.size (fate_of old.directives (next_number old)) reply
+  pub answered : back ≡ arriving old.size (fate_of old.directives (next_number old)) reply
   pub new_is : new ≡ record old { stations = stations; requests = next_number old }
+
+-- how late the script has the answer to the latest request go out
+abbrev pub latest_delay : Standing → Option ℕ
+latest_delay s = delay_of s.requests s.cues
+
+-- What comes back to a request is the answer at once, unless a line of the script delays it: then
+-- it
+-- waits.
+pub record IsAnswered (old : Standing) (request : Frame) (answer : Option (List ℕ))
+    (new : Standing) : Type 0 where
+  pub back : Option (List ℕ)
+  pub heard : Standing
+  pub comes : ComesBack old request back heard
+  pub answered : answer ≡ at_once (latest_delay heard) back
+  pub new_is : new ≡ record heard { late = late_behind (latest_delay heard) back heard.late }
 
 -- a request, what was written for it, and whether the wire took that
 pub record Exchange : Type 0 where

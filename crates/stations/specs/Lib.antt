@@ -1,6 +1,7 @@
 pub mod CueLines
 pub mod Cues
 pub mod Exchanges
+pub mod Late
 pub mod Places
 pub mod Progress
 pub mod Replies

@@ -14,7 +14,7 @@ use Rattle.traces.specs.declared.reading.TextFault.TheVariants.{Line, NoMemory}
 use Rattle.stations.specs.CueLines.{cue_in, is_cue_line}
 use Rattle.stations.specs.Cues.{FitsLine}
 use Rattle.stations.specs.declared.cue.Cue.{Cue}
-use Rattle.stations.specs.declared.cue.Cue.TheVariants.{Confirm, Refuse}
+use Rattle.stations.specs.declared.cue.Cue.TheVariants.{Confirm, Delayed, Refuse}
 use Rattle.stations.specs.declared.scenario.Scenario.{Scenario}
 
 -- the station whose answers to commands a line speaks of
@@ -28,7 +28,9 @@ abbrev pub same_station : Option ℕ → Option ℕ → Bool
 same_station (Some i) (Some j) = i == j
 same_station i j = false
 
+-- or of the answer to one request
 abbrev pub clashes : Cue → Cue → Bool
+clashes (Delayed request ms) (Delayed other later) = request == other
 clashes one other = same_station (commanded one) (commanded other)
 
 -- a line can't stand behind these: there are 1,000, or one of them clashes with it

@@ -32,6 +32,8 @@ pub enum Cue {
     Confirm(usize),
     /// The station with this index refuses each command that it accepts.
     Refuse(usize),
+    /// The answer to the request with this number, from 1, goes out so many ms late.
+    Delayed(u64, u64),
 }
 
 /// A report that is due.

@@ -1,10 +1,11 @@
 //! One line that speaks to the outstations here alone.
-ghost use Rattle.std.specs.Prelude.{◌≡◌, IfOk, IfSome, option_map};
+ghost use Rattle.std.specs.Prelude.{◌≡◌, ◌==◌, IfOk, IfSome};
+ghost use Rattle.std.specs.List.{slice_split};
 ghost use Rattle.ft12.specs.declared.frame.LinkSize.{LinkSize};
 ghost use Rattle.sim.specs.Directives.{FitsStations, number_of};
 ghost use Rattle.stations.specs.Cues.{FitsLine, IsPeriod};
 ghost use Rattle.stations.specs.CueLines.{cue_in, habit_by, index_of, is_cue_line, time_of};
-ghost use Rattle.stations.specs.CueLines.{timed_by};
+ghost use Rattle.stations.specs.CueLines.{delayed_by, delayed_from, timed_by};
 
 use crate::cue::{Cue, Timer};
 use ft12::LinkSize;
@@ -33,6 +34,7 @@ pub(crate) fn is_cue_line(line: &[u8]) -> bool
         b"every" => true,
         b"confirm" => true,
         b"refuse" => true,
+        b"delay" => true,
         _ => false,
     }
 }
@@ -86,6 +88,34 @@ fn habit(word: &[u8], station: Option<usize>) -> Option<Cue>
     }
 }
 
+/// An answer, by the number of its request, and how late it goes out.
+fn delay(what: &[u8], request: Option<u64>, ms: Option<u64>) -> Option<Cue>
+    ensures said { result ≡ delayed_by what.now request ms }
+    ensures fits { (size : LinkSize) → IfSome result (FitsLine size) }
+{
+    let request = request?;
+    let ms = ms?;
+    if what == b"answer".as_slice() {
+        Some(Cue::Delayed(request, ms))
+    } else {
+        None
+    }
+}
+
+/// `delay answer N MS`, of which the first word was read.
+fn delayed(what: &[u8], rest: &[u8]) -> Option<Cue>
+    ensures said { result ≡ delayed_from what.now (slice_split (λ b. b == 32) rest.now) }
+    ensures fits { (size : LinkSize) → IfSome result (FitsLine size) }
+{
+    let (request, rest) = cut(rest, SPACE);
+    let rest = rest?;
+    let (ms, more) = cut(rest, SPACE);
+    if more.is_some() {
+        return None;
+    }
+    delay(what, number(request), time(ms))
+}
+
 /// `at MS report S CLASS HEX` and `every MS report S CLASS HEX`.
 fn timed(
     size: LinkSize,
@@ -136,6 +166,9 @@ pub(crate) fn read_cue(
     let Some(rest) = rest else {
         return Ok(habit(word, index(stations, second)));
     };
+    if word == b"delay".as_slice() {
+        return Ok(delayed(second, rest));
+    }
     let directive = read_line(alloc, size, stations, rest)?;
     Ok(timed(size, stations, word, time(second), directive))
 }

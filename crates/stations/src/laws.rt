@@ -1,5 +1,6 @@
 //! What holds of all outstations at a line.
-ghost use Rattle.std.specs.Prelude.{◌≡◌, ◌≤◌, ◌++◌, [], List, ℕ, Bool, Option, None, Some, length};
+ghost use Rattle.std.specs.Prelude.{◌≡◌, ◌-◌, ◌≤◌, ◌++◌, [], List, ℕ, Bool, Option, None, Some};
+ghost use Rattle.std.specs.Prelude.{length};
 ghost use Rattle.ft12.specs.Spelling.{spelling};
 ghost use Rattle.ft12.specs.declared.frame.Frame.{Frame};
 ghost use Rattle.ft12.specs.declared.frame.LinkSize.{LinkSize};
@@ -7,9 +8,11 @@ ghost use Rattle.link.specs.Requests.{reading_of};
 ghost use Rattle.link.specs.declared.request.Reading.TheVariants.{Foreign};
 ghost use Rattle.link.specs.Secondary.{Secondary, HearsOctets};
 ghost use Rattle.stations.specs.Cues.{AreInPeriods, IsOneFrom, given_moments};
-ghost use Rattle.stations.specs.Exchanges.{Brings, Exchange, requests_joined};
+ghost use Rattle.stations.specs.Exchanges.{Brings, ComesBack, Exchange, IsAnswered, Standing};
+ghost use Rattle.stations.specs.Exchanges.{next_number, requests_joined};
+ghost use Rattle.stations.specs.Late.{delay_of, late_behind, late_now};
 ghost use Rattle.stations.specs.Places.{LooksOn};
-ghost use Rattle.stations.specs.Stages.{RoundsAt, Stage};
+ghost use Rattle.stations.specs.Stages.{IsRound, RoundsAt, Stage, WasHeld};
 ghost use Rattle.stations.specs.declared.cue.Timer.{Timer};
 
 use ft12::spellings_cancel;
@@ -45,9 +48,32 @@ pub fn reports_come_at_their_moments()
         AreInPeriods every 0 (given_moments timer looks) }
 {}
 
+/// An answer of which no line speaks goes out at once. Of one that a line delays nothing does, and
+/// what came back waits as it is. Octets go out late in a round only if they were the answer to a
+/// request of an earlier round, which a line delays. So many ms have passed since that round, and
+/// hadn't at any round between. This holds for all rounds behind a beginning, whatever the clock
+/// tells, and whoever comes and goes.
+pub fn late_answers_go_out_when_due()
+    ensures others { (old new : Standing) (request : Frame) (answer : Option (List ℕ)) →
+        delay_of (next_number old) old.cues ≡ None → IsAnswered old request answer new →
+        ComesBack old request answer new }
+    ensures held { (old new : Standing) (request : Frame) (answer : Option (List ℕ)) (ms : ℕ) →
+        delay_of (next_number old) old.cues ≡ Some ms → IsAnswered old request answer new →
+        (answer ≡ None) × (back : Option (List ℕ)) × (heard : Standing)
+        × ComesBack old request back heard
+        × (new ≡ record heard { late = late_behind (Some ms) back heard.late }) }
+    ensures late { (moments : List ℕ) (now : ℕ) (old mid new : Stage) (octets : List ℕ)
+        (rounds : RoundsAt moments old mid) (round : IsRound now mid new) →
+        old.place.standing.late ≡ None →
+        late_now now round.looked.standing.late ≡ Some octets →
+        (ms : ℕ) × (since : ℕ) × (ms ≤ now - since)
+        × WasHeld octets ms since moments old mid rounds }
+{}
+
 /// Where a script has no lines for the outstations alone, rounds are looks at the ends, and nothing
 /// else, whatever the clock tells.
 pub fn without_lines_of_their_own_all_stays()
     ensures { (moments : List ℕ) (old new : Stage) → old.place.standing.cues ≡ [] →
-        RoundsAt moments old new → LooksOn (length moments) old.place new.place }
+        old.place.standing.late ≡ None → RoundsAt moments old new →
+        LooksOn (length moments) old.place new.place }
 {}

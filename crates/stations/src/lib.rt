@@ -6,6 +6,7 @@
 mod cue;
 mod cue_line;
 mod doors;
+mod late;
 mod laws;
 mod outstations;
 mod place;
@@ -18,11 +19,11 @@ mod stage;
 pub use cue::{Cue, Timer};
 pub use doors::{LineGuest, LineListener};
 pub use laws::{
-    reports_come_at_their_moments, requests_are_what_came, stations_hear_their_own_requests,
-    without_lines_of_their_own_all_stays,
+    late_answers_go_out_when_due, reports_come_at_their_moments, requests_are_what_came,
+    stations_hear_their_own_requests, without_lines_of_their_own_all_stays,
 };
 pub use outstations::Outstations;
-pub use place::Place;
+pub use place::OutstationServer;
 pub use playing::{play, serve};
 pub use reading::read_scenario;
 pub use scenario::Scenario;

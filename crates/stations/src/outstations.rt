@@ -1,18 +1,22 @@
 //! The outstations of a script at their line.
-ghost use Rattle.std.specs.Prelude.{◌≡◌, ◌||◌, ◌≤◌, [], ℕ, List, Option, IfOk, length, option_map};
+ghost use Rattle.std.specs.Prelude.{◌≡◌, ◌||◌, ◌≤◌, [], ℕ, List, Option, None, IfOk, length};
+ghost use Rattle.std.specs.Prelude.{option_map};
 ghost use Rattle.std.specs.Prelude.{count_by};
 ghost use Rattle.std.specs.Option.{is_none};
 ghost use Rattle.ft12.specs.Spelling.{Fits};
 ghost use Rattle.sim.specs.Texts.{reports_for};
 ghost use Rattle.stations.specs.Scenarios.{FitsScenario};
-ghost use Rattle.stations.specs.Exchanges.{HasHeard, IsAnswered, IsHeard, answer_written};
-ghost use Rattle.stations.specs.Exchanges.{first_counts, first_standing};
+ghost use Rattle.stations.specs.Exchanges.{ComesBack, HasHeard, IsAnswered, IsHeard};
+ghost use Rattle.stations.specs.Exchanges.{answer_written, first_counts, first_standing};
+ghost use Rattle.stations.specs.Exchanges.{latest_delay};
+ghost use Rattle.stations.specs.Late.{at_once, late_after, late_behind, late_now};
 
 mod replying;
 mod telling;
 
 use self::replying::{Progress, none_replied};
 use crate::cue::Cue;
+use crate::late::{Late, delay_of};
 use crate::scenario::Scenario;
 use arrayvec::ArrayVec;
 use asdu::Sizes;
@@ -41,6 +45,8 @@ pub struct Outstations {
     progress: Vec<Progress>,
     /// How many requests came.
     requests: u64,
+    /// The answer that goes out late, if one waits.
+    late: Option<Late>,
     /// What came since the last frame.
     line: Assembler,
 }
@@ -73,6 +79,7 @@ impl Model for Outstations {
       had = o.had.items;
       progress = o.progress.items;
       requests = o.requests;
+      late = o.late;
       so_far = unwrap_or o.line.so_far [];
     } };
 
@@ -139,15 +146,16 @@ impl Outstations {
             had,
             progress,
             requests: 0,
+            late: None,
             line: Assembler::new(size),
         })
     }
 
     /// The stations hear a request, unless the script loses it. What comes back is what the script
     /// leaves of the answer.
-    fn answer(&mut self, request: &Frame) -> Option<ArrayVec<u8, 261>>
+    fn ask(&mut self, request: &Frame) -> Option<ArrayVec<u8, 261>>
         requires { Fits self.old.size request.now }
-        ensures { IsAnswered self.old request.now (option_map (λ v. v.items) result) self.new }
+        ensures { ComesBack self.old request.now (option_map (λ v. v.items) result) self.new }
     {
         station_is_an_outstation();
         self.requests = self.requests.saturating_add(1);
@@ -157,8 +165,36 @@ impl Outstations {
         arriving(self.size, fate, reply)
     }
 
-    /// The stations answer a request, and the wire is given what comes back. `false` says that it
-    /// didn't take that.
+    /// What came back to the latest request goes out at once, unless the script delays it: then it
+    /// waits.
+    fn hold(&mut self, back: Option<ArrayVec<u8, 261>>) -> Option<ArrayVec<u8, 261>>
+        ensures once { option_map (λ v. v.items) result
+            ≡ at_once (latest_delay self.old) (option_map (λ v. v.items) back) }
+        ensures late { self.new ≡ record self.old {
+          late = late_behind (latest_delay self.old) (option_map (λ v. v.items) back) self.old.late;
+        } }
+    {
+        let Some(ms) = delay_of(self.requests, self.cues.as_slice()) else {
+            return back;
+        };
+        if let Some(octets) = back {
+            self.late = Some(Late::new(octets, ms));
+        }
+        None
+    }
+
+    /// The stations hear a request. What comes back is the answer at once, unless the script delays
+    /// it.
+    fn answer(&mut self, request: &Frame) -> Option<ArrayVec<u8, 261>>
+        requires { Fits self.old.size request.now }
+        ensures { IsAnswered self.old request.now (option_map (λ v. v.items) result) self.new }
+    {
+        let back = self.ask(request);
+        self.hold(back)
+    }
+
+    /// The stations answer a request, and the wire is given what goes out at once. `false` says
+    /// that it didn't take that.
     fn reply<W: Wire>(&mut self, request: &Frame, wire: &mut W) -> bool
         requires { Fits self.old.size request.now }
         ensures { (answer : Option (List ℕ)) × IsAnswered self.old request.now answer self.new
@@ -195,9 +231,9 @@ impl Outstations {
     }
 
     /// Octets came over the line, in any piece. The stations answer each whole frame among them,
-    /// and each answer is written at once. Octets that begin no frame are dropped, with those
-    /// behind them in the piece. `false` says that the wire didn't take an answer; what is behind
-    /// that request isn't heard.
+    /// and each answer that the script doesn't delay is written at once. Octets that begin no frame
+    /// are dropped, with those behind them in the piece. `false` says that the wire didn't take an
+    /// answer; what is behind that request isn't heard.
     pub fn hear<W: Wire>(&mut self, octets: &[u8], wire: &mut W) -> bool
         ensures { HasHeard self.old octets.now (W.history wire.old) (W.history wire.new) result
             self.new }
@@ -213,10 +249,27 @@ impl Outstations {
         true
     }
 
-    /// A connection begins: what came over the one before is forgotten.
+    /// A connection begins: what came over the one before is forgotten, and an answer that would go
+    /// out to it late.
     pub fn begin(&mut self)
-        ensures { self.new ≡ record self.old { so_far = [] } }
+        ensures { self.new ≡ record self.old { late = None; so_far = [] } }
     {
         self.line.clear();
+        self.late = None;
+    }
+
+    /// The answer that goes out late in a round at this moment, in ms. One whose request was heard
+    /// in this round waits from the moment on.
+    pub(crate) fn take_late(&mut self, now: u64) -> Option<ArrayVec<u8, 261>>
+        ensures octets { option_map (λ v. v.items) result ≡ late_now now self.old.late }
+        ensures late { self.new ≡ record self.old { late = late_after now self.old.late } }
+    {
+        let mut late = self.late.take()?;
+        if late.is_due(now) {
+            return Some(late.into_octets());
+        }
+        late.begin(now);
+        self.late = Some(late);
+        None
     }
 }

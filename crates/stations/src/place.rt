@@ -1,8 +1,8 @@
 //! The outstations behind a door.
 ghost use Rattle.std.specs.Prelude.{◌≡◌, ◌≤◌, [], None, Option, is_some};
 ghost use Rattle.live.specs.Wires.{History};
-ghost use Rattle.stations.specs.Places.{IsHeardAt, IsVisitor, Looks, RepliesAll, TellsAll};
-ghost use Rattle.stations.specs.Places.{after_visit};
+ghost use Rattle.stations.specs.Places.{GivesLate, IsGiven, IsHeardAt, IsVisitor, Looks};
+ghost use Rattle.stations.specs.Places.{RepliesAll, TellsAll, after_visit};
 
 use crate::outstations::Outstations;
 use live::{Door, Got, Guests, Visitor, Wire};
@@ -10,16 +10,16 @@ use std::marker::Model;
 
 /// The outstations behind a door, through which a gateway comes as to a serial device server.
 #[derive(Drop)]
-pub struct Place<D: Door + Drop> {
+pub struct OutstationServer<D: Door + Drop> {
     outstations: Outstations,
     door: D,
     guests: Guests,
     connection: Option<Visitor<D::Wire>>,
 }
 
-impl<D: Door + Drop> Model for Place<D> {
+impl<D: Door + Drop> Model for OutstationServer<D> {
     ghost use Rattle.std.specs.Prelude.{option_map};
-    ghost use Rattle.stations.specs.Places.{Place as AsPlace};
+    ghost use Rattle.stations.specs.Places.{OutstationServer as AsPlace};
 
     ghost Value = { AsPlace };
 
@@ -30,12 +30,12 @@ impl<D: Door + Drop> Model for Place<D> {
     } };
 }
 
-impl<D: Door + Drop> Place<D> {
+impl<D: Door + Drop> OutstationServer<D> {
     /// These outstations behind this door, with no gateway yet. Whoever comes is let in.
-    pub fn new(outstations: Outstations, door: D) -> Place<D>
+    pub fn new(outstations: Outstations, door: D) -> OutstationServer<D>
         ensures { result ≡ record { standing = outstations; wire = None; door = D.visits door } }
     {
-        Place {
+        OutstationServer {
             outstations,
             door,
             guests: Guests::Anyone,
@@ -58,6 +58,29 @@ impl<D: Door + Drop> Place<D> {
         ensures { result ≡ is_some self.now.wire }
     {
         self.connection.is_some()
+    }
+
+    /// Gives the gateway the answer that goes out late at this moment of the clock, in ms. If the
+    /// gateway doesn't take it, it is let go.
+    pub(crate) fn give_late(&mut self, now: u64)
+        ensures { GivesLate now self.old self.new }
+    {
+        if let Some(octets) = self.outstations.take_late(now) {
+            self.give(octets.as_slice());
+        }
+    }
+
+    /// Gives the gateway these octets, if one is there.
+    fn give(&mut self, octets: &[u8])
+        ensures given { IsGiven octets.now self.old.wire self.new.wire }
+        ensures new { self.new ≡ record self.old { wire = self.new.wire } }
+    {
+        let Some(mut visitor) = self.connection.take() else {
+            return;
+        };
+        if visitor.wire.write(octets) {
+            self.connection = Some(visitor);
+        }
     }
 
     /// Each line of the script gives its station the report that it has due, so many ms behind the

@@ -4,7 +4,7 @@ ghost use Rattle.stations.specs.Scenarios.{FitsScenario};
 ghost use Rattle.stations.specs.Stages.{PlaysOn, first_stage};
 
 use crate::outstations::Outstations;
-use crate::place::Place;
+use crate::place::OutstationServer;
 use crate::scenario::Scenario;
 use crate::stage::Stage;
 use gateway::Config;
@@ -50,7 +50,7 @@ pub fn serve<R: std::rt::Clock, C: Clock, D: Door + Drop>(
         (first_stage config.now scenario (D.visits door))) }
 {
     let outstations = Outstations::new(alloc, config, scenario)?;
-    let mut stage = Stage::new(Place::new(outstations, door));
+    let mut stage = Stage::new(OutstationServer::new(outstations, door));
     play(rt, clock, &mut stage, rounds);
     Ok(stage)
 }

@@ -5,7 +5,7 @@ ghost use Rattle.std.specs.List.{AllByRecursion, join_with_byte, list_any};
 ghost use Rattle.stations.specs.Cues.{FitsLine};
 ghost use Rattle.stations.specs.Scenarios.{AreCuesOf, FitsScenario, IsCueFault, IsScenarioOf};
 ghost use Rattle.stations.specs.Scenarios.{clashes, commanded, commented, earlier_fault, joined};
-ghost use Rattle.stations.specs.Scenarios.{refuses_cue};
+ghost use Rattle.stations.specs.Scenarios.{refuses_cue, same_station};
 
 use crate::cue::Cue;
 use crate::cue_line::{is_cue_line, read_cue};
@@ -32,12 +32,22 @@ fn commanded(cue: &Cue) -> Option<usize>
 }
 
 /// Whether two lines speak of one station's answers to commands.
-fn clashes(one: &Cue, other: &Cue) -> bool
-    ensures { result ≡ clashes one.now other.now }
+fn is_one_station(one: &Cue, other: &Cue) -> bool
+    ensures { result ≡ same_station (commanded one.now) (commanded other.now) }
 {
     match (commanded(one), commanded(other)) {
         (Some(one), Some(other)) => one == other,
         _ => false,
+    }
+}
+
+/// Whether two lines speak of one station's answers to commands, or of the answer to one request.
+fn clashes(one: &Cue, other: &Cue) -> bool
+    ensures { result ≡ clashes one.now other.now }
+{
+    match (one, other) {
+        (Cue::Delayed(request, _), Cue::Delayed(other, _)) => *request == *other,
+        _ => is_one_station(one, other),
     }
 }
 
@@ -149,9 +159,9 @@ fn joined(
 
 /// Reads a whole text for these settings: lines of a script of `sim`, and between them lines for
 /// the outstations alone, which are `at MS report S CLASS HEX` and `every MS report S CLASS HEX`
-/// (10 ms to a day), `confirm S` and `refuse S`. There are 1,000 of these at the most, and one of
-/// the last two for a station. Else it is as `sim::read_script` says. The first wrong line is the
-/// fault.
+/// (10 ms to a day), `confirm S` and `refuse S`, and `delay answer N MS`. There are 1,000 of these
+/// at the most, one of `confirm` and `refuse` for a station, and one of `delay` for a request. Else
+/// it is as `sim::read_script` says. The first wrong line is the fault.
 pub fn read_scenario(alloc: Global, config: &Config, text: &[u8]) -> Result<Scenario, TextFault>
     ensures scenario { IsScenarioOf config.now text.now result }
     ensures fits { IfOk result (FitsScenario config.now) }

@@ -3,14 +3,14 @@ ghost use Rattle.std.specs.Prelude.{◌≡◌, None};
 ghost use Rattle.stations.specs.Stages.{IsRound, TellsSince, begun};
 
 use crate::cue::LAST_MS;
-use crate::place::Place;
+use crate::place::OutstationServer;
 use live::Door;
 use std::marker::Model;
 
 /// The outstations behind a door, in time, which begins when a gateway is there for the first time.
 #[derive(Drop)]
 pub struct Stage<D: Door + Drop> {
-    place: Place<D>,
+    place: OutstationServer<D>,
     /// The clock's moment at the start, in ms.
     start: Option<u64>,
 }
@@ -25,20 +25,21 @@ impl<D: Door + Drop> Model for Stage<D> {
 
 impl<D: Door + Drop> Stage<D> {
     /// These outstations, before the first round.
-    pub fn new(place: Place<D>) -> Stage<D>
+    pub fn new(place: OutstationServer<D>) -> Stage<D>
         ensures { result ≡ record { place = place; start = None } }
     {
         Stage { place, start: None }
     }
 
-    /// Looks at each end once, and then each line of the script gives its station the report that
-    /// it has due at this moment of the clock, in ms. At last each station gives its next reply to
-    /// the commands that it accepted.
+    /// Looks at each end once, and then gives the gateway the answer that goes out late at this
+    /// moment of the clock, in ms. Then each line of the script gives its station the report that
+    /// it has due. At last each station gives its next reply to the commands that it accepted.
     pub fn round(&mut self, now: u64)
         ensures { IsRound now self.old self.new }
     {
         self.place.look();
         self.begin(now);
+        self.place.give_late(now);
         self.tell(now);
         self.place.reply_all();
     }

@@ -8,7 +8,7 @@ use Rattle.status.specs.Words.{escaped, escaped_or, joined, rows}
 use Rattle.status.specs.declared.html.TheConstants.{HEAD, STATIONS, SETTINGS, END}
 use Rattle.status.specs.declared.words.Marks.TheVariants.{Html}
 use Rattle.status.specs.declared.snapshot.Setting.{Setting}
-use Rattle.status.specs.declared.snapshot.Station.{Station}
+use Rattle.status.specs.declared.snapshot.StationView.{StationView}
 use Rattle.status.specs.declared.snapshot.Snapshot.{Snapshot}
 
 -- what stands between two cells
@@ -16,24 +16,24 @@ abbrev pub cell : List ℕ
 cell = codes "</td><td class=\"n\">"
 
 -- whose row it is, and how it stands
-abbrev pub row_head : Station → List ℕ
+abbrev pub row_head : StationView → List ℕ
 row_head s = joined (
     codes "<tr class=\"" ∷ standing_text s.standing ∷ codes "\"><td>" ∷ escaped Html s.name.now
     ∷ cell ∷ decimal s.address ∷ cell ∷ decimal s.common_address
     ∷ codes "</td><td class=\"s\">" ∷ standing_text s.standing ∷ cell ∷ [])
 
 -- what was counted of a station
-abbrev pub row_counts : Station → List ℕ
+abbrev pub row_counts : StationView → List ℕ
 row_counts s = joined (
     cell ∷ decimal s.reports ∷ cell ∷ decimal s.skipped ∷ cell ∷ decimal s.gaps
     ∷ cell ∷ decimal s.commands ∷ codes "</td></tr>\n" ∷ [])
 
-abbrev pub row_parts : (now : ℕ) → Station → List (List ℕ)
+abbrev pub row_parts : (now : ℕ) → StationView → List (List ℕ)
 row_parts now s =
     row_head s ∷ age_text 0 now s.since_ms ∷ cell ∷ age_or 0 now s.last_report_ms (codes "none")
     ∷ row_counts s ∷ []
 
-abbrev pub text_of_row : (now : ℕ) → Station → List ℕ
+abbrev pub text_of_row : (now : ℕ) → StationView → List ℕ
 text_of_row now s = joined (row_parts now s)
 
 abbrev pub text_of_setting : Setting → List ℕ

@@ -6,7 +6,7 @@ use Rattle.status.specs.Words.{escaped, joined, number_or, listed}
 use Rattle.status.specs.Judge.{judgement_of}
 use Rattle.status.specs.Labels.{judgement_text, keeping_text, standing_text}
 use Rattle.status.specs.declared.words.Marks.TheVariants.{Json}
-use Rattle.status.specs.declared.snapshot.Station.{Station}
+use Rattle.status.specs.declared.snapshot.StationView.{StationView}
 use Rattle.status.specs.declared.snapshot.Setting.{Setting}
 use Rattle.status.specs.declared.snapshot.Snapshot.{Snapshot}
 
@@ -18,7 +18,7 @@ abbrev pub json_of_peer : Option (Bor (List ℕ)) → List ℕ
 json_of_peer (Some peer) = joined (codes "\"" ∷ escaped Json peer.now ∷ codes "\"" ∷ [])
 json_of_peer None = codes "null"
 
-abbrev pub json_of_station : Station → List ℕ
+abbrev pub json_of_station : StationView → List ℕ
 json_of_station s = joined (
     codes "{\"name\":\"" ∷ escaped Json s.name.now ∷ codes "\",\"address\":" ∷ decimal s.address
     ∷ codes ",\"common_address\":" ∷ decimal s.common_address

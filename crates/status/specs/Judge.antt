@@ -7,39 +7,39 @@ use Rattle.status.specs.declared.judging.Judgement.{Judgement}
 use Rattle.status.specs.declared.judging.Judgement.TheVariants as judgement
 use Rattle.status.specs.declared.snapshot.Keeping.{Keeping}
 use Rattle.status.specs.declared.snapshot.Keeping.TheVariants.{Off, Kept, NotKept}
-use Rattle.status.specs.declared.snapshot.Standing.{Standing}
-use Rattle.status.specs.declared.snapshot.Standing.TheVariants.{NotAsked, Asked, Up, Silent, Down}
-use Rattle.status.specs.declared.snapshot.Station.{Station}
-use Rattle.status.specs.declared.snapshot.Line.{Line}
+use Rattle.status.specs.declared.snapshot.LinkState.{LinkState}
+use Rattle.status.specs.declared.snapshot.LinkState.TheVariants.{NotAsked, Asked, Up, Silent, Down}
+use Rattle.status.specs.declared.snapshot.StationView.{StationView}
+use Rattle.status.specs.declared.snapshot.LineView.{LineView}
 use Rattle.status.specs.declared.snapshot.Queue.{Queue}
 use Rattle.status.specs.declared.snapshot.Snapshot.{Snapshot}
 
 -- the line is away, and has been for a minute
-abbrev pub is_lost : Line → (now : ℕ) → Bool
+abbrev pub is_lost : LineView → (now : ℕ) → Bool
 is_lost line now = not line.is_there && nat_le 60000 (now - line.since_ms)
 
 -- fewer places are free than a report may take
 abbrev pub is_full : Queue → Bool
 is_full queue = nat_lt (queue.places - queue.taken) 3
 
-abbrev pub does_not_answer : Standing → Bool
+abbrev pub does_not_answer : LinkState → Bool
 does_not_answer NotAsked = false
 does_not_answer Asked = false
 does_not_answer Up = false
 does_not_answer Silent = true
 does_not_answer Down = true
 
-abbrev pub is_unheard : Station → Bool
+abbrev pub is_unheard : StationView → Bool
 is_unheard station = does_not_answer station.standing
 
-abbrev pub stands_up : Standing → Bool
+abbrev pub stands_up : LinkState → Bool
 stands_up NotAsked = false
 stands_up Asked = false
 stands_up Up = true
 stands_up Silent = false
 stands_up Down = false
 
-abbrev pub is_up : Station → Bool
+abbrev pub is_up : StationView → Bool
 is_up station = stands_up station.standing
 
 -- the state is to be kept on the disk, and can't be

@@ -5,13 +5,13 @@ use Rattle.status.specs.declared.judging.Judgement.{Judgement}
 use Rattle.status.specs.declared.judging.Judgement.TheVariants as judgement
 use Rattle.status.specs.declared.snapshot.Keeping.{Keeping}
 use Rattle.status.specs.declared.snapshot.Keeping.TheVariants.{Off, Kept, NotKept}
-use Rattle.status.specs.declared.snapshot.Station.{Station}
+use Rattle.status.specs.declared.snapshot.StationView.{StationView}
 use Rattle.status.specs.declared.words.Count.{Count}
 use Rattle.status.specs.declared.words.Count.TheVariants as count
-use Rattle.status.specs.declared.snapshot.Standing.{Standing}
-use Rattle.status.specs.declared.snapshot.Standing.TheVariants.{NotAsked, Asked, Up, Silent, Down}
+use Rattle.status.specs.declared.snapshot.LinkState.{LinkState}
+use Rattle.status.specs.declared.snapshot.LinkState.TheVariants.{NotAsked, Asked, Up, Silent, Down}
 
-abbrev pub standing_text : Standing → List ℕ
+abbrev pub standing_text : LinkState → List ℕ
 standing_text NotAsked = codes "not asked yet"
 standing_text Asked = codes "asked"
 standing_text Up = codes "up"
@@ -19,7 +19,7 @@ standing_text Silent = codes "silent"
 standing_text Down = codes "down"
 
 -- the same with spaces behind it up to the longest text
-abbrev pub wide_text : Standing → List ℕ
+abbrev pub wide_text : LinkState → List ℕ
 wide_text NotAsked = codes "not asked yet"
 wide_text Asked = codes "asked        "
 wide_text Up = codes "up           "
@@ -27,7 +27,7 @@ wide_text Silent = codes "silent       "
 wide_text Down = codes "down         "
 
 -- what is counted of a station
-abbrev pub value_of : Count → Station → ℕ
+abbrev pub value_of : Count → StationView → ℕ
 value_of count.Up s = if is_up s then 1 else 0
 value_of count.Reports s = s.reports
 value_of count.Skipped s = s.skipped

@@ -11,7 +11,7 @@ use Rattle.status.specs.declared.metrics.Gauge.{Gauge}
 use Rattle.status.specs.declared.words.Count.{Count}
 use Rattle.status.specs.declared.words.Count.TheVariants as count
 use Rattle.status.specs.declared.words.Marks.TheVariants.{Label}
-use Rattle.status.specs.declared.snapshot.Station.{Station}
+use Rattle.status.specs.declared.snapshot.StationView.{StationView}
 use Rattle.status.specs.declared.snapshot.Snapshot.{Snapshot}
 
 -- what a number is, and the number
@@ -24,7 +24,7 @@ abbrev pub text_of_gauge : Gauge → List ℕ
 text_of_gauge g = gauge_text g.name.now g.help.now (word_text g.value)
 
 -- the number of a station
-abbrev pub text_of_sample : (name : List ℕ) → Count → Station → List ℕ
+abbrev pub text_of_sample : (name : List ℕ) → Count → StationView → List ℕ
 text_of_sample name which s = joined (
     name ∷ codes "{station=\"" ∷ decimal s.address ∷ codes "\"} " ∷ decimal (value_of which s)
     ∷ codes "\n" ∷ [])
@@ -39,15 +39,15 @@ abbrev pub head_of_family : Family → List ℕ
 head_of_family f = head_text f.name.now f.help.now f.kind.now
 
 -- the numbers of all stations, behind what they are
-abbrev pub family_text : List Station → (name help kind : List ℕ) → Count → List ℕ
+abbrev pub family_text : List StationView → (name help kind : List ℕ) → Count → List ℕ
 family_text stations name help kind which =
     head_text name help kind ++ rows (text_of_sample name which) stations
 
-abbrev pub text_of_family : List Station → Family → List ℕ
+abbrev pub text_of_family : List StationView → Family → List ℕ
 text_of_family stations f = family_text stations f.name.now f.help.now f.kind.now f.count
 
 -- what a station is called
-abbrev pub text_of_info : Station → List ℕ
+abbrev pub text_of_info : StationView → List ℕ
 text_of_info s = joined (
     codes "telegate_station_info{station=\"" ∷ decimal s.address ∷ codes "\",common_address=\""
     ∷ decimal s.common_address ∷ codes "\",name=\"" ∷ escaped Label s.name.now
@@ -88,7 +88,7 @@ gauges_text s = joined (
     (codes "Whether the state is to be kept on the disk and can not be.")
     (if cannot_keep s.keeping then codes "1" else codes "0") ∷ [])
 
-abbrev pub families_text : List Station → List ℕ
+abbrev pub families_text : List StationView → List ℕ
 families_text stations = joined (
     family_text stations (codes "telegate_station_up") (codes "Whether the outstation answers.")
     (codes "gauge") count.Up

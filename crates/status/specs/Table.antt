@@ -5,26 +5,26 @@ use Rattle.status.specs.Labels.{keeping_text, wide_text}
 use Rattle.status.specs.Texts.{age_or, age_text, comma_behind, summary}
 use Rattle.status.specs.Words.{escaped, escaped_or, joined, right, rows}
 use Rattle.status.specs.declared.words.Marks.TheVariants.{Plain}
-use Rattle.status.specs.declared.snapshot.Station.{Station}
+use Rattle.status.specs.declared.snapshot.StationView.{StationView}
 use Rattle.status.specs.declared.snapshot.Snapshot.{Snapshot}
 
 -- whose row it is
-abbrev pub row_head : Station → List ℕ
+abbrev pub row_head : StationView → List ℕ
 row_head s = joined (
     right 7 s.address ∷ right 7 s.common_address ∷ codes "  " ∷ wide_text s.standing ∷ [])
 
 -- what was counted of a station, and its name
-abbrev pub row_counts : Station → List ℕ
+abbrev pub row_counts : StationView → List ℕ
 row_counts s = joined (
     right 9 s.reports ∷ right 9 s.skipped ∷ right 6 s.gaps ∷ right 10 s.commands ∷ codes "  "
     ∷ escaped Plain s.name.now ∷ codes "\n" ∷ [])
 
-abbrev pub row_parts : (now : ℕ) → Station → List (List ℕ)
+abbrev pub row_parts : (now : ℕ) → StationView → List (List ℕ)
 row_parts now s =
     row_head s ∷ age_text 6 now s.since_ms
     ∷ age_or 10 now s.last_report_ms (codes "         -    ") ∷ row_counts s ∷ []
 
-abbrev pub text_of_row : (now : ℕ) → Station → List ℕ
+abbrev pub text_of_row : (now : ℕ) → StationView → List ℕ
 text_of_row now s = joined (row_parts now s)
 
 abbrev pub version_text : Snapshot → List ℕ

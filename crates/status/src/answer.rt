@@ -102,6 +102,8 @@ fn put_head<'a>(head: &mut Page, status: &'a str, kind: &'a str, allow: &'a str,
             Word::Text(kind),
             Word::Text("\r\nContent-Length: "),
             Word::Number(len as u64),
+            // Not stored, since it shows this moment. The page has no script and loads nothing, so
+            // nothing that gets into it may.
             Word::Text("\r\nConnection: close\r\nCache-Control: no-store\r\n"),
             Word::Text("X-Content-Type-Options: nosniff\r\nContent-Security-Policy: "),
             Word::Text("default-src 'none'; style-src 'unsafe-inline'\r\n"),
@@ -120,6 +122,7 @@ fn put_head_for(head: &mut Page, asked: Asked, body: &Page)
             let allow = allow_of(asked);
             put_head(head, status_of(asked), kind_of(asked), allow, text.len());
         }
+        // Half a page would pass for a whole one.
         None => put_head(
             head,
             "500 Internal Server Error",
@@ -137,6 +140,7 @@ pub(crate) fn make_answer(head: &mut Page, body: &mut Page, asked: Asked, snapsh
 {
     head.clear();
     body.clear();
+    // Also for HEAD, whose answer says how long the body would be (RFC 9110, 9.3.2).
     put_body(body, asked, snapshot);
     put_head_for(head, asked, body);
     if has_body(asked) {

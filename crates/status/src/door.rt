@@ -2,7 +2,7 @@
 
 /// What one look at a stream finds.
 #[derive(Clone, Copy, Debug, PartialEq, Eq)]
-pub enum Got {
+pub enum Received {
     /// So many octets, at the front of the buffer: 1 to 1,024.
     Octets(usize),
     /// Nothing yet.
@@ -32,7 +32,7 @@ pub trait Stream: Drop {
     ghost taken: { Self → Told };
 
     /// Looks once. Octets are put at the front of the buffer.
-    fn read(&mut self, buf: &mut [u8; 1024]) -> Got
+    fn read(&mut self, buf: &mut [u8; 1024]) -> Received
         ensures fits { FitsBuffer result }
         ensures heard { heard self.new ≡ more_told (heard self.old) (got_of result buf.new) }
         ensures taken { taken self.new ≡ taken self.old };
@@ -51,7 +51,7 @@ pub trait Stream: Drop {
 }
 
 /// Where streams come from.
-pub trait Door {
+pub trait StreamSource {
     ghost use Rattle.std.specs.Prelude.{IfSome};
     ghost use Rattle.status.specs.Streams.{IsNew};
 

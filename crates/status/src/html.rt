@@ -6,7 +6,7 @@ ghost use Rattle.status.specs.Page.{put};
 use crate::judging::judge;
 use crate::lists::{Form, put_rows};
 use crate::page::Page;
-use crate::snapshot::{Setting, Snapshot, Station};
+use crate::snapshot::{Setting, Snapshot, StationView};
 use crate::texts::{put_age, put_age_or, put_summary};
 use crate::words::{Marks, Word, put_words};
 
@@ -53,7 +53,7 @@ struct RowForm {
 }
 
 /// Puts whose row it is, and how it stands.
-fn put_row_head(page: &mut Page, station: &Station<'_>)
+fn put_row_head(page: &mut Page, station: &StationView<'_>)
     ensures { page.new ≡ put (spec.row_head station.now) page.old }
 {
     put_words(
@@ -75,7 +75,7 @@ fn put_row_head(page: &mut Page, station: &Station<'_>)
 }
 
 /// Puts what was counted of a station.
-fn put_row_counts(page: &mut Page, station: &Station<'_>)
+fn put_row_counts(page: &mut Page, station: &StationView<'_>)
     ensures { page.new ≡ put (spec.row_counts station.now) page.old }
 {
     put_words(
@@ -94,10 +94,10 @@ fn put_row_counts(page: &mut Page, station: &Station<'_>)
     );
 }
 
-impl Form<Station<'_>> for RowForm {
+impl Form<StationView<'_>> for RowForm {
     ghost text = { λ form station. spec.text_of_row form.now_ms station };
 
-    fn put(&self, page: &mut Page, station: &Station<'_>) {
+    fn put(&self, page: &mut Page, station: &StationView<'_>) {
         put_row_head(page, station);
         put_age(page, 0, self.now_ms, station.since_ms);
         page.put(b"</td><td class=\"n\">");
@@ -140,6 +140,7 @@ fn depth(places: u64, taken: u64) -> u64
     if places == 0 {
         return 100;
     }
+    // In 128 bits, since a hundred times a number of 64 bits may not fit these.
     100 - (u128::from(taken.min(places)) * 100 / u128::from(places)) as u64
 }
 

@@ -7,7 +7,7 @@ ghost use Rattle.status.specs.Json as spec;
 use crate::judging::judge;
 use crate::lists::{Form, put_listed};
 use crate::page::Page;
-use crate::snapshot::{Setting, Snapshot, Station};
+use crate::snapshot::{Setting, Snapshot, StationView};
 use crate::words::{Marks, Word, put_words};
 
 /// Numbers as they are.
@@ -26,10 +26,10 @@ impl Form<u64> for NumberForm {
 #[derive(Drop)]
 struct StationForm;
 
-impl Form<Station<'_>> for StationForm {
+impl Form<StationView<'_>> for StationForm {
     ghost text = { λ _ station. spec.json_of_station station };
 
-    fn put(&self, page: &mut Page, station: &Station<'_>) {
+    fn put(&self, page: &mut Page, station: &StationView<'_>) {
         put_words(
             page,
             &[

@@ -3,7 +3,7 @@ ghost use Rattle.std.specs.Prelude.{◌≡◌};
 ghost use Rattle.std.specs.List.{list_any};
 ghost use Rattle.status.specs.Judge as spec;
 
-use crate::snapshot::{Keeping, Line, Queue, Snapshot, Standing, Station};
+use crate::snapshot::{Keeping, LineView, LinkState, Queue, Snapshot, StationView};
 
 /// How long a line may be away before that is critical, in ms.
 const LINE_MS: u64 = 60_000;
@@ -20,9 +20,11 @@ pub enum Judgement {
 }
 
 /// The line is away, and has been for a minute.
-fn is_lost(line: &Line, now_ms: u64) -> bool
+fn is_lost(line: &LineView, now_ms: u64) -> bool
     ensures { result ≡ spec.is_lost line.now now_ms }
 {
+    // A lost line is tried again within half a minute (docs/DECISIONS.md, "A line that comes
+    // back").
     !line.is_there && LINE_MS <= now_ms.saturating_sub(line.since_ms)
 }
 
@@ -34,24 +36,24 @@ fn is_full(queue: &Queue<'_>) -> bool
 }
 
 /// It doesn't answer.
-fn is_unheard(station: &Station<'_>) -> bool
+fn is_unheard(station: &StationView<'_>) -> bool
     ensures { result ≡ spec.is_unheard station.now }
 {
-    matches!(station.standing, Standing::Silent | Standing::Down)
+    matches!(station.standing, LinkState::Silent | LinkState::Down)
 }
 
 /// One of them doesn't answer.
-fn has_unheard(stations: &[Station<'_>]) -> bool
+fn has_unheard(stations: &[StationView<'_>]) -> bool
     ensures { result ≡ list_any spec.is_unheard stations.now }
 {
     stations.iter().any(|station| is_unheard(station))
 }
 
 /// It is up.
-pub(crate) fn is_up(station: &Station<'_>) -> bool
+pub(crate) fn is_up(station: &StationView<'_>) -> bool
     ensures { result ≡ spec.is_up station.now }
 {
-    matches!(station.standing, Standing::Up)
+    matches!(station.standing, LinkState::Up)
 }
 
 /// The state is to be kept on the disk, and can't be.

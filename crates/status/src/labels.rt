@@ -3,31 +3,31 @@ ghost use Rattle.std.specs.Prelude.{◌≡◌};
 ghost use Rattle.status.specs.Labels as spec;
 
 use crate::judging::Judgement;
-use crate::snapshot::{Keeping, Standing};
+use crate::snapshot::{Keeping, LinkState};
 
 /// How a station stands.
-pub(crate) fn standing_text(standing: Standing) -> &'static str
+pub(crate) fn standing_text(standing: LinkState) -> &'static str
     ensures { result.now ≡ spec.standing_text standing }
 {
     match standing {
-        Standing::NotAsked => "not asked yet",
-        Standing::Asked => "asked",
-        Standing::Up => "up",
-        Standing::Silent => "silent",
-        Standing::Down => "down",
+        LinkState::NotAsked => "not asked yet",
+        LinkState::Asked => "asked",
+        LinkState::Up => "up",
+        LinkState::Silent => "silent",
+        LinkState::Down => "down",
     }
 }
 
 /// The same with spaces behind it up to the longest text.
-pub(crate) fn wide_text(standing: Standing) -> &'static str
+pub(crate) fn wide_text(standing: LinkState) -> &'static str
     ensures { result.now ≡ spec.wide_text standing }
 {
     match standing {
-        Standing::NotAsked => "not asked yet",
-        Standing::Asked => "asked        ",
-        Standing::Up => "up           ",
-        Standing::Silent => "silent       ",
-        Standing::Down => "down         ",
+        LinkState::NotAsked => "not asked yet",
+        LinkState::Asked => "asked        ",
+        LinkState::Up => "up           ",
+        LinkState::Silent => "silent       ",
+        LinkState::Down => "down         ",
     }
 }
 

@@ -1,10 +1,10 @@
 //! A door for looking at the state as it is now: pages for a person, JSON, Prometheus' text format
 //! and a table for a terminal, over HTTP/1.0 and HTTP/1.1 (RFC 9110, RFC 9112).
 //!
-//! [`Visitors`] come through a [`Door`]: four at once at the most, each for two seconds at the
-//! most. [`Visitors::turn`] is called between two events. At most one visitor comes then, and each
-//! gets one read or one write, which never waits. What is shown is a [`Snapshot`], plain data that
-//! the caller fills in and lends. This crate doesn't know the gateway, so who looks changes
+//! [`Visitors`] come through a [`StreamSource`]: four at once at the most, each for two seconds at
+//! the most. [`Visitors::turn`] is called between two events. At most one visitor comes then, and
+//! each gets one read or one write, which never waits. What is shown is a [`Snapshot`], plain data
+//! that the caller fills in and lends. This crate doesn't know the gateway, so who looks changes
 //! nothing. All memory is taken by [`Visitors::new`]. [`VisitorListener`] is the door on the
 //! system's sockets.
 //!
@@ -44,12 +44,14 @@ mod texts;
 mod visitors;
 mod words;
 
-pub use door::{Door, Got, Stream, Took};
+pub use door::{Received, Stream, StreamSource, Took};
 pub use examples::{answers_by_example, texts_by_example};
 pub use hour::Hour;
 pub use judging::{Judgement, judge};
 pub use laws::a_text_stands_whole_or_not_at_all;
 pub use reply::{UNKNOWN, body_of, exit_status};
-pub use snapshot::{Centre, Keeping, Line, Queue, Setting, Snapshot, Standing, Station};
+pub use snapshot::{
+    CentreView, Keeping, LineView, LinkState, Queue, Setting, Snapshot, StationView,
+};
 pub use sockets::{VisitorListener, VisitorSocket};
 pub use visitors::Visitors;

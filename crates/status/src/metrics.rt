@@ -6,7 +6,7 @@ ghost use Rattle.status.specs.Page.{put};
 use crate::judging::cannot_keep;
 use crate::lists::{Form, put_rows};
 use crate::page::Page;
-use crate::snapshot::{Snapshot, Station};
+use crate::snapshot::{Snapshot, StationView};
 use crate::texts::seconds;
 use crate::words::{Count, Marks, Word, put_words};
 
@@ -62,10 +62,10 @@ struct SampleForm {
     count: Count,
 }
 
-impl Form<Station<'_>> for SampleForm {
+impl Form<StationView<'_>> for SampleForm {
     ghost text = { λ form station. spec.text_of_sample form.name.now form.count station };
 
-    fn put(&self, page: &mut Page, station: &Station<'_>) {
+    fn put(&self, page: &mut Page, station: &StationView<'_>) {
         put_words(
             page,
             &[
@@ -83,7 +83,7 @@ impl Form<Station<'_>> for SampleForm {
 /// The numbers of all stations, behind what they are.
 #[derive(Drop)]
 struct FamilyForm<'a> {
-    stations: &'a [Station<'a>],
+    stations: &'a [StationView<'a>],
 }
 
 /// Puts what the numbers of stations are.
@@ -123,13 +123,15 @@ impl Form<Family> for FamilyForm<'_> {
 #[derive(Drop)]
 struct InfoForm;
 
-impl Form<Station<'_>> for InfoForm {
+impl Form<StationView<'_>> for InfoForm {
     ghost text = { λ _ station. spec.text_of_info station };
 
-    fn put(&self, page: &mut Page, station: &Station<'_>) {
+    fn put(&self, page: &mut Page, station: &StationView<'_>) {
         put_words(
             page,
             &[
+                // Apart from the numbers: a name among their labels would begin new series when it
+                // is changed.
                 Word::Text("telegate_station_info{station=\""),
                 Word::Address(station.address),
                 Word::Text("\",common_address=\""),
@@ -213,7 +215,7 @@ fn put_gauges(page: &mut Page, snapshot: &Snapshot<'_>)
 }
 
 /// Puts the numbers of the stations.
-fn put_families(page: &mut Page, stations: &[Station<'_>])
+fn put_families(page: &mut Page, stations: &[StationView<'_>])
     ensures { page.new ≡ put (spec.families_text stations.now) page.old }
 {
     let families = [

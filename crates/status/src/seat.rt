@@ -9,7 +9,7 @@ ghost use Rattle.status.specs.Seats.{answer_on, cleared, fresh_desk};
 ghost use Rattle.status.specs.Streams.{IsNew, more_told};
 
 use crate::answer::make_answer;
-use crate::door::{Got, Stream, Took};
+use crate::door::{Received, Stream, Took};
 use crate::page::Page;
 use crate::request::{Asked, asked_of};
 use crate::snapshot::Snapshot;
@@ -109,12 +109,12 @@ fn hear<S: Stream>(stream: &mut S, request: &mut Page) -> bool
 {
     let mut octets = [0; 1024];
     match stream.read(&mut octets) {
-        Got::Octets(len) => {
+        Received::Octets(len) => {
             request.put(&octets[..len]);
             true
         }
-        Got::Quiet => true,
-        Got::Gone => false,
+        Received::Quiet => true,
+        Received::Gone => false,
     }
 }
 
@@ -123,7 +123,7 @@ fn drain<S: Stream>(stream: &mut S) -> bool
     ensures taken { S.taken stream.new ≡ S.taken stream.old }
 {
     let mut octets = [0; 1024];
-    !matches!(stream.read(&mut octets), Got::Gone)
+    !matches!(stream.read(&mut octets), Received::Gone)
 }
 
 /// Hands a stream octets, and answers how many it took; none where it is broken.
@@ -263,9 +263,11 @@ impl<S: Stream> Seat<S> {
     pub(crate) fn turn(&mut self, now_ms: u64, snapshot: &Snapshot<'_>)
         ensures young { ForSome self.new.guest (λ g. IsYoung now_ms g.since_ms) }
     {
+        // Who isn't put back is gone: dropping the stream closes it.
         let Some(mut guest) = self.guest.take() else {
             return;
         };
+        // Before the turn: who sends an octet now and then would stay for good.
         if STAY_MS <= now_ms.saturating_sub(guest.since_ms) {
             return;
         }

@@ -2,14 +2,14 @@
 
 /// How a station stands.
 #[derive(Clone, Copy, Debug, Default, PartialEq, Eq)]
-pub enum Standing {
+pub enum LinkState {
     /// Nothing has been asked of it yet.
     #[default]
     NotAsked,
     /// It was asked for the status of its link, and hasn't answered yet.
     Asked,
     Up,
-    /// It was up, and doesn't answer any more.
+    /// The same request went out more often than a station that is there needs, without an answer.
     Silent,
     /// It is asked for the status of its link, and doesn't answer.
     Down,
@@ -17,13 +17,13 @@ pub enum Standing {
 
 /// A station. Moments are those of the run, in ms.
 #[derive(Clone, Copy, Debug, Default)]
-pub struct Station<'a> {
+pub struct StationView<'a> {
     /// Up to 40 characters; empty where it has none.
     pub name: &'a str,
     /// Its link address.
     pub address: u16,
     pub common_address: u16,
-    pub standing: Standing,
+    pub standing: LinkState,
     /// Since when it stands so.
     pub since_ms: u64,
     /// When its last report came; none where none has come.
@@ -40,7 +40,7 @@ pub struct Station<'a> {
 
 /// The line.
 #[derive(Clone, Copy, Debug)]
-pub struct Line {
+pub struct LineView {
     pub is_there: bool,
     /// Since when it is there or away.
     pub since_ms: u64,
@@ -48,7 +48,7 @@ pub struct Line {
 
 /// The control centre.
 #[derive(Clone, Copy, Debug)]
-pub struct Centre<'a> {
+pub struct CentreView<'a> {
     /// The address that it connects from; none where it isn't connected.
     pub peer: Option<&'a str>,
     /// Data transfer is started (IEC 60870-5-104, 5.3).
@@ -99,10 +99,10 @@ pub struct Snapshot<'a> {
     pub wall_ms: Option<u64>,
     /// What the line is called: up to 40 characters; empty where it has no name.
     pub name: &'a str,
-    pub line: Line,
-    pub centre: Centre<'a>,
+    pub line: LineView,
+    pub centre: CentreView<'a>,
     pub queue: Queue<'a>,
     pub keeping: Keeping,
-    pub stations: &'a [Station<'a>],
+    pub stations: &'a [StationView<'a>],
     pub settings: &'a [Setting<'a>],
 }

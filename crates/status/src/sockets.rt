@@ -1,7 +1,7 @@
 //! The door on the system's sockets. No call waits.
 ghost use Rattle.std.specs.Prelude.{None};
 
-use crate::door::{Door, Got, Stream, Took};
+use crate::door::{Received, Stream, StreamSource, Took};
 use std::io;
 use std::io::{ErrorKind, Read, Write};
 use std::net::{Net, OpenListener, OpenStream, Shutdown, SocketAddr, TcpListener, TcpStream};
@@ -15,12 +15,12 @@ impl Stream for VisitorSocket {
 
     ghost taken = { λ _. None };
 
-    fn read(&mut self, buf: &mut [u8; 1024]) -> Got {
+    fn read(&mut self, buf: &mut [u8; 1024]) -> Received {
         match self.0.read(buf) {
-            Ok(0) => Got::Gone,
-            Ok(len) => Got::Octets(len),
-            Err(fault) if is_quiet(&fault) => Got::Quiet,
-            Err(_) => Got::Gone,
+            Ok(0) => Received::Gone,
+            Ok(len) => Received::Octets(len),
+            Err(fault) if is_quiet(&fault) => Received::Quiet,
+            Err(_) => Received::Gone,
         }
     }
 
@@ -40,6 +40,7 @@ impl Stream for VisitorSocket {
 
 /// Nothing has happened yet.
 fn is_quiet(fault: &io::Error) -> bool {
+    // A call that a signal broke off is made again at the next turn.
     matches!(fault.kind(), ErrorKind::WouldBlock | ErrorKind::Interrupted)
 }
 
@@ -60,6 +61,7 @@ impl VisitorListener {
         address: &str,
     ) -> io::Result<VisitorListener> {
         let listener = TcpListener::bind(rt, address)?;
+        // Who looks at the state doesn't hold the run up.
         listener.set_nonblocking(true)?;
         Ok(VisitorListener { listener })
     }
@@ -74,10 +76,11 @@ impl VisitorListener {
     }
 }
 
-impl Door for VisitorListener {
+impl StreamSource for VisitorListener {
     type Stream = VisitorSocket;
 
     fn accept(&mut self) -> Option<VisitorSocket> {
+        // Who can't be accepted is no visitor, and the door stays open.
         let (stream, _) = self.listener.accept().ok()?;
         stream.set_nonblocking(true).ok()?;
         // Head and body go out in two writes; the system would hold the second one back.

@@ -5,7 +5,7 @@ ghost use Rattle.status.specs.Table as spec;
 
 use crate::lists::{Form, put_rows};
 use crate::page::Page;
-use crate::snapshot::{Snapshot, Station};
+use crate::snapshot::{Snapshot, StationView};
 use crate::texts::{put_age, put_age_or, put_summary};
 use crate::words::{Marks, Word, put_words};
 
@@ -16,7 +16,7 @@ struct RowForm {
 }
 
 /// Puts whose row it is.
-fn put_row_head(page: &mut Page, station: &Station<'_>)
+fn put_row_head(page: &mut Page, station: &StationView<'_>)
     ensures { page.new ≡ put (spec.row_head station.now) page.old }
 {
     put_words(
@@ -31,7 +31,7 @@ fn put_row_head(page: &mut Page, station: &Station<'_>)
 }
 
 /// Puts what was counted of a station, and its name.
-fn put_row_counts(page: &mut Page, station: &Station<'_>)
+fn put_row_counts(page: &mut Page, station: &StationView<'_>)
     ensures { page.new ≡ put (spec.row_counts station.now) page.old }
 {
     put_words(
@@ -48,10 +48,10 @@ fn put_row_counts(page: &mut Page, station: &Station<'_>)
     );
 }
 
-impl Form<Station<'_>> for RowForm {
+impl Form<StationView<'_>> for RowForm {
     ghost text = { λ form station. spec.text_of_row form.now_ms station };
 
-    fn put(&self, page: &mut Page, station: &Station<'_>) {
+    fn put(&self, page: &mut Page, station: &StationView<'_>) {
         put_row_head(page, station);
         put_age(page, 6, self.now_ms, station.since_ms);
         put_age_or(

@@ -7,11 +7,11 @@ ghost use Rattle.status.specs.Texts as spec;
 
 use crate::judging::{is_up, judge};
 use crate::page::Page;
-use crate::snapshot::{Snapshot, Station};
+use crate::snapshot::{Snapshot, StationView};
 use crate::words::{Word, put_words};
 
 /// How many stations are up.
-pub(crate) fn count_up(stations: &[Station<'_>]) -> u64
+pub(crate) fn count_up(stations: &[StationView<'_>]) -> u64
     ensures { result ≡ count_by is_up_of stations.now }
 {
     stations.iter().filter(|station| is_up(*station)).count() as u64
@@ -49,6 +49,7 @@ fn age_count(seconds: u64) -> u64
     ensures { result ≡ spec.age_count seconds }
 {
     match seconds {
+        // A unit begins at two of it: one would be wrong by up to half.
         0..120 => seconds,
         120..7200 => seconds / 60,
         7200..172_800 => seconds / 3600,

@@ -4,7 +4,7 @@ ghost use Rattle.std.specs.Option.{ForSome};
 ghost use Rattle.std.specs.Prelude.{◌≡◌, IfOk, vec_len};
 ghost use Rattle.status.specs.Seats.{IsYoung};
 
-use crate::door::{Door, Stream};
+use crate::door::{Stream, StreamSource};
 use crate::seat::Seat;
 use crate::snapshot::Snapshot;
 use std::alloc::{AllocError, Global};
@@ -14,12 +14,12 @@ const SEATS: usize = 4;
 
 /// Visitors who look at the state of the gateway, each from a seat of its own.
 #[derive(Drop)]
-pub struct Visitors<D: Door + Drop> {
+pub struct Visitors<D: StreamSource + Drop> {
     door: D,
     seats: Vec<Seat<D::Stream>>,
 }
 
-impl<D: Door + Drop> Visitors<D> {
+impl<D: StreamSource + Drop> Visitors<D> {
     /// Visitors who come through this door. All memory is taken here.
     ///
     /// # Errors
@@ -39,6 +39,7 @@ impl<D: Door + Drop> Visitors<D> {
     fn admit(&mut self, now_ms: u64)
         ensures few { vec_len self.new.seats ≡ vec_len self.old.seats }
     {
+        // Before a seat is sought: who finds none is sent away, and doesn't wait at the door.
         let Some(stream) = self.door.accept() else {
             return;
         };

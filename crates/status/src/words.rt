@@ -8,7 +8,7 @@ ghost use Rattle.status.specs.Words.{digit_of, escaped, mark_of, right, text_of,
 use crate::judging::{Judgement, is_up};
 use crate::labels::{judgement_text, keeping_text, standing_text, wide_text};
 use crate::page::Page;
-use crate::snapshot::{Keeping, Standing, Station};
+use crate::snapshot::{Keeping, LinkState, StationView};
 use itoa::Buffer;
 
 /// What the text stands in, so which octets mean something else there.
@@ -53,10 +53,10 @@ pub(crate) enum Word<'a> {
     Right(usize, u64),
     /// One text or another.
     Either(bool, &'a str, &'a str),
-    Stands(Standing),
+    Stands(LinkState),
     /// How a station stands, with spaces behind it up to the longest text.
-    Wide(Standing),
-    Counted(Count, &'a Station<'a>),
+    Wide(LinkState),
+    Counted(Count, &'a StationView<'a>),
     Keeps(Keeping),
     Judged(Judgement),
 }
@@ -76,6 +76,7 @@ fn put_json(page: &mut Page, octet: u8)
     match octet {
         b'"' => page.put(b"\\\""),
         b'\\' => page.put(b"\\\\"),
+        // A control character may not stand in a string as it is (RFC 8259, 7).
         0..32 => {
             let digits = [digit_of(octet / 16), digit_of(octet % 16)];
             page.put(&[b'\\', b'u', b'0', b'0', digits[0], digits[1]]);
@@ -125,6 +126,7 @@ fn put_mark(page: &mut Page, marks: Marks, octet: u8)
 fn put_escaped(page: &mut Page, marks: Marks, text: &str)
     ensures { page.new ≡ put (escaped marks text.now) page.old }
 {
+    // Octet by octet: all that mean something else are ASCII, so no character is broken.
     for octet in text.as_bytes() {
         put_mark(page, marks, *octet);
     }
@@ -150,14 +152,14 @@ fn put_right(page: &mut Page, width: usize, number: u64)
 }
 
 /// 1 where a station is up.
-fn up_of(station: &Station<'_>) -> u64
+fn up_of(station: &StationView<'_>) -> u64
     ensures { result ≡ value_of Count.Up station.now }
 {
     if is_up(station) { 1 } else { 0 }
 }
 
 /// Puts what is counted of a station.
-fn put_counted(page: &mut Page, count: Count, station: &Station<'_>)
+fn put_counted(page: &mut Page, count: Count, station: &StationView<'_>)
     ensures { page.new ≡ put (decimal (value_of count station.now)) page.old }
 {
     match count {

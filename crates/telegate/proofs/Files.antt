@@ -6,14 +6,16 @@ use Rattle.std.specs.Borrow.{Bor}
 use Rattle.clap.specs.Words.{Text}
 use Rattle.sitefile.specs.declared.site.Site.{Site as SiteFile}
 use Rattle.telegate.specs.Shell.{IsNoSite, IsNotRead, IsUnread, ReplaysFile, Responds, RunsAsSaid}
-use Rattle.telegate.specs.Shell.{ChecksBehind, PlayFiles, RunsAtSite, files_of}
+use Rattle.telegate.specs.Shell.{ChecksBehind, PlayFiles, RunsAtSite, ShowsState, files_of}
+use Rattle.state_files.specs.declared.looking.Stood.{Stood}
 use Rattle.telegate.specs.CommandLine.{text_of}
 use Rattle.telegate.specs.Wishes.{IsSiteIn, site_files}
 use Rattle.telegate.specs.declared.run_words.RunWords.{RunWords}
 use Rattle.telegate.specs.Manners.{manner_of}
 use Rattle.telegate.specs.declared.host.Wishes.{Wishes}
 use Rattle.telegate.specs.declared.command_line.Request.{Request}
-use Rattle.telegate.specs.declared.command_line.Request.TheVariants.{Check, Replay, Run, Stations}
+use Rattle.telegate.specs.declared.command_line.Request.TheVariants.{Check, Replay, Run, State}
+use Rattle.telegate.specs.declared.command_line.Request.TheVariants.{Stations}
 use Rattle.telegate.specs.declared.fault.Fault.{Fault}
 use Rattle.telegate.specs.declared.host.Unread.{Unread}
 use Rattle.telegate.specs.declared.host.Unread.TheVariants.{Unreadable, NoMemory}
@@ -124,11 +126,12 @@ module _ (has : Text → List ℕ → Type 0) (lacks : Text → Type 0) where
   module _ (ran : List ℕ → Wishes → Result (Unit {0}) Fault → Type 0) (answered : Text → List ℕ
       → List ℕ → Type 0)
       (silent : Text → Type 0)
-      (played : List ℕ → List ℕ → Result (Unit {0}) Fault → Type 0) where
+      (played : List ℕ → List ℕ → Result (Unit {0}) Fault → Type 0)
+      (stands : Text → Stood → Type 0) where
     -- a command whose files can't be read
     pub unanswered : (request : Request) (files : List Text) (known : Option (List ℕ)) (exit : ℕ)
         → files_of request ≡ files → IsNotRead has lacks files exit
-        → Responds has lacks ran answered silent played request known known exit
+        → Responds has lacks ran answered silent played stands request known known exit
     unanswered request files known exit are h =
         inr (subst (λ (fs : List Text). IsNotRead has lacks fs exit) (sym are) h, keeps_same known)
 
@@ -140,9 +143,9 @@ module _ (has : Text → List ℕ → Type 0) (lacks : Text → Type 0) where
         → ReplaysFile has lacks trace.now octets (manner_of words color)
         (record { left = left; counts = counts })
         old new exit
-        → Responds has lacks ran answered silent played request old new exit
+        → Responds has lacks ran answered silent played stands request old new exit
     has_replayed request config trace left counts words color octets old new exit is read h =
-        subst (λ (r : Request). Responds has lacks ran answered silent played r old new exit)
+        subst (λ (r : Request). Responds has lacks ran answered silent played stands r old new exit)
         (sym is)
         (elim h [
           | inl ran ↦ inl (record { octets = octets; read = read; ran = ran })
@@ -153,9 +156,10 @@ module _ (has : Text → List ℕ → Type 0) (lacks : Text → Type 0) where
     pub has_run : (request : Request) (config : Bor Text) (words : RunWords)
         (known : Option (List ℕ)) (exit : ℕ)
         → request ≡ Run config words → RunsAsSaid has lacks ran config.now words exit
-        → Responds has lacks ran answered silent played request known known exit
+        → Responds has lacks ran answered silent played stands request known known exit
     has_run request config words known exit is h =
-        subst (λ (r : Request). Responds has lacks ran answered silent played r known known exit)
+        subst (λ (r : Request). Responds has lacks ran answered silent played stands r known known
+        exit)
         (sym is)
         (elim h [
           | inl came ↦ inl (came, keeps_same known)
@@ -168,19 +172,28 @@ module _ (has : Text → List ℕ → Type 0) (lacks : Text → Type 0) where
         → request ≡ Check config site live explain
         → ChecksBehind has lacks (text_of site) config.now
         (record { live = live; explain = explain }) old new exit
-        → Responds has lacks ran answered silent played request old new exit
+        → Responds has lacks ran answered silent played stands request old new exit
     has_checked request config site live explain old new exit is h =
-        subst (λ (r : Request). Responds has lacks ran answered silent played r old new exit)
+        subst (λ (r : Request). Responds has lacks ran answered silent played stands r old new exit)
         (sym is) h
 
     pub have_played : (request : Request) (config script : Bor Text) (known : Option (List ℕ))
         (exit : ℕ) → request ≡ Stations config script
         → PlayFiles has lacks played config.now script.now exit
-        → Responds has lacks ran answered silent played request known known exit
+        → Responds has lacks ran answered silent played stands request known known exit
     have_played request config script known exit is h =
-        subst (λ (r : Request). Responds has lacks ran answered silent played r known known exit)
+        subst (λ (r : Request). Responds has lacks ran answered silent played stands r known known
+        exit)
         (sym is)
         (elim h [
           | inl came ↦ inl (came, keeps_same known)
           | inr none ↦ inr (none, keeps_same known)
         ])
+
+    pub has_shown : (request : Request) (directory : Bor Text) (config : Option (Bor Text))
+        (old new : Option (List ℕ)) (exit : ℕ) → request ≡ State directory config
+        → ShowsState has lacks stands directory.now (text_of config) old new exit
+        → Responds has lacks ran answered silent played stands request old new exit
+    has_shown request directory config old new exit is h =
+        subst (λ (r : Request). Responds has lacks ran answered silent played stands r old new exit)
+        (sym is) h

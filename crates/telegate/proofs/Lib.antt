@@ -24,3 +24,4 @@ pub mod Wished
 pub mod RanLemmas
 pub mod CaptureLemmas
 pub mod PlayLemmas
+pub mod StoodLemmas

@@ -11,7 +11,8 @@ use Rattle.telegate.specs.declared.run_words.RunWords.{RunWords}
 use Rattle.telegate.specs.declared.command_line.Request.{Request}
 use Rattle.telegate.specs.declared.command_line.Request.TheVariants.{Show101, Show104, Check}
 use Rattle.telegate.specs.declared.command_line.Request.TheVariants.{Replay, Sim, Audit, Run}
-use Rattle.telegate.specs.declared.command_line.Request.TheVariants.{Status, Capture, Stations}
+use Rattle.telegate.specs.declared.command_line.Request.TheVariants.{Status, State, Capture}
+use Rattle.telegate.specs.declared.command_line.Request.TheVariants.{Stations}
 
 pub names : (name : Text) (rows : List Row) (request : Request) → AsksFor name rows request
     → name ≡ name_of request
@@ -23,6 +24,7 @@ names name rows (Sim config script words color) h = h.0
 names name rows (Audit config text) h = h.0
 names name rows (Run config words) h = h.0
 names name rows (Status place json) h = h.0
+names name rows (State directory config) h = h.0
 names name rows (Capture config text) h = h.0
 names name rows (Stations config script) h = h.0
 
@@ -193,6 +195,16 @@ pub status_is : (place : Text) (json : Bool) (x u : Option Text) (p : Bor Text) 
 status_is place json x u p j a b = record {
   there = λ asked. ((word_is place x p.now a).there asked.1, (flag_is json u j b).there asked.2);
   back = λ same. (refl, (word_is place x p.now a).back same.0, (flag_is json u j b).back same.1);
+}
+
+-- a word, and one that may be left out
+pub state_is : (directory : Text) (config : Option Text) (x y : Option Text) (d : Bor Text)
+    (c : Option (Bor Text)) → x ≡ Some directory → y ≡ config
+    → Agree ((codes "state" ≡ codes "state") × (x ≡ Some d.now) × (text_of c ≡ y))
+    ((d.now ≡ directory) × (text_of c ≡ config))
+state_is directory config x y d c a b = record {
+  there = λ asked. ((word_is directory x d.now a).there asked.1, asked.2 ∙ b);
+  back = λ same. (refl, (word_is directory x d.now a).back same.0, same.1 ∙ sym b);
 }
 
 -- a word, and what is said of a live run, by its rows

@@ -12,13 +12,18 @@ use Rattle.telegate.specs.declared.run_words.RunWords.{RunWords}
 use Rattle.telegate.specs.declared.command_line.Request.{Request}
 use Rattle.telegate.specs.declared.command_line.Request.TheVariants.{Show101, Show104, Check}
 use Rattle.telegate.specs.declared.command_line.Request.TheVariants.{Replay, Sim, Audit, Run}
-use Rattle.telegate.specs.declared.command_line.Request.TheVariants.{Status, Capture, Stations}
+use Rattle.telegate.specs.declared.command_line.Request.TheVariants.{Status, State, Capture}
+use Rattle.telegate.specs.declared.command_line.Request.TheVariants.{Stations}
 
 -- What the commands take
 
 -- a word that has to be given, at its place
 abbrev pub word : Text → Rule
 word name = record (new_rule name) { action = Some Set; required = true }
+
+-- one that need not be
+abbrev pub further_word : Text → Rule
+further_word name = record (new_rule name) { action = Some Set }
 
 -- `--name`, anywhere behind the command, at most once
 abbrev pub flag : Text → Rule
@@ -72,6 +77,9 @@ run = command (codes "run") (word (codes "CONFIG") ∷ flag (codes "redial") ∷
 abbrev pub status : App
 status = command (codes "status") (word (codes "PLACE") ∷ flag (codes "json") ∷ [])
 
+abbrev pub state : App
+state = command (codes "state") (word (codes "DIR") ∷ further_word (codes "CONFIG") ∷ [])
+
 abbrev pub capture : App
 capture = command (codes "capture") (word (codes "CONFIG") ∷ word (codes "RECORD") ∷ [])
 
@@ -96,7 +104,7 @@ with_commands (below ∷ commands) above = with_commands commands (with_subcomma
 
 abbrev pub program : App
 program = with_commands (show101 ∷ show104 ∷ check ∷ replay ∷ sim ∷ audit ∷ run ∷ status
-    ∷ capture ∷ stations ∷ []) bare
+    ∷ state ∷ capture ∷ stations ∷ []) bare
 
 -- What the code builds is that
 
@@ -169,6 +177,8 @@ AsksFor name rows (Run config words) =
     (name ≡ codes "run") × IsGiven rows (codes "CONFIG") config.now × AreRunWords rows words
 AsksFor name rows (Status place json) = (name ≡ codes "status")
     × IsGiven rows (codes "PLACE") place.now × IsFlag rows (codes "json") json
+AsksFor name rows (State directory config) = (name ≡ codes "state")
+    × IsGiven rows (codes "DIR") directory.now × IsNamed rows (codes "CONFIG") (text_of config)
 AsksFor name rows (Capture config text) = (name ≡ codes "capture")
     × IsGiven rows (codes "CONFIG") config.now × IsGiven rows (codes "RECORD") text.now
 AsksFor name rows (Stations config script) = (name ≡ codes "stations")

@@ -12,7 +12,8 @@ use Rattle.telegate.specs.declared.run_words.RunWords.{RunWords}
 use Rattle.telegate.specs.declared.command_line.Request.{Request}
 use Rattle.telegate.specs.declared.command_line.Request.TheVariants.{Show101, Show104, Check}
 use Rattle.telegate.specs.declared.command_line.Request.TheVariants.{Replay, Sim, Audit, Run}
-use Rattle.telegate.specs.declared.command_line.Request.TheVariants.{Status, Capture, Stations}
+use Rattle.telegate.specs.declared.command_line.Request.TheVariants.{Status, State, Capture}
+use Rattle.telegate.specs.declared.command_line.Request.TheVariants.{Stations}
 
 -- the command that these words behind the program's name name, with what they give for it
 abbrev pub named_by : List Text → Option (Text × List Row)
@@ -75,6 +76,11 @@ abbrev pub AskStatus : List Text → (place : Text) → (json : Bool) → Type 0
 AskStatus words place json = (p : Bor Text) (j : Bool) →
     Ask words (Status p j) ((p.now ≡ place) × (j ≡ json))
 
+-- what a directory has, beside this file of settings, if any
+abbrev pub AskState : List Text → (directory : Text) → (config : Option Text) → Type 0
+AskState words directory config = (d : Bor Text) (c : Option (Bor Text)) →
+    Ask words (State d c) ((d.now ≡ directory) × (text_of c ≡ config))
+
 -- the words of a live run name this file of a site, if any, and say this beside
 pub record Say (words : RunWords) (file : Option Text) (said : Said) : Type 0 where
   pub site : text_of words.site ≡ file
@@ -102,5 +108,6 @@ name_of (Sim config script words color) = codes "sim"
 name_of (Audit config text) = codes "audit"
 name_of (Run config words) = codes "run"
 name_of (Status place json) = codes "status"
+name_of (State directory config) = codes "state"
 name_of (Capture config text) = codes "capture"
 name_of (Stations config script) = codes "stations"

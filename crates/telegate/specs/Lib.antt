@@ -7,6 +7,7 @@ pub mod Printed
 pub mod Running
 pub mod CommandLine
 pub mod Shell
+pub mod Stood
 pub mod Guests
 pub mod Audits
 pub mod Examples

@@ -8,9 +8,10 @@ use Rattle.clap.specs.declared.error.Error.{Error}
 use Rattle.clap.specs.declared.error.kind.ErrorKind.{ErrorKind}
 use Rattle.clap.specs.declared.error.kind.ErrorKind.TheVariants as kind
 use Rattle.sitefile.specs.declared.site.Site.{Site as SiteFile}
+use Rattle.state_files.specs.declared.looking.Stood.{Stood}
 use Rattle.telegate.specs.Answers.{IsReplayed, Performs, Runs}
 use Rattle.telegate.specs.Given.{Gives}
-use Rattle.telegate.specs.Asking.{ShowsStatus}
+use Rattle.telegate.specs.Asking.{IsUnanswered, ShowsStatus}
 use Rattle.telegate.specs.Audits.{IsAuditedBy}
 use Rattle.telegate.specs.Captures.{IsCapturedBy}
 use Rattle.telegate.specs.Faults.{status_of_end}
@@ -20,6 +21,7 @@ use Rattle.telegate.specs.Wishes.{CameAt, HasRunAsSaid, HasRunLive, HasWrongSite
 use Rattle.telegate.specs.Wishes.{IsFirstSiteFault, IsGoodSite}
 use Rattle.telegate.specs.Manners.{manner_of}
 use Rattle.telegate.specs.Piping.{HasPiped, PipesLine}
+use Rattle.telegate.specs.Stood.{IsStateShown}
 use Rattle.telegate.specs.declared.manner.Manner.{Manner}
 use Rattle.telegate.specs.declared.piping.Piped.TheVariants.{Connection}
 use Rattle.telegate.specs.declared.check.Checking.{Checking}
@@ -29,7 +31,8 @@ use Rattle.telegate.specs.declared.run_words.RunWords.{RunWords}
 use Rattle.telegate.specs.declared.command_line.Request.{Request}
 use Rattle.telegate.specs.declared.command_line.Request.TheVariants.{Show101, Show104, Check}
 use Rattle.telegate.specs.declared.command_line.Request.TheVariants.{Replay, Sim, Audit, Run}
-use Rattle.telegate.specs.declared.command_line.Request.TheVariants.{Status, Capture, Stations}
+use Rattle.telegate.specs.declared.command_line.Request.TheVariants.{Status, State, Capture}
+use Rattle.telegate.specs.declared.command_line.Request.TheVariants.{Stations}
 use Rattle.telegate.specs.declared.fault.Fault.{Fault}
 use Rattle.telegate.specs.declared.host.Unread.{Unread}
 use Rattle.telegate.specs.declared.host.Unread.TheVariants.{Unreadable, NoMemory}
@@ -62,6 +65,7 @@ files_of (Sim config script words color) = config.now ∷ script.now ∷ []
 files_of (Audit config text) = config.now ∷ text.now ∷ []
 files_of (Run config words) = site_files (text_of words.site) ++ config.now ∷ []
 files_of (Status place json) = []
+files_of (State directory config) = site_files (text_of config)
 files_of (Capture config text) = config.now ∷ text.now ∷ []
 files_of (Stations config script) = config.now ∷ script.now ∷ []
 
@@ -184,6 +188,37 @@ pub record HasCaptured (has : Text → List ℕ → Type 0) (config text : Text)
   pub read : has config octets
   pub captured : Runs (IsCapturedBy octets (has text)) old new exit
 
+-- these are the octets of a file, if one is named
+abbrev pub IsGivenIn : (has : Text → List ℕ → Type 0) → Option Text → Option (List ℕ) → Type 0
+IsGivenIn has None given = given ≡ None
+IsGivenIn has (Some name) given =
+    (octets : List ℕ) × has name octets × (given ≡ Some octets)
+
+-- what stands in the directory of this name was told, beside these settings; or it can't be read,
+-- and nothing was printed
+abbrev pub ShowsDirectory : (lacks : Text → Type 0) → (stands : Text → Stood → Type 0)
+    → (directory : Text) → (given : Option (List ℕ)) → (old new : Option (List ℕ)) → (exit : ℕ)
+    → Type 0
+ShowsDirectory lacks stands directory given old new exit =
+    Gives (IsStateShown (stands directory) given) old new exit
+    ⊎ (IsUnanswered lacks directory exit × Keeps old new)
+
+-- the same, by the octets of a file, if one is named
+pub record HasShownState (has : Text → List ℕ → Type 0) (lacks : Text → Type 0)
+    (stands : Text → Stood → Type 0) (directory : Text) (config : Option Text)
+    (old new : Option (List ℕ)) (exit : ℕ) : Type 0 where
+  pub given : Option (List ℕ)
+  pub read : IsGivenIn has config given
+  pub shown : ShowsDirectory lacks stands directory given old new exit
+
+-- or that can't be read, and nothing was printed
+abbrev pub ShowsState : (has : Text → List ℕ → Type 0) → (lacks : Text → Type 0)
+    → (stands : Text → Stood → Type 0) → (directory : Text) → (config : Option Text)
+    → (old new : Option (List ℕ)) → (exit : ℕ) → Type 0
+ShowsState has lacks stands directory config old new exit =
+    HasShownState has lacks stands directory config old new exit
+    ⊎ (IsNotRead has lacks (site_files config) exit × Keeps old new)
+
 -- The outstations of a script of these octets were played by settings of these, and the exit status
 -- says how that ended.
 pub record HaveEnded (played : List ℕ → List ℕ → Result (Unit {0}) Fault → Type 0)
@@ -252,42 +287,46 @@ pub record IsShownOrPiped (hex : Text) (IsShown IsPiped : Type 0) : Type 0 where
 abbrev pub IsDone : (has : Text → List ℕ → Type 0) → (lacks : Text → Type 0)
     → (ran : List ℕ → Wishes → Result (Unit {0}) Fault → Type 0)
     → (answered : Text → List ℕ → List ℕ → Type 0) → (silent : Text → Type 0)
-    → (played : List ℕ → List ℕ → Result (Unit {0}) Fault → Type 0) → Request
+    → (played : List ℕ → List ℕ → Result (Unit {0}) Fault → Type 0)
+    → (stands : Text → Stood → Type 0) → Request
     → (old new : Option (List ℕ)) → (exit : ℕ) → Type 0
-IsDone has lacks ran answered silent played (Run config words) old new exit =
+IsDone has lacks ran answered silent played stands (Run config words) old new exit =
     HasRunAsSaid has ran config.now words exit × Keeps old new
-IsDone has lacks ran answered silent played (Check config site live explain) old new exit =
+IsDone has lacks ran answered silent played stands (Check config site live explain) old new exit =
     HasCheckedBehind has lacks (text_of site) config.now
     (record { live = live; explain = explain }) old new exit
-IsDone has lacks ran answered silent played (Replay config trace left counts words color) old new
-    exit =
+IsDone has lacks ran answered silent played stands (Replay config trace left counts words color)
+    old new exit =
     HasReplayed has config.now trace.now (manner_of words color)
     (record { left = left; counts = counts }) old new exit
-IsDone has lacks ran answered silent played (Audit config text) old new exit =
+IsDone has lacks ran answered silent played stands (Audit config text) old new exit =
     HasAudited has config.now text.now old new exit
-IsDone has lacks ran answered silent played (Show101 sizes hex words) old new exit =
+IsDone has lacks ran answered silent played stands (Show101 sizes hex words) old new exit =
     IsShownOrPiped hex.now (IsJobDone has (Show101 sizes hex words) old new exit)
     (PipesLine sizes.now words (has input) old new exit)
-IsDone has lacks ran answered silent played (Show104 hex words) old new exit =
+IsDone has lacks ran answered silent played stands (Show104 hex words) old new exit =
     IsShownOrPiped hex.now (IsJobDone has (Show104 hex words) old new exit)
     (HasPiped Connection words (has input) old new exit)
-IsDone has lacks ran answered silent played (Status place json) old new exit =
+IsDone has lacks ran answered silent played stands (Status place json) old new exit =
     ShowsStatus answered silent place.now json old new exit
-IsDone has lacks ran answered silent played (Capture config text) old new exit =
+IsDone has lacks ran answered silent played stands (State directory config) old new exit =
+    HasShownState has lacks stands directory.now (text_of config) old new exit
+IsDone has lacks ran answered silent played stands (Capture config text) old new exit =
     HasCaptured has config.now text.now old new exit
-IsDone has lacks ran answered silent played (Stations config script) old new exit =
+IsDone has lacks ran answered silent played stands (Stations config script) old new exit =
     HavePlayedFiles has played config.now script.now exit × Keeps old new
-IsDone has lacks ran answered silent played request old new exit =
+IsDone has lacks ran answered silent played stands request old new exit =
     IsJobDone has request old new exit
 
 -- the command is done, or a file couldn't be read and nothing was printed
 abbrev pub Responds : (has : Text → List ℕ → Type 0) → (lacks : Text → Type 0)
     → (ran : List ℕ → Wishes → Result (Unit {0}) Fault → Type 0)
     → (answered : Text → List ℕ → List ℕ → Type 0) → (silent : Text → Type 0)
-    → (played : List ℕ → List ℕ → Result (Unit {0}) Fault → Type 0) → Request
+    → (played : List ℕ → List ℕ → Result (Unit {0}) Fault → Type 0)
+    → (stands : Text → Stood → Type 0) → Request
     → (old new : Option (List ℕ)) → (exit : ℕ) → Type 0
-Responds has lacks ran answered silent played request old new exit =
-    IsDone has lacks ran answered silent played request old new exit
+Responds has lacks ran answered silent played stands request old new exit =
+    IsDone has lacks ran answered silent played stands request old new exit
     ⊎ (IsNotRead has lacks (files_of request) exit × Keeps old new)
 
 -- Words
@@ -313,11 +352,12 @@ IsSilent _ old new = Keeps old new
 pub record IsAskedAndDone (has : Text → List ℕ → Type 0) (lacks : Text → Type 0)
     (ran : List ℕ → Wishes → Result (Unit {0}) Fault → Type 0)
     (answered : Text → List ℕ → List ℕ → Type 0) (silent : Text → Type 0)
-    (played : List ℕ → List ℕ → Result (Unit {0}) Fault → Type 0) (words : List Text)
-    (old new : Option (List ℕ)) (exit : ℕ) : Type 0 where
+    (played : List ℕ → List ℕ → Result (Unit {0}) Fault → Type 0)
+    (stands : Text → Stood → Type 0) (words : List Text) (old new : Option (List ℕ))
+    (exit : ℕ) : Type 0 where
   pub request : Request
   pub asked : IsRequestOf (subcommand_of program words) (Some request)
-  pub done : Responds has lacks ran answered silent played request old new exit
+  pub done : Responds has lacks ran answered silent played stands request old new exit
 
 -- the words are wrong, or ask for help or the version; wrong ones print nothing
 pub record IsUsage (words : List Text) (old new : Option (List ℕ)) (exit : ℕ) : Type 0 where
@@ -334,8 +374,9 @@ IsNoRequest words old new exit =
 abbrev pub Obeys : (has : Text → List ℕ → Type 0) → (lacks : Text → Type 0)
     → (ran : List ℕ → Wishes → Result (Unit {0}) Fault → Type 0)
     → (answered : Text → List ℕ → List ℕ → Type 0) → (silent : Text → Type 0)
-    → (played : List ℕ → List ℕ → Result (Unit {0}) Fault → Type 0) → (words : List Text)
+    → (played : List ℕ → List ℕ → Result (Unit {0}) Fault → Type 0)
+    → (stands : Text → Stood → Type 0) → (words : List Text)
     → (old new : Option (List ℕ)) → (exit : ℕ) → Type 0
-Obeys has lacks ran answered silent played words old new exit =
-    IsAskedAndDone has lacks ran answered silent played words old new exit
+Obeys has lacks ran answered silent played stands words old new exit =
+    IsAskedAndDone has lacks ran answered silent played stands words old new exit
     ⊎ (IsUsage words old new exit ⊎ IsNoRequest words old new exit)

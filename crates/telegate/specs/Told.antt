@@ -3,13 +3,12 @@ use Rattle.std.specs.Prelude.{◌≡◌, ℕ, Bool, true, false, Option, Some, N
 use Rattle.std.specs.declared.net.socket_addr.SocketAddr.{SocketAddr}
 use Rattle.gateway.specs.Log.{GapOut}
 use Rattle.gateway.specs.State.{State}
-use Rattle.runlog.specs.Telling.{Book, Notes, Puts, taken_in}
+use Rattle.runlog.specs.Telling.{Book, Notes, Puts}
 use Rattle.runlog.specs.declared.note.Note.{Note}
 use Rattle.runlog.specs.declared.note.Note.TheVariants as note
 use Rattle.runlog.specs.declared.note.Trouble.TheVariants as trouble
 use Rattle.state.specs.declared.beginning.Origin.{Origin}
-use Rattle.state.specs.declared.start.Beginning.{Beginning}
-use Rattle.state.specs.declared.start.Beginning.TheVariants as beginnings
+use Rattle.state_words.specs.Notes.{note_of, note_of_queue, note_of_settings}
 use Rattle.telegate.specs.declared.fault.Fault.{Fault}
 use Rattle.telegate.specs.declared.fault.Fault.TheVariants.{Device, NoMemory, StateInUse}
 use Rattle.telegate.specs.declared.fault.Fault.TheVariants.{StateUnusable}
@@ -20,25 +19,14 @@ abbrev pub NotesIf : Option Note → (old new : Book) → Type 0
 NotesIf None old new = new ≡ old
 NotesIf (Some note) old new = Notes old note new
 
--- what was made of the state in the directory
-abbrev pub note_of : Beginning → Option Note
-note_of beginnings.Anew = Some note.StateBegins
-note_of beginnings.PutAside = Some note.StatePutAside
-note_of beginnings.LinksReset = Some note.StateStale
-note_of beginnings.GoesOn = None
-
-abbrev pub note_of_settings : (is_moved : Bool) → Option Note
-note_of_settings false = None
-note_of_settings true = Some note.SettingsChanged
-
 abbrev pub note_of_address : Option SocketAddr → Option Note
 note_of_address None = None
 note_of_address (Some address) = Some (note.Listening address)
 
 -- the run goes on with so many pieces, where it goes on
-abbrev pub note_of_queue : (moment : Option ℕ) → State → Option Note
-note_of_queue None gateway = None
-note_of_queue (Some moment) gateway = Some (note.StateGoesOn (taken_in gateway))
+abbrev pub note_if_on : (moment : Option ℕ) → State → Option Note
+note_if_on None gateway = None
+note_if_on (Some moment) gateway = Some (note_of_queue gateway)
 
 -- the gap that may not have been seen, at the moment at which the run goes on
 abbrev pub TellsGap : (moment : Option ℕ) → Option (ℕ × ℕ) → (old new : Book) → Type 0
@@ -53,7 +41,7 @@ pub record TellsBeginning (o : Origin) (old new : Book) : Type 0 where
   pub moved : Book
   pub settings : NotesIf (note_of_settings o.is_moved) begun moved
   pub noted : Book
-  pub goes_on : NotesIf (note_of_queue o.moment o.gateway) moved noted
+  pub goes_on : NotesIf (note_if_on o.moment o.gateway) moved noted
   pub gap : TellsGap o.moment o.gap noted new
 
 -- The state can't be had, which is told, unless memory is refused.

@@ -65,6 +65,11 @@ pub(crate) enum Request<'m, 'a> {
         place: &'a str,
         json: bool,
     },
+    /// The name of a directory, and that of a file of settings, if one is to be compared.
+    State {
+        directory: &'a str,
+        config: Option<&'a str>,
+    },
     /// The names of two files.
     Capture {
         config: &'a str,
@@ -97,6 +102,13 @@ fn word<'a>(alloc: Global, name: &'a str, help: &'a str) -> Arg<'a>
         .required(true)
         .action(ArgAction::Set)
         .help(help)
+}
+
+/// A word that need not be given.
+fn further_word<'a>(alloc: Global, name: &'a str, help: &'a str) -> Arg<'a>
+    ensures { IsArgument (line.further_word name.entry.now) result }
+{
+    Arg::new(alloc, name).action(ArgAction::Set).help(help)
 }
 
 fn flag<'a>(alloc: Global, name: &'a str, help: &'a str) -> Arg<'a>
@@ -308,6 +320,24 @@ fn status<'a>(alloc: Global) -> Result<Command<'a>, AllocError>
         .arg(flag(alloc, "json", "Prints JSON in place of the table"))
 }
 
+fn state<'a>(alloc: Global) -> Result<Command<'a>, AllocError>
+    ensures { IfOk result (IsCommand line.state) }
+{
+    Command::new(alloc, "state")
+        .about("Shows what a run would go on with, and changes nothing")
+        .after_help(help::STATE)
+        .arg(word(
+            alloc,
+            "DIR",
+            "A directory in which a run keeps its state (`run --state`)",
+        ))?
+        .arg(further_word(
+            alloc,
+            "CONFIG",
+            "A file of settings, to tell whether the state was kept under others",
+        ))
+}
+
 fn capture<'a>(alloc: Global) -> Result<Command<'a>, AllocError>
     ensures { IfOk result (IsCommand line.capture) }
 {
@@ -369,6 +399,7 @@ fn program<'a>(alloc: Global) -> Result<Command<'a>, AllocError>
     let program = add_command(program, audit(alloc))?;
     let program = add_command(program, run(alloc))?;
     let program = add_command(program, status(alloc))?;
+    let program = add_command(program, state(alloc))?;
     let program = add_command(program, capture(alloc))?;
     add_command(program, stations(alloc))
 }
@@ -512,6 +543,15 @@ fn status_of<'m, 'a>(matches: &'m ArgMatches<'a>) -> Option<Request<'m, 'a>>
     })
 }
 
+fn state_of<'m, 'a>(matches: &'m ArgMatches<'a>) -> Option<Request<'m, 'a>>
+    ensures { IsAsked (codes "state") (rows_of (found_of matches.now)) result }
+{
+    Some(Request::State {
+        directory: given(matches, "DIR")?,
+        config: given(matches, "CONFIG"),
+    })
+}
+
 fn capture_of<'m, 'a>(matches: &'m ArgMatches<'a>) -> Option<Request<'m, 'a>>
     ensures { IsAsked (codes "capture") (rows_of (found_of matches.now)) result }
 {
@@ -544,6 +584,7 @@ pub(crate) fn request_of<'m, 'a>(matches: &'m ArgMatches<'a>) -> Option<Request<
         "audit" => audit_of(matches),
         "run" => run_of(matches),
         "status" => status_of(matches),
+        "state" => state_of(matches),
         "capture" => capture_of(matches),
         "stations" => stations_of(matches),
         _ => None,

@@ -3,7 +3,8 @@ ghost use Rattle.std.specs.Prelude.{◌≡◌, ◌∷◌, [], List, codes, true,
 ghost use Rattle.clap.specs.Words.{Row, Text};
 ghost use Rattle.telegate.specs.CommandLine.{AsksFor};
 ghost use Rattle.telegate.specs.Examples.{AskCheck, AskReplay, AskRun, AskShow101, AskShow104};
-ghost use Rattle.telegate.specs.Examples.{AskSim, AskStatus, AskTwo, end_with, name_of};
+ghost use Rattle.telegate.specs.Examples.{AskSim, AskState, AskStatus, AskTwo, end_with};
+ghost use Rattle.telegate.specs.Examples.{name_of};
 ghost use Rattle.telegate.specs.Wishes.{nothing_said};
 ghost use Rattle.telegate.specs.declared.command_line.Request.{Request};
 ghost use Rattle.telegate.specs.declared.command_line.Request.TheVariants.{Audit, Capture};
@@ -40,6 +41,8 @@ pub fn words_by_example()
         (codes "a") (codes "b") true true }
     ensures statuses { AskStatus (codes "status" ∷ codes "a" ∷ []) (codes "a") false
         × AskStatus (codes "status" ∷ codes "--json" ∷ codes "a" ∷ []) (codes "a") true }
+    ensures states { AskState (codes "state" ∷ codes "a" ∷ []) (codes "a") None
+        × AskState (codes "state" ∷ codes "a" ∷ codes "b" ∷ []) (codes "a") (Some (codes "b")) }
     ensures replays { AskReplay (codes "replay" ∷ codes "a" ∷ codes "b" ∷ [])
         (codes "a") (codes "b") false false false false
         × AskReplay (codes "replay" ∷ codes "--left" ∷ codes "a" ∷ codes "b" ∷ [])
@@ -75,6 +78,7 @@ pub fn words_by_example()
         × (end_with 2 (codes "check" ∷ codes "a" ∷ codes "b" ∷ []) ≡ true)
         × (end_with 2 (codes "check" ∷ codes "--left" ∷ codes "a" ∷ []) ≡ true)
         × (end_with 2 (codes "replay" ∷ codes "a" ∷ []) ≡ true)
+        × (end_with 2 (codes "state" ∷ []) ≡ true)
         × (end_with 2 (codes "run" ∷ codes "a" ∷ codes "--state" ∷ []) ≡ true) }
     ensures help { (end_with 0 (codes "--help" ∷ []) ≡ true)
         × (end_with 0 (codes "check" ∷ codes "--help" ∷ []) ≡ true)

@@ -13,7 +13,7 @@ Printed: `ok`. A fault is one line on standard error: the first that there is. W
 of the site is judged first, as `run --site` does, and CONFIG only if it is good. With --explain
 standard output then says where the fault is (line and column in its file with the value as it is
 written, or below which line a missing key belongs), what is wanted, and where another station has
-the same number. With --live a line that is on another machine is told on standard error.
+the same number. With --live a warning on standard error says if the line is on another machine.
 Exit status: 0 good, 1 wrong settings or site, 2 usage, 3 a file or the output failed, 4 no memory";
 
 pub(crate) const REPLAY: &str = "\
@@ -25,16 +25,17 @@ milliseconds (1 to 15 digits), HEX is 1 to 1,024 octets, and one space stands be
   MS R HEX    octets come from it
   MS C        its connection is cut
   MS W WALL   the wall clock shows WALL, in ms since 1970-01-01 UTC (1 to 15 digits)
-Printed, one action a line: `MS > S HEX` to the line, `MS > T HEX` to the control centre, and
-`MS > X CAUSE` where the gateway closes the connection. With --words each event and each action is a
-line: MS, the way, and the frame in words; with --color too the ways are coloured.
+Printed, one action a line: `MS > S HEX` to the line, `MS > T HEX` to the control centre,
+`MS > X CAUSE` where the gateway closes the connection, and `MS > G S K` where session K of the link
+to station S has ended, and its last report may be lost. With --words each event and each action is
+a line: MS, the way, and the frame in words; with --color too the ways are coloured.
 Exit status: 0 done, 1 wrong settings or trace, 2 usage, 3 a file or the output failed, \
 4 no memory";
 
 pub(crate) const SIM: &str = "\
 SCRIPT has lines of these forms, others empty or a comment `#`; a number has 1 to 9 digits:
   turns N               how many events the run has (required, once)
-  ack N                 the control centre acknowledges each N I frames (1 to 32767; 1)
+  ack N                 the control centre acknowledges each N I frames (1 to 32767, default 1)
   report S CLASS HEX    station S, from 1, has this ASDU of class 1 or 2
   lose request N        the Nth request on the line isn't heard
   lose answer N         the answer to it is lost
@@ -57,21 +58,26 @@ pub(crate) const RUN: &str = "\
 CONFIG has a table `live` with two keys:
   line = \"tcp:HOST:PORT\"    a serial device server, or \"unix:PATH\"
   listen = \"HOST:PORT\"      where control centres connect (the usual port is 2404)
+Whoever connects takes the control centre's place. --allow, once for each address, limits who may
+connect; without it anyone may. With --redial the run lives on if the line ends or isn't there.
+
 With --state DIR the run keeps its state in that directory. Each event is on the disk before
 anything goes out that follows from it, and the next run there goes on where this one ended, however
 it ended. Without it a run begins with an empty queue, and what no control centre had acknowledged
 is lost with the process. If the state can't be kept any more, the run goes on without it, says so,
-and tries again; with --state-or-stop it ends. Whoever connects takes the control centre's place.
---allow, once for each address, limits who may connect; without it anyone may. With --redial the run
-lives on if the line ends or isn't there. With --log standard error gets a line for each thing that
-happens; with --log-severity each begins with syslog's number, <3> to <6>. With --status HOST:PORT a
-browser sees there how the run stands. With --site SITE a file says what belongs to this site: names
-of the line and its stations, and keys that say what these words do. What words say wins, and a flag
-is set if either says so. Standard output stays empty unless --record is given: then each event is
-printed, as a trace has it, before the gateway takes it, and each action, as replay prints it.
+and tries again; with --state-or-stop it ends.
+
+With --log standard error gets a line for each thing that happens; with --log-severity each begins
+with syslog's number, <3> to <6>. With --status HOST:PORT a browser sees there how the run stands.
+Standard output stays empty unless --record is given: then each event is printed, as a trace has it,
+before the gateway takes it, and each action, as replay prints it.
+
+With --site SITE a file says what belongs to this site: names of the line and its stations, and keys
+that say what these words do. What words say wins, and a flag is set if either says so.
+
 Exit status: 1 wrong settings or site, 2 usage, 3 a file can't be read, the state is another
-process's or can't be kept there, the line can't be reached or ended, or listening failed, 4 no
-memory";
+process's or can't be kept there, the line can't be reached, the line ended, or listening failed,
+4 no memory";
 
 pub(crate) const STATUS: &str = "\
 PLACE is the HOST:PORT of `run --status`. Printed: the table, whose first word is OK, WARNING or
@@ -79,13 +85,21 @@ CRITICAL, or with --json the page that programs read.
 Exit status: by the table, as a monitor wants it (Nagios), 0 ok, 1 warning, 2 critical; 3 nobody \
 answers as a live run does, or the output failed, 4 no memory";
 
+pub(crate) const STATE: &str = "\
+Printed: how a run that begins there would go on, in the words that it would log, the segment that
+counts, how many events stand behind its head, the wall clock, how the link to each station stands,
+and the settings under which that was kept. With CONFIG it is told too whether they are others.
+Nothing in DIR is changed, and a run may have it.
+Exit status: 0 done, 1 what is there can't be read, so that a run would put it aside and begin anew,
+2 usage, 3 a file or the output failed, 4 no memory";
+
 pub(crate) const CAPTURE: &str = "\
 RECORD is what `run --record` prints, as `audit` takes it; `-` is standard input, so that a live run
 can be followed: `telegate run --record CONFIG | telegate capture CONFIG - | wireshark -k -i -`.
 Printed: the capture. The connection is TCP between 192.0.2.1 (the control centre) and 192.0.2.2
-port 2404 (the gateway), the line an interface of its own, and each packet stands at its time. At
-the first line that is neither an event nor an action the capture ends. Wireshark and tshark show
-the frames of the line with
+port 2404 (the gateway). The line is an interface of its own. Each packet stands at its time. At the
+first line that is neither an event nor an action the capture ends. Wireshark and tshark show the
+frames of the line with
   -d rtacser.data,iec60870_101
 and the sizes of its addresses by the preferences, each `1 octet` to `3 octet` as in CONFIG,
   -o 'iec60870_101.linkaddr_len:1 octet'    `link`
@@ -106,8 +120,10 @@ Other lines are known here alone, with MS from 10 ms to a day:
   every MS report S CLASS HEX  and again each MS ms
   confirm S             station S confirms commands, and tells when they are done
   refuse S              station S refuses them
-`turns` is required once, and means nothing here, as `ack`, `cut`, `wall` and `send` do. It listens
-at `live.line` of CONFIG (tcp:HOST:PORT or unix:PATH), where `run` finds the outstations, and goes
-on until it is ended. Commands are confirmed on the link and do nothing. Nothing is printed.
+  delay answer N MS     the answer to the Nth request goes out MS ms late
+`turns` is required once, and means nothing here, as `ack`, `cut`, `wall` and `send` do. The command
+listens at `live.line` of CONFIG (tcp:HOST:PORT or unix:PATH), where `run` finds the outstations,
+and goes on until it is ended. It confirms commands on the link, and does nothing with them. Nothing
+is printed.
 Exit status: 1 wrong settings or script, 2 usage, 3 a file can't be read, or listening failed, \
 4 no memory";

@@ -3,6 +3,7 @@ ghost use Rattle.std.specs.Prelude.{◌≡◌, ℕ, List, Result, IfOk, IfErr};
 ghost use Rattle.stations.specs.Scenarios.{FitsScenario};
 ghost use Rattle.telegate.specs.Playing.{ArePlayed};
 ghost use Rattle.telegate.specs.Ran.{answer_to};
+ghost use Rattle.state_files.specs.declared.looking.Stood.{Stood};
 ghost use Rattle.telegate.specs.Source.{Gives};
 ghost use Rattle.telegate.specs.declared.fault.Fault.{Fault};
 ghost use Rattle.telegate.specs.declared.host.Unread.TheVariants as unread;
@@ -23,7 +24,7 @@ use sitefile::Names as SiteNames;
 use sqlite_disk::Disk;
 use sqlite_std_file::File as DiskFile;
 use state::Folder;
-use state_files::Directory;
+use state_files::{Directory, Stood, stood_in};
 use stations::{LineListener, Scenario};
 use std::alloc::{AllocError, Global};
 use std::fs::File;
@@ -84,6 +85,9 @@ pub(crate) trait Host {
     // how that ended.
     ghost played: { Self → List ℕ → List ℕ → Result (Unit {0}) Fault → Type 0 };
 
+    // The directory of this name has this.
+    ghost stands: { Self → List ℕ → Stood → Type 0 };
+
     // At this place this was answered to this request.
     ghost answered: { Self → List ℕ → List ℕ → List ℕ → Type 0 };
 
@@ -118,6 +122,12 @@ pub(crate) trait Host {
     fn play(&self, config: &[u8], script: &[u8]) -> Result<(), Fault>
         ensures { played self.now config.now script.now result };
 
+    /// What stands in a directory, in which nothing is changed.
+    fn look(&self, directory: &str) -> Result<Stood, Unread>
+        ensures stood { IfOk result (stands self.now directory.now) }
+        ensures none { IfErr result (λ why. why ≡ unread.Unreadable →
+            lacks self.now directory.now) };
+
     /// What is answered to a request at a place, as HOST:PORT, within some seconds.
     fn ask(&self, place: &str, request: &[u8]) -> Result<Vec<u8>, Unread>
         ensures answer { IfOk result (λ octets.
@@ -148,6 +158,8 @@ impl Host for System<'_> {
     ghost use Rattle.telegate.specs.Playing.{ArePlayedBy};
 
     ghost played = { λ _ config script answer. ArePlayedBy config script answer };
+
+    ghost stands = { λ _ _ _. Unit {0} };
 
     ghost answered = { λ _ _ _ _. Unit {0} };
 
@@ -203,6 +215,14 @@ impl Host for System<'_> {
         let (settings, places) = read_live(self.rt.alloc(), config)?;
         let scenario = scenario_of(self.rt.alloc(), &settings, script)?;
         play_at(self.rt, &settings, scenario, places.line.as_str())
+    }
+
+    fn look(&self, directory: &str) -> Result<Stood, Unread> {
+        match stood_in(self.rt, directory) {
+            Ok(stood) => Ok(stood),
+            Err(fault) if fault.kind() == io::ErrorKind::OutOfMemory => Err(Unread::NoMemory),
+            Err(_) => Err(Unread::Unreadable),
+        }
     }
 
     fn ask(&self, place: &str, request: &[u8]) -> Result<Vec<u8>, Unread> {

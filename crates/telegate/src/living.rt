@@ -12,7 +12,7 @@ ghost use Rattle.telegate.specs.Living.{HasLived, IsPortOf};
 ghost use Rattle.telegate.specs.Ran.{HasLivedAs};
 ghost use Rattle.telegate.specs.Running.{IsReadLiveConfig};
 ghost use Rattle.telegate.specs.Told.{IsRefused, IsUnkept, NotesIf, TellsBeginning, TellsGap};
-ghost use Rattle.telegate.specs.Told.{note_of, note_of_address, note_of_queue, note_of_settings};
+ghost use Rattle.telegate.specs.Told.{note_if_on, note_of_address};
 
 use crate::fault::Fault;
 use crate::help::VERSION;
@@ -23,9 +23,10 @@ use gateway::{Action, Config, Gateway, History};
 use live::{Door, Guests, Live, Wire};
 use lookout::Lookout;
 use record::{Pen, Sheet};
-use runlog::{Note, Sink, Teller, Trouble, Watch, taken_places};
+use runlog::{Note, Sink, Teller, Trouble, Watch};
 use settings::{ConfigFault, LiveSettings, read_live_config};
-use state::{Beginning, Begun, DiskStore, FolderFault, Keeper, Origin, Pair, ToldGap, begin};
+use state::{Begun, DiskStore, FolderFault, Keeper, Origin, Pair, ToldGap, begin};
+use state_words::{note_of, note_of_queue, note_of_settings};
 use std::alloc::Global;
 use std::net::SocketAddr;
 
@@ -360,35 +361,12 @@ fn unkept<S: Sink + Drop>(fault: FolderFault, teller: &mut Teller<S>) -> Fault
     }
 }
 
-/// What tells what was made of the state in the directory, if there is anything to tell.
-fn note_of(beginning: Beginning) -> Option<Note>
-    ensures { result ≡ note_of beginning }
-{
-    match beginning {
-        Beginning::Anew => Some(Note::StateBegins),
-        Beginning::PutAside => Some(Note::StatePutAside),
-        Beginning::LinksReset => Some(Note::StateStale),
-        Beginning::GoesOn => None,
-    }
-}
-
-/// What tells that the state was kept under other settings, if it was.
-fn note_of_settings(is_moved: bool) -> Option<Note>
-    ensures { result ≡ note_of_settings is_moved }
-{
-    if is_moved {
-        Some(Note::SettingsChanged)
-    } else {
-        None
-    }
-}
-
 /// What tells with how many pieces a run goes on, if it does.
-fn note_of_queue(moment: Option<u64>, gateway: &Gateway) -> Option<Note>
-    ensures { result ≡ note_of_queue moment gateway.now }
+fn note_if_on(moment: Option<u64>, gateway: &Gateway) -> Option<Note>
+    ensures { result ≡ note_if_on moment gateway.now }
 {
     match moment {
-        Some(_) => Some(Note::StateGoesOn(taken_places(gateway))),
+        Some(_) => Some(note_of_queue(gateway)),
         None => None,
     }
 }
@@ -412,6 +390,6 @@ fn tell_beginning<S: Sink + Drop>(origin: &Origin, teller: &mut Teller<S>)
 {
     tell(note_of(origin.beginning), teller);
     tell(note_of_settings(origin.is_moved), teller);
-    tell(note_of_queue(origin.moment, &origin.gateway), teller);
+    tell(note_if_on(origin.moment, &origin.gateway), teller);
     tell_gap(origin.moment, origin.gap, teller);
 }

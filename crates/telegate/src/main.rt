@@ -50,6 +50,7 @@ mod simulating;
 mod simulating_told;
 mod site;
 mod source;
+mod stood;
 mod telling;
 mod wishes;
 

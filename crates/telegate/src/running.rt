@@ -11,7 +11,7 @@ use live::Watched;
 use lookout::Lookout;
 use record::{Pen, Recorder, Sheet};
 use runlog::{RunLog, Sink, Teller};
-use status::Door;
+use status::StreamSource;
 
 /// A run has stopped: its line has ended, or its state can't be kept where that isn't borne.
 #[derive(Clone, Copy, Debug, PartialEq, Eq)]
@@ -19,7 +19,7 @@ pub(crate) struct DeviceFailed;
 
 /// What is told of a run: what happens, its record, and how it stands, to who looks.
 #[derive(Drop)]
-pub(crate) struct Scribes<S: Sink + Drop, W: Sheet + Drop, D: Door + Drop> {
+pub(crate) struct Scribes<S: Sink + Drop, W: Sheet + Drop, D: StreamSource + Drop> {
     pub(crate) teller: Teller<S>,
     pub(crate) pen: Pen<W>,
     /// None where there is no door to look through.
@@ -37,7 +37,7 @@ pub(crate) struct Lived<P: Watched + Drop, W: Sheet + Drop, S: Sink + Drop> {
 /// can be counted are used up. Between two events the run_log, and the port, may look at the
 /// gateway, and so may visitors. To these it is lent: whoever looks, every promise stays.
 #[tactic(auto, using(crate::proofs::Turning::no_events_yet))]
-fn serve<P: Watched + Drop, S: Sink + Drop, D: Door + Drop>(
+fn serve<P: Watched + Drop, S: Sink + Drop, D: StreamSource + Drop>(
     mut gateway: Gateway,
     run_log: &mut RunLog<P, S>,
     mut lookout: Option<Lookout<D>>,
@@ -76,7 +76,7 @@ fn serve<P: Watched + Drop, S: Sink + Drop, D: Door + Drop>(
 }
 
 /// Runs the gateway over a port, behind the lives in which it came to be as it is.
-pub(crate) fn live<P: Watched + Drop, W: Sheet + Drop, S: Sink + Drop, D: Door + Drop>(
+pub(crate) fn live<P: Watched + Drop, W: Sheet + Drop, S: Sink + Drop, D: StreamSource + Drop>(
     gateway: Gateway,
     port: P,
     before: History,

@@ -7,12 +7,14 @@ ghost use Rattle.telegate.specs.CommandLine.{text_of};
 ghost use Rattle.telegate.specs.Answers.{IsReplayed, Runs};
 ghost use Rattle.telegate.specs.Captures.{IsCapturedBy};
 ghost use Rattle.telegate.specs.Piping.{HasPiped, PipesLine};
-ghost use Rattle.telegate.specs.Shell.{HaveEnded, PlayFiles};
+ghost use Rattle.telegate.specs.Shell.{HaveEnded, IsGivenIn, PlayFiles, ShowsDirectory};
+ghost use Rattle.telegate.specs.Shell.{ShowsState};
+ghost use Rattle.telegate.specs.Stood.{octets_of};
 ghost use Rattle.telegate.specs.Shell.{AuditsFile, ChecksBehind, ChecksFile, IsNoSite, IsNotRead};
 ghost use Rattle.telegate.specs.Shell.{IsSilent, IsTold, Obeys};
 ghost use Rattle.telegate.specs.Shell.{ReplaysFile, Responds, RunsAsSaid, RunsAtSite, RunsFile};
 ghost use Rattle.telegate.specs.Shell.{input, unreadable_line};
-ghost use Rattle.telegate.specs.Wishes.{HasEndedLive, IsSiteIn};
+ghost use Rattle.telegate.specs.Wishes.{HasEndedLive, IsSiteIn, site_files};
 
 use crate::asking::ask_status;
 use crate::auditing::audit;
@@ -29,6 +31,7 @@ use crate::piping::{Piped, end_pipe, pipe};
 use crate::replay::{Asked, replay};
 use crate::run_words::RunWords;
 use crate::source::{Held, Source};
+use crate::stood::tell_stood;
 use crate::wishes::{judge_site, site_in, wishes_of};
 use clap::Error;
 use clap::error::ErrorKind;
@@ -48,8 +51,8 @@ pub(crate) fn obey<H: Host, W: Write, E: Write>(
     err: &mut E,
 ) -> u8
     ensures { Obeys (H.has host.now) (H.lacks host.now) (H.ran host.now) (H.answered host.now)
-        (H.silent host.now) (H.played host.now) (map string_bytes words.now)
-        (W.contents out.old) (W.contents out.new) result }
+        (H.silent host.now) (H.played host.now) (H.stands host.now)
+        (map string_bytes words.now) (W.contents out.old) (W.contents out.new) result }
 {
     match parse(alloc, words) {
         Ok(matches) => match request_of(&matches) {
@@ -103,8 +106,8 @@ pub(crate) fn respond<H: Host, W: Write, E: Write>(
     err: &mut E,
 ) -> u8
     ensures { Responds (H.has host.now) (H.lacks host.now) (H.ran host.now) (H.answered host.now)
-        (H.silent host.now) (H.played host.now) request.now (W.contents out.old)
-        (W.contents out.new) result }
+        (H.silent host.now) (H.played host.now) (H.stands host.now)
+        request.now (W.contents out.old) (W.contents out.new) result }
 {
     let is_watched = host.is_watched();
     match request {
@@ -174,6 +177,9 @@ pub(crate) fn respond<H: Host, W: Write, E: Write>(
         },
         Request::Run { config, words } => run_wished(alloc, host, *config, words, err),
         Request::Status { place, json } => ask_status(host, *place, *json, out, err),
+        Request::State { directory, config } => {
+            show_state(alloc, host, *directory, *config, out, err)
+        }
         Request::Capture { config, text } => match read_file(host, *config, err) {
             Ok(config) => capture_file(alloc, host, *text, config.as_slice(), out, err),
             Err(status) => status,
@@ -352,6 +358,69 @@ fn capture_file<H: Host, W: Write, E: Write>(
             DEVICE_FAILED
         }
         Err(fault) => tell(&fault, err),
+    }
+}
+
+/// Shows what stands in the directory of this name, beside the settings of this name, if one is
+/// given, and answers the exit status.
+fn show_state<H: Host, W: Write, E: Write>(
+    alloc: Global,
+    host: &H,
+    directory: &str,
+    config: Option<&str>,
+    out: &mut W,
+    err: &mut E,
+) -> u8
+    ensures { ShowsState (H.has host.now) (H.lacks host.now) (H.stands host.now) directory.now
+        (text_of config.entry) (W.contents out.old) (W.contents out.new) result }
+{
+    match read_given(host, config, err) {
+        Ok(given) => show_directory(alloc, host, directory, given, out, err),
+        Err(status) => status,
+    }
+}
+
+/// The octets of a file, if one is named, or the exit status where it can't be read, which is told
+/// then.
+fn read_given<H: Host, E: Write>(
+    host: &H,
+    name: Option<&str>,
+    err: &mut E,
+) -> Result<Option<Vec<u8>>, u8>
+    ensures read { IfOk result (λ given. IsGivenIn (H.has host.now) (text_of name.entry)
+        (octets_of given)) }
+    ensures unread { IfErr result (IsNotRead (H.has host.now) (H.lacks host.now)
+        (site_files (text_of name.entry))) }
+{
+    let Some(name) = name else {
+        return Ok(None);
+    };
+    match read_file(host, name, err) {
+        Ok(octets) => Ok(Some(octets)),
+        Err(status) => Err(status),
+    }
+}
+
+/// Shows what stands in the directory of this name, beside these settings, if any are given, and
+/// answers the exit status.
+fn show_directory<H: Host, W: Write, E: Write>(
+    alloc: Global,
+    host: &H,
+    directory: &str,
+    given: Option<Vec<u8>>,
+    out: &mut W,
+    err: &mut E,
+) -> u8
+    ensures { ShowsDirectory (H.lacks host.now) (H.stands host.now) directory.now
+        (octets_of given) (W.contents out.old) (W.contents out.new) result }
+{
+    match host.look(directory) {
+        Ok(stood) => give(&tell_stood(alloc, stood, given), out, err),
+        Err(Unread::Unreadable) => {
+            let _ = tell_unreadable(directory, err);
+            DEVICE_FAILED
+        }
+        Err(Unread::NoMemory) => tell(&Fault::NoMemory, err),
     }
 }
 

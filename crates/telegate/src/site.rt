@@ -56,7 +56,7 @@ pub(crate) trait Site {
     type Sheet: Sheet + Drop;
 
     /// Where visitors come in who look at a run.
-    type Glass: status::Door + Drop;
+    type Glass: status::StreamSource + Drop;
 
     // This clock begins at this moment, in ms.
     ghost begins_at: { Self.Clock → ℕ → Type 0 };

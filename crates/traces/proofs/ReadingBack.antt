@@ -21,7 +21,8 @@ use Rattle.session.specs.declared.kinds.Close.{Close}
 use Rattle.session.specs.declared.kinds.Close.TheVariants.{Grammar, SendNumber, ReceiveNumber}
 use Rattle.session.specs.declared.kinds.Close.TheVariants.{Stopped, Timeout, OwnAnswers, Replaced}
 use Rattle.gateway.specs.Log.{Log, LogEntry, Came, Went, Input, LineIn, Opened, TcpIn, CutOff}
-use Rattle.gateway.specs.Log.{Ticked, WallIs, Output, LineOut, TcpOut, Closed, GapOut, last_moment}
+use Rattle.gateway.specs.Log.{Ticked, WallIs, Restarted, Output, LineOut, TcpOut, Closed, GapOut}
+use Rattle.gateway.specs.Log.{last_moment}
 use Rattle.gateway.specs.Entries.{number_of, event_of as logged}
 use Rattle.gateway.specs.declared.entries.Entry.{Entry}
 use Rattle.gateway.specs.declared.entries.Entry.TheVariants as entries
@@ -322,6 +323,7 @@ event_shaped now (WallIs number) lt ok =
     )
     (came now (option_map WallIs (number_in (decimal number))) (WallIs number) lt
     (ap (option_map WallIs) (number_read number (omega (arith, ok)))))
+event_shaped now Restarted lt ok = absurd ok
 
 -- actions
 action_shaped : (now : ℕ) (action : Output) → now < 2 ^ 64 → IsPrintableAction action

@@ -10,7 +10,8 @@ use Rattle.std.specs.Fmt.{decimal}
 use Rattle.hex.specs.Hex.{encode_upper, decode_of, IsBytes}
 use Rattle.session.specs.declared.kinds.Close.{Close}
 use Rattle.gateway.specs.Log.{Log, LogEntry, Came, Went, Input, LineIn, Opened, TcpIn, CutOff}
-use Rattle.gateway.specs.Log.{Ticked, WallIs, Output, LineOut, TcpOut, Closed, GapOut, last_moment}
+use Rattle.gateway.specs.Log.{Ticked, WallIs, Restarted, Output, LineOut, TcpOut, Closed, GapOut}
+use Rattle.gateway.specs.Log.{last_moment}
 use Rattle.gateway.specs.Entries.{cause_of, told_of}
 use Rattle.gateway.specs.declared.entries.Entry.{Entry}
 use Rattle.gateway.specs.declared.entries.Entry.TheVariants as entries
@@ -29,7 +30,7 @@ event_line now letter octets =
     decimal now ++ (32 ∷ letter ∷ 32 ∷ []) ++ encode_upper octets ++ 10 ∷ []
 
 -- octets from the line (S), a connection opens (O), octets from it (R), it is cut (C), a tick (T),
--- or the wall clock (W)
+-- or the wall clock (W); a restart, which no port tells, has no line
 abbrev pub line_of_event : ℕ → Input → List ℕ
 line_of_event now (LineIn octets) = decimal now ++ codes " S " ++ encode_upper octets ++ 10 ∷ []
 line_of_event now Opened = decimal now ++ codes " O" ++ 10 ∷ []
@@ -37,6 +38,7 @@ line_of_event now (TcpIn octets) = decimal now ++ codes " R " ++ encode_upper oc
 line_of_event now CutOff = decimal now ++ codes " C" ++ 10 ∷ []
 line_of_event now Ticked = decimal now ++ codes " T" ++ 10 ∷ []
 line_of_event now (WallIs number) = decimal now ++ codes " W " ++ decimal number ++ 10 ∷ []
+line_of_event now Restarted = []
 
 abbrev pub line_of_entry : LogEntry → List ℕ
 line_of_entry (Came now event) = line_of_event now event
@@ -47,11 +49,12 @@ abbrev pub lines_of_log : Log → List ℕ
 lines_of_log [] = []
 lines_of_log (entry ∷ log) = lines_of_log log ++ line_of_entry entry
 
--- What is printed are octets and numbers of 64 bits.
+-- What is printed are octets and numbers of 64 bits, and no restart.
 abbrev pub IsPrintableEvent : Input → Type 0
 IsPrintableEvent (LineIn octets) = IsBytes octets
 IsPrintableEvent (TcpIn octets) = IsBytes octets
 IsPrintableEvent (WallIs number) = number < 2 ^ 64
+IsPrintableEvent Restarted = ⊥
 IsPrintableEvent event = Unit {0}
 
 abbrev pub IsPrintableAction : Output → Type 0

@@ -47,6 +47,8 @@ pub(crate) enum FirstLine<'a> {
 pub(crate) fn first_line(text: &[u8]) -> FirstLine<'_>
     ensures { IsFirstLine text.entry.now result }
 {
+    // Before anything is read of it: a comment may hold any octets (docs/DECISIONS.md, "Lines of
+    // traces").
     if begins_skipped(text) {
         let (_, rest) = cut(text, LINE_FEED);
         return FirstLine::Skipped(rest);
@@ -98,6 +100,7 @@ fn event_behind(now: u64, text: &[u8]) -> Option<Spelled<'_>>
         [kind] => bare(now, *kind, None),
         [kind, b'\n', rest @ ..] => bare(now, *kind, Some(rest)),
         [kind, b' ', text @ ..] => valued(now, *kind, text),
+        // Also for a carriage return before the line feed (docs/DECISIONS.md, "Lines of traces").
         _ => None,
     }
 }

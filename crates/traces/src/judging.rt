@@ -19,6 +19,8 @@ pub fn judge(text: &[u8], first: u64) -> Result<u64, TextFault>
         match first_line(text) {
             FirstLine::Skipped(rest) => left = rest,
             FirstLine::Event(event) => {
+                // Not decoded: a text without a wrong line is read once more, and run then
+                // (docs/DECISIONS.md, "A trace is judged before it is run").
                 let Some(rest) = judged(&event) else {
                     return Err(TextFault::Line(number));
                 };

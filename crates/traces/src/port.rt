@@ -127,6 +127,7 @@ impl<W: Write, B: Beginning> Trace<W, B> {
         } }
     {
         let mut entries = entries;
+        // Each is then taken off the end, and none is moved up.
         entries.reverse();
         Trace {
             alloc,
@@ -168,6 +169,7 @@ impl<W: Write, B: Beginning> Trace<W, B> {
         ensures ok { IfOk result (Takes self.old self.new buf.new) }
         ensures err { OnErr result (self.new ≡ self.old) }
     {
+        // Room first: what comes then stands in the log for certain.
         self.log.try_reserve(1)?;
         let Some(entry) = self.entries.pop() else {
             return Ok(Next::Done);
@@ -283,6 +285,7 @@ impl<W: Write, B: Beginning> Port for Trace<W, B> {
             self.fail();
             return false;
         };
+        // How much of a line got out isn't known where this fails, so nothing more is written.
         if self.out.write_all(self.line.as_bytes()).is_err() {
             self.failures += 1;
             self.health = Health::Broken;

@@ -308,6 +308,7 @@ impl<'a> Port for TextPort<'a> {
             return false;
         }
         self.moment.renew(now);
+        // The line first: the log has no action without one.
         if print_action_at(self.alloc, &mut self.page, &self.moment, action).is_err() {
             self.failures += 1;
             return false;

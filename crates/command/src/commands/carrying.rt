@@ -15,6 +15,7 @@ fn cut(line: &Line) -> Line
 {
     match line {
         Line::Free => Line::Free,
+        // It may act yet, but nobody is left to be told.
         Line::Holds(_) | Line::CutOff => Line::CutOff,
     }
 }

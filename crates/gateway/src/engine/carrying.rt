@@ -140,6 +140,8 @@ impl SerialSide {
         match start {
             LinkStart::Down | LinkStart::GoesOn => {}
             LinkStart::Dropped | LinkStart::Reset => self.give_up_link(station),
+            // A poll may have gone out of which no line of the state is left (docs/DECISIONS.md,
+            // "A line that can't be read").
             LinkStart::ResetAfterGap => {
                 self.give_up_link(station);
                 self.line.mark_gap(station);
@@ -151,6 +153,7 @@ impl SerialSide {
     fn start_links(&mut self, goes_on: bool, before: &Config, now: &Config)
         ensures { self.new ≡ links_started goes_on before.now now.now self.old }
     {
+        // Its answer came to a process that is gone.
         self.line.release();
         for station in 0..self.line.count() {
             let start = start_of(goes_on, before, now, station);
@@ -189,6 +192,7 @@ impl CentreSide {
         ensures { IfOk result (λ s. s ≡ centre_carried now.now self) }
     {
         let CentreSide {
+            // The connection ended with its process. Its pieces stay.
             session: _,
             assembler: _,
             mut queue,

@@ -59,8 +59,10 @@ impl CentreSide {
     fn close(&mut self)
         ensures { self.new ≡ closed self.old }
     {
+        // What was sent and not acknowledged may not have come, so it goes out again.
         self.queue.rewind();
         self.session.cut();
+        // Half an APDU of this connection is no beginning of one of the next.
         self.assembler.clear();
     }
 
@@ -138,6 +140,8 @@ impl CentreSide {
         ensures { IfSome result (λ found.
             FindsWhole self.now piece.now (owned found.0) found.1) }
     {
+        // What came before is its beginning, and only the assembler has both (docs/DECISIONS.md,
+        // "A whole APDU is read where it stands").
         if !self.assembler.is_empty() {
             return None;
         }
@@ -155,6 +159,7 @@ impl CentreSide {
         ensures places { free_places self.old.queue ≤ free_places self.new.queue }
     {
         let taken = self.session.take_ref(apdu, moment);
+        // Own answers left their list when they went out. They aren't sent again.
         let (pieces, _own) = self.session.acked();
         self.queue.acknowledge(pieces);
         taken
@@ -365,6 +370,8 @@ impl Gateway {
         ensures none { IfNone result ((self.new ≡ self.old) × IsSpent self.new) }
     {
         let moment = self.moment;
+        // Own answers first: they have sixteen places, and one without a place closes the
+        // connection.
         if let Some(count) = self.serial.write_own(octets, &mut self.centre, moment) {
             return Some(count);
         }

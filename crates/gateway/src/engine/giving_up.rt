@@ -1,14 +1,17 @@
 //! Commands without an answer are given up at a restart.
-ghost use Rattle.std.specs.Prelude.{◌≡◌, ◌<◌, ℕ, true, false, length};
+ghost use Rattle.std.specs.Prelude.{◌≡◌, ◌<◌, ◌∷◌, ℕ, true, false, length, Some};
 ghost use Rattle.link.specs.Turns.{station_at};
 ghost use Rattle.link.specs.Leave.{is_polling};
 ghost use Rattle.link.specs.Carried.{awaits_command, station_given_up};
 ghost use Rattle.gateway.specs.Carried.{link_given_up, command_given_up, without_commands};
 ghost use Rattle.gateway.specs.State.{with_serial, IsBetweenSteps};
+ghost use Rattle.gateway.specs.Log.{Log, Restarted, Came};
+ghost use Rattle.gateway.specs.Reports.{Setup};
+ghost use Rattle.gateway.specs.Agrees.{Follows, Rests};
 
 use super::Gateway;
 use super::serial::SerialSide;
-use link::giving_up_is_for_one_station;
+use link::{giving_up_is_for_one_station, giving_up_is_told};
 
 impl SerialSide {
     /// Gives up the link to a station, and with it the command that stands on its line.
@@ -49,7 +52,8 @@ impl Gateway {
     /// so none is sent again after it. Its station's link is down, and is reset before its next
     /// service; where an exchange with it was outstanding that is over, and the turn with it. The
     /// command is counted as lost, as where a station goes down. No other station changes; the
-    /// queue and the session stay.
+    /// queue and the session stay. A gateway that followed its log between two steps then follows
+    /// the log with this restart, so each promise on a log holds of all its lives together.
     pub fn give_up_commands(&mut self)
         ensures state { self.new ≡ with_serial (without_commands self.old.serial) self.old }
         ensures done { (k : ℕ) → k < length self.old.serial.line.stations →
@@ -64,8 +68,12 @@ impl Gateway {
         ensures unchanged { ((k : ℕ) → k < length self.old.serial.line.stations →
             awaits_command self.old.serial.line k ≡ false) → self.new ≡ self.old }
         ensures between { IsBetweenSteps self.old → IsBetweenSteps self.new }
+        ensures follows { (p : Setup) (log : Log) →
+            Follows p self.old (Some log) → Rests p (Some log) →
+            Follows p self.new (Some (Came self.old.moment Restarted ∷ log)) }
     {
         giving_up_is_for_one_station();
+        giving_up_is_told();
         self.serial.give_up_commands();
     }
 }

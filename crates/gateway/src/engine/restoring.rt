@@ -130,6 +130,8 @@ fn resumed(octets: &[u8]) -> Option<Assembler>
     ensures taken { IfSome result (λ a. a.whole ≡ None) }
 {
     let mut assembler = Assembler::resumed(octets);
+    // A step takes what is whole, and begins afresh after a refusal. So neither stands between two
+    // steps.
     if assembler.take().is_some() || assembler.is_deaf() {
         return None;
     }
@@ -270,6 +272,7 @@ impl CentreSide {
             })
             (λ fault. from_queue session.unacknowledged ≡ length queue.sent → ⊥) }
     {
+        // What the session acknowledges leaves the queue, so both count the same pieces.
         if session.queue_frames() != queue.sent() {
             return Err(StateFault::Wrong);
         }
@@ -321,6 +324,7 @@ impl Gateway {
             })
             (λ fault. HasPlaces serial.line centre.queue → ⊥) }
     {
+        // A poll goes out only if its report has room, so no gateway is in such a state.
         if serial.line.is_polling() && !centre.has_room() {
             return Err(StateFault::Wrong);
         }

@@ -98,6 +98,8 @@ impl Tally {
 fn is_answer(kind: TypeId) -> bool
     ensures { result ≡ is_answer_type kind }
 {
+    // From a station a type with a tag is skipped: the line knows none (docs/DECISIONS.md,
+    // "Time-tagged commands").
     !kind.monitor() && !kind.tagged()
 }
 
@@ -223,6 +225,7 @@ impl SerialSide {
             result self.new }
     {
         objects_are_those_of_the_asdu();
+        // Also while data transfer is stopped: what the station confirmed counts for a selection.
         let tag = self.commands.mirror(asdu, moment);
         let mut pieces = translate(asdu);
         tag_pieces(&mut pieces, tag);
@@ -257,7 +260,7 @@ impl SerialSide {
 
     /// Ends the line's exchange where its time is over.
     #[inline(always)]
-    fn time(&mut self, moment: u64)
+    fn end_late_exchange(&mut self, moment: u64)
         ensures state { self.new ≡ timed moment self.old }
         ensures polls { is_polling self.new.line ≡ true → is_polling self.old.line ≡ true }
     {
@@ -270,7 +273,7 @@ impl SerialSide {
 
     /// The timers of commands: the command of a station that fell silent is given up, and
     /// selections end.
-    fn settle(&mut self, moment: u64)
+    fn run_command_timers(&mut self, moment: u64)
         ensures { self.new ≡ settled moment self.old }
     {
         if let Some(station) = self.silent {
@@ -497,17 +500,17 @@ impl Gateway {
 
     /// Ends the line's exchange where its time is over.
     #[inline(always)]
-    pub(crate) fn time(&mut self)
+    pub(crate) fn end_late_exchange(&mut self)
         ensures { self.new ≡ line_timed self.old }
     {
-        self.serial.time(self.moment);
+        self.serial.end_late_exchange(self.moment);
     }
 
     /// The timers of commands.
-    pub(crate) fn settle(&mut self)
+    pub(crate) fn run_command_timers(&mut self)
         ensures { self.new ≡ after_timers self.old }
     {
-        self.serial.settle(self.moment);
+        self.serial.run_command_timers(self.moment);
     }
 
     /// The gap that is still to be told, if there is one: it is told now.

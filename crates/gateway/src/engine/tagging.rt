@@ -23,6 +23,7 @@ fn tagged_piece(piece: &[u8], tag: &Cp56) -> Option<Piece>
     let Ok(asdu) = read(Sizes::TCP, piece) else {
         return None;
     };
+    // An answer about several objects belongs to no single command.
     if !is_plain_command(asdu.kind) || asdu.number() != 1 {
         return None;
     }

@@ -54,6 +54,7 @@ impl Link {
         match request {
             Asked::Status | Asked::Reset => *self = Link::Down,
             Asked::Counted(fcb, service) => {
+                // As it was counted: a request that was broken off isn't one without an answer.
                 *self = Link::Held(*fcb, service.copied(), self.missed());
             }
         }
@@ -82,6 +83,7 @@ impl StationState {
         ensures fits { (size other : LinkSize) → FitsStation size self.now →
             FitsAddress other address → FitsStation other result }
     {
+        // A command that is only offered ends with the connection that sent it.
         StationState {
             address,
             link: self.link.carried(retries),
@@ -142,6 +144,8 @@ impl Master {
         requires { station < length self.old.stations }
         ensures { self.new ≡ given_up station self.old }
     {
+        // Whether the station took the service isn't known, so its bit isn't either. A reset
+        // settles it (docs/DECISIONS.md, "A restart gives up a command").
         self.stations[station].link = Link::Down;
         if self.turn == station {
             self.phase = Phase::Over;

@@ -285,7 +285,11 @@ impl Master {
             (outstanding_from outstanding (Some heard.now)) stations.items) →
             IsProperBeginning settings.size heard.now ⊎ (heard.now ≡ []) → IsSome result }
     {
+        // Fed once more, so no line makes an assembler that no octets make (docs/DECISIONS.md,
+        // "The state that was put, or nothing").
         let assembler = Assembler::resumed(settings.size, heard)?;
+        // The size of addresses is a setting and stands in no line, so the lines are judged by it
+        // (docs/DECISIONS.md, "Settings stand apart").
         let fits = head.turn < stations.len()
             && stations_fit(settings.size, stations.as_slice())
             && outstanding_fits(settings.size, &outstanding);

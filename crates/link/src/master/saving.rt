@@ -88,6 +88,7 @@ impl Master {
         match &self.outstanding {
             None => line.push(0)?,
             Some(awaited) => {
+                // What a deaf exchange got isn't looked at any more.
                 if awaited.deaf {
                     line.push(0)?;
                 } else {

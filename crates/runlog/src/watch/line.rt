@@ -5,7 +5,7 @@ ghost use Rattle.runlog.specs.Watching as spec;
 use super::Watch;
 use crate::exchange::{Awaited, awaited_of, place_of, user_data};
 use crate::fate::Mishap;
-use crate::note::Line;
+use crate::note::LogLine;
 use crate::order::Order;
 use crate::stations::{address_of, ask, asking_of};
 use gateway::Counts;
@@ -31,17 +31,19 @@ impl Watch {
         let traffic = &mut self.traffic[place];
         if let Some(answer) = self.exchange.answer(self.link, traffic.address()) {
             traffic.hear(self.sizes, self.moment, answer);
+            // The front decides: what comes behind it is no answer.
             self.exchange.end();
         }
     }
 
     /// A request goes out.
-    pub(super) fn ask(&mut self, octets: &[u8], now: u64) -> Option<Line>
+    pub(super) fn ask(&mut self, octets: &[u8], now: u64) -> Option<LogLine>
         ensures { (self.new, result) ≡ spec.asked octets.now now self.old }
     {
         let place = place_of(&self.traffic, address_of(self.link, octets));
         let awaited = awaited_of(octets);
         self.exchange.ask(place, awaited, now);
+        // Before the stations count the request: a repeat shows by the bit of the one before.
         if let (Some(place), Awaited::Command) = (place, awaited) {
             self.send(place, octets);
         }
@@ -87,6 +89,7 @@ impl Watch {
         ensures { self.new ≡ spec.suffered_if is_so mishap self.old }
     {
         if is_so {
+            // What was counted came before the event's own request.
             let place = self.exchange.before();
             self.suffer(place, mishap);
         }

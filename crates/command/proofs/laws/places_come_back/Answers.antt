@@ -1,4 +1,4 @@
-use Rattle.command.proofs.Places.{run_counts, has_room, passes}
+use Rattle.command.proofs.Places.{run_counts, has_room}
 use Rattle.command.proofs.laws.places_come_back.Goals as goal
 
 pub returns-clause-waiting : goal.returns-clause-waiting
@@ -12,8 +12,3 @@ returns-clause-few c = λ stations sizes select_ms max_age_ms calls.
 pub returns-clause-room : goal.returns-clause-room
 returns-clause-room c = λ stations sizes select_ms max_age_ms calls xs.
     has_room stations sizes select_ms max_age_ms calls xs
-
-pub returns-clause-forwarded : goal.returns-clause-forwarded
-returns-clause-forwarded c = λ stations sizes select_ms max_age_ms calls xs now wall faultless free
-    room.
-    passes stations sizes select_ms max_age_ms calls xs now wall faultless free room

@@ -25,6 +25,11 @@ returns c = λ p log course f set runs.
       answered = c.outcomes_are_answers.ensures.octets;
       silent = c.outcomes_are_answers.ensures.due;
       early = c.outcomes_are_answers.ensures.early;
+      awaits = c.giving_up_is_told.ensures.awaits;
+      given_up = c.giving_up_is_told.ensures.one;
+      given_reports = c.giving_up_is_told.ensures.reports;
+      itself = c.the_latest_exchange_is_marked.ensures.itself;
+      others = c.the_latest_exchange_is_marked.ensures.others;
     } in
     let j : Joins p (exchanges_of p log) course.works =
     joins laws c.waiting_commands_stay.ensures.mirrored p set log course runs f.acts in

@@ -8,7 +8,8 @@ pub returns : goal.returns
 returns c = λ p log i turns f rests within honest.
     told_so (address_at p.addresses i) (sessions_of p log i turns) _
     (c.each_session_is_known.ensures.reports p log i turns f within honest)
-    (gaps_rested p log i rests
+    (gaps_rested p (λ e k. c.giving_up_is_told.ensures.gaps p.link p.link.size p.addresses e k) log
+    i rests
     ∙ c.gaps_are_ended_sessions.ensures.ended p.link (address_at p.addresses i)
     (exchanges_with p i log) turns
     (f.links i within)

@@ -1,7 +1,11 @@
 use Rattle.gateway.specs.Reports.{address_at, exchanges_with}
+use Rattle.delivery.proofs.OneLife.{none_given_up}
 use Rattle.delivery.proofs.laws.silence_is_no_reset.Goals as goal
 
-pub returns : goal.returns
-returns c = λ p log i f within hold never.
+pub returns-clause-held : goal.returns-clause-held
+returns-clause-held c = λ p log i f within hold never stands.
     c.silence_is_no_reset.ensures p.link (address_at p.addresses i) (exchanges_with p i log) hold
-    (f.links i within) never
+    (f.links i within) never stands
+
+pub returns-clause-one_life : goal.returns-clause-one_life
+returns-clause-one_life c = none_given_up

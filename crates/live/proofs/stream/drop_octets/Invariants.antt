@@ -1,12 +1,11 @@
-use Rattle.std.proofs.Common.{◌≡◌, ◌+◌, ◌*◌, ◌≤◌, true, List, length, Result, ℕ}
+use Rattle.std.proofs.Common.{◌≡◌, ◌+◌, ◌*◌, ◌≤◌, true, List, length}
 use Rattle.std.specs.Prelude.{All}
-use Rattle.std.specs.declared.io.Error.{Error}
-use Rattle.live.specs.Streams.{brings, brought, looked}
+use Rattle.live.specs.Streams.{Answer, brings, brought, looked}
 use Rattle.live.proofs.stream.drop_octets.Given as goal
 
 abbrev pub invariant-loop : goal.invariant-loop
 invariant-loop g l =
-    (looks : List (Result ℕ Error))
+    (looks : List Answer)
     × (g.S.Stream.calls l.stream ≡ looked looks (g.S.Stream.calls l.fn.stream))
     × All (λ a. brings a ≡ true) looks × (length looks + 1 ≡ l.counter)
     × (l.count ≡ brought looks) × (l.count + 1024 ≤ 1024 * l.counter)

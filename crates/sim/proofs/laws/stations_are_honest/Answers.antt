@@ -1,5 +1,5 @@
 use Rattle.sim.proofs.Below.{Laws}
-use Rattle.sim.proofs.Served.{SessionsKnown, all_served}
+use Rattle.sim.proofs.Served.{SessionsKnown, Steadied, all_served}
 use Rattle.sim.proofs.laws.stations_are_honest.Goals as goal
 
 pub returns : goal.returns
@@ -23,8 +23,11 @@ returns c =
       each_command = c.each_session_is_known.ensures.commands p log i turns faithful lt honest;
       joined = c.each_session_is_known.ensures.joined p log i turns faithful lt honest;
     } in
+    let steadies : Steadied = λ p log i faithful lt held life never.
+    c.silence_is_no_reset.ensures.held p log i faithful lt held never
+    (c.silence_is_no_reset.ensures.one_life p log i life) in
     λ settings ds log answers stations tallies apart played are few faithful.
-    all_served laws c.nothing_is_lost.ensures c.silence_is_no_reset.ensures known
+    all_served laws c.nothing_is_lost.ensures steadies known
     c.each_session_is_known.ensures.before c.losses_have_gaps.ensures.lost settings ds log answers
     stations tallies
     apart played are few faithful

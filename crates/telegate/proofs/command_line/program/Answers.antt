@@ -1,6 +1,6 @@
 use Rattle.std.proofs.lemmas.Result.{IfOk-weaker}
 use Rattle.telegate.specs.CommandLine.{IsCommand, bare, show101, show104, check, replay, sim, audit}
-use Rattle.telegate.specs.CommandLine.{run, status, capture, stations, program}
+use Rattle.telegate.specs.CommandLine.{run, status, state, capture, stations, program}
 use Rattle.telegate.proofs.command_line.program.Goals as goal
 
 pub returns : goal.returns
@@ -13,7 +13,8 @@ returns c =
     let sixth = c.in_ok-program-6.ensures _ audit fifth c.audit.ensures in
     let seventh = c.in_ok-program-7.ensures _ run sixth c.run.ensures in
     let eighth = c.in_ok-program-8.ensures _ status seventh c.status.ensures in
-    let ninth = c.in_ok-program-9.ensures _ capture eighth c.capture.ensures in
-    IfOk-weaker c.add_command-10.result _ (IsCommand program)
-    (λ r adds. adds _ stations ninth c.stations.ensures)
-    c.add_command-10.ensures
+    let ninth = c.in_ok-program-9.ensures _ state eighth c.state.ensures in
+    let tenth = c.in_ok-program-10.ensures _ capture ninth c.capture.ensures in
+    IfOk-weaker c.add_command-11.result _ (IsCommand program)
+    (λ r adds. adds _ stations tenth c.stations.ensures)
+    c.add_command-11.ensures

@@ -4,7 +4,7 @@ use Rattle.clap.specs.Walk.{bundle_met, walked}
 use Rattle.clap.specs.Faults.{flags_fault, walk_fault, defaults_fault}
 use Rattle.telegate.specs.Wishes.{nothing_said}
 use Rattle.telegate.proofs.Worded.{check_is, names, show101_is, show104_is, sim_is, status_is}
-use Rattle.telegate.proofs.Worded.{two_are, replay_is, run_is}
+use Rattle.telegate.proofs.Worded.{state_is, two_are, replay_is, run_is}
 use Rattle.telegate.proofs.examples.words_by_example.Goals as goal
 
 pub returns-clause-names : goal.returns-clause-names
@@ -52,6 +52,13 @@ unfolding bundle_met walked flags_fault walk_fault defaults_fault
 returns-clause-statuses c = (
   λ x j. (refl, status_is (codes "a") false _ _ x j refl refl),
   λ x j. (refl, status_is (codes "a") true _ _ x j refl refl),
+)
+
+pub returns-clause-states : goal.returns-clause-states
+unfolding bundle_met walked flags_fault walk_fault defaults_fault
+returns-clause-states c = (
+  λ d c. (refl, state_is (codes "a") None _ _ d c refl refl),
+  λ d c. (refl, state_is (codes "a") (Some (codes "b")) _ _ d c refl refl),
 )
 
 pub returns-clause-replays : goal.returns-clause-replays
@@ -130,7 +137,7 @@ returns-clause-runs c = (
 
 pub returns-clause-wrong : goal.returns-clause-wrong
 unfolding bundle_met walked flags_fault walk_fault defaults_fault
-returns-clause-wrong c = (refl, refl, refl, refl, refl, refl, refl, refl)
+returns-clause-wrong c = (refl, refl, refl, refl, refl, refl, refl, refl, refl)
 
 pub returns-clause-help : goal.returns-clause-help
 unfolding bundle_met walked flags_fault walk_fault defaults_fault

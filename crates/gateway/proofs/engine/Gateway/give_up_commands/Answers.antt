@@ -1,11 +1,15 @@
-use Rattle.std.proofs.Common.{◌≡◌, ◌∙◌, sym, ap, subst, false}
+use Rattle.std.proofs.Common.{◌≡◌, ◌∙◌, [], ◌∷◌, sym, ap, subst, false}
 use Rattle.link.specs.Turns.{station_at}
 use Rattle.link.specs.Carried.{awaits_command}
 use Rattle.gateway.specs.Serial.{Serial}
 use Rattle.gateway.specs.State.{State, with_serial}
 use Rattle.gateway.specs.Carried.{without_commands}
+use Rattle.gateway.specs.Log.{Restarted, Came}
+use Rattle.gateway.specs.Phases.{Fresh}
+use Rattle.gateway.specs.Agrees.{Agrees, IsClear}
 use Rattle.gateway.proofs.Carrying as carrying
 use Rattle.gateway.proofs.Carrying.{IsForOne}
+use Rattle.gateway.proofs.Restarted.{IsTold, after_restart, clear_after}
 use Rattle.gateway.proofs.engine.Gateway.give_up_commands.Goals as goal
 
 law : (c : goal.After-give_up_commands) → IsForOne
@@ -15,6 +19,13 @@ law c = record {
   others = c.giving_up_is_for_one_station.ensures.others;
   awaited = c.giving_up_is_for_one_station.ensures.awaited;
   number = c.giving_up_is_for_one_station.ensures.number;
+}
+
+told : (c : goal.After-give_up_commands) → IsTold
+told c = record {
+  tells = c.giving_up_is_told.ensures.all;
+  reports = c.giving_up_is_told.ensures.reports;
+  gaps = c.giving_up_is_told.ensures.gaps;
 }
 
 serial_is : (c : goal.After-give_up_commands) → c.give_up_commands.new.self
@@ -37,19 +48,39 @@ returns-clause-others c = λ k e.
     ap (λ (s : Serial). station_at s.line.stations k) (serial_is c)
     ∙ carrying.others (law c) c.args.self.now.serial k e
 
-pub returns-clause-unchanged : goal.returns-clause-unchanged
-returns-clause-unchanged c = λ none.
-    let same : c.give_up_commands.new.self ≡ c.args.self.now.serial =
-    serial_is c ∙ carrying.kept (law c) c.args.self.now.serial none in
+-- the state with this line's side
+inside_with : (c : goal.After-give_up_commands) → Serial → State
+inside_with c s =
     let inside = c.self.inside in
-    ap (λ (s : Serial). with_serial s (record {
-      serial = inside.serial;
+    record {
+      serial = s;
       centre = inside.centre;
       sizes = inside.sizes;
       moment = inside.moment;
       wall = inside.wall;
-    })) same
-    ∙ ap (λ (s : State). with_serial c.args.self.now.serial s) c.self.view_is
+    }
+
+state_is : (c : goal.After-give_up_commands) (s : Serial) → c.give_up_commands.new.self ≡ s
+    → inside_with c c.give_up_commands.new.self ≡ with_serial s c.args.self.now
+unfolding inside_with
+state_is c s e = ap (inside_with c) e ∙ ap (with_serial s) c.self.view_is
+
+pub returns-clause-unchanged : goal.returns-clause-unchanged
+unfolding inside_with
+returns-clause-unchanged c = λ none.
+    state_is c c.args.self.now.serial (serial_is c
+    ∙ carrying.kept (law c) c.args.self.now.serial none)
+
+pub returns-clause-follows : goal.returns-clause-follows
+unfolding inside_with
+returns-clause-follows c = λ p log h rest.
+    let s : State = c.args.self.now in
+    subst (λ (t : State). Agrees p t (Came s.moment Restarted ∷ log) [] Fresh × IsClear t)
+    (sym (state_is c (without_commands s.serial) (serial_is c))) (
+      after_restart (told c) (law c) p s log rest h.0,
+      clear_after (told c) (law c) p s log rest h.0
+          h.1,
+    )
 
 pub returns-clause-between : goal.returns-clause-between
 returns-clause-between c = λ between. record {

@@ -7,77 +7,104 @@ use Rattle.gateway.proofs.engine.Gateway.step.Goals as goal
 
 pub returns-clause-kept : goal.returns-clause-kept
 returns-clause-kept g c = λ p h.
-    let b = begins c.args.self.now c.advance_to.new.self c.hear_event-fits.new.self c.time.new.self
+    let b = begins c.args.self.now c.advance_to.new.self c.hear_event-fits.new.self
+    c.end_late_exchange.new.self
     c.args.now _
-    c.hear_event-fits.result c.advance_to.ensures c.hear_event-fits.ensures c.time.ensures in
-    let timed = told_settled p _ c.tell_gap.new.self c.settle.new.self c.settle.ensures
-    (c.if-not-tell_gap.ensures.kept p (c.if-not-take.ensures.kept p c.args.self.now c.args.now b
+    c.hear_event-fits.result c.advance_to.ensures c.hear_event-fits.ensures
+    c.end_late_exchange.ensures in
+    let timed = told_settled p _ c.tell_gap.new.self c.run_command_timers.new.self
+    c.run_command_timers.ensures
+    (c.if-not-tell_gap.ensures.kept p (c.if-not-take_connection_event.ensures.kept p c.args.self.now
+    c.args.now b
     h)) in
     step_follows c.line_keeps_the_procedures.ensures p c.flush.result _ c.flush.new.self
     c.flush.ensures.confirmed
     c.flush.ensures.spent (c.flush.ensures.kept p _ Asked tt
-    (c.if-not-ask.ensures.kept p (c.if-not-watch.ensures.kept p timed)))
+    (c.if-not-send_request.ensures.kept p (c.if-not-close_if_late.ensures.kept p timed)))
 
 pub returns-clause-rests : goal.returns-clause-rests
 returns-clause-rests g c = λ p h.
-    let b = begins c.args.self.now c.advance_to.new.self c.hear_event-fits.new.self c.time.new.self
+    let b = begins c.args.self.now c.advance_to.new.self c.hear_event-fits.new.self
+    c.end_late_exchange.new.self
     c.args.now _
-    c.hear_event-fits.result c.advance_to.ensures c.hear_event-fits.ensures c.time.ensures in
-    let timed = told_settled p _ c.tell_gap.new.self c.settle.new.self c.settle.ensures
-    (c.if-not-tell_gap.ensures.kept p (c.if-not-take.ensures.kept p c.args.self.now c.args.now b
+    c.hear_event-fits.result c.advance_to.ensures c.hear_event-fits.ensures
+    c.end_late_exchange.ensures in
+    let timed = told_settled p _ c.tell_gap.new.self c.run_command_timers.new.self
+    c.run_command_timers.ensures
+    (c.if-not-tell_gap.ensures.kept p (c.if-not-take_connection_event.ensures.kept p c.args.self.now
+    c.args.now b
     h)) in
-    let asked = c.if-not-ask.ensures.kept p (c.if-not-watch.ensures.kept p timed) in
-    told_done c.line_keeps_the_procedures.ensures p c.flush.result _ _ c.ask.new.self
+    let asked =
+    c.if-not-send_request.ensures.kept p (c.if-not-close_if_late.ensures.kept p timed) in
+    told_done c.line_keeps_the_procedures.ensures p c.flush.result _ _ c.send_request.new.self
     c.flush.new.self
     c.flush.ensures.puts.events
-    (in_time_same c.watch.new.self c.ask.new.self c.if-not-ask.ensures.session
-    c.if-not-ask.ensures.moment
-    c.if-not-watch.ensures.in_time)
+    (in_time_same c.close_if_late.new.self c.send_request.new.self
+    c.if-not-send_request.ensures.session
+    c.if-not-send_request.ensures.moment
+    c.if-not-close_if_late.ensures.in_time)
     asked c.flush.ensures.spent c.flush.ensures.confirmed c.flush.ensures.pulled
     c.flush.ensures.in_time
     (c.flush.ensures.kept p _ Asked tt asked)
 
 pub returns-clause-faithful : goal.returns-clause-faithful
 returns-clause-faithful g c = λ p h.
-    let b = begins c.args.self.now c.advance_to.new.self c.hear_event-fits.new.self c.time.new.self
+    let b = begins c.args.self.now c.advance_to.new.self c.hear_event-fits.new.self
+    c.end_late_exchange.new.self
     c.args.now _
-    c.hear_event-fits.result c.advance_to.ensures c.hear_event-fits.ensures c.time.ensures in
-    let timed = told_settled p _ c.tell_gap.new.self c.settle.new.self c.settle.ensures
-    (c.if-not-tell_gap.ensures.kept p (c.if-not-take.ensures.kept p c.args.self.now c.args.now b
+    c.hear_event-fits.result c.advance_to.ensures c.hear_event-fits.ensures
+    c.end_late_exchange.ensures in
+    let timed = told_settled p _ c.tell_gap.new.self c.run_command_timers.new.self
+    c.run_command_timers.ensures
+    (c.if-not-tell_gap.ensures.kept p (c.if-not-take_connection_event.ensures.kept p c.args.self.now
+    c.args.now b
     h)) in
     told_leaves p c.flush.result _ c.flush.new.self Asked
-    (c.flush.ensures.kept p _ Asked tt (c.if-not-ask.ensures.kept p
-    (c.if-not-watch.ensures.kept p timed)))
+    (c.flush.ensures.kept p _ Asked tt (c.if-not-send_request.ensures.kept p
+    (c.if-not-close_if_late.ensures.kept p timed)))
 
 pub returns-then-not-tell_gap-clause-faithful : goal.returns-then-not-tell_gap-clause-faithful
 returns-then-not-tell_gap-clause-faithful g c = λ p h.
-    let b = begins c.args.self.now c.advance_to.new.self c.hear_event-fits.new.self c.time.new.self
+    let b = begins c.args.self.now c.advance_to.new.self c.hear_event-fits.new.self
+    c.end_late_exchange.new.self
     c.args.now _
-    c.hear_event-fits.result c.advance_to.ensures c.hear_event-fits.ensures c.time.ensures in
-    c.if-not-tell_gap.ensures.kept p (c.if-not-take.ensures.kept p c.args.self.now c.args.now b h)
+    c.hear_event-fits.result c.advance_to.ensures c.hear_event-fits.ensures
+    c.end_late_exchange.ensures in
+    c.if-not-tell_gap.ensures.kept p (c.if-not-take_connection_event.ensures.kept p c.args.self.now
+    c.args.now b h)
 
-pub watch-requires-clause-told : goal.watch-requires-clause-told
-watch-requires-clause-told g c = still_told c.tell_gap.new.self c.settle.new.self c.settle.ensures
+pub close_if_late-requires-clause-told : goal.close_if_late-requires-clause-told
+close_if_late-requires-clause-told g c =
+    still_told c.tell_gap.new.self c.run_command_timers.new.self c.run_command_timers.ensures
     c.if-not-tell_gap.ensures.told
 
-pub returns-then-not-watch-clause-faithful : goal.returns-then-not-watch-clause-faithful
-returns-then-not-watch-clause-faithful g c = λ p h.
-    let b = begins c.args.self.now c.advance_to.new.self c.hear_event-fits.new.self c.time.new.self
+pub returns-then-not-close_if_late-clause-faithful :
+    goal.returns-then-not-close_if_late-clause-faithful
+returns-then-not-close_if_late-clause-faithful g c = λ p h.
+    let b = begins c.args.self.now c.advance_to.new.self c.hear_event-fits.new.self
+    c.end_late_exchange.new.self
     c.args.now _
-    c.hear_event-fits.result c.advance_to.ensures c.hear_event-fits.ensures c.time.ensures in
-    c.if-not-watch.ensures.kept p (told_settled p _ c.tell_gap.new.self c.settle.new.self
-    c.settle.ensures
-    (c.if-not-tell_gap.ensures.kept p (c.if-not-take.ensures.kept p c.args.self.now c.args.now b
+    c.hear_event-fits.result c.advance_to.ensures c.hear_event-fits.ensures
+    c.end_late_exchange.ensures in
+    c.if-not-close_if_late.ensures.kept p
+    (told_settled p _ c.tell_gap.new.self c.run_command_timers.new.self
+    c.run_command_timers.ensures
+    (c.if-not-tell_gap.ensures.kept p (c.if-not-take_connection_event.ensures.kept p c.args.self.now
+    c.args.now b
     h)))
 
-pub returns-then-not-ask-clause-faithful : goal.returns-then-not-ask-clause-faithful
-returns-then-not-ask-clause-faithful g c = λ p h.
-    let b = begins c.args.self.now c.advance_to.new.self c.hear_event-fits.new.self c.time.new.self
+pub returns-then-not-send_request-clause-faithful :
+    goal.returns-then-not-send_request-clause-faithful
+returns-then-not-send_request-clause-faithful g c = λ p h.
+    let b = begins c.args.self.now c.advance_to.new.self c.hear_event-fits.new.self
+    c.end_late_exchange.new.self
     c.args.now _
-    c.hear_event-fits.result c.advance_to.ensures c.hear_event-fits.ensures c.time.ensures in
-    c.if-not-ask.ensures.kept p (c.if-not-watch.ensures.kept p
-    (told_settled p _ c.tell_gap.new.self c.settle.new.self c.settle.ensures
-    (c.if-not-tell_gap.ensures.kept p (c.if-not-take.ensures.kept p c.args.self.now c.args.now b
+    c.hear_event-fits.result c.advance_to.ensures c.hear_event-fits.ensures
+    c.end_late_exchange.ensures in
+    c.if-not-send_request.ensures.kept p (c.if-not-close_if_late.ensures.kept p
+    (told_settled p _ c.tell_gap.new.self c.run_command_timers.new.self c.run_command_timers.ensures
+    (c.if-not-tell_gap.ensures.kept p (c.if-not-take_connection_event.ensures.kept p c.args.self.now
+    c.args.now b
     h))))
 
 pub returns-clause-accounts : goal.returns-clause-accounts

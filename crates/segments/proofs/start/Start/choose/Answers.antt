@@ -2,7 +2,7 @@ use Rattle.std.proofs.Common.{◌≡◌, List, ℕ, IsTrue, ap, subst, sym, ◌�
 use Rattle.std.specs.Option.{is_some}
 use Rattle.segments.specs.Starts.{HasNoNewer, IsAbove, IsBacked, IsFoundIn, IsHeadIn, IsNewest}
 use Rattle.segments.specs.Starts.{IsSound, other_side}
-use Rattle.segments.specs.declared.start.Found.{Found}
+use Rattle.segments.specs.declared.start.FoundHead.{FoundHead}
 use Rattle.segments.specs.declared.start.Front.TheVariants as fronts
 use Rattle.segments.proofs.Fronts.{above_front, backed_first, first_newest, not_doubtful, of_both}
 use Rattle.segments.proofs.Fronts.{of_four}
@@ -125,7 +125,8 @@ returns-in-Some-clause-sure g c =
     (sure_first (g.D.Disk.seen c.args.newer) (g.D.Disk.seen c.args.older) c.args.front
     c.args.other_front _
     (c.requires.head (c.found_in.ensures.clean newer)) (c.requires.other older) c.requires.order
-    (of_some (λ (x : Found). c.args.front ≡ fronts.Head x.head) c.in_ok-found.field-0 _ c.in-Some.is
+    (of_some (λ (x : FoundHead). c.args.front ≡ fronts.Head x.head) c.in_ok-found.field-0 _
+    c.in-Some.is
     c.in_ok-found.ensures.head)
     (sym c.is_other-is_doubtful.ensures ∙ sym told ∙ sure))))
 
@@ -156,8 +157,9 @@ returns-in-Some-clause-backed g c =
     (backed_first (g.D.Disk.seen c.found_in.new.file) (g.D.Disk.seen c.args.older) c.args.front
     c.args.other_front c.in-Some.found.head c.in-Some.found.text.items (c.requires.other older)
     c.requires.order
-    (of_some (λ (x : Found). c.args.front ≡ fronts.Head x.head) c.in_ok-found.field-0 _ c.in-Some.is
+    (of_some (λ (x : FoundHead). c.args.front ≡ fronts.Head x.head) c.in_ok-found.field-0 _
+    c.in-Some.is
     c.in_ok-found.ensures.head) c.requires.fits
-    (of_some (λ (x : Found). IsTrue (g.D.Disk.is_clean c.found_in.new.file) →
+    (of_some (λ (x : FoundHead). IsTrue (g.D.Disk.is_clean c.found_in.new.file) →
     IsFoundIn (g.D.Disk.seen c.found_in.new.file) x.head x.text.items) c.in_ok-found.field-0 _
     c.in-Some.is c.in_ok-found.ensures.found newer))))

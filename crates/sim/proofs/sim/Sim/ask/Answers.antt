@@ -3,7 +3,7 @@ use Rattle.std.specs.List.{AllByRecursion}
 use Rattle.link.specs.Secondary.{Secondary}
 use Rattle.gateway.specs.declared.settings.LineSettings.{LineSettings}
 use Rattle.gateway.specs.Setups.{setup_of}
-use Rattle.sim.specs.declared.directive.Fate.{Fate}
+use Rattle.sim.specs.declared.directive.RequestFate.{RequestFate}
 use Rattle.sim.specs.Losses.{fate_of}
 use Rattle.sim.specs.Lives.{IsPutOut, arriving, plan_of}
 use Rattle.sim.specs.Pages.{Printed}
@@ -43,7 +43,7 @@ invariant_of-self-2 c =
           c.args.octets.now
           c.put_out-answer.result _ _ _
           (ap (λ (p : Printed). p.log) c.in_ok-went.ensures.ok) more c.in-Some.ensures.small
-          (subst (λ (f : Fate). IsPutOut f c.args.octets.now c.self.inside.stations.items
+          (subst (λ (f : RequestFate). IsPutOut f c.args.octets.now c.self.inside.stations.items
           c.put_out-answer.result
           c.put_out-answer.new.stations) fate out)
           (written c.self.inside.stations.items c.put_out-answer.new.stations
@@ -52,7 +52,8 @@ invariant_of-self-2 c =
           (c.arriving-self-inside.ensures
           ∙ ap (λ (l : LineSettings). arriving l.link c.fate-fate.result c.put_out-answer.result)
           c.line.ensures
-          ∙ ap (λ (f : Fate). arriving c.self.inside.config.now.line.link f c.put_out-answer.result)
+          ∙ ap (λ (f : RequestFate). arriving c.self.inside.config.now.line.link f
+          c.put_out-answer.result)
           fate)
           (c.put_out-answer.ensures.fits c.self.inside.config.now.line.link
           (subst (λ (ss : List Secondary). AllByRecursion (λ s. s.size

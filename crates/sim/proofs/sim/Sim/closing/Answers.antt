@@ -4,7 +4,7 @@ use Rattle.std.specs.Prelude.{string_bytes}
 use Rattle.gateway.specs.Setups.{setup_of}
 use Rattle.link.specs.Secondary.{Secondary}
 use Rattle.sim.specs.declared.directive.Directive.{Directive}
-use Rattle.sim.specs.declared.tally.Tally.{Tally}
+use Rattle.sim.specs.declared.tally.StationTally.{StationTally}
 use Rattle.sim.specs.Runs.{IsRun}
 use Rattle.sim.specs.Texts.{connection_lines, closing_lines}
 use Rattle.sim.proofs.RunLemmas.{told_run}
@@ -25,7 +25,7 @@ returns c = λ settings ds plan apart calls faithful rests.
     c.tallies.result.now) c.stations.ensures
     ∙ ap (λ l. closing_lines s.plan.directives s.stations (connection_lines 1 l)
     c.tallies.result.now) c.counts.ensures
-    ∙ ap (λ (l : List Tally). closing_lines s.plan.directives s.stations
+    ∙ ap (λ (l : List StationTally). closing_lines s.plan.directives s.stations
     (connection_lines 1 s.standing.counts) l)
     c.tallies.ensures)
     c.page-page.ensures.stands (c.nothing_is_lost.ensures (setup_of settings) s.log faithful)

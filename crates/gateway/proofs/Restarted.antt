@@ -1,0 +1,158 @@
+-- A restart keeps the agreement of state and log: it gives up each command without an answer.
+use Rattle.std.proofs.Common.{◌≡◌, ℕ, false, List, [], ◌∷◌, ◌++◌, None, max}
+use Rattle.std.proofs.Common.{min}
+use Rattle.std.proofs.Common.{refl, ap, sym, subst, ◌∙◌, le_refl}
+use Rattle.std.specs.List.{flat_map}
+use Rattle.std.proofs.Math.Nat.{max-eq_left, min-eq_left}
+use Rattle.ft12.specs.declared.frame.LinkSize.{LinkSize}
+use Rattle.ft12.specs.Fronts.{front_of}
+use Rattle.link.specs.declared.settings.LinkSettings.{LinkSettings}
+use Rattle.link.specs.Exchanges.{Exchanges, reports_of_exchanges}
+use Rattle.link.specs.Gaps.{gaps_at}
+use Rattle.link.specs.Primary.{Primary}
+use Rattle.link.specs.Telling.{Tells}
+use Rattle.link.specs.Carried as line
+use Rattle.link.specs.Carried.{commands_given_up}
+use Rattle.gateway.specs.Log.{Log, Restarted, Came, latest, last_moment}
+use Rattle.gateway.specs.Frames.{AreInOrder}
+use Rattle.gateway.specs.Gaps.{gaps_told, gap_for}
+use Rattle.gateway.specs.Objects.{monitor_objects, pieces_of_report}
+use Rattle.gateway.specs.Reports.{Setup, address_at, exchanges_of, reports_in, parts_of_all}
+use Rattle.gateway.specs.Serial.{Serial}
+use Rattle.gateway.specs.Carried.{without_commands}
+use Rattle.gateway.specs.State.{State, with_serial}
+use Rattle.gateway.specs.Works.{restarted_works}
+use Rattle.gateway.specs.Course.{Course, with_works, room_in, Runs}
+use Rattle.gateway.specs.Phases.{Fresh, resting}
+use Rattle.gateway.specs.Traffic.{HasRested}
+use Rattle.gateway.specs.Agrees.{Agrees, Talks, ArePlain, Carries, IsClear}
+use Rattle.gateway.proofs.Restarting.{restarted_serial, restarted_due, restarted_placed}
+use Rattle.gateway.proofs.Restarting.{restarted_gap, restarted_waiting, restarted_answers, done_due}
+use Rattle.gateway.proofs.Offering.{offers_stay}
+use Rattle.gateway.proofs.Talking.{kept_talk, talk_on, all_taken}
+use Rattle.gateway.proofs.Moments.{latest_is_greatest}
+use Rattle.gateway.proofs.Learning.{left_of, at_rest_works, is_left, none_left}
+use Rattle.gateway.proofs.Come.{placed_before}
+use Rattle.gateway.proofs.Carrying.{IsForOne, offered, line_is, gap}
+
+-- what giving up commands leaves of the line's exchanges, as `giving_up_is_told` says it
+pub record IsTold : Type 0 where
+  pub tells : (settings : LinkSettings) (addresses : List ℕ) (q : Primary) (e : Exchanges)
+      → Tells settings addresses q e
+      → Tells settings addresses (line.without_commands q)
+      (commands_given_up settings (front_of settings.size) addresses e)
+  pub reports : (settings : LinkSettings) (size : LinkSize) (addresses : List ℕ) (address : ℕ → ℕ)
+      (e : Exchanges)
+      → reports_of_exchanges (front_of size) address
+      (commands_given_up settings (front_of size) addresses e)
+      ≡ reports_of_exchanges (front_of size) address e
+  pub gaps : (settings : LinkSettings) (size : LinkSize) (addresses : List ℕ) (e : Exchanges)
+      (station : ℕ)
+      → gaps_at (front_of size) addresses station
+      (commands_given_up settings (front_of size) addresses e)
+      ≡ gaps_at (front_of size) addresses station e
+
+module _ (told : IsTold) (law : IsForOne) (p : Setup) (s : State) (log : Log)
+    (rest : HasRested p log) (a : Agrees p s log [] (resting log)) where
+  abbrev new : Log
+  new = Came s.moment Restarted ∷ log
+
+  abbrev left : Course
+  left = left_of p log a.course
+
+  -- the course goes on with these works
+  abbrev restarted : Course
+  restarted = with_works (restarted_works left.works) left
+
+  abbrev after : State
+  after = with_serial (without_commands s.serial) s
+
+  does : after.serial ≡ restarted.works.serial
+  does = ap without_commands (at_rest_works p s log a) ∙ sym (restarted_serial left.works)
+
+  -- it is the moment of the step before
+  same_moment : latest new ≡ latest log
+  same_moment = ap (λ m. max (latest log) (min m last_moment)) a.clock
+      ∙ ap (max (latest log)) (min-eq_left (latest_is_greatest p log a.before.acts).counts)
+      ∙ max-eq_left (le_refl (latest log))
+
+  runs : Runs p new restarted
+  runs = (
+    a.course,
+    left,
+    a.talk.course_runs,
+    all_taken log a.course a.here.so_far a.here.joined a.here.waits,
+    is_left p s log a,
+    (same_moment, refl),
+  )
+
+  talk : Talks p s.centre.session new restarted
+  talk = talk_on p s.centre.session s.centre.session log new a.course restarted a.talk refl refl
+      runs
+
+  reported : reports_in p new ≡ reports_in p log
+  reported = told.reports p.link p.link.size p.addresses (address_at p.addresses)
+      (exchanges_of p log)
+
+  none_due : restarted.works.is_due ≡ false
+  none_due = restarted_due left.works
+      ∙ done_due (latest log) (room_in p log a.course) a.course.works
+
+  no_gap : restarted.works.serial.gap ≡ None
+  no_gap = restarted_gap left.works
+      ∙ sym (ap (λ (t : Serial). t.gap) (at_rest_works p s log a)) ∙ none_left p s log a
+
+  waiting : after.serial.commands.waiting ≡ s.serial.commands.waiting
+  waiting = ap (λ (t : Serial). t.commands.waiting) does ∙ restarted_waiting left.works
+      ∙ sym (ap (λ (t : Serial). t.commands.waiting) (at_rest_works p s log a))
+
+  answers : after.serial.commands.answers ≡ s.serial.commands.answers
+  answers = ap (λ (t : Serial). t.commands.answers) does ∙ restarted_answers left.works
+      ∙ sym (ap (λ (t : Serial). t.commands.answers) (at_rest_works p s log a))
+
+  pub after_restart : Agrees p after new [] Fresh
+  after_restart = record {
+    k = a.k;
+    sizes = a.sizes;
+    places = a.places;
+    clock = a.clock ∙ sym same_moment;
+    wall = a.wall;
+    settled = refl;
+    found = a.found;
+    line = subst (λ q. Tells p.link p.addresses q (exchanges_of p new)) (sym (line_is s.serial))
+        (told.tells p.link p.addresses s.serial.line (exchanges_of p log) a.line);
+    course = restarted;
+    talk = talk;
+    stands = record {
+      does = does;
+      asks = (none_due, no_gap);
+      phase_is = tt;
+      placed = λ on. restarted_placed left.works ∙ placed_before p s log a on;
+    };
+    gaps = λ i. ap (λ g. gaps_told i log ++ gap_for i g) (gap s.serial) ∙ a.gaps i
+        ∙ sym (told.gaps p.link p.link.size p.addresses (exchanges_of p log) i);
+    offers = offers_stay s.serial.line after.serial.line s.serial.commands after.serial.commands
+        (offered law s.serial) waiting a.offers;
+    plain = subst ArePlain (sym answers) a.plain;
+    here = a.here;
+    left = refl;
+    carries = subst (λ (rs : List (ℕ × List ℕ)).
+        Carries (flat_map (λ r. monitor_objects p.sizes r.1) rs) (parts_of_all p.sizes rs)
+        (flat_map (λ r. pieces_of_report p.sizes r.1) rs) a.course.earlier a.course.sent
+        s.centre.queue.unsent) (sym reported) a.carries;
+    before = record {
+      are = a.before.are;
+      orders = subst (λ (rs : List (ℕ × List ℕ)).
+          AreInOrder (flat_map (λ r. monitor_objects p.sizes r.1) rs) a.course.earlier)
+          (sym reported) a.before.orders;
+      times = (kept_talk p _ _ _ talk, a.before.times);
+      acts = a.before.acts;
+      rests = (rest, a.before.rests);
+    };
+  }
+
+  pub clear_after : IsClear s → IsClear after
+  clear_after c = record {
+    confirmed = c.confirmed;
+    spent = λ may. let all = c.spent may in (all.0, answers ∙ all.1);
+  }

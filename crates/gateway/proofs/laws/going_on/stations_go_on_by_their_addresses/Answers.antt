@@ -1,0 +1,19 @@
+use Rattle.gateway.proofs.Carrying.{IsForOne}
+use Rattle.gateway.proofs.Going as going
+use Rattle.gateway.proofs.laws.going_on.stations_go_on_by_their_addresses.Goals as goal
+
+pub returns : goal.returns
+returns c =
+    let one = c.giving_up_is_for_one_station.ensures in
+    let law : IsForOne = record {
+      done = one.done;
+      itself = one.itself;
+      others = one.others;
+      awaited = one.awaited;
+      number = one.number;
+    } in
+    let bits = c.frame_count_bits_go_on.ensures in
+    record {
+      known = λ goes_on before now. going.known law goes_on before now bits.seats bits.number;
+      other = λ goes_on before now. going.other law goes_on before now bits.seats;
+    }

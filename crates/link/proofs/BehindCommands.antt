@@ -1,0 +1,116 @@
+-- What goes out at once: polls behind a command.
+use Rattle.std.proofs.Common.{◌≡◌, ℕ, Bool, true, false, List, [], ◌∷◌, Option, Some, None}
+use Rattle.std.proofs.Common.{refl, sym, ap, subst, inl, inr, if◌then◌else◌}
+use Rattle.link.specs.Answers.{Class1, Class2, Command, Asked, Status, Reset, Counted}
+use Rattle.link.specs.Exchanges.{Sending}
+use Rattle.link.specs.Procedure.{LinkSettings, Link, Down, Available, Next, Held}
+use Rattle.link.specs.Turns.{StationState, Phase, Starting, Commanding, Polling, Class1Polling}
+use Rattle.link.specs.Turns.{Over, Wanted, station_at, wants, polls_from, wanted_command}
+use Rattle.link.specs.Turns.{commands_from, wanted_by}
+use Rattle.link.specs.Primary.{Primary, start, is_command}
+use Rattle.link.specs.Runs.{Call, Octets, Due, Offer, Withdraw, GivesUp, called}
+use Rattle.link.specs.Runs as runs
+use Rattle.link.specs.Bursts.{is_answered}
+use Rattle.link.specs.AtOnce.{latest_after, poll_by, TurnGoesOn, PollIsNext, PollsFollowCommands}
+use Rattle.link.proofs.Repeating.{IsBeforePolls, Follows, waits, ended, Tells, none_out}
+use Rattle.link.proofs.Repeating.{turn_sends, call_tells}
+
+-- what the turn has next: the poll that ACD asks for, or the command that waits
+pub data HasNext (fcb : Bool) (s : StationState) (w : Option Wanted) : Type 0 where
+  poll : (following : Phase) → w ≡ wants (Counted fcb (poll_by s.acd)) following
+      → HasNext fcb s w
+  command : (asdu : List ℕ) (following : Phase) → s.offered ≡ Some asdu
+      → w ≡ wants (Counted fcb (Command asdu)) following → HasNext fcb s w
+
+polls_next : (burst : ℕ) (fcb : Bool) (s : StationState)
+    → HasNext fcb s (polls_from burst true fcb s Polling)
+polls_next burst fcb s = go s.acd refl
+  where
+    go : (b : Bool) → s.acd ≡ b → HasNext fcb s
+        (if b then wants (Counted fcb Class1) (Class1Polling 1)
+        else wants (Counted fcb Class2) (Class1Polling 0))
+    go true e = poll (Class1Polling 1) (ap (λ (a : Bool). wants (Counted fcb (poll_by a))
+        (Class1Polling 1)) (sym e))
+    go false e = poll (Class1Polling 0) (ap (λ (a : Bool). wants (Counted fcb (poll_by a))
+        (Class1Polling 0)) (sym e))
+
+commands_next : (burst : ℕ) (fcb : Bool) (s : StationState) (offered : Option (List ℕ))
+    → s.offered ≡ offered → HasNext fcb s (commands_from burst true fcb s offered)
+commands_next burst fcb s None e = polls_next burst fcb s
+commands_next burst fcb s (Some asdu) e = go s.dfc
+  where
+    go : (b : Bool) → HasNext fcb s
+        (if b then polls_from burst true fcb s Polling else wanted_command fcb asdu)
+    go true = polls_next burst fcb s
+    go false = command asdu Polling e refl
+
+next_is : (burst : ℕ) (again : Bool) (s : StationState) (link : Link) (phase : Phase)
+    → is_answered link ≡ true → IsBeforePolls phase
+    → (fcb : Bool) × HasNext fcb s (wanted_by burst true again s link phase)
+next_is burst again s (Next fcb) Commanding up is = (fcb, commands_next burst fcb s s.offered refl)
+next_is burst again s (Next fcb) Polling up is = (fcb, polls_next burst fcb s)
+next_is burst again s (Next fcb) Starting up is = absurd is
+next_is burst again s (Next fcb) (Class1Polling sent) up is = absurd is
+next_is burst again s (Next fcb) Over up is = absurd is
+next_is burst again s Down phase up is = let no : ⊥ = cc in absurd no
+next_is burst again s Available phase up is = let no : ⊥ = cc in absurd no
+next_is burst again s (Held fcb service missed) phase up is = let no : ⊥ = cc in absurd no
+
+before_polls : (request : Asked) (phase : Phase) → is_command request ≡ true
+    → Follows request phase → IsBeforePolls phase
+before_polls (Counted fcb (Command asdu)) phase is follows = follows
+before_polls (Counted fcb Class1) phase is follows = let no : ⊥ = cc in absurd no
+before_polls (Counted fcb Class2) phase is follows = let no : ⊥ = cc in absurd no
+before_polls Status phase is follows = let no : ⊥ = cc in absurd no
+before_polls Reset phase is follows = let no : ⊥ = cc in absurd no
+
+goes_on : (p : Primary) → p.outstanding ≡ None
+    → is_answered (station_at p.stations p.turn).link ≡ true → IsBeforePolls p.phase
+    → TurnGoesOn p p.turn (station_at p.stations p.turn)
+goes_on p out up is =
+    by (next_is p.settings.burst p.again (station_at p.stations p.turn)
+    (station_at p.stations p.turn).link p.phase up is)
+  where
+    by : (fcb : Bool) × HasNext fcb (station_at p.stations p.turn)
+        (wanted_by p.settings.burst true p.again (station_at p.stations p.turn)
+        (station_at p.stations p.turn).link p.phase)
+        → TurnGoesOn p p.turn (station_at p.stations p.turn)
+    by (fcb, poll following e) = (
+      fcb,
+      inl (turn_sends p true
+          (Counted fcb (poll_by (station_at p.stations p.turn).acd)) following out e),
+    )
+    by (fcb, command asdu following waiting e) = (
+      fcb,
+      inr (asdu, waiting, turn_sends p true (Counted fcb (Command asdu)) following out e),
+    )
+
+follows_it : (p : Primary) (latest : Option Sending) (call : Call) → Tells p latest
+    → PollIsNext p latest call
+follows_it p (Some s) (runs.Next now true) (turn, waits o awaited same once follows new) =
+    λ out is up. absurd (none_out p.outstanding o out awaited)
+follows_it p (Some s) (runs.Next now true) (turn, ended free more again_is behind) =
+    λ out is up.
+    let here : is_answered (station_at p.stations p.turn).link ≡ true =
+    subst (λ (i : ℕ). is_answered (station_at p.stations i).link ≡ true) (sym turn) up in
+    subst (λ (i : ℕ). TurnGoesOn p i (station_at p.stations i)) turn
+    (goes_on p out here (before_polls s.request p.phase is (behind here)))
+follows_it p (Some s) (runs.Next now false) tells = tt
+follows_it p (Some s) (Octets octets) tells = tt
+follows_it p (Some s) (Due now) tells = tt
+follows_it p (Some s) (Offer station asdu) tells = tt
+follows_it p (Some s) Withdraw tells = tt
+follows_it p (Some s) (GivesUp station) tells = tt
+follows_it p None call tells = tt
+
+pub follow_on : (p : Primary) (latest : Option Sending) (calls : List Call) → Tells p latest
+    → PollsFollowCommands p latest calls
+follow_on p latest [] tells = tt
+follow_on p latest (call ∷ calls) tells = (
+  follows_it p latest call tells,
+  follow_on (called p call) (latest_after p call latest) calls (call_tells p latest call tells),
+)
+
+pub all_follow : (settings : LinkSettings) (addresses : List ℕ) (calls : List Call)
+    → PollsFollowCommands (start settings addresses) None calls
+all_follow settings addresses calls = follow_on (start settings addresses) None calls (refl, refl)

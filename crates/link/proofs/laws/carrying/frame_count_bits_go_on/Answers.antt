@@ -1,0 +1,10 @@
+use Rattle.link.proofs.GoingOn as on
+use Rattle.link.proofs.laws.carrying.frame_count_bits_go_on.Goals as goal
+
+pub returns : goal.returns
+returns c = record {
+  released = on.bits_released;
+  carried = on.bits_carried;
+  seats = on.seats_stay;
+  number = on.number;
+}

@@ -1,5 +1,0 @@
-use Rattle.link.proofs.Preceding.{all_first}
-use Rattle.link.proofs.precedence.commands_go_before_polls.Goals as goal
-
-pub returns : goal.returns
-returns c = all_first

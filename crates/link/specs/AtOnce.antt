@@ -1,0 +1,69 @@
+-- What goes out at once, before any other request (this gateway's own profile; the services, their
+-- repeats and ACD are those of IEC 60870-5-2's unbalanced transmission procedures).
+use Rattle.std.specs.Prelude.{◌≡◌, ◌⊎◌, ℕ, Bool, true, List, [], ◌∷◌, Option, Some, None}
+use Rattle.std.specs.Prelude.{if◌then◌else◌}
+use Rattle.link.specs.Answers.{Service, Class1, Class2, Command, Counted}
+use Rattle.link.specs.Bursts.{is_answered}
+use Rattle.link.specs.Exchanges.{Sending}
+use Rattle.link.specs.Procedure.{has_repeats}
+use Rattle.link.specs.Turns.{StationState, station_at}
+use Rattle.link.specs.Primary.{Outstanding, Primary, sending, is_command}
+use Rattle.link.specs.Runs.{Call, Next, called}
+
+-- Nothing goes out while a request is outstanding.
+abbrev pub latest_by : Primary → Option Outstanding → (may_poll : Bool) → Option Sending →
+    Option Sending
+latest_by p (Some o) may_poll latest = latest
+latest_by p None may_poll latest = sending p may_poll
+
+-- the latest request, or none where nothing went out when it might have
+abbrev pub latest_after : Primary → Call → Option Sending → Option Sending
+latest_after p (Next now may_poll) latest = latest_by p p.outstanding may_poll latest
+latest_after p call latest = latest
+
+-- Where the latest request is a service that had no answer in time, and repeats are left, the next
+-- request is that one again: the same service to the same station, with the same frame count bit.
+abbrev pub RepeatIsNext : Primary → Option Sending → Call → Type 0
+RepeatIsNext p (Some latest) (Next now may_poll) =
+    p.outstanding ≡ None →
+    has_repeats p.settings (station_at p.stations latest.station).link ≡ true →
+    sending p may_poll ≡ Some latest
+RepeatIsNext p latest call = Unit {0}
+
+-- at each of these calls
+abbrev pub RepeatsComeAtOnce : Primary → Option Sending → List Call → Type 0
+RepeatsComeAtOnce p latest [] = Unit {0}
+RepeatsComeAtOnce p latest (call ∷ calls) =
+    RepeatIsNext p latest call
+    × RepeatsComeAtOnce (called p call) (latest_after p call latest) calls
+
+-- the poll that ACD asks for: of class 1 where it is set, or else of class 2
+abbrev pub poll_by : (acd : Bool) → Service
+poll_by acd = if acd then Class1 else Class2
+
+-- The poll that ACD asks for goes out to the station, or the command that waits for it.
+abbrev pub TurnGoesOn : Primary → (station : ℕ) → StationState → Type 0
+TurnGoesOn p station s =
+    (fcb : Bool) × ((sending p true ≡ Some (record {
+      station = station;
+      request = Counted fcb (poll_by s.acd);
+    })) ⊎ ((asdu : List ℕ) × (s.offered ≡ Some asdu) × (sending p true ≡ Some (record {
+      station = station;
+      request = Counted fcb (Command asdu);
+    }))))
+
+-- Where the latest request is a command that was answered, and the link is up, the next request
+-- goes to the same station, if there is leave.
+abbrev pub PollIsNext : Primary → Option Sending → Call → Type 0
+PollIsNext p (Some latest) (Next now true) =
+    p.outstanding ≡ None → is_command latest.request ≡ true →
+    is_answered (station_at p.stations latest.station).link ≡ true →
+    TurnGoesOn p latest.station (station_at p.stations latest.station)
+PollIsNext p latest call = Unit {0}
+
+-- at each of these calls
+abbrev pub PollsFollowCommands : Primary → Option Sending → List Call → Type 0
+PollsFollowCommands p latest [] = Unit {0}
+PollsFollowCommands p latest (call ∷ calls) =
+    PollIsNext p latest call
+    × PollsFollowCommands (called p call) (latest_after p call latest) calls

@@ -1,0 +1,25 @@
+//! Repeats come at once, and polls behind a command.
+ghost use Rattle.std.specs.Prelude.{ℕ, List, None};
+ghost use Rattle.link.specs.AtOnce.{RepeatsComeAtOnce, PollsFollowCommands};
+ghost use Rattle.link.specs.Procedure.{LinkSettings};
+ghost use Rattle.link.specs.Primary.{start};
+ghost use Rattle.link.specs.Runs.{Call};
+
+/// Whatever is called: where the latest request of the line is a service that had no answer in
+/// time, and repeats of it are left, the next request is that one again, to the same station and
+/// with the same frame count bit. No other station comes between, and no leave to poll is needed.
+/// (Where the station's link is given up meanwhile, no repeat is left.)
+pub fn repeats_come_at_once()
+    ensures { (settings : LinkSettings) (addresses : List ℕ) (calls : List Call) →
+        RepeatsComeAtOnce (start settings addresses) None calls }
+{}
+
+/// Whatever is called: where the latest request of the line is a command that was answered, and the
+/// station's link is up, the next request goes to the same station, if the caller has leave. It is
+/// the poll that ACD asks for, or the command that waits there. (That one may follow a command that
+/// was held before the turn: `turns_end` says that a turn has at most one new command.) Where
+/// nothing went out meanwhile, for want of leave, the turn is over.
+pub fn polls_follow_commands()
+    ensures { (settings : LinkSettings) (addresses : List ℕ) (calls : List Call) →
+        PollsFollowCommands (start settings addresses) None calls }
+{}

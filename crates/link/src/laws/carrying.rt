@@ -1,0 +1,105 @@
+//! What giving up the link to a station does to the line.
+ghost use Rattle.std.specs.Prelude.{◌≡◌, ◌≢◌, ◌<◌, ℕ, true, false, List, length, slice_get, Some};
+ghost use Rattle.ft12.specs.declared.frame.Front.{Front};
+ghost use Rattle.ft12.specs.declared.frame.LinkSize.{LinkSize};
+ghost use Rattle.ft12.specs.Fronts.{front_of};
+ghost use Rattle.link.specs.Exchanges.{Exchanges, given_up_at, reports_of_exchanges};
+ghost use Rattle.link.specs.Gaps.{exchanges_at, gaps_at};
+ghost use Rattle.link.specs.Marks.{latest_given_up};
+ghost use Rattle.link.specs.Procedure.{LinkSettings};
+ghost use Rattle.link.specs.Turns.{StationState, station_at};
+ghost use Rattle.link.specs.Primary.{Primary};
+ghost use Rattle.link.specs.Leave.{is_polling};
+ghost use Rattle.link.specs.Telling.{IsAllowed, Tells};
+ghost use Rattle.link.specs.Carried.{awaits_command, station_given_up, given_up};
+ghost use Rattle.link.specs.Carried.{gap_marked, released, station_carried, seated, reseated};
+ghost use Rattle.link.specs.Carried.{bit_of, without_commands, awaits_command_in};
+ghost use Rattle.link.specs.Carried.{commands_given_up};
+ghost use Rattle.link.specs.declared.seat.Seat.{Seat};
+
+/// A station whose link is given up awaits no command any more, and keeps all else; every other
+/// station stays as it was, and awaits what it awaited. No poll is begun by it.
+pub fn giving_up_is_for_one_station()
+    ensures done { (p : Primary) (k : ℕ) → k < length p.stations →
+        awaits_command (given_up k p) k ≡ false }
+    ensures itself { (p : Primary) (k : ℕ) → k < length p.stations →
+        station_at (given_up k p).stations k ≡ station_given_up (station_at p.stations k) }
+    ensures others { (p : Primary) (k j : ℕ) → j ≢ k →
+        station_at (given_up k p).stations j ≡ station_at p.stations j }
+    ensures awaited { (p : Primary) (k j : ℕ) → j ≢ k →
+        awaits_command (given_up k p) j ≡ awaits_command p j }
+    ensures number { (p : Primary) (k : ℕ) → length (given_up k p).stations ≡ length p.stations }
+    ensures polls { (p : Primary) (k : ℕ) →
+        is_polling (given_up k p) ≡ true → is_polling p ≡ true }
+{}
+
+/// A station that goes on keeps its frame count bit: where an exchange is broken off whose request
+/// was one that may be sent, and where the station goes on with other settings; and it goes on in
+/// the seat that has its place, and in no other.
+pub fn frame_count_bits_go_on()
+    ensures released { (p : Primary) (k : ℕ) → p.turn < length p.stations →
+        IsAllowed p.stations p.turn p.outstanding →
+        bit_of (station_at (released p).stations k).link ≡ bit_of (station_at p.stations k).link }
+    ensures carried { (retries address : ℕ) (s : StationState) →
+        bit_of (station_carried retries address s).link ≡ bit_of s.link }
+    ensures seats { (settings : LinkSettings) (seats : List Seat) (p : Primary) (i : ℕ)
+        (seat : Seat) → slice_get seats i ≡ Some seat →
+        station_at (reseated settings seats p).stations i
+        ≡ seated settings.retries seat.address p.stations seat.before }
+    ensures number { (p : Primary) → length (released p).stations ≡ length p.stations }
+{}
+
+/// What is known of a station's session outlives a restart: where its link is given up, where an
+/// exchange is broken off, and where it goes on with other settings, its session keeps its number,
+/// and that its last report may be lost, until the next reset is answered: so a gap is told then.
+/// Where it is marked, the station's own session has a gap, and no other session changes.
+pub fn sessions_go_on()
+    ensures given_up { (p : Primary) (k j : ℕ) →
+        (station_at (given_up k p).stations j).session ≡ (station_at p.stations j).session }
+    ensures released { (p : Primary) (j : ℕ) →
+        (station_at (released p).stations j).session ≡ (station_at p.stations j).session }
+    ensures carried { (retries address : ℕ) (s : StationState) →
+        (station_carried retries address s).session ≡ s.session }
+    ensures marked { (p : Primary) (k : ℕ) → k < length p.stations →
+        (station_at (gap_marked k p).stations k).session
+        ≡ record (station_at p.stations k).session { has_gap = true } }
+    ensures others { (p : Primary) (k j : ℕ) → j ≢ k →
+        station_at (gap_marked k p).stations j ≡ station_at p.stations j }
+{}
+
+/// Where a primary tells the exchanges of its line, it tells them through giving up. By them a
+/// station awaits a command exactly where the machine says so. The link that is given up is the
+/// link of the exchanges that are marked, at one station and at all that await a command. The
+/// reports of the exchanges, and the sessions of a station that ended with a gap, stay what they
+/// were.
+pub fn giving_up_is_told()
+    ensures awaits { (settings : LinkSettings) (addresses : List ℕ) (p : Primary) (e : Exchanges)
+        (k : ℕ) → Tells settings addresses p e →
+        awaits_command p k ≡ awaits_command_in settings (front_of settings.size) addresses k e }
+    ensures one { (settings : LinkSettings) (addresses : List ℕ) (p : Primary) (e : Exchanges)
+        (k : ℕ) → k < length p.stations → Tells settings addresses p e →
+        Tells settings addresses (given_up k p) (given_up_at k e) }
+    ensures all { (settings : LinkSettings) (addresses : List ℕ) (p : Primary) (e : Exchanges) →
+        Tells settings addresses p e →
+        Tells settings addresses (without_commands p)
+        (commands_given_up settings (front_of settings.size) addresses e) }
+    ensures reports { (settings : LinkSettings) (size : LinkSize) (addresses : List ℕ)
+        (address : ℕ → ℕ) (e : Exchanges) →
+        reports_of_exchanges (front_of size) address
+        (commands_given_up settings (front_of size) addresses e)
+        ≡ reports_of_exchanges (front_of size) address e }
+    ensures gaps { (settings : LinkSettings) (size : LinkSize) (addresses : List ℕ)
+        (e : Exchanges) (station : ℕ) →
+        gaps_at (front_of size) addresses station
+        (commands_given_up settings (front_of size) addresses e)
+        ≡ gaps_at (front_of size) addresses station e }
+{}
+
+/// The mark of a link that was given up stands behind the latest exchange with its station, and
+/// behind no other.
+pub fn the_latest_exchange_is_marked()
+    ensures itself { (front : List ℕ → Front) (k : ℕ) (e : Exchanges) →
+        exchanges_at front k (given_up_at k e) ≡ latest_given_up (exchanges_at front k e) }
+    ensures others { (front : List ℕ → Front) (k j : ℕ) (e : Exchanges) → j ≢ k →
+        exchanges_at front j (given_up_at k e) ≡ exchanges_at front j e }
+{}

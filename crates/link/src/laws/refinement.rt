@@ -1,0 +1,97 @@
+//! What the frame count bit is for: each service acts once at the outstation, and its answer is
+//! taken once.
+ghost use Rattle.std.specs.Prelude.{◌≡◌, ◌≢◌, ℕ, true, false, Some, List, None, flat_map};
+ghost use Rattle.std.specs.List.{AllByRecursion};
+ghost use Rattle.link.specs.Answers.{Unable};
+ghost use Rattle.link.specs.Exchanges.{Exchange, answer_to};
+ghost use Rattle.link.specs.Procedure.{LinkSettings, KeepsFrameCountBit, IsSteady, Down};
+ghost use Rattle.link.specs.Outstation.{Turn, all_done};
+ghost use Rattle.link.specs.Delivery.{learnt, IsHonest, IsKnown, IsSessionKnown, sessions};
+ghost use Rattle.link.specs.Delivery.{pending_after, IsAllOrButLast, IsLatestAnswered, reports};
+ghost use Rattle.link.specs.Delivery.{HasReports, AcceptsSendings, AcceptsAllSendings};
+ghost use Rattle.link.specs.Delivery.{sendings_not_busy, is_command_pending, commands};
+
+/// In each session of the link an honest outstation has done what the primary learnt, and then at
+/// most what the session's last service asks for. What is learnt and done is learnt and done in the
+/// sessions.
+pub fn sessions_are_known()
+    ensures each { (settings : LinkSettings) (station : ℕ) (xs : List Exchange)
+        (turns : List Turn) →
+        KeepsFrameCountBit settings station Down xs → IsHonest station xs turns →
+        AllByRecursion (λ s. IsSessionKnown station s) (sessions station xs turns) }
+    ensures learnt_there { (settings : LinkSettings) (station : ℕ) (xs : List Exchange)
+        (turns : List Turn) →
+        KeepsFrameCountBit settings station Down xs → IsHonest station xs turns →
+        flat_map (λ s. learnt station s.exchanges) (sessions station xs turns) ≡ learnt station xs }
+    ensures done_there { (settings : LinkSettings) (station : ℕ) (xs : List Exchange)
+        (turns : List Turn) →
+        KeepsFrameCountBit settings station Down xs → IsHonest station xs turns →
+        flat_map (λ s. all_done s.turns) (sessions station xs turns) ≡ all_done turns }
+{}
+
+/// Where the link stays up once it is, the same holds of the whole run. All is known where the
+/// latest exchange was answered.
+pub fn each_service_acts_once()
+    ensures known { (settings : LinkSettings) (station : ℕ) (xs : List Exchange)
+        (turns : List Turn) →
+        KeepsFrameCountBit settings station Down xs → IsSteady settings station Down xs →
+        IsHonest station xs turns →
+        IsKnown (learnt station xs) (pending_after station None xs) (all_done turns) }
+    ensures reports { (settings : LinkSettings) (station : ℕ) (xs : List Exchange)
+        (turns : List Turn) →
+        KeepsFrameCountBit settings station Down xs → IsSteady settings station Down xs →
+        IsHonest station xs turns →
+        IsAllOrButLast (reports (all_done turns)) (reports (learnt station xs)) }
+    ensures all { (settings : LinkSettings) (station : ℕ) (xs : List Exchange) (turns : List Turn) →
+        KeepsFrameCountBit settings station Down xs → IsSteady settings station Down xs →
+        IsHonest station xs turns →
+        IsLatestAnswered station xs → learnt station xs ≡ all_done turns }
+{}
+
+/// The commands that an honest outstation accepted are the first sendings that weren't answered
+/// busy, or all of them but the last; and all of them where the latest service isn't a command
+/// without an outcome.
+pub fn commands_are_accepted()
+    ensures each { (settings : LinkSettings) (station : ℕ) (xs : List Exchange)
+        (turns : List Turn) →
+        KeepsFrameCountBit settings station Down xs → IsHonest station xs turns →
+        AllByRecursion (λ s. AcceptsSendings station s) (sessions station xs turns) }
+    ensures steady { (settings : LinkSettings) (station : ℕ) (xs : List Exchange)
+        (turns : List Turn) →
+        KeepsFrameCountBit settings station Down xs → IsSteady settings station Down xs →
+        IsHonest station xs turns →
+        IsAllOrButLast (sendings_not_busy station None xs) (commands (all_done turns)) }
+    ensures each_all { (settings : LinkSettings) (station : ℕ) (xs : List Exchange)
+        (turns : List Turn) →
+        KeepsFrameCountBit settings station Down xs → IsHonest station xs turns →
+        AllByRecursion (λ s. AcceptsAllSendings station s) (sessions station xs turns) }
+    ensures steady_all { (settings : LinkSettings) (station : ℕ) (xs : List Exchange)
+        (turns : List Turn) →
+        KeepsFrameCountBit settings station Down xs → IsSteady settings station Down xs →
+        IsHonest station xs turns →
+        is_command_pending (pending_after station None xs) ≡ false →
+        sendings_not_busy station None xs ≡ commands (all_done turns) }
+    ensures answered { (settings : LinkSettings) (station : ℕ) (xs : List Exchange)
+        (turns : List Turn) →
+        KeepsFrameCountBit settings station Down xs → IsSteady settings station Down xs →
+        IsHonest station xs turns →
+        IsLatestAnswered station xs → commands (learnt station xs) ≡ commands (all_done turns) }
+{}
+
+/// Of each session of the link the primary has all reports, or all but the last, and all of them
+/// where there is no gap.
+pub fn reports_are_learnt()
+    ensures { (settings : LinkSettings) (station : ℕ) (xs : List Exchange) (turns : List Turn) →
+        KeepsFrameCountBit settings station Down xs → IsHonest station xs turns →
+        AllByRecursion (λ s. HasReports station s) (sessions station xs turns) }
+{}
+
+/// Where unanswered services are held, a link stays up as long as its station refuses nothing and
+/// it isn't given up at a restart.
+pub fn silence_is_no_reset()
+    ensures { (settings : LinkSettings) (station : ℕ) (xs : List Exchange) → settings.hold ≡ true →
+        KeepsFrameCountBit settings station Down xs →
+        AllByRecursion (λ x. answer_to station x ≢ Some Unable) xs →
+        AllByRecursion (λ x. x.given_up ≡ false) xs →
+        IsSteady settings station Down xs }
+{}

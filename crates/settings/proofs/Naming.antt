@@ -1,0 +1,401 @@
+-- Each setting is the one that stands under its key.
+use Rattle.std.proofs.Common.{◌≡◌, ℕ, ◌-◌, ◌≤◌, ◌<◌, ◌&&◌, Bool, true, false, List, [], ◌∷◌}
+use Rattle.std.proofs.Common.{◌++◌}
+use Rattle.std.proofs.Common.{Option, Some, None, Result, Ok, Err, refl, sym, ap, subst, ◌∙◌, arith}
+use Rattle.std.proofs.Common.{append_assoc}
+use Rattle.std.proofs.lemmas.List.{append-nil}
+use Rattle.std.specs.Prelude.{ℤ, pos, negsuc, ◌^◌, codes, nat_lt, nat_le, if◌then◌else◌}
+use Rattle.std.specs.Prelude.{option_and_then, ◌⊎◌}
+use Rattle.std.proofs.Common.{inl, inr}
+use Rattle.std.specs.Str.{bytes_eq}
+use Rattle.std.proofs.lemmas.Bool.{and_parts, leb-true}
+use Rattle.toml.specs.Data.{Data, Items, no_items, item, Members, get_member, as_integer, as_bool}
+use Rattle.toml.specs.Data.{as_str, as_array, as_table}
+use Rattle.ft12.specs.declared.frame.LinkSize.{LinkSize}
+use Rattle.ft12.specs.Spelling.{address_len}
+use Rattle.asdu.specs.declared.sizes.CaSize.{CaSize}
+use Rattle.asdu.specs.declared.sizes.Sizes.{Sizes}
+use Rattle.asdu.specs.Sizes.{cause_len, ca_len, ioa_len}
+use Rattle.gateway.specs.declared.settings.Silence.{Silence}
+use Rattle.gateway.specs.declared.settings.Silence.TheVariants.{Hold, Reset}
+use Rattle.gateway.specs.declared.settings.Station.{Station}
+use Rattle.settings.specs.Faults.{Path, ◌>>=◌}
+use Rattle.settings.specs.Keys.{Row, row, given_at, number_of, number_or, judged, whole_of}
+use Rattle.settings.specs.Keys.{flag_in, flag_or, flag_of, table_or, section_or, section_of}
+use Rattle.settings.specs.Line.{Line, line_settings, sizes_of, waits_of, silence_of, silence_word}
+use Rattle.settings.specs.Line.{link_size, cause_size, ca_size, ioa_size}
+use Rattle.settings.specs.Live.{Places, live_keys, live_places}
+use Rattle.settings.specs.Named.{table_at, IsNumber, IsFlag, IsSilence, IsLineOf, IsTcpOf}
+use Rattle.settings.specs.Named.{SaysSilence}
+use Rattle.settings.specs.Named.{IsStationOf, AreStationsOf, AreNamed}
+use Rattle.settings.specs.Settings.{Values, gateway_values, known_settings, known_live}
+use Rattle.settings.specs.Stations.{distinct_number}
+use Rattle.settings.specs.Stations.{station_in, stations_from, stations_in, stations_of}
+use Rattle.settings.specs.Stations.{count_of, greatest_address, greatest_ca}
+use Rattle.settings.specs.Tcp.{Tcp, tcp_settings}
+use Rattle.settings.specs.declared.line.Waits.{Waits}
+
+-- ---- one step, and then the rest
+
+record Bound {A B : Type 0} (r : Result A Path) (f : A → Result B Path) (y : B) : Type 0 where
+  value : A
+  first : r ≡ Ok value
+  rest : f value ≡ Ok y
+
+bound : {A B : Type 0} (r : Result A Path) (f : A → Result B Path) (y : B) → (r >>= f) ≡ Ok y
+    → Bound r f y
+bound (Ok x) f y e = record { value = x; first = refl; rest = e }
+bound (Err path) f y e = cc
+
+same_ok : {A : Type 0} (x y : A) → ◌≡◌ {A = Result A Path} (Ok x) (Ok y) → x ≡ y
+same_ok x y e = cc
+
+-- ---- numbers
+
+judged_is : (r : Row) (o : Option ℕ) (n : ℕ) → judged r o ≡ Ok n
+    → (o ≡ Some n) × (r.low ≤ n) × (n ≤ r.high)
+judged_is r None n e = cc
+judged_is r (Some m) n e = go (nat_le r.low m && nat_le m r.high) refl e
+  where
+    go : (b : Bool) → (nat_le r.low m && nat_le m r.high) ≡ b
+        → (if b then Ok m else Err r.path) ≡ Ok n
+        → (Some m ≡ Some n) × (r.low ≤ n) × (n ≤ r.high)
+    go true within is =
+        let same : m ≡ n = same_ok m n is in
+        let parts = and_parts (nat_le r.low m) (nat_le m r.high) within in (
+          ap Some same,
+          subst (λ k. r.low ≤ k) same (leb-true r.low m parts.0),
+          subst (λ k. k ≤ r.high) same (leb-true m r.high parts.1),
+        )
+    go false within is = cc
+
+number_is : (o : Option ℤ) (n : ℕ) → number_of o ≡ Some n → o ≡ Some (pos n)
+number_is (Some (pos m)) n e = go (nat_lt m (2 ^ 32)) e
+  where
+    go : (b : Bool) → (if b then Some m else None) ≡ Some n → Some (pos m) ≡ Some (pos n)
+    go true is = let same : m ≡ n = cc in ap (λ k. Some (pos k)) same
+    go false is = cc
+number_is (Some (negsuc m)) n e = cc
+number_is None n e = cc
+
+whole_is : (key path : List ℕ) (low high : ℕ) (default : Option ℕ) (t : Option Members) (n : ℕ)
+    → whole_of (row key path low high default) t ≡ Ok n → IsNumber key low high default t n
+whole_is key path low high default t n e =
+    let is = judged_is (row key path low high default) (number_or default (given_at key t)) n e in
+    record {
+      given = λ d at. number_is (as_integer d) n
+          (sym (ap (λ (o : Option Data). number_or default o) at) ∙ is.0);
+      missing = λ none. sym (ap (λ (o : Option Data). number_or default o) none) ∙ is.0;
+      not_below = is.1;
+      not_above = is.2;
+    }
+
+as_size : (key : List ℕ) (low high : ℕ) (default : Option ℕ) (t : Option Members) (n m : ℕ)
+    → n ≡ m → IsNumber key low high default t n → IsNumber key low high default t m
+as_size key low high default t n m e h = subst (λ k. IsNumber key low high default t k) e h
+
+-- ---- sizes
+
+one_or_two : (n : ℕ) → 1 ≤ n → n ≤ 2 → (n ≡ 1) ⊎ (n ≡ 2)
+one_or_two n low high = by (nat_lt 1 n) refl
+  where
+    by : (b : Bool) → nat_lt 1 n ≡ b → (n ≡ 1) ⊎ (n ≡ 2)
+    by true e = let more : 1 < n = grind (arith, e) in inr (omega (arith, more, high))
+    by false e = let few : n ≤ 1 = grind (arith, e) in inl (omega (arith, few, low))
+
+link_len : (n : ℕ) → 1 ≤ n → n ≤ 2 → n ≡ address_len (link_size n)
+link_len n low high = by (one_or_two n low high)
+  where
+    by : (n ≡ 1) ⊎ (n ≡ 2) → n ≡ address_len (link_size n)
+    by (inl e) = rw e refl
+    by (inr e) = rw e refl
+
+cause_octets : (n : ℕ) → 1 ≤ n → n ≤ 2 → n ≡ cause_len (cause_size n)
+cause_octets n low high = by (one_or_two n low high)
+  where
+    by : (n ≡ 1) ⊎ (n ≡ 2) → n ≡ cause_len (cause_size n)
+    by (inl e) = rw e refl
+    by (inr e) = rw e refl
+
+ca_octets : (n : ℕ) → 1 ≤ n → n ≤ 2 → n ≡ ca_len (ca_size n)
+ca_octets n low high = by (one_or_two n low high)
+  where
+    by : (n ≡ 1) ⊎ (n ≡ 2) → n ≡ ca_len (ca_size n)
+    by (inl e) = rw e refl
+    by (inr e) = rw e refl
+
+ioa_octets : (n : ℕ) → 1 ≤ n → n ≤ 3 → n ≡ ioa_len (ioa_size n)
+ioa_octets n low high = by (nat_lt 2 n) refl
+  where
+    small : (n ≡ 1) ⊎ (n ≡ 2) → n ≡ ioa_len (ioa_size n)
+    small (inl e) = rw e refl
+    small (inr e) = rw e refl
+
+    by : (b : Bool) → nat_lt 2 n ≡ b → n ≡ ioa_len (ioa_size n)
+    by true e =
+        let more : 2 < n = grind (arith, e) in
+        let three : n ≡ 3 = omega (arith, more, high) in
+        rw three refl
+    by false e =
+        let few : n ≤ 2 = grind (arith, e) in small (one_or_two n low few)
+
+-- ---- words and flags
+
+flag_is : (key path : List ℕ) (t : Option Members) (b : Bool) → flag_of key path t ≡ Ok b
+    → IsFlag key t b
+flag_is key path t b e = record {
+  given = λ d at. some (as_bool d) (sym (ap (λ (o : Option Data). flag_or path o) at) ∙ e);
+  missing = λ none. sym (same_ok false b (sym (ap (λ (o : Option Data). flag_or path o) none) ∙ e));
+}
+  where
+    some : (o : Option Bool) → flag_in path o ≡ Ok b → o ≡ Some b
+    some (Some a) is = ap Some (same_ok a b is)
+    some None is = cc
+
+word_is : (word : List ℕ) (s : Silence) → silence_word (Some word) ≡ Ok s → SaysSilence word s
+word_is word s e = go (bytes_eq word (codes "hold")) (bytes_eq word (codes "reset")) refl refl e
+  where
+    go : (h r : Bool) → bytes_eq word (codes "hold") ≡ h → bytes_eq word (codes "reset") ≡ r
+        → (if h then Ok Hold else if r then Ok Reset else Err (codes "line.silence")) ≡ Ok s
+        → SaysSilence word s
+    go true r holds resets is = subst (λ k. SaysSilence word k) (same_ok Hold s is) holds
+    go false true holds resets is = subst (λ k. SaysSilence word k) (same_ok Reset s is) resets
+    go false false holds resets is = cc
+
+SaysOf : Option (List ℕ) → Silence → Type 0
+SaysOf o s = (word : List ℕ) × (o ≡ Some word) × SaysSilence word s
+
+word_in : (o : Option (List ℕ)) (s : Silence) → silence_word o ≡ Ok s → SaysOf o s
+unfolding SaysOf
+word_in (Some word) s e = (word, refl, word_is word s e)
+word_in None s e = cc
+
+silence_is : (t : Option Members) (s : Silence) → silence_of (given_at (codes "silence") t) ≡ Ok s
+    → IsSilence t s
+unfolding SaysOf
+silence_is t s e = record {
+  given = λ d at. word_in (as_str d) s (sym (ap (λ (o : Option Data). silence_of o) at) ∙ e);
+  missing = λ none. sym (same_ok Hold s (sym (ap (λ (o : Option Data). silence_of o) none) ∙ e));
+}
+
+-- ---- tables
+
+record SizesOf (t : Option Members) (s : Sizes) : Type 0 where
+  cause : IsNumber (codes "cause") 1 2 None t (cause_len s.cause)
+  ca : IsNumber (codes "ca") 1 2 None t (ca_len s.ca)
+  ioa : IsNumber (codes "ioa") 1 3 None t (ioa_len s.ioa)
+
+sizes_are : (t : Option Members) (s : Sizes) → sizes_of t ≡ Ok s → SizesOf t s
+sizes_are t s e =
+    let c = bound _ _ s e in
+    let a = bound _ _ s c.rest in
+    let i = bound _ _ s a.rest in
+    let cause = whole_is (codes "cause") (codes "line.cause") 1 2 None t c.value c.first in
+    let ca = whole_is (codes "ca") (codes "line.ca") 1 2 None t a.value a.first in
+    let ioa = whole_is (codes "ioa") (codes "line.ioa") 1 3 None t i.value i.first in
+    subst (λ z. SizesOf t z) (same_ok _ s i.rest) (record {
+      cause = as_size (codes "cause") 1 2 None t _ _
+          (cause_octets c.value cause.not_below cause.not_above) cause;
+      ca = as_size (codes "ca") 1 2 None t _ _ (ca_octets a.value ca.not_below ca.not_above) ca;
+      ioa = as_size (codes "ioa") 1 3 None t _ _ (ioa_octets i.value ioa.not_below ioa.not_above)
+          ioa;
+    })
+
+record WaitsOf (t : Option Members) (w : Waits) : Type 0 where
+  answer_ms : IsNumber (codes "answer_ms") 1 60000 (Some 200) t w.answer_ms
+  retries : IsNumber (codes "retries") 0 10 (Some 3) t w.retries
+  silence : IsSilence t w.silence
+
+waits_are : (t : Option Members) (w : Waits) → waits_of t ≡ Ok w → WaitsOf t w
+waits_are t w e =
+    let m = bound _ _ w e in
+    let r = bound _ _ w m.rest in
+    let h = bound _ _ w r.rest in
+    subst (λ z. WaitsOf t z) (same_ok _ w h.rest) (record {
+      answer_ms = whole_is (codes "answer_ms") (codes "line.answer_ms") 1 60000 (Some 200) t m.value
+          m.first;
+      retries = whole_is (codes "retries") (codes "line.retries") 0 10 (Some 3) t r.value r.first;
+      silence = silence_is t h.value h.first;
+    })
+
+line_is : (t : Option Members) (l : Line) → line_settings t ≡ Ok l → IsLineOf t l
+line_is t l e =
+    let k = bound _ _ l e in
+    let s = bound _ _ l k.rest in
+    let w = bound _ _ l s.rest in
+    let b = bound _ _ l w.rest in
+    let q = bound _ _ l b.rest in
+    let link = whole_is (codes "link") (codes "line.link") 1 2 None t k.value k.first in
+    let sizes = sizes_are t s.value s.first in
+    let waits = waits_are t w.value w.first in
+    subst (λ z. IsLineOf t z) (same_ok _ l q.rest) (record {
+      link = as_size (codes "link") 1 2 None t _ _ (link_len k.value link.not_below link.not_above)
+          link;
+      cause = sizes.cause;
+      ca = sizes.ca;
+      ioa = sizes.ioa;
+      answer_ms = waits.answer_ms;
+      retries = waits.retries;
+      silence = waits.silence;
+      burst = whole_is (codes "burst") (codes "line.burst") 1 255 (Some 8) t b.value b.first;
+      queue = whole_is (codes "queue") (codes "line.queue") 3 65535 (Some 1000) t q.value q.first;
+    })
+
+tcp_is : (t : Option Members) (v : Tcp) → tcp_settings t ≡ Ok v → IsTcpOf t v
+tcp_is t v e =
+    let k = bound _ _ v e in
+    let w = bound _ _ v k.rest in
+    let t1 = bound _ _ v w.rest in
+    let t2 = bound _ _ v t1.rest in
+    let t3 = bound _ _ v t2.rest in
+    let s = bound _ _ v t3.rest in
+    let a = bound _ _ v s.rest in
+    subst (λ z. IsTcpOf t z) (same_ok _ v a.rest) (record {
+      k = whole_is (codes "k") (codes "tcp.k") 1 32767 (Some 12) t k.value k.first;
+      w = whole_is (codes "w") (codes "tcp.w") 1 32767 (Some 8) t w.value w.first;
+      t1_ms = whole_is (codes "t1_ms") (codes "tcp.t1_ms") 2 255000 (Some 15000) t t1.value
+          t1.first;
+      t2_ms = whole_is (codes "t2_ms") (codes "tcp.t2_ms") 1 (t1.value - 1) (Some 10000) t t2.value
+          t2.first;
+      t3_ms = whole_is (codes "t3_ms") (codes "tcp.t3_ms") 1 86400000 (Some 20000) t t3.value
+          t3.first;
+      select_ms = whole_is (codes "select_ms") (codes "tcp.select_ms") 1 600000 (Some 30000) t
+          s.value
+          s.first;
+      max_age_ms = whole_is (codes "max_age_ms") (codes "tcp.max_age_ms") 1 3600000 (Some 10000) t
+          a.value a.first;
+    })
+
+-- ---- stations
+
+number_kept : (n m : ℕ) (taken : Bool) (path : Path) → distinct_number n taken path ≡ Ok m → n ≡ m
+number_kept n m true path e = cc
+number_kept n m false path e = same_ok n m e
+
+station_is : (link : LinkSize) (ca : CaSize) (before : List Station) (t : Option Members)
+    (s : Station) → station_in link ca before t ≡ Ok s → IsStationOf link ca t s
+station_is link ca before None s e = cc
+station_is link ca before (Some t) s e =
+    let a = bound _ _ s e in
+    let c = bound _ _ s a.rest in
+    let f = bound _ _ s c.rest in
+    let address = bound _ _ a.value a.first in
+    let common = bound _ _ c.value c.first in
+    subst (λ z. IsStationOf link ca (Some t) z) (same_ok _ s f.rest) (record {
+      address = as_size (codes "address") 1 (greatest_address link) None (Some t) _ _
+          (number_kept address.value a.value _ _ address.rest)
+          (whole_is (codes "address") (codes "station.address") 1 (greatest_address link) None
+          (Some t) address.value address.first);
+      common = as_size (codes "ca") 1 (greatest_ca ca) None (Some t) _ _
+          (number_kept common.value c.value _ _ common.rest)
+          (whole_is (codes "ca") (codes "station.ca") 1 (greatest_ca ca) None (Some t) common.value
+          common.first);
+      select = flag_is (codes "select") (codes "station.select") (Some t) f.value f.first;
+    })
+
+record StationsOf (link : LinkSize) (ca : CaSize) (before : List Station) (ds : Items)
+    (v : List Station) : Type 0 where
+  more : List Station
+  whole : before ++ more ≡ v
+  are : AreStationsOf link ca ds more
+
+stations_are : (link : LinkSize) (ca : CaSize) (before : List Station) (ds : Items)
+    (v : List Station) → stations_from link ca before ds ≡ Ok v → StationsOf link ca before ds v
+stations_are link ca before no_items v e = record {
+  more = [];
+  whole = append-nil before ∙ same_ok before v e;
+  are = tt;
+}
+stations_are link ca before (item d ds) v e =
+    let s = bound _ _ v e in
+    let rest = stations_are link ca (before ++ s.value ∷ []) ds v s.rest in
+    record {
+      more = s.value ∷ rest.more;
+      whole = sym (append_assoc before (s.value ∷ []) rest.more) ∙ rest.whole;
+      are = (station_is link ca before (as_table d) s.value s.first, rest.are);
+    }
+
+-- ---- the whole file
+
+section_is : (name first : List ℕ) (root : Members) (t : Option Members)
+    → section_of name first root ≡ Ok t → table_at name root ≡ t
+section_is name first root t e = go (get_member name root) refl e
+  where
+    found : (o : Option Members) → table_or first o ≡ Ok t → o ≡ t
+    found (Some m) is = same_ok (Some m) t is
+    found None is = cc
+
+    go : (o : Option Data) → get_member name root ≡ o → section_or first o ≡ Ok t
+        → option_and_then as_table o ≡ t
+    go None at is = same_ok None t is
+    go (Some d) at is = found (as_table d) is
+
+record ItemsOf (link : LinkSize) (ca : CaSize) (o : Option Data) (v : List Station) : Type 0 where
+  items : Items
+  are : option_and_then as_array o ≡ Some items
+  stations : AreStationsOf link ca items v
+
+items_are : (link : LinkSize) (ca : CaSize) (o : Option Data) (v : List Station)
+    → stations_of link ca o ≡ Ok v → ItemsOf link ca o v
+items_are link ca None v e = cc
+items_are link ca (Some d) v e = go (as_array d) refl e
+  where
+    read : (ds : Items) → as_array d ≡ Some ds → (b : Bool)
+        → (if b then stations_from link ca [] ds else Err (codes "station")) ≡ Ok v
+        → ItemsOf link ca (Some d) v
+    read ds at true is =
+        let all = stations_are link ca [] ds v is in
+        record {
+          items = ds;
+          are = at;
+          stations = subst (λ z. AreStationsOf link ca ds z) all.whole all.are;
+        }
+    read ds at false is = cc
+
+    go : (o : Option Items) → as_array d ≡ o → stations_in link ca o ≡ Ok v
+        → ItemsOf link ca (Some d) v
+    go None at is = cc
+    go (Some ds) at is = read ds at (nat_lt 0 (count_of ds) && nat_le (count_of ds) 32) is
+
+gateway_named : (root : Members) (v : Values) → gateway_values root ≡ Ok v → AreNamed root v
+gateway_named root v e =
+    let lt = bound _ _ v e in
+    let l = bound _ _ v lt.rest in
+    let ct = bound _ _ v l.rest in
+    let c = bound _ _ v ct.rest in
+    let s = bound _ _ v c.rest in
+    let list = items_are l.value.link l.value.sizes.ca (get_member (codes "station") root) s.value
+    s.first in
+    subst (λ z. AreNamed root z) (same_ok _ v s.rest) (record {
+      line = subst (λ z. IsLineOf z l.value)
+          (sym (section_is (codes "line") (codes "line.link") root lt.value lt.first))
+          (line_is lt.value l.value l.first);
+      tcp = subst (λ z. IsTcpOf z c.value)
+          (sym (section_is (codes "tcp") (codes "tcp.k") root ct.value ct.first))
+          (tcp_is ct.value c.value c.first);
+      items = list.items;
+      are = list.are;
+      stations = list.stations;
+    })
+
+pub settings_named : (root : Members) (v : Values) → known_settings root ≡ Ok v → AreNamed root v
+settings_named root v e =
+    let g = bound _ _ v e in
+    let t = bound (section_of (codes "live") (codes "live.line") root)
+    (λ vt. live_keys vt >>= (λ _. Ok g.value)) v g.rest in
+    let k = bound (live_keys t.value) (λ _. Ok g.value) v t.rest in
+    subst (λ z. AreNamed root z) (same_ok g.value v k.rest) (gateway_named root g.value g.first)
+
+first_of : {A B : Type 0} (x y : A × B) → x ≡ y → x.0 ≡ y.0
+first_of x y e = ap (λ z. z.0) e
+
+pub live_named : (root : Members) (v : Values) (places : Places)
+    → known_live root ≡ Ok (v, places) → AreNamed root v
+live_named root v places e =
+    let g = bound _ _ (v, places) e in
+    let t = bound (section_of (codes "live") (codes "live.line") root)
+    (λ vt. live_places vt >>= (λ found. Ok (g.value, found))) (v, places) g.rest in
+    let k = bound (live_places t.value) (λ found. Ok (g.value, found)) (v, places) t.rest in
+    subst (λ z. AreNamed root z)
+    (first_of (g.value, k.value) (v, places) (same_ok (g.value, k.value) (v, places) k.rest))
+    (gateway_named root g.value g.first)

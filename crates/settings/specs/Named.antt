@@ -1,0 +1,93 @@
+-- What a file says of each setting: each has one key, in its own table, and the value that stands
+-- there, or its default (this gateway's own profile; docs/SETTINGS.md is the same table).
+use Rattle.std.specs.Prelude.{◌≡◌, ℕ, pos, ◌-◌, ◌≤◌, codes, Bool, true, false, List, []}
+use Rattle.std.specs.Prelude.{◌∷◌}
+use Rattle.std.specs.Prelude.{Option, Some, None, option_and_then}
+use Rattle.std.specs.Str.{bytes_eq}
+use Rattle.toml.specs.Data.{Data, Items, no_items, item, Members, get_member, as_integer, as_bool}
+use Rattle.toml.specs.Data.{as_str, as_array, as_table}
+use Rattle.ft12.specs.declared.frame.LinkSize.{LinkSize}
+use Rattle.ft12.specs.Spelling.{address_len}
+use Rattle.asdu.specs.declared.sizes.CaSize.{CaSize}
+use Rattle.asdu.specs.Sizes.{cause_len, ca_len, ioa_len}
+use Rattle.gateway.specs.declared.settings.Silence.{Silence}
+use Rattle.gateway.specs.declared.settings.Silence.TheVariants.{Hold, Reset}
+use Rattle.gateway.specs.declared.settings.Station.{Station}
+use Rattle.settings.specs.Keys.{given_at}
+use Rattle.settings.specs.Line.{Line}
+use Rattle.settings.specs.Settings.{Values}
+use Rattle.settings.specs.Stations.{greatest_address, greatest_ca}
+use Rattle.settings.specs.Tcp.{Tcp}
+
+-- the table of this name, where there is one
+abbrev pub table_at : (name : List ℕ) → Members → Option Members
+table_at name root = option_and_then as_table (get_member name root)
+
+-- The number is the one that the table has at the key, or the default where it has none there; and
+-- it is within these bounds.
+pub record IsNumber (key : List ℕ) (low high : ℕ) (default : Option ℕ) (table : Option Members)
+    (n : ℕ) : Type 0 where
+  pub given : (d : Data) → given_at key table ≡ Some d → as_integer d ≡ Some (pos n)
+  pub missing : given_at key table ≡ None → default ≡ Some n
+  pub not_below : low ≤ n
+  pub not_above : n ≤ high
+
+-- The flag is the one that the table has at the key, or false where it has none there.
+pub record IsFlag (key : List ℕ) (table : Option Members) (b : Bool) : Type 0 where
+  pub given : (d : Data) → given_at key table ≡ Some d → as_bool d ≡ Some b
+  pub missing : given_at key table ≡ None → b ≡ false
+
+-- the word says that a service is held in silence, or that the link is reset
+abbrev pub SaysSilence : (word : List ℕ) → Silence → Type 0
+SaysSilence word Hold = bytes_eq word (codes "hold") ≡ true
+SaysSilence word Reset = bytes_eq word (codes "reset") ≡ true
+
+-- It is what the word of the table says; without one a service is held.
+pub record IsSilence (table : Option Members) (s : Silence) : Type 0 where
+  pub given : (d : Data) → given_at (codes "silence") table ≡ Some d →
+      (word : List ℕ) × (as_str d ≡ Some word) × SaysSilence word s
+  pub missing : given_at (codes "silence") table ≡ None → s ≡ Hold
+
+-- the settings of the line, each by its key in the table `line`
+pub record IsLineOf (table : Option Members) (l : Line) : Type 0 where
+  pub link : IsNumber (codes "link") 1 2 None table (address_len l.link)
+  pub cause : IsNumber (codes "cause") 1 2 None table (cause_len l.sizes.cause)
+  pub ca : IsNumber (codes "ca") 1 2 None table (ca_len l.sizes.ca)
+  pub ioa : IsNumber (codes "ioa") 1 3 None table (ioa_len l.sizes.ioa)
+  pub answer_ms : IsNumber (codes "answer_ms") 1 60000 (Some 200) table l.answer_ms
+  pub retries : IsNumber (codes "retries") 0 10 (Some 3) table l.retries
+  pub silence : IsSilence table l.silence
+  pub burst : IsNumber (codes "burst") 1 255 (Some 8) table l.burst
+  pub queue : IsNumber (codes "queue") 3 65535 (Some 1000) table l.queue
+
+-- those of the connection, in the table `tcp`
+pub record IsTcpOf (table : Option Members) (t : Tcp) : Type 0 where
+  pub k : IsNumber (codes "k") 1 32767 (Some 12) table t.k
+  pub w : IsNumber (codes "w") 1 32767 (Some 8) table t.w
+  pub t1_ms : IsNumber (codes "t1_ms") 2 255000 (Some 15000) table t.t1_ms
+  pub t2_ms : IsNumber (codes "t2_ms") 1 (t.t1_ms - 1) (Some 10000) table t.t2_ms
+  pub t3_ms : IsNumber (codes "t3_ms") 1 86400000 (Some 20000) table t.t3_ms
+  pub select_ms : IsNumber (codes "select_ms") 1 600000 (Some 30000) table t.select_ms
+  pub max_age_ms : IsNumber (codes "max_age_ms") 1 3600000 (Some 10000) table t.max_age_ms
+
+-- those of a station, in its own table
+pub record IsStationOf (link : LinkSize) (ca : CaSize) (table : Option Members)
+    (s : Station) : Type 0 where
+  pub address : IsNumber (codes "address") 1 (greatest_address link) None table s.address
+  pub common : IsNumber (codes "ca") 1 (greatest_ca ca) None table s.ca
+  pub select : IsFlag (codes "select") table s.select
+
+-- the stations are those of these tables, one after another
+abbrev pub AreStationsOf : LinkSize → CaSize → Items → List Station → Type 0
+AreStationsOf link ca no_items [] = Unit {0}
+AreStationsOf link ca (item d ds) (s ∷ ss) =
+    IsStationOf link ca (as_table d) s × AreStationsOf link ca ds ss
+AreStationsOf link ca _ _ = ⊥
+
+-- Each setting is the one that the file has under its key.
+pub record AreNamed (root : Members) (v : Values) : Type 0 where
+  pub line : IsLineOf (table_at (codes "line") root) v.line
+  pub tcp : IsTcpOf (table_at (codes "tcp") root) v.tcp
+  pub items : Items
+  pub are : option_and_then as_array (get_member (codes "station") root) ≡ Some items
+  pub stations : AreStationsOf v.line.link v.line.sizes.ca items v.stations

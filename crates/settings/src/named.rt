@@ -1,0 +1,16 @@
+//! Each setting has one key.
+ghost use Rattle.std.specs.Prelude.{◌≡◌, Ok};
+ghost use Rattle.toml.specs.Data.{Members};
+ghost use Rattle.settings.specs.Live.{Places};
+ghost use Rattle.settings.specs.Settings.{Values, known_settings, known_live};
+ghost use Rattle.settings.specs.Named.{AreNamed};
+
+/// Each setting that is read is the value that stands in the file under its own key, or its own
+/// default where none does, and is within its own bounds: no other key, no other table and no
+/// other station changes it. So it is with a live run's ends, and without.
+pub fn settings_are_named()
+    ensures settings { (root : Members) (v : Values) → known_settings root ≡ Ok v →
+        AreNamed root v }
+    ensures live { (root : Members) (v : Values) (places : Places) →
+        known_live root ≡ Ok (v, places) → AreNamed root v }
+{}

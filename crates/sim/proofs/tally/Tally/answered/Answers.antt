@@ -1,7 +1,0 @@
-use Rattle.std.proofs.Common.{◌∙◌}
-use Rattle.sim.proofs.Bare.{answered_alike}
-use Rattle.sim.proofs.tally.Tally.answered.Goals as goal
-
-pub returns : goal.returns
-returns c = c.answered_bare.ensures
-    ∙ answered_alike c.args.answer.now c.args.self _ _ c.asked.ensures

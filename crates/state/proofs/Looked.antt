@@ -1,0 +1,64 @@
+-- What is found in a directory, for who looks at it.
+use Rattle.std.proofs.Common.{◌≡◌, Bool, true, false, ℕ, ◌+◌, List, length, Option, Some, None}
+use Rattle.std.proofs.Common.{refl}
+use Rattle.std.proofs.Common.{sym, subst}
+use Rattle.std.specs.Option.{ForSome, is_some}
+use Rattle.gateway.specs.Config.{Settings}
+use Rattle.gateway.specs.Log.{Log}
+use Rattle.segments.specs.Starts.{ArePlaced, HasNoNewer, IsBacked, IsFoundIn, IsNewest}
+use Rattle.segments.specs.declared.start.FoundHead.{FoundHead}
+use Rattle.segments.specs.declared.start.Side.{Side}
+use Rattle.state.specs.Beginnings.{AreLinesRead, has_past, is_trusted}
+use Rattle.state.specs.Sights.{BeginsSo, IsDistrusted, IsSeen, IsSight}
+use Rattle.state.specs.Unread.{HasState, IsUnread}
+use Rattle.state.specs.declared.looking.Seen.{Seen}
+use Rattle.state.specs.declared.start.Beginning.{Beginning}
+use Rattle.state.specs.declared.start.Beginning.TheVariants as beginnings
+use Rattle.state.proofs.UnreadLemmas.{unread_found}
+
+-- with a past
+begins_so : (b : Beginning) (goes_on is_stale : Bool) (newest other : List ℕ) → has_past b ≡ true
+    → is_trusted b ≡ goes_on
+    → IsNewest newest other → (goes_on ≡ true → HasNoNewer newest other)
+    → (goes_on ≡ true → AreLinesRead newest) → (goes_on ≡ true → is_stale ≡ false)
+    → (goes_on ≡ false → IsDistrusted is_stale newest other)
+    → BeginsSo b is_stale newest other
+begins_so beginnings.Anew goes_on is_stale newest other past is wins sure read fresh reset =
+    absurd (cc)
+begins_so beginnings.PutAside goes_on is_stale newest other past is wins sure read fresh reset =
+    absurd (cc)
+begins_so beginnings.LinksReset goes_on is_stale newest other past is wins sure read fresh reset =
+    (wins, reset (sym is))
+begins_so beginnings.GoesOn goes_on is_stale newest other past is wins sure read fresh reset =
+    (wins, sure (sym is), read (sym is), fresh (sym is))
+
+pub sight_of : (log : Log) (is_stale goes_on : Bool) (first second newest other : List ℕ)
+    (side : Side) (b : Beginning) (s : Seen) → ArePlaced side first second newest other
+    → s.side ≡ side → IsSeen log newest s → has_past b ≡ true → is_trusted b ≡ goes_on
+    → IsNewest newest other → (goes_on ≡ true → HasNoNewer newest other)
+    → (goes_on ≡ true → AreLinesRead newest) → (goes_on ≡ true → is_stale ≡ false)
+    → (goes_on ≡ false → IsDistrusted is_stale newest other)
+    → IsSight log is_stale first second (record { beginning = b; seen = Some s })
+sight_of log is_stale goes_on first second newest other side b s placed same seen past is wins sure
+    read fresh reset = record {
+      side = side;
+      newest = newest;
+      other = other;
+      placed = placed;
+      begins = begins_so b goes_on is_stale newest other past is wins sure read fresh reset;
+      shown = (
+        past,
+        subst (λ (at : Side). ArePlaced at first second newest other) (sym same) placed,
+        seen,
+      );
+    }
+
+-- a segment was found, whose state can't be read
+pub aside_of : (honest : Type 0) (c : Settings) (text newest other : List ℕ) (o : Option FoundHead)
+    (at : ℕ) → is_some o ≡ true
+    → ForSome o (λ f. (at ≡ 87 + length f.text.items)
+    × (honest → IsFoundIn newest f.head f.text.items))
+    → honest → IsBacked newest other → (HasState c text newest → ⊥) → IsUnread c text newest other
+aside_of honest c text newest other None at some stands clean wins none = absurd (cc)
+aside_of honest c text newest other (Some f) at some stands clean wins none =
+    unread_found c text newest other f.head f.text.items wins ((stands f refl).1 clean) none

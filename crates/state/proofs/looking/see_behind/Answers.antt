@@ -1,0 +1,36 @@
+use Rattle.std.proofs.Common.{◌≡◌, List, ℕ, Ok, ap₂, drop, subst}
+use Rattle.segments.specs.Found.{events_in}
+use Rattle.segments.specs.Starts.{before_zero}
+use Rattle.settings.specs.Settings.{IsReadOfText}
+use Rattle.statetext.specs.Text.{lines_in}
+use Rattle.state.specs.Beginnings.{IsRead}
+use Rattle.state.specs.Replays.{whole_lines}
+use Rattle.state.specs.Sights.{AreCounted}
+use Rattle.state.proofs.looking.see_behind.Goals as goal
+
+pub returns-clause-log : goal.returns-clause-log
+returns-clause-log g c =
+    let lines : List (List ℕ) =
+    lines_in (drop c.args.opening.lines.at c.args.opening.lines.text.items) in
+    let same : before_zero (drop c.replayed.new.start.at
+    (g.D.Disk.seen c.replayed.new.start.newest))
+    ≡ before_zero (drop c.args.start.now.at (g.D.Disk.seen c.args.start.now.newest)) =
+    ap₂ (λ (at : ℕ) (file : List ℕ). before_zero (drop at file)) c.replayed.ensures.same
+    c.replayed.ensures.seen in
+    record {
+      number = c.requires.number;
+      begins = c.args.start.now.at;
+      lines = lines;
+      head = c.requires.head;
+      wrote = c.in-Ok.wrote;
+      readable = subst (λ (text : List ℕ). IsReadOfText text (Ok c.in-Ok.wrote))
+          c.deref.ensures.value c.in-Ok.ensures;
+      counted = subst (λ (events : List ℕ). AreCounted (whole_lines events)
+          c.in_ok-count.count.told c.in_ok-count.count.all) same c.in_ok-count.ensures.counted;
+      gap = c.in_ok-resumed.resumed.gap;
+      whole = c.in_ok-resumed.resumed.before.entries;
+      read = subst (λ (events : List ℕ). IsRead c.in-Ok.wrote g.K.Lineage.log lines events
+          c.in_ok-resumed.resumed.gap c.in_ok-resumed.resumed.before.entries
+          c.in_ok-resumed.resumed.gateway) same
+          (c.in_ok-resumed.ensures.read (c.requires.honest _));
+    }

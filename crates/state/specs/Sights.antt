@@ -1,0 +1,69 @@
+-- What a start would find in a directory, for who looks at it (profile).
+use Rattle.std.specs.Prelude.{◌≡◌, ◌⊎◌, Bool, true, false, ℕ, List, drop, length, MatchOption}
+use Rattle.std.specs.Prelude.{Option, Ok}
+use Rattle.gateway.specs.Config.{Settings}
+use Rattle.gateway.specs.Log.{Log}
+use Rattle.segments.specs.Starts.{ArePlaced, HasNoNewer, IsNewest, IsShut, IsSound, before_zero}
+use Rattle.segments.specs.declared.start.Side.{Side}
+use Rattle.segments.specs.declared.start.Side.TheVariants as sides
+use Rattle.settings.specs.Settings.{IsReadOfText}
+use Rattle.state.specs.Beginnings.{AreLinesRead, BearsNumber, IsHeadOf, IsRead, has_past}
+use Rattle.state.specs.Replays.{ToldGap, events_in_front, whole_lines}
+use Rattle.state.specs.Unread.{IsUnread}
+use Rattle.state.specs.declared.looking.Seen.{Seen}
+use Rattle.state.specs.declared.looking.Sight.{Sight}
+use Rattle.state.specs.declared.start.Beginning.{Beginning}
+use Rattle.state.specs.declared.start.Beginning.TheVariants as beginnings
+
+-- how many of these lines tell an event, up to the first that tells none, and how many there are
+pub record AreCounted (lines : List (List ℕ)) (events all : ℕ) : Type 0 where
+  pub told : events ≡ length (events_in_front lines)
+  pub whole : all ≡ length lines
+
+-- A file has this log, behind what passed before: the settings at its head are a file of settings
+-- that can be read, and the gateway with these has heard the events behind the state at its head,
+-- as one does that goes on with the log (`WentOn`). It has given up nothing yet.
+pub record IsSeen (log : Log) (file : List ℕ) (s : Seen) : Type 0 where
+  pub number : BearsNumber file s.number
+  pub begins : ℕ
+  pub lines : List (List ℕ)
+  pub head : IsHeadOf file begins s.settings.items lines
+  pub wrote : Settings
+  pub readable : IsReadOfText s.settings.items (Ok wrote)
+  pub counted : AreCounted (whole_lines (before_zero (drop begins file))) s.events s.lines
+  pub gap : Option ToldGap
+  pub whole : Log
+  pub read : IsRead wrote log lines (before_zero (drop begins file)) gap whole s.gateway
+
+-- where links aren't trusted, each of them would be reset
+abbrev pub IsDistrusted : (is_stale : Bool) → (newest other : List ℕ) → Type 0
+IsDistrusted is_stale newest other = (is_stale ≡ true)
+    ⊎ (IsSound newest → IsSound other → AreLinesRead newest → ⊥)
+
+-- A run would begin so with two files, as `IsBegun` says it of one that does: anew where both are
+-- shut; what can't be read would be put aside; and else it would go on with the newer segment.
+abbrev pub BeginsSo : Beginning → (is_stale : Bool) → (newest other : List ℕ) → Type 0
+BeginsSo beginnings.Anew is_stale newest other = IsShut newest × IsShut other
+BeginsSo beginnings.PutAside is_stale newest other =
+    (c : Settings) (text : List ℕ) → IsUnread c text newest other
+BeginsSo beginnings.LinksReset is_stale newest other =
+    IsNewest newest other × IsDistrusted is_stale newest other
+BeginsSo beginnings.GoesOn is_stale newest other =
+    IsNewest newest other × HasNoNewer newest other × AreLinesRead newest × (is_stale ≡ false)
+
+-- there is a log, or none
+abbrev pub IsShown : (log : Log) → (has_past : Bool) → (first second newest other : List ℕ)
+    → Option Seen → Type 0
+IsShown log past first second newest other seen =
+    MatchOption seen (past ≡ false) (λ s. (past ≡ true) × ArePlaced s.side first second newest other
+    × IsSeen log newest s)
+
+-- This is found in two files, marked as stale or not, behind what passed before: the log that
+-- counts, if one does, stands in the first of them or in the second.
+pub record IsSight (log : Log) (is_stale : Bool) (first second : List ℕ) (o : Sight) : Type 0 where
+  pub side : Side
+  pub newest : List ℕ
+  pub other : List ℕ
+  pub placed : ArePlaced side first second newest other
+  pub begins : BeginsSo o.beginning is_stale newest other
+  pub shown : IsShown log (has_past o.beginning) first second newest other o.seen

@@ -1,0 +1,59 @@
+//! How many lines of events stand in a log.
+ghost use Rattle.std.specs.Prelude.{◌≡◌, ◌+◌, [], length, IfErr, IfOk, false, true};
+ghost use Rattle.state.specs.Replays.{events_in_front};
+
+use crate::replaying::{EventLines, broken_off, next_event};
+use checkpoint::StateFault;
+use std::alloc::Global;
+
+/// How many lines come.
+pub(crate) fn count_all<L: EventLines + Drop>(alloc: Global, lines: L) -> Result<u64, StateFault>
+    ensures all { IfOk result (λ n. n ≡ length (L.coming lines)) }
+    ensures fault { IfErr result (λ fault. fault ≡ StateFault.Wrong → ⊥) }
+{
+    let mut lines = lines;
+    let mut line = Vec::new(alloc);
+    for number in 0..u64::MAX {
+        match lines.next_line(&mut line) {
+            Ok(true) => {}
+            Ok(false) => return Ok(number),
+            Err(fault) => return Err(broken_off(fault)),
+        }
+    }
+    // No memory holds so many lines.
+    Err(StateFault::NoMemory)
+}
+
+/// How many lines tell an event, up to the first that tells none.
+pub(crate) fn count_told<L: EventLines + Drop>(alloc: Global, lines: L) -> Result<u64, StateFault>
+    ensures told { IfOk result (λ n. n ≡ length (events_in_front (L.coming lines))) }
+    ensures fault { IfErr result (λ fault. fault ≡ StateFault.Wrong → ⊥) }
+{
+    let mut lines = lines;
+    let mut line = Vec::new(alloc);
+    for number in 0..u64::MAX {
+        match tells_next(alloc, &mut lines, &mut line) {
+            Ok(true) => {}
+            Ok(false) => return Ok(number),
+            Err(fault) => return Err(broken_off(fault)),
+        }
+    }
+    // No memory holds so many lines.
+    Err(StateFault::NoMemory)
+}
+
+/// Whether a line comes next that tells an event.
+fn tells_next<L: EventLines>(
+    alloc: Global,
+    lines: &mut L,
+    line: &mut Vec<u8>,
+) -> Result<bool, StateFault>
+    ensures told { IfOk result (λ tells. tells ≡ true →
+        length (events_in_front (L.coming lines.old))
+        ≡ 1 + length (events_in_front (L.coming lines.new))) }
+    ensures none { IfOk result (λ tells. tells ≡ false →
+        events_in_front (L.coming lines.old) ≡ []) }
+{
+    let mut buf = [0; 1024];
+    Ok(next_event(alloc, lines, line, &mut buf)?.is_some())
+}

@@ -1,0 +1,246 @@
+//! What a start would find in a directory, for who looks at it.
+ghost use Rattle.std.specs.Prelude.{◌≡◌, ◌⊎◌, ℕ, Bool, List, IfErr, IfOk, IfSome, IsTrue};
+ghost use Rattle.std.specs.Prelude.{None, Ok, Some, false, true};
+ghost use Rattle.std.specs.Option.{is_some};
+ghost use Rattle.gateway.specs.Config.{Settings};
+ghost use Rattle.segments.specs.Found.{begins_at, events_in, newest_in, newest_of, other_in};
+ghost use Rattle.segments.specs.Head.{Fits};
+ghost use Rattle.segments.specs.Starts.{ArePlaced, HasNoNewer, IsBacked, IsNewest, IsSound};
+ghost use Rattle.settings.specs.Settings.{IsReadOfText};
+ghost use Rattle.state.specs.Beginnings.{BearsNumber, IsHeadOf};
+ghost use Rattle.state.specs.Replays.{whole_lines};
+ghost use Rattle.state.specs.Sights.{AreCounted, IsSeen, IsSight};
+ghost use Rattle.state.specs.Unread.{AreStateOf, HasState};
+
+use crate::beginning::{
+    Opening, found_in, lines_of, may_go_on, read_opening, replayed, unread, with_past,
+};
+use crate::counting::{count_all, count_told};
+use crate::folder::FolderFault;
+use crate::replaying::Lineage;
+use crate::start::{Beginning, beginning_of};
+use checkpoint::{Lines, StateFault};
+use gateway::{Gateway, History};
+use segments::{SegmentFault, Side, Start};
+use settings::read_config;
+use sqlite_disk::{Disk, Files};
+use statetext::TextLines;
+use std::alloc::Global;
+use std::marker::Brand;
+
+/// The log that a run would go on with, as it stands.
+#[derive(Drop)]
+pub struct Seen {
+    /// The number of its segment.
+    pub number: u64,
+    /// The file in which the segment stands.
+    pub side: Side,
+    /// The file of settings under which it was written.
+    pub settings: Vec<u8>,
+    /// How many lines stand behind its head.
+    pub lines: u64,
+    /// How many of them tell an event, up to the first that tells none.
+    pub events: u64,
+    /// The gateway that has heard these events. It has given up nothing yet.
+    pub gateway: Gateway,
+}
+
+/// What a start would find in a directory.
+#[derive(Drop)]
+pub struct Sight {
+    /// How a run would begin.
+    pub beginning: Beginning,
+    /// The log that it would go on with, if it would.
+    pub seen: Option<Seen>,
+}
+
+/// Looks at the two files of a directory as a start does, and changes nothing. Each read of them
+/// answers what they have. `before` is what led to the state at the head of the newest log, which
+/// no code holds. An `Err` is want of memory, or a read that failed.
+pub fn look<D: Disk + Drop>(
+    alloc: Global,
+    files: Files<D>,
+    is_stale: bool,
+    before: &History,
+) -> Result<Sight, StateFault>
+    requires log { IsTrue (D.Disk.is_usable files.log) }
+    requires db { IsTrue (D.Disk.is_usable files.db) }
+    requires honest { (file : D) → IsTrue (D.Disk.is_clean file) }
+    ensures sight { IfOk result (IsSight before.now.entries is_stale (D.Disk.seen files.log)
+        (D.Disk.seen files.db)) }
+    ensures fault { IfErr result (λ fault. fault ≡ StateFault.Wrong → ⊥) }
+{
+    look_from::<Brand, D>(alloc, files, is_stale, before)
+}
+
+/// The same, of a log before which proofs know what passed.
+fn look_from<K: Lineage, D: Disk + Drop>(
+    alloc: Global,
+    files: Files<D>,
+    is_stale: bool,
+    _before: &History,
+) -> Result<Sight, StateFault>
+    requires log { IsTrue (D.Disk.is_usable files.log) }
+    requires db { IsTrue (D.Disk.is_usable files.db) }
+    requires honest { (file : D) → IsTrue (D.Disk.is_clean file) }
+    ensures sight { IfOk result (IsSight K.log is_stale (D.Disk.seen files.log)
+        (D.Disk.seen files.db)) }
+    ensures fault { IfErr result (λ fault. fault ≡ StateFault.Wrong → ⊥) }
+{
+    let start = match Start::open(alloc, files) {
+        Ok(start) => start,
+        Err(fault) => return Err(failed(fault)),
+    };
+    match beginning_of(found_in(&start, is_stale)) {
+        Beginning::Anew => Ok(without_log(Beginning::Anew)),
+        Beginning::PutAside => Ok(without_log(Beginning::PutAside)),
+        Beginning::LinksReset => look_behind::<K, D>(alloc, start, false),
+        Beginning::GoesOn => look_behind::<K, D>(alloc, start, true),
+    }
+}
+
+/// Why nothing is found where a segment can't be read.
+fn failed(fault: SegmentFault) -> StateFault
+    ensures { result ≡ StateFault.Wrong → ⊥ }
+{
+    match fault {
+        SegmentFault::NoMemory => StateFault::NoMemory,
+        SegmentFault::Full | SegmentFault::Device => StateFault::Device,
+    }
+}
+
+/// No log counts.
+fn without_log(beginning: Beginning) -> Sight
+    ensures { result ≡ record { beginning = beginning; seen = None } }
+{
+    Sight {
+        beginning,
+        seen: None,
+    }
+}
+
+/// Why lines can't be read where a directory is looked at.
+fn unlooked(fault: FolderFault) -> StateFault
+    ensures { result ≡ StateFault.Wrong → ⊥ }
+{
+    match fault {
+        FolderFault::NoMemory => StateFault::NoMemory,
+        FolderFault::InUse | FolderFault::Foreign | FolderFault::Device => StateFault::Device,
+    }
+}
+
+/// The log that counts, and how a run would begin with it.
+fn look_behind<K: Lineage, D: Disk + Drop>(
+    alloc: Global,
+    start: Start<D>,
+    is_trusted: bool,
+) -> Result<Sight, StateFault>
+    requires honest { (file : D) → IsTrue (D.Disk.is_clean file) }
+    requires found { is_some start.checkpoint ≡ true }
+    requires fits { IfSome start.checkpoint (λ c. Fits c.head) }
+    requires backed { IsBacked (newest_in start) (other_in start) }
+    requires newest { IsNewest (newest_in start) (other_in start) }
+    requires sure { is_trusted ≡ true → HasNoNewer (newest_in start) (other_in start) }
+    ensures sight { (is_stale : Bool) (first second : List ℕ) →
+        ArePlaced start.side first second (newest_in start) (other_in start) →
+        (is_trusted ≡ true → is_stale ≡ false) → (is_trusted ≡ false → (is_stale ≡ true)
+        ⊎ (IsSound (newest_in start) → IsSound (other_in start) → ⊥)) →
+        IfOk result (IsSight K.log is_stale first second) }
+    ensures fault { IfErr result (λ fault. fault ≡ StateFault.Wrong → ⊥) }
+{
+    let mut start = start;
+    let goes_on = match may_go_on(alloc, &mut start, is_trusted) {
+        Ok(goes_on) => goes_on,
+        Err(fault) => return Err(unlooked(fault)),
+    };
+    match see::<K, D>(alloc, &mut start) {
+        Ok(seen) => Ok(with_log(with_past(goes_on), seen)),
+        Err(StateFault::Wrong) => Ok(without_log(Beginning::PutAside)),
+        Err(StateFault::NoMemory) => Err(StateFault::NoMemory),
+        Err(StateFault::Device) => Err(StateFault::Device),
+    }
+}
+
+/// A log counts.
+fn with_log(beginning: Beginning, seen: Seen) -> Sight
+    ensures { result ≡ record { beginning = beginning; seen = Some seen } }
+{
+    Sight {
+        beginning,
+        seen: Some(seen),
+    }
+}
+
+/// The log in the file of the newest segment.
+fn see<K: Lineage, D: Disk + Drop>(alloc: Global, start: &mut Start<D>) -> Result<Seen, StateFault>
+    requires honest { (file : D) → IsTrue (D.Disk.is_clean file) }
+    ensures log { IfOk result (IsSeen K.log (D.Disk.seen (newest_of start.old))) }
+    ensures side { IfOk result (λ s. s.side ≡ start.old.side) }
+    ensures wrong { IfErr result (λ fault. fault ≡ StateFault.Wrong →
+        is_some start.old.checkpoint ≡ true → (c : Settings) (text : List ℕ) →
+        HasState c text (D.Disk.seen (newest_of start.old)) → ⊥) }
+{
+    let side = start.side();
+    let opening = read_opening(alloc, start)?;
+    see_behind::<K, D>(alloc, opening, start, side)
+}
+
+/// The log behind its head, which says the settings and the state.
+fn see_behind<K: Lineage, D: Disk + Drop>(
+    alloc: Global,
+    opening: Opening,
+    start: &mut Start<D>,
+    side: Side,
+) -> Result<Seen, StateFault>
+    requires honest { (file : D) → IsTrue (D.Disk.is_clean file) }
+    requires head { IsHeadOf (D.Disk.seen (newest_of start.old)) (begins_at start.old)
+        opening.settings.items (⟦<TextLines as Lines>⟧.coming opening.lines) }
+    requires number { BearsNumber (D.Disk.seen (newest_of start.old)) opening.number }
+    ensures log { IfOk result (IsSeen K.log (D.Disk.seen (newest_of start.old))) }
+    ensures side { IfOk result (λ s. s.side ≡ side) }
+    ensures wrong { IfErr result (λ fault. fault ≡ StateFault.Wrong → (wrote : Settings) →
+        IsReadOfText opening.settings.items (Ok wrote) →
+        ((by : Settings) → IsReadOfText opening.settings.items (Ok by) →
+        AreStateOf by (⟦<TextLines as Lines>⟧.coming opening.lines)) → ⊥) }
+{
+    let Opening {
+        number,
+        settings,
+        lines,
+    } = opening;
+    let wrote = match read_config(alloc, &settings, false) {
+        Ok(wrote) => wrote,
+        Err(fault) => return Err(unread(fault)),
+    };
+    let resumed = replayed::<K, D>(alloc, &wrote, lines, start)?;
+    let count = count(alloc, start)?;
+    Ok(Seen {
+        number,
+        side,
+        settings,
+        lines: count.all,
+        events: count.told,
+        gateway: resumed.gateway,
+    })
+}
+
+/// How many lines stand behind the head.
+#[derive(Clone, Copy)]
+struct LineCount {
+    told: u64,
+    all: u64,
+}
+
+/// How many lines stand behind the head of the log that was found.
+fn count<D: Disk + Drop>(alloc: Global, start: &mut Start<D>) -> Result<LineCount, StateFault>
+    requires honest { (file : D) → IsTrue (D.Disk.is_clean file) }
+    ensures counted { IfOk result (λ n.
+        AreCounted (whole_lines (events_in start.old)) n.told n.all) }
+    ensures fault { IfErr result (λ fault. fault ≡ StateFault.Wrong → ⊥) }
+{
+    let lines = lines_of(alloc, start)?;
+    let told = count_told(alloc, lines)?;
+    let lines = lines_of(alloc, start)?;
+    let all = count_all(alloc, lines)?;
+    Ok(LineCount { told, all })
+}

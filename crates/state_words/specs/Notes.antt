@@ -1,0 +1,23 @@
+-- What is told of a state that was kept, where a run begins with it or would (profile).
+use Rattle.std.specs.Prelude.{Bool, true, false, Option, Some, None}
+use Rattle.gateway.specs.State.{State}
+use Rattle.runlog.specs.Telling.{taken_in}
+use Rattle.runlog.specs.declared.note.Note.{Note}
+use Rattle.runlog.specs.declared.note.Note.TheVariants as note
+use Rattle.state.specs.declared.start.Beginning.{Beginning}
+use Rattle.state.specs.declared.start.Beginning.TheVariants as beginnings
+
+-- what is made of the state in a directory
+abbrev pub note_of : Beginning → Option Note
+note_of beginnings.Anew = Some note.StateBegins
+note_of beginnings.PutAside = Some note.StatePutAside
+note_of beginnings.LinksReset = Some note.StateStale
+note_of beginnings.GoesOn = None
+
+abbrev pub note_of_settings : (is_moved : Bool) → Option Note
+note_of_settings false = None
+note_of_settings true = Some note.SettingsChanged
+
+-- a run goes on with so many pieces
+abbrev pub note_of_queue : State → Note
+note_of_queue gateway = note.StateGoesOn (taken_in gateway)

@@ -1,0 +1,240 @@
+//! What a directory of a state has, in lines.
+ghost use Rattle.std.specs.Prelude.{◌≡◌, ◌++◌, IfOk, OnOk, Some, false, option_map, string_bytes};
+ghost use Rattle.std.specs.Prelude.{true};
+ghost use Rattle.state_words.specs.Text as spec;
+
+use crate::notes::{note_of, note_of_queue, note_of_settings};
+use crate::stations::push_stations;
+use gateway::{Gateway, Wall};
+use runlog::{Note, Trouble};
+use segments::Side;
+use state::{Seen, Sight};
+use std::alloc::{AllocError, Global};
+
+/// Appends the words of the log, if there is anything to tell.
+fn push_note(text: &mut String, note: Option<Note>) -> Result<(), AllocError>
+    ensures { OnOk result (string_bytes text.new ≡ string_bytes text.old ++ spec.note_line note) }
+{
+    match note {
+        Some(note) => writeln!(text, "{note}"),
+        None => Ok(()),
+    }
+}
+
+/// What tells that a run has the directory, if one has.
+fn held_note(is_held: bool) -> Option<Note>
+    ensures { result ≡ spec.held_note is_held }
+{
+    if is_held {
+        Some(Note::Trouble(Trouble::StateInUse))
+    } else {
+        None
+    }
+}
+
+fn push_mark(text: &mut String, is_stale: bool) -> Result<(), AllocError>
+    ensures { OnOk result (string_bytes text.new ≡ string_bytes text.old
+        ++ spec.mark_line is_stale) }
+{
+    if is_stale {
+        writeln!(text, "the directory is marked as stale")
+    } else {
+        Ok(())
+    }
+}
+
+/// The name of a file in the directory.
+fn file_name(side: Side) -> &'static str
+    ensures { result.now ≡ spec.file_name side }
+{
+    match side {
+        Side::Log => "segments-wal",
+        Side::Db => "segments",
+    }
+}
+
+fn push_number(text: &mut String, number: u64) -> Result<(), AllocError>
+    ensures { OnOk result (string_bytes text.new ≡ string_bytes text.old
+        ++ spec.segment_words number) }
+{
+    write!(text, "segment {number} in ")
+}
+
+fn push_events(text: &mut String, events: u64) -> Result<(), AllocError>
+    ensures { OnOk result (string_bytes text.new ≡ string_bytes text.old
+        ++ spec.events_words events) }
+{
+    writeln!(text, ", events behind its head: {events}")
+}
+
+fn push_segment(text: &mut String, seen: &Seen) -> Result<(), AllocError>
+    ensures { OnOk result (string_bytes text.new ≡ string_bytes text.old
+        ++ spec.segment_line seen.now) }
+{
+    push_number(text, seen.number)?;
+    text.push_str(file_name(seen.side))?;
+    push_events(text, seen.events)
+}
+
+fn push_read(text: &mut String, events: u64) -> Result<(), AllocError>
+    ensures { OnOk result (string_bytes text.new ≡ string_bytes text.old
+        ++ spec.read_words events) }
+{
+    write!(text, "lines there that can be read: {events}")
+}
+
+fn push_of(text: &mut String, lines: u64) -> Result<(), AllocError>
+    ensures { OnOk result (string_bytes text.new ≡ string_bytes text.old
+        ++ spec.of_words lines) }
+{
+    writeln!(text, " of {lines}")
+}
+
+fn push_cut(text: &mut String, events: u64, lines: u64) -> Result<(), AllocError>
+    ensures { OnOk result (string_bytes text.new ≡ string_bytes text.old
+        ++ spec.cut_line events lines) }
+{
+    push_read(text, events)?;
+    push_of(text, lines)
+}
+
+fn push_unread(text: &mut String, is_cut: bool, events: u64, lines: u64) -> Result<(), AllocError>
+    ensures { OnOk result (string_bytes text.new ≡ string_bytes text.old
+        ++ spec.unread_line is_cut events lines) }
+{
+    if is_cut {
+        push_cut(text, events, lines)
+    } else {
+        Ok(())
+    }
+}
+
+fn push_clock(text: &mut String, number: u64) -> Result<(), AllocError>
+    ensures { OnOk result (string_bytes text.new ≡ string_bytes text.old
+        ++ spec.clock_words number) }
+{
+    write!(text, ", wall clock in ms {number}")
+}
+
+fn push_at(text: &mut String, moment: u64) -> Result<(), AllocError>
+    ensures { OnOk result (string_bytes text.new ≡ string_bytes text.old
+        ++ spec.at_words moment) }
+{
+    writeln!(text, " at moment {moment}")
+}
+
+fn push_told(text: &mut String, number: u64, moment: u64) -> Result<(), AllocError>
+    ensures { OnOk result (string_bytes text.new ≡ string_bytes text.old
+        ++ spec.told_words number moment) }
+{
+    push_clock(text, number)?;
+    push_at(text, moment)
+}
+
+fn push_wall(text: &mut String, wall: Option<Wall>) -> Result<(), AllocError>
+    ensures { OnOk result (string_bytes text.new ≡ string_bytes text.old
+        ++ spec.wall_words wall) }
+{
+    match wall {
+        Some(wall) => push_told(text, wall.number, wall.moment),
+        None => writeln!(text, ", wall clock not told yet"),
+    }
+}
+
+fn push_gateway(text: &mut String, gateway: &Gateway) -> Result<(), AllocError>
+    ensures { OnOk result (string_bytes text.new ≡ string_bytes text.old
+        ++ spec.gateway_lines gateway.now) }
+{
+    let moment = gateway.moment();
+    write!(text, "moment in ms {moment}")?;
+    push_wall(text, gateway.wall_told())?;
+    push_stations(text, gateway.line())
+}
+
+/// What a run would tell that goes on with a log.
+fn push_notes(text: &mut String, seen: &Seen, is_moved: bool) -> Result<(), AllocError>
+    ensures { OnOk result (string_bytes text.new ≡ string_bytes text.old
+        ++ spec.notes_lines is_moved seen.now) }
+{
+    push_note(text, note_of_settings(is_moved))?;
+    push_note(text, Some(note_of_queue(&seen.gateway)))
+}
+
+/// Where a log stands, and how far it can be read.
+fn push_place(text: &mut String, seen: &Seen) -> Result<(), AllocError>
+    ensures { OnOk result (string_bytes text.new ≡ string_bytes text.old
+        ++ spec.place_lines seen.now) }
+{
+    push_segment(text, seen)?;
+    push_unread(text, seen.events < seen.lines, seen.events, seen.lines)
+}
+
+/// The lines of a log that counts, before the settings.
+fn push_seen(text: &mut String, seen: &Seen, is_moved: bool) -> Result<(), AllocError>
+    ensures { OnOk result (string_bytes text.new ≡ string_bytes text.old
+        ++ spec.log_lines is_moved seen.now) }
+{
+    push_notes(text, seen, is_moved)?;
+    push_place(text, seen)?;
+    push_gateway(text, &seen.gateway)?;
+    text.push_str("kept under these settings:\n")
+}
+
+/// The lines before those of a log.
+fn push_beginning(
+    text: &mut String,
+    is_held: bool,
+    is_stale: bool,
+    sight: &Sight,
+) -> Result<(), AllocError>
+    ensures { OnOk result (string_bytes text.new ≡ string_bytes text.old
+        ++ spec.beginning_lines is_held is_stale sight.now.beginning) }
+{
+    push_note(text, held_note(is_held))?;
+    push_mark(text, is_stale)?;
+    push_note(text, note_of(sight.beginning))
+}
+
+/// Whether both are the same octets.
+fn are_same(first: &[u8], second: &[u8]) -> bool
+    ensures same { result ≡ true → first.now ≡ second.now }
+    ensures others { result ≡ false → first.now ≡ second.now → ⊥ }
+{
+    first == second
+}
+
+/// Whether the log was kept under other settings than these, if any are given.
+fn is_moved(given: Option<&[u8]>, seen: &Seen) -> bool
+    ensures { spec.IsMovedFrom (option_map (λ t. t.now) given.entry) (Some seen.now) result }
+{
+    match given {
+        Some(text) => !are_same(&seen.settings, text),
+        None => false,
+    }
+}
+
+/// The lines for who looks at a directory in which this was found, with whether a run has it,
+/// whether it is marked as stale, and the file of settings that a run is to have, if one is given.
+/// Only want of memory is answered by an `Err`.
+pub fn tell_state(
+    alloc: Global,
+    is_held: bool,
+    is_stale: bool,
+    given: Option<&[u8]>,
+    sight: &Sight,
+) -> Result<Vec<u8>, AllocError>
+    ensures { IfOk result (λ text. spec.IsStateText is_held is_stale
+        (option_map (λ t. t.now) given.entry) sight.now text.items) }
+{
+    let mut text = String::new(alloc);
+    push_beginning(&mut text, is_held, is_stale, sight)?;
+    match &sight.seen {
+        Some(seen) => {
+            push_seen(&mut text, seen, is_moved(given, seen))?;
+            let mut lines = text.into_bytes();
+            lines.extend_from_slice(&seen.settings)?;
+            Ok(lines)
+        }
+        None => Ok(text.into_bytes()),
+    }
+}

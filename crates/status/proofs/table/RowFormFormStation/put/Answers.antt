@@ -1,8 +1,0 @@
-use Rattle.status.specs.Table.{row_parts}
-use Rattle.status.proofs.WordLemmas.{puts_joined}
-use Rattle.status.proofs.table.RowFormFormStation.put.Goals as goal
-
-pub returns : goal.returns
-returns c =
-    rw (c.put_row_counts.ensures, c.put_age_or.ensures, c.put_age.ensures, c.put_row_head.ensures)
-    (puts_joined (row_parts c.args.self.now.now_ms c.args.station.now) c.args.page.now)

@@ -1,0 +1,62 @@
+-- What is told of a directory in which a state is kept (this gateway's own profile).
+use Rattle.std.specs.Prelude.{◌≡◌, ℕ, Bool, List, Option, Result, Vec, MatchResult, option_map}
+use Rattle.std.specs.declared.alloc.Global.{Global}
+use Rattle.sqlite_disk.specs.Memory.{memory_bytes}
+use Rattle.state.specs.Sights.{IsSight}
+use Rattle.state.specs.declared.looking.Sight.{Sight}
+use Rattle.state.specs.declared.start.Beginning.{Beginning}
+use Rattle.state.specs.declared.start.Beginning.TheVariants as beginnings
+use Rattle.state_files.specs.declared.looking.Stood.{Stood}
+use Rattle.state_words.specs.Text.{IsStateText}
+use Rattle.telegate.specs.declared.answer.Answer.{Answer}
+use Rattle.telegate.specs.declared.fault.Fault.{Fault}
+use Rattle.telegate.specs.declared.fault.Fault.TheVariants.{Unread, NoMemory}
+
+-- the octets that are given, if any are
+abbrev pub octets_of : Option (Vec ℕ Global) → Option (List ℕ)
+octets_of given = option_map (λ v. v.items) given
+
+-- 1 where what is there can't be read
+abbrev pub status_of_sight : Beginning → ℕ
+status_of_sight beginnings.Anew = 0
+status_of_sight beginnings.PutAside = 1
+status_of_sight beginnings.LinksReset = 0
+status_of_sight beginnings.GoesOn = 0
+
+-- this was found, and told beside these settings
+pub record TellsState (is_held is_stale : Bool) (given : Option (List ℕ)) (sight : Sight)
+    (answer : Answer) : Type 0 where
+  pub told : IsStateText is_held is_stale given sight answer.text.items
+  pub status : answer.status ≡ status_of_sight sight.beginning
+
+-- what a start would find in two files was found, and told beside these settings
+pub record TellsSight (stood : Stood) (given : Option (List ℕ)) (answer : Answer) : Type 0 where
+  pub sight : Sight
+  pub found : IsSight stood.before.entries stood.is_stale (memory_bytes stood.files.log)
+      (memory_bytes stood.files.db) sight
+  pub told : TellsState stood.is_held stood.is_stale given sight answer
+
+-- the same of a directory that has this, as far as it is known
+pub record HasToldState (stands : Stood → Type 0) (given : Option (List ℕ)) (answer : Answer) :
+    Type 0 where
+  pub stood : Stood
+  pub is : stands stood
+  pub tells : TellsSight stood given answer
+
+abbrev pub IsLookFault : Fault → Type 0
+IsLookFault Unread = Unit {0}
+IsLookFault NoMemory = Unit {0}
+IsLookFault _ = ⊥
+
+-- it was told, or a read has failed, or memory was refused
+abbrev pub IsStateShown : (stands : Stood → Type 0) → (given : Option (List ℕ))
+    → Result Answer Fault → Type 0
+IsStateShown stands given result = MatchResult result (HasToldState stands given) IsLookFault
+
+abbrev pub IsSightTold : (is_held is_stale : Bool) → (given : Option (List ℕ)) → Sight
+    → Result Answer Fault → Type 0
+IsSightTold is_held is_stale given sight result =
+    MatchResult result (TellsState is_held is_stale given sight) IsLookFault
+
+abbrev pub IsStoodShown : Stood → (given : Option (List ℕ)) → Result Answer Fault → Type 0
+IsStoodShown stood given result = MatchResult result (TellsSight stood given) IsLookFault

@@ -1,0 +1,81 @@
+//! The command that shows what a run would go on with.
+ghost use Rattle.std.specs.Prelude.{◌≡◌, option_map};
+ghost use Rattle.telegate.specs.Stood.{IsLookFault, IsSightTold, IsStoodShown, octets_of};
+ghost use Rattle.telegate.specs.Stood.{status_of_sight};
+
+use crate::answer::Answer;
+use crate::fault::{BAD_CONTENT, DONE, Fault};
+use checkpoint::StateFault;
+use state::{Beginning, Sight, look};
+use state_files::Stood;
+use state_words::tell_state;
+use std::alloc::Global;
+
+/// What a start would find in a directory, in lines, with the exit status: 1 where what is there
+/// can't be read. It is compared with these settings, if any are given.
+pub(crate) fn tell_stood(
+    alloc: Global,
+    stood: Stood,
+    given: Option<Vec<u8>>,
+) -> Result<Answer, Fault>
+    ensures { IsStoodShown stood (octets_of given) result }
+{
+    let Stood {
+        files,
+        is_stale,
+        is_held,
+        before,
+        ..
+    } = stood;
+    match look(alloc, files, is_stale, &before) {
+        Ok(sight) => tell_sight(alloc, is_held, is_stale, given, sight),
+        Err(fault) => Err(fault_of(fault)),
+    }
+}
+
+/// That in lines.
+fn tell_sight(
+    alloc: Global,
+    is_held: bool,
+    is_stale: bool,
+    given: Option<Vec<u8>>,
+    sight: Sight,
+) -> Result<Answer, Fault>
+    ensures { IsSightTold is_held is_stale (octets_of given) sight result }
+{
+    let text = tell_state(alloc, is_held, is_stale, slice_of(&given), &sight)?;
+    Ok(Answer {
+        text,
+        status: status_of(sight.beginning),
+    })
+}
+
+/// The octets that are given.
+fn slice_of(given: &Option<Vec<u8>>) -> Option<&[u8]>
+    ensures { option_map (λ t. t.now) result ≡ octets_of given.now }
+{
+    match given {
+        Some(octets) => Some(octets.as_slice()),
+        None => None,
+    }
+}
+
+/// The exit status where a run would begin so.
+fn status_of(beginning: Beginning) -> u8
+    ensures { result ≡ status_of_sight beginning }
+{
+    match beginning {
+        Beginning::PutAside => BAD_CONTENT,
+        Beginning::Anew | Beginning::LinksReset | Beginning::GoesOn => DONE,
+    }
+}
+
+/// Why nothing is told.
+fn fault_of(fault: StateFault) -> Fault
+    ensures { IsLookFault result }
+{
+    match fault {
+        StateFault::Wrong | StateFault::Device => Fault::Unread,
+        StateFault::NoMemory => Fault::NoMemory,
+    }
+}
