@@ -185,7 +185,7 @@ class Gateway:
         self.config = os.path.join(folder, "gateway.toml")
         self.state = os.path.join(folder, "state")
         self.environment, self.flags, self.process = environment, list(flags), None
-        self.said = ""
+        self.log, self.said = os.path.join(folder, "log"), ""
         self.set(**settings)
 
     def set(self, stations=None, **settings):
@@ -197,25 +197,28 @@ class Gateway:
 
     def start(self, **more):
         words = [self.program, "run", "--redial", "--log", "--state", self.state, *self.flags, self.config]
-        self.errors = tempfile.TemporaryFile("w+")
-        self.process = subprocess.Popen(words, stdin=subprocess.DEVNULL, stderr=self.errors, env=self.environment, **more)
+        # The log is read by its name: a place in the file that both had would move under the gateway's lines.
+        with open(self.log, "w") as log:
+            self.process = subprocess.Popen(words, stdin=subprocess.DEVNULL, stderr=log, env=self.environment, **more)
 
     def kill(self):
         """Kills it, and answers what it logged."""
         self.process.kill()
         self.process.wait()
-        self.errors.seek(0)
-        told = self.errors.read()
-        self.errors.close()
+        told = self.logged()
         self.said += told
         return told
+
+    def logged(self):
+        """What it has logged since it was started."""
+        with open(self.log) as log:
+            return log.read()
 
     def waits(self, text, seconds=ends.PATIENCE):
         """Whether its log has this text soon."""
         end = time.monotonic() + seconds
         while time.monotonic() < end:
-            self.errors.seek(0)
-            if text in self.errors.read():
+            if text in self.logged():
                 return True
             time.sleep(0.02)
         return False
@@ -434,7 +437,7 @@ def a_state_that_is_no_state(count, program):
                     file.seek(90)
                     file.write(b"\xff" * 8)
         gateway.start()
-        count.judge("a state that can't be read is put aside", gateway.waits("put aside"), gateway.said)
+        count.judge("a state that can't be read is put aside", gateway.waits("put aside"), gateway.logged())
         count.judge("its files stay", any("unread" in name for name in os.listdir(gateway.state)), os.listdir(gateway.state))
         queue_up(gateway, 3)
         got = drained(gateway)
@@ -471,7 +474,7 @@ def a_rotten_line(count, program):
         resets = {address: station.resets for address, station in gateway.field.stations.items()}
         rot_a_line(gateway.state)
         gateway.start()
-        count.judge("a line that can't be read is told", gateway.waits("each link is reset"), gateway.said)
+        count.judge("a line that can't be read is told", gateway.waits("each link is reset"), gateway.logged())
         queue_up(gateway, 3)
         now = {address: station.resets for address, station in gateway.field.stations.items()}
         count.judge("each link is reset", all(now[a] == resets[a] + 1 for a in resets), (resets, now))
@@ -501,12 +504,12 @@ def a_full_disk(count, program):
         queue_up(gateway, 4)
         gateway.kill()
         gateway.start(preexec_fn=limit_files(1_000_000))
-        count.judge("a full disk is told", gateway.waits("isn't kept"), gateway.said)
+        count.judge("a full disk is told", gateway.waits("isn't kept"), gateway.logged())
         queue_up(gateway, 2)
         gateway.kill()
         resets = [station.resets for station in gateway.field.stations.values()]
         gateway.start()
-        count.judge("the next start knows it", gateway.waits("stale"), gateway.said)
+        count.judge("the next start knows it", gateway.waits("stale"), gateway.logged())
         got = drained(gateway)
         # What was polled while the state wasn't kept is lost, and a gap tells it; what was kept comes.
         kept = all(numbers[:4] == [1, 2, 3, 4] and numbers == sorted(set(numbers)) for numbers in got.values())
@@ -593,7 +596,7 @@ def a_command_at_a_restart(count, program):
         queue_up(gateway, 2)
         count.judge("a command isn't sent behind a restart", not station.accepted, station.accepted)
         count.judge("the station's link was reset", station.resets == resets + 1, (resets, station.resets))
-        count.judge("and no other", other.resets == others, (others, other.resets, gateway.said))
+        count.judge("and no other", other.resets == others, (others, other.resets, gateway.logged()))
         got = drained(gateway)
         told = gateway.kill()
         for heard in visitor.connections:
@@ -656,7 +659,7 @@ def a_look(count, program):
         lines, status, told = looked(gateway, gateway.state, gateway.config)
         count.judge("beside a run", status == 0 and lines[:2] == ["state in use by another process", "state: goes on, 6 queued"], (lines[:3], told))
         queue_up(gateway, 1)
-        count.judge("which goes on", gateway.process.poll() is None and "isn't kept" not in gateway.said, gateway.said)
+        count.judge("which goes on", gateway.process.poll() is None and "isn't kept" not in gateway.logged(), gateway.logged())
         gateway.kill()
         before = stood(gateway.state)
         lines, status, _ = looked(gateway, gateway.state, gateway.config)
