@@ -94,7 +94,13 @@ at_first c starts laws commands line_laws rules timely = record {
       (first_fits c.line.link c.line.sizes.ca c.stations rules.each);
   course = first_course (setup_of c);
   talk = talk_first (setup_of c) timely laws commands line_laws;
-  stands = record { does = refl; asks = (refl, refl); phase_is = tt; placed = λ o. refl };
+  stands = record {
+    does = refl;
+    asks = (refl, refl);
+    phase_is = tt;
+    placed = λ o. refl;
+    answered = tt;
+  };
   gaps = λ i. refl;
   offers = λ k octets e. absurd (no_offer k octets e);
   plain = tt;

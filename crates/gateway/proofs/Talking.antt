@@ -36,7 +36,7 @@ use Rattle.gateway.specs.Reports.{Setup, address_at, exchanges_of, taken_objects
 use Rattle.gateway.specs.Works.{has_lacked_place}
 use Rattle.gateway.specs.Course.{Course, first_course, came_frames, kind_of, told_sent, with_frame}
 use Rattle.gateway.specs.Course.{with_sent, IsFlushed, IsUntouched, HasBegun, MayTake, TakesFrames}
-use Rattle.gateway.specs.Course.{HasTakenAll, IsNext, Runs}
+use Rattle.gateway.specs.Course.{IsTouched, HasAsked, HasTakenAll, IsNext, Runs}
 use Rattle.gateway.specs.Conversation.{KeepsRulesSoFar}
 use Rattle.gateway.proofs.Reached.{kept_commands}
 use Rattle.gateway.specs.Phases.{IsTaking}
@@ -214,10 +214,10 @@ ruled p s t log c call now moment said k clock made =
 pub talk_out : (p : Setup) (s t : Session) (log : Log) (c : Course) (now moment : ℕ) (f : Apdu)
     (call : Call)
     (k : Talks p s log c) → Fits f → moment ≡ latest log → IsNext p log f c
-    → has_lacked_place c.works.history ≡ false
+    → has_lacked_place c.works.history ≡ false → IsTouched log c ⊎ HasAsked p log c
     → after_call call (at s c.talk) ≡ at t (told_sent f moment c.talk) → Begins (present log) c →
     Talks p t (Went now (TcpOut (spelling f)) ∷ log) (with_sent f moment c)
-talk_out p s t log c now moment f call k fits clock next placed made b = record {
+talk_out p s t log c now moment f call k fits clock next placed turn made b = record {
   timely = k.timely;
   laws = k.laws;
   command_laws = k.command_laws;
@@ -235,8 +235,8 @@ talk_out p s t log c now moment f call k fits clock next placed made b = record 
       rules =
           ruled p s t log c call (latest log) moment (λ m. told_sent f m c.talk) k clock made;
       next = next;
-      placed =
-          placed;
+      placed = placed;
+      turn = turn;
       put = ap (λ m. with_sent f m c) clock;
     },
     record {

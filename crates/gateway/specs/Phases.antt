@@ -93,9 +93,8 @@ IsLeftIn Crowded log so_far unjudged = Unit {0}
 IsLeftIn Judged log so_far unjudged = IsPast log (length (so_far ++ unjudged))
 IsLeftIn phase log so_far unjudged = unjudged ≡ []
 
--- S frames and tests may go out
+-- Frames go out behind a frame of the event, and once the request is asked for.
 abbrev pub IsFlushing : Phase → Type 0
-IsFlushing Fresh = ⊥
-IsFlushing Taking = ⊥
-IsFlushing Crowded = ⊥
-IsFlushing phase = Unit {0}
+IsFlushing Judged = Unit {0}
+IsFlushing Asked = Unit {0}
+IsFlushing phase = ⊥
