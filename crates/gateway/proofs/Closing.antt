@@ -535,6 +535,11 @@ rested laws p s log a spent quiet = record {
       (λ none. is_full p s log [] Asked a
       (no_room_means s.centre.queue (sym (same_room p s log [] Asked a) ∙ none)))
       served;
+  asked = record {
+    told = a.stands.asks.2;
+    in_time = a.stands.answered;
+    none = a.stands.asks.0;
+  };
   talk = record {
     all = all_taken log a.course a.here.so_far a.here.joined a.here.waits;
     confirmed = sym (confirmed_by p s.centre.session log a.course a.talk) ∙ quiet.confirmed;

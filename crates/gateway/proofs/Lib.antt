@@ -52,3 +52,4 @@ pub mod Unchanged
 pub mod LineTurns
 pub mod GoingOut
 pub mod WholePieces
+pub mod Decided

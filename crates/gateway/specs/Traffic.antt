@@ -15,7 +15,7 @@ use Rattle.gateway.specs.Reports.{Setup, address_at, taken_objects, KeepsLinks}
 use Rattle.link.specs.Leave.{is_poll_request}
 use Rattle.gateway.specs.Room.{AreConnectionsOf, HasRoom}
 use Rattle.gateway.specs.Works.{has_lacked_place}
-use Rattle.gateway.specs.Course.{Course, here_of, HasSentAll, IsCause, Runs}
+use Rattle.gateway.specs.Course.{Course, here_of, HasSentAll, HasAsked, IsCause, Runs}
 use Rattle.gateway.specs.Conversation.{KeepsRulesThroughout, IsTalkAtRest}
 use Rattle.gateway.specs.Line.{IsWaiting, IsLineAtRest}
 
@@ -82,6 +82,7 @@ pub record IsAtRest (p : Setup) (log : Log) : Type 0 where
       + p.session.k → HasSentAll p log course
   pub line : IsLineAtRest p log course (here_of course ∷ course.earlier)
   pub gaps : TellsGaps p log
+  pub asked : HasAsked p log course
   pub talk : IsTalkAtRest p log course
 
 -- Nothing has come yet, or the last step has done all that it could. A restart is no step.

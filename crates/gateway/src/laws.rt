@@ -1,4 +1,5 @@
 //! What holds of the definitions.
+pub(crate) mod deciding;
 pub(crate) mod going_on;
 pub(crate) mod going_out;
 pub(crate) mod ordering;

@@ -50,6 +50,7 @@ pub use counts::Counts;
 pub use engine::{Gateway, LAST_MOMENT, NoMemory};
 pub use entries::{Entry, Told, announce, cause_number, keep};
 pub use history::History;
+pub use laws::deciding::what_comes_decides_what_goes_out;
 pub use laws::going_on::{
     no_link_goes_on_but_of_a_station_as_it_was, stations_go_on_by_their_addresses,
 };
