@@ -40,7 +40,8 @@ use Rattle.command.specs.State.{oldest}
 use Rattle.command.specs.History as happened
 use Rattle.gateway.specs.Course.{Course, here_of, came_frames, room_by, room_in, kind_of, told_sent}
 use Rattle.gateway.specs.Course.{with_sent, HasSentAll, IsFlushed, IsUntouched, HasBegun}
-use Rattle.gateway.specs.Course.{IsTouched, HasAsked, IsNextData}
+use Rattle.gateway.specs.Course.{IsNextData}
+use Rattle.gateway.specs.Course.{IsTouched, HasAsked}
 use Rattle.gateway.specs.Phases.{Phase, Fresh, Taking, Judged, Idle, Crowded, Timed, Asked, IsPast}
 use Rattle.gateway.specs.Phases.{IsLeftIn, IsFlushing, IsPhase, works_in, IsAsked, IsPlaced}
 use Rattle.session.specs.History as talk

@@ -442,12 +442,12 @@ module _ (laws : LineLaws) (p : Setup) (s t : State) (log : Log) (now : ℕ) (fi
         course = opened;
         talk = talk;
         stands = record {
-      does = opened_does;
-      asks = h.due;
-      phase_is = tt;
-      placed = λ o. refl;
-      answered = inl (omega arith);
-    };
+          does = opened_does;
+          asks = h.due;
+          phase_is = tt;
+          placed = λ o. refl;
+          answered = inl (omega arith);
+        };
         gaps = h.gaps;
         offers = offers_cut laws t.serial.line (tasks.closed t.serial.commands);
         plain = tt;

@@ -651,9 +651,9 @@ pub so_far : Laws → IsTold → (p : Setup) (log other : Log) → IsFaithful p 
     → ((n : ℕ) × (log ≡ drop n other)) ⊎ ((n : ℕ) × (other ≡ drop n log))
 so_far laws told p log other f k e = elim (compared laws told p log other (of_faithful p log f)
     (of_faithful p other k) e) [
-  | inl g ↦ inl (length g.0, sym (drop_put g.0 log) ∙ ap (drop (length g.0)) (sym g.1))
-  | inr g ↦ inr (length g.0, sym (drop_put g.0 other) ∙ ap (drop (length g.0)) (sym g.1))
-]
+      | inl g ↦ inl (length g.0, sym (drop_put g.0 log) ∙ ap (drop (length g.0)) (sym g.1))
+      | inr g ↦ inr (length g.0, sym (drop_put g.0 other) ∙ ap (drop (length g.0)) (sym g.1))
+    ]
 
 pub rested : Laws → IsTold → (p : Setup) (log other : Log) → IsFaithful p log → HasRested p log
     → IsFaithful p other → HasRested p other → events_of log ≡ events_of other → log ≡ other

@@ -204,10 +204,10 @@ answered_by : (p : Setup) (s : State) (log : Log) (unjudged : List ℕ) (phase :
 answered_by p s log unjudged phase a clear undue = elim (undue_by p s log unjudged phase a undue) [
   | inl none ↦ inl none
   | inr none ↦ inr (record {
-      confirmed = sym (confirmed_by p s.centre.session log a.course a.talk) ∙ clear.confirmed;
-      flushed = flushed_by p s log unjudged phase a clear.spent;
-      undue = none;
-    })
+    confirmed = sym (confirmed_by p s.centre.session log a.course a.talk) ∙ clear.confirmed;
+    flushed = flushed_by p s log unjudged phase a clear.spent;
+    undue = none;
+  })
 ]
 
 -- The event is taken.
