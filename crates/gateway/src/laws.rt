@@ -34,7 +34,7 @@ ghost use Rattle.gateway.specs.Traffic.{HasCause};
 
 use apci::{one_front, spellings_cancel};
 use asdu::{objects_are_those_of_the_asdu, one_asdu_one_spelling};
-use command::commands_keep_the_rules;
+use command::{commands_keep_the_rules, faultless_commands_pass, places_come_back};
 use link::line_keeps_the_procedures;
 
 /// The octets of a connection have one reading: its frames, and what closes it, if anything does;
@@ -86,6 +86,8 @@ pub fn courses_keep_commands()
         KeepsCommands p (tasks_of c.works) }
 {
     commands_keep_the_rules();
+    places_come_back();
+    faultless_commands_pass();
 }
 
 /// What is counted of commands (`IsAccounted` speaks of the same numbers) is what became of them in
