@@ -681,7 +681,7 @@ after_due p s t log unjudged f phase a flushing next on fits none goes same = re
     asks = a.stands.asks;
     phase_is =
         phase_out phase log s.moment _ flushing (ends_in p s log unjudged phase a)
-            a.stands.phase_is;
+        a.stands.phase_is;
     placed =
         placed_on phase log _ _ _ (λ o. o) refl a.stands.placed;
   };

@@ -101,7 +101,8 @@ module _ (p : Setup) (at : ℕ) (Q : Run → Type 0) (one : (call : Call) (r : R
       here)
     where
       here : Q (record { state = tasks.offered x s; history = Offered x (has_answer_place s) ∷ h })
-      here = one (Own x) (record { state = s; history = h }) (record { when = still; octets = tt }) c
+      here = one (Own x) (record { state = s; history = h }) (record { when = still; octets = tt })
+          c
 
       go : (b : Bool)
           → Q (record { state = tasks.offered x s; history = Offered x (has_answer_place s) ∷ h }) →
@@ -124,9 +125,11 @@ module _ (p : Setup) (at : ℕ) (Q : Run → Type 0) (one : (call : Call) (r : R
 
   mirror : (running : Bool) (v : AsduValue) (pieces : List (List ℕ)) (w : Works) → Q (tasks_of w)
       → Q (tasks_of (mirrored_works at running v pieces w))
-  mirror false v pieces w c = one (Mirror v at) (tasks_of w) (record { when = now_is; octets = tt }) c
+  mirror false v pieces w c = one (Mirror v at) (tasks_of w) (record { when = now_is; octets = tt })
+      c
   mirror true v pieces w c = keep pieces (after_call (Mirror v at) (tasks_of w)).state
-      (after_call (Mirror v at) (tasks_of w)).history (one (Mirror v at) (tasks_of w) (record { when = now_is; octets = tt }) c)
+      (after_call (Mirror v at) (tasks_of w)).history
+      (one (Mirror v at) (tasks_of w) (record { when = now_is; octets = tt }) c)
 
   report : (running b : Bool) (asdu : List ℕ) (w z : Works) → LearnsReport p at running b asdu w z
       → Q (tasks_of w)
@@ -351,4 +354,3 @@ pub all_made : (p : Setup) (log : Log) (c : Course) → Runs p log c → IsMade 
 all_made p = all_so p (λ log r. IsCalled p (latest log) r)
     (λ log call r when c. called_more p (latest log) call r when c) (next_called p)
     (record { made = []; leave = refl; rise = tt; past = le_refl 0 })
-

@@ -1,7 +1,8 @@
 -- The calls that a log shows are those that made the line's primary station what it is in the log's
 -- course.
 use Rattle.std.specs.Prelude.{if◌then◌else◌, nat_lt, not, option_map}
-use Rattle.std.proofs.Common.{◌≡◌, ℕ, zero, suc, ◌+◌, ◌<◌, ◌≤◌, Bool, true, false, All, List, [], ◌∷◌}
+use Rattle.std.proofs.Common.{◌≡◌, ℕ, zero, suc, ◌+◌, ◌<◌, ◌≤◌, Bool, true, false, All, List, []}
+use Rattle.std.proofs.Common.{◌∷◌}
 use Rattle.std.proofs.Common.{◌++◌, length, Option, Some, None, refl, ap, sym, subst, ◌∙◌, arith}
 use Rattle.std.proofs.Common.{append_assoc}
 use Rattle.std.proofs.lemmas.List.{append-nil}
@@ -30,7 +31,8 @@ use Rattle.command.specs.Calls as tasks
 use Rattle.command.specs.Calls.{Run}
 use Rattle.command.specs.Laws.{AfterEachRun}
 use Rattle.apci.specs.declared.apdu.Apdu.{Apdu}
-use Rattle.gateway.specs.Log.{Log, Input, LineIn, Opened, TcpIn, CutOff, Ticked, WallIs, Restarted, Came}
+use Rattle.gateway.specs.Log.{Log, Input, LineIn, Opened, TcpIn, CutOff, Ticked, WallIs, Restarted}
+use Rattle.gateway.specs.Log.{Came}
 use Rattle.gateway.specs.Log.{Went, LineOut, TcpOut, Closed, GapOut, latest}
 use Rattle.gateway.specs.Connections.{present}
 use Rattle.gateway.specs.Frames.{Connection}

@@ -1,4 +1,5 @@
--- What goes to TCP before a step's request (profile): all that a frame which came makes due goes out
+-- What goes to TCP before a step's request (profile): all that a frame which came makes due goes
+-- out
 -- behind it, before the next one is taken.
 use Rattle.std.specs.Prelude.{◌≡◌, ◌<◌, ℕ, List, [], ◌∷◌, ◌++◌, length}
 use Rattle.apci.specs.declared.apdu.Apdu.{Apdu}

@@ -35,7 +35,8 @@ MayFollow log (LineOut octets) =
     (list_any is_request (step_actions log) ≡ false) × GoesBehindFrames log
 MayFollow log (TcpOut octets) = list_any is_close (step_actions log) ≡ false
 MayFollow log (Closed cause) =
-    (list_any is_close (step_actions log) ≡ false) × (list_any is_request (step_actions log) ≡ false)
+    (list_any is_close (step_actions log) ≡ false)
+    × (list_any is_request (step_actions log) ≡ false)
 MayFollow log (GapOut station session) =
     (list_any is_late (step_actions log) ≡ false) × (list_any is_request (step_actions log) ≡ false)
 

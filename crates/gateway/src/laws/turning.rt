@@ -18,7 +18,7 @@ use link::{
 /// class 1 goes on while ACD is set, and repeats and the poll behind a command come at once, as the
 /// laws of the link have it over lists of calls. The list is the one that the log shows
 /// (`CallsOf`): in each step what waits is offered and a request is asked for, at the step's
-/// moment, with leave to poll exactly where the queue has room; and the log's exchanges are those of
+/// moment, with leave to poll exactly where the queue has room. The log's exchanges are those of
 /// these calls. At a restart the calls give up the link to each station with a command without an
 /// answer; that ends its visit, and the next visit of that station resets its link. (Settings have
 /// 1 to 32 stations, each with an address, and a burst of at least one.)
