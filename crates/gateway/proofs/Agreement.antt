@@ -43,6 +43,7 @@ use Rattle.gateway.specs.Course.{with_sent, HasSentAll, IsFlushed, IsUntouched, 
 use Rattle.gateway.specs.Course.{IsNextData}
 use Rattle.gateway.specs.Course.{IsTouched, HasAsked}
 use Rattle.gateway.specs.Phases.{Phase, Fresh, Taking, Judged, Idle, Crowded, Timed, Asked, IsPast}
+use Rattle.gateway.specs.Behind.{EndsFrame}
 use Rattle.gateway.specs.Phases.{IsLeftIn, IsFlushing, IsPhase, works_in, IsAsked, IsPlaced}
 use Rattle.session.specs.History as talk
 use Rattle.session.specs.declared.kinds.Unacknowledged.{Unacknowledged}
@@ -174,15 +175,49 @@ pub same_asks : (phase : Phase) (at : ℕ) (room other : Bool) (w : Works) → o
     → IsAsked phase at other w
 same_asks phase at room other w same h = subst (λ r. IsAsked phase at r w) (sym same) h
 
+-- behind a frame that came one ends in the event's octets
+abbrev pub EndsIn : Phase → Log → Type 0
+EndsIn Judged log = EndsFrame log
+EndsIn phase log = Unit {0}
+
+ends_in : (p : Setup) (s : State) (log : Log) (unjudged : List ℕ) (phase : Phase)
+    (a : Agrees p s log unjudged phase) → EndsIn phase log
+ends_in p s log unjudged phase a = by_phase phase a.left
+  where
+    ends : IsPast log (length (pending s.centre.so_far ++ unjudged)) → EndsFrame log
+    ends h = record {
+      frames = came_frames a.course.talk;
+      rest = a.here.so_far ++ unjudged;
+      fit = a.here.fit;
+      joined = a.here.joined;
+      ends = omega (
+        arith,
+        h,
+        ap (λ x. length (pending x ++ unjudged)) a.here.assembler,
+        ap length a.here.joined,
+        length-append (spelled (came_frames a.course.talk)) (a.here.so_far ++ unjudged),
+      );
+    }
+
+    by_phase : (phase : Phase) → IsLeftIn phase log (pending s.centre.so_far) unjudged
+        → EndsIn phase log
+    by_phase Fresh h = tt
+    by_phase Taking h = tt
+    by_phase Judged h = ends h
+    by_phase Idle h = tt
+    by_phase Crowded h = tt
+    by_phase Timed h = tt
+    by_phase Asked h = tt
+
 pub phase_out : (phase : Phase) (log : Log) (now : ℕ) (octets : List ℕ) → IsFlushing phase
-    → IsPhase phase log → IsPhase phase (Went now (TcpOut octets) ∷ log)
-phase_out Fresh log now octets flushing h = absurd flushing
-phase_out Taking log now octets flushing h = h
-phase_out Idle log now octets flushing h = tt
-phase_out Crowded log now octets flushing h = tt
-phase_out Judged log now octets flushing h = h
-phase_out Timed log now octets flushing h = tt
-phase_out Asked log now octets flushing h = tt
+    → EndsIn phase log → IsPhase phase log → IsPhase phase (Went now (TcpOut octets) ∷ log)
+phase_out Fresh log now octets flushing ends h = absurd flushing
+phase_out Taking log now octets flushing ends h = absurd flushing
+phase_out Idle log now octets flushing ends h = absurd flushing
+phase_out Crowded log now octets flushing ends h = absurd flushing
+phase_out Judged log now octets flushing ends h = (h.0, (ends, h.1))
+phase_out Timed log now octets flushing ends h = absurd flushing
+phase_out Asked log now octets flushing ends h = tt
 
 left_out : (phase : Phase) (log : Log) (now : ℕ) (octets so_far unjudged : List ℕ)
     → IsLeftIn phase log so_far unjudged
@@ -215,9 +250,9 @@ placed_in : (phase : Phase) (log : Log) (h : happened.History) → IsFlushing ph
 placed_in Fresh log h flushing placed on = absurd flushing
 placed_in Taking log h flushing placed on = absurd flushing
 placed_in Judged log h flushing placed on = placed on
-placed_in Idle log h flushing placed on = placed on
+placed_in Idle log h flushing placed on = absurd flushing
 placed_in Crowded log h flushing placed on = absurd flushing
-placed_in Timed log h flushing placed on = placed on
+placed_in Timed log h flushing placed on = absurd flushing
 placed_in Asked log h flushing placed on = placed on
 
 -- where a connection has just ended nothing is lacked_place
@@ -292,9 +327,9 @@ begun_by p s log unjudged phase a flushing = by_phase phase flushing a.left
     by_phase Fresh f h = absurd f
     by_phase Taking f h = absurd f
     by_phase Judged f h = some_left h
-    by_phase Idle f h = none_left h
+    by_phase Idle f h = absurd f
     by_phase Crowded f h = absurd f
-    by_phase Timed f h = none_left h
+    by_phase Timed f h = absurd f
     by_phase Asked f h = none_left h
 
 -- none is taken yet, or nothing else is due
@@ -579,7 +614,8 @@ after_piece p s log unjudged asdu rest phase a flushing ready may on none unsent
         asks =
             same_asks phase (latest log) _ _ a.course.works room a.stands.asks;
         phase_is =
-            phase_out phase log s.moment _ flushing a.stands.phase_is;
+            phase_out phase log s.moment _ flushing (ends_in p s log unjudged phase a)
+            a.stands.phase_is;
         placed =
             placed_on phase log _ _ _ (λ o. o) refl a.stands.placed;
         answered = answered_out p phase log _ a.course _ (next_frame s.centre.session asdu) s.moment
@@ -679,7 +715,8 @@ after_own p s log unjudged asdu phase a flushing ready may on first fits =
         asks = same_asks phase (latest log) _ _ w room
             (asked_own a.course.works asdu oldest phase (latest log) (room_in p log a.course)
             a.stands.asks);
-        phase_is = phase_out phase log s.moment _ flushing a.stands.phase_is;
+        phase_is = phase_out phase log s.moment _ flushing (ends_in p s log unjudged phase a)
+            a.stands.phase_is;
         placed = placed_on phase log _ _ _ (λ o. o) (own_placed a.course.works asdu oldest)
             a.stands.placed;
         answered = answered_out p phase log _ a.course _ (next_frame s.centre.session asdu) s.moment
@@ -753,7 +790,8 @@ after_due p s t log unjudged f phase a flushing next on fits none goes same = re
     does = a.stands.does;
     asks = a.stands.asks;
     phase_is =
-        phase_out phase log s.moment _ flushing a.stands.phase_is;
+        phase_out phase log s.moment _ flushing (ends_in p s log unjudged phase a)
+        a.stands.phase_is;
     placed =
         placed_on phase log _ _ _ (λ o. o) refl a.stands.placed;
     answered = answered_out p phase log _ a.course _ f s.moment flushing a.talk.timely.patient refl

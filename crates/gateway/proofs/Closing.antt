@@ -382,14 +382,15 @@ closed_asks cause Fresh at room other w timely h = absurd (not_fresh cause timel
 closed_asks cause Asked at room other w timely h = absurd (not_asked cause timely)
 
 closed_phase : (phase : Phase) (log : Log) (now : ℕ) (cause : Close) → IsCloseAt cause phase
+    → IsPhase phase log
     → IsPhase (after_closing phase) (Went now (Closed cause) ∷ log)
-closed_phase Fresh log now cause timely = absurd (not_fresh cause timely)
-closed_phase Taking log now cause timely = tt
-closed_phase Idle log now cause timely = tt
-closed_phase Crowded log now cause timely = tt
-closed_phase Judged log now cause timely = absurd (not_judged cause timely)
-closed_phase Timed log now cause timely = tt
-closed_phase Asked log now cause timely = tt
+closed_phase Fresh log now cause timely h = absurd (not_fresh cause timely)
+closed_phase Taking log now cause timely h = h.1
+closed_phase Idle log now cause timely h = h
+closed_phase Crowded log now cause timely h = h
+closed_phase Judged log now cause timely h = absurd (not_judged cause timely)
+closed_phase Timed log now cause timely h = h
+closed_phase Asked log now cause timely h = tt
 
 closed_is : (p : Setup) (cause : Close) (is_open : Bool) (at : ℕ) (c : Course) → ends cause ≡ true
     → closed_course p cause is_open at c ≡ ended_course is_open (works_at cause at c.works) c
@@ -454,7 +455,7 @@ after_close laws p s log unjudged cause phase fault a on last timely stands why 
             (room_in p new course) a.course.works timely a.stands.does;
         asks = closed_asks cause phase (latest log) (room_in p log a.course)
             (room_in p new course) a.course.works timely a.stands.asks;
-        phase_is = closed_phase phase log s.moment cause timely;
+        phase_is = closed_phase phase log s.moment cause timely a.stands.phase_is;
         placed = placed_cut (after_closing phase) new _;
         answered = closed_answered (after_closing phase) (not_asked_then cause phase timely);
       };

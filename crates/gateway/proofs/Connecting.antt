@@ -13,6 +13,7 @@ use Rattle.events.specs.Queue as queue
 use Rattle.gateway.specs.Log.{Log, Input, Opened, TcpIn, CutOff, Came, Went, Closed, latest}
 use Rattle.gateway.specs.Streams.{spelled}
 use Rattle.gateway.specs.Frames.{Sent, Connection, new_connection, AreInOrder}
+use Rattle.gateway.specs.Behind.{GoesBehindFrames}
 use Rattle.gateway.specs.Connections.{is_replaced, Channel, no_channel, new_channel, receiving}
 use Rattle.gateway.specs.Connections.{present, past, AreConnections}
 use Rattle.gateway.specs.Reports.{Setup, exchanges_of, taken_objects, taken_pieces, reports_in}
@@ -107,19 +108,19 @@ GoesOn now event log = (p : Setup) (c : Course) (z : Works)
 other_stands : (p : Setup) (t : State) (new : Log) (d : Course) (kept : Bool)
     → t.serial ≡ d.works.serial
     → d.works.is_due ≡ true → (kept ≡ true → (present new).is_open ≡ true
-    → has_lacked_place d.works.history ≡ false) → IsUntouched new d
+    → has_lacked_place d.works.history ≡ false) → GoesBehindFrames new → IsUntouched new d
     → IsAt p new (after_line kept) t d
-other_stands p t new d true does due placed none = record {
+other_stands p t new d true does due placed early none = record {
   does = does;
   asks = due;
-  phase_is = tt;
+  phase_is = early;
   placed = placed refl;
   answered = inl none;
 }
-other_stands p t new d false does due placed none = record {
+other_stands p t new d false does due placed early none = record {
   does = does;
   asks = due;
-  phase_is = tt;
+  phase_is = early;
   placed = tt;
   answered = tt;
 }
@@ -173,6 +174,7 @@ come_other p s t log now event fits kept wall shows counts aside on rest a h =
           (λ yes o. let was : (present log).is_open ≡ true =
           ap (λ (x : Channel). x.is_open) (sym aside.0) ∙ o in
           h.placed (counts yes was) ∙ placed_before p s log a was)
+          tt
           (omega (
             arith,
             ap length a.here.joined,
@@ -517,7 +519,7 @@ come_bytes p s t log now octets fits settled_fits rest a h =
       stands = record {
         does = h.does;
         asks = h.due;
-        phase_is = tt;
+        phase_is = (tt, tt);
         placed = λ o. h.placed settled_fits
             ∙ placed_before p s log a (sym (opens (present log)) ∙ o);
         answered = tt;

@@ -253,6 +253,7 @@ module _ (laws : LineLaws) (p : Setup) (s : State) (log : Log) (a : Agrees p s l
                 request = x.request;
                 spelled = refl;
                 told = all_told;
+                early = a.stands.phase_is;
                 alone = λ z. laws.alone p.link p.addresses q
                     (exchanges_of p log) may x z.exchange tells next z.latest_is z.waits;
                 room = λ polls. record {
@@ -439,7 +440,7 @@ now_settled p s log a = record {
     does = ap (λ m. serial.settled m s.serial) a.clock
         ∙ ap (serial.settled (latest log)) a.stands.does;
     asks = a.stands.asks;
-    phase_is = tt;
+    phase_is = a.stands.phase_is;
     placed = a.stands.placed;
     answered = a.stands.answered;
   };
@@ -547,7 +548,7 @@ module _ (p : Setup) (s : State) (log : Log) (a : Agrees p s log [] Idle) (gap :
     stands = record {
       does = ap serial.without_gap a.stands.does;
       asks = a.stands.asks;
-      phase_is = tt;
+      phase_is = a.stands.phase_is;
       placed = a.stands.placed;
       answered = gap_answered a.stands.answered;
     };

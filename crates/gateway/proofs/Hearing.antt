@@ -49,7 +49,7 @@ heard_stands p s log f c false wall same place h = record {
   does = ap (serial.judged f s.moment (wall_now s)) h.does
       ∙ ap (λ x. serial.judged f s.moment x c.works.serial) same;
   asks = h.asks;
-  phase_is = tt;
+  phase_is = h.phase_is.1;
   placed = tt;
   answered = tt;
 }
@@ -87,7 +87,7 @@ after_heard p s log unjudged rest f a on ready undue past so fits whole passes f
       found = a.found;
       line = a.line;
       course = with_frame p f s.moment (wall_on log s.moment) a.course;
-      talk = talk_heard p s.centre.session log a.course s.moment f rest a.talk a.stands.phase_is
+      talk = talk_heard p s.centre.session log a.course s.moment f rest a.talk a.stands.phase_is.0
           a.clock on
           ready.confirmed fits passes (a.stands.placed (sym a.here.link ∙ on))
           (flushed_by p s log unjudged Taking a ready.spent)
@@ -228,7 +228,7 @@ now_idle p s log clear undue a = record {
   stands = record {
     does = a.stands.does;
     asks = a.stands.asks;
-    phase_is = tt;
+    phase_is = a.stands.phase_is.1;
     placed = a.stands.placed;
     answered = answered_by p s log [] Taking a clear undue;
   };

@@ -30,6 +30,7 @@ use Rattle.gateway.specs.Reports.{Setup, AreFound, exchanges_of, taken_objects, 
 use Rattle.gateway.specs.Reports.{reports_in, parts_of_all}
 use Rattle.gateway.specs.Traffic.{ActsRightly, RestsBetweenSteps, HasRested, IsFaithful}
 use Rattle.gateway.specs.Course.{Course, here_of, room_in, HasAnswered, NoAnswerLate, Runs}
+use Rattle.gateway.specs.Passing.{PassingLaws}
 use Rattle.gateway.specs.Conversation.{KeepsRulesThroughout}
 use Rattle.gateway.specs.Phases.{Phase, Taking, Idle, Timed, Asked, resting, IsPhase, works_in}
 use Rattle.gateway.specs.Phases.{IsAsked, IsPlaced}
@@ -155,6 +156,7 @@ pub record Talks (p : Setup) (s : Session) (log : Log) (c : Course) : Type 0 whe
   pub timely : IsTimely p.session
   pub laws : SessionLaws
   pub command_laws : CommandLaws
+  pub passing_laws : PassingLaws
   pub line_laws : LineLaws
   pub calls : List Call
   pub called : run p.session calls ≡ record { session = s; history = c.talk }
