@@ -1,7 +1,7 @@
 -- What comes decides what goes out: two logs with the same events have the same actions.
-use Rattle.std.proofs.Common.{◌≡◌, ℕ, zero, suc, ◌+◌, ◌-◌, ◌<◌, ◌≤◌, Bool, true, false, not, List}
+use Rattle.std.proofs.Common.{◌≡◌, ℕ, suc, ◌+◌, ◌<◌, Bool, true, false, not, List}
 use Rattle.std.proofs.Common.{[]}
-use Rattle.std.proofs.Common.{◌∷◌, ◌++◌, length, take, drop, refl, ap, sym, ◌∙◌, subst, arith}
+use Rattle.std.proofs.Common.{◌∷◌, ◌++◌, length, drop, refl, ap, sym, ◌∙◌, subst, arith}
 use Rattle.std.proofs.Common.{inl, inr, Option, Some, None, length-append, length-drop}
 use Rattle.std.specs.Prelude.{◌⊎◌}
 use Rattle.std.specs.List.{flat_map}
@@ -11,7 +11,6 @@ use Rattle.apci.specs.declared.apdu.Apdu.TheVariants.{I, S, U}
 use Rattle.apci.specs.Spelling.{counter, spelling}
 use Rattle.ft12.specs.Spelling as line
 use Rattle.link.specs.Exchanges.{Sending}
-use Rattle.link.specs.Primary.{sending}
 use Rattle.link.specs.Requests.{request_frame}
 use Rattle.session.specs.declared.kinds.Close.{Close}
 use Rattle.session.specs.declared.kinds.Close.TheVariants.{Grammar, SendNumber, ReceiveNumber}
@@ -22,15 +21,15 @@ use Rattle.session.specs.History.{confirmation_of, frame_due, has_timed_out}
 use Rattle.command.specs.State.{first_answer}
 use Rattle.gateway.specs.declared.gaps.Gap.{Gap}
 use Rattle.gateway.specs.Objects.{objects, has_objects, monitor_objects}
-use Rattle.gateway.specs.Log.{Log, LogEntry, Input, Output, Opened, LineIn, TcpIn, CutOff, Ticked}
-use Rattle.gateway.specs.Log.{WallIs, Restarted, Came, Went, LineOut, TcpOut, Closed, GapOut, latest}
+use Rattle.gateway.specs.Log.{Log, LogEntry, Output}
+use Rattle.gateway.specs.Log.{Restarted, Came, Went, LineOut, TcpOut, Closed, GapOut, latest}
 use Rattle.gateway.specs.Log.{events_of}
-use Rattle.gateway.specs.Connections.{present, received_before, is_replaced, ends}
+use Rattle.gateway.specs.Connections.{present, received_before, ends}
 use Rattle.gateway.specs.Streams.{spelled}
 use Rattle.gateway.specs.Reports.{Setup, address_at, exchanges_of, taken_objects}
-use Rattle.gateway.specs.Works.{Works, has_lacked_place, ready_works, restarted_works, done_works}
-use Rattle.gateway.specs.Course.{Course, came_frames, told_sent, room_in, sent_objects, HasSentAll}
-use Rattle.gateway.specs.Course.{IsFlushed, IsUntouched, HasBegun, HasTakenAll, HasNothingDue}
+use Rattle.gateway.specs.Works.{has_lacked_place, restarted_works, done_works}
+use Rattle.gateway.specs.Course.{Course, came_frames, told_sent, room_in, sent_objects}
+use Rattle.gateway.specs.Course.{IsFlushed, IsUntouched, HasBegun, HasNothingDue}
 use Rattle.gateway.specs.Course.{HasAnswered, HasAsked}
 use Rattle.gateway.specs.Course.{MayTake, IsNextData, IsNext, HandsOver, StandsNext, IsCause}
 use Rattle.gateway.specs.Course.{SendsNext, TellsGap, IsLeft, with_works, Runs}
