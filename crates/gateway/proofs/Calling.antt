@@ -1,11 +1,9 @@
 -- The calls that a log shows are those that made the line's primary station what it is in the log's
 -- course.
 use Rattle.std.specs.Prelude.{if◌then◌else◌, nat_lt, not, option_map}
-use Rattle.std.proofs.Common.{◌≡◌, ℕ, zero, suc, ◌+◌, ◌<◌, ◌≤◌, Bool, true, false, All, List, []}
+use Rattle.std.proofs.Common.{◌≡◌, ℕ, zero, suc, ◌<◌, ◌≤◌, Bool, true, false, List, []}
 use Rattle.std.proofs.Common.{◌∷◌}
 use Rattle.std.proofs.Common.{◌++◌, length, Option, Some, None, refl, ap, sym, subst, ◌∙◌, arith}
-use Rattle.std.proofs.Common.{append_assoc}
-use Rattle.std.proofs.lemmas.List.{append-nil}
 use Rattle.std.proofs.lemmas.Bool.Decides.{nat_tests}
 use Rattle.ft12.specs.Fronts.{front_of}
 use Rattle.session.specs.declared.kinds.Close.{Close}
@@ -18,32 +16,27 @@ use Rattle.link.specs.Exchanges.{Exchanges, Sending, no_exchanges, begun_by, hea
 use Rattle.link.specs.Exchanges.{timed_current, given_up_at}
 use Rattle.link.specs.Carried.{awaits_command, awaits_command_in, given_up, given_up_upto}
 use Rattle.link.specs.Carried as line
-use Rattle.link.specs.Requests.{IsUserData, FitsAddress}
-use Rattle.link.specs.Runs.{Call, Next, Octets, Due, Offer, Withdraw, GivesUp, called, exchanged}
+use Rattle.link.specs.Requests.{IsUserData}
+use Rattle.link.specs.Runs.{Call, Next, Octets, Due, Withdraw, GivesUp, called, exchanged}
 use Rattle.link.specs.Runs.{MayCallAll, called_all, exchanged_all}
-use Rattle.link.specs.Primary.{Primary, start, asked, sending, withdrawn}
+use Rattle.link.specs.Primary.{Primary, asked, sending, withdrawn}
 use Rattle.link.specs.Telling.{Tells}
 use Rattle.link.specs.LineLaws.{LineLaws}
 use Rattle.command.specs.declared.waiting.Waiting.{Waiting}
 use Rattle.command.specs.State.{octets_waiting, oldest}
 use Rattle.command.specs.History.{History, next_octets}
-use Rattle.command.specs.Calls as tasks
 use Rattle.command.specs.Calls.{Run}
 use Rattle.command.specs.Laws.{AfterEachRun}
-use Rattle.apci.specs.declared.apdu.Apdu.{Apdu}
 use Rattle.gateway.specs.Log.{Log, Input, LineIn, Opened, TcpIn, CutOff, Ticked, WallIs, Restarted}
 use Rattle.gateway.specs.Log.{Came}
 use Rattle.gateway.specs.Log.{Went, LineOut, TcpOut, Closed, GapOut, latest}
 use Rattle.gateway.specs.Connections.{present}
-use Rattle.gateway.specs.Frames.{Connection}
 use Rattle.gateway.specs.Reports.{Setup, AreFound, exchanges_of, sending_in}
-use Rattle.gateway.specs.Room.{IsFull}
 use Rattle.gateway.specs.Serial.{Serial, offered_by, offered_upto, unless_silent}
-use Rattle.gateway.specs.Works.{Works, tasks_of, told_silent, LearnsReport, LearnsOf}
-use Rattle.gateway.specs.Works.{is_command_report, mirrored_works, octets_works, begun_works}
-use Rattle.gateway.specs.Works.{cut_works, settled_works, ready_works, unasked_works, done_works}
-use Rattle.gateway.specs.Works.{asked_works, restarted_works}
-use Rattle.gateway.specs.Course.{Course, here_of, room_by, room_in, closed_course, HasTakenAll}
+use Rattle.gateway.specs.Works.{Works, LearnsReport, LearnsOf}
+use Rattle.gateway.specs.Works.{is_command_report, mirrored_works, octets_works}
+use Rattle.gateway.specs.Works.{settled_works, ready_works, unasked_works}
+use Rattle.gateway.specs.Course.{Course, room_in, closed_course, HasTakenAll}
 use Rattle.gateway.specs.Course.{IsLeft, SendsNext, Runs}
 use Rattle.gateway.specs.Traffic.{ActsRightly}
 use Rattle.gateway.specs.Calling.{is_asking, offer_of, offers, IsLeave, Asks, EndsStep, give_ups}
@@ -55,7 +48,7 @@ use Rattle.gateway.proofs.Offering.{count_upto}
 use Rattle.gateway.proofs.Order.{frames_due, sent_due, closed_due, frames_others, sent_others}
 use Rattle.gateway.proofs.Restarting.{restarted_serial, restarted_due, done_due}
 use Rattle.gateway.proofs.Carrying.{IsForOne, line_is}
-use Rattle.gateway.proofs.Stations.{octets_of, request_back}
+use Rattle.gateway.proofs.Stations.{request_back}
 
 -- what giving up the link to a station leaves of the exchanges, as `giving_up_is_told` says it
 pub record GivesUpOne : Type 0 where

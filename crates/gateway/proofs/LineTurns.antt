@@ -17,7 +17,7 @@ use Rattle.gateway.specs.declared.settings.Station.{Station}
 use Rattle.gateway.specs.Config.{Settings, AreStations}
 use Rattle.gateway.specs.Setups.{setup_of}
 use Rattle.gateway.specs.Log.{Log}
-use Rattle.gateway.specs.Reports.{Setup, exchanges_of}
+use Rattle.gateway.specs.Reports.{Setup}
 use Rattle.gateway.specs.State.{State}
 use Rattle.gateway.specs.Phases.{resting}
 use Rattle.gateway.specs.Agrees.{Agrees}

@@ -4,13 +4,12 @@
 use Rattle.std.specs.Prelude.{◌≡◌, ℕ, zero, suc, Bool, true, false, if◌then◌else◌, List, [], ◌∷◌}
 use Rattle.std.specs.Prelude.{◌++◌, length, Option, Some, None}
 use Rattle.ft12.specs.Fronts.{front_of}
-use Rattle.session.specs.declared.kinds.Close.{Close}
 use Rattle.session.specs.declared.kinds.Close.TheVariants.{Replaced}
 use Rattle.link.specs.Exchanges.{Exchanges}
 use Rattle.link.specs.Carried.{awaits_command_in, given_up_upto}
 use Rattle.link.specs.Runs.{Call, Next, Octets, Due, Offer, Withdraw, GivesUp}
 use Rattle.command.specs.History.{History, next_octets}
-use Rattle.gateway.specs.Log.{Log, Input, LineIn, Opened, TcpIn, CutOff, Ticked, WallIs, Restarted}
+use Rattle.gateway.specs.Log.{Log, Input, LineIn, Opened, CutOff, Restarted}
 use Rattle.gateway.specs.Log.{Output, LineOut, Closed, Came, Went, latest}
 use Rattle.gateway.specs.Connections.{present}
 use Rattle.gateway.specs.Reports.{Setup, exchanges_of}
