@@ -53,6 +53,7 @@ pub mod Given
 pub mod Going
 pub mod Unchanged
 pub mod Calling
+pub mod OneCalling
 pub mod LineTurns
 pub mod GoingOut
 pub mod WholePieces

@@ -81,8 +81,8 @@ pub fn one_cause()
 }
 
 /// What became of commands in a course keeps the rules: each went to the line in turn and once, and
-/// each was answered as the first rule that applies has it. As many wait, over all stations, as were
-/// forwarded on the connection and not sent, and each that has to pass was forwarded.
+/// each was answered as the first rule that applies has it. As many wait, over all stations, as
+/// were forwarded on the connection and not sent, and each that has to pass was forwarded.
 pub fn courses_keep_commands()
     ensures { (p : Setup) (log : Log) (c : Course) → Runs p log c →
         KeepsCommands p (tasks_of c.works) }
