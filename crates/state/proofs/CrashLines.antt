@@ -1,6 +1,7 @@
 -- What a crash leaves of the lines of a log.
-use Rattle.std.proofs.Common.{◌≡◌, ◌∙◌, ◌⊎◌, inl, inr, ℕ, ◌+◌, ◌-◌, ◌<◌, ◌≤◌, ◌==◌, Bool, true, false}
-use Rattle.std.proofs.Common.{List, [], ◌∷◌, ◌++◌, length, take, drop, reverse, Some, refl, sym, ap}
+use Rattle.std.proofs.Common.{◌≡◌, ◌∙◌, ◌⊎◌, inl, inr, ℕ, ◌+◌, ◌-◌, ◌<◌, ◌≤◌, ◌==◌, Bool, true}
+use Rattle.std.proofs.Common.{false}
+use Rattle.std.proofs.Common.{List, [], ◌∷◌, ◌++◌, length, take, drop, reverse, refl, sym, ap}
 use Rattle.std.proofs.Common.{subst, append_assoc, length-append, arith}
 use Rattle.std.specs.List.{All, AllByRecursion, slice_split, position_or_len}
 use Rattle.std.specs.Prelude.{nat_lt}
@@ -21,9 +22,9 @@ use Rattle.segments.specs.Crashes.{lines_behind}
 use Rattle.segments.specs.Head.{head_for}
 use Rattle.segments.proofs.Crashes.{nothing_else_left, one_segment, synced_left, whole_left}
 use Rattle.traces.specs.Event.{event_of}
-use Rattle.traces.specs.Printed.{FitsTrace, IsFirstOf, line_of_entry, lines_of_log}
+use Rattle.traces.specs.Printed.{IsFirstOf, line_of_entry, lines_of_log}
 use Rattle.traces.specs.Progress.{came}
-use Rattle.traces.specs.Trace.{lines_of, told}
+use Rattle.traces.specs.Trace.{lines_of}
 use Rattle.traces.proofs.ReadingBack.{event_told}
 use Rattle.state.specs.Beginnings.{AreLinesRead}
 use Rattle.state.specs.Crashed.{AreLeft, HasLog, IsWritable, TellAll}
@@ -97,7 +98,7 @@ no_feed row cut = by (nat_lt n (length text)) refl
           ap (λ (l : List ℕ). length l) front,
         ) in
         λ k d less. ap (λ b. b == 10) (sym (get_or_append_left row (10 ∷ []) d k less))
-            ∙ fails_before_first (λ b. b == 10) text k d (omega (arith, less, here))
+        ∙ fails_before_first (λ b. b == 10) text k d (omega (arith, less, here))
     by false e =
         let one : text ∷ [] ≡ row ∷ [] ∷ [] =
         sym (slice_split_none (λ b. b == 10) text (λ k d lt. fails_before_first (λ b. b == 10) text

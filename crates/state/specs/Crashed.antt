@@ -14,7 +14,8 @@ use Rattle.state.specs.Replays.{AreRead, events_in_front}
 abbrev pub IsWritable : LogEntry → Type 0
 IsWritable event = (entry : Entry) × FitsTrace entry × (event ≡ event_of entry)
 
--- Whatever a crash leaves of a file: the segment with this number and this checkpoint, and behind it
+-- Whatever a crash leaves of a file: the segment with this number and this checkpoint, and behind
+-- it
 -- the lines of these events, of which the earlier ones are synced and the later ones wait. Each
 -- octet there is one of this text, or 0.
 pub record HasLog (outcomes : List ℕ → Type 0) (number : ℕ) (body : List ℕ) (waiting synced : Log) :
