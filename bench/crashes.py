@@ -210,6 +210,7 @@ class World:
 
     def close(self):
         self.field.server.close()
+        ends.kept.pop().close()
 
 
 def pieces_since(folder):
