@@ -26,9 +26,11 @@ const HEAD_ROOM: usize = 512;
 const BODY_ROOM: usize = 65_536;
 
 /// How many octets are handed to a stream at once at the most.
+// So one turn holds the run up by little (docs/DECISIONS.md, "Who looks at the state").
 const PIECE: usize = 16_384;
 
 /// How long a visitor may stay, in ms.
+// A visitor who hangs leaves soon (docs/DECISIONS.md, "Who looks at the state").
 const STAY_MS: u64 = 2_000;
 
 /// How far a visitor has come.

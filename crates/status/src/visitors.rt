@@ -10,6 +10,7 @@ use crate::snapshot::Snapshot;
 use std::alloc::{AllocError, Global};
 
 /// How many visitors there are at the most at once.
+// Three, and one beside who hangs (docs/DECISIONS.md, "Who looks at the state").
 const SEATS: usize = 4;
 
 /// Visitors who look at the state of the gateway, each from a seat of its own.
