@@ -145,7 +145,7 @@ pub struct LineDialler<'a, R> {
 impl<'a, R: Net<Stream = TcpStream> + std::rt::Clock> LineDialler<'a, R> {
     /// One for the line at this place, which is tried by the first call of `dial`.
     pub fn new(rt: &'a R, place: &'a str) -> LineDialler<'a, R>
-        ensures place { result.place ≡ place }
+        ensures place { result.place.now ≡ place.entry.now }
         ensures untried { result.addresses ≡ None }
         ensures idle { result.knock ≡ None }
     {

@@ -70,7 +70,8 @@ impl<D: StreamSource + Drop> Lookout<D> {
         door: D,
     ) -> Result<Lookout<D>, AllocError>
         ensures fresh { IfOk result (λ l. IsFresh config.now names keeps_state l.shown) }
-        ensures version { IfOk result (λ l. l.shown.version ≡ version) }
+        ensures version { IfOk result (λ l.
+            l.shown.version.now ≡ version.entry.now) }
         ensures turned { IfOk result (λ l. l.turned ≡ None) }
     {
         Ok(Lookout {
@@ -140,7 +141,7 @@ impl Shown {
         keeps_state: bool,
     ) -> Result<Shown, AllocError>
         ensures fresh { IfOk result (λ s. IsFresh config.now names keeps_state s) }
-        ensures version { IfOk result (λ s. s.version ≡ version) }
+        ensures version { IfOk result (λ s. s.version.now ≡ version.entry.now) }
     {
         Ok(Shown {
             version,
