@@ -321,7 +321,8 @@ tally counts taken w = record {
 abbrev pub line_of : Note → Watching → LogLine
 line_of what w = record { moment = w.moment; note = what; left_out = 0 }
 
--- The device failed: that the line is away, or that the state can't be kept; nothing where it didn't.
+-- The device failed: that the line is away, or that the state can't be kept; nothing where it
+-- didn't.
 abbrev pub failed : Option Failure → Watching → Watching × Option LogLine
 failed None w = (w, None)
 failed (Some failure.Line) w = with_line (line_seen Away w.moment w.line) w

@@ -1,4 +1,4 @@
-//! A visitor's seat: what was given of who sits there, and the answer on its way.
+//! A visitor's seat: what was received of who sits there, and the answer on its way.
 ghost use Rattle.std.specs.Prelude.{◌≡◌, ◌≤◌, ◌<◌, ◌^◌, length, min, take, IfOk, IfSome, None};
 ghost use Rattle.std.proofs.Props.{props};
 ghost use Rattle.std.specs.Bool.{OnTrue};

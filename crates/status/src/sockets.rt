@@ -1,4 +1,4 @@
-//! The streams on the system's sockets. No call waits.
+//! The streams of visitors on the system's sockets. No call waits.
 ghost use Rattle.std.specs.Prelude.{None};
 
 use crate::streams::{Received, Stream, StreamSource, Took};
@@ -44,7 +44,7 @@ fn is_quiet(fault: &io::Error) -> bool {
     matches!(fault.kind(), ErrorKind::WouldBlock | ErrorKind::Interrupted)
 }
 
-/// The streams: a TCP listener that doesn't wait.
+/// A TCP listener that doesn't wait.
 #[derive(Drop)]
 pub struct VisitorListener {
     listener: TcpListener,
@@ -80,7 +80,7 @@ impl StreamSource for VisitorListener {
     type Stream = VisitorSocket;
 
     fn accept(&mut self) -> Option<VisitorSocket> {
-        // Who can't be accepted is no visitor, and the streams stays open.
+        // Who can't be accepted is no visitor, and the listener stays open.
         let (stream, _) = self.listener.accept().ok()?;
         stream.set_nonblocking(true).ok()?;
         // Head and body go out in two writes; the system would hold the second one back.

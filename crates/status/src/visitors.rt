@@ -21,7 +21,7 @@ pub struct Visitors<D: StreamSource + Drop> {
 }
 
 impl<D: StreamSource + Drop> Visitors<D> {
-    /// Visitors who come through this streams. All memory is taken here.
+    /// Visitors whose streams come from this source. All memory is taken here.
     ///
     /// # Errors
     ///
@@ -40,7 +40,7 @@ impl<D: StreamSource + Drop> Visitors<D> {
     fn admit(&mut self, now_ms: u64)
         ensures few { vec_len self.new.seats ≡ vec_len self.old.seats }
     {
-        // Before a seat is sought: who finds none is sent away, and doesn't wait at the streams.
+        // Before a seat is sought: who finds none is sent away, and doesn't wait at the listener.
         let Some(stream) = self.source.accept() else {
             return;
         };
