@@ -69,7 +69,7 @@ impl<D: StreamSource + Drop> Lookout<D> {
         keeps_state: bool,
         door: D,
     ) -> Result<Lookout<D>, AllocError>
-        ensures fresh { IfOk result (λ l. IsFresh config.now names keeps_state l.shown) }
+        ensures fresh { IfOk result (λ l. IsFresh config.now names.entry keeps_state l.shown) }
         ensures version { IfOk result (λ l.
             l.shown.version.now ≡ version.entry.now) }
         ensures turned { IfOk result (λ l. l.turned ≡ None) }
@@ -140,7 +140,7 @@ impl Shown {
         version: &'static str,
         keeps_state: bool,
     ) -> Result<Shown, AllocError>
-        ensures fresh { IfOk result (λ s. IsFresh config.now names keeps_state s) }
+        ensures fresh { IfOk result (λ s. IsFresh config.now names.entry keeps_state s) }
         ensures version { IfOk result (λ s. s.version.now ≡ version.entry.now) }
     {
         Ok(Shown {

@@ -30,7 +30,7 @@ pub struct StandardError<'a, 'n, R> {
 impl<'a, 'n, R> StandardError<'a, 'n, R> {
     /// That of this process. Behind each line stands the name of what it is told of, if it has one.
     pub fn new(rt: &'a R, names: Names<'n>) -> StandardError<'a, 'n, R>
-        ensures names { result.names ≡ names }
+        ensures names { result.names ≡ names.entry }
         ensures plain { result.has_severity ≡ false }
     {
         StandardError {
@@ -43,7 +43,8 @@ impl<'a, 'n, R> StandardError<'a, 'n, R> {
     /// The same, where each line begins with how severe it is, as `<4>`: so systemd's journal takes
     /// it, which leaves that out of the text.
     pub fn with_severity(self) -> StandardError<'a, 'n, R>
-        ensures { result ≡ record self { has_severity = true } }
+        ensures names { result.names ≡ self.entry.names }
+        ensures severity { result.has_severity ≡ true }
     {
         StandardError {
             rt: self.rt,
