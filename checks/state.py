@@ -539,7 +539,11 @@ def a_full_disk(count, program):
         until(lambda: gateway.process.poll() is not None)
         status = gateway.process.poll()
         count.judge("with --state-or-stop it ends with 3", status == 3, status)
-        gateway.kill()
+        said = re.findall(r"^\S+Z \d+ (.*)$", gateway.kill(), re.M)
+        is_right = said[-2:-1] == ["state can't be kept there"] and said[-1].startswith("counts ")
+        count.judge("and says why at its end", is_right, said)
+        # The line is well: only the disk has failed.
+        count.judge("and nothing else", not {"line lost", "line not there"} & set(said), said)
         gateway.field.server.close()
 
 
