@@ -75,7 +75,9 @@ pub use examples::{
 };
 pub use heard_request::HeardRequest;
 pub use laws::asking::next_changes_nothing;
-pub use laws::at_once::{polls_follow_commands, repeats_come_at_once};
+pub use laws::at_once::{
+    polls_follow_commands, repeats_are_as_many_as_set, repeats_come_at_once,
+};
 pub use laws::bursts::class_1_polls_go_on;
 pub use laws::carrying::{
     frame_count_bits_go_on, giving_up_is_for_one_station, giving_up_is_told, sessions_go_on,
@@ -88,14 +90,16 @@ pub use laws::life::{station_is_an_outstation, station_tells_what_waits};
 pub use laws::offers::{offers_wait, one_command_at_a_time};
 pub use laws::precedence::commands_go_before_polls;
 pub use laws::refinement::{
-    commands_are_accepted, each_service_acts_once, reports_are_learnt, sessions_are_known,
-    silence_is_no_reset,
+    commands_are_accepted, each_service_acts_once, frame_count_bits_alternate, reports_are_learnt,
+    sessions_are_known, silence_is_no_reset,
 };
 pub use laws::runs::{
     commands_are_sent_in_order, frame_count_bits_are_kept, outcomes_are_answers,
     spoilt_exchanges_are_counted, turns_go_round,
 };
-pub use laws::tables::{answers_are_whole, reserved_bits_are_not_looked_at};
+pub use laws::tables::{
+    answers_are_whole, requests_are_whole, reserved_bits_are_not_looked_at,
+};
 pub use laws::visits::{no_station_starves, turns_end};
 pub use laws::{
     line_keeps_the_procedures, master_tells_the_log, outcomes_bear_the_reports,

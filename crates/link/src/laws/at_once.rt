@@ -1,7 +1,11 @@
 //! Repeats come at once, and polls behind a command.
-ghost use Rattle.std.specs.Prelude.{ℕ, List, None};
+ghost use Rattle.std.specs.Prelude.{◌≡◌, ◌<◌, ◌≤◌, ◌||◌, ℕ, suc, nat_le, Bool, List, length, None};
+ghost use Rattle.std.specs.List.{AllByRecursion};
+ghost use Rattle.link.specs.Answers.{Service};
 ghost use Rattle.link.specs.AtOnce.{RepeatsComeAtOnce, PollsFollowCommands};
-ghost use Rattle.link.specs.Procedure.{LinkSettings};
+ghost use Rattle.link.specs.Exchanges.{Exchange};
+ghost use Rattle.link.specs.Procedure.{LinkSettings, Next, link_after, has_repeats, is_up};
+ghost use Rattle.link.specs.Repeats.{IsMissed};
 ghost use Rattle.link.specs.Primary.{start};
 ghost use Rattle.link.specs.Runs.{Call};
 
@@ -12,6 +16,24 @@ ghost use Rattle.link.specs.Runs.{Call};
 pub fn repeats_come_at_once()
     ensures { (settings : LinkSettings) (addresses : List ℕ) (calls : List Call) →
         RepeatsComeAtOnce (start settings addresses) None calls }
+{}
+
+/// An unanswered service is repeated as often as the settings say. It has a repeat left as long as
+/// it was sent no more often than `retries` says, each time without an answer, and then none. Until
+/// then its link stays up, and behind the last repeat only where `hold` says so.
+pub fn repeats_are_as_many_as_set()
+    ensures again { (settings : LinkSettings) (station : ℕ) (fcb : Bool) (service : Service)
+        (sent : List Exchange) →
+        AllByRecursion (IsMissed station fcb service) sent → 0 < length sent →
+        length sent ≤ suc settings.retries →
+        has_repeats settings (link_after settings station (Next fcb) sent)
+        ≡ nat_le (length sent) settings.retries }
+    ensures up { (settings : LinkSettings) (station : ℕ) (fcb : Bool) (service : Service)
+        (sent : List Exchange) →
+        AllByRecursion (IsMissed station fcb service) sent → 0 < length sent →
+        length sent ≤ suc settings.retries →
+        is_up (link_after settings station (Next fcb) sent)
+        ≡ (settings.hold || nat_le (length sent) settings.retries) }
 {}
 
 /// Whatever is called: where the latest request of the line is a command that was answered, and the
