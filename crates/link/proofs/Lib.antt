@@ -59,3 +59,4 @@ pub mod BitsFollowed
 pub mod Repeated
 pub mod RequestTables
 pub mod Round
+pub mod BehindHeld

@@ -2,7 +2,7 @@
 ghost use Rattle.std.specs.Prelude.{◌≡◌, ◌<◌, ◌≤◌, ◌||◌, ℕ, suc, nat_le, Bool, List, length, None};
 ghost use Rattle.std.specs.List.{AllByRecursion};
 ghost use Rattle.link.specs.Answers.{Service};
-ghost use Rattle.link.specs.AtOnce.{RepeatsComeAtOnce, PollsFollowCommands};
+ghost use Rattle.link.specs.AtOnce.{RepeatsComeAtOnce, PollsFollowCommands, TurnsGoOn};
 ghost use Rattle.link.specs.Exchanges.{Exchange};
 ghost use Rattle.link.specs.Procedure.{LinkSettings, Next, link_after, has_repeats, is_up};
 ghost use Rattle.link.specs.Repeats.{IsMissed};
@@ -44,4 +44,13 @@ pub fn repeats_are_as_many_as_set()
 pub fn polls_follow_commands()
     ensures { (settings : LinkSettings) (addresses : List ℕ) (calls : List Call) →
         PollsFollowCommands (start settings addresses) None calls }
+{}
+
+/// Whatever is called: where a turn began with a service that was held, its repeats being used up,
+/// and that was answered, and the station's link is up, the next request goes to the same station,
+/// if the caller has leave. It is the command that waits there, or the poll that ACD asks for. So a
+/// held service takes the place of none of the turn's requests.
+pub fn turns_go_on_behind_held_services()
+    ensures { (settings : LinkSettings) (addresses : List ℕ) (calls : List Call) →
+        TurnsGoOn (start settings addresses) None calls }
 {}
