@@ -7,7 +7,7 @@ use Rattle.std.proofs.Common.{arith, inl, inr, ◌⊎◌, if◌then◌else◌}
 use Rattle.std.proofs.lemmas.Bool.{eq-eqb, eqb-true}
 use Rattle.std.proofs.lemmas.List.Elements.{Contains-push, Contains-push_cases}
 use Rattle.std.proofs.lemmas.List.Elements.{Contains-append_left, Contains-append_right}
-use Rattle.std.proofs.lemmas.List.Elements.{Contains-append_cases}
+use Rattle.std.proofs.lemmas.List.Elements.{Contains-append_cases, All-cons, All-nil}
 use Rattle.std.proofs.lemmas.List.Splits.{slice_split_none, slice_split_at}
 use Rattle.std.specs.List.{list_any, slice_split, Contains}
 use Rattle.ft12.specs.declared.frame.Frame.{Frame}
@@ -34,7 +34,7 @@ use Rattle.sim.specs.Losses.{send_said, sent_at, is_cut_at, spoilt_fate, fate_of
 -- ---- a line among others
 
 none_in : (d : Directive) → Contains [] d → ⊥
-none_in d c = omega (arith, c.1.0)
+none_in d c = omega (arith, c.1)
 
 here : (d : Directive) (ds : List Directive) → Contains (d ∷ ds) d
 here d ds = Contains-append_left (d ∷ []) ds d (Contains-push [] d)
@@ -54,64 +54,73 @@ either e d ds c = go (Contains-append_cases (e ∷ []) ds d c)
     go (inr later) = inr later
 
 -- a test that only this line passes
-pub any_line : (test : Directive → Bool) (d : Directive) → ((e : Directive) → test e ≡ true → e ≡ d)
-    → test d ≡ true → (ds : List Directive)
-    → (list_any test ds ≡ true → Contains ds d) × (list_any test ds ≡ false → Contains ds d → ⊥)
-any_line test d only passes [] = ((λ e. cc), λ e c. none_in d c)
-any_line test d only passes (e ∷ es) = go (test e) refl
-  where
-    rest : (list_any test es ≡ true → Contains es d) × (list_any test es ≡ false → Contains es d → ⊥)
-    rest = any_line test d only passes es
+abbrev pub Shows : (Directive → Bool) → Directive → List Directive → Type 0
+Shows test d ds =
+    (list_any test ds ≡ true → Contains ds d) × (list_any test ds ≡ false → Contains ds d → ⊥)
 
-    not_here : test e ≡ false → e ≡ d → ⊥
-    not_here fails same =
+any_more : (test : Directive → Bool) (d e : Directive) (es : List Directive)
+    → (test e ≡ true → e ≡ d) → test d ≡ true → Shows test d es → Shows test d (e ∷ es)
+any_more test d e es only passes rest = go (test e) refl
+  where
+    neither : test e ≡ false → list_any test es ≡ false → (e ≡ d) ⊎ Contains es d → ⊥
+    neither fails h (inl same) =
         let twice : true ≡ false = sym passes ∙ ap test (sym same) ∙ fails in cc
+    neither fails h (inr later) = rest.1 h later
 
     go : (b : Bool) → test e ≡ b
         → ((b || list_any test es) ≡ true → Contains (e ∷ es) d)
         × ((b || list_any test es) ≡ false → Contains (e ∷ es) d → ⊥)
     go true is = (
-      (λ h. subst (λ (x : Directive). Contains (e ∷ es) x) (only e is) (here e es)),
-      λ h. cc,
+      (λ h. subst (λ (x : Directive). Contains (e ∷ es) x) (only is) (here e es)),
+      λ h c. let no : ⊥ = cc in no,
     )
     go false is = (
       (λ h. there e d es (rest.0 h)),
-      λ h c. neither (either e d es c) h,
+      λ h c. neither is h (either e d es c),
     )
-      where
-        neither : (e ≡ d) ⊎ Contains es d → list_any test es ≡ false → ⊥
-        neither (inl same) h = not_here is same
-        neither (inr later) h = rest.1 h later
+
+pub any_line : (test : Directive → Bool) (d : Directive) → ((e : Directive) → test e ≡ true → e ≡ d)
+    → test d ≡ true → (ds : List Directive) → Shows test d ds
+any_line test d only passes [] = ((λ e. let no : ⊥ = cc in absurd no), λ e c. none_in d c)
+any_line test d only passes (e ∷ es) =
+    any_more test d e es (only e) passes (any_line test d only passes es)
 
 -- what the first of such lines says
-pub first_line : {A : Type 0} (say : Directive → Option A) (line : A → Directive)
-    → ((e : Directive) (a : A) → say e ≡ Some a → e ≡ line a) → ((a : A) → say (line a) ≡ Some a)
-    → (ds : List Directive)
-    → ((a : A) → first_said say ds ≡ Some a → Contains ds (line a))
+abbrev pub Says : {A : Type 0} → (Directive → Option A) → (A → Directive) → List Directive → Type 0
+Says {A} say line ds =
+    ((a : A) → first_said say ds ≡ Some a → Contains ds (line a))
     × (first_said say ds ≡ None → (a : A) → Contains ds (line a) → ⊥)
-first_line {A} say line only says [] = ((λ a e. cc), λ e a c. none_in (line a) c)
-first_line {A} say line only says (e ∷ es) = go (say e) refl
+
+first_more : {A : Type 0} (say : Directive → Option A) (line : A → Directive) (e : Directive)
+    (es : List Directive) → ((a : A) → say e ≡ Some a → e ≡ line a)
+    → ((a : A) → say (line a) ≡ Some a) → Says say line es → Says say line (e ∷ es)
+first_more {A} say line e es only says rest = go (say e) refl
   where
-    rest : ((a : A) → first_said say es ≡ Some a → Contains es (line a))
-        × (first_said say es ≡ None → (a : A) → Contains es (line a) → ⊥)
-    rest = first_line say line only says es
+    neither : say e ≡ None → first_said say es ≡ None → (a : A) → (e ≡ line a) ⊎ Contains es (line a)
+        → ⊥
+    neither is h a (inl same) =
+        let both : Some a ≡ None = sym (says a) ∙ ap say (sym same) ∙ is in cc
+    neither is h a (inr later) = rest.1 h a later
 
     go : (m : Option A) → say e ≡ m
         → ((a : A) → or_else m (first_said say es) ≡ Some a → Contains (e ∷ es) (line a))
         × (or_else m (first_said say es) ≡ None → (a : A) → Contains (e ∷ es) (line a) → ⊥)
     go (Some b) is = (
-      (λ a h. subst (λ (x : Directive). Contains (e ∷ es) x) (only e a (is ∙ h)) (here e es)),
-      λ h. cc,
+      (λ a h. subst (λ (x : Directive). Contains (e ∷ es) x) (only a (is ∙ h)) (here e es)),
+      λ h a c. let no : ⊥ = cc in no,
     )
     go None is = (
       (λ a h. there e (line a) es (rest.0 a h)),
-      λ h a c. neither a (either e (line a) es c) h,
+      λ h a c. neither is h a (either e (line a) es c),
     )
-      where
-        neither : (a : A) → (e ≡ line a) ⊎ Contains es (line a) → first_said say es ≡ None → ⊥
-        neither a (inl same) h =
-            let both : Some a ≡ None = sym (says a) ∙ ap say (sym same) ∙ is in cc
-        neither a (inr later) h = rest.1 h a later
+
+pub first_line : {A : Type 0} (say : Directive → Option A) (line : A → Directive)
+    → ((e : Directive) (a : A) → say e ≡ Some a → e ≡ line a) → ((a : A) → say (line a) ≡ Some a)
+    → (ds : List Directive) → Says say line ds
+first_line say line only says [] =
+    ((λ a e. let no : ⊥ = cc in absurd no), λ e a c. none_in (line a) c)
+first_line say line only says (e ∷ es) =
+    first_more say line e es (only e) says (first_line say line only says es)
 
 -- ---- the lines with a number
 
@@ -211,8 +220,8 @@ fate_is ds n =
         → IsFate ds n (if a then Unheard else if b then AnswerLost else spoilt_fate m)
     go true b m f g h = unheard.0 f
     go false true m f g h = (unheard.1 f, lost.0 g)
-    go false false None f g h = (unheard.1 f, (lost.1 g, spoilt_there.1 h))
-    go false false (Some place) f g h = (unheard.1 f, (lost.1 g, spoilt_there.0 place h))
+    go false false None f g h = (unheard.1 f, lost.1 g, spoilt_there.1 h)
+    go false false (Some place) f g h = (unheard.1 f, lost.1 g, spoilt_there.0 place h)
 
 pub cut_is : (ds : List Directive) (call : ℕ)
     → (is_cut_at ds call ≡ true → Contains ds (Cut call))
@@ -234,7 +243,7 @@ counted plan [] [] stations lived = refl
 counted plan [] (answer ∷ answers) stations lived = absurd lived
 counted plan (Went now (LineOut octets) ∷ log) [] stations lived = absurd lived
 counted plan (Went now (LineOut octets) ∷ log) (answer ∷ answers) stations lived =
-    let same : requests_in log ≡ length answers = counted plan log answers lived.0 lived.1.1 in
+    let same : requests_in log ≡ length answers = counted plan log answers lived.0 lived.2 in
     omega (arith, same)
 counted plan (Came now event ∷ log) answers stations lived =
     counted plan log answers stations lived
@@ -280,12 +289,12 @@ pub by_its_lines : (plan : Plan) (log : Log) (answers : List (Option Frame))
     (waiting_in plan (Went now (LineOut octets) ∷ log) (answer ∷ answers))
 by_its_lines plan log answers stations now octets answer lived =
     let number : requests_in log + 1 ≡ suc (length answers) =
-    let same : requests_in log ≡ length answers = counted plan log answers lived.0 lived.1.1 in
+    let same : requests_in log ≡ length answers = counted plan log answers lived.0 lived.2 in
     omega (arith, same) in
     let fate : RequestFate = fate_of plan.directives (requests_in log + 1) in
-    let out = put fate octets lived.0 answer stations lived.1.0 in
+    let out = put fate octets lived.0 answer stations lived.1 in
     let waiting = waits plan.size fate answer in
-    (lived.0, (lived.1.1, record {
+    (lived.0, lived.2, record {
       fate = fate;
       said = subst (λ (n : ℕ). IsFate plan.directives n fate) number
           (fate_is plan.directives (requests_in log + 1));
@@ -293,20 +302,25 @@ by_its_lines plan log answers stations now octets answer lived =
       heard = out.1;
       none = waiting.0;
       comes = waiting.1;
-    }))
+    })
 
 -- ---- the texts of the lines
 
+digit_more : (n d m : ℕ) (ds : List ℕ) (b : Bool) → (nat_le 48 d && nat_le d 57) ≡ b
+    → (digits_after (n * 10 + (d - 48)) ds ≡ Some m → All (λ x. (x == 32) ≡ false) ds)
+    → (if b then digits_after (n * 10 + (d - 48)) ds else None) ≡ Some m
+    → All (λ x. (x == 32) ≡ false) (d ∷ ds)
+digit_more n d m ds true within rest is =
+    let first : (d == 32) ≡ false = grind arith in
+    All-cons (λ x. (x == 32) ≡ false) d ds first (rest is)
+digit_more n d m ds false within rest is = let no : ⊥ = cc in absurd no
+
 no_space : (n : ℕ) (digits : List ℕ) (m : ℕ) → digits_after n digits ≡ Some m
-    → All (λ d. (d == 32) ≡ false) digits
-no_space n [] m is = tt
-no_space n (d ∷ ds) m is = go (nat_le 48 d && nat_le d 57) refl is
-  where
-    go : (b : Bool) → (nat_le 48 d && nat_le d 57) ≡ b
-        → (if b then digits_after (n * 10 + (d - 48)) ds else None) ≡ Some m
-        → All (λ d. (d == 32) ≡ false) (d ∷ ds)
-    go true within here = (grind arith, no_space (n * 10 + (d - 48)) ds m here)
-    go false within here = cc
+    → All (λ x. (x == 32) ≡ false) digits
+no_space n [] m is = All-nil (λ x. (x == 32) ≡ false)
+no_space n (d ∷ ds) m is =
+    digit_more n d m ds (nat_le 48 d && nat_le d 57) refl
+    (no_space (n * 10 + (d - 48)) ds m) is
 
 digits_of : (digits : List ℕ) (n : ℕ) → number_of digits ≡ Some n → digits_after 0 digits ≡ Some n
 digits_of digits n is =
@@ -315,8 +329,8 @@ digits_of digits n is =
     go : (a b : Bool) → (if a then (if b then digits_after 0 digits else None) else None) ≡ Some n
         → digits_after 0 digits ≡ Some n
     go true true here = here
-    go true false here = cc
-    go false b here = cc
+    go true false here = let no : ⊥ = cc in absurd no
+    go false b here = let no : ⊥ = cc in absurd no
 
 -- the fields of a line that ends in a number
 fields : (digits : List ℕ) (n : ℕ) → number_of digits ≡ Some n
