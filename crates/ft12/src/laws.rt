@@ -82,7 +82,7 @@ pub fn frames_are_heard_one_after_another()
 {}
 
 /// Each frame has these octets, whatever its control octet, address and data are, and however many
-/// data it has.
+/// data it has; and all that the length octet can count make a frame.
 pub fn frames_have_these_octets()
     ensures { HavePlaces }
 {}

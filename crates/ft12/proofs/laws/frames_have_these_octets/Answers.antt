@@ -1,5 +1,8 @@
 use Rattle.std.proofs.Common.{◌≡◌, ℕ, ◌+◌, ◌/◌, ◌%◌, List, [], ◌∷◌, ◌++◌, length, sum, refl, ap}
-use Rattle.std.proofs.Common.{◌∙◌, arith}
+use Rattle.std.proofs.Common.{◌<◌, ◌≤◌, ◌∙◌, arith}
+use Rattle.ft12.specs.declared.frame.LinkSize.{LinkSize}
+use Rattle.ft12.specs.declared.frame.LinkSize.TheVariants.{One, Two}
+use Rattle.ft12.specs.Spelling.{address_len, user}
 use Rattle.std.proofs.lemmas.List.Sums.{sum_by-cons}
 use Rattle.ft12.proofs.laws.frames_have_these_octets.Goals as goal
 
@@ -7,6 +10,11 @@ use Rattle.ft12.proofs.laws.frames_have_these_octets.Goals as goal
 lengths : (n m : ℕ) (octets : List ℕ) → n ≡ m
     → 0x68 ∷ n ∷ n ∷ 0x68 ∷ octets ≡ 0x68 ∷ m ∷ m ∷ 0x68 ∷ octets
 lengths n m octets e = ap (λ (k : ℕ). 0x68 ∷ k ∷ k ∷ 0x68 ∷ octets) e
+
+fitting : (size : LinkSize) (c a : ℕ) (body : List ℕ) → 1 + address_len size + length body ≤ 255
+    → length (user size c a body) < 256
+fitting One c a body short = omega (arith, short)
+fitting Two c a body short = omega (arith, short)
 
 plus : (x : ℕ) (xs : List ℕ) → sum (x ∷ xs) ≡ x + sum xs
 plus x xs = sum_by-cons (λ (n : ℕ). n) x xs
@@ -38,4 +46,10 @@ returns laws = record {
       (c ∷ low ∷ high ∷ (body.items ++ sum (c ∷ low ∷ high ∷ body.items) % 256 ∷ 0x16 ∷ [])) f
       ∙ ap (λ (n : ℕ). 0x68 ∷ (3 + length body.items) ∷ (3 + length body.items) ∷ 0x68 ∷ c ∷ low ∷ high
       ∷ (body.items ++ n % 256 ∷ 0x16 ∷ [])) e;
+  fixed_fits = λ size c a control address. record { control = control; address = address };
+  data_fits = λ size c a body control address octets short. (
+    record { control = control; address = address },
+    octets,
+    fitting size c a body.items short,
+  );
 }
