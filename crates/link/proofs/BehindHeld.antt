@@ -262,8 +262,11 @@ missed_tells p began o e tells = (repeats, go began tells.1)
 
     repeats : has_repeats p.settings it.link ≡ true → ((unanswered p o).outstanding ≡ None)
         × (is_held link ≡ true → has_repeats p.settings link ≡ true)
-    repeats again = (refl, λ held.
-        ap (has_repeats p.settings) (held_is p.stations p.turn it held) ∙ again)
+    repeats again = (
+      refl,
+      λ held.
+          ap (has_repeats p.settings) (held_is p.stations p.turn it held) ∙ again,
+    )
 
     go : (b : Option ℕ) → Began p b → Began (unanswered p o) b
     go None state = tt

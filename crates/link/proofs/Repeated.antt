@@ -10,7 +10,6 @@ use Rattle.link.specs.Procedure.{LinkSettings, Link, Down, Next, Held, after, af
 use Rattle.link.specs.Procedure.{link_after, missed_so_far, has_repeats, is_up}
 use Rattle.link.specs.Repeats.{IsMissed}
 
-
 after_missed : (settings : LinkSettings) (station : ℕ) (fcb : Bool) (service : Service)
     (x : Exchange) (link : Link) → IsMissed station fcb service x
     → after settings station x link ≡ held settings fcb service (suc (missed_so_far link))

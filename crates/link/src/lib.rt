@@ -103,9 +103,7 @@ pub use laws::runs::{
     commands_are_sent_in_order, frame_count_bits_are_kept, outcomes_are_answers,
     spoilt_exchanges_are_counted, turns_go_round,
 };
-pub use laws::tables::{
-    answers_are_whole, requests_are_whole, reserved_bits_are_not_looked_at,
-};
+pub use laws::tables::{answers_are_whole, requests_are_whole, reserved_bits_are_not_looked_at};
 pub use laws::visits::{no_station_starves, turns_end};
 pub use laws::{
     line_keeps_the_procedures, master_tells_the_log, outcomes_bear_the_reports,
