@@ -43,8 +43,8 @@ pub fn objects_are_those_of_the_asdu()
 {}
 
 /// Each report of a monitor type is passed on with all its objects, whatever its cause, except for
-/// a negative 'unknown type' (cause 44 with P/N set), with the test bit or without. Of these, and of
-/// all other types, nothing is passed on.
+/// a negative 'unknown type' (cause 44 with P/N set), with the test bit or without. Of these, and
+/// of all other types, nothing is passed on.
 pub fn monitor_reports_are_passed_on()
     ensures passed { (s : Sizes) (u : AsduValue) (xs : List ℕ) → IsAsdu s u xs →
         (row u.kind).monitor ≡ true → (u.cause % 128 ≡ 108 → ⊥) →

@@ -35,7 +35,8 @@ pub record Exists (m : Moment) : Type 0 where
 -- day of the week above it; month; year.
 abbrev pub tag_of : Moment → List ℕ
 tag_of m =
-    (m.millisecond % 256) ∷ (m.millisecond / 256) ∷ m.minute ∷ m.hour ∷ (m.day + 32 * m.weekday) ∷ m.month
+    (m.millisecond % 256) ∷ (m.millisecond / 256) ∷ m.minute ∷ m.hour ∷ (m.day + 32 * m.weekday)
+    ∷ m.month
     ∷ m.year ∷ []
 
 -- milliseconds since 1970-01-01

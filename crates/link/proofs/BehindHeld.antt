@@ -157,7 +157,8 @@ asked_tells p began now may_poll tells = go p.outstanding refl
         → Tells (asked_from p o now may_poll) (began_out p o may_poll began)
     go (Some o) e = tells
     go None e =
-        subst (λ (s : Option Sending). Tells (after_choice p now (choice p may_poll)) (began_by p s))
+        subst (λ (s : Option Sending). Tells (after_choice p now (choice p may_poll))
+        (began_by p s))
         (sym (ap (λ (o : Option Outstanding). sending_from p o may_poll) e))
         (by e (choice p may_poll) refl)
 

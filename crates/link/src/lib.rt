@@ -16,15 +16,15 @@
 //!   outstanding ([`requests_wait_their_turn`]), turns go round the stations ([`turns_go_round`]),
 //!   a turn ends ([`turns_end`]) and no station starves ([`no_station_starves`]), an unanswered
 //!   service is sent again at once ([`repeats_come_at_once`]) and as often as is set
-//!   ([`repeats_are_as_many_as_set`]), a command that waits goes out before
-//!   any new poll ([`commands_go_before_polls`]) and polls follow it in its turn
-//!   ([`polls_follow_commands`]), as they follow a held service
-//!   ([`turns_go_on_behind_held_services`]), polls and commands go by ACD and DFC ([`flags_are_heeded`],
-//!   [`class_1_polls_go_on`]), a command is sent for the first time once, in order
-//!   ([`commands_are_sent_in_order`]), what is offered waits until then ([`offers_wait`]) and is
-//!   taken where no other is under way ([`one_command_at_a_time`]), what the caller is told is what
-//!   the exchanges show ([`outcomes_are_answers`], [`outcomes_bear_the_reports`]), and those that
-//!   closed with octets but no answer are counted ([`spoilt_exchanges_are_counted`]);
+//!   ([`repeats_are_as_many_as_set`]), a command that waits goes out before any new poll
+//!   ([`commands_go_before_polls`]) and polls follow it in its turn ([`polls_follow_commands`]), as
+//!   they follow a held service ([`turns_go_on_behind_held_services`]), polls and commands go by
+//!   ACD and DFC ([`flags_are_heeded`], [`class_1_polls_go_on`]), a command is sent for the first
+//!   time once, in order ([`commands_are_sent_in_order`]), what is offered waits until then
+//!   ([`offers_wait`]) and is taken where no other is under way ([`one_command_at_a_time`]), what
+//!   the caller is told is what the exchanges show ([`outcomes_are_answers`],
+//!   [`outcomes_bear_the_reports`]), and those that closed with octets but no answer are counted
+//!   ([`spoilt_exchanges_are_counted`]);
 //! - a reset that ends a session whose last report may be lost is told, and no other
 //!   ([`gaps_are_told`], [`gaps_are_ended_sessions`]);
 //! - where a link is given up at a restart no other station changes

@@ -96,7 +96,8 @@ first_more : {A : Type 0} (say : Directive → Option A) (line : A → Directive
     → ((a : A) → say (line a) ≡ Some a) → Says say line es → Says say line (e ∷ es)
 first_more {A} say line e es only says rest = go (say e) refl
   where
-    neither : say e ≡ None → first_said say es ≡ None → (a : A) → (e ≡ line a) ⊎ Contains es (line a)
+    neither : say e ≡ None → first_said say es ≡ None → (a : A) → (e ≡ line a)
+        ⊎ Contains es (line a)
         → ⊥
     neither is h a (inl same) =
         let both : Some a ≡ None = sym (says a) ∙ ap say (sym same) ∙ is in cc
@@ -259,9 +260,12 @@ waits : (size : LinkSize) (fate : RequestFate) (answer : Option Frame)
     × ((frame : Frame) → answer ≡ Some frame
     → WaitsBy fate (spelling size frame) (arriving size fate answer))
 waits size fate None = ((λ e. refl), λ frame e. cc)
-waits size fate (Some given) = ((λ e. cc), λ frame e. subst
-    (λ (f : Frame). WaitsBy fate (spelling size f) (arriving size fate (Some given)))
-    (same given frame e) (by fate))
+waits size fate (Some given) = (
+  (λ e. cc),
+  λ frame e. subst
+      (λ (f : Frame). WaitsBy fate (spelling size f) (arriving size fate (Some given)))
+      (same given frame e) (by fate),
+)
   where
     same : (f g : Frame) → Some f ≡ Some g → f ≡ g
     same f g e = cc
@@ -293,16 +297,19 @@ by_its_lines plan log answers stations now octets answer lived =
     omega (arith, same) in
     let fate : RequestFate = fate_of plan.directives (requests_in log + 1) in
     let out = put fate octets lived.0 answer stations lived.1 in
-    let waiting = waits plan.size fate answer in
-    (lived.0, lived.2, record {
-      fate = fate;
-      said = subst (λ (n : ℕ). IsFate plan.directives n fate) number
-          (fate_is plan.directives (requests_in log + 1));
-      unheard = out.0;
-      heard = out.1;
-      none = waiting.0;
-      comes = waiting.1;
-    })
+    let waiting = waits plan.size fate answer in (
+      lived.0,
+      lived.2,
+      record {
+        fate = fate;
+        said = subst (λ (n : ℕ). IsFate plan.directives n fate) number
+            (fate_is plan.directives (requests_in log + 1));
+        unheard = out.0;
+        heard = out.1;
+        none = waiting.0;
+        comes = waiting.1;
+      },
+    )
 
 -- ---- the texts of the lines
 

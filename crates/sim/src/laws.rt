@@ -66,9 +66,9 @@ pub fn connections_are_counted()
     spellings_cancel();
 }
 
-/// A line of a script is about the one request, or the one call, whose number it has, whatever other
-/// lines there are. So a script that loses request n loses no other: a request isn't heard if and
-/// only if a line `lose request` has its number, and what becomes of its answer depends on the
+/// A line of a script is about the one request, or the one call, whose number it has, whatever
+/// other lines there are. So a script that loses request n loses no other: a request isn't heard if
+/// and only if a line `lose request` has its number, and what becomes of its answer depends on the
 /// lines with its number alone. The connection is cut at the calls of the lines `cut`, and what is
 /// sent at a call is of a line `send` with its number. The number is that which the line's digits
 /// write.

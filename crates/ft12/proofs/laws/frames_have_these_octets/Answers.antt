@@ -40,11 +40,18 @@ returns laws = record {
       let low : ℕ = a % 256 in
       let high : ℕ = a / 256 in
       let e : sum (c ∷ low ∷ high ∷ body.items) ≡ c + low + high + sum body.items =
-      omega (arith, plus c (low ∷ high ∷ body.items), plus low (high ∷ body.items), plus high body.items) in
+      omega (
+        arith,
+        plus c (low ∷ high ∷ body.items),
+        plus low (high ∷ body.items),
+        plus high
+            body.items,
+      ) in
       let f : length (c ∷ low ∷ high ∷ body.items) ≡ 3 + length body.items = omega arith in
       lengths (length (c ∷ low ∷ high ∷ body.items)) (3 + length body.items)
       (c ∷ low ∷ high ∷ (body.items ++ sum (c ∷ low ∷ high ∷ body.items) % 256 ∷ 0x16 ∷ [])) f
-      ∙ ap (λ (n : ℕ). 0x68 ∷ (3 + length body.items) ∷ (3 + length body.items) ∷ 0x68 ∷ c ∷ low ∷ high
+      ∙ ap (λ (n : ℕ). 0x68 ∷ (3 + length body.items) ∷ (3 + length body.items) ∷ 0x68 ∷ c ∷ low
+      ∷ high
       ∷ (body.items ++ n % 256 ∷ 0x16 ∷ [])) e;
   fixed_fits = λ size c a control address. record { control = control; address = address };
   data_fits = λ size c a body control address octets short. (
