@@ -5,7 +5,10 @@ use Rattle.std.proofs.Common.{List, [], ◌∷◌, refl, sym, ap, subst, ◌∙�
 use Rattle.std.proofs.lemmas.Bool.{eq-eqb}
 use Rattle.jiff_core.specs.Calendar.{days_in_month, weekday_number}
 use Rattle.elements.specs.declared.tag.Fields.{Fields}
-use Rattle.elements.specs.declared.tag.Verdict.TheVariants.{Good}
+use Rattle.std.specs.Prelude.{slice_index}
+use Rattle.elements.specs.declared.tag.Verdict.{Verdict}
+use Rattle.elements.specs.declared.tag.Verdict.TheVariants.{Good, MarkedInvalid, OutOfRange}
+use Rattle.elements.specs.declared.tag.Verdict.TheVariants.{NoSuchDay, WrongWeekday}
 use Rattle.elements.specs.TimeTag.{fields_of, is_out_of_range, year_of, day_exists, day_number}
 use Rattle.elements.specs.TimeTag.{is_weekday_wrong, instant_of, verdict_of_fields, verdict_of}
 use Rattle.elements.specs.Moments.{Moment, days, Exists, tag_of, instant}
@@ -92,3 +95,21 @@ good m is =
     let day = exists m is in
     let weekday = right_day m is.weekday in
     rw (range, day, weekday) refl)
+
+never_good : (out exists wrong : Bool) (n m : ℕ)
+    → (if out then OutOfRange else if not exists then NoSuchDay else if wrong then WrongWeekday
+    else if true then MarkedInvalid else Good n) ≡ Good m → ⊥
+never_good true exists wrong n m e = cc
+never_good false false wrong n m e = cc
+never_good false true true n m e = cc
+never_good false true false n m e = cc
+
+pub marked : (octets : List ℕ) (m : ℕ) → 128 ≤ slice_index octets 2
+    → verdict_of octets ≡ Good m → ⊥
+marked octets m iv e =
+    let f : Fields = fields_of octets in
+    let is : nat_le 128 (slice_index octets 2) ≡ true = grind arith in
+    never_good (is_out_of_range f) (day_exists f) (is_weekday_wrong f) (instant_of f) m
+    (sym (ap (λ (b : Bool). if is_out_of_range f then OutOfRange
+    else if not (day_exists f) then NoSuchDay else if is_weekday_wrong f then WrongWeekday
+    else if b then MarkedInvalid else Good (instant_of f)) is) ∙ e)

@@ -1,5 +1,5 @@
 //! What the standard says of types, elements and time tags, each law called for its contract.
-ghost use Rattle.std.specs.Prelude.{◌≡◌};
+ghost use Rattle.std.specs.Prelude.{◌≡◌, ◌≤◌, ℕ, List, slice_index};
 ghost use Rattle.std.specs.List.{AllByRecursion};
 ghost use Rattle.elements.specs.declared.tag.Verdict.TheVariants.{Good};
 ghost use Rattle.elements.specs.Moments.{Moment, Exists, tag_of, instant};
@@ -22,7 +22,10 @@ pub fn worked_examples_hold()
 {}
 
 /// The tag of each moment of the years 2000 to 2099 is good, with the day of the week or without,
-/// and its instant is that moment's.
+/// and its instant is that moment's. No tag is good that is marked invalid (IV, bit 7 of the octet
+/// of the minute).
 pub fn tags_of_moments_are_good()
-    ensures { (m : Moment) → Exists m → verdict_of (tag_of m) ≡ Good (instant m) }
+    ensures good { (m : Moment) → Exists m → verdict_of (tag_of m) ≡ Good (instant m) }
+    ensures marked { (octets : List ℕ) (instant : ℕ) → 128 ≤ slice_index octets 2 →
+        verdict_of octets ≡ Good instant → ⊥ }
 {}
