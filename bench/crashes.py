@@ -3,7 +3,7 @@
 
     bench/crashes.py [--program FILE] [--run NAME] [--actions N] [--every N] [--seed N] [--side N] [--lying]
 
-Nothing in the gate depends on it: checks/state.py has a part of these cuts at random (docs/TESTS.md has the table).
+Nothing in the gate depends on it: checks/state.py has a part of these cuts at random.
 
 A run is ended in front of its first call that changes a file of the state or gives octets to a socket, another one in front of its second
 call, and so on (`--actions`, or each `--every`th). What its files have then is what was synced, with a beginning of what was written since:
