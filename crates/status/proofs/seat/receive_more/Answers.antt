@@ -13,7 +13,8 @@ returns-in-Nothing-clause-answers g c = rw c.requires.stage c.in-Nothing.ensures
 pub returns-in_default : goal.returns-in_default
 returns-in_default g c = record {
   kept = kept_answered _ _ _ _ _ _
-      (kept_received _ _ _ _ _ _ c.args.desk.now c.receive.new.request c.requires.kept c.requires.stage
+      (kept_received _ _ _ _ _ _ c.args.desk.now c.receive.new.request c.requires.kept
+      c.requires.stage
       c.receive.ensures.given c.receive.ensures.taken)
       c.requires.stage;
   since = refl;
