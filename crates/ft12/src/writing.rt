@@ -24,7 +24,6 @@ pub(crate) const END: u8 = 0x16;
 const LONGEST: usize = 261;
 
 /// The sum of octets, modulo 256.
-#[inline]
 pub(crate) fn sum_of(octets: &[u8]) -> u8
     ensures { result ≡ sum octets.now % 256 }
 {
