@@ -90,7 +90,6 @@ fn may_be_octets(digits: usize) -> bool
 /// The octets in hexadecimal that are the whole first line of a text, and the lines behind it.
 /// `None` where the line is anything else. Its end is found where its digits end, so that each
 /// octet is looked at once.
-#[inline(always)]
 pub(crate) fn octets_line(text: &[u8]) -> Option<(&[u8], Option<&[u8]>)>
     ensures { IsOctetsLine text.entry.now result }
 {
@@ -104,7 +103,6 @@ pub(crate) fn octets_line(text: &[u8]) -> Option<(&[u8], Option<&[u8]>)>
 
 /// The first line of a text whose digits end here, where these are all of it, and the lines behind
 /// it.
-#[inline(always)]
 fn digits_line(text: &[u8], end: usize) -> Option<(&[u8], Option<&[u8]>)>
     requires { DigitsEnd text.now end }
     ensures { IsDigitsLine text.entry.now result }
@@ -120,7 +118,6 @@ fn digits_line(text: &[u8], end: usize) -> Option<(&[u8], Option<&[u8]>)>
 
 /// Where the digits at the front of a text end. The first are looked at one by one, since a value
 /// of one octet ends there, as most are in pieces; the others a block at a time.
-#[inline(always)]
 fn digits_end(text: &[u8]) -> usize
     ensures { DigitsEnd text.now result }
 {
@@ -132,7 +129,6 @@ fn digits_end(text: &[u8]) -> usize
 }
 
 /// As far as there are digits, and on to the first other octet or to the limit.
-#[inline(always)]
 fn run_end(text: &[u8], from: usize, limit: usize) -> usize
     requires digits { AreDigitsTo text.now from }
     requires within { limit ≤ length text.now }
@@ -158,7 +154,6 @@ const NEAR: usize = 4;
 const BLOCK: usize = 16;
 
 /// As far as there are digits, and on for as many whole blocks of them as follow.
-#[inline(always)]
 fn blocks_end(text: &[u8], from: usize) -> usize
     requires { AreDigitsTo text.now from }
     ensures { AreDigitsTo text.now result }
@@ -174,7 +169,6 @@ fn blocks_end(text: &[u8], from: usize) -> usize
 }
 
 /// Whether each octet is a digit: of a block the compiler judges all at once.
-#[inline(always)]
 fn is_each_digit(text: &[u8]) -> bool
     ensures { result ≡ list_all is_hex_digit text.now }
 {
@@ -186,7 +180,6 @@ fn is_each_digit(text: &[u8]) -> bool
 }
 
 /// Whether an octet is a digit. No look at the table, so that many octets are judged at a time.
-#[inline(always)]
 fn is_digit(octet: u8) -> bool
     ensures { result ≡ is_hex_digit octet }
 {
@@ -324,9 +317,7 @@ fn digit_value(octet: u8) -> u8
     (octet % 16 + octet / 64 * 9) % 16
 }
 
-/// Decodes on, for as many whole blocks of pairs of digits as follow, as far as the limit. A call,
-/// since the loops need more registers than a caller leaves them.
-#[inline(never)]
+/// Decodes on, for as many whole blocks of pairs of digits as follow, as far as the limit.
 fn write_blocks(text: &[u8], buf: &mut [u8; 1024], from: usize, limit: usize) -> usize
     requires so_far { Paired text.now buf.old from }
     requires forward { from ≤ limit }
