@@ -428,9 +428,7 @@ impl Gateway {
         self.hear_end(&octets[count..])
     }
 
-    /// As `hear`, for octets of which the first may be the last of an answer. It stands apart, so
-    /// that octets that end none make no place for a frame.
-    #[inline(never)]
+    /// As `hear`, for octets of which the first may be the last of an answer.
     fn hear_end(&mut self, octets: &[u8]) -> bool
         ensures { Hears self.old octets.now result self.new }
     {
