@@ -360,9 +360,7 @@ impl Master {
         self.begin_next(now, may_poll)
     }
 
-    /// As `next`, while no request is outstanding. It stands apart, so that a call while one is
-    /// makes no place for another.
-    #[inline(never)]
+    /// As `next`, while no request is outstanding.
     fn begin_next(&mut self, now: u64, may_poll: bool) -> Option<Request>
         requires { self.old.outstanding ≡ None }
         ensures state { self.new ≡ asked self.old now may_poll }
@@ -389,8 +387,7 @@ impl Master {
         Some(self.begin(now, Chosen { station, wanted }))
     }
 
-    /// As `begin`, for any wish. It stands apart, so that a poll makes no place for a command.
-    #[inline(never)]
+    /// As `begin`, for any wish.
     fn begin_other(&mut self, now: u64, station: usize, wish: Wish) -> Request
         requires { IsFittingChoice self.old (Some (record {
           station = station;
