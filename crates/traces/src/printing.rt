@@ -109,9 +109,8 @@ fn spell_blocks(octets: &[u8], out: &mut [u8]) -> usize
     done
 }
 
-/// Spells one block of octets more. The compiler takes the octets all at once. A call, since
-/// inlined it would try to take several blocks at once too.
-#[inline(never)]
+/// Spells one block of octets more. The compiler takes the octets all at once.
+#[inline(always)]
 fn spell_block(octets: &[u8], out: &mut [u8], from: usize)
     requires so_far { IsSpelledTo octets.now out.old from }
     requires within { from + 16 ≤ length octets.now }
