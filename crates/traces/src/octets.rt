@@ -265,7 +265,6 @@ fn write_each(text: &[u8], buf: &mut [u8; 1024], from: usize, limit: usize) -> u
 const WIDE_PAIRS: usize = 16;
 
 /// Decodes on, for as many wide blocks of pairs of digits as follow, as far as the limit.
-#[inline(always)]
 fn write_wide(text: &[u8], buf: &mut [u8; 1024], from: usize, limit: usize) -> usize
     requires so_far { Paired text.now buf.old from }
     requires forward { from ≤ limit }
@@ -286,7 +285,6 @@ fn write_wide(text: &[u8], buf: &mut [u8; 1024], from: usize, limit: usize) -> u
 
 /// Decodes one wide block of pairs more, and says whether all were of digits: else what it writes
 /// means nothing. The compiler takes the digits all at once.
-#[inline(always)]
 fn write_wide_block(text: &[u8], buf: &mut [u8; 1024], from: usize) -> bool
     requires so_far { Paired text.now buf.old from }
     requires most { from + 16 ≤ 1024 }
@@ -308,7 +306,6 @@ fn write_wide_block(text: &[u8], buf: &mut [u8; 1024], from: usize) -> bool
 
 /// The value of a digit; of another octet it means nothing. No look at the table, so that many
 /// digits are decoded at a time.
-#[inline(always)]
 fn digit_value(octet: u8) -> u8
     ensures value { is_hex_digit octet ≡ true → hex_digit_value octet ≡ Some result }
     ensures small { result < 16 }
@@ -337,7 +334,6 @@ fn write_blocks(text: &[u8], buf: &mut [u8; 1024], from: usize, limit: usize) ->
 }
 
 /// Decodes on, for as many blocks of pairs of digits as follow, as far as the limit.
-#[inline(always)]
 fn write_narrow(text: &[u8], buf: &mut [u8; 1024], from: usize, limit: usize) -> usize
     requires so_far { Paired text.now buf.old from }
     requires forward { from ≤ limit }
@@ -358,7 +354,6 @@ fn write_narrow(text: &[u8], buf: &mut [u8; 1024], from: usize, limit: usize) ->
 
 /// Decodes one block of pairs more, and says whether all were of digits. That is seen at its end:
 /// what it writes where they weren't means nothing.
-#[inline(always)]
 fn write_block(text: &[u8], buf: &mut [u8; 1024], from: usize) -> bool
     requires so_far { Paired text.now buf.old from }
     requires most { from + 4 ≤ 1024 }
@@ -378,7 +373,6 @@ fn write_block(text: &[u8], buf: &mut [u8; 1024], from: usize) -> bool
 const NO_DIGIT: u16 = 256;
 
 /// The octet of two digits. It is none where one of these is no digit.
-#[inline(always)]
 fn pair(high: u8, low: u8) -> u16
     ensures { IsPair high low result }
 {

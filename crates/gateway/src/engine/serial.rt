@@ -259,7 +259,6 @@ impl SerialSide {
     }
 
     /// Ends the line's exchange where its time is over.
-    #[inline(always)]
     fn end_late_exchange(&mut self, moment: u64)
         ensures state { self.new ≡ timed moment self.old }
         ensures polls { is_polling self.new.line ≡ true → is_polling self.old.line ≡ true }
@@ -497,7 +496,6 @@ impl Gateway {
     }
 
     /// Ends the line's exchange where its time is over.
-    #[inline(always)]
     pub(crate) fn end_late_exchange(&mut self)
         ensures { self.new ≡ line_timed self.old }
     {
