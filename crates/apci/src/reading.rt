@@ -145,7 +145,6 @@ fn short_of(octets: &[u8]) -> Option<Short>
 }
 
 /// The answer of `first_of`, which each octet decides in turn.
-#[inline(never)]
 fn octet_by_octet(octets: &[u8]) -> FrontRef<'_>
     ensures { IsFront octets.now (owned_front result) }
 {

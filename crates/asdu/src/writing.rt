@@ -212,7 +212,6 @@ fn append_located<const N: usize>(out: &mut ArrayVec<u8, N>, size: IoaSize, obje
 }
 
 /// Appends objects whose addresses grow from two octets to three, as those of most lines do.
-#[inline(never)]
 fn append_widened<const N: usize>(out: &mut ArrayVec<u8, N>, objects: Objects)
     requires mode { objects.next_address ≡ None }
     requires two { ioa_len objects.ioa ≡ 2 }
@@ -236,7 +235,6 @@ fn append_widened<const N: usize>(out: &mut ArrayVec<u8, N>, objects: Objects)
 }
 
 /// Appends objects of so many octets whose addresses grow from two octets to three.
-#[inline(never)]
 fn append_each<const N: usize, const CONTENT: usize>(out: &mut ArrayVec<u8, N>, objects: Objects)
     requires mode { objects.next_address ≡ None }
     requires two { ioa_len objects.ioa ≡ 2 }
@@ -312,7 +310,6 @@ fn append_content<const N: usize>(out: &mut ArrayVec<u8, N>, octets: &[u8])
 }
 
 /// Appends objects whose addresses change their size.
-#[inline(never)]
 fn append_resized<const N: usize>(out: &mut ArrayVec<u8, N>, size: IoaSize, objects: Objects)
     requires mode { objects.next_address ≡ None }
     requires room { array_vec_len out.old

@@ -1,5 +1,5 @@
 //! A text is read on, block by block. Each block is whole lines, so that a long text takes a buffer
-//! of 131,072 octets, and more only where one line is longer.
+//! of 32,768 octets, and more only where one line is longer.
 //!
 //! Proved, where it is known what the reader will give: the blocks are the text, and two of them
 //! are parted by one line feed, which belongs to neither; so nothing is lost, nothing comes twice,
@@ -32,7 +32,7 @@ pub enum BlockFault {
 }
 
 /// A text that is read on, block by block. No more of it is held than the latest block and the
-/// octets that were read behind it. The first block takes 131,072 octets of memory; then none is
+/// octets that were read behind it. The first block takes 32,768 octets of memory; then none is
 /// taken, but twice as many octets each time that one line doesn't fit.
 #[derive(Drop)]
 pub struct Blocks<R: Read> {
@@ -67,8 +67,9 @@ impl<R: Read> Model for Blocks<R> {
 
 const LINE_FEED: u8 = b'\n';
 
-/// Half of the room that is made at first, in octets.
-const HALF_ROOM: usize = 65_536;
+/// Half of the room that is made at first, in octets. All of it is filled, which a short text pays
+/// for, and a page of its lines' actions grows with it.
+const HALF_ROOM: usize = 16_384;
 
 /// Moves the octets from `start` to `end` to the front, and answers how many these are.
 fn shift(buf: &mut Vec<u8>, start: usize, end: usize) -> usize

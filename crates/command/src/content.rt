@@ -289,7 +289,6 @@ pub(crate) fn append<const N: usize>(out: &mut ArrayVec<u8, N>, octets: &[u8])
 }
 
 /// The ASDU as an own answer: its test bit kept, P/N set, the new cause.
-#[inline(never)]
 pub(crate) fn refuse(cause: u8, octets: &[u8]) -> Answer
     requires known { cause < 64 }
     requires long { 3 ≤ length octets.now }

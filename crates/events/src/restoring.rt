@@ -134,7 +134,6 @@ impl Events {
 }
 
 /// What octets are, for a proof. It does nothing.
-#[inline]
 fn are_octets(piece: &[u8])
     ensures { IsOctetLine piece.now }
 {}

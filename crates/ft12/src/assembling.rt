@@ -61,7 +61,6 @@ impl Model for Assembler {
 }
 
 /// The octet, counted. No octet of a piece is read but here.
-#[inline(always)]
 fn look(looked: &mut u64, octet: &u8) -> u8
     ensures value { result ≡ octet.now }
     ensures counted { looked.new ≡ min (looked.old + 1) (2 ^ 64 - 1) }
@@ -208,7 +207,6 @@ impl Assembler {
 
     /// Takes a piece of one octet where one of data is due that isn't the last one: the commonest
     /// piece of a line that is read octet by octet. Else nothing changes.
-    #[inline(always)]
     fn take_data(&mut self, piece: &[u8]) -> bool
         ensures taken { result ≡ true → IfSome self.old.so_far (λ so_far. HearsInner self.old.size
             so_far piece.now 1 self.old.looked self.new.looked self.new.so_far) }

@@ -38,7 +38,6 @@ fn tail_of(len: usize, octets: &[u8]) -> Tail
 }
 
 /// Control octet, address and data.
-#[inline]
 fn parts(size: LinkSize, octets: &[u8]) -> (u8, u16, &[u8])
     requires { 1 + address_len size ≤ length octets.now }
     ensures parts { octets.now ≡ user size result.0 result.1 result.2.now }

@@ -174,7 +174,6 @@ impl Summing {
     ghost use Rattle.ft12.specs.Stage.{IsSumming, IsInData};
 
     /// Whether an octet of data is due that isn't the last one.
-    #[inline(always)]
     pub(crate) fn has_more_data(&self, size: LinkSize, kept: &Data) -> bool
         ensures { result ≡ true → IsInData size self.now kept.now.items }
     {
@@ -185,7 +184,6 @@ impl Summing {
     }
 
     /// Takes an octet of data that isn't the last one.
-    #[inline(always)]
     pub(crate) fn push_data(&mut self, size: LinkSize, kept: &mut Data, octet: u8)
         requires summing { IsSumming size self.old kept.old.items }
         requires data { IsInData size self.old kept.old.items }

@@ -24,7 +24,6 @@ pub(crate) const END: u8 = 0x16;
 const LONGEST: usize = 261;
 
 /// The sum of octets, modulo 256.
-#[inline]
 pub(crate) fn sum_of(octets: &[u8]) -> u8
     ensures { result ≡ sum octets.now % 256 }
 {
@@ -36,7 +35,6 @@ pub(crate) fn sum_of(octets: &[u8]) -> u8
 }
 
 /// Appends control octet, address and data.
-#[inline(always)]
 fn push_user<const CAP: usize>(
     out: &mut ArrayVec<u8, CAP>,
     size: LinkSize,
@@ -60,7 +58,6 @@ fn push_user<const CAP: usize>(
 }
 
 /// Appends control octet, address and data, their sum and the end octet.
-#[inline(always)]
 fn push_checked<const CAP: usize>(
     out: &mut ArrayVec<u8, CAP>,
     size: LinkSize,

@@ -111,9 +111,6 @@ impl Gateway {
     }
 
     /// Sends own answers and reports while the window is open.
-    ///
-    /// It stands apart, so that a step that sends none makes no place for a frame.
-    #[inline(never)]
     fn send_data<P: Port>(&mut self, port: &mut P) -> bool
         requires { P.failed port.old < u64.MAX }
         ensures kept { (p : Setup) (unjudged : List ℕ) (phase : Phase) → IsFlushing phase →
@@ -275,9 +272,6 @@ impl Gateway {
     }
 
     /// Takes the APDU that came in pieces and is whole now.
-    ///
-    /// It stands apart, so that a piece that brings no such APDU makes no place for one.
-    #[inline(never)]
     fn take_heard<P: Port>(&mut self, port: &mut P) -> Outcome
         requires ready { P.failed port.old < u64.MAX }
         requires heard { (frame : Apdu) × (self.old.centre.heard ≡ Some frame) × Fits frame }

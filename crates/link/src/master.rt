@@ -87,7 +87,6 @@ impl Model for Master {
 
 impl StationState {
     /// A command that is put on the line isn't offered any more.
-    #[inline]
     fn ask(&mut self, request: &Asked)
         ensures { self.new ≡ station_asked self.old request.now }
     {
@@ -117,7 +116,6 @@ impl StationState {
 }
 
 #[tactic(auto, unfolding(crate::specs::Primary::acd_of))]
-#[inline]
 fn acd_in(frame: FrameRef<'_>) -> bool
     ensures { result ≡ acd_of (owned frame.entry) }
 {
@@ -129,7 +127,6 @@ fn acd_in(frame: FrameRef<'_>) -> bool
 }
 
 #[tactic(auto, unfolding(crate::specs::Primary::dfc_of))]
-#[inline]
 fn dfc_in(frame: FrameRef<'_>) -> bool
     ensures { result ≡ dfc_of (owned frame.entry) }
 {
@@ -139,7 +136,6 @@ fn dfc_in(frame: FrameRef<'_>) -> bool
     }
 }
 
-#[inline]
 fn phase_of(answer: &Answer<'_>, phase: Phase) -> Phase
     ensures { result ≡ phase_after answer.now phase }
 {
@@ -150,7 +146,6 @@ fn phase_of(answer: &Answer<'_>, phase: Phase) -> Phase
     }
 }
 
-#[inline]
 fn phase_missed(again: bool, phase: Phase) -> Phase
     ensures { result ≡ if again then phase else Over }
 {
@@ -158,7 +153,6 @@ fn phase_missed(again: bool, phase: Phase) -> Phase
     if again { phase } else { Phase::Over }
 }
 
-#[inline]
 fn sends_command(outstanding: &Option<Awaited>) -> bool
     ensures { result ≡ is_sending_command
         (option_map (λ a. outstanding_of a None) outstanding.now) }
@@ -169,7 +163,6 @@ fn sends_command(outstanding: &Option<Awaited>) -> bool
     }
 }
 
-#[inline]
 fn spoilt_after(spoilt: u64, awaited: &Awaited) -> u64
     ensures { result ≡ if awaited.now.has_octets then saturated (spoilt + 1) else spoilt }
 {
@@ -208,7 +201,6 @@ fn frame_in(assembler: &mut Assembler, piece: &[u8]) -> Option<Frame>
 const SINGLE: u8 = 0xE5;
 
 /// Whether the single character is the first octet.
-#[inline]
 fn is_single(octets: &[u8]) -> bool
     ensures other { result ≡ false → slice_index octets.now 0 ≡ 0xE5 → ⊥ }
     ensures some { result ≡ true → 0 < length octets.now }
@@ -220,7 +212,6 @@ fn is_single(octets: &[u8]) -> bool
 }
 
 /// How many octets of a piece come before one that may end a frame: these are taken.
-#[inline]
 fn inner_in(assembler: &mut Assembler, piece: &[u8]) -> usize
     ensures within { result ≤ length piece.now }
     ensures all { result ≡ length piece.now →
@@ -319,7 +310,6 @@ impl Master {
         self.spoilt
     }
 
-    #[inline]
     fn choose(&self, may_poll: bool) -> Option<Pick>
         ensures chosen { option_map (picked self.now.stations) result ≡ choice self.now may_poll }
         ensures fits { IsFittingChoice self.now (option_map (picked self.now.stations) result) }
@@ -370,9 +360,7 @@ impl Master {
         self.begin_next(now, may_poll)
     }
 
-    /// As `next`, while no request is outstanding. It stands apart, so that a call while one is
-    /// makes no place for another.
-    #[inline(never)]
+    /// As `next`, while no request is outstanding.
     fn begin_next(&mut self, now: u64, may_poll: bool) -> Option<Request>
         requires { self.old.outstanding ≡ None }
         ensures state { self.new ≡ asked self.old now may_poll }
@@ -399,8 +387,7 @@ impl Master {
         Some(self.begin(now, Chosen { station, wanted }))
     }
 
-    /// As `begin`, for any wish. It stands apart, so that a poll makes no place for a command.
-    #[inline(never)]
+    /// As `begin`, for any wish.
     fn begin_other(&mut self, now: u64, station: usize, wish: Wish) -> Request
         requires { IsFittingChoice self.old (Some (record {
           station = station;
@@ -452,7 +439,6 @@ impl Master {
     }
 
     /// Whether a request is outstanding, and no octet of its answer has come.
-    #[inline]
     fn is_at_front(&self) -> bool
         ensures { result ≡ is_at_front self.now }
     {
@@ -503,7 +489,6 @@ impl Master {
     }
 
     /// Octets come in the exchange.
-    #[inline]
     fn note(&mut self, octets: &[u8])
         ensures { self.new ≡ noted octets.now self.old }
     {
@@ -614,7 +599,6 @@ impl Master {
     /// Ends, as unanswered, an exchange that is outstanding where this moment, in milliseconds, is
     /// at least `answer_ms` past its request. `Down` where the station's link is given up: with
     /// `hold` false, after one sending and its repeats.
-    #[inline]
     pub fn due(&mut self, now: u64) -> Outcome<'static>
         ensures state { self.new ≡ timed_out self.old now }
         ensures outcome { result ≡ due_outcome self.old now }
@@ -660,7 +644,6 @@ impl Master {
     }
 
     /// Whether the station has no command that isn't done.
-    #[inline]
     fn is_free(&self, station: usize) -> bool
         requires { station < length self.now.stations }
         ensures { result ≡ may_offer self.now station }

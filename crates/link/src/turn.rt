@@ -76,7 +76,6 @@ pub struct Pick {
 }
 
 /// Whether the service is a poll.
-#[inline]
 pub(crate) fn poll_service(service: &Service) -> bool
     ensures { result ≡ is_poll service.now }
 {
@@ -87,7 +86,6 @@ pub(crate) fn poll_service(service: &Service) -> bool
 }
 
 impl StationState {
-    #[inline]
     fn poll_wish(&self, burst: u8, fcb: bool, phase: Phase) -> Option<Wish>
         ensures { option_map (wished self.now) result
             ≡ wanted_poll burst fcb self.now.acd phase }
@@ -105,7 +103,6 @@ impl StationState {
         }
     }
 
-    #[inline]
     fn polls_wish(&self, burst: u8, may_poll: bool, fcb: bool, phase: Phase) -> Option<Wish>
         ensures { option_map (wished self.now) result
             ≡ polls_from burst may_poll fcb self.now phase }
@@ -118,7 +115,6 @@ impl StationState {
         }
     }
 
-    #[inline]
     fn commands_wish(&self, burst: u8, may_poll: bool, fcb: bool) -> Option<Wish>
         ensures { option_map (wished self.now) result
             ≡ commands_from burst may_poll fcb self.now self.now.offered }
@@ -130,7 +126,6 @@ impl StationState {
         }
     }
 
-    #[inline]
     fn next_wish(&self, burst: u8, may_poll: bool, fcb: bool, phase: Phase) -> Option<Wish>
         ensures { option_map (wished self.now) result
             ≡ next_of burst may_poll fcb self.now phase }
@@ -145,7 +140,6 @@ impl StationState {
     }
 
     /// What the station's turn has next.
-    #[inline]
     pub(crate) fn wish(&self, burst: u8, may_poll: bool, again: bool, phase: Phase) -> Option<Wish>
         ensures { option_map (wished self.now) result
             ≡ wanted burst may_poll again self.now phase }
@@ -227,7 +221,6 @@ impl StationState {
 }
 
 /// The station with this index.
-#[inline]
 pub(crate) fn nth_station(stations: &[StationState], place: usize) -> &StationState
     requires { place < length stations.now }
     ensures { result.now ≡ station_at stations.now place }
@@ -235,7 +228,6 @@ pub(crate) fn nth_station(stations: &[StationState], place: usize) -> &StationSt
     &stations[place]
 }
 
-#[inline]
 fn next_place(count: usize, place: usize) -> usize
     requires { place < count }
     ensures next { result ≡ place_after count place }
@@ -246,7 +238,6 @@ fn next_place(count: usize, place: usize) -> usize
 
 /// The first of the stations, once round from the one after this place, that has a request to begin
 /// a turn with.
-#[inline]
 pub(crate) fn first_wanted(
     stations: &[StationState],
     burst: u8,

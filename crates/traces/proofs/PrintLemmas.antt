@@ -2,13 +2,18 @@
 use borrow.Rule.Slice.PartMut.{put_mid, same_len_mid}
 use Rattle.std.proofs.Common.{◌≡◌, ℕ, zero, suc, ◌+◌, ◌-◌, ◌*◌, ◌/◌, ◌%◌, ◌<◌, ◌≤◌, List, [], ◌∷◌}
 use Rattle.std.proofs.Common.{◌++◌, length, take, drop, slice_index, slice_set, refl, sym, ap, ◌∙◌}
-use Rattle.std.proofs.Common.{arith, length-append, length-drop, zero-add}
+use Rattle.std.proofs.Common.{arith, length-append, length-drop, zero-add, ◌≢◌, get_or, map}
+use Rattle.std.proofs.Common.{below_more, get_or-set_other, get_or-set_same}
+use Rattle.std.specs.Prelude.{bit_and}
 use Rattle.std.specs.List.{range_with_len}
 use Rattle.std.proofs.Math.Seq.{take-append-add}
 use Rattle.std.proofs.lemmas.List.{length-take-le, take_more_set, take-append-le}
 use Rattle.std.proofs.lemmas.Slice.{take-put_mid}
 use Rattle.std.proofs.lemmas.List.FromFn.{get_or-range_with_len, length-range_with_len}
+use Rattle.std.proofs.lemmas.List.FromFn.{get_or-map-range_with_len}
 use Rattle.hex.specs.Hex.{encode_upper, encode_with, upper_digits}
+use Rattle.hex.proofs.Pairs.{encode_step}
+use Rattle.traces.specs.Spelling.{IsSpelledTo}
 use Rattle.traces.specs.declared.printing.TheConstants.{PAIRS}
 
 -- what stands in a part of a row leaves its length
@@ -95,3 +100,62 @@ pair_at b lt =
       ap (λ t. slice_index t (2 * b + 1)) table_is ∙ pair.1
           ∙ ap (λ n. slice_index upper_digits (n % 16)) same,
     )
+
+-- The digits by arithmetic
+
+-- a number of 16 bits has the digits of an octet, the first one in its low octet
+abbrev pub HasDigits : (octet pair : ℕ) → Type 0
+HasDigits octet pair = (pair % 256 ≡ slice_index upper_digits (octet / 16))
+    × (pair / 256 ≡ slice_index upper_digits (octet % 16))
+
+-- by arithmetic, from the values of the two digits
+abbrev by_values : (high low : ℕ) → ℕ
+by_values high low =
+    high + 256 * low + 12336 + 7 * bit_and ((high + 256 * low + 1542) / 16) 257
+
+each_first : map (λ b. by_values (b / 16) (b % 16) % 256) (range_with_len 0 256)
+    ≡ map (λ b. slice_index upper_digits (b / 16)) (range_with_len 0 256)
+each_first = refl
+
+each_second : map (λ b. by_values (b / 16) (b % 16) / 256) (range_with_len 0 256)
+    ≡ map (λ b. slice_index upper_digits (b % 16)) (range_with_len 0 256)
+each_second = refl
+
+-- what is so of each octet is so of one
+of_each : (f g : ℕ → ℕ) (b : ℕ) → b < 256
+    → map f (range_with_len 0 256) ≡ map g (range_with_len 0 256) → f b ≡ g b
+of_each f g b lt same =
+    sym (get_or-map-range_with_len f 0 256 b b 0 lt (zero-add b))
+    ∙ ap (λ l. get_or l b 0) same
+    ∙ get_or-map-range_with_len g 0 256 b b 0 lt (zero-add b)
+
+pub digits_of_values : (b high low : ℕ) → b < 256 → high ≡ b / 16 → low ≡ b % 16 → HasDigits b
+    (high + 256 * low + 12336 + 7 * bit_and ((high + 256 * low + 1542) / 16) 257)
+digits_of_values b high low lt first second =
+    rw (first, second) (
+      of_each (λ b. by_values (b / 16) (b % 16) % 256) (λ b. slice_index upper_digits (b / 16)) b
+          lt each_first,
+      of_each (λ b. by_values (b / 16) (b % 16) / 256) (λ b. slice_index upper_digits (b % 16)) b
+          lt each_second,
+    )
+
+-- one octet more of a block
+pub digits_more : (octets pairs : List ℕ) (from i pair : ℕ) → i < length pairs
+    → HasDigits (slice_index octets (from + i)) pair
+    → ((k : ℕ) → k < i → HasDigits (slice_index octets (from + k)) (get_or pairs k 0))
+    → (k : ℕ) → k < i + 1
+    → HasDigits (slice_index octets (from + k)) (get_or (slice_set pairs i pair) k 0)
+digits_more octets pairs from i pair room is so_far =
+    below_more _ _ (λ k lt. let ne : k ≢ i = omega arith in rw get_or-set_other (so_far k lt))
+    (rw get_or-set_same is)
+
+-- its digits are put
+pub block_more : (octets out : List ℕ) (from i pair : ℕ) → from + i < length octets
+    → 2 * (from + i) + 1 < length out → HasDigits (slice_index octets (from + i)) pair
+    → IsSpelledTo octets out (from + i)
+    → IsSpelledTo octets (slice_set (slice_set out (2 * (from + i)) (pair % 256))
+    (2 * (from + i) + 1) (pair / 256)) (from + (i + 1))
+block_more octets out from i pair lt room is so_far =
+    let place : from + (i + 1) ≡ from + i + 1 = omega arith in
+    rw place (encode_step upper_digits octets out (from + i) (pair % 256) (pair / 256) lt room is.0
+    is.1 so_far)

@@ -5,5 +5,6 @@ pub mod Actions
 pub mod Moments
 pub mod Traced
 pub mod Printed
+pub mod Spelling
 pub mod Progress
 pub mod FirstLines

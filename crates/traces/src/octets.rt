@@ -90,7 +90,6 @@ fn may_be_octets(digits: usize) -> bool
 /// The octets in hexadecimal that are the whole first line of a text, and the lines behind it.
 /// `None` where the line is anything else. Its end is found where its digits end, so that each
 /// octet is looked at once.
-#[inline(always)]
 pub(crate) fn octets_line(text: &[u8]) -> Option<(&[u8], Option<&[u8]>)>
     ensures { IsOctetsLine text.entry.now result }
 {
@@ -104,7 +103,6 @@ pub(crate) fn octets_line(text: &[u8]) -> Option<(&[u8], Option<&[u8]>)>
 
 /// The first line of a text whose digits end here, where these are all of it, and the lines behind
 /// it.
-#[inline(always)]
 fn digits_line(text: &[u8], end: usize) -> Option<(&[u8], Option<&[u8]>)>
     requires { DigitsEnd text.now end }
     ensures { IsDigitsLine text.entry.now result }
@@ -120,7 +118,6 @@ fn digits_line(text: &[u8], end: usize) -> Option<(&[u8], Option<&[u8]>)>
 
 /// Where the digits at the front of a text end. The first are looked at one by one, since a value
 /// of one octet ends there, as most are in pieces; the others a block at a time.
-#[inline(always)]
 fn digits_end(text: &[u8]) -> usize
     ensures { DigitsEnd text.now result }
 {
@@ -132,7 +129,6 @@ fn digits_end(text: &[u8]) -> usize
 }
 
 /// As far as there are digits, and on to the first other octet or to the limit.
-#[inline(always)]
 fn run_end(text: &[u8], from: usize, limit: usize) -> usize
     requires digits { AreDigitsTo text.now from }
     requires within { limit ≤ length text.now }
@@ -158,7 +154,6 @@ const NEAR: usize = 4;
 const BLOCK: usize = 16;
 
 /// As far as there are digits, and on for as many whole blocks of them as follow.
-#[inline(always)]
 fn blocks_end(text: &[u8], from: usize) -> usize
     requires { AreDigitsTo text.now from }
     ensures { AreDigitsTo text.now result }
@@ -174,7 +169,6 @@ fn blocks_end(text: &[u8], from: usize) -> usize
 }
 
 /// Whether each octet is a digit: of a block the compiler judges all at once.
-#[inline(always)]
 fn is_each_digit(text: &[u8]) -> bool
     ensures { result ≡ list_all is_hex_digit text.now }
 {
@@ -186,7 +180,6 @@ fn is_each_digit(text: &[u8]) -> bool
 }
 
 /// Whether an octet is a digit. No look at the table, so that many octets are judged at a time.
-#[inline(always)]
 fn is_digit(octet: u8) -> bool
     ensures { result ≡ is_hex_digit octet }
 {
@@ -272,7 +265,6 @@ fn write_each(text: &[u8], buf: &mut [u8; 1024], from: usize, limit: usize) -> u
 const WIDE_PAIRS: usize = 16;
 
 /// Decodes on, for as many wide blocks of pairs of digits as follow, as far as the limit.
-#[inline(always)]
 fn write_wide(text: &[u8], buf: &mut [u8; 1024], from: usize, limit: usize) -> usize
     requires so_far { Paired text.now buf.old from }
     requires forward { from ≤ limit }
@@ -293,7 +285,6 @@ fn write_wide(text: &[u8], buf: &mut [u8; 1024], from: usize, limit: usize) -> u
 
 /// Decodes one wide block of pairs more, and says whether all were of digits: else what it writes
 /// means nothing. The compiler takes the digits all at once.
-#[inline(always)]
 fn write_wide_block(text: &[u8], buf: &mut [u8; 1024], from: usize) -> bool
     requires so_far { Paired text.now buf.old from }
     requires most { from + 16 ≤ 1024 }
@@ -315,7 +306,6 @@ fn write_wide_block(text: &[u8], buf: &mut [u8; 1024], from: usize) -> bool
 
 /// The value of a digit; of another octet it means nothing. No look at the table, so that many
 /// digits are decoded at a time.
-#[inline(always)]
 fn digit_value(octet: u8) -> u8
     ensures value { is_hex_digit octet ≡ true → hex_digit_value octet ≡ Some result }
     ensures small { result < 16 }
@@ -324,9 +314,7 @@ fn digit_value(octet: u8) -> u8
     (octet % 16 + octet / 64 * 9) % 16
 }
 
-/// Decodes on, for as many whole blocks of pairs of digits as follow, as far as the limit. A call,
-/// since the loops need more registers than a caller leaves them.
-#[inline(never)]
+/// Decodes on, for as many whole blocks of pairs of digits as follow, as far as the limit.
 fn write_blocks(text: &[u8], buf: &mut [u8; 1024], from: usize, limit: usize) -> usize
     requires so_far { Paired text.now buf.old from }
     requires forward { from ≤ limit }
@@ -346,7 +334,6 @@ fn write_blocks(text: &[u8], buf: &mut [u8; 1024], from: usize, limit: usize) ->
 }
 
 /// Decodes on, for as many blocks of pairs of digits as follow, as far as the limit.
-#[inline(always)]
 fn write_narrow(text: &[u8], buf: &mut [u8; 1024], from: usize, limit: usize) -> usize
     requires so_far { Paired text.now buf.old from }
     requires forward { from ≤ limit }
@@ -367,7 +354,6 @@ fn write_narrow(text: &[u8], buf: &mut [u8; 1024], from: usize, limit: usize) ->
 
 /// Decodes one block of pairs more, and says whether all were of digits. That is seen at its end:
 /// what it writes where they weren't means nothing.
-#[inline(always)]
 fn write_block(text: &[u8], buf: &mut [u8; 1024], from: usize) -> bool
     requires so_far { Paired text.now buf.old from }
     requires most { from + 4 ≤ 1024 }
@@ -387,7 +373,6 @@ fn write_block(text: &[u8], buf: &mut [u8; 1024], from: usize) -> bool
 const NO_DIGIT: u16 = 256;
 
 /// The octet of two digits. It is none where one of these is no digit.
-#[inline(always)]
 fn pair(high: u8, low: u8) -> u16
     ensures { IsPair high low result }
 {

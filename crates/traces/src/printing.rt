@@ -4,6 +4,7 @@ ghost use Rattle.std.specs.Prelude.{IfSome};
 ghost use Rattle.hex.specs.Hex.{IsBytes, encode_upper, upper_digits};
 ghost use Rattle.traces.specs.Actions.{octets_line};
 ghost use Rattle.traces.specs.Printed.{event_line};
+ghost use Rattle.traces.specs.Spelling.{IsSpelledTo};
 
 use crate::moments::Moment;
 
@@ -81,11 +82,63 @@ fn spell(octets: &[u8], out: &mut [u8])
     requires { length out.old ≡ 2 * length octets.now }
     ensures { out.new ≡ encode_upper octets.now }
 {
-    'octets: for i in 0..octets.len() {
+    let done = spell_blocks(octets, out);
+    'octets: for i in done..octets.len() {
         let (high, low) = pair_of(octets[i]);
         out[2 * i] = high;
         out[2 * i + 1] = low;
     }
+}
+
+/// So many octets are spelled by arithmetic at a time, where there are so many.
+const BLOCK: usize = 16;
+
+/// Spells whole blocks of octets, and says how many octets these are.
+#[inline(always)]
+fn spell_blocks(octets: &[u8], out: &mut [u8]) -> usize
+    requires { length out.old ≡ 2 * length octets.now }
+    ensures spelled { IsSpelledTo octets.now out.new result }
+    ensures within { result ≤ length octets.now }
+    ensures same { length out.new ≡ length out.old }
+{
+    let mut done = 0;
+    'blocks: while BLOCK <= octets.len() - done {
+        spell_block(octets, out, done);
+        done += BLOCK;
+    }
+    done
+}
+
+/// Spells one block of octets more. The compiler takes the octets all at once.
+#[inline(always)]
+fn spell_block(octets: &[u8], out: &mut [u8], from: usize)
+    requires so_far { IsSpelledTo octets.now out.old from }
+    requires within { from + 16 ≤ length octets.now }
+    requires room { length out.old ≡ 2 * length octets.now }
+    ensures spelled { IsSpelledTo octets.now out.new (from + 16) }
+    ensures same { length out.new ≡ length out.old }
+{
+    let mut pairs = [0; BLOCK];
+    'octets: for i in 0..BLOCK {
+        pairs[i] = both_digits(octets[from + i]);
+    }
+    'pairs: for i in 0..BLOCK {
+        out[2 * (from + i)] = (pairs[i] % 256) as u8;
+        out[2 * (from + i) + 1] = (pairs[i] / 256) as u8;
+    }
+}
+
+/// The two digits of an octet, of which the first is the low octet. No look at the table, so that
+/// many octets are spelled at a time.
+#[inline(always)]
+fn both_digits(octet: u8) -> u16
+    ensures high { result % 256 ≡ slice_index upper_digits (octet / 16) }
+    ensures low { result / 256 ≡ slice_index upper_digits (octet % 16) }
+{
+    let values = u16::from(octet / 16) + 256 * u16::from(octet % 16);
+    // With 6 more a value from 10 on reaches the next digit, and letters stand 7 behind `9`.
+    let letters = (values + 0x0606) / 16 & 0x0101;
+    values + 0x3030 + 7 * letters
 }
 
 /// The two digits of an octet.

@@ -259,7 +259,6 @@ impl SerialSide {
     }
 
     /// Ends the line's exchange where its time is over.
-    #[inline(always)]
     fn end_late_exchange(&mut self, moment: u64)
         ensures state { self.new ≡ timed moment self.old }
         ensures polls { is_polling self.new.line ≡ true → is_polling self.old.line ≡ true }
@@ -428,9 +427,7 @@ impl Gateway {
         self.hear_end(&octets[count..])
     }
 
-    /// As `hear`, for octets of which the first may be the last of an answer. It stands apart, so
-    /// that octets that end none make no place for a frame.
-    #[inline(never)]
+    /// As `hear`, for octets of which the first may be the last of an answer.
     fn hear_end(&mut self, octets: &[u8]) -> bool
         ensures { Hears self.old octets.now result self.new }
     {
@@ -499,7 +496,6 @@ impl Gateway {
     }
 
     /// Ends the line's exchange where its time is over.
-    #[inline(always)]
     pub(crate) fn end_late_exchange(&mut self)
         ensures { self.new ≡ line_timed self.old }
     {
