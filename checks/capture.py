@@ -16,6 +16,7 @@ rustc).
   record's lines `R` and `> T` between its opens, in their order. The octets of the packets of the
   line are those of `S` and `> S`.
 - Each packet stands at its line's moment.
+- Each gap of the record is a packet of the line without octets, which says its station and session.
 
 Without tshark the script is skipped.
 """
@@ -33,7 +34,7 @@ import plain
 FINE = ("Connection establish request", "Connection establish acknowledge", "Connection finish", "Connection reset",
         "This frame initiates the connection closing", "This frame undergoes the connection closing",
         # The comments that the capture itself puts on packets.
-        "repeat", "late", "spoilt", "no whole frame", "closed: ")
+        "repeat", "late", "spoilt", "no whole frame", "gap: ", "closed: ")
 
 # Traces with frames that aren't as they should be (a type 2 without its time tag).
 ODD = ("left.trace",)
@@ -126,6 +127,10 @@ def faults_of(capture, sizes, record, is_made_up):
             heard["down" if octets[16:18] == "01" else "up"] += octets[24:]
     if heard != line:
         faults.append("the line carries other octets than the record's")
+    gaps = ["gap: station %s, session %s" % tuple(text.split(" ")[3:5]) for text in record.splitlines() if " > G " in text]
+    told = tshark(capture, {}, 'rtacser && frame.comment contains "gap: "', ["frame.comment", "frame.len"])
+    if told != [[gap, "12"] for gap in gaps]:
+        faults.append(f"the gaps told are {told}, and not {gaps}")
     for (at,) in tshark(capture, {}, "", ["frame.time_epoch"]):
         if round(float(at) * 1000) * 1000 not in moments:
             faults.append(f"a packet stands at {at}, where no line does")
