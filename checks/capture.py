@@ -5,8 +5,8 @@ records.
     checks/capture.py [--program FILE] [--only NAME] [--runs N] [--keep FILE] [CONFIG RECORD ..]
 
 The script runs `telegate capture CONFIG RECORD` over the records that are given. Without any it
-takes those of `examples`, the runs of its traces, and N runs of checks/agree.py (if there is a
-rustc).
+takes those of `examples`, the runs of its traces, one with a gap, and N runs of checks/agree.py (if
+there is a rustc).
 
 - No checksum and no number of a segment may be wrong.
 - No frame may be malformed, and tshark may remark nothing but opens, closes and cuts of the
@@ -38,6 +38,13 @@ FINE = ("Connection establish request", "Connection establish acknowledge", "Con
 
 # Traces with frames that aren't as they should be (a type 2 without its time tag).
 ODD = ("left.trace",)
+
+
+# A poll is never answered, and the reset that follows tells of a gap.
+GAPPED = (
+    '[line]\nlink = 1\ncause = 1\nca = 1\nioa = 2\nretries = 0\nsilence = "reset"\n[[station]]\naddress = 1\nca = 1\n',
+    "0 W 1709210100000\n10 S 100B010C16\n20 S E5\n400 T\n410 S 100B010C16\n420 S E5\n430 O\n440 R 680407000000\n",
+)
 
 
 def record_of(program, config, trace):
@@ -159,6 +166,11 @@ def pairs_of(given, program, folder):
         near = os.path.dirname(config)
         files = glob.glob(os.path.join(near, "*.trace")) + glob.glob(os.path.join(near, "*.record"))
         yield from ((config, file, os.path.basename(file) in ODD) for file in sorted(files))
+    gapped = [os.path.join(folder, name) for name in ("gapped.toml", "gapped.trace")]
+    for name, text in zip(gapped, GAPPED):
+        with open(name, "w") as file:
+            file.write(text)
+    yield (*gapped, False)
     yield from ((config, file, True) for config, file in made_up(folder, given.runs))
 
 
