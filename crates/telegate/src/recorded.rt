@@ -52,7 +52,8 @@ pub(crate) fn is_record<R: Read + Drop>(alloc: Global, text: R) -> Result<bool, 
     'seeking: for _ in 0..u64::MAX {
         advance(&mut blocks)?;
         let lines = blocks.lines();
-        if tell_actions(lines)? {
+        let tells = tell_actions(lines)?;
+        if tells {
             return Ok(true);
         }
         if blocks.is_over() {
