@@ -127,8 +127,7 @@ impl Capture {
             Told::Close(_, Close::Replaced) => Ok(()),
             Told::Close(_, cause) => self.close(page, *cause),
             Told::Gap(_, station, session) => {
-                self.wire
-                    .gap(page, self.clock.micros(), *station, *session)
+                self.wire.gap(page, self.clock.micros(), *station, *session)
             }
         }
     }

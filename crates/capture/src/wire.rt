@@ -294,7 +294,8 @@ impl Wire {
         ensures same { self.new ≡ self.old }
     {
         let comment = gap_comment(self.alloc, station, session)?;
+        let packet = &mut self.packet;
         let none = b"".as_slice();
-        put_serial(page, &mut self.packet, micros, false, none, comment.as_str())
+        put_serial(page, packet, micros, false, none, comment.as_str())
     }
 }
