@@ -145,7 +145,8 @@ module _ (has : Text → List ℕ → Type 0) (lacks : Text → Type 0) where
         old new exit
         → Responds has lacks ran answered silent played stands colours request old new exit
     has_replayed request config trace left counts words color octets old new exit is read h =
-        subst (λ (r : Request). Responds has lacks ran answered silent played stands colours r old new exit)
+        subst (λ (r : Request). Responds has lacks ran answered silent played stands colours r old
+        new exit)
         (sym is)
         (elim h [
           | inl ran ↦ inl (record { octets = octets; read = read; ran = ran })
@@ -158,7 +159,8 @@ module _ (has : Text → List ℕ → Type 0) (lacks : Text → Type 0) where
         → request ≡ Run config words → RunsAsSaid has lacks ran config.now words exit
         → Responds has lacks ran answered silent played stands colours request known known exit
     has_run request config words known exit is h =
-        subst (λ (r : Request). Responds has lacks ran answered silent played stands colours r known known
+        subst (λ (r : Request). Responds has lacks ran answered silent played stands colours r known
+        known
         exit)
         (sym is)
         (elim h [
@@ -174,7 +176,8 @@ module _ (has : Text → List ℕ → Type 0) (lacks : Text → Type 0) where
         (record { live = live; explain = explain }) old new exit
         → Responds has lacks ran answered silent played stands colours request old new exit
     has_checked request config site live explain old new exit is h =
-        subst (λ (r : Request). Responds has lacks ran answered silent played stands colours r old new exit)
+        subst (λ (r : Request). Responds has lacks ran answered silent played stands colours r old
+        new exit)
         (sym is) h
 
     pub have_played : (request : Request) (config script : Bor Text) (known : Option (List ℕ))
@@ -182,7 +185,8 @@ module _ (has : Text → List ℕ → Type 0) (lacks : Text → Type 0) where
         → PlayFiles has lacks played config.now script.now exit
         → Responds has lacks ran answered silent played stands colours request known known exit
     have_played request config script known exit is h =
-        subst (λ (r : Request). Responds has lacks ran answered silent played stands colours r known known
+        subst (λ (r : Request). Responds has lacks ran answered silent played stands colours r known
+        known
         exit)
         (sym is)
         (elim h [
@@ -195,5 +199,6 @@ module _ (has : Text → List ℕ → Type 0) (lacks : Text → Type 0) where
         → ShowsState has lacks stands directory.now (text_of config) old new exit
         → Responds has lacks ran answered silent played stands colours request old new exit
     has_shown request directory config old new exit is h =
-        subst (λ (r : Request). Responds has lacks ran answered silent played stands colours r old new exit)
+        subst (λ (r : Request). Responds has lacks ran answered silent played stands colours r old
+        new exit)
         (sym is) h

@@ -396,7 +396,8 @@ module _ (Tells : Log → List ℕ → Type 0) (r : Bool) (known coming later : 
           }
 
 -- the run stopped between two blocks
-pub ran_to : (Tells : Log → List ℕ → Type 0) (r : Bool) (known coming : Option (List ℕ)) (began state : State)
+pub ran_to : (Tells : Log → List ℕ → Type 0) (r : Bool) (known coming : Option (List ℕ))
+    (began state : State)
     (s : Standing)
     (is_whole : Bool) (old new : Option (List ℕ))
     → RunsTo Tells r known coming began state s is_whole old new
@@ -421,7 +422,8 @@ ran_to Tells r known coming began state s is_whole old new h = by h.faithful
         })
 
 -- at first
-pub runs_begin : (Tells : Log → List ℕ → Type 0) (r : Bool) (known coming : Option (List ℕ)) (began : State)
+pub runs_begin : (Tells : Log → List ℕ → Type 0) (r : Bool) (known coming : Option (List ℕ))
+    (began : State)
     (s : Standing)
     (old : Option (List ℕ)) → coming ≡ known
     → s ≡ record { started = r; log = []; poured = []; page = []; failed = 0 } → Tells [] []
@@ -451,7 +453,8 @@ poured_lines known coming began state s is_whole old mid h =
     subst (λ (xs : List ℕ). IsPoured is_whole old mid xs) h.told h.poured
 
 -- over a block that was read so
-module _ (Tells : Log → List ℕ → Type 0) (r : Bool) (known coming : Option (List ℕ)) (began state : State)
+module _ (Tells : Log → List ℕ → Type 0) (r : Bool) (known coming : Option (List ℕ))
+    (began state : State)
     (s : Standing)
     (is_whole : Bool) (old mid : Option (List ℕ)) (h : RunsTo Tells r known coming began state s
     is_whole old mid)
@@ -468,7 +471,8 @@ module _ (Tells : Log → List ℕ → Type 0) (r : Bool) (known coming : Option
   module _ (ended : State) (after : Standing) (whole : Bool) (new : Option (List ℕ))
       (run : IsPartRun s part state ended after) (text : List ℕ) (told : Tells after.log text)
       (poured : IsPoured whole old new text) where
-    pub block_run : block.is_over ≡ false → RunsTo Tells r known block.coming began ended after whole
+    pub block_run : block.is_over ≡ false
+        → RunsTo Tells r known block.coming began ended after whole
         old new
     block_run is = ran_on Tells r known coming block.coming began state s is_whole old mid lines
         part block.is_over h read ended after whole new

@@ -1,5 +1,6 @@
 -- Runs over a trace: what their ends say of the whole command.
-use Rattle.std.proofs.Common.{◌≡◌, ◌⊎◌, ℕ, Bool, false, List, [], ◌++◌, Option, Some, None, inl, inr, refl}
+use Rattle.std.proofs.Common.{◌≡◌, ◌⊎◌, ℕ, Bool, false, List, [], ◌++◌, Option, Some, None, inl}
+use Rattle.std.proofs.Common.{inr, refl}
 use Rattle.std.proofs.Common.{subst, ◌∙◌}
 use Rattle.std.proofs.lemmas.List.{append-nil}
 use Rattle.std.specs.Prelude.{Result, Ok, Err}
@@ -354,11 +355,14 @@ replayed_as config manner has more closing old new result wider = by result
     by : (result : Result (Unit {0}) Fault) → IsReplayed config manner has closing old new result
         → IsReplayed config manner more closing old new result
     by (Ok done) h = under (Ok done) h.settings h.as_record h.read_config h.found h.judged h.end
-    by (Err Device) h = under (Err Device) h.settings h.as_record h.read_config h.found h.judged h.end
+    by (Err Device) h = under (Err Device) h.settings h.as_record h.read_config h.found h.judged
+        h.end
     by (Err NoMemory) (inl keeps) = inl keeps
-    by (Err NoMemory) (inr h) = under (Err NoMemory) h.settings h.as_record h.read_config h.found h.judged (inr h.end)
+    by (Err NoMemory) (inr h) = under (Err NoMemory) h.settings h.as_record h.read_config h.found
+        h.judged (inr h.end)
     by (Err Unread) (inl keeps) = inl keeps
-    by (Err Unread) (inr h) = under (Err Unread) h.settings h.as_record h.read_config h.found h.judged (inr h.end)
+    by (Err Unread) (inr h) = under (Err Unread) h.settings h.as_record h.read_config h.found
+        h.judged (inr h.end)
     by (Err (Config why)) h = h
     by (Err (Trace n)) h = (
       h.0,

@@ -292,10 +292,12 @@ abbrev pub IsDone : (has : Text → List ℕ → Type 0) → (lacks : Text → T
     → (old new : Option (List ℕ)) → (exit : ℕ) → Type 0
 IsDone has lacks ran answered silent played stands colours (Run config words) old new exit =
     HasRunAsSaid has ran config.now words exit × Keeps old new
-IsDone has lacks ran answered silent played stands colours (Check config site live explain) old new exit =
+IsDone has lacks ran answered silent played stands colours (Check config site live explain) old new
+    exit =
     HasCheckedBehind has lacks (text_of site) config.now
     (record { live = live; explain = explain }) old new exit
-IsDone has lacks ran answered silent played stands colours (Replay config trace left counts words color)
+IsDone has lacks ran answered silent played stands colours
+    (Replay config trace left counts words color)
     old new exit =
     HasReplayed has config.now trace.now (manner_of words color colours)
     (record { left = left; counts = counts }) old new exit

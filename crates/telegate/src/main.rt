@@ -60,11 +60,10 @@ use host::{Host, System};
 use manner::shows_colours;
 use performing::tell;
 use shell::obey;
-use std::env;
-use std::io;
 use std::io::{IsTerminal, Write};
 use std::process::ExitCode;
 use std::rt::Env;
+use std::{env, io};
 
 fn main(rt: HostRuntime) -> ExitCode {
     let mut out = rt.stdout();

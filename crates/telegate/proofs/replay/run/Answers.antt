@@ -29,7 +29,8 @@ returns-clause-answer g c =
     let run = c.in_ok-is_whole.ensures.answer in
     let old = g.W.Write.contents c.args.out.now in
     let done = run.goes (setup_of settings) c.in_ok-gateway.ensures.begins tt in
-    ended Lines false (Gives known) c.args.course.now.closing settings run.octets run.log run.lines old
+    ended Lines false (Gives known) c.args.course.now.closing settings run.octets run.log run.lines
+    old
     (g.W.Write.contents c.close.new.out)
     run.given done.faithful run.told c.run_parts-ran.new.gateway run.right run.events done.rests
     (c.steps_keep_their_order.ensures.settings settings run.log done.faithful)

@@ -46,7 +46,8 @@ returns-in_err-pause-clause-answer g c =
           c.running.pause c.running.is_whole old
           mid c.running.invariant.run c.advance.new.blocks c.lines-lines.result.now
           c.lines-lines.result.now c.lines-lines.ensures c.in_ok-advance.ensures.block
-          (trace_part c.lines-lines.result.now c.advance.new.blocks.is_over) new (elim c.in_err-pause.ensures.begun [
+          (trace_part c.lines-lines.result.now c.advance.new.blocks.is_over) new
+          (elim c.in_err-pause.ensures.begun [
             | inl unchanged ↦ inl (ap g.W.Write.contents unchanged)
             | inr stop ↦
                 inr
@@ -82,11 +83,13 @@ running-preserved g c =
     let old = g.W.Write.contents c.args.out.now in
     let mid = g.W.Write.contents c.running.out in
     record {
-      run = block_run AreLines false known c.running.blocks.coming c.args.gateway.now c.running.gateway
+      run = block_run AreLines false known c.running.blocks.coming c.args.gateway.now
+          c.running.gateway
           c.running.pause c.running.is_whole old mid c.running.invariant.run
           c.advance.new.blocks c.lines-lines.result.now c.lines-lines.result.now
           c.lines-lines.ensures c.in_ok-advance.ensures.block
-          (trace_part c.lines-lines.result.now c.advance.new.blocks.is_over) c.run_part.new.gateway c.in_ok-pause.field-0-0
+          (trace_part c.lines-lines.result.now c.advance.new.blocks.is_over) c.run_part.new.gateway
+          c.in_ok-pause.field-0-0
           c.in_ok-pause.field-0-1
           (g.W.Write.contents c.run_part.new.out) c.in_ok-pause.ensures.run
           (lines_of_actions c.in_ok-pause.field-0-0.log) refl
