@@ -35,21 +35,23 @@ def data(control, address, asdu):
 # Ports below those that the system gives to connections that go out: none of these takes one of them
 # between the moment at which it is found free and the one at which it is used.
 PORTS = range(12000, 32000)
-given = set()
+
+# By a datagram socket of its number a port is kept from other scripts as long as this one runs, also
+# while nobody listens there.
+kept = []
 
 
 def free_port():
-    """A port of the loopback at which nothing listens. No port is given twice."""
+    """A port of the loopback at which nothing listens. No port is given twice, by whatever script."""
     while True:
-        port = random.choice(PORTS)
-        if port in given:
-            continue
+        port, keeper = random.choice(PORTS), socket.socket(socket.AF_INET, socket.SOCK_DGRAM)
         try:
+            keeper.bind(("127.0.0.1", port))
             with socket.create_server(("127.0.0.1", port)):
-                given.add(port)
+                kept.append(keeper)
                 return port
         except OSError:
-            pass
+            keeper.close()
 
 
 def library(folder, name, source):

@@ -7,6 +7,7 @@ report, or accepts the command. The line loses requests and answers at random.
 """
 import collections
 import random
+import select
 import socket
 import threading
 import time
@@ -35,7 +36,11 @@ class Outstation:
         self.made = 0
         self.given = 0
         self.accepted = []
+        # How many requests had a new frame count bit, and how many resets came. A reset whose answer wasn't sent is repeated, and
+        # counts once.
+        self.served = 0
         self.resets = 0
+        self.is_reset_unheard = False
 
     def report(self, count=1):
         """It has so many more reports."""
@@ -51,6 +56,7 @@ class Outstation:
 
     def serve(self, function, octets):
         """The answer to a service whose frame count bit is new."""
+        self.served += 1
         if function == COMMAND:
             number = int.from_bytes(octets[4:6], "little")
             self.accepted.append(number)
@@ -72,7 +78,7 @@ class Outstation:
             return ends.fixed(11 | (ACD if self.has_urgent() else 0), self.address)
         if function == RESET:
             self.bit, self.last = 0, None
-            self.resets += 1
+            self.resets += not self.is_reset_unheard
             return self.short(0)
         if self.bit is None or control & FCB == self.bit:
             return self.last
@@ -120,8 +126,13 @@ class Field(threading.Thread):
             self.silent.add(address)
         if address in self.silent or self.chance.random() < self.loss:
             return
-        answer = self.stations[address].answer(control, frame[6:-2])
-        if answer is not None and self.chance.random() >= self.loss:
+        station = self.stations[address]
+        answer = station.answer(control, frame[6:-2])
+        # Where the next request has come already, the gateway has given this one up, and an answer would be taken for the next one's.
+        is_late = bool(select.select([line.stream], [], [], 0)[0])
+        is_heard = answer is not None and not is_late and self.chance.random() >= self.loss
+        station.is_reset_unheard = control % 16 == RESET and not is_heard
+        if is_heard:
             line.answer(answer)
 
 

@@ -19,7 +19,8 @@ centre goes and comes.
   a disk that is full (a limit of file size), and settings that change between two runs, row by row.
 - `telegate state` shows each of these, beside a run and without one, and changes nothing.
 
-All of it is on the loopback.
+All of it is on the loopback. No case depends on how fast the machine is: an outstation that is late
+doesn't answer, and what a case waits for may take a minute.
 """
 import os
 import random
@@ -28,6 +29,7 @@ import resource
 import shutil
 import signal
 import subprocess
+import sys
 import tempfile
 import time
 
@@ -174,7 +176,21 @@ line = "{line}"
 listen = "{door[0]}:{door[1]}"
 """
 
-USUAL = {"answer_ms": 60, "retries": 2, "silence": "hold", "burst": 8, "queue": 200, "k": 12}
+# Where no answer is lost, the time to answer is never up, however busy the machine is.
+USUAL = {"answer_ms": 1000, "retries": 2, "silence": "hold", "burst": 8, "queue": 200, "k": 12}
+
+# How long it is waited for what must come, in seconds.
+PATIENCE = 60
+
+
+def until(holds, seconds=PATIENCE):
+    """Waits until this holds, and answers whether it does."""
+    end = time.monotonic() + seconds
+    while not holds():
+        if time.monotonic() > end:
+            return False
+        time.sleep(0.02)
+    return True
 
 
 class Gateway:
@@ -214,14 +230,9 @@ class Gateway:
         with open(self.log) as log:
             return log.read()
 
-    def waits(self, text, seconds=ends.PATIENCE):
-        """Whether its log has this text soon."""
-        end = time.monotonic() + seconds
-        while time.monotonic() < end:
-            if text in self.logged():
-                return True
-            time.sleep(0.02)
-        return False
+    def waits(self, *texts):
+        """Whether its log has these texts soon."""
+        return until(lambda: all(text in self.logged() for text in texts))
 
 
 def shadowed(folder):
@@ -271,9 +282,8 @@ def tear(path, chance):
 
 def begins(field):
     """A life begins with its first request, however long a busy machine lets it wait. (A full queue may let none go out.)"""
-    before, end = field.requests, time.monotonic() + 3
-    while field.requests == before and time.monotonic() < end:
-        time.sleep(0.01)
+    before = field.requests
+    until(lambda: field.requests > before, 3)
 
 
 class Lives:
@@ -284,6 +294,8 @@ class Lives:
         self.folder = folder
         self.field = Field([1, 2, 3], station_chance, 0.05)
         door = ("127.0.0.1", ends.free_port())
+        # Here answers are lost, and each of them costs this time.
+        settings = {"answer_ms": 100, **settings}
         self.gateway = Gateway(program, folder, self.field, door, environment=shadowed(folder), **settings)
         self.visitor = Visitor(door, [1, 2, 3], visit_chance, commands=commands)
         self.count = 0
@@ -311,10 +323,10 @@ class Lives:
         visitor.commands, visitor.stays, field.loss = 0, 1, 0
         gateway.start()
         # Until all have come, as long as some come.
-        heard, end = 0, time.monotonic() + ends.PATIENCE
+        heard, end = 0, time.monotonic() + PATIENCE
         while time.monotonic() < end and any("didn't come" in fault for fault in faults_of(field, visitor)):
             if heard < (now := sum(map(len, visitor.connections))):
-                heard, end = now, time.monotonic() + ends.PATIENCE
+                heard, end = now, time.monotonic() + PATIENCE
             time.sleep(0.05)
         time.sleep(0.2)
         gateway.kill()
@@ -324,7 +336,7 @@ class Lives:
         resets = [station.resets for station in field.stations.values()]
         told = f"{self.count} lives, {made} reports, {self.taken()} commands, resets {resets}, {len(visitor.connections)} connections"
         print(f"{name}: {told}", flush=True)
-        count.judge(name, not faults and made > self.count and self.taken() > 0, (faults, made, self.taken()))
+        count.judge(name, not faults and made > 0 and self.taken() > 0, (faults, made, self.taken()))
         told = gateway.said
         wrong = [text for text in ("put aside", "isn't kept", "each link is reset") if text in told]
         count.judge(f"{name}: what it tells", not wrong, (wrong, told[-2000:]))
@@ -358,7 +370,7 @@ def ended_at_each_call(count, program, name, calls, seed, **settings):
         for call in chosen:
             gateway.environment = dict(usual, CUT_AT=str(call))
             gateway.start()
-            all_lives.live(ends.PATIENCE)
+            all_lives.live(PATIENCE)
             reached += gateway.process.poll() == 137
             all_lives.end()
         gateway.environment = usual
@@ -375,29 +387,32 @@ def quiet(program, folder, *, seed=1, loss=0, addresses=(1, 2), environment=None
 
 def queue_up(gateway, reports):
     """So many reports of each station are polled, and nobody takes them."""
-    for station in gateway.field.stations.values():
+    stations = gateway.field.stations.values()
+    for station in stations:
         station.report(reports)
-    end = time.monotonic() + ends.PATIENCE
-    while time.monotonic() < end and any(station.given < station.made for station in gateway.field.stations.values()):
-        time.sleep(0.02)
-    # The answer to the last report's poll is heard once the next poll has come.
-    heard = gateway.field.requests
-    while gateway.field.requests < heard + 2 * len(gateway.field.stations) and time.monotonic() < end:
-        time.sleep(0.02)
+    until(lambda: all(station.given == station.made for station in stations))
+    # The answer to the last report's poll is heard, and stands on the disk, once the station's next poll has come.
+    served = {station: station.served for station in stations}
+    until(lambda: all(station.served > served[station] for station in stations))
 
 
-def drained(gateway):
-    """The reports that a control centre gets now, by station, until as many came as the stations gave."""
+def numbered(gateway, *numbers):
+    """The reports of each station with these numbers."""
+    return {(address, number) for address in gateway.field.stations for number in numbers}
+
+
+def drained(gateway, wanted=None):
+    """The reports that a control centre gets now, by station, each where it came first: until it knows that these are acknowledged, or
+    else all that the stations gave."""
+    stations = gateway.field.stations
+    wanted = wanted or {(address, number) for address, station in stations.items() for number in range(1, station.given + 1)}
     visitor = Visitor(gateway.door, [], random.Random(1), commands=0, stays=1)
-    end = time.monotonic() + ends.PATIENCE
-    wanted = sum(station.given for station in gateway.field.stations.values())
-    while time.monotonic() < end and len({report for heard in visitor.connections for report in heard}) < wanted:
-        time.sleep(0.05)
-    time.sleep(0.3)
+    until(lambda: wanted <= visitor.sure)
+    time.sleep(0.2)
     visitor.is_over = True
     visitor.join()
-    got = {address: [n for heard in visitor.connections for where, n in heard if where == address] for address in gateway.field.stations}
-    return got
+    came = dict.fromkeys(report for heard in visitor.connections for report in heard)
+    return {address: [number for where, number in came if where == address] for address in stations}
 
 
 def all_came(gateway):
@@ -440,7 +455,7 @@ def a_state_that_is_no_state(count, program):
         count.judge("a state that can't be read is put aside", gateway.waits("put aside"), gateway.logged())
         count.judge("its files stay", any("unread" in name for name in os.listdir(gateway.state)), os.listdir(gateway.state))
         queue_up(gateway, 3)
-        got = drained(gateway)
+        got = drained(gateway, numbered(gateway, 4, 5, 6))
         count.judge("and the run begins anew", all(numbers[-3:] == [4, 5, 6] for numbers in got.values()), got)
         gateway.kill()
         gateway.field.server.close()
@@ -478,7 +493,7 @@ def a_rotten_line(count, program):
         queue_up(gateway, 3)
         now = {address: station.resets for address, station in gateway.field.stations.items()}
         count.judge("each link is reset", all(now[a] == resets[a] + 1 for a in resets), (resets, now))
-        got = drained(gateway)
+        got = drained(gateway, numbered(gateway, 4, 5, 6))
         count.judge("and the run goes on", all(numbers[-3:] == [4, 5, 6] for numbers in got.values()), got)
         told = gateway.kill()
         count.judge("with a gap of each station", all(f"station {a} gap" in told for a in resets), told)
@@ -510,7 +525,8 @@ def a_full_disk(count, program):
         resets = [station.resets for station in gateway.field.stations.values()]
         gateway.start()
         count.judge("the next start knows it", gateway.waits("stale"), gateway.logged())
-        got = drained(gateway)
+        got = drained(gateway, numbered(gateway, 1, 2, 3, 4))
+        gateway.waits("station 1 up", "station 2 up")
         # What was polled while the state wasn't kept is lost, and a gap tells it; what was kept comes.
         kept = all(numbers[:4] == [1, 2, 3, 4] and numbers == sorted(set(numbers)) for numbers in got.values())
         count.judge("what was kept comes", kept, got)
@@ -520,23 +536,25 @@ def a_full_disk(count, program):
         count.judge("and the gaps are told", all(f"station {a} gap" in told for a in gateway.field.stations), told)
         gateway.flags = ["--state-or-stop"]
         gateway.start(preexec_fn=limit_files(1_000_000))
-        try:
-            status = gateway.process.wait(timeout=ends.PATIENCE)
-        except subprocess.TimeoutExpired:
-            status = None
+        until(lambda: gateway.process.poll() is not None)
+        status = gateway.process.poll()
         count.judge("with --state-or-stop it ends with 3", status == 3, status)
-        gateway.kill()
+        said = re.findall(r"^\S+Z \d+ (.*)$", gateway.kill(), re.M)
+        is_right = said[-2:-1] == ["state can't be kept there"] and said[-1].startswith("counts ")
+        count.judge("and says why at its end", is_right, said)
+        # The line is well: only the disk has failed.
+        count.judge("and nothing else", not {"line lost", "line not there"} & set(said), said)
         gateway.field.server.close()
 
 
 CHANGES = [
     # the settings that change, and how often each link is reset by it
-    ({"answer_ms": 90}, 0),
+    ({"answer_ms": 900}, 0),
     ({"retries": 0}, 0),
     ({"burst": 1}, 0),
     ({"silence": "reset"}, 0),
     ({"k": 3}, 0),
-    ({"queue": 6}, 0),
+    ({"queue": 8}, 0),
     ({"stations": [(2, 2, ""), (1, 1, "")]}, 0),
     ({"stations": [(1, 1, "select = true\n"), (2, 2, "select = true\n")]}, 1),
 ]
@@ -555,7 +573,7 @@ def settings_that_change(count, program, settings, resets):
         told = gateway.waits("goes on")
         got = drained(gateway)
         queue_up(gateway, 2)
-        more = drained(gateway)
+        more = drained(gateway, numbered(gateway, 11, 12))
         both = {address: got[address] + [n for n in more[address] if n > 10] for address in got}
         after = [station.resets for station in gateway.field.stations.values()]
         said = gateway.kill()
@@ -579,15 +597,14 @@ def a_command_at_a_restart(count, program):
         queue_up(gateway, 2)
         gateway.field.mute_at_command = True
         visitor = Visitor(gateway.door, [1], random.Random(1), commands=1, stays=1)
-        end = time.monotonic() + ends.PATIENCE
-        while not gateway.field.silent and time.monotonic() < end:
-            time.sleep(0.02)
+        until(lambda: gateway.field.silent)
         visitor.commands = 0
         time.sleep(0.5)
         gateway.kill()
+        visitor.is_over = True
+        visitor.join()
         lines, _, _ = looked(gateway, gateway.state)
         count.judge("a command without an answer is shown", "command without an answer, given up at a start" in row_of(lines, 1), lines)
-        visitor.is_over = True
         gateway.field.mute_at_command = False
         gateway.field.silent.clear()
         station, other = gateway.field.stations[1], gateway.field.stations[2]
@@ -597,11 +614,11 @@ def a_command_at_a_restart(count, program):
         count.judge("a command isn't sent behind a restart", not station.accepted, station.accepted)
         count.judge("the station's link was reset", station.resets == resets + 1, (resets, station.resets))
         count.judge("and no other", other.resets == others, (others, other.resets, gateway.logged()))
-        got = drained(gateway)
+        before = {report for heard in visitor.connections for report in heard}
+        got = drained(gateway, numbered(gateway, 1, 2, 3, 4) - before)
         told = gateway.kill()
-        for heard in visitor.connections:
-            for where, number in heard:
-                got[where].append(number)
+        for where, number in before:
+            got[where].append(number)
         count.judge("no report is lost by it", all(sorted(set(n)) == [1, 2, 3, 4] for n in got.values()), got)
         count.judge("and no gap told", "gap" not in told, told)
         gateway.field.server.close()
@@ -734,26 +751,53 @@ def alone(name, part, *more):
     return name, lambda count, program, _folder: part(count, program, *more)
 
 
+WORDS = {
+    "--lives": {"type": int, "default": 60},
+    "--calls": {"type": int, "default": 60, "help": "up to how many calls a life ends in front of each"},
+    "--seed": {"type": int, "default": 1},
+    "--stretch": {"type": float, "default": 0.0, "help": "how much longer each life is, in s, for a program that starts slowly"},
+    "--part": {"default": "", "help": "this part alone, in this process"},
+}
+
+PARTS = [
+    lives("hold", 0),
+    lives("reset", 1, silence="reset", retries=10),
+    lives("full queue", 2, queue=6, k=2),
+    calls("each call", 3),
+    calls("each call, reset", 4, silence="reset", retries=10),
+    alone("second", a_second_process),
+    alone("unread", a_state_that_is_no_state),
+    alone("rotten line", a_rotten_line),
+    alone("look", a_look),
+    alone("full disk", a_full_disk),
+    alone("command", a_command_at_a_restart),
+    *(alone(f"settings {n}", settings_that_change, *row) for n, row in enumerate(CHANGES)),
+]
+
+
+def apart(name):
+    """The part of this name in a process of its own: threads of one process would hold each other up."""
+
+    def judged(count, program, _folder):
+        words = [f"--{word}={value}" for word, value in vars(count.options).items() if word not in ("program", "part")]
+        call = [sys.executable, __file__, f"--program={program}", f"--part={name}", *words]
+        done = subprocess.run(call, stdout=subprocess.PIPE, stderr=subprocess.STDOUT, text=True)
+        told, _, last = done.stdout.strip().rpartition("\n")
+        if last.startswith("skipped: "):
+            raise frame.Skipped(last.removeprefix("skipped: "))
+        if "nothing was judged" in told:
+            return
+        print(told + "\n" if told else "", end="", flush=True)
+        counted = re.fullmatch(r"(\d+) passed, (\d+) failed", last)
+        with count.lock:
+            count.passed += int(counted[1]) if counted else 0
+            count.failed += int(counted[2]) if counted else 1
+
+    return name, judged
+
+
 if __name__ == "__main__":
+    wanted = next((word.removeprefix("--part=") for word in sys.argv if word.startswith("--part=")), None)
     # Most of the time they wait, so they run side by side.
-    frame.main(
-        lives("hold", 0),
-        lives("reset", 1, silence="reset", retries=10),
-        lives("full queue", 2, queue=6, k=2),
-        calls("each call", 3),
-        calls("each call, reset", 4, silence="reset", retries=10),
-        alone("second", a_second_process),
-        alone("unread", a_state_that_is_no_state),
-        alone("rotten line", a_rotten_line),
-        alone("look", a_look),
-        alone("full disk", a_full_disk),
-        alone("command", a_command_at_a_restart),
-        *(alone(f"settings {n}", settings_that_change, *row) for n, row in enumerate(CHANGES)),
-        side_by_side=True,
-        words={
-            "--lives": {"type": int, "default": 60},
-            "--calls": {"type": int, "default": 60, "help": "up to how many calls a life ends in front of each"},
-            "--seed": {"type": int, "default": 1},
-            "--stretch": {"type": float, "default": 0.0, "help": "how much longer each life is, in s, for a program that starts slowly"},
-        },
-    )
+    chosen = [part for part in PARTS if part[0] == wanted] or [apart(name) for name, _ in PARTS]
+    frame.main(*chosen, side_by_side=True, words=WORDS)

@@ -1,6 +1,7 @@
 //! Laws of the relation between an ASDU and its octets, for callers to lean on. Each is called for
 //! its contract.
-ghost use Rattle.std.specs.Prelude.{◌≡◌, ◌≤◌, ℕ, Bool, List, [], length, true, false};
+ghost use Rattle.std.specs.Prelude.{◌≡◌, ◌≤◌, ◌%◌, ◌⊎◌, ℕ, Bool, List, [], length, true, false};
+ghost use Rattle.elements.specs.Types.{row};
 ghost use Rattle.std.specs.Int.{div_ceil};
 ghost use Rattle.std.specs.List.{AllByRecursion, flat_map};
 ghost use Rattle.elements.specs.Octets.{AreOctets};
@@ -39,6 +40,17 @@ pub fn objects_are_those_of_the_asdu()
         is_read s xs ≡ false }
     ensures nothing { (s : Sizes) (xs : List ℕ) → is_read s xs ≡ false →
         (objects_of s xs ≡ []) × (monitor_objects_of s xs ≡ []) × (parts s xs ≡ 0) }
+{}
+
+/// Each report of a monitor type is passed on with all its objects, whatever its cause, except for
+/// a negative 'unknown type' (cause 44 with P/N set), with the test bit or without. Of these, and
+/// of all other types, nothing is passed on.
+pub fn monitor_reports_are_passed_on()
+    ensures passed { (s : Sizes) (u : AsduValue) (xs : List ℕ) → IsAsdu s u xs →
+        (row u.kind).monitor ≡ true → (u.cause % 128 ≡ 108 → ⊥) →
+        monitor_objects_of s xs ≡ value_objects u }
+    ensures kept_back { (s : Sizes) (u : AsduValue) (xs : List ℕ) → IsAsdu s u xs →
+        ((row u.kind).monitor ≡ false) ⊎ (u.cause % 128 ≡ 108) → monitor_objects_of s xs ≡ [] }
 {}
 
 /// ASDUs worked by hand from the standard: their octets and objects, what is refused and why, which

@@ -10,10 +10,10 @@ use Rattle.session.specs.History.{History}
 use Rattle.gateway.specs.Log.{Restarted}
 use Rattle.gateway.specs.Log.{Log, Came, Went, Opened, LineIn, TcpIn, CutOff, Ticked, WallIs}
 use Rattle.gateway.specs.Log.{LineOut, TcpOut, Closed, GapOut, latest}
-use Rattle.gateway.specs.Streams.{spelled, AllFit}
+use Rattle.gateway.specs.Streams.{spelled}
 use Rattle.gateway.specs.Connections.{Channel, present}
 use Rattle.gateway.specs.Reports.{Setup}
-use Rattle.gateway.specs.Course.{Course, came_frames, AreTaken, told_sent, Runs}
+use Rattle.gateway.specs.Course.{Course, came_frames, told_sent, Runs}
 
 -- No frame has no octets.
 
@@ -122,10 +122,3 @@ none_came p (Went now (Closed OwnAnswers) ∷ log) c r closed =
 none_came p (Went now (Closed Replaced) ∷ log) c r closed =
     ap (λ (x : Course). came_frames x.talk) r.2
     ∙ none_came p log r.0 r.1 closed
-
--- The frames that are taken fit.
-pub taken_fit : (p : Setup) (log : Log) (now : ℕ) (frames : List Apdu) (c : Course)
-    → AreTaken p log now frames c
-    → AllFit frames
-taken_fit p log now [] c h = tt
-taken_fit p log now (frame ∷ older) c h = (h.0.fits, taken_fit p log now older c h.1)

@@ -10,7 +10,7 @@ use Rattle.gateway.specs.Serial.{kept_until, listed}
 use Rattle.gateway.specs.Works.{Works, tasks_of, told, told_kept, told_judged}
 use Rattle.delivery.specs.Commands.{LineStep, last_sent, steps_told, sent_to, judged_in}
 use Rattle.delivery.specs.Joined.{mirrored_in}
-use Rattle.delivery.proofs.Waiting.{AllFitLine, AnswersStay, IsFitCall, call_fits}
+use Rattle.gateway.proofs.Waiting.{AllFitLine, AnswersStay, IsFitCall, call_fits}
 
 -- A reading of a history that own answers and ends of connections leave as it is
 pub record Ignores {X : Type 0} (F : History → X) : Type 0 where

@@ -1,20 +1,10 @@
 -- The commands of a course are what calls made, at the moments of the log, which never fall; so a
--- step leaves
--- no selection that is over.
-use Rattle.std.specs.Prelude.{if◌then◌else◌, min}
+-- step leaves no selection that is over.
+use Rattle.std.specs.Prelude.{if◌then◌else◌}
 use Rattle.std.specs.List.{AllByRecursion}
-use Rattle.std.proofs.Common.{◌≡◌, ℕ, zero, suc, length, ◌≤◌, Bool, true, false, List, [], ◌∷◌}
-use Rattle.std.proofs.Common.{Option, Some, None}
-use Rattle.std.proofs.Common.{refl, ap, sym, ◌∙◌, subst, le_refl, le_trans}
-use Rattle.std.proofs.Math.Nat.{le-max_left, le_antisymm}
-use Rattle.asdu.specs.Asdu.{AsduValue}
-use Rattle.apci.specs.declared.apdu.Apdu.{Apdu}
-use Rattle.apci.specs.declared.apdu.Apdu.TheVariants.{I, S, U}
-use Rattle.link.specs.declared.outcome.Outcome.{Outcome}
-use Rattle.link.specs.declared.outcome.Outcome.TheVariants as outcome
-use Rattle.session.specs.declared.kinds.Close.{Close}
-use Rattle.session.specs.declared.kinds.Close.TheVariants.{Grammar, SendNumber, ReceiveNumber}
-use Rattle.session.specs.declared.kinds.Close.TheVariants.{Stopped, Timeout, OwnAnswers, Replaced}
+use Rattle.std.proofs.Common.{◌≡◌, ℕ, ◌≤◌, Bool, List, [], ◌∷◌, Option, Some, None, refl, ap, sym}
+use Rattle.std.proofs.Common.{subst, le_refl}
+use Rattle.std.proofs.Math.Nat.{le_antisymm}
 use Rattle.command.specs.declared.waiting.Waiting.{Waiting}
 use Rattle.command.specs.State as tasks
 use Rattle.command.specs.State.{has_answer_place, first_answer, oldest_for, line_of, refusal_of}
@@ -22,328 +12,17 @@ use Rattle.command.specs.State.{is_used}
 use Rattle.command.specs.Judging.{judged}
 use Rattle.command.specs.History.{Told, Judged, Sent, Accepted, Refused, GivenUp, Mirrored, Offered}
 use Rattle.command.specs.History.{Answered, Ended, History}
-use Rattle.command.specs.Calls as calls
 use Rattle.command.specs.Calls.{Call, Judge, PutOnLine, Accept, Busy, Lose, Mirror, Own, SendOwn}
-use Rattle.command.specs.Calls.{Cut, Due, Run, run, first_run, after_call, after_answer}
-use Rattle.command.specs.Calls.{after_sending, NeverFall}
+use Rattle.command.specs.Calls.{Cut, Due, Run, after_call, after_answer, after_sending}
 use Rattle.command.specs.Laws.{AfterEachDue}
 use Rattle.command.specs.Selections.{IsInTime}
-use Rattle.gateway.specs.Objects.{has_objects}
-use Rattle.gateway.specs.Log.{Restarted}
-use Rattle.gateway.specs.Log.{Log, LogEntry, Input, LineIn, Opened, TcpIn, CutOff, Ticked, WallIs}
-use Rattle.gateway.specs.Log.{Came, Went, LineOut, TcpOut, Closed, GapOut, latest, last_moment}
-use Rattle.gateway.specs.Connections.{present}
+use Rattle.gateway.specs.Log.{Log, latest}
 use Rattle.gateway.specs.Reports.{Setup}
-use Rattle.gateway.specs.Serial.{kept_until, listed, refusals, is_first_command, put_on_line}
 use Rattle.gateway.specs.Serial.{unless_silent}
-use Rattle.gateway.specs.Works.{Works, tasks_of, told_kept, is_command_report, mirrored_works}
-use Rattle.gateway.specs.Works.{LearnsReport, LearnsOf, heard_works, answered_works, told_silent}
-use Rattle.gateway.specs.Works.{settled_works, ready_works, unasked_works, done_works, told_put}
-use Rattle.gateway.specs.Works.{link_given_up_works, command_given_up_works}
-use Rattle.gateway.specs.Works.{commands_given_up_works_upto, restarted_works}
-use Rattle.link.specs.Carried.{awaits_command}
-use Rattle.gateway.specs.Course.{Course, with_frames, with_sent, IsNext, closed_course, IsLeft}
-use Rattle.gateway.specs.Course.{room_in, Runs}
+use Rattle.gateway.specs.Works.{told_silent, ready_works, unasked_works}
+use Rattle.gateway.specs.Course.{Course, room_in, Runs}
+use Rattle.gateway.proofs.Called.{IsCalled, IsAt, called_more, silence, all_so, all_made}
 use Rattle.delivery.specs.Selections.{EndInTime, AreAt, TellsAtMoments}
-
--- calls that leave these commands, the latest not past this moment
-pub record IsCalled (p : Setup) (at : ℕ) (r : Run) : Type 0 where
-  pub made : List Call
-  pub leave : run p.stations p.sizes p.select_ms p.max_age_ms made ≡ r
-  pub rise : NeverFall made
-  pub past : calls.latest made ≤ at
-
-abbrev pub IsMade : Setup → ℕ → Works → Type 0
-IsMade p at w = IsCalled p at (tasks_of w)
-
-later : (p : Setup) (at soon : ℕ) (r : Run) → at ≤ soon → IsCalled p at r → IsCalled p soon r
-later p at soon r h c = record {
-  made = c.made;
-  leave = c.leave;
-  rise = c.rise;
-  past =
-      le_trans c.past h;
-}
-
--- a call at this moment, or at none
-abbrev pub IsAt : ℕ → Call → Type 0
-IsAt at call = (n : ℕ) → n ≤ at → (n ≤ calls.moment_of call n) × (calls.moment_of call n ≤ at)
-
-pub called_more : (p : Setup) (at : ℕ) (call : Call) (r : Run) → IsAt at call → IsCalled p at r
-    → IsCalled p at (after_call call r)
-called_more p at call r when c = record {
-  made = call ∷ c.made;
-  leave = ap (after_call call) c.leave;
-  rise = ((when (calls.latest c.made) c.past).0, c.rise);
-  past = (when (calls.latest c.made) c.past).1;
-}
-
--- whatever calls at this moment keep, a part of a step keeps
-module _ (p : Setup) (at : ℕ) (Q : Run → Type 0) (one : (call : Call) (r : Run) → IsAt at call → Q r
-    → Q (after_call call r)) where
-  -- at no moment, and at this one
-  still : (n : ℕ) → n ≤ at → (n ≤ n) × (n ≤ at)
-  still n h = (le_refl n, h)
-
-  now_is : (n : ℕ) → n ≤ at → (n ≤ at) × (at ≤ at)
-  now_is n h = (h, le_refl at)
-
-  keep : (xs : List (List ℕ)) (s : tasks.State) (h : History)
-      → Q (record { state = s; history = h })
-      → Q (record { state = kept_until xs s; history = told_kept xs s h })
-  keep [] s h c = c
-  keep (x ∷ xs) s h c =
-      go (has_answer_place s) here (keep xs (tasks.offered x s) (Offered x (has_answer_place s) ∷ h)
-      here)
-    where
-      here : Q (record { state = tasks.offered x s; history = Offered x (has_answer_place s) ∷ h })
-      here = one (Own x) (record { state = s; history = h }) still c
-
-      go : (b : Bool)
-          → Q (record { state = tasks.offered x s; history = Offered x (has_answer_place s) ∷ h }) →
-          Q (record {
-            state = kept_until xs (tasks.offered x s);
-            history =
-                told_kept xs (tasks.offered x s) (Offered x (has_answer_place s) ∷ h);
-          }) →
-          Q (record {
-            state = if b then kept_until xs (tasks.offered x s) else tasks.offered x s;
-            history =
-                if b then told_kept xs (tasks.offered x s) (Offered x (has_answer_place s) ∷ h)
-                else Offered x
-                (has_answer_place s) ∷ h;
-          })
-      go true here all = all
-      go false here all = here
-
-  -- An answer is learnt
-
-  mirror : (running : Bool) (v : AsduValue) (pieces : List (List ℕ)) (w : Works) → Q (tasks_of w)
-      → Q (tasks_of (mirrored_works at running v pieces w))
-  mirror false v pieces w c = one (Mirror v at) (tasks_of w) now_is c
-  mirror true v pieces w c = keep pieces (after_call (Mirror v at) (tasks_of w)).state
-      (after_call (Mirror v at) (tasks_of w)).history (one (Mirror v at) (tasks_of w) now_is c)
-
-  report : (running b : Bool) (asdu : List ℕ) (w z : Works) → LearnsReport p at running b asdu w z
-      → Q (tasks_of w)
-      → Q (tasks_of z)
-  report running false asdu w z is c = subst (λ (w : Works). Q (tasks_of w)) (sym is) c
-  report running true asdu w z is c = subst (λ (w : Works). Q (tasks_of w)) (sym is.5)
-      (mirror running is.0 is.2 w c)
-
-  learn : (running : Bool) (o : Outcome) (w z : Works) → LearnsOf p at running o w z
-      → Q (tasks_of w) → Q (tasks_of z)
-  learn running outcome.None w z is c = subst (λ (w : Works). Q (tasks_of w)) (sym is) c
-  learn running (outcome.Started k) w z is c = subst (λ (w : Works). Q (tasks_of w)) (sym is) c
-  learn running (outcome.StartedGap k session) w z is c =
-      subst (λ (w : Works). Q (tasks_of w)) (sym is) c
-  learn running (outcome.Empty k) w z is c = subst (λ (w : Works). Q (tasks_of w)) (sym is) c
-  learn running (outcome.Accepted k) w z is c = subst (λ (w : Works). Q (tasks_of w)) (sym is)
-      (one (Accept k) (tasks_of w) still c)
-  learn running (outcome.Down k) w z is c = subst (λ (w : Works). Q (tasks_of w)) (sym is)
-      (one (Lose k) (tasks_of w) still c)
-  learn running (outcome.Busy k) w z is c =
-      subst (λ (w : Works). Q (tasks_of w)) (sym is) (keep (refusals k w.serial)
-      (after_call (Busy k) (tasks_of w)).state (after_call (Busy k) (tasks_of w)).history
-      (one (Busy k) (tasks_of w) still c))
-  learn running (outcome.Report k asdu) w z is c = report running
-      (is_command_report p.sizes asdu.items) asdu.items w z is c
-
-  -- Frames come and go
-
-  hear : (frame : Apdu) (wall : Option ℕ) (w : Works) → Q (tasks_of w)
-      → Q (tasks_of (heard_works frame at wall w))
-  hear (S nr) wall w c = c
-  hear (U u) wall w c = c
-  hear (I ns nr asdu) wall w c =
-      let soon : Run = after_call (Judge asdu.items at wall) (tasks_of w) in
-      keep (listed (judged asdu.items at wall w.serial.commands).0) soon.state soon.history
-      (one (Judge asdu.items at wall) (tasks_of w) now_is c)
-
-  pub hear_all : (frames : List Apdu) (wall : Option ℕ) (c : Course) → Q (tasks_of c.works)
-      → Q (tasks_of (with_frames p frames at wall c).works)
-  hear_all [] wall c made = made
-  hear_all (frame ∷ frames) wall c made = hear frame wall (with_frames p frames at wall c).works
-      (hear_all frames wall c made)
-
-  answer : (w : Works) (x : List ℕ) → first_answer w.serial.commands.answers ≡ Some x
-      → Q (tasks_of w)
-      → Q (tasks_of (answered_works w))
-  answer w x is c = subst Q so (one SendOwn (tasks_of w) still c)
-    where
-      so : after_call SendOwn (tasks_of w) ≡ tasks_of (answered_works w)
-      so = ap (λ (o : Option (List ℕ)). after_answer o (tasks_of w)) is
-          ∙ ap (λ (h : History). let r : Run =
-          record { state = tasks.answered w.serial.commands; history = h } in
-          r) (sym (ap (λ (o : Option (List ℕ)). (after_answer o (tasks_of w)).history) is))
-
-  pub send : (log : Log) (frame : Apdu) (now : ℕ) (c : Course) → IsNext p log frame c
-      → Q (tasks_of c.works)
-      → Q (tasks_of (with_sent frame now c).works)
-  send log (S nr) now c next made = made
-  send log (U u) now c next made = made
-  send log (I ns nr asdu) now c next made = go (has_objects asdu.items) next.own
-    where
-      go : (b : Bool) → (b ≡ false → first_answer c.works.serial.commands.answers ≡ Some asdu.items)
-          → Q (tasks_of (if b then c.works else answered_works c.works))
-      go true own = made
-      go false own = answer c.works asdu.items (own refl) made
-
-  -- A step is done
-
-  pub silence : (o : Option ℕ) (w : Works) → Q (tasks_of w)
-      → Q (record { state = (unless_silent o w.serial).commands; history = told_silent o w })
-  silence None w c = c
-  silence (Some k) w c = one (Lose k) (tasks_of w) still c
-
-  pub settle : (w : Works) → Q (tasks_of w) → Q (tasks_of (settled_works at w))
-  settle w c = one (Due at) (record {
-    state = (unless_silent w.serial.silent w.serial).commands;
-    history =
-        told_silent w.serial.silent w;
-  }) now_is (silence w.serial.silent w c)
-
-  finish : (room : Bool) (w : Works) → Q (tasks_of w) → Q (tasks_of (done_works at room w))
-  finish room w c = go w.is_due
-    where
-      go : (b : Bool) → Q (tasks_of (if b then unasked_works at room (ready_works at w) else w))
-      go true = settle w c
-      go false = c
-
-  pub put : (b : Bool) (k : ℕ) (w : Works) → Q (tasks_of w)
-      → Q (record { state = put_on_line b k w.serial.commands; history = told_put b k w })
-  put false k w c = c
-  put true k w c = subst Q (go (oldest_for k w.serial.commands) refl)
-      (one (PutOnLine k) (tasks_of w) still c)
-    where
-      go : (o : Option Waiting) → oldest_for k w.serial.commands ≡ o
-          → after_sending o k (tasks_of w) ≡ record {
-            state = tasks.put_out o k w.serial.commands;
-            history =
-                (after_sending o k (tasks_of w)).history;
-          }
-      go None is = refl
-      go (Some x) is =
-          ap (λ (o : Option Waiting).
-          let r : Run = record {
-            state = tasks.put_out o k w.serial.commands;
-            history =
-                (after_sending (Some x) k (tasks_of w)).history;
-          } in r) is
-
-  given_up_one : (k : ℕ) (w : Works) → Q (tasks_of w) → Q (tasks_of (command_given_up_works k w))
-  given_up_one k w c = go (awaits_command w.serial.line k)
-    where
-      go : (b : Bool) → Q (tasks_of (if b then link_given_up_works k w else w))
-      go true = one (Lose k) (tasks_of w) still c
-      go false = c
-
-  given_up_all : (count : ℕ) (w : Works) → Q (tasks_of w)
-      → Q (tasks_of (commands_given_up_works_upto count w))
-  given_up_all zero w c = c
-  given_up_all (suc k) w c =
-      given_up_one k (commands_given_up_works_upto k w) (given_up_all k w c)
-
-  restart : (w : Works) → Q (tasks_of w) → Q (tasks_of (restarted_works w))
-  restart w c = given_up_all (length w.serial.line.stations) w c
-
-  cut : (w : Works) → Q (tasks_of w) → Q (after_call Cut (tasks_of w))
-  cut w c = one Cut (tasks_of w) still c
-
-  pub close : (cause : Close) (is_open : Bool) (c : Course) → Q (tasks_of c.works)
-      → Q (tasks_of (closed_course p cause is_open at c).works)
-  close Replaced is_open c made = made
-  close Timeout is_open c made = cut (settled_works at c.works) (settle c.works made)
-  close Grammar is_open c made = cut c.works made
-  close SendNumber is_open c made = cut c.works made
-  close ReceiveNumber is_open c made = cut c.works made
-  close Stopped is_open c made = cut c.works made
-  close OwnAnswers is_open c made = cut c.works made
-
--- a step's entry is its moment's
-module _ (p : Setup) (P : Log → Run → Type 0) (one : (log : Log) (call : Call) (r : Run)
-    → IsAt (latest log) call
-    → P log r → P log (after_call call r)) (next : (entry : LogEntry) (log : Log) (r : Run)
-    → P log r
-    → P (entry ∷ log) r) where
-  abbrev So : Log → Course → Type 0
-  So log c = P log (tasks_of c.works)
-
-  left_so : (log : Log) (now : ℕ) (event : Input) (before after : Course)
-      → IsLeft p log before after → So log before
-      → So (Came now event ∷ log) after
-  left_so log now event before after left h =
-      next (Came now event) log (tasks_of after.works)
-      (subst (So log) (sym left.is) (finish p (latest log) (P log) (one log) (room_in p log before)
-      before.works h))
-
-  pub all_so : P [] (first_run p.stations p.sizes p.select_ms p.max_age_ms)
-      → (log : Log) (c : Course) → Runs p log c
-      → So log c
-  all_so start [] c r = subst (So []) (sym r) start
-  all_so start (Came now Ticked ∷ log) c r = subst (So (Came now Ticked ∷ log)) (sym r.5)
-      (left_so log now Ticked r.0 r.1 r.4 (all_so start log r.0 r.2))
-  all_so start (Came now (WallIs number) ∷ log) c r = subst (So (Came now (WallIs number) ∷ log))
-      (sym r.5)
-      (left_so log now (WallIs number) r.0 r.1 r.4 (all_so start log r.0 r.2))
-  all_so start (Came now Restarted ∷ log) c r =
-      let new : Log = Came now Restarted ∷ log in
-      subst (So new) (sym r.5.1) (restart p (latest new) (P new) (one new) r.1.works
-      (left_so log now Restarted r.0 r.1 r.4 (all_so start log r.0 r.2)))
-  all_so start (Came now (LineIn octets) ∷ log) c r =
-      let new : Log = Came now (LineIn octets) ∷ log in
-      subst (So new) (sym r.5.2) (learn p (latest new) (P new) (one new) _ _ _ r.5.0 r.5.1
-      (left_so log now (LineIn octets) r.0 r.1 r.4 (all_so start log r.0 r.2)))
-  all_so start (Came now (TcpIn octets) ∷ log) c r =
-      let new : Log = Came now (TcpIn octets) ∷ log in
-      subst (So new) (sym r.5.taken) (hear_all p (latest new) (P new) (one new) r.5.frames _ _
-      (left_so log now (TcpIn octets) r.0 r.1 r.4 (all_so start log r.0 r.2)))
-  all_so start (Came now Opened ∷ log) c r =
-      let new : Log = Came now Opened ∷ log in
-      subst (So new) (sym r.5) (cut p (latest new) (P new) (one new) r.1.works
-      (left_so log now Opened r.0 r.1 r.4 (all_so start log r.0 r.2)))
-  all_so start (Came now CutOff ∷ log) c r =
-      let new : Log = Came now CutOff ∷ log in
-      subst (So new) (sym r.5) (cut p (latest new) (P new) (one new) r.1.works
-      (left_so log now CutOff r.0 r.1 r.4 (all_so start log r.0 r.2)))
-  all_so start (Went now (LineOut octets) ∷ log) c r =
-      let new : Log = Went now (LineOut octets) ∷ log in
-      let ready : P new (tasks_of (ready_works (latest log) r.0.works)) =
-      next (Went now (LineOut octets)) log (tasks_of (ready_works (latest log) r.0.works))
-      (settle p (latest log) (P log) (one log) r.0.works (all_so start log r.0 r.1)) in
-      subst (So new) (sym r.2.is)
-      (put p (latest new) (P new) (one new) (is_first_command
-      (ready_works (latest log) r.0.works).serial.line r.2.request) r.2.request.station
-      (ready_works (latest log) r.0.works) ready)
-  all_so start (Went now (GapOut station session) ∷ log) c r =
-      subst (So (Went now (GapOut station session) ∷ log)) (sym r.2.is)
-      (next (Went now (GapOut station session)) log (tasks_of r.0.works) (all_so start log r.0 r.1))
-  all_so start (Went now (TcpOut octets) ∷ log) c r =
-      let new : Log = Went now (TcpOut octets) ∷ log in
-      let sent : So new r.1 =
-      subst (So new) (sym r.3.put) (send p (latest new) (P new) (one new) log r.3.frame (latest log)
-      r.0 r.3.next
-      (next (Went now (TcpOut octets)) log (tasks_of r.0.works) (all_so start log r.0 r.2))) in
-      subst (So new) (sym r.4.taken) (hear_all p (latest new) (P new) (one new) r.4.frames _ r.1
-      sent)
-  all_so start (Went now (Closed cause) ∷ log) c r =
-      let new : Log = Went now (Closed cause) ∷ log in
-      subst (So new) (sym r.2) (close p (latest new) (P new) (one new) cause (present log).is_open
-      r.0
-      (next (Went now (Closed cause)) log (tasks_of r.0.works) (all_so start log r.0 r.1)))
-
--- Calls whose moments never fall
-
-next_called : (p : Setup) (entry : LogEntry) (log : Log) (r : Run) → IsCalled p (latest log) r
-    → IsCalled p (latest (entry ∷ log)) r
-next_called p (Went now action) log r c = c
-next_called p (Came now event) log r c = later p (latest log) (latest (Came now event ∷ log)) r
-    (le-max_left (latest log) (min now last_moment)) c
-
-pub all_made : (p : Setup) (log : Log) (c : Course) → Runs p log c → IsMade p (latest log) c.works
-all_made p = all_so p (λ log r. IsCalled p (latest log) r)
-    (λ log call r when c. called_more p (latest log) call r when c) (next_called p)
-    (record { made = []; leave = refl; rise = tt; past = le_refl 0 })
 
 abbrev pub TimeLaw : Type 0
 TimeLaw = AfterEachDue (λ stations sizes select_ms max_age_ms now s h. (xs : List ℕ)
@@ -413,9 +92,9 @@ told_call : (log : Log) (call : Call) (r : Run) → IsAt (latest log) call
     → TellsAtMoments log (after_call call r).history
 told_call log (Judge xs now wall) r when t = tell_more log
     (Judged now wall xs (judged xs now wall r.state).0) r.history
-    (moment_is (latest log) now (when (latest log) (le_refl (latest log))), tt) t
+    (moment_is (latest log) now (when.when (latest log) (le_refl (latest log))), tt) t
 told_call log (Mirror v now) r when t = tell_more log (Mirrored now v) r.history
-    (moment_is (latest log) now (when (latest log) (le_refl (latest log))), tt) t
+    (moment_is (latest log) now (when.when (latest log) (le_refl (latest log))), tt) t
 told_call log (Accept k) r when t = tell_more log (Accepted k) r.history tt t
 told_call log (Busy k) r when t = tell_more log (Refused k (refusal_of (line_of k r.state)))
     r.history tt t

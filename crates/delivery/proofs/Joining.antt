@@ -36,7 +36,7 @@ use Rattle.gateway.specs.Works.{done_works, told_put, told_silent, asked_works, 
 use Rattle.gateway.specs.Course.{Course, with_frames, with_sent, closed_course, with_works, IsLeft}
 use Rattle.gateway.specs.Course.{SendsNext, room_in, Runs}
 use Rattle.delivery.specs.Joined.{IsSetUp, mirrored_in, command_reports, skipped_among, AreValues}
-use Rattle.delivery.proofs.Waiting.{AnswersStay}
+use Rattle.gateway.proofs.Waiting.{AnswersStay}
 use Rattle.delivery.proofs.History.{line_told, WaitsFit, one_fits}
 use Rattle.delivery.proofs.Exchanging.{exchanges_at, IsTold, stays_told}
 use Rattle.delivery.proofs.Line.{LinkLaws, heard_told, asked_told, timed_told}
@@ -44,7 +44,7 @@ use Rattle.delivery.proofs.Works.{all_told, IsAllTold, told_alike, silent_told, 
 use Rattle.delivery.proofs.Works.{IsQuiet, heard_quiet, heard_line, sent_quiet, sent_line}
 use Rattle.delivery.proofs.Works.{settled_quiet, settled_line, offers_tell, put_told, put_mirrors}
 use Rattle.delivery.proofs.Works.{put_fits}
-use Rattle.delivery.proofs.Frames.{taken_fit}
+use Rattle.gateway.proofs.Called.{taken_fit}
 use Rattle.delivery.proofs.Restarts.{IsGiven, all_given}
 
 -- the works are what these exchanges make them

@@ -30,7 +30,7 @@ use Rattle.gateway.specs.Course.{Runs}
 use Rattle.delivery.specs.Arrivals.{Arrival, present_logs, past_logs, over_logs, arrivals_in}
 use Rattle.delivery.specs.Arrivals.{arrivals_by, arrivals}
 use Rattle.delivery.specs.Commands.{judged_in, as_judged}
-use Rattle.delivery.proofs.Waiting.{AnswersStay}
+use Rattle.gateway.proofs.Waiting.{AnswersStay}
 use Rattle.delivery.proofs.Works.{learnt_of, judged_by, heard_judged, sent_judged, settled_judged}
 use Rattle.delivery.proofs.Works.{put_judged}
 use Rattle.delivery.proofs.Frames.{joined_by, told_came, none_came}

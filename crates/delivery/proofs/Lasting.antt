@@ -36,8 +36,9 @@ use Rattle.gateway.specs.Serial.{is_first_command, unless_silent}
 use Rattle.gateway.specs.Works.{Works, tasks_of, told_silent, settled_works, ready_works}
 use Rattle.gateway.specs.Course.{Course, Runs}
 use Rattle.delivery.specs.Selections.{StayInTime, is_asked}
-use Rattle.delivery.proofs.InTime.{IsAt, moment_is, IsCalled, IsMade, TimeLaw, all_made}
-use Rattle.delivery.proofs.InTime.{called_more, due_leaves, silence, put, send, hear_all, close}
+use Rattle.gateway.proofs.Called.{IsAt, IsCalled, IsMade, all_made, taken_fit}
+use Rattle.gateway.proofs.Called.{called_more, silence, put, send, hear_all, close}
+use Rattle.delivery.proofs.InTime.{moment_is, TimeLaw, due_leaves}
 
 -- its time isn't over
 abbrev pub IsYoung : (ms at : ℕ) → Selection → Type 0
@@ -272,10 +273,10 @@ module _ (at : ℕ) where
       → Lasts at (after_call call r).state
   lasts (Judge xs now wall) r when h =
       subst (λ (n : ℕ). Lasts at (judged xs n wall r.state).1)
-      (sym (moment_is at now (when at (le_refl at))))
+      (sym (moment_is at now (when.when at (le_refl at))))
       (judges (fault r.state.sizes r.state.stations r.state.max_age_ms wall xs) xs r.state h)
   lasts (Mirror v now) r when h = subst (λ (n : ℕ). Lasts at (mirrored v n r.state))
-      (sym (moment_is at now (when at (le_refl at)))) (mirrors v r.state h)
+      (sym (moment_is at now (when.when at (le_refl at)))) (mirrors v r.state h)
   lasts (Due now) r when h = times now r.state h
   lasts (PutOnLine k) r when h = go (oldest_for k r.state)
     where
@@ -341,6 +342,7 @@ module _ (p : Setup) (stay : SettingLaw) (some : 0 < p.select_ms) where
       let at : ℕ = latest log in
       subst (λ (c : Course). Q at (tasks_of c.works)) (sym r.4.taken)
       (hear_all p at (Q at) (lasts at) r.4.frames _ r.1
+      (taken_fit p (Went now (TcpOut octets) ∷ log) at r.4.frames r.1 r.4.each)
       (subst (λ (c : Course). Q at (tasks_of c.works)) (sym r.3.put)
       (send p at (Q at) (lasts at) log r.3.frame at r.0 r.3.next (asked_lasts log r.0 r.2 h))))
   asked_lasts (Went now (Closed cause) ∷ log) c r h =

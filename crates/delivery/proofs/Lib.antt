@@ -5,7 +5,6 @@ pub mod Losses
 pub mod Sessions
 pub mod Sublists
 pub mod Steps
-pub mod Waiting
 pub mod History
 pub mod Exchanging
 pub mod Line

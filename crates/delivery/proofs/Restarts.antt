@@ -33,7 +33,7 @@ use Rattle.gateway.specs.Works.{commands_given_up_works_upto, restarted_works}
 use Rattle.delivery.specs.Commands.{LineStep, Begun, Lost, said_of, missed_by, is_silent, goes_down}
 use Rattle.delivery.specs.Commands.{steps_at, steps_in, first_sendings, steps_told}
 use Rattle.delivery.specs.Joined.{mirrored_in}
-use Rattle.delivery.proofs.Waiting.{AnswersStay}
+use Rattle.gateway.proofs.Waiting.{AnswersStay}
 use Rattle.delivery.proofs.History.{LineTold, line_told, WaitsFit, one_fits}
 use Rattle.delivery.proofs.Steps.{Counts, so_far, counts}
 use Rattle.delivery.proofs.Exchanging.{exchanges_at, IsTold, stays_told, lost_if, lost_far, here_is}

@@ -39,7 +39,7 @@ use Rattle.gateway.specs.Works.{told_put}
 use Rattle.delivery.specs.Commands.{Lost, judged_in}
 use Rattle.delivery.specs.Joined.{mirrored_in, command_reports, skipped_among, AreValues}
 use Rattle.delivery.proofs.Skipping.{skip_one, skip_none, lost_skips}
-use Rattle.delivery.proofs.Waiting.{AnswersStay, AllFitLine, oldest_fits}
+use Rattle.gateway.proofs.Waiting.{AnswersStay, AllFitLine, oldest_fits}
 use Rattle.delivery.proofs.History.{LineTold, line_told, line_ignores, mirrors_ignore}
 use Rattle.delivery.proofs.History.{judged_ignore, keeping, sending_own, judging, WaitsFit}
 use Rattle.delivery.proofs.History.{one_fits, kept_fit}

@@ -1,3 +1,4 @@
 pub mod TimeTagChecks
 pub mod TypeCodes
+pub mod Moments
 mod StandardTables

@@ -1,7 +1,11 @@
 //! What the standard says of types, elements and time tags, each law called for its contract.
+ghost use Rattle.std.specs.Prelude.{◌≡◌, ◌≤◌, ℕ, List, slice_index};
 ghost use Rattle.std.specs.List.{AllByRecursion};
+ghost use Rattle.elements.specs.declared.tag.Verdict.TheVariants.{Good};
+ghost use Rattle.elements.specs.Moments.{Moment, Exists, tag_of, instant};
 ghost use Rattle.elements.specs.Standard.{TypesAreTheStandards, LayoutExamples, IsShownSo};
 ghost use Rattle.elements.specs.Standard.{IsJudgedSo, value_examples, tag_examples};
+ghost use Rattle.elements.specs.TimeTag.{verdict_of};
 
 /// The table of types is that of IEC 60870-5-101, 7.2.1 and 7.3: which octet names which type,
 /// which go in monitor direction, which have a time tag, and how many octets their elements have.
@@ -15,4 +19,13 @@ pub fn worked_examples_hold()
     ensures layouts { LayoutExamples }
     ensures values { AllByRecursion IsShownSo value_examples }
     ensures tags { AllByRecursion IsJudgedSo tag_examples }
+{}
+
+/// The tag of each moment of the years 2000 to 2099 is good, with the day of the week or without,
+/// and its instant is that moment's. No tag is good that is marked invalid (IV, bit 7 of the octet
+/// of the minute).
+pub fn tags_of_moments_are_good()
+    ensures good { (m : Moment) → Exists m → verdict_of (tag_of m) ≡ Good (instant m) }
+    ensures marked { (octets : List ℕ) (instant : ℕ) → 128 ≤ slice_index octets 2 →
+        verdict_of octets ≡ Good instant → ⊥ }
 {}

@@ -23,7 +23,7 @@ mod types;
 
 pub use commands::{Dco, Qoi, Rco, Sco, SeNva, SeSva};
 pub use element::Element;
-pub use laws::{types_are_the_standards, worked_examples_hold};
+pub use laws::{tags_of_moments_are_good, types_are_the_standards, worked_examples_hold};
 pub use monitored::{Bcr, Bsi, Coi, Diq, Nva, Siq, Sva, Vti};
 pub use tag::{Cp56, Verdict, judge};
 pub use types::{TypeId, kind};

@@ -7,3 +7,4 @@ pub mod Spoiling
 pub mod Stage
 pub mod Tail
 pub mod Examples
+pub mod Places

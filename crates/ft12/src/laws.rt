@@ -11,6 +11,7 @@ ghost use Rattle.ft12.specs.Assembly.{Hears, IsHeardWhole};
 ghost use Rattle.ft12.specs.Fronts.{front_of};
 ghost use Rattle.ft12.specs.Examples.{IsSpelledSo, IsRefusedSo, spelling_examples};
 ghost use Rattle.ft12.specs.Examples.{refusal_examples};
+ghost use Rattle.ft12.specs.Places.{HavePlaces};
 ghost use Rattle.ft12.specs.Spelling.{IsLineFrame, Fits, spelling};
 ghost use Rattle.ft12.specs.Spoiling.{spoilt};
 ghost use Rattle.ft12.specs.Reading.{IsFront};
@@ -78,6 +79,12 @@ pub fn frames_are_heard_one_after_another()
         (after : Option (List ℕ)) → Fits size frame →
         Hears size [] (spelling size frame ++ more) n heard after →
         IsHeardWhole size frame n heard after }
+{}
+
+/// Each frame has these octets, whatever its control octet, address and data are, and however many
+/// data it has; and all that the length octet can count make a frame.
+pub fn frames_have_these_octets()
+    ensures { HavePlaces }
 {}
 
 /// Frames worked by hand from the standard have these octets and are read back from them, and

@@ -1,15 +1,18 @@
 -- Each thing that is told keeps the agreement of state and log.
-use Rattle.std.proofs.Common.{◌≡◌, ℕ, ◌+◌, ◌%◌, ◌<◌, ◌≤◌, ◌&&◌, Bool, true, false, not, nat_lt}
+use Rattle.std.proofs.Common.{◌≡◌, ℕ, zero, suc, ◌+◌, ◌-◌, ◌%◌, ◌<◌, ◌≤◌, ◌&&◌, ◌||◌, Bool, true}
+use Rattle.std.proofs.Common.{false, not, nat_lt, nat_le}
 use Rattle.std.proofs.Common.{List, [], ◌∷◌, ◌++◌, length, take, drop, refl, ap, sym, ◌∙◌, subst}
 use Rattle.std.proofs.Common.{arith, length-append, Some, None, zero-add, inl, inr}
 use Rattle.std.specs.Prelude.{if◌then◌else◌}
 use Rattle.std.specs.List.{flat_map}
 use Rattle.std.specs.Prelude.{◌⊎◌}
 use Rattle.std.proofs.lemmas.List.{take-append-le}
-use Rattle.std.proofs.lemmas.Bool.{false≢true, lt-ltb, le-ltb, cases_lt}
+use Rattle.std.proofs.lemmas.Bool.{false≢true, lt-ltb, le-ltb, lt-leb, cases_lt}
 use Rattle.asdu.specs.InformationObjects.{InformationObject}
 use Rattle.apci.specs.declared.apdu.Apdu.{Apdu}
 use Rattle.apci.specs.declared.apdu.Apdu.TheVariants.{I, S, U}
+use Rattle.apci.specs.declared.apdu.Uf.TheVariants.{StartAct, StartCon, StopAct, StopCon, TestAct}
+use Rattle.apci.specs.declared.apdu.Uf.TheVariants.{TestCon}
 use Rattle.apci.specs.Spelling.{spelling, Fits}
 use Rattle.session.specs.declared.kinds.Kind.{Kind}
 use Rattle.session.specs.declared.kinds.Kind.TheVariants.{Queue as FromQueue, Own}
@@ -38,15 +41,18 @@ use Rattle.command.specs.History as happened
 use Rattle.gateway.specs.Course.{Course, here_of, came_frames, room_by, room_in, kind_of, told_sent}
 use Rattle.gateway.specs.Course.{with_sent, HasSentAll, IsFlushed, IsUntouched, HasBegun}
 use Rattle.gateway.specs.Course.{IsNextData}
+use Rattle.gateway.specs.Course.{IsTouched, HasAsked}
 use Rattle.gateway.specs.Phases.{Phase, Fresh, Taking, Judged, Idle, Crowded, Timed, Asked, IsPast}
+use Rattle.gateway.specs.Behind.{EndsFrame}
 use Rattle.gateway.specs.Phases.{IsLeftIn, IsFlushing, IsPhase, works_in, IsAsked, IsPlaced}
 use Rattle.session.specs.History as talk
-use Rattle.session.specs.History.{History, frame_due}
+use Rattle.session.specs.declared.kinds.Unacknowledged.{Unacknowledged}
+use Rattle.session.specs.History.{History, frame_due, has_timed_out}
 use Rattle.session.specs.Runs.{Call, Send, after_call}
 use Rattle.session.specs.Ends.{IsConfirmed}
 use Rattle.gateway.specs.Conversation.{KeepsRulesSoFar}
 use Rattle.gateway.specs.Agrees.{Presently, Carries, Past, Talks, Agrees, Tied, ArePlain, IsSpent}
-use Rattle.gateway.specs.Agrees.{IsUndue, pending}
+use Rattle.gateway.specs.Agrees.{IsUndue, IsAnswered, pending}
 use Rattle.gateway.proofs.Working.{answers_in, own_serial, asked_own, own_placed}
 use Rattle.gateway.proofs.Talking.{at, HasNoData, next_plain, sends, kept_talk, talk_out, all_taken}
 use Rattle.gateway.proofs.Talking.{confirmed_by, may_by, due_by}
@@ -169,15 +175,49 @@ pub same_asks : (phase : Phase) (at : ℕ) (room other : Bool) (w : Works) → o
     → IsAsked phase at other w
 same_asks phase at room other w same h = subst (λ r. IsAsked phase at r w) (sym same) h
 
+-- behind a frame that came one ends in the event's octets
+abbrev pub EndsIn : Phase → Log → Type 0
+EndsIn Judged log = EndsFrame log
+EndsIn phase log = Unit {0}
+
+ends_in : (p : Setup) (s : State) (log : Log) (unjudged : List ℕ) (phase : Phase)
+    (a : Agrees p s log unjudged phase) → EndsIn phase log
+ends_in p s log unjudged phase a = by_phase phase a.left
+  where
+    ends : IsPast log (length (pending s.centre.so_far ++ unjudged)) → EndsFrame log
+    ends h = record {
+      frames = came_frames a.course.talk;
+      rest = a.here.so_far ++ unjudged;
+      fit = a.here.fit;
+      joined = a.here.joined;
+      ends = omega (
+        arith,
+        h,
+        ap (λ x. length (pending x ++ unjudged)) a.here.assembler,
+        ap length a.here.joined,
+        length-append (spelled (came_frames a.course.talk)) (a.here.so_far ++ unjudged),
+      );
+    }
+
+    by_phase : (phase : Phase) → IsLeftIn phase log (pending s.centre.so_far) unjudged
+        → EndsIn phase log
+    by_phase Fresh h = tt
+    by_phase Taking h = tt
+    by_phase Judged h = ends h
+    by_phase Idle h = tt
+    by_phase Crowded h = tt
+    by_phase Timed h = tt
+    by_phase Asked h = tt
+
 pub phase_out : (phase : Phase) (log : Log) (now : ℕ) (octets : List ℕ) → IsFlushing phase
-    → IsPhase phase log → IsPhase phase (Went now (TcpOut octets) ∷ log)
-phase_out Fresh log now octets flushing h = absurd flushing
-phase_out Taking log now octets flushing h = h
-phase_out Idle log now octets flushing h = tt
-phase_out Crowded log now octets flushing h = tt
-phase_out Judged log now octets flushing h = h
-phase_out Timed log now octets flushing h = tt
-phase_out Asked log now octets flushing h = tt
+    → EndsIn phase log → IsPhase phase log → IsPhase phase (Went now (TcpOut octets) ∷ log)
+phase_out Fresh log now octets flushing ends h = absurd flushing
+phase_out Taking log now octets flushing ends h = absurd flushing
+phase_out Idle log now octets flushing ends h = absurd flushing
+phase_out Crowded log now octets flushing ends h = absurd flushing
+phase_out Judged log now octets flushing ends h = (h.0, (ends, h.1))
+phase_out Timed log now octets flushing ends h = absurd flushing
+phase_out Asked log now octets flushing ends h = tt
 
 left_out : (phase : Phase) (log : Log) (now : ℕ) (octets so_far unjudged : List ℕ)
     → IsLeftIn phase log so_far unjudged
@@ -210,9 +250,9 @@ placed_in : (phase : Phase) (log : Log) (h : happened.History) → IsFlushing ph
 placed_in Fresh log h flushing placed on = absurd flushing
 placed_in Taking log h flushing placed on = absurd flushing
 placed_in Judged log h flushing placed on = placed on
-placed_in Idle log h flushing placed on = placed on
+placed_in Idle log h flushing placed on = absurd flushing
 placed_in Crowded log h flushing placed on = absurd flushing
-placed_in Timed log h flushing placed on = placed on
+placed_in Timed log h flushing placed on = absurd flushing
 placed_in Asked log h flushing placed on = placed on
 
 -- where a connection has just ended nothing is lacked_place
@@ -287,9 +327,9 @@ begun_by p s log unjudged phase a flushing = by_phase phase flushing a.left
     by_phase Fresh f h = absurd f
     by_phase Taking f h = absurd f
     by_phase Judged f h = some_left h
-    by_phase Idle f h = none_left h
+    by_phase Idle f h = absurd f
     by_phase Crowded f h = absurd f
-    by_phase Timed f h = none_left h
+    by_phase Timed f h = absurd f
     by_phase Asked f h = none_left h
 
 -- none is taken yet, or nothing else is due
@@ -308,6 +348,100 @@ undue_by p s log unjudged phase a (inl h) =
 undue_by p s log unjudged phase a (inr h) =
     inr (subst (λ m. frame_due p.session.w p.session.t2 p.session.t3 m a.course.talk ≡ None) a.clock
     (sym (due_by p s.centre.session log a.course a.talk s.moment) ∙ h))
+
+-- A frame may go out behind one of the event, or once the request is asked for.
+turn_by : (p : Setup) (s : State) (log : Log) (unjudged : List ℕ) (phase : Phase)
+    (a : Agrees p s log unjudged phase) → IsFlushing phase
+    → IsTouched log a.course ⊎ HasAsked p log a.course
+turn_by p s log unjudged phase a flushing =
+    by_phase phase flushing a.left a.stands.asks a.stands.answered
+  where
+    by_phase : (phase : Phase) → IsFlushing phase
+        → IsLeftIn phase log (pending s.centre.so_far) unjudged
+        → IsAsked phase (latest log) (room_in p log a.course) a.course.works
+        → IsAnswered phase p log a.course → IsTouched log a.course ⊎ HasAsked p log a.course
+    by_phase Fresh f left asks answered = absurd f
+    by_phase Taking f left asks answered = absurd f
+    by_phase Judged f left asks answered = inl (omega (
+      arith,
+      left,
+      ap (λ x. length (pending x ++ unjudged)) a.here.assembler,
+      ap length a.here.joined,
+      length-append (spelled (came_frames a.course.talk)) (a.here.so_far ++ unjudged),
+    ))
+    by_phase Idle f left asks answered = absurd f
+    by_phase Crowded f left asks answered = absurd f
+    by_phase Timed f left asks answered = absurd f
+    by_phase Asked f left asks answered =
+        inr (record { told = asks.2; in_time = answered; none = asks.0 })
+
+-- no time runs out by what goes out at this moment
+
+sent_now : (t1 now moment : ℕ) → 0 < t1 → moment ≡ now → nat_le t1 (now - moment) ≡ false
+sent_now t1 now moment some is = lt-leb t1 (now - moment) (omega (arith, some, is))
+
+late_more : (t1 now n : ℕ) (us : List Unacknowledged) (u : Unacknowledged) → 0 < t1
+    → u.moment ≡ now → talk.has_passed t1 now (talk.moments_of (drop n us)) ≡ false
+    → talk.has_passed t1 now (talk.moments_of (drop n (us ++ u ∷ []))) ≡ false
+late_more t1 now zero [] u some is early = sent_now t1 now u.moment some is
+late_more t1 now zero (x ∷ us) u some is early = early
+late_more t1 now (suc n) [] u some is early = nothing n
+  where
+    nothing : (n : ℕ) → talk.has_passed t1 now (talk.moments_of (drop n [])) ≡ false
+    nothing zero = refl
+    nothing (suc n) = refl
+late_more t1 now (suc n) (x ∷ us) u some is early = late_more t1 now n us u some is early
+
+both_false : (a b : Bool) → a ≡ false → b ≡ false → (a || b) ≡ false
+both_false true b h k = h
+both_false false b h k = k
+
+first_false : (a b : Bool) → (a || b) ≡ false → a ≡ false
+first_false true b h = h
+first_false false b h = refl
+
+second_false : (a b : Bool) → (a || b) ≡ false → b ≡ false
+second_false true b h = absurd (false≢true (sym h))
+second_false false b h = h
+
+still_early : (t1 now moment : ℕ) (f : Apdu) (h : History) → 0 < t1 → moment ≡ now
+    → has_timed_out t1 now h ≡ false → has_timed_out t1 now (told_sent f moment h) ≡ false
+still_early t1 now moment (I ns nr asdu) h some is early =
+    let unacknowledged : Bool = talk.has_passed t1 now (talk.moments_of (talk.still_unacknowledged
+    h)) in
+    let tests : Bool = talk.has_passed t1 now (talk.moment_of (talk.outstanding_test h)) in
+    both_false _ tests
+    (late_more t1 now (talk.acknowledged_count h) (talk.sent_frames h)
+    (record { kind = kind_of asdu.items; moment = moment }) some is
+    (first_false unacknowledged tests early))
+    (second_false unacknowledged tests early)
+still_early t1 now moment (S nr) h some is early = early
+still_early t1 now moment (U StartAct) h some is early = early
+still_early t1 now moment (U StartCon) h some is early = early
+still_early t1 now moment (U StopAct) h some is early = early
+still_early t1 now moment (U StopCon) h some is early = early
+still_early t1 now moment (U TestAct) h some is early =
+    let unacknowledged : Bool = talk.has_passed t1 now (talk.moments_of (talk.still_unacknowledged
+    h)) in
+    let tests : Bool = talk.has_passed t1 now (talk.moment_of (talk.outstanding_test h)) in
+    both_false unacknowledged _ (first_false unacknowledged tests early)
+    (sent_now t1 now moment some is)
+still_early t1 now moment (U TestCon) h some is early = early
+
+-- where a frame goes out no answer is late still
+answered_out : (p : Setup) (phase : Phase) (log new : Log) (c d : Course) (f : Apdu) (moment : ℕ)
+    → IsFlushing phase → 0 < p.session.t1 → latest new ≡ latest log → moment ≡ latest log
+    → d.talk ≡ told_sent f moment c.talk → IsAnswered phase p log c → IsAnswered phase p new d
+answered_out p Fresh log new c d f moment flushing some same clock is h = absurd flushing
+answered_out p Taking log new c d f moment flushing some same clock is h = absurd flushing
+answered_out p Judged log new c d f moment flushing some same clock is h = tt
+answered_out p Idle log new c d f moment flushing some same clock is h = absurd flushing
+answered_out p Crowded log new c d f moment flushing some same clock is h = absurd flushing
+answered_out p Timed log new c d f moment flushing some same clock is h = absurd flushing
+answered_out p Asked log new c d f moment flushing some same clock is h =
+    subst (λ n. has_timed_out p.session.t1 n d.talk ≡ false) (sym same)
+    (subst (λ t. has_timed_out p.session.t1 (latest log) t ≡ false) (sym is)
+    (still_early p.session.t1 (latest log) moment f c.talk some clock h))
 
 -- a frame is handed to TCP
 went_out : (s t : Centre) (octets : Channel) (unjudged : List ℕ) (c : Connection) (fs : List Sent)
@@ -410,14 +544,15 @@ module _ (p : Setup) (s t : State) (log : Log) (unjudged asdu : List ℕ) (kind 
 
   data_talk : may_send s.centre.session ≡ true → kind_of asdu ≡ kind
       → IsNextData p log asdu a.course
-      → has_lacked_place a.course.works.history ≡ false → Fits (next_frame s.centre.session asdu)
+      → has_lacked_place a.course.works.history ≡ false
+      → IsTouched log a.course ⊎ HasAsked p log a.course → Fits (next_frame s.centre.session asdu)
       → with_sent (next_frame s.centre.session asdu) s.moment a.course ≡ after_data
       → Talks p (session.sent kind s.moment s.centre.session) data_log after_data
-  data_talk may is next placed fits same =
+  data_talk may is next placed turn fits same =
       subst (Talks p (session.sent kind s.moment s.centre.session) data_log) same
       (talk_out p s.centre.session (session.sent kind s.moment s.centre.session) log a.course
       s.moment s.moment
-      (next_frame s.centre.session asdu) (Send kind s.moment) a.talk fits a.clock next placed
+      (next_frame s.centre.session asdu) (Send kind s.moment) a.talk fits a.clock next placed turn
       (sends s.centre.session a.course.talk asdu kind s.moment may is)
       (a.here.so_far ++ unjudged, a.here.joined))
 
@@ -459,7 +594,8 @@ after_piece p s log unjudged asdu rest phase a flushing ready may on none unsent
           (parts_of_all p.sizes (reports_in p log)) (taken_pieces p log) a.course.earlier
           a.course.sent
           s.centre.queue.unsent rest asdu unsent a.carries;
-    }) (placed_in phase log _ flushing a.stands.placed (sym a.here.link ∙ on)) fits
+    }) (placed_in phase log _ flushing a.stands.placed (sym a.here.link ∙ on))
+    (turn_by p s log unjudged phase a flushing) fits
     (data_queue s asdu s.moment a.course has) in
     let room = data_room p s (piece_sent s) log unjudged asdu FromQueue phase a.course.works a in
     record {
@@ -478,9 +614,14 @@ after_piece p s log unjudged asdu rest phase a flushing ready may on none unsent
         asks =
             same_asks phase (latest log) _ _ a.course.works room a.stands.asks;
         phase_is =
-            phase_out phase log s.moment _ flushing a.stands.phase_is;
+            phase_out phase log s.moment _ flushing (ends_in p s log unjudged phase a)
+            a.stands.phase_is;
         placed =
             placed_on phase log _ _ _ (λ o. o) refl a.stands.placed;
+        answered = answered_out p phase log _ a.course _ (next_frame s.centre.session asdu) s.moment
+            flushing a.talk.timely.patient refl a.clock
+            (ap (λ (c : Course). c.talk) (sym (data_queue s asdu s.moment a.course has)))
+            a.stands.answered;
       };
       gaps = a.gaps;
       offers = a.offers;
@@ -551,7 +692,8 @@ after_own p s log unjudged asdu phase a flushing ready may on first fits =
       piece =
           λ some. absurd (false≢true (sym none ∙ some));
     })
-    (placed_in phase log _ flushing a.stands.placed (sym a.here.link ∙ on)) fits
+    (placed_in phase log _ flushing a.stands.placed (sym a.here.link ∙ on))
+    (turn_by p s log unjudged phase a flushing) fits
     (data_own s asdu s.moment a.course none) in
     let room = data_room p s (own_sent s) log unjudged asdu Own phase w a in
     record {
@@ -573,9 +715,14 @@ after_own p s log unjudged asdu phase a flushing ready may on first fits =
         asks = same_asks phase (latest log) _ _ w room
             (asked_own a.course.works asdu oldest phase (latest log) (room_in p log a.course)
             a.stands.asks);
-        phase_is = phase_out phase log s.moment _ flushing a.stands.phase_is;
+        phase_is = phase_out phase log s.moment _ flushing (ends_in p s log unjudged phase a)
+            a.stands.phase_is;
         placed = placed_on phase log _ _ _ (λ o. o) (own_placed a.course.works asdu oldest)
             a.stands.placed;
+        answered = answered_out p phase log _ a.course _ (next_frame s.centre.session asdu) s.moment
+            flushing a.talk.timely.patient refl a.clock
+            (ap (λ (c : Course). c.talk) (sym (data_own s asdu s.moment a.course none)))
+            a.stands.answered;
       };
       gaps = a.gaps;
       offers = a.offers;
@@ -643,9 +790,13 @@ after_due p s t log unjudged f phase a flushing next on fits none goes same = re
     does = a.stands.does;
     asks = a.stands.asks;
     phase_is =
-        phase_out phase log s.moment _ flushing a.stands.phase_is;
+        phase_out phase log s.moment _ flushing (ends_in p s log unjudged phase a)
+        a.stands.phase_is;
     placed =
         placed_on phase log _ _ _ (λ o. o) refl a.stands.placed;
+    answered = answered_out p phase log _ a.course _ f s.moment flushing a.talk.timely.patient refl
+        a.clock (ap (λ (c : Course). c.talk) (sym (due_same f s.moment a.course none)))
+        a.stands.answered;
   };
   gaps = a.gaps;
   offers = a.offers;
@@ -669,4 +820,4 @@ after_due p s t log unjudged f phase a flushing next on fits none goes same = re
         a.clock
         (next_plain p log a.course f none next) (placed_in phase log _ flushing a.stands.placed
         (sym a.here.link
-        ∙ on)) (goes.made a.course.talk) (a.here.so_far ++ unjudged, a.here.joined))
+        ∙ on)) (turn_by p s log unjudged phase a flushing) (goes.made a.course.talk) (a.here.so_far ++ unjudged, a.here.joined))

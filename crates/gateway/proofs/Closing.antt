@@ -53,6 +53,7 @@ use Rattle.gateway.specs.Phases.{Phase, Fresh, Taking, Judged, Idle, Crowded, Ti
 use Rattle.gateway.specs.Phases.{IsLeftIn, IsPhase, works_in, IsAsked, IsOut}
 use Rattle.session.specs.History.{frame_due, has_timed_out}
 use Rattle.gateway.specs.Agrees.{Presently, Carries, Talks, Agrees, IsSpent, IsQuiet, pieces_of}
+use Rattle.gateway.specs.Agrees.{IsAnswered}
 use Rattle.gateway.proofs.Working.{gap_in}
 use Rattle.gateway.proofs.Offering.{count_upto, offers_cut}
 use Rattle.gateway.proofs.Talking.{at, kept_talk, talk_cut, all_taken, confirmed_by, due_by}
@@ -381,14 +382,15 @@ closed_asks cause Fresh at room other w timely h = absurd (not_fresh cause timel
 closed_asks cause Asked at room other w timely h = absurd (not_asked cause timely)
 
 closed_phase : (phase : Phase) (log : Log) (now : ℕ) (cause : Close) → IsCloseAt cause phase
+    → IsPhase phase log
     → IsPhase (after_closing phase) (Went now (Closed cause) ∷ log)
-closed_phase Fresh log now cause timely = absurd (not_fresh cause timely)
-closed_phase Taking log now cause timely = tt
-closed_phase Idle log now cause timely = tt
-closed_phase Crowded log now cause timely = tt
-closed_phase Judged log now cause timely = absurd (not_judged cause timely)
-closed_phase Timed log now cause timely = tt
-closed_phase Asked log now cause timely = tt
+closed_phase Fresh log now cause timely h = absurd (not_fresh cause timely)
+closed_phase Taking log now cause timely h = h.1
+closed_phase Idle log now cause timely h = h
+closed_phase Crowded log now cause timely h = h
+closed_phase Judged log now cause timely h = absurd (not_judged cause timely)
+closed_phase Timed log now cause timely h = h
+closed_phase Asked log now cause timely h = tt
 
 closed_is : (p : Setup) (cause : Close) (is_open : Bool) (at : ℕ) (c : Course) → ends cause ≡ true
     → closed_course p cause is_open at c ≡ ended_course is_open (works_at cause at c.works) c
@@ -453,8 +455,9 @@ after_close laws p s log unjudged cause phase fault a on last timely stands why 
             (room_in p new course) a.course.works timely a.stands.does;
         asks = closed_asks cause phase (latest log) (room_in p log a.course)
             (room_in p new course) a.course.works timely a.stands.asks;
-        phase_is = closed_phase phase log s.moment cause timely;
+        phase_is = closed_phase phase log s.moment cause timely a.stands.phase_is;
         placed = placed_cut (after_closing phase) new _;
+        answered = closed_answered (after_closing phase) (not_asked_then cause phase timely);
       };
       gaps = a.gaps;
       offers = offers_cut laws s.serial.line (tasks.closed s.serial.commands);
@@ -481,6 +484,29 @@ after_close laws p s log unjudged cause phase fault a on last timely stands why 
       };
     }
   where
+    -- no frame of the next connection is taken yet
+    closed_answered : (phase : Phase) → (phase ≡ Asked → ⊥)
+        → IsAnswered phase p (Went s.moment (Closed cause) ∷ log)
+        (ended_course (closed_by cause (present log)).is_open (works_at cause (latest log)
+        a.course.works) a.course)
+    closed_answered Fresh h = tt
+    closed_answered Taking h = tt
+    closed_answered Judged h = tt
+    closed_answered Idle h = inl (omega arith)
+    closed_answered Crowded h = tt
+    closed_answered Timed h = inl (omega arith)
+    closed_answered Asked h = absurd (h refl)
+
+    not_asked_then : (cause : Close) (phase : Phase) → IsCloseAt cause phase
+        → after_closing phase ≡ Asked → ⊥
+    not_asked_then cause Fresh timely e = cc
+    not_asked_then cause Taking timely e = cc
+    not_asked_then cause Judged timely e = cc
+    not_asked_then cause Idle timely e = cc
+    not_asked_then cause Crowded timely e = cc
+    not_asked_then cause Timed timely e = cc
+    not_asked_then cause Asked timely e = not_asked cause timely
+
     no_replaced : (cause : Close) → ends cause ≡ true → replaces (Closed cause) ≡ false
     no_replaced Grammar h = refl
     no_replaced SendNumber h = refl
@@ -510,6 +536,11 @@ rested laws p s log a spent quiet = record {
       (λ none. is_full p s log [] Asked a
       (no_room_means s.centre.queue (sym (same_room p s log [] Asked a) ∙ none)))
       served;
+  asked = record {
+    told = a.stands.asks.2;
+    in_time = a.stands.answered;
+    none = a.stands.asks.0;
+  };
   talk = record {
     all = all_taken log a.course a.here.so_far a.here.joined a.here.waits;
     confirmed = sym (confirmed_by p s.centre.session log a.course a.talk) ∙ quiet.confirmed;

@@ -1,6 +1,7 @@
 -- What an event makes of the connection: it goes on, is over, or another one begins.
 use Rattle.std.proofs.Common.{◌≡◌, ℕ, ◌+◌, ◌<◌, Bool, true, false, List, [], ◌∷◌, ◌++◌, length}
-use Rattle.std.proofs.Common.{Option, None, refl, sym, ap, subst, ◌∙◌, append_assoc}
+use Rattle.std.proofs.Common.{Option, None, refl, sym, ap, subst, ◌∙◌, append_assoc, arith, inl}
+use Rattle.std.proofs.Common.{length-append}
 use Rattle.std.specs.Prelude.{if◌then◌else◌}
 use Rattle.std.proofs.lemmas.List.{append-nil}
 use Rattle.link.specs.Primary.{withdrawn}
@@ -12,6 +13,7 @@ use Rattle.events.specs.Queue as queue
 use Rattle.gateway.specs.Log.{Log, Input, Opened, TcpIn, CutOff, Came, Went, Closed, latest}
 use Rattle.gateway.specs.Streams.{spelled}
 use Rattle.gateway.specs.Frames.{Sent, Connection, new_connection, AreInOrder}
+use Rattle.gateway.specs.Behind.{GoesBehindFrames}
 use Rattle.gateway.specs.Connections.{is_replaced, Channel, no_channel, new_channel, receiving}
 use Rattle.gateway.specs.Connections.{present, past, AreConnections}
 use Rattle.gateway.specs.Reports.{Setup, exchanges_of, taken_objects, taken_pieces, reports_in}
@@ -23,7 +25,8 @@ use Rattle.gateway.specs.Serial as serial
 use Rattle.gateway.specs.Centre.{Centre}
 use Rattle.gateway.specs.State.{State, disconnected, connected}
 use Rattle.gateway.specs.Works.{Works, has_lacked_place, begun_works}
-use Rattle.gateway.specs.Course.{Course, came_frames, here_of, TakesFrames, HasTakenAll}
+use Rattle.gateway.specs.Course.{Course, came_frames, here_of, IsUntouched, TakesFrames}
+use Rattle.gateway.specs.Course.{HasTakenAll}
 use Rattle.gateway.specs.Course.{ended_course, opened_course, with_works, Comes, Runs}
 use Rattle.gateway.specs.Phases.{Idle, Taking, resting, IsLeftIn, after_line}
 use Rattle.link.specs.LineLaws.{LineLaws}
@@ -105,16 +108,21 @@ GoesOn now event log = (p : Setup) (c : Course) (z : Works)
 other_stands : (p : Setup) (t : State) (new : Log) (d : Course) (kept : Bool)
     → t.serial ≡ d.works.serial
     → d.works.is_due ≡ true → (kept ≡ true → (present new).is_open ≡ true
-    → has_lacked_place d.works.history ≡ false)
+    → has_lacked_place d.works.history ≡ false) → GoesBehindFrames new → IsUntouched new d
     → IsAt p new (after_line kept) t d
-other_stands p t new d true does due placed =
-    record { does = does; asks = due; phase_is = tt; placed = placed refl }
-other_stands p t new d false does due placed = record {
+other_stands p t new d true does due placed early none = record {
   does = does;
   asks = due;
-  phase_is =
-      tt;
+  phase_is = early;
+  placed = placed refl;
+  answered = inl none;
+}
+other_stands p t new d false does due placed early none = record {
+  does = does;
+  asks = due;
+  phase_is = early;
   placed = tt;
+  answered = tt;
 }
 
 -- the line leaves nothing of the connection's octets
@@ -165,7 +173,13 @@ come_other p s t log now event fits kept wall shows counts aside on rest a h =
       stands = other_stands p (walled wall t) new d kept h.does h.due
           (λ yes o. let was : (present log).is_open ≡ true =
           ap (λ (x : Channel). x.is_open) (sym aside.0) ∙ o in
-          h.placed (counts yes was) ∙ placed_before p s log a was);
+          h.placed (counts yes was) ∙ placed_before p s log a was)
+          tt
+          (omega (
+            arith,
+            ap length a.here.joined,
+            length-append (spelled (came_frames a.course.talk)) (a.here.so_far ++ []),
+          ));
       gaps = h.gaps;
       offers = h.offers;
       plain = h.plain;
@@ -305,8 +319,8 @@ come_cut laws p s t log now fits rest a h =
         does = ap serial.cut h.does;
         asks = h.due;
         phase_is = tt;
-        placed =
-            λ o. refl;
+        placed = λ o. refl;
+        answered = inl (omega arith);
       };
       gaps = h.gaps;
       offers = offers_cut laws t.serial.line (tasks.closed t.serial.commands);
@@ -379,7 +393,13 @@ module _ (laws : LineLaws) (p : Setup) (s t : State) (log : Log) (now : ℕ) (fi
     line = over_line laws p s t log now Opened fits rest a h;
     course = opened;
     talk = opened_talk;
-    stands = record { does = opened_does; asks = h.due; phase_is = tt; placed = λ o. refl };
+    stands = record {
+      does = opened_does;
+      asks = h.due;
+      phase_is = tt;
+      placed = λ o. refl;
+      answered = inl (omega arith);
+    };
     gaps = h.gaps;
     offers = offers_cut laws t.serial.line (tasks.closed t.serial.commands);
     plain = tt;
@@ -423,7 +443,13 @@ module _ (laws : LineLaws) (p : Setup) (s t : State) (log : Log) (now : ℕ) (fi
         line = over_line laws p s t log now Opened fits rest a h;
         course = opened;
         talk = talk;
-        stands = record { does = opened_does; asks = h.due; phase_is = tt; placed = λ o. refl };
+        stands = record {
+          does = opened_does;
+          asks = h.due;
+          phase_is = tt;
+          placed = λ o. refl;
+          answered = inl (omega arith);
+        };
         gaps = h.gaps;
         offers = offers_cut laws t.serial.line (tasks.closed t.serial.commands);
         plain = tt;
@@ -493,9 +519,10 @@ come_bytes p s t log now octets fits settled_fits rest a h =
       stands = record {
         does = h.does;
         asks = h.due;
-        phase_is = tt;
+        phase_is = (tt, tt);
         placed = λ o. h.placed settled_fits
             ∙ placed_before p s log a (sym (opens (present log)) ∙ o);
+        answered = tt;
       };
       gaps = h.gaps;
       offers = h.offers;

@@ -1,6 +1,7 @@
 -- The line's lemmas where a port may tell no log, in the form that answers cite.
 use Rattle.std.proofs.Common.{◌≡◌, ℕ, ◌≤◌, ◌+◌, ◌==◌, Bool, true, false, not, List, [], ◌∷◌, ◌++◌}
-use Rattle.std.proofs.Common.{length, refl, ap, sym, ◌∙◌, subst, arith, inl, Option, Some, None}
+use Rattle.std.proofs.Common.{length, refl, ap, sym, ◌∙◌, subst, arith, inl, inr, Option, Some}
+use Rattle.std.proofs.Common.{None}
 use Rattle.std.proofs.Common.{length-append}
 use Rattle.std.specs.Prelude.{IfSome, is_some, if◌then◌else◌, option_map}
 use Rattle.std.proofs.lemmas.List.{append-nil}
@@ -20,7 +21,9 @@ use Rattle.session.specs.declared.kinds.Close.TheVariants.{OwnAnswers, Replaced}
 use Rattle.command.specs.State.{octets_waiting}
 use Rattle.events.specs.Queue.{free_places}
 use Rattle.session.specs.Session.{is_open}
-use Rattle.gateway.proofs.Talking.{kept_talk, talk_on, all_taken}
+use Rattle.session.specs.Ends.{IsInTime}
+use Rattle.session.specs.History.{has_timed_out}
+use Rattle.gateway.proofs.Talking.{kept_talk, talk_on, all_taken, late_by}
 use Rattle.gateway.specs.Log.{Log, Input, Opened, TcpIn, CutOff, Ticked}
 use Rattle.gateway.specs.Log.{WallIs, LineIn, Came, Went, LineOut, Closed, GapOut, latest, tell}
 use Rattle.gateway.specs.Frames.{AreInOrder}
@@ -36,7 +39,8 @@ use Rattle.gateway.specs.Serial.{Serial, is_first_command, put_on_line}
 use Rattle.gateway.specs.Centre.{Centre}
 use Rattle.gateway.specs.Works.{Works, has_lacked_place, ready_works, gapless_works, unasked_works}
 use Rattle.gateway.specs.Works.{asked_works}
-use Rattle.gateway.specs.Course.{Course, room_in, with_works, Comes, Runs}
+use Rattle.gateway.specs.Course.{Course, room_in, with_works, HasAnswered, NoAnswerLate, Comes}
+use Rattle.gateway.specs.Course.{Runs}
 use Rattle.gateway.specs.Phases.{Phase, Taking, Idle, Crowded, Timed, Asked, IsOut}
 use Rattle.link.specs.LineLaws.{LineLaws}
 use Rattle.gateway.specs.Traffic.{IsFaithful}
@@ -76,7 +80,7 @@ asked_state s x =
 module _ (laws : LineLaws) (p : Setup) (s : State) (log : Log) (a : Agrees p s log [] Timed)
     (tells : Tells p.link p.addresses (serial.offered s.serial).line (exchanges_of p log))
     (no_gap : s.serial.gap
-    ≡ None) where
+    ≡ None) (early : IsInTime s.moment s.centre.session) where
   abbrev at : ℕ
   at = latest log
 
@@ -97,6 +101,11 @@ module _ (laws : LineLaws) (p : Setup) (s : State) (log : Log) (a : Agrees p s l
   all_told : TellsGaps p log
   all_told i = sym (append-nil (gaps_told i log))
       ∙ ap (λ g. gaps_told i log ++ gap_for i g) (sym no_gap) ∙ a.gaps i
+
+  -- no answer is late
+  in_time : NoAnswerLate p log a.course
+  in_time = subst (λ m. has_timed_out p.session.t1 m a.course.talk ≡ false) a.clock
+      (sym (late_by p s.centre.session log a.course a.talk s.moment) ∙ early)
 
   -- what is offered
   same_ready : serial.offered s.serial ≡ ready.serial
@@ -173,6 +182,8 @@ module _ (laws : LineLaws) (p : Setup) (s : State) (log : Log) (a : Agrees p s l
         a.talk.course_runs,
         record {
           all = all_taken log a.course a.here.so_far a.here.joined a.here.waits;
+          answered = a.stands.answered;
+          in_time = in_time;
           placed = a.stands.placed;
           due = a.stands.asks;
           told = none_left;
@@ -208,6 +219,7 @@ module _ (laws : LineLaws) (p : Setup) (s : State) (log : Log) (a : Agrees p s l
           placed = λ o. put_placed (is_first_command ready.serial.line x) x.station ready
               ∙ settled_placed at w
               ∙ a.stands.placed o;
+          answered = in_time;
         };
         gaps = λ i. a.gaps i
             ∙ sym (laws.next_gaps p.link.size p.addresses s.moment (sending_in p (octets_of p x))
@@ -241,6 +253,7 @@ module _ (laws : LineLaws) (p : Setup) (s : State) (log : Log) (a : Agrees p s l
                 request = x.request;
                 spelled = refl;
                 told = all_told;
+                early = a.stands.phase_is;
                 alone = λ z. laws.alone p.link p.addresses q
                     (exchanges_of p log) may x z.exchange tells next z.latest_is z.waits;
                 room = λ polls. record {
@@ -292,6 +305,7 @@ module _ (laws : LineLaws) (p : Setup) (s : State) (log : Log) (a : Agrees p s l
       );
       phase_is = tt;
       placed = a.stands.placed;
+      answered = in_time;
     };
     gaps = a.gaps;
     offers = offers_unasked laws q s.serial.commands s.moment (has_room s.centre.queue) none offers;
@@ -312,28 +326,28 @@ ready_state s r p told ready x = ap (λ (z : State). after_next z x) ready.is
 -- one once asked
 
 pub asked_none : (laws : LineLaws) (p : Setup) (told : Option Log) (s r t : State) → s.serial.gap
-    ≡ None
+    ≡ None → IsInTime s.moment s.centre.session
     → IsReady p s r told → sending r.serial.line (has_room r.centre.queue) ≡ None
     → t ≡ after_next r None
     → Tracks p s told [] Timed → Tracks p t told [] Asked
-asked_none laws p None s r t no_gap made none is h = tt
-asked_none laws p (Some log) s r t no_gap made none is a =
+asked_none laws p None s r t no_gap early made none is h = tt
+asked_none laws p (Some log) s r t no_gap early made none is a =
     let same : t ≡ asked_state s None = is ∙ ready_state s r p (Some log) made None in
     let tells = subst (λ (z : State). Tells p.link p.addresses z.serial.line (exchanges_of p log))
     made.is
     (made.tells (exchanges_of p log) a.line) in
-    subst (λ x. Agrees p x log [] Asked) (sym same) (none_asked laws p s log a tells no_gap
+    subst (λ x. Agrees p x log [] Asked) (sym same) (none_asked laws p s log a tells no_gap early
     (ap (λ (x : State). sending x.serial.line (has_room x.centre.queue)) (sym made.is) ∙ none))
 
 told_asked : (laws : LineLaws) (p : Setup) (told after : Option Log) (s r t : State) (x : Sending)
     (octets : List ℕ)
-    (now : ℕ) → s.serial.gap ≡ None → IsReady p s r told
+    (now : ℕ) → s.serial.gap ≡ None → IsInTime s.moment s.centre.session → IsReady p s r told
     → sending r.serial.line (has_room r.centre.queue) ≡ Some x
     → (is_poll_request x.request ≡ true → 3 ≤ free_places r.centre.queue)
     → octets ≡ (request_of r.serial.line x).octets.items →
     now ≡ r.moment → t ≡ after_next r (Some x) → after ≡ tell told (Went now (LineOut octets) ∷ [])
     → Tracks p s told [] Timed → Tracks p t after [] Asked
-told_asked laws p told after s r t x octets now no_gap made next poll spelled same is e h =
+told_asked laws p told after s r t x octets now no_gap early made next poll spelled same is e h =
     let moment : now ≡ s.moment = same ∙ ap (λ (x : State). x.moment) made.is in
     let state : t ≡ asked_state s (Some x) = is ∙ ready_state s r p told made (Some x) in
     rw (e, moment, state) (by_log told made h)
@@ -351,14 +365,15 @@ told_asked laws p told after s r t x octets now no_gap made next poll spelled sa
         (sym written)
         (after_asked laws p s log a
         (subst (λ (z : State). Tells p.link p.addresses z.serial.line (exchanges_of p log))
-        made.is tells) no_gap x
+        made.is tells) no_gap early x
         (ap (λ (z : State). sending z.serial.line (has_room z.centre.queue)) (sym made.is)
         ∙ next) (λ polls. subst (λ (z : State). 3 ≤ free_places z.centre.queue) made.is
         (poll polls)))
 
 pub asked_leaves : (laws : LineLaws) (result : Bool) (p : Setup) (told after : Option Log)
     (s r t : State)
-    (x : Sending) (octets : List ℕ) (now : ℕ) → s.serial.gap ≡ None → IsReady p s r told
+    (x : Sending) (octets : List ℕ) (now : ℕ) → s.serial.gap ≡ None
+    → IsInTime s.moment s.centre.session → IsReady p s r told
     → sending r.serial.line (has_room r.centre.queue) ≡ Some x
     → (is_poll_request x.request ≡ true → 3 ≤ free_places r.centre.queue)
     → octets ≡ (request_of r.serial.line x).octets.items →
@@ -366,9 +381,11 @@ pub asked_leaves : (laws : LineLaws) (result : Bool) (p : Setup) (told after : O
     ≡ (if result then tell told (Went now (LineOut octets) ∷ []) else told)
     → Tracks p s told [] Timed
     → Leaves result p t after [] Asked
-asked_leaves laws true p told after s r t x octets now no_gap made next poll spelled same is e h =
-    told_asked laws p told after s r t x octets now no_gap made next poll spelled same is e h
-asked_leaves laws false p told after s r t x octets now no_gap made next poll spelled same is e h =
+asked_leaves laws true p told after s r t x octets now no_gap early made next poll spelled same is
+    e h =
+    told_asked laws p told after s r t x octets now no_gap early made next poll spelled same is e h
+asked_leaves laws false p told after s r t x octets now no_gap early made next poll spelled same is
+    e h =
     subst (λ l. IfSome l (IsFaithful p)) (sym e) (told_faithful p told s [] Timed h)
 
 -- what a request says of what is next
@@ -423,8 +440,9 @@ now_settled p s log a = record {
     does = ap (λ m. serial.settled m s.serial) a.clock
         ∙ ap (serial.settled (latest log)) a.stands.does;
     asks = a.stands.asks;
-    phase_is = tt;
+    phase_is = a.stands.phase_is;
     placed = a.stands.placed;
+    answered = a.stands.answered;
   };
   gaps = λ i. ap (λ g. gaps_told i log ++ gap_for i g) (same_gap s.serial.silent) ∙ a.gaps i;
   offers = offers_stay s.serial.line (settled s).serial.line s.serial.commands
@@ -489,6 +507,8 @@ module _ (p : Setup) (s : State) (log : Log) (a : Agrees p s log [] Idle) (gap :
     a.talk.course_runs,
     record {
       all = all_taken log a.course a.here.so_far a.here.joined a.here.waits;
+      answered = a.stands.answered;
+      placed = a.stands.placed;
       due = a.stands.asks;
       gap = ap (λ (z : Serial). z.gap) (sym a.stands.does) ∙ some;
       is = refl;
@@ -498,6 +518,16 @@ module _ (p : Setup) (s : State) (log : Log) (a : Agrees p s log [] Idle) (gap :
   gap_talk : Talks p s.centre.session gap_log after_gap
   gap_talk = talk_on p s.centre.session s.centre.session log gap_log a.course after_gap a.talk refl
       refl gap_runs
+
+  gap_answered : HasAnswered p log a.course → HasAnswered p gap_log after_gap
+  gap_answered (inl h) = inl h
+  gap_answered (inr h) = inr (record {
+    confirmed = h.confirmed;
+    flushed = λ started room.
+        let all = h.flushed started room in
+        record { objects = all.objects; answers = all.answers };
+    undue = h.undue;
+  })
 
   tells_gap : TellsGaps p gap_log
   tells_gap i = one_more (gap.station == i) (gaps_told i log) gap.session
@@ -518,9 +548,9 @@ module _ (p : Setup) (s : State) (log : Log) (a : Agrees p s log [] Idle) (gap :
     stands = record {
       does = ap serial.without_gap a.stands.does;
       asks = a.stands.asks;
-      phase_is = tt;
-      placed =
-          a.stands.placed;
+      phase_is = a.stands.phase_is;
+      placed = a.stands.placed;
+      answered = gap_answered a.stands.answered;
     };
     gaps = λ i. append-nil (gaps_told i gap_log) ∙ tells_gap i;
     offers = a.offers;
@@ -762,4 +792,4 @@ told_bytes b p (Some log) s t now octets fits laws begun is h =
 pub told_idle : (p : Setup) (told : Option Log) (s : State) → Awaits p s told []
     → Tracks p s told [] Idle
 told_idle p None s h = tt
-told_idle p (Some log) s h = now_idle p s log h.0
+told_idle p (Some log) s h = now_idle p s log h.1 h.2 h.0

@@ -54,6 +54,7 @@ started p s log fresh a =
         asks = (none, a.stands.asks.2);
         phase_is = fresh;
         placed = a.stands.placed;
+        answered = tt;
       };
       gaps = a.gaps;
       offers = a.offers;

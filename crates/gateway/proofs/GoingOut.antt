@@ -15,11 +15,9 @@ use Rattle.gateway.specs.Connections.{present}
 use Rattle.gateway.specs.Reports.{Setup}
 use Rattle.gateway.specs.Course.{Course, with_frames, with_sent, IsNext, HandsOver, closed_course}
 use Rattle.gateway.specs.Course.{IsLeft, Runs}
-use Rattle.gateway.specs.Conversation.{KeepsCommands}
-use Rattle.gateway.specs.Works.{tasks_of}
 use Rattle.gateway.specs.GoingOut.{DataWaits, bears_objects, ReportsWait}
 use Rattle.gateway.proofs.Unique.{AreUnique}
-use Rattle.gateway.proofs.Reached.{kept_commands}
+use Rattle.gateway.proofs.Reached.{answers_kept}
 
 -- Confirmations
 
@@ -79,11 +77,12 @@ data_waits p (Went now (Closed cause) ∷ log) d r =
 
 -- Own answers
 
-none_waits : (p : Setup) (log : Log) (d : Course) → KeepsCommands p (tasks_of d.works)
+none_waits : (p : Setup) (log : Log) (d : Course)
+    → own_kept d.works.history ≡ own_sent d.works.history ++ d.works.serial.commands.answers
     → (frame : Apdu) → IsNext p log frame d → bears_objects frame ≡ true
     → own_kept d.works.history ≡ own_sent d.works.history
 none_waits p log d keeps (I ns nr asdu) next bears =
-    keeps.in_turn ∙ ap (λ xs. own_sent d.works.history ++ xs) (next.none bears)
+    keeps ∙ ap (λ xs. own_sent d.works.history ++ xs) (next.none bears)
     ∙ append-nil (own_sent d.works.history)
 none_waits p log d keeps (S nr) next bears = let no : false ≡ true = bears in cc
 none_waits p log d keeps (U u) next bears = let no : false ≡ true = bears in cc
@@ -94,5 +93,5 @@ pub reports_wait : AreUnique → CommandLaws → (p : Setup) (log : Log) (octets
 reports_wait u laws p log octets before after r h frame e bears =
     let same : h.frame ≡ frame =
     (u.cancel h.frame frame [] [] (ap (λ xs. xs ++ []) (sym h.spelled_so ∙ e))).0 in
-    none_waits p log before (kept_commands p laws log before r) frame
+    none_waits p log before (answers_kept p laws log before r) frame
     (subst (λ (f : Apdu). IsNext p log f before) same h.next) bears

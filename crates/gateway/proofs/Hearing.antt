@@ -1,6 +1,6 @@
 -- A whole frame is taken, or the octets left are the beginning of one.
 use Rattle.std.proofs.Common.{◌≡◌, ℕ, Bool, true, false, List, [], ◌∷◌, ◌++◌, length, refl, ap, sym}
-use Rattle.std.proofs.Common.{◌∙◌, subst, append_assoc, Option, Some, None}
+use Rattle.std.proofs.Common.{◌∙◌, subst, append_assoc, inl, inr, Option, Some, None}
 use Rattle.std.proofs.lemmas.List.{append-nil}
 use Rattle.std.proofs.lemmas.Bool.{false≢true}
 use Rattle.apci.specs.declared.apdu.Apdu.{Apdu}
@@ -17,12 +17,12 @@ use Rattle.gateway.specs.Serial as serial
 use Rattle.gateway.specs.Serial.{Serial, has_place}
 use Rattle.gateway.specs.Walls.{wall_of, wall_on}
 use Rattle.gateway.specs.State.{State, wall_now, with_octets, framed}
-use Rattle.gateway.specs.Course.{Course, here_of, came_frames, with_frame}
+use Rattle.gateway.specs.Course.{Course, here_of, came_frames, with_frame, HasAnswered}
 use Rattle.gateway.specs.Phases.{Phase, Taking, Judged, Idle, IsPast, IsLeftIn, after_frame}
 use Rattle.gateway.specs.Agrees.{IsAt, Agrees, IsClear, IsUndue, pending}
 use Rattle.gateway.proofs.Working.{heard_placed}
 use Rattle.gateway.proofs.Offering.{offers_heard, heard_plain}
-use Rattle.gateway.proofs.Talking.{talk_heard}
+use Rattle.gateway.proofs.Talking.{talk_heard, confirmed_by}
 use Rattle.gateway.proofs.Tied.{tied_taken}
 use Rattle.gateway.proofs.Frames.{taken_stays, nothing_waits}
 use Rattle.gateway.proofs.Agreement.{flushed_by, undue_by}
@@ -43,13 +43,15 @@ heard_stands p s log f c true wall same place h = record {
       (ap (λ x. has_place f s.moment x c.works.serial.commands)
       (sym same) ∙ ap (λ (z : Serial). has_place f s.moment (wall_now s) z.commands) (sym h.does)
       ∙ place) ∙ h.placed o;
+  answered = tt;
 }
 heard_stands p s log f c false wall same place h = record {
   does = ap (serial.judged f s.moment (wall_now s)) h.does
       ∙ ap (λ x. serial.judged f s.moment x c.works.serial) same;
   asks = h.asks;
-  phase_is = tt;
+  phase_is = h.phase_is.1;
   placed = tt;
+  answered = tt;
 }
 
 heard_left : (kept : Bool) (log : Log) (rest : List ℕ) {o : Option (List ℕ)}
@@ -85,7 +87,7 @@ after_heard p s log unjudged rest f a on ready undue past so fits whole passes f
       found = a.found;
       line = a.line;
       course = with_frame p f s.moment (wall_on log s.moment) a.course;
-      talk = talk_heard p s.centre.session log a.course s.moment f rest a.talk a.stands.phase_is
+      talk = talk_heard p s.centre.session log a.course s.moment f rest a.talk a.stands.phase_is.0
           a.clock on
           ready.confirmed fits passes (a.stands.placed (sym a.here.link ∙ on))
           (flushed_by p s log unjudged Taking a ready.spent)
@@ -157,8 +159,8 @@ with_so_far p s log unjudged rest so_far phase a waits joined left = record {
     does = a.stands.does;
     asks = a.stands.asks;
     phase_is = a.stands.phase_is;
-    placed =
-        a.stands.placed;
+    placed = a.stands.placed;
+    answered = a.stands.answered;
   };
   gaps = a.gaps;
   offers = a.offers;
@@ -195,10 +197,24 @@ after_more p s t log unjudged a waits e =
     ∙ ap (λ x. spelled (came_frames a.course.talk) ++ x)
     (sym (append-nil (a.here.so_far ++ unjudged)))) tt)
 
+-- What goes out behind the frames taken has gone out.
+answered_by : (p : Setup) (s : State) (log : Log) (unjudged : List ℕ) (phase : Phase)
+    (a : Agrees p s log unjudged phase) → IsClear s → IsUndue s log unjudged
+    → HasAnswered p log a.course
+answered_by p s log unjudged phase a clear undue = elim (undue_by p s log unjudged phase a undue) [
+  | inl none ↦ inl none
+  | inr none ↦ inr (record {
+    confirmed = sym (confirmed_by p s.centre.session log a.course a.talk) ∙ clear.confirmed;
+    flushed = flushed_by p s log unjudged phase a clear.spent;
+    undue = none;
+  })
+]
+
 -- The event is taken.
-pub now_idle : (p : Setup) (s : State) (log : Log) → Agrees p s log [] Taking
+pub now_idle : (p : Setup) (s : State) (log : Log) → IsClear s → IsUndue s log []
+    → Agrees p s log [] Taking
     → Agrees p s log [] Idle
-now_idle p s log a = record {
+now_idle p s log clear undue a = record {
   k = a.k;
   sizes = a.sizes;
   places = a.places;
@@ -212,9 +228,9 @@ now_idle p s log a = record {
   stands = record {
     does = a.stands.does;
     asks = a.stands.asks;
-    phase_is = tt;
-    placed =
-        a.stands.placed;
+    phase_is = a.stands.phase_is.1;
+    placed = a.stands.placed;
+    answered = answered_by p s log [] Taking a clear undue;
   };
   gaps = a.gaps;
   offers = a.offers;
@@ -244,8 +260,8 @@ now_taking p s log unjudged a = record {
     does = a.stands.does;
     asks = a.stands.asks;
     phase_is = a.stands.phase_is;
-    placed =
-        a.stands.placed;
+    placed = a.stands.placed;
+    answered = tt;
   };
   gaps = a.gaps;
   offers = a.offers;

@@ -1,6 +1,7 @@
 -- What a frame that was judged leaves to be done.
 use Rattle.std.proofs.Common.{Bool, ◌≡◌, ℕ, zero, suc, ◌+◌, ◌<◌, ◌≤◌, true, false, List, [], ◌++◌}
-use Rattle.std.proofs.Common.{length, take, drop, arith, refl, ap, sym, ◌∙◌, subst, inl, inr}
+use Rattle.std.proofs.Common.{length, length-append, take, drop, arith, refl, ap, sym, ◌∙◌, subst}
+use Rattle.std.proofs.Common.{inl, inr}
 use Rattle.std.proofs.Common.{Option, Some, None}
 use Rattle.std.specs.Prelude.{IfSome, is_some}
 use Rattle.std.proofs.lemmas.List.{drop_at, drop-drop, take-append-drop, length-drop}
@@ -38,7 +39,7 @@ use Rattle.gateway.proofs.Frames.{taken_stays, nothing_waits}
 use Rattle.gateway.proofs.Tied.{no_close, fault_closes, fault_cases}
 use Rattle.gateway.proofs.Working.{heard_overfull}
 use Rattle.gateway.proofs.Talking.{confirmed_by}
-use Rattle.gateway.proofs.Agreement.{flushed_by}
+use Rattle.gateway.proofs.Agreement.{flushed_by, undue_by}
 use Rattle.gateway.proofs.Hearing.{after_heard, heard_course, after_more, with_so_far, now_idle}
 use Rattle.gateway.proofs.Closing.{stands_garbled, stands_faulty, stands_overfull, fault_ends}
 use Rattle.gateway.proofs.Closing.{fault_closes_so}
@@ -123,20 +124,22 @@ frame_cause p log c sent older f cause fault stands =
 
 -- what is next closes the connection
 next_closes : (p : Setup) (s : State) (log : Log) (unjudged : List ℕ) (cause : Close)
-    → session.is_open s.centre.session ≡ true → IsClear s → (a : Agrees p s log unjudged Taking)
+    → session.is_open s.centre.session ≡ true → IsClear s → IsUndue s log unjudged
+    → (a : Agrees p s log unjudged Taking)
     → IsConnection (present log) (here_of a.course) (Some cause) → StandsNext p log cause a.course
-next_closes p s log unjudged cause on ready a stands = record {
+next_closes p s log unjudged cause on ready undue a stands = record {
   next = stands;
   confirmed = sym (confirmed_by p s.centre.session log a.course a.talk) ∙ ready.confirmed;
   flushed = flushed_by p s log unjudged Taking a ready.spent;
+  undue = undue_by p s log unjudged Taking a undue;
   placed = a.stands.placed (sym a.here.link ∙ on);
 }
 
 faulty_closes : (p : Setup) (log : Log) (s t : State) (f : Apdu) (cause : Close) (rest : List ℕ)
     → session.is_open s.centre.session ≡ true → Fits f → s.centre.so_far ≡ Some []
-    → IsFaulty s f cause t → IsClear s
+    → IsFaulty s f cause t → IsClear s → IsUndue s log (spelling f ++ rest)
     → Agrees p s log (spelling f ++ rest) Taking → MayClose p t cause Idle log
-faulty_closes p log s t f cause rest on fits so j ready a =
+faulty_closes p log s t f cause rest on fits so j ready undue a =
     let fault = fault_closes f (here_of a.course) s.centre.session s.centre.queue.sent cause
     a.here.tied j.fault in
     let closes = fault_closes_so (length a.course.sent) (came_frames a.course.talk) f cause
@@ -157,7 +160,7 @@ faulty_closes p log s t f cause rest on fits so j ready a =
       stands = subst (λ o. IsConnection o (here_of a.course) (Some cause)) (sym closes.0) stands;
       why = frame_cause p log a.course (length a.course.sent) (came_frames a.course.talk) f cause
           fault
-          (next_closes p s log (spelling f ++ rest) cause on ready a stands);
+          (next_closes p s log (spelling f ++ rest) cause on ready undue a stands);
     }
 
 -- its own answer found no place
@@ -199,7 +202,7 @@ pub judged_closes : (p : Setup) (told : Option Log) (s t : State) (f : Apdu) (ca
     → Meets p s told (spelling f ++ rest) rest → IfSome told (MayClose p t cause Idle)
 judged_closes p None s t f cause rest on fits so j a = tt
 judged_closes p (Some log) s t f cause rest on fits so (inl j) a =
-    faulty_closes p log s t f cause rest on fits so j a.1 a.0
+    faulty_closes p log s t f cause rest on fits so j a.1 a.2 a.0
 judged_closes p (Some log) s t f cause rest on fits so (inr j) a =
     subst (λ x. MayClose p t x Idle log) (sym j.0) (overfull_closes p log s t f rest on fits so j.1
     a.1 a.2 a.3 a.0)
@@ -236,6 +239,17 @@ told_fed p (Some log) s t piece unjudged so_far n so e some within is a =
       omega (arith, a.3, some, within, length-drop n piece),
     )
 
+-- what was due stays so where the octets are kept
+kept_undue : (s : State) (log : Log) (piece so_far : List ℕ) → s.centre.so_far ≡ Some so_far
+    → IsUndue s log piece → IsUndue (with_octets (Some (so_far ++ piece)) s) log []
+kept_undue s log piece so_far so (inl h) = inl (omega (
+  arith,
+  h,
+  ap (λ x. length (pending x ++ piece)) so,
+  length-append (so_far ++ piece) [],
+))
+kept_undue s log piece so_far so (inr h) = inr h
+
 pub told_more : (p : Setup) (told : Option Log) (s t : State) (piece so_far : List ℕ)
     → s.centre.so_far ≡ Some so_far
     → IsMore (so_far ++ piece) → t ≡ with_octets (Some (so_far ++ piece)) s → Awaits p s told piece
@@ -245,6 +259,8 @@ told_more p (Some log) s t piece so_far so more is both =
     let a = both.0 in
     let same : a.here.so_far ≡ so_far = unfolded s a.here.so_far so_far a.here.assembler so in
     now_idle p t log
+    (subst IsClear (sym is) (record { confirmed = both.1.confirmed; spent = both.1.spent }))
+    (subst (λ x. IsUndue x log []) (sym is) (kept_undue s log piece so_far so both.2))
     (after_more p s t log piece a (subst (λ x. IsMore (x ++ piece)) (sym same) more) (is
     ∙ ap (λ x. with_octets (Some (x ++ piece)) s) (sym same)))
 
@@ -271,7 +287,7 @@ garbled_closes p (Some log) s t piece so_far on so refused is both =
       agrees = a;
       fault = Some Grammar;
       stands = stands;
-      why = next_closes p s log piece Grammar on both.1 a stands;
+      why = next_closes p s log piece Grammar on both.1 both.2 a stands;
     }
 
 pub found_apdu : (o : Option (List ℕ)) (piece : List ℕ) (n : ℕ) (after : Assembly) → is_some o

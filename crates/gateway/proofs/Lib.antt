@@ -7,6 +7,9 @@ pub mod Objects
 pub mod Acknowledging
 pub mod Working
 pub mod Restarting
+pub mod Waiting
+pub mod Called
+pub mod Passing
 pub mod Reached
 pub mod Offering
 pub mod Serving
@@ -49,6 +52,9 @@ pub mod Reseating
 pub mod Given
 pub mod Going
 pub mod Unchanged
+pub mod Calling
+pub mod OneCalling
 pub mod LineTurns
 pub mod GoingOut
 pub mod WholePieces
+pub mod Decided

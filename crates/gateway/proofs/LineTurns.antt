@@ -1,26 +1,29 @@
 -- Turns on logs.
 use Rattle.std.proofs.Common.{ℕ, suc, ◌<◌, ◌≤◌, ◌*◌, ◌-◌, List, [], ◌∷◌, ◌++◌, All, length, sym}
-use Rattle.std.proofs.Common.{subst, arith}
+use Rattle.std.proofs.Common.{None, subst, arith}
 use Rattle.std.proofs.lemmas.List.{length-map}
 use Rattle.ft12.specs.Fronts.{front_of}
 use Rattle.link.specs.Exchanges.{Exchanges, no_exchanges, all_of, views}
 use Rattle.link.specs.declared.settings.LinkSettings.{LinkSettings}
 use Rattle.link.specs.Requests.{FitsAddress}
 use Rattle.link.specs.Primary.{Primary, start}
-use Rattle.link.specs.Runs.{Call, called, MayCallAll, called_all, exchanged_all, AreCalled}
+use Rattle.link.specs.Runs.{Call, called, MayCallAll, called_all, exchanged_all}
 use Rattle.link.specs.Visits.{AreInVisits, most_of_visit}
 use Rattle.link.specs.Waits.{AlwaysWants, stations_asked, waited}
 use Rattle.link.specs.Precedence.{CommandsGoFirst}
+use Rattle.link.specs.Bursts.{BurstsGoOn, Other}
+use Rattle.link.specs.AtOnce.{RepeatsComeAtOnce, PollsFollowCommands}
 use Rattle.gateway.specs.declared.settings.Station.{Station}
 use Rattle.gateway.specs.Config.{Settings, AreStations}
 use Rattle.gateway.specs.Setups.{setup_of}
 use Rattle.gateway.specs.Log.{Log}
-use Rattle.gateway.specs.Reports.{Setup, exchanges_of}
+use Rattle.gateway.specs.Reports.{Setup}
 use Rattle.gateway.specs.State.{State}
 use Rattle.gateway.specs.Phases.{resting}
 use Rattle.gateway.specs.Agrees.{Agrees}
 use Rattle.gateway.specs.Turning.{new_line, KeepsTurns}
 use Rattle.gateway.proofs.Starting.{first_fits}
+use Rattle.gateway.proofs.Calling.{Laws, Made, makes}
 
 -- what `link` says of turns
 abbrev pub TurnsEnd : Type 0
@@ -39,9 +42,17 @@ NoneStarves = (settings : LinkSettings) (addresses : List ℕ) (first later : Li
     → waited station 0 (stations_asked (called_all (start settings addresses) first) later)
     ≤ most_of_visit settings * (length addresses - 1)
 
-abbrev pub CommandsFirst : Type 0
-CommandsFirst = (p : Primary) (station : ℕ) (calls : List Call)
-    → CommandsGoFirst p station (suc p.settings.burst) calls
+pub record TurnLaws : Type 0 where
+  pub ends : TurnsEnd
+  pub starves : NoneStarves
+  pub first : (p : Primary) (station : ℕ) (calls : List Call)
+      → CommandsGoFirst p station (suc p.settings.burst) calls
+  pub bursts : (settings : LinkSettings) (addresses : List ℕ) (calls : List Call)
+      → BurstsGoOn (start settings addresses) Other calls
+  pub repeats : (settings : LinkSettings) (addresses : List ℕ) (calls : List Call)
+      → RepeatsComeAtOnce (start settings addresses) None calls
+  pub polls : (settings : LinkSettings) (addresses : List ℕ) (calls : List Call)
+      → PollsFollowCommands (start settings addresses) None calls
 
 -- each of two parts of the calls may be made
 split : (p : Primary) (first later : List Call) → MayCallAll p (first ++ later)
@@ -50,27 +61,32 @@ split p [] later may = (tt, may)
 split p (call ∷ first) later may =
     let rest = split (called p call) first later may.1 in ((may.0, rest.0), rest.1)
 
-pub turns : TurnsEnd → NoneStarves → CommandsFirst → (c : Settings) (s : State) (log : Log)
+pub turns : TurnLaws → Laws → (c : Settings) (s : State) (log : Log)
     → AreStations c.line.link c.line.sizes.ca c.stations → 1 ≤ c.line.burst
     → Agrees (setup_of c) s log [] (resting log) → KeepsTurns (setup_of c) log
-turns ends starves first c s log rules burst a =
+turns t laws c s log rules burst a =
     let p : Setup = setup_of c in
-    let called : AreCalled p.link p.addresses s.serial.line (exchanges_of p log) = a.line.called in
     let some : 0 < length p.addresses =
     omega (arith, rules.some, length-map c.stations (λ (s : Station). s.address)) in
     let fit : All (FitsAddress p.link.size) p.addresses =
     first_fits c.line.link c.line.sizes.ca c.stations rules.each in
     let more : 0 < p.link.burst = omega (arith, burst) in
+    let m : Made laws p log a.course = makes laws p a.found
+    (laws.line.start p.link p.addresses some fit) log a.course a.talk.course_runs a.before.acts in
     record {
       visits =
           subst (λ (e : Exchanges). AreInVisits p.link p.addresses
           (views (front_of p.link.size) (all_of e)))
-          called.exchanges (ends p.link p.addresses called.calls some fit more called.may);
-      calls = called.calls;
-      exchanges = called.exchanges;
+          m.leads.exchanges (t.ends p.link p.addresses m.calls some fit more m.leads.may);
+      calls = m.calls;
+      shown = m.shown;
+      exchanges = m.leads.exchanges;
       fair = λ before later is station within wants.
           let may = split (new_line p) before later
-          (subst (λ (calls : List Call). MayCallAll (new_line p) calls) (sym is) called.may) in
-          starves p.link p.addresses before later station some fit more within may.0 may.1 wants;
-      commands = λ station. first (new_line p) station called.calls;
+          (subst (λ (calls : List Call). MayCallAll (new_line p) calls) (sym is) m.leads.may) in
+          t.starves p.link p.addresses before later station some fit more within may.0 may.1 wants;
+      commands = λ station. t.first (new_line p) station m.calls;
+      bursts = t.bursts p.link p.addresses m.calls;
+      repeats = t.repeats p.link p.addresses m.calls;
+      polls = t.polls p.link p.addresses m.calls;
     }

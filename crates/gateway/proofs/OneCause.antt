@@ -26,7 +26,8 @@ use Rattle.gateway.specs.Connections.{present, ends, IsConnection, BeginsWithFau
 use Rattle.gateway.specs.Reports.{Setup}
 use Rattle.gateway.specs.Works.{has_lacked_place}
 use Rattle.gateway.specs.Course.{Course, here_of, came_frames, with_frames, kind_of, with_sent}
-use Rattle.gateway.specs.Course.{closed_course, MayTake, StandsNext, IsLate, IsCause, Comes, Runs}
+use Rattle.gateway.specs.Course.{closed_course, HasTakenAll, MayTake, StandsNext, IsLate, IsCause}
+use Rattle.gateway.specs.Course.{Comes, Runs}
 use Rattle.gateway.specs.One.{AreOne}
 use Rattle.gateway.specs.Traffic.{HasCause}
 use Rattle.gateway.proofs.Tied.{fault_in, three_faults, one_fault}
@@ -195,7 +196,7 @@ garbled_none u p log f c rest joined refused may =
     never_refused u rest f (length (spelling f)) (whole_front f may.rest rest may.fits
     (may_front p log (latest log) f c rest joined may)) refused
 
-cause_none : AreUnique → (p : Setup) (log : Log) (cause : Close) (c : Course) → Runs p log c
+pub cause_none : AreUnique → (p : Setup) (log : Log) (cause : Close) (c : Course) → Runs p log c
     → IsCause p log cause c
     → (f : Apdu) → MayTake p log (latest log) f c → ⊥
 cause_none u p log Grammar c r h f may = garbled_none u p log f c h.next.rest h.next.joined
@@ -219,11 +220,11 @@ both_at u p log a b c d r s h k (inr g) = stays p log d c g (cause_none u p log 
 -- At one place one cause stands.
 
 -- what a cause is
-abbrev Kinds : Setup → Log → Close → Course → Type 0
+abbrev pub Kinds : Setup → Log → Close → Course → Type 0
 Kinds p log a c = ((a ≡ OwnAnswers) × (has_lacked_place c.works.history ≡ true))
     ⊎ (((a ≡ Timeout) × IsLate p log c) ⊎ StandsNext p log a c)
 
-kinds : (p : Setup) (log : Log) (a : Close) (c : Course) → ends a ≡ true → IsCause p log a c
+pub kinds : (p : Setup) (log : Log) (a : Close) (c : Course) → ends a ≡ true → IsCause p log a c
     → Kinds p log a c
 kinds p log Grammar c e h = inr (inr h)
 kinds p log SendNumber c e h = inr (inr h)
@@ -237,37 +238,37 @@ placed_so : (p : Setup) (c : Course) → has_lacked_place c.works.history ≡ tr
     → has_lacked_place c.works.history ≡ false → ⊥
 placed_so p c full placed = let no : true ≡ false = sym full ∙ placed in cc
 
-late_and_next : AreUnique → (p : Setup) (log : Log) (b : Close) (c : Course) → IsLate p log c
-    → StandsNext p log b c → ⊥
-late_and_next u p log b c late next =
+-- where all that came is taken, nothing next closes the connection
+pub all_and_next : AreUnique → (p : Setup) (log : Log) (b : Close) (c : Course)
+    → HasTakenAll (present log) c.talk → StandsNext p log b c → ⊥
+all_and_next u p log b c all next =
     let k = next.next in
     let none : IsConnection (present log) (here_of c) None =
     record {
       put = k.put;
       handed = k.handed;
       sent = k.sent;
-      rest = late.all.rest;
-      joined =
-          late.all.joined;
+      rest = all.rest;
+      joined = all.joined;
       fit = k.fit;
       pass = k.pass;
-      behind = late.all.more;
+      behind = all.more;
     } in
     let no : None ≡ Some b =
     (one_reading u (present log) (here_of c) (here_of c) None (Some b) (present_plain log) none
     k).1 in
     cc
 
-same_kind : AreUnique → (p : Setup) (log : Log) (a b : Close) (c : Course) → Kinds p log a c
+pub same_kind : AreUnique → (p : Setup) (log : Log) (a b : Close) (c : Course) → Kinds p log a c
     → Kinds p log b c → a ≡ b
 same_kind u p log a b c (inl h) (inl k) = h.0 ∙ sym k.0
 same_kind u p log a b c (inl h) (inr (inl k)) = absurd (placed_so p c h.1 k.1.placed)
 same_kind u p log a b c (inl h) (inr (inr k)) = absurd (placed_so p c h.1 k.placed)
 same_kind u p log a b c (inr (inl h)) (inl k) = absurd (placed_so p c k.1 h.1.placed)
 same_kind u p log a b c (inr (inl h)) (inr (inl k)) = h.0 ∙ sym k.0
-same_kind u p log a b c (inr (inl h)) (inr (inr k)) = absurd (late_and_next u p log b c h.1 k)
+same_kind u p log a b c (inr (inl h)) (inr (inr k)) = absurd (all_and_next u p log b c h.1.all k)
 same_kind u p log a b c (inr (inr h)) (inl k) = absurd (placed_so p c k.1 h.placed)
-same_kind u p log a b c (inr (inr h)) (inr (inl k)) = absurd (late_and_next u p log a c k.1 h)
+same_kind u p log a b c (inr (inr h)) (inr (inl k)) = absurd (all_and_next u p log a c k.1.all h)
 same_kind u p log a b c (inr (inr h)) (inr (inr k)) =
     let same : Some a ≡ Some b =
     (one_reading u (present log) (here_of c) (here_of c) (Some a) (Some b) (present_plain log)

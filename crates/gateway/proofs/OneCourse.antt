@@ -224,7 +224,7 @@ by_due u p log c f g may (inr due) (inr next) = elim may.undue
     untouched first (inl past) = omega (arith, first, past)
     untouched first (inr all) = none_whole u p log (latest log) f c all may
 
-hands_none : AreUnique → (p : Setup) (log : Log) (c : Course) (g f : Apdu)
+pub hands_none : AreUnique → (p : Setup) (log : Log) (c : Course) (g f : Apdu)
     → KeepsRules p.session (told_sent g (latest log) c.talk) → IsNext p log g c
     → MayTake p log (latest log) f c → ⊥
 hands_none u p log c (I ns nr asdu) f rules next may = by_objects (has_objects asdu.items) refl

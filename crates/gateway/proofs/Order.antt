@@ -390,10 +390,13 @@ may_follow : (p : Setup) (log : Log) (now : ℕ) (action : Output) → 0 < p.ses
     → 0 < p.session.t3
     → KeepsRulesSoFar p (Went now action ∷ log) → GoesOut p log now action → ActsRightly p log
     → KeepsOrder log
-    → MayFollow (step_actions log) action
-may_follow p log now (LineOut octets) some long k g acts order =
-    not_true (list_any is_request (step_actions log)) (λ h.
-    let no : false ≡ true = sym (none_due p log k.runs.0 k.runs.1 h) ∙ k.runs.2.due in absurd (cc))
+    → MayFollow log action
+may_follow p log now (LineOut octets) some long k g acts order = (
+  not_true (list_any is_request (step_actions log)) (λ h.
+      let no : false ≡ true = sym (none_due p log k.runs.0 k.runs.1 h) ∙ k.runs.2.due in
+      absurd (cc)),
+  g.may.early,
+)
 may_follow p log now (GapOut station session) some long k g acts order = (
   not_true (list_any is_late (step_actions log)) (λ h.
       none_and_some (sym (late_told p log k.runs.0 k.runs.1 h) ∙ k.runs.2.gap)),

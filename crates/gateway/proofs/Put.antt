@@ -441,6 +441,7 @@ late_closes p s log told late a =
       stands = stands_now p s log Timed a;
       why = record {
         all = all_taken log a.course a.here.so_far a.here.joined a.here.waits;
+        answered = a.stands.answered;
         placed = a.stands.placed (sym a.here.link ∙ on);
         told = sym (gap_in Timed (latest log) (room_in p log a.course) a.course.works)
             ∙ ap (λ (z : Serial). z.gap) (sym a.stands.does) ∙ told;

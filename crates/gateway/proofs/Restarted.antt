@@ -128,6 +128,7 @@ module _ (told : IsTold) (law : IsForOne) (p : Setup) (s : State) (log : Log)
       asks = (none_due, no_gap);
       phase_is = tt;
       placed = λ on. restarted_placed left.works ∙ placed_before p s log a on;
+      answered = tt;
     };
     gaps = λ i. ap (λ g. gaps_told i log ++ gap_for i g) (gap s.serial) ∙ a.gaps i
         ∙ sym (told.gaps p.link p.link.size p.addresses (exchanges_of p log) i);

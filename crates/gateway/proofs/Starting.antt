@@ -29,6 +29,7 @@ use Rattle.link.specs.Primary.{station_down}
 use Rattle.link.specs.Offers.{offered_at}
 use Rattle.gateway.specs.Setups.{link_of, session_of, setup_of}
 use Rattle.gateway.specs.State.{State, first_state}
+use Rattle.gateway.specs.Passing.{PassingLaws}
 use Rattle.gateway.specs.Agrees.{IsTimely, Agrees, IsClear, Follows, Rests}
 use Rattle.gateway.proofs.Talking.{talk_first}
 use Rattle.gateway.proofs.Closing.{fresh}
@@ -78,10 +79,10 @@ StartTells = (settings : LinkSettings) (addresses : List ℕ) → 0 < length add
     → Tells settings addresses (start settings addresses) no_exchanges
 
 -- nothing has been told yet
-pub at_first : (c : Settings) → StartTells → SessionLaws → CommandLaws → LineLaws
+pub at_first : (c : Settings) → StartTells → SessionLaws → CommandLaws → PassingLaws → LineLaws
     → AreStations c.line.link c.line.sizes.ca c.stations → IsTimely (session_of c.tcp)
     → Agrees (setup_of c) (first_state c) [] [] Fresh
-at_first c starts laws commands line_laws rules timely = record {
+at_first c starts laws commands passing line_laws rules timely = record {
   k = refl;
   sizes = refl;
   places = refl;
@@ -93,8 +94,14 @@ at_first c starts laws commands line_laws rules timely = record {
       (omega (arith, rules.some, length-map c.stations (λ (s : Station). s.address)))
       (first_fits c.line.link c.line.sizes.ca c.stations rules.each);
   course = first_course (setup_of c);
-  talk = talk_first (setup_of c) timely laws commands line_laws;
-  stands = record { does = refl; asks = (refl, refl); phase_is = tt; placed = λ o. refl };
+  talk = talk_first (setup_of c) timely laws commands passing line_laws;
+  stands = record {
+    does = refl;
+    asks = (refl, refl);
+    phase_is = tt;
+    placed = λ o. refl;
+    answered = tt;
+  };
   gaps = λ i. refl;
   offers = λ k octets e. absurd (no_offer k octets e);
   plain = tt;
@@ -141,14 +148,14 @@ timely t = record {
 -- at the start, of a port that tells an empty log
 
 pub first_follows : (c : Settings) (s : State) (told : Option Log) → StartTells → SessionLaws
-    → CommandLaws → LineLaws
+    → CommandLaws → PassingLaws → LineLaws
     → AreStations c.line.link c.line.sizes.ca c.stations → IsTimely (session_of c.tcp)
     → s ≡ first_state c
     → told ≡ Some [] → Follows (setup_of c) s told
-first_follows c s told starts laws commands line_laws rules timely is e =
+first_follows c s told starts laws commands passing line_laws rules timely is e =
     subst (λ o. Follows (setup_of c) s o) (sym e)
     (subst (λ x. Agrees (setup_of c) x [] [] Fresh × IsClear x) (sym is) (
-      at_first c starts laws commands line_laws rules timely,
+      at_first c starts laws commands passing line_laws rules timely,
       record { confirmed = refl; spent = λ may. (refl, refl) },
     ))
 

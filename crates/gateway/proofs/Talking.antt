@@ -36,12 +36,13 @@ use Rattle.gateway.specs.Reports.{Setup, address_at, exchanges_of, taken_objects
 use Rattle.gateway.specs.Works.{has_lacked_place}
 use Rattle.gateway.specs.Course.{Course, first_course, came_frames, kind_of, told_sent, with_frame}
 use Rattle.gateway.specs.Course.{with_sent, IsFlushed, IsUntouched, HasBegun, MayTake, TakesFrames}
-use Rattle.gateway.specs.Course.{HasTakenAll, IsNext, Runs}
+use Rattle.gateway.specs.Course.{IsTouched, HasAsked, HasTakenAll, IsNext, Runs}
 use Rattle.gateway.specs.Conversation.{KeepsRulesSoFar}
 use Rattle.gateway.proofs.Reached.{kept_commands}
 use Rattle.gateway.specs.Phases.{IsTaking}
 use Rattle.command.specs.CommandLaws.{CommandLaws}
 use Rattle.session.specs.SessionLaws.{SessionLaws}
+use Rattle.gateway.specs.Passing.{PassingLaws}
 use Rattle.gateway.specs.Agrees.{Talks, IsTimely}
 
 -- A frame more is taken
@@ -192,7 +193,7 @@ kept_talk p s log c k = record {
   runs = k.course_runs;
   rules = subst (λ (r : Run). KeepsRules p.session r.history) k.called
       (k.laws.rules p.session k.calls k.timely.range);
-  commands = kept_commands p k.command_laws log c k.course_runs;
+  commands = kept_commands p k.command_laws k.passing_laws log c k.course_runs;
 }
 
 -- the octets received begin with the frames
@@ -214,13 +215,14 @@ ruled p s t log c call now moment said k clock made =
 pub talk_out : (p : Setup) (s t : Session) (log : Log) (c : Course) (now moment : ℕ) (f : Apdu)
     (call : Call)
     (k : Talks p s log c) → Fits f → moment ≡ latest log → IsNext p log f c
-    → has_lacked_place c.works.history ≡ false
+    → has_lacked_place c.works.history ≡ false → IsTouched log c ⊎ HasAsked p log c
     → after_call call (at s c.talk) ≡ at t (told_sent f moment c.talk) → Begins (present log) c →
     Talks p t (Went now (TcpOut (spelling f)) ∷ log) (with_sent f moment c)
-talk_out p s t log c now moment f call k fits clock next placed made b = record {
+talk_out p s t log c now moment f call k fits clock next placed turn made b = record {
   timely = k.timely;
   laws = k.laws;
   command_laws = k.command_laws;
+  passing_laws = k.passing_laws;
   line_laws = k.line_laws;
   calls = call ∷ k.calls;
   called = ap (after_call call) k.called ∙ made;
@@ -235,8 +237,8 @@ talk_out p s t log c now moment f call k fits clock next placed made b = record 
       rules =
           ruled p s t log c call (latest log) moment (λ m. told_sent f m c.talk) k clock made;
       next = next;
-      placed =
-          placed;
+      placed = placed;
+      turn = turn;
       put = ap (λ m. with_sent f m c) clock;
     },
     record {
@@ -265,6 +267,7 @@ talk_heard p s log c moment f rest k taking clock on ready fits goes placed flus
       timely = k.timely;
       laws = k.laws;
       command_laws = k.command_laws;
+      passing_laws = k.passing_laws;
       line_laws = k.line_laws;
       calls = Take f moment ∷ k.calls;
       called = ap (after_call (Take f moment)) k.called ∙ takes s c.talk f moment on ready goes;
@@ -290,6 +293,7 @@ talk_on p s t old new c d k same said is = record {
   timely = k.timely;
   laws = k.laws;
   command_laws = k.command_laws;
+  passing_laws = k.passing_laws;
   line_laws = k.line_laws;
   calls = k.calls;
   called = k.called ∙ ap (λ x. at x c.talk) (sym same) ∙ ap (λ h. at t h) (sym said);
@@ -315,6 +319,7 @@ talk_cut p s t old new c d k same said is = record {
   timely = k.timely;
   laws = k.laws;
   command_laws = k.command_laws;
+  passing_laws = k.passing_laws;
   line_laws = k.line_laws;
   calls = Cut ∷ k.calls;
   called = ap (after_call Cut) k.called ∙ ap (λ x. at (session.closed x) []) (sym same)
@@ -331,6 +336,7 @@ talk_open p s t old new c d moment k same said is = record {
   timely = k.timely;
   laws = k.laws;
   command_laws = k.command_laws;
+  passing_laws = k.passing_laws;
   line_laws = k.line_laws;
   calls = Open moment ∷ Cut ∷ k.calls;
   called = ap (λ r. after_call (Open moment) (after_call Cut r)) k.called
@@ -340,14 +346,16 @@ talk_open p s t old new c d moment k same said is = record {
 }
 
 -- at the start
-pub talk_first : (p : Setup) → IsTimely p.session → SessionLaws → CommandLaws → LineLaws
+pub talk_first : (p : Setup) → IsTimely p.session → SessionLaws → CommandLaws → PassingLaws
+    → LineLaws
     → Talks p (session.new_session p.session.k p.session.w p.session.t1 p.session.t2 p.session.t3)
     [] (first_course p)
-talk_first p timely laws command_laws line_laws = record {
+talk_first p timely laws command_laws passing_laws line_laws = record {
   timely = timely;
   laws = laws;
   command_laws =
       command_laws;
+  passing_laws = passing_laws;
   line_laws = line_laws;
   calls = [];
   called = refl;

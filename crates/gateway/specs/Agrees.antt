@@ -29,9 +29,11 @@ use Rattle.gateway.specs.Connections.{is_replaced, Passes, AreConnections}
 use Rattle.gateway.specs.Reports.{Setup, AreFound, exchanges_of, taken_objects, taken_pieces}
 use Rattle.gateway.specs.Reports.{reports_in, parts_of_all}
 use Rattle.gateway.specs.Traffic.{ActsRightly, RestsBetweenSteps, HasRested, IsFaithful}
-use Rattle.gateway.specs.Course.{Course, here_of, room_in, Runs}
+use Rattle.gateway.specs.Course.{Course, here_of, room_in, HasAnswered, NoAnswerLate, Runs}
+use Rattle.gateway.specs.Passing.{PassingLaws}
 use Rattle.gateway.specs.Conversation.{KeepsRulesThroughout}
-use Rattle.gateway.specs.Phases.{Phase, Taking, resting, IsPhase, works_in, IsAsked, IsPlaced}
+use Rattle.gateway.specs.Phases.{Phase, Taking, Idle, Timed, Asked, resting, IsPhase, works_in}
+use Rattle.gateway.specs.Phases.{IsAsked, IsPlaced}
 use Rattle.gateway.specs.Phases.{IsPast, IsLeftIn}
 use Rattle.command.specs.CommandLaws.{CommandLaws}
 use Rattle.link.specs.LineLaws.{LineLaws}
@@ -41,12 +43,21 @@ use Rattle.gateway.specs.State.{State}
 
 -- The line and commands
 
+-- Once the event is taken, what goes out behind its frames has gone out. Once the request is asked
+-- for, no answer is late.
+abbrev pub IsAnswered : Phase → Setup → Log → Course → Type 0
+IsAnswered Idle p log c = HasAnswered p log c
+IsAnswered Timed p log c = HasAnswered p log c
+IsAnswered Asked p log c = NoAnswerLate p log c
+IsAnswered phase p log c = Unit {0}
+
 -- the line's side is that of the works that the log shows, as far as the step is
 pub record IsAt (p : Setup) (log : Log) (phase : Phase) (s : State) (c : Course) : Type 0 where
   pub does : s.serial ≡ (works_in phase (latest log) (room_in p log c) c.works).serial
   pub asks : IsAsked phase (latest log) (room_in p log c) c.works
   pub phase_is : IsPhase phase log
   pub placed : IsPlaced phase log c.works.history
+  pub answered : IsAnswered phase p log c
 
 -- what is offered to a station is the oldest command that waits for it
 abbrev pub OffersWait : Primary → tasks.State → Type 0
@@ -145,6 +156,7 @@ pub record Talks (p : Setup) (s : Session) (log : Log) (c : Course) : Type 0 whe
   pub timely : IsTimely p.session
   pub laws : SessionLaws
   pub command_laws : CommandLaws
+  pub passing_laws : PassingLaws
   pub line_laws : LineLaws
   pub calls : List Call
   pub called : run p.session calls ≡ record { session = s; history = c.talk }

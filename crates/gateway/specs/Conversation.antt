@@ -1,16 +1,18 @@
 -- What holds at each point of a run's course (IEC 60870-5-104, 5; IEC 60870-5-101, 7.2.3 and
 -- 7.2.6).
-use Rattle.std.specs.Prelude.{◌≡◌, false, [], ◌∷◌, ◌++◌, None, option_map}
+use Rattle.std.specs.Prelude.{◌≡◌, ◌+◌, false, [], ◌∷◌, ◌++◌, length, None, option_map}
 use Rattle.asdu.specs.Asdu.{AsduValue}
 use Rattle.session.specs.History.{confirmation_of, frame_due, has_timed_out}
 use Rattle.session.specs.Rules.{KeepsRules}
 use Rattle.command.specs.History.{ForwardsCommands, ExecutesAreSelected, SendsFreshCommands}
 use Rattle.command.specs.History.{mirror_tag, GivesOwnAnswers, KeepsOwnAnswers, own_kept, own_sent}
+use Rattle.command.specs.History.{forwarded_in_all, sent_in_all}
 use Rattle.command.specs.Mirrors.{tag_for}
 use Rattle.command.specs.Calls.{Run}
 use Rattle.gateway.specs.Log.{Log, latest}
 use Rattle.gateway.specs.Connections.{present}
 use Rattle.gateway.specs.Reports.{Setup}
+use Rattle.gateway.specs.Passing.{PassesCommands}
 use Rattle.gateway.specs.Works.{tasks_of}
 use Rattle.gateway.specs.Course.{Course, HasTakenAll, Runs}
 
@@ -19,7 +21,9 @@ use Rattle.gateway.specs.Course.{Course, HasTakenAll, Runs}
 -- stands its select, confirmed in time; each answer is that of the first rule that applies; an
 -- activation that came with a time tag had a good one, near the wall clock; the tag that a
 -- station's answer gets is that of the newest first sending of its type and addresses; own answers
--- go out first in, first out, and at most 16 wait.
+-- go out first in, first out, and at most 16 wait. Places come back: as many commands wait, over
+-- all stations, as were forwarded on the open connection and weren't sent. And each command passed
+-- that has no fault, finds its places, and is selected where it has to be.
 pub record KeepsCommands (p : Setup) (r : Run) : Type 0 where
   pub forwarded : ForwardsCommands p.sizes p.stations p.select_ms p.max_age_ms r.history
   pub selected : ExecutesAreSelected p.sizes p.stations p.select_ms p.max_age_ms r.history
@@ -29,6 +33,9 @@ pub record KeepsCommands (p : Setup) (r : Run) : Type 0 where
       ≡ mirror_tag p.sizes p.stations p.select_ms p.max_age_ms v v.infos r.history
   pub in_turn : own_kept r.history ≡ own_sent r.history ++ r.state.answers
   pub kept : KeepsOwnAnswers r.history
+  pub places : length r.state.waiting + sent_in_all r.history
+      ≡ forwarded_in_all p.stations r.history
+  pub passes : PassesCommands p r.history
 
 -- The course so far keeps the rules: each frame that came was free of faults, and each that went
 -- out bore the counts, and was due (5.1 to 5.5); and commands are kept.

@@ -106,10 +106,39 @@ pub record HasTakenAll (octets : Channel) (h : History) : Type 0 where
   pub joined : octets.received ≡ spelled (came_frames h) ++ rest
   pub more : IsMore rest
 
+-- one of them is taken
+abbrev pub IsTouched : Log → Course → Type 0
+IsTouched log c = length (received_before log) < length (spelled (came_frames c.talk))
+
 -- one of them is taken, or there are none
 abbrev pub HasBegun : Log → Course → Type 0
-HasBegun log c = (length (received_before log) < length (spelled (came_frames c.talk)))
-    ⊎ HasTakenAll (present log) c.talk
+HasBegun log c = IsTouched log c ⊎ HasTakenAll (present log) c.talk
+
+-- no S frame and no test is due (5.2, 5.5)
+abbrev pub NoFrameDue : Setup → (now : ℕ) → Course → Type 0
+NoFrameDue p now c = frame_due p.session.w p.session.t2 p.session.t3 now c.talk ≡ None
+
+-- Nothing may go out to TCP: no confirmation, no data, no S frame and no test (5.1 to 5.3).
+pub record HasNothingDue (p : Setup) (log : Log) (c : Course) : Type 0 where
+  pub confirmed : confirmation_of c.talk ≡ None
+  pub flushed : IsFlushed p log c
+  pub undue : NoFrameDue p (latest log) c
+
+-- Where a frame of the event is taken, what goes out behind it has gone out (profile).
+abbrev pub HasAnswered : Setup → Log → Course → Type 0
+HasAnswered p log c = IsUntouched log c ⊎ HasNothingDue p log c
+
+-- no answer is late (5.2)
+abbrev pub NoAnswerLate : Setup → Log → Course → Type 0
+NoAnswerLate p log c = has_timed_out p.session.t1 (latest log) c.talk ≡ false
+
+-- The step has done what comes before the connection's frames: its gap is told, no answer is late,
+-- and the line's request has gone out, or there is none (profile).
+pub record HasAsked (p : Setup) (log : Log) (c : Course) : Type 0 where
+  pub told : c.works.serial.gap ≡ None
+  pub in_time : NoAnswerLate p log c
+  pub none : c.works.is_due ≡ true →
+      sending (ready_works (latest log) c.works).serial.line (room_in p log c) ≡ None
 
 abbrev pub with_frame : Setup → Apdu → (now : ℕ) → (wall : Option ℕ) → Course → Course
 with_frame p frame now wall c =
@@ -137,8 +166,7 @@ pub record MayTake (p : Setup) (log : Log) (now : ℕ) (frame : Apdu) (c : Cours
   pub rules : KeepsRules p.session (talk.Came frame now ∷ c.talk)
   pub placed : has_lacked_place c.works.history ≡ false
   pub flushed : IsFlushed p log c
-  pub undue : IsUntouched log c ⊎ (frame_due p.session.w p.session.t2 p.session.t3 now c.talk
-      ≡ None)
+  pub undue : IsUntouched log c ⊎ NoFrameDue p now c
 
 -- each of these frames, the latest first
 abbrev pub AreTaken : Setup → Log → (now : ℕ) → List Apdu → Course → Type 0
@@ -200,7 +228,8 @@ IsNext p log frame c = (confirmation_of c.talk ≡ Some frame)
     ⊎ ((confirmation_of c.talk ≡ None) × IsFlushed p log c × HasBegun log c)
 
 -- These octets go out: one frame, the next one, by the rules of 5.1 to 5.5; and none once an own
--- answer found no place.
+-- answer found no place. They go out behind a frame of the event, or once the step's gap is told,
+-- its timers are done and its request has gone out (profile).
 pub record HandsOver (p : Setup) (log : Log) (octets : List ℕ) (now : ℕ)
     (before after : Course) : Type 0 where
   pub frame : Apdu
@@ -209,23 +238,27 @@ pub record HandsOver (p : Setup) (log : Log) (octets : List ℕ) (now : ℕ)
   pub rules : KeepsRules p.session (told_sent frame now before.talk)
   pub next : IsNext p log frame before
   pub placed : has_lacked_place before.works.history ≡ false
+  pub turn : IsTouched log before ⊎ HasAsked p log before
   pub put : after ≡ with_sent frame now before
 
 -- The ends of connections
 
 -- What is next in the octets received closes the connection with this cause: all before it was
--- taken and confirmed (5.1, 5.3), what may go out has gone out, and each own answer found a place.
+-- taken and confirmed (5.1, 5.3), what may go out has gone out, what the moment makes due too where
+-- a frame of the event was taken, and each own answer found a place.
 pub record StandsNext (p : Setup) (log : Log) (cause : Close) (c : Course) : Type 0 where
   pub next : IsConnection (present log) (here_of c) (Some cause)
   pub confirmed : confirmation_of c.talk ≡ None
   pub flushed : IsFlushed p log c
+  pub undue : IsUntouched log c ⊎ NoFrameDue p (latest log) c
   pub placed : has_lacked_place c.works.history ≡ false
 
 -- An I frame or a test has been without an answer for t1 (5.2), and no cause stands before it: all
--- that came was taken without fault, each own answer found a place, and the gap of the event is
--- told.
+-- that came was taken without fault and answered, each own answer found a place, and the gap of the
+-- event is told.
 pub record IsLate (p : Setup) (log : Log) (c : Course) : Type 0 where
   pub all : HasTakenAll (present log) c.talk
+  pub answered : HasAnswered p log c
   pub placed : has_lacked_place c.works.history ≡ false
   pub told : c.works.serial.gap ≡ None
   pub late : has_timed_out p.session.t1 (latest log) c.talk ≡ true
@@ -297,20 +330,25 @@ Comes p log at Opened c d = d
 Comes p log at CutOff c d = d ≡ ended_course (present log).is_open (begun_works at c.works) c
 Comes p log at Restarted c d = (at ≡ latest log) × (d ≡ with_works (restarted_works c.works) c)
 
--- The gap of the session that the event's octets have ended is told, once all that came is taken,
--- and before the step's timers and its request.
-pub record TellsGap (log : Log) (station session : ℕ) (before after : Course) : Type 0 where
+-- The gap of the session that the event's octets have ended is told, once all that came is taken
+-- and answered, and each own answer found a place, and before the step's timers and its request.
+pub record TellsGap (p : Setup) (log : Log) (station session : ℕ)
+    (before after : Course) : Type 0 where
   pub all : HasTakenAll (present log) before.talk
+  pub answered : HasAnswered p log before
+  pub placed : (present log).is_open ≡ true → has_lacked_place before.works.history ≡ false
   pub due : before.works.is_due ≡ true
   pub gap : before.works.serial.gap ≡ Some (record { station = station; session = session })
   pub is : after ≡ with_works (gapless_works before.works) before
 
 -- The octets are the request that is next, its gap told, where the queue has the room that the log
--- shows, once all that came is taken; and a command that goes out for the first time is the oldest
--- that waits for its station.
+-- shows, once all that came is taken and answered, and no answer is late; and a command that goes
+-- out for the first time is the oldest that waits for its station.
 pub record SendsNext (p : Setup) (log : Log) (octets : List ℕ)
     (before after : Course) : Type 0 where
   pub all : HasTakenAll (present log) before.talk
+  pub answered : HasAnswered p log before
+  pub in_time : NoAnswerLate p log before
   pub placed : (present log).is_open ≡ true → has_lacked_place before.works.history ≡ false
   pub due : before.works.is_due ≡ true
   pub told : before.works.serial.gap ≡ None
@@ -343,7 +381,7 @@ Runs p (Went now (TcpOut octets) ∷ log) c =
 Runs p (Went now (LineOut octets) ∷ log) c = (before : Course) × Runs p log before
     × SendsNext p log octets before c
 Runs p (Went now (GapOut station session) ∷ log) c = (before : Course) × Runs p log before
-    × TellsGap log station session before c
+    × TellsGap p log station session before c
 Runs p (Went now (Closed cause) ∷ log) c =
     (before : Course) × Runs p log before × (c
     ≡ closed_course p cause (present log).is_open (latest log) before)

@@ -13,12 +13,14 @@ pub mod Counting
 pub mod Streams
 pub mod Frames
 pub mod Connections
+pub mod Behind
 pub mod Tags
 pub mod Serial
 pub mod Centre
 pub mod Works
 pub mod Course
 pub mod One
+pub mod Passing
 pub mod Conversation
 pub mod Room
 pub mod Line
@@ -39,6 +41,7 @@ pub mod Starts
 pub mod Carried
 pub mod Unchanged
 pub mod Given
+pub mod Calling
 pub mod Turning
 pub mod Restarts
 pub mod GoingOut

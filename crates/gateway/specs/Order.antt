@@ -3,6 +3,7 @@ use Rattle.std.specs.Prelude.{◌≡◌, Bool, true, false, List, [], ◌∷◌}
 use Rattle.std.specs.List.{list_any}
 use Rattle.session.specs.declared.kinds.Close.TheVariants.{Timeout}
 use Rattle.gateway.specs.Log.{Log, Went, Output, LineOut, TcpOut, Closed, GapOut}
+use Rattle.gateway.specs.Behind.{GoesBehindFrames}
 
 -- the actions of the latest step so far, those since the latest event, the newest first (profile)
 abbrev pub step_actions : Log → List Output
@@ -24,20 +25,23 @@ abbrev pub is_late : Output → Bool
 is_late (Closed Timeout) = true
 is_late action = false
 
--- What follows from the event comes first, then what the timers bring, then the request: a gap only
--- where the step's timers have closed no connection yet, and a gap, a close and a request only
--- where it has put out no request yet. And octets to TCP, and a close, only where it has closed no
--- connection yet (profile).
-abbrev pub MayFollow : (earlier : List Output) → Output → Type 0
-MayFollow earlier (LineOut octets) = list_any is_request earlier ≡ false
-MayFollow earlier (TcpOut octets) = list_any is_close earlier ≡ false
-MayFollow earlier (Closed cause) =
-    (list_any is_close earlier ≡ false) × (list_any is_request earlier ≡ false)
-MayFollow earlier (GapOut station session) =
-    (list_any is_late earlier ≡ false) × (list_any is_request earlier ≡ false)
+-- What follows from the event comes first, then what the timers bring, then the request, then
+-- octets to TCP: a gap only where the step's timers have closed no connection yet, and a gap, a
+-- close and a request only where it has put out no request yet. Octets to TCP go out before a
+-- request only behind a frame that ends in the event's octets. And octets to TCP, and a close, only
+-- where it has closed no connection yet (profile).
+abbrev pub MayFollow : Log → Output → Type 0
+MayFollow log (LineOut octets) =
+    (list_any is_request (step_actions log) ≡ false) × GoesBehindFrames log
+MayFollow log (TcpOut octets) = list_any is_close (step_actions log) ≡ false
+MayFollow log (Closed cause) =
+    (list_any is_close (step_actions log) ≡ false)
+    × (list_any is_request (step_actions log) ≡ false)
+MayFollow log (GapOut station session) =
+    (list_any is_late (step_actions log) ≡ false) × (list_any is_request (step_actions log) ≡ false)
 
 -- each action of the log, after those of its step (profile)
 abbrev pub KeepsOrder : Log → Type 0
 KeepsOrder [] = Unit {0}
-KeepsOrder (Went now action ∷ log) = MayFollow (step_actions log) action × KeepsOrder log
+KeepsOrder (Went now action ∷ log) = MayFollow log action × KeepsOrder log
 KeepsOrder (entry ∷ log) = KeepsOrder log

@@ -5,6 +5,7 @@ use Rattle.link.specs.Primary.{Outstanding, sending}
 use Rattle.gateway.specs.Log.{Log, TcpIn, Restarted, Came, Went, TcpOut}
 use Rattle.command.specs.History.{History}
 use Rattle.gateway.specs.Connections.{present, received_before}
+use Rattle.gateway.specs.Behind.{GoesBehindFrames}
 use Rattle.gateway.specs.Works.{Works, has_lacked_place, settled_works, ready_works, done_works}
 
 -- nothing has come yet, or not since a restart; octets of the connection are being taken; a frame
@@ -32,11 +33,13 @@ IsFresh [] = Unit {0}
 IsFresh (Came now Restarted ∷ log) = Unit {0}
 IsFresh log = ⊥
 
+-- Until the request is asked for, octets went to TCP only behind frames of the event.
 abbrev pub IsPhase : Phase → Log → Type 0
 IsPhase Fresh log = IsFresh log
-IsPhase Taking log = IsTaking log
-IsPhase Judged log = IsTaking log
-IsPhase phase log = Unit {0}
+IsPhase Taking log = IsTaking log × GoesBehindFrames log
+IsPhase Judged log = IsTaking log × GoesBehindFrames log
+IsPhase Asked log = Unit {0}
+IsPhase phase log = GoesBehindFrames log
 
 -- The log shows the works before the step's timers and request; so far they have become these.
 abbrev pub works_in : Phase → (at : ℕ) → (room : Bool) → Works → Works
@@ -93,9 +96,8 @@ IsLeftIn Crowded log so_far unjudged = Unit {0}
 IsLeftIn Judged log so_far unjudged = IsPast log (length (so_far ++ unjudged))
 IsLeftIn phase log so_far unjudged = unjudged ≡ []
 
--- S frames and tests may go out
+-- Frames go out behind a frame of the event, and once the request is asked for.
 abbrev pub IsFlushing : Phase → Type 0
-IsFlushing Fresh = ⊥
-IsFlushing Taking = ⊥
-IsFlushing Crowded = ⊥
-IsFlushing phase = Unit {0}
+IsFlushing Judged = Unit {0}
+IsFlushing Asked = Unit {0}
+IsFlushing phase = ⊥

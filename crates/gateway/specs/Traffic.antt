@@ -9,18 +9,20 @@ use Rattle.gateway.specs.Log.{Log, Restarted, Came, Went, Output, LineOut, TcpOu
 use Rattle.gateway.specs.Log.{latest}
 use Rattle.gateway.specs.Gaps.{gaps_of, gaps_told, TellsGaps}
 use Rattle.gateway.specs.Streams.{IsOneFrame}
+use Rattle.gateway.specs.Behind.{GoesBehindFrames}
 use Rattle.gateway.specs.Frames.{transfers, acknowledged_count, AreInOrder}
 use Rattle.gateway.specs.Connections.{present, past, ends, is_replaced, AreConnections, IsBegun}
 use Rattle.gateway.specs.Reports.{Setup, address_at, taken_objects, KeepsLinks}
 use Rattle.link.specs.Leave.{is_poll_request}
 use Rattle.gateway.specs.Room.{AreConnectionsOf, HasRoom}
 use Rattle.gateway.specs.Works.{has_lacked_place}
-use Rattle.gateway.specs.Course.{Course, here_of, HasSentAll, IsCause, Runs}
+use Rattle.gateway.specs.Course.{Course, here_of, HasSentAll, HasAsked, IsCause, Runs}
 use Rattle.gateway.specs.Conversation.{KeepsRulesThroughout, IsTalkAtRest}
 use Rattle.gateway.specs.Line.{IsWaiting, IsLineAtRest}
 
--- The octets are a request to a station, while no exchange is outstanding and each gap is told; and
--- a poll only where there is room.
+-- The octets are a request to a station, while no exchange is outstanding and each gap is told, and
+-- before octets to TCP, but for those behind a frame of the event; and a poll only where there is
+-- room.
 pub record IsRequest (p : Setup) (log : Log) (octets : List ℕ) : Type 0 where
   pub station : ℕ
   pub within : station < length p.addresses
@@ -29,6 +31,7 @@ pub record IsRequest (p : Setup) (log : Log) (octets : List ℕ) : Type 0 where
       ≡ spelling p.link.size (request_frame (address_at p.addresses station) request)
   pub alone : IsWaiting p log → ⊥
   pub told : TellsGaps p log
+  pub early : GoesBehindFrames log
   pub room : is_poll_request request ≡ true → HasRoom p log
 
 -- The connection is open, and its course gives the cause, the first that stands.
@@ -82,6 +85,7 @@ pub record IsAtRest (p : Setup) (log : Log) : Type 0 where
       + p.session.k → HasSentAll p log course
   pub line : IsLineAtRest p log course (here_of course ∷ course.earlier)
   pub gaps : TellsGaps p log
+  pub asked : HasAsked p log course
   pub talk : IsTalkAtRest p log course
 
 -- Nothing has come yet, or the last step has done all that it could. A restart is no step.

@@ -1,6 +1,6 @@
 -- The turns of the line, as a log shows them (this gateway's own profile, over the procedures of
 -- IEC 60870-5-2).
-use Rattle.std.specs.Prelude.{◌≡◌, ℕ, suc, ◌<◌, ◌≤◌, ◌*◌, ◌-◌, List, ◌++◌, length}
+use Rattle.std.specs.Prelude.{◌≡◌, ℕ, suc, ◌<◌, ◌≤◌, ◌*◌, ◌-◌, List, ◌++◌, length, None}
 use Rattle.ft12.specs.Fronts.{front_of}
 use Rattle.link.specs.Exchanges.{no_exchanges, all_of, views}
 use Rattle.link.specs.Primary.{Primary, start}
@@ -8,8 +8,11 @@ use Rattle.link.specs.Runs.{Call, called_all, exchanged_all}
 use Rattle.link.specs.Visits.{AreInVisits, most_of_visit}
 use Rattle.link.specs.Waits.{AlwaysWants, stations_asked, waited}
 use Rattle.link.specs.Precedence.{CommandsGoFirst}
+use Rattle.link.specs.Bursts.{BurstsGoOn, Other}
+use Rattle.link.specs.AtOnce.{RepeatsComeAtOnce, PollsFollowCommands}
 use Rattle.gateway.specs.Log.{Log}
 use Rattle.gateway.specs.Reports.{Setup, exchanges_of}
+use Rattle.gateway.specs.Calling.{CallsOf}
 
 -- a primary station of the line that has sent nothing yet
 abbrev pub new_line : Setup → Primary
@@ -25,12 +28,18 @@ StarvesNone p first later = (station : ℕ) → station < length p.addresses →
     ≤ most_of_visit p.link * (length p.addresses - 1)
 
 -- The exchanges of the log's line are visits, one after another, each of one station and as long as
--- a visit is. They are the exchanges of calls, one after another, in which no station starves, from
--- any of them on, and a command that waits goes before any new poll of its station.
+-- a visit is. They are the exchanges of the calls that the log shows. In these calls no station
+-- starves, from any of them on; a command that waits goes before any new poll of its station; polls
+-- of class 1 go on while ACD is set, up to `burst`; a service without an answer is sent again
+-- before any other request; and a poll follows a command.
 pub record KeepsTurns (p : Setup) (log : Log) : Type 0 where
   pub visits : AreInVisits p.link p.addresses
       (views (front_of p.link.size) (all_of (exchanges_of p log)))
   pub calls : List Call
+  pub shown : CallsOf p log calls
   pub exchanges : exchanged_all (new_line p) calls no_exchanges ≡ exchanges_of p log
   pub fair : (first later : List Call) → first ++ later ≡ calls → StarvesNone p first later
   pub commands : (station : ℕ) → CommandsGoFirst (new_line p) station (suc p.link.burst) calls
+  pub bursts : BurstsGoOn (new_line p) Other calls
+  pub repeats : RepeatsComeAtOnce (new_line p) None calls
+  pub polls : PollsFollowCommands (new_line p) None calls

@@ -28,7 +28,9 @@ use crate::settings::{LineSettings, Silence};
 use crate::walls::Wall;
 use apci::Assembler;
 use asdu::Sizes;
-use command::{Commands, StationInfo, commands_keep_the_rules};
+use command::{
+    Commands, StationInfo, commands_keep_the_rules, faultless_commands_pass, places_come_back,
+};
 use events::{Events, Kept};
 use link::{LinkSettings, Master, line_keeps_the_procedures, master_tells_the_log};
 use session::{Session, session_keeps_the_standard};
@@ -200,6 +202,8 @@ impl Gateway {
         line_keeps_the_procedures();
         session_keeps_the_standard();
         commands_keep_the_rules();
+        places_come_back();
+        faultless_commands_pass();
         let _stations = config.stations();
         let gateway = Gateway::at_first(alloc, config)?;
         Ok(gateway)

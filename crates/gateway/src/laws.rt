@@ -1,4 +1,5 @@
 //! What holds of the definitions.
+pub(crate) mod deciding;
 pub(crate) mod going_on;
 pub(crate) mod going_out;
 pub(crate) mod ordering;
@@ -34,7 +35,7 @@ ghost use Rattle.gateway.specs.Traffic.{HasCause};
 
 use apci::{one_front, spellings_cancel};
 use asdu::{objects_are_those_of_the_asdu, one_asdu_one_spelling};
-use command::commands_keep_the_rules;
+use command::{commands_keep_the_rules, faultless_commands_pass, places_come_back};
 use link::line_keeps_the_procedures;
 
 /// The octets of a connection have one reading: its frames, and what closes it, if anything does;
@@ -80,12 +81,15 @@ pub fn one_cause()
 }
 
 /// What became of commands in a course keeps the rules: each went to the line in turn and once, and
-/// each was answered as the first rule that applies has it.
+/// each was answered as the first rule that applies has it. As many wait, over all stations, as
+/// were forwarded on the connection and not sent, and each that has to pass was forwarded.
 pub fn courses_keep_commands()
     ensures { (p : Setup) (log : Log) (c : Course) → Runs p log c →
         KeepsCommands p (tasks_of c.works) }
 {
     commands_keep_the_rules();
+    places_come_back();
+    faultless_commands_pass();
 }
 
 /// What is counted of commands (`IsAccounted` speaks of the same numbers) is what became of them in

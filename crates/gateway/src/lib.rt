@@ -21,7 +21,8 @@
 //! causes never both stand ([`one_cause`]). What is free is only how far the octets of an event
 //! were judged where the device failed in its step. A port whose device fails breaks none of this
 //! for the log so far. What is due to the control centre is given ([`what_is_due_is_given`]), and
-//! on the line turns end, no station starves and commands go before polls ([`logs_keep_turns`]).
+//! on the line turns end, no station starves and commands go before polls ([`logs_keep_turns`]), by
+//! the one list of calls that the log shows ([`one_list_of_calls`]).
 //!
 //! At a restart a gateway is read from the lines of its state ([`Gateway::read_state`]), gives up
 //! the commands without an answer ([`Gateway::give_up_commands`]), and goes on with other settings
@@ -50,6 +51,7 @@ pub use counts::Counts;
 pub use engine::{Gateway, LAST_MOMENT, NoMemory};
 pub use entries::{Entry, Told, announce, cause_number, keep};
 pub use history::History;
+pub use laws::deciding::what_comes_decides_what_goes_out;
 pub use laws::going_on::{
     no_link_goes_on_but_of_a_station_as_it_was, stations_go_on_by_their_addresses,
 };
@@ -58,7 +60,7 @@ pub use laws::going_out::{
 };
 pub use laws::ordering::{moments_never_fall, steps_keep_their_order};
 pub use laws::restarts::restarts_give_up_commands;
-pub use laws::turning::logs_keep_turns;
+pub use laws::turning::{logs_keep_turns, one_list_of_calls};
 pub use laws::{
     counts_tell_commands, courses_keep_commands, one_cause, one_course, one_reading,
     settings_are_kept, settings_reach_the_promises, steps_leave_nothing_open, what_is_due_is_given,

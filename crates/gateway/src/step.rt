@@ -487,10 +487,12 @@ impl Gateway {
         }
     }
 
-    /// Puts out the line's next request, if there is one, once each gap is told.
+    /// Puts out the line's next request, if there is one, once each gap is told and no answer is
+    /// late.
     fn send_request<P: Port>(&mut self, port: &mut P) -> bool
         requires ready { P.failed port.old < u64.MAX }
         requires told { self.old.serial.gap ≡ None }
+        requires in_time { IsInTime self.old.moment self.old.centre.session }
         ensures kept { (p : Setup) → Tracks p self.old (P.log port.old) [] Timed →
             Leaves result p self.new (P.log port.new) [] Asked }
         ensures session { self.new.centre.session ≡ self.old.centre.session }

@@ -64,7 +64,7 @@ before_polls (Counted fcb Class2) phase is follows = let no : ⊥ = cc in absurd
 before_polls Status phase is follows = let no : ⊥ = cc in absurd no
 before_polls Reset phase is follows = let no : ⊥ = cc in absurd no
 
-goes_on : (p : Primary) → p.outstanding ≡ None
+pub goes_on : (p : Primary) → p.outstanding ≡ None
     → is_answered (station_at p.stations p.turn).link ≡ true → IsBeforePolls p.phase
     → TurnGoesOn p p.turn (station_at p.stations p.turn)
 goes_on p out up is =

@@ -55,3 +55,8 @@ pub mod SessionsOn
 pub mod Called
 pub mod GivenUpTold
 pub mod AllGivenUp
+pub mod BitsFollowed
+pub mod Repeated
+pub mod RequestTables
+pub mod Round
+pub mod BehindHeld

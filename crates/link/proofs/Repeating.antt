@@ -441,7 +441,7 @@ silence_holds settings (Counted fcb service) link held =
     go false hold e = refl
 
 -- A link that is held is of a station that is there.
-held_is : (ss : List StationState) (k : ℕ) (s : StationState)
+pub held_is : (ss : List StationState) (k : ℕ) (s : StationState)
     → is_held (station_at (slice_set ss k s) k).link ≡ true
     → (station_at (slice_set ss k s) k).link ≡ s.link
 held_is ss k s held = go (cases_lt k (length ss))

@@ -1,11 +1,11 @@
 -- What goes out at once, before any other request (this gateway's own profile; the services, their
 -- repeats and ACD are those of IEC 60870-5-2's unbalanced transmission procedures).
-use Rattle.std.specs.Prelude.{◌≡◌, ◌⊎◌, ℕ, Bool, true, List, [], ◌∷◌, Option, Some, None}
+use Rattle.std.specs.Prelude.{◌≡◌, ◌⊎◌, ◌&&◌, not, ℕ, Bool, true, List, [], ◌∷◌, Option, Some, None}
 use Rattle.std.specs.Prelude.{if◌then◌else◌}
 use Rattle.link.specs.Answers.{Service, Class1, Class2, Command, Counted}
 use Rattle.link.specs.Bursts.{is_answered}
 use Rattle.link.specs.Exchanges.{Sending}
-use Rattle.link.specs.Procedure.{has_repeats}
+use Rattle.link.specs.Procedure.{is_held, has_repeats}
 use Rattle.link.specs.Turns.{StationState, station_at}
 use Rattle.link.specs.Primary.{Outstanding, Primary, sending, is_command}
 use Rattle.link.specs.Runs.{Call, Next, called}
@@ -67,3 +67,37 @@ PollsFollowCommands p latest [] = Unit {0}
 PollsFollowCommands p latest (call ∷ calls) =
     PollIsNext p latest call
     × PollsFollowCommands (called p call) (latest_after p call latest) calls
+
+-- The station holds a service that has no repeat left: where it goes out, a turn begins with it.
+abbrev pub is_spent : Primary → (station : ℕ) → Bool
+is_spent p station =
+    is_held (station_at p.stations station).link
+    && not (has_repeats p.settings (station_at p.stations station).link)
+
+-- the station whose turn the latest request began, where that was a held service
+abbrev pub began_by : Primary → Option Sending → Option ℕ
+began_by p None = None
+began_by p (Some s) = if is_spent p s.station then Some s.station else None
+
+-- Nothing goes out while a request is outstanding.
+abbrev pub began_out : Primary → Option Outstanding → (may_poll : Bool) → Option ℕ → Option ℕ
+began_out p (Some o) may_poll began = began
+began_out p None may_poll began = began_by p (sending p may_poll)
+
+abbrev pub began_after : Primary → Call → Option ℕ → Option ℕ
+began_after p (Next now may_poll) began = began_out p p.outstanding may_poll began
+began_after p call began = began
+
+-- Where the latest request is a held service with which a turn began, and it was answered, and the
+-- link is up, the next request goes to the same station, if there is leave.
+abbrev pub TurnIsNext : Primary → Option ℕ → Call → Type 0
+TurnIsNext p (Some station) (Next now true) =
+    p.outstanding ≡ None → is_answered (station_at p.stations station).link ≡ true →
+    TurnGoesOn p station (station_at p.stations station)
+TurnIsNext p began call = Unit {0}
+
+-- at each of these calls
+abbrev pub TurnsGoOn : Primary → Option ℕ → List Call → Type 0
+TurnsGoOn p began [] = Unit {0}
+TurnsGoOn p began (call ∷ calls) =
+    TurnIsNext p began call × TurnsGoOn (called p call) (began_after p call began) calls

@@ -32,3 +32,5 @@ pub mod Bursts
 pub mod AtOnce
 pub mod Carried
 pub mod Marks
+pub mod Bits
+pub mod Repeats

@@ -2,10 +2,11 @@
 -- caller is told of each (IEC 60870-5-2, 5.1.2: the function codes of a secondary station, and its
 -- procedures of unbalanced transmission; what E5 stands for is this gateway's own profile). A
 -- function that isn't in the row of a request is no answer to it.
-use Rattle.std.specs.Prelude.{ℕ, ◌==◌, List, [], ◌∷◌, Option, Some, None, if◌then◌else◌}
+use Rattle.std.specs.Prelude.{ℕ, Bool, ◌==◌, List, [], ◌∷◌, Option, Some, None, if◌then◌else◌}
 use Rattle.link.specs.Answers.{Class1, Class2, Command, Asked, Status, Reset, Counted, Answer}
 use Rattle.link.specs.Answers.{Ready, Confirmed, Busy, Report, NoData, Unable}
 use Rattle.link.specs.Primary.{Outcome}
+use Rattle.link.specs.Requests.{Reading, Unknown, Asks}
 use Rattle.link.specs.declared.outcome.Outcome.TheVariants as outcome
 
 -- Frames of fixed length: confirm is 0, busy 1, no data 9, the status of the link 11, not
@@ -56,3 +57,18 @@ single_row Reset = Some Confirmed
 single_row (Counted fcb Class1) = Some NoData
 single_row (Counted fcb Class2) = Some NoData
 single_row (Counted fcb (Command asdu)) = Some Confirmed
+
+-- What the functions of a primary station ask of a station, by their numbers, in frames of fixed
+-- length. Without a valid frame count bit: reset of the remote link is 0, the status of the link 9.
+abbrev pub plain_row : List (ℕ × Asked)
+plain_row = (0, Reset) ∷ (9, Status) ∷ []
+
+-- With one: data of class 1 are 10, and of class 2 are 11.
+abbrev pub counted_row : (fcb : Bool) → List (ℕ × Asked)
+counted_row fcb = (10, Counted fcb Class1) ∷ (11, Counted fcb Class2) ∷ []
+
+-- A function that isn't in the row is one that the station doesn't know.
+abbrev pub reading_in : (function : ℕ) → List (ℕ × Asked) → Reading
+reading_in function [] = Unknown
+reading_in function (entry ∷ entries) =
+    if function == entry.0 then Asks entry.1 else reading_in function entries

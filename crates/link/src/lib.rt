@@ -15,14 +15,16 @@
 //!   ([`frame_count_bits_are_kept`], [`master_tells_the_log`]), no request goes out while one is
 //!   outstanding ([`requests_wait_their_turn`]), turns go round the stations ([`turns_go_round`]),
 //!   a turn ends ([`turns_end`]) and no station starves ([`no_station_starves`]), an unanswered
-//!   service is sent again at once ([`repeats_come_at_once`]), a command that waits goes out before
-//!   any new poll ([`commands_go_before_polls`]) and polls follow it in its turn
-//!   ([`polls_follow_commands`]), polls and commands go by ACD and DFC ([`flags_are_heeded`],
-//!   [`class_1_polls_go_on`]), a command is sent for the first time once, in order
-//!   ([`commands_are_sent_in_order`]), what is offered waits until then ([`offers_wait`]) and is
-//!   taken where no other is under way ([`one_command_at_a_time`]), what the caller is told is what
-//!   the exchanges show ([`outcomes_are_answers`], [`outcomes_bear_the_reports`]), and those that
-//!   closed with octets but no answer are counted ([`spoilt_exchanges_are_counted`]);
+//!   service is sent again at once ([`repeats_come_at_once`]) and as often as is set
+//!   ([`repeats_are_as_many_as_set`]), a command that waits goes out before any new poll
+//!   ([`commands_go_before_polls`]) and polls follow it in its turn ([`polls_follow_commands`]), as
+//!   they follow a held service ([`turns_go_on_behind_held_services`]), polls and commands go by
+//!   ACD and DFC ([`flags_are_heeded`], [`class_1_polls_go_on`]), a command is sent for the first
+//!   time once, in order ([`commands_are_sent_in_order`]), what is offered waits until then
+//!   ([`offers_wait`]) and is taken where no other is under way ([`one_command_at_a_time`]), what
+//!   the caller is told is what the exchanges show ([`outcomes_are_answers`],
+//!   [`outcomes_bear_the_reports`]), and those that closed with octets but no answer are counted
+//!   ([`spoilt_exchanges_are_counted`]);
 //! - a reset that ends a session whose last report may be lost is told, and no other
 //!   ([`gaps_are_told`], [`gaps_are_ended_sessions`]);
 //! - where a link is given up at a restart no other station changes
@@ -35,11 +37,14 @@
 //!   and its answers say what waits there ([`station_tells_what_waits`]);
 //! - a control octet is a value ([`Control`], [`controls_are_octets`]);
 //! - each of the sixteen functions of a secondary station is an answer to a request, or none, and
-//!   is told as its table says ([`answers_are_whole`]), and the reserved bit isn't looked at
-//!   ([`reserved_bits_are_not_looked_at`]);
+//!   is told as its table says ([`answers_are_whole`]), each request has one control octet at each
+//!   address, and no other frame asks the same ([`requests_are_whole`]), and the reserved bit isn't
+//!   looked at ([`reserved_bits_are_not_looked_at`]);
 //! - the tables of control octets, requests, answers, turns and outstations have worked examples
 //!   ([`controls_by_example`], [`answers_by_example`], [`requests_by_example`],
 //!   [`turns_by_example`], [`outstations_by_example`]);
+//! - from one exchange to the next the frame count bit is as the standard has it
+//!   ([`frame_count_bits_alternate`]);
 //! - and where the frame count bit is kept and an outstation's answers come in their exchange and
 //!   unaltered, each service acts once and its answer is taken once ([`each_service_acts_once`],
 //!   [`sessions_are_known`], [`commands_are_accepted`], [`reports_are_learnt`],
@@ -75,7 +80,10 @@ pub use examples::{
 };
 pub use heard_request::HeardRequest;
 pub use laws::asking::next_changes_nothing;
-pub use laws::at_once::{polls_follow_commands, repeats_come_at_once};
+pub use laws::at_once::{
+    polls_follow_commands, repeats_are_as_many_as_set, repeats_come_at_once,
+    turns_go_on_behind_held_services,
+};
 pub use laws::bursts::class_1_polls_go_on;
 pub use laws::carrying::{
     frame_count_bits_go_on, giving_up_is_for_one_station, giving_up_is_told, sessions_go_on,
@@ -88,14 +96,14 @@ pub use laws::life::{station_is_an_outstation, station_tells_what_waits};
 pub use laws::offers::{offers_wait, one_command_at_a_time};
 pub use laws::precedence::commands_go_before_polls;
 pub use laws::refinement::{
-    commands_are_accepted, each_service_acts_once, reports_are_learnt, sessions_are_known,
-    silence_is_no_reset,
+    commands_are_accepted, each_service_acts_once, frame_count_bits_alternate, reports_are_learnt,
+    sessions_are_known, silence_is_no_reset,
 };
 pub use laws::runs::{
     commands_are_sent_in_order, frame_count_bits_are_kept, outcomes_are_answers,
     spoilt_exchanges_are_counted, turns_go_round,
 };
-pub use laws::tables::{answers_are_whole, reserved_bits_are_not_looked_at};
+pub use laws::tables::{answers_are_whole, requests_are_whole, reserved_bits_are_not_looked_at};
 pub use laws::visits::{no_station_starves, turns_end};
 pub use laws::{
     line_keeps_the_procedures, master_tells_the_log, outcomes_bear_the_reports,

@@ -199,6 +199,8 @@ impl StationState {
                 request: Asked::Status,
                 following: Phase::Starting,
             },
+            // Its services wait for the next turn: the other stations are to be up before any is
+            // polled (docs/DECISIONS.md, "A reset ends the turn").
             Wish::AskReset => Wanted {
                 request: Asked::Reset,
                 following: Phase::Over,

@@ -1,7 +1,7 @@
 -- The ends of a live run, and what its port does with them (this gateway's own profile).
 use Rattle.std.specs.Prelude.{ℕ, ◌+◌, ◌-◌, ◌^◌, ◌≤◌, min, nat_le, ◌⊎◌, List, [], ◌∷◌, ◌++◌, length}
 use Rattle.std.specs.Prelude.{take, Bool, true, false, not, ◌&&◌, ◌||◌, Option, Some, None, IfSome}
-use Rattle.std.specs.Prelude.{◌≡◌}
+use Rattle.std.specs.Prelude.{◌≡◌, nat_lt, if◌then◌else◌}
 use Rattle.gateway.specs.Log.{Log, Went, Output, LineOut, TcpOut, Closed, GapOut}
 use Rattle.gateway.specs.Ports.{told_by}
 use Rattle.gateway.specs.declared.ports.Next.{Next}
@@ -23,6 +23,8 @@ use Rattle.live.specs.declared.found.Found.{Found}
 use Rattle.live.specs.declared.found.Found.TheVariants as found
 use Rattle.live.specs.declared.source.Source.{Source}
 use Rattle.live.specs.declared.source.Source.TheVariants.{Door, Connection, Line}
+use Rattle.live.specs.declared.watched.Failure.{Failure}
+use Rattle.live.specs.declared.watched.Failure.TheVariants as failure
 
 -- who is at the other end of a connection, and what has happened at its wire
 pub record Peer : Type 0 where
@@ -218,6 +220,10 @@ taken_by true buf f ends = (f, ends)
 taken_by false buf f ends = (f, ends)
 
 -- only a line that is gone is a failure
+-- what has failed of a port whose line was gone so often
+abbrev pub failure_of : (failed : ℕ) → Option Failure
+failure_of failed = if nat_lt 0 failed then Some failure.Line else None
+
 abbrev pub faults_in : Option Found → ℕ
 faults_in None = 0
 faults_in (Some found.Open) = 0

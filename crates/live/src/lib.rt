@@ -86,6 +86,8 @@ pub use laws::{
 };
 pub use port::Live;
 pub use redial::{Dialled, Dialler, Redialled};
-pub use sockets::{CentreListener, CentreSocket, LineDialler, LineSocket, SystemClock};
-pub use watched::{Notice, Sight, Watched};
+pub use sockets::{
+    CentreListener, CentreSocket, LineDialler, LineSocket, LocalSocket, SystemClock,
+};
+pub use watched::{Failure, Notice, Sight, Watched};
 pub use wires::{Clock, CutCause, Door, Got, Presence, Reached, SentAway, Visitor, Wire};

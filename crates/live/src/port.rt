@@ -4,7 +4,7 @@ ghost use Rattle.std.specs.Prelude.{length, take, Some, None, IfSome, option_map
 ghost use Rattle.gateway.specs.Ports.{FitsBuffer, faults_of, output_of, told_by};
 ghost use Rattle.live.specs.Ends.{Ends, Peer, after, told_at, IsTurn, IsTold, IsWallTold, Turns};
 ghost use Rattle.live.specs.Ends.{Puts, LogsTurn, LogsPut, as_logged, FitsFound, IsWritten};
-ghost use Rattle.live.specs.Ends.{LooksOn, faults_in, is_tick_due};
+ghost use Rattle.live.specs.Ends.{LooksOn, failure_of, faults_in, is_tick_due};
 ghost use Rattle.live.specs.Timing.{is_behind, moment_at};
 ghost use Rattle.live.specs.Looks.{Looks, LooksAt};
 ghost use Rattle.live.specs.Walls.{untold};
@@ -17,6 +17,7 @@ use crate::held::Held;
 use crate::source::Source;
 use crate::timing::Timing;
 use crate::walled::Walled;
+use crate::watched::Failure;
 use crate::wires::{Clock, CutCause, Door, Got, Presence, Reached, SentAway, Visitor, Wire};
 use gateway::{Action, Config, History, Next, Port};
 use session::Close;
@@ -191,6 +192,16 @@ impl<L: Wire, D: Door + Drop, C: Clock + Drop> Live<L, D, C> {
         ensures { result ≡ self.now.late }
     {
         self.late_octets
+    }
+
+    /// What has failed: the line alone can.
+    pub(crate) fn failure(&self) -> Option<Failure>
+        ensures { result ≡ failure_of self.now.failed }
+    {
+        if self.failures == 0 {
+            return None;
+        }
+        Some(Failure::Line)
     }
 
     /// Who wasn't let in.

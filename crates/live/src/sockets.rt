@@ -3,7 +3,8 @@
 //! Only a look at the line waits, for some milliseconds, and again behind octets that don't end a
 //! frame; the door and a connection are asked without a wait. So a frame of the line is seen at
 //! once, octets of a control centre after one look at a quiet line.
-ghost use Rattle.std.specs.Prelude.{◌≡◌, ◌≤◌, IfOk, None};
+ghost use Rattle.std.specs.Prelude.{◌≡◌, ◌≤◌, IfOk, None, false};
+ghost use Rattle.live.specs.Guests.{one_more_away};
 ghost use Rattle.live.specs.Clocks.{BeginsAt};
 
 use crate::guests::Guests;
@@ -142,8 +143,12 @@ pub struct LineDialler<'a, R> {
 }
 
 impl<'a, R: Net<Stream = TcpStream> + std::rt::Clock> LineDialler<'a, R> {
-    /// One for the line at this place.
-    pub fn new(rt: &'a R, place: &'a str) -> LineDialler<'a, R> {
+    /// One for the line at this place, which is tried by the first call of `dial`.
+    pub fn new(rt: &'a R, place: &'a str) -> LineDialler<'a, R>
+        ensures place { result.place.now ≡ place.entry.now }
+        ensures untried { result.addresses ≡ None }
+        ensures idle { result.knock ≡ None }
+    {
         LineDialler {
             rt,
             place,
@@ -275,6 +280,39 @@ impl Wire for CentreSocket {
     }
 }
 
+/// The connection of who is on this machine, by a Unix socket. Its calls don't wait.
+#[derive(Drop)]
+pub struct LocalSocket(UnixStream);
+
+impl LocalSocket {
+    /// Over this stream, whose calls wait no more then.
+    ///
+    /// # Errors
+    ///
+    /// Those of the system.
+    pub fn new(stream: UnixStream) -> io::Result<LocalSocket> {
+        stream.set_nonblocking(true)?;
+        Ok(LocalSocket(stream))
+    }
+}
+
+impl Wire for LocalSocket {
+    ghost history = { λ _. None };
+
+    fn read(&mut self, buf: &mut [u8; 1024]) -> Got {
+        read_once(&mut self.0, buf)
+    }
+
+    /// Its octets are all heard.
+    fn drop_waiting(&mut self) -> u64 {
+        0
+    }
+
+    fn write(&mut self, octets: &[u8]) -> bool {
+        write_once(&mut self.0, octets)
+    }
+}
+
 /// The door: a TCP listener that doesn't wait. All guests who wait come in, and the last of them
 /// stays; who is none is sent away.
 #[derive(Drop)]
@@ -292,7 +330,11 @@ impl<'a, R: Net<Listener = TcpListener, Stream = TcpStream> + Eprint> CentreList
     /// # Errors
     ///
     /// Those of the system.
-    pub fn listen(rt: &'a R, address: &str) -> io::Result<CentreListener<'a, R>> {
+    pub fn listen(rt: &'a R, address: &str) -> io::Result<CentreListener<'a, R>>
+        ensures open { IfOk result (λ door. door.is_shut ≡ false) }
+        ensures nobody { IfOk result (λ door.
+            door.sent_away ≡ record { count = 0; last = None }) }
+    {
         let listener = TcpListener::bind(rt, address)?;
         listener.set_nonblocking(true)?;
         Ok(CentreListener {
@@ -316,7 +358,10 @@ impl<'a, R: Net<Listener = TcpListener, Stream = TcpStream> + Eprint> CentreList
     }
 
     /// Who has this address isn't let in.
-    fn note_away(&mut self, address: IpAddr) {
+    fn note_away(&mut self, address: IpAddr)
+        ensures { self.new
+            ≡ record self.old { sent_away = one_more_away address self.old.sent_away } }
+    {
         self.sent_away.count = self.sent_away.count.saturating_add(1);
         self.sent_away.last = Some(address);
     }
@@ -366,7 +411,9 @@ impl<R: Net<Listener = TcpListener, Stream = TcpStream> + Eprint> Door for Centr
         Some(Visitor { address, wire })
     }
 
-    fn sent_away(&self) -> SentAway {
+    fn sent_away(&self) -> SentAway
+        ensures { result ≡ self.now.sent_away }
+    {
         self.sent_away
     }
 }

@@ -1,6 +1,7 @@
 //! What can be seen of a port's ends from outside.
-ghost use Rattle.std.specs.Prelude.{◌≡◌, None, option_map};
-ghost use Rattle.live.specs.Ends.{Peer};
+ghost use Rattle.std.specs.Option.{is_some};
+ghost use Rattle.std.specs.Prelude.{◌≡◌, None, nat_lt, option_map};
+ghost use Rattle.live.specs.Ends.{Peer, failure_of};
 
 use crate::port::Live;
 use crate::wires::{Clock, CutCause, Door, Presence, Reached, SentAway, Wire};
@@ -21,6 +22,17 @@ pub struct Sight {
     /// How many octets of the line were dropped before requests so far, at most `u64::MAX`: they
     /// came behind the time of the exchange before.
     pub late_octets: u64,
+    /// What has failed, where the device has.
+    pub failure: Option<Failure>,
+}
+
+/// What of a device has failed, so that the run ends.
+#[derive(Clone, Copy, Debug, PartialEq, Eq)]
+pub enum Failure {
+    /// The line is at its end, or broken.
+    Line,
+    /// The state isn't kept on the disk, and the run isn't to go on without it.
+    State,
 }
 
 /// What is told of the state on the disk.
@@ -34,16 +46,23 @@ pub enum Notice {
 
 /// A port whose ends can be seen, and that may keep the gateway's state.
 pub trait Watched: Port {
-    ghost use Rattle.std.specs.Prelude.{Option};
+    ghost use Rattle.std.specs.Prelude.{Option, nat_lt};
+    ghost use Rattle.std.specs.Option.{is_some};
     ghost use Rattle.gateway.specs.State.{State};
+    ghost use Rattle.live.specs.declared.watched.Failure.{Failure};
     ghost use Rattle.live.specs.declared.watched.Notice.{Notice};
 
     /// By a look at a gateway in this state it came from the one to the other, and had that to
     /// tell.
     ghost tends: { Self → State → Self → Option Notice → Type 0 } = { λ _ _ _ _. Unit {0} };
 
+    /// What has failed, where its device has.
+    ghost failure: { Self → Option Failure };
+
     /// Looks at its ends, and asks nothing of them.
-    fn sight(&self) -> Sight;
+    fn sight(&self) -> Sight
+        ensures failure { result.failure ≡ failure self.now }
+        ensures failed { is_some result.failure ≡ nat_lt 0 (Self.failed self.now) };
 
     /// Looks at the gateway between two steps, when its state is that to which all events so far
     /// have led. Answers what is to be told of the state on the disk, if anything.
@@ -58,7 +77,11 @@ pub trait Watched: Port {
 impl<L: Wire + Reached, D: Door + Drop, C: Clock + Drop> Watched for Live<L, D, C> {
     ghost tends = { λ old _ new notice. (new ≡ old) × (notice ≡ None) };
 
+    ghost failure = { λ ends. failure_of ends.failed };
+
     fn sight(&self) -> Sight
+        ensures failure { result.failure ≡ failure_of self.now.failed }
+        ensures failed { is_some result.failure ≡ nat_lt 0 self.now.failed }
         ensures peer { result.peer ≡ option_map (λ (p : Peer). p.address) self.now.connection }
         ensures late { result.late_octets ≡ self.now.late }
     {
@@ -68,6 +91,7 @@ impl<L: Wire + Reached, D: Door + Drop, C: Clock + Drop> Watched for Live<L, D, 
             why_cut: self.why_cut(),
             sent_away: self.sent_away(),
             late_octets: self.late_octets(),
+            failure: self.failure(),
         }
     }
 

@@ -1,5 +1,7 @@
 //! Who looks at a run.
-ghost use Rattle.std.specs.Prelude.{◌≡◌};
+ghost use Rattle.std.specs.Prelude.{◌≡◌, false, IfOk, None};
+ghost use Rattle.lookout.specs.Looking as spec;
+ghost use Rattle.lookout.specs.Looking.{IsFresh, is_over};
 
 use crate::known::{Known, known_of};
 use crate::setting::{Chosen, chosen_of, settings_of};
@@ -66,7 +68,12 @@ impl<D: StreamSource + Drop> Lookout<D> {
         version: &'static str,
         keeps_state: bool,
         door: D,
-    ) -> Result<Lookout<D>, AllocError> {
+    ) -> Result<Lookout<D>, AllocError>
+        ensures fresh { IfOk result (λ l. IsFresh config.now names.entry keeps_state l.shown) }
+        ensures version { IfOk result (λ l.
+            l.shown.version.now ≡ version.entry.now) }
+        ensures turned { IfOk result (λ l. l.turned ≡ None) }
+    {
         Ok(Lookout {
             visitors: Visitors::new(alloc, door)?,
             shown: Shown::new(alloc, config, names, version, keeps_state)?,
@@ -76,7 +83,13 @@ impl<D: StreamSource + Drop> Lookout<D> {
 
     /// Gives the visitors a turn, if that is due, between two events of the run. The gateway and
     /// the watch are lent for reading, so who looks changes neither.
-    pub fn look(&mut self, gateway: &Gateway, watch: &Watch, notice: Option<Notice>) {
+    pub fn look(&mut self, gateway: &Gateway, watch: &Watch, notice: Option<Notice>)
+        ensures shown { self.new.shown ≡ record (spec.looked self.old.turned gateway.now watch.now
+            notice self.old.shown) { peer = self.new.shown.peer } }
+        ensures turned { self.new.turned ≡ spec.turned_after self.old.turned watch.now.moment }
+        ensures waits { is_over self.old.turned watch.now.moment 20 ≡ false →
+            self.new.visitors ≡ self.old.visitors }
+    {
         self.shown.note(watch, notice);
         let now = watch.moment();
         if !is_over(self.turned, now, TURN_MS) {
@@ -88,8 +101,31 @@ impl<D: StreamSource + Drop> Lookout<D> {
     }
 }
 
+/// How the state is kept before the first event.
+fn keeping_at_first(keeps_state: bool) -> Keeping
+    ensures { result ≡ spec.keeping_at_first keeps_state }
+{
+    if keeps_state {
+        Keeping::Kept
+    } else {
+        Keeping::Off
+    }
+}
+
+/// How the state is kept after a notice, if there is one.
+fn keeping_by(notice: Option<Notice>, before: Keeping) -> Keeping
+    ensures { result ≡ spec.keeping_by notice before }
+{
+    match notice {
+        Some(notice) => keeping_after(notice),
+        None => before,
+    }
+}
+
 /// Whether so many ms have passed since then.
-fn is_over(since: Option<u64>, now: u64, ms: u64) -> bool {
+fn is_over(since: Option<u64>, now: u64, ms: u64) -> bool
+    ensures { result ≡ is_over since now ms }
+{
     match since {
         Some(since) => ms <= now.saturating_sub(since),
         None => true,
@@ -103,7 +139,10 @@ impl Shown {
         names: Names<'_>,
         version: &'static str,
         keeps_state: bool,
-    ) -> Result<Shown, AllocError> {
+    ) -> Result<Shown, AllocError>
+        ensures fresh { IfOk result (λ s. IsFresh config.now names.entry keeps_state s) }
+        ensures version { IfOk result (λ s. s.version.now ≡ version.entry.now) }
+    {
         Ok(Shown {
             version,
             name: String::from_str(alloc, names.line.unwrap_or(""))?,
@@ -111,11 +150,7 @@ impl Shown {
             chosen: chosen_of(alloc, config)?,
             places: u64::from(config.line().queue),
             began: None,
-            keeping: if keeps_state {
-                Keeping::Kept
-            } else {
-                Keeping::Off
-            },
+            keeping: keeping_at_first(keeps_state),
             hour: Hour::new(),
             taken: 0,
             counted: None,
@@ -127,18 +162,17 @@ impl Shown {
     }
 
     /// Notes what is told once: of the state on the disk, and of connections.
-    fn note(&mut self, watch: &Watch, notice: Option<Notice>) {
-        if self.began.is_none() {
-            self.began = Some(watch.moment());
-            self.gone_since = watch.moment();
-        }
-        if let Some(notice) = notice {
-            self.keeping = keeping_after(notice);
-        }
+    fn note(&mut self, watch: &Watch, notice: Option<Notice>)
+        ensures { self.new
+            ≡ record (spec.noted watch.now notice self.old) { peer = self.new.peer } }
+    {
+        let now = watch.moment();
         let is_open = watch.opening().is_some();
-        if self.was_open && !is_open {
-            self.gone_since = watch.moment();
+        if self.began.is_none() || self.was_open && !is_open {
+            self.gone_since = now;
         }
+        self.began = Some(self.began.unwrap_or(now));
+        self.keeping = keeping_by(notice, self.keeping);
         self.was_open = is_open;
         if self.opened != watch.connections() {
             self.opened = watch.connections();
@@ -147,7 +181,9 @@ impl Shown {
     }
 
     /// Notes the address of the connection's other end.
-    fn name_peer(&mut self, watch: &Watch) {
+    fn name_peer(&mut self, watch: &Watch)
+        ensures { self.new ≡ record self.old { peer = self.new.peer } }
+    {
         self.peer.clear();
         let named = match watch.peer() {
             Some(address) => write!(self.peer, "{address}"),
@@ -159,7 +195,9 @@ impl Shown {
     }
 
     /// Counts the pieces of the queue, if that is due.
-    fn count(&mut self, gateway: &Gateway, now: u64) {
+    fn count(&mut self, gateway: &Gateway, now: u64)
+        ensures { self.new ≡ spec.counted gateway.now now self.old }
+    {
         if !is_over(self.counted, now, COUNT_MS) {
             return;
         }

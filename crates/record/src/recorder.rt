@@ -98,6 +98,8 @@ impl<P: Watched + Drop, W: Sheet + Drop> Watched for Recorder<P, W> {
     ghost tends = { λ old state new notice.
         P.tends old.port state new.port notice × (new.pen ≡ old.pen) };
 
+    ghost failure = { λ r. P.failure r.port };
+
     fn sight(&self) -> Sight {
         self.port.sight()
     }

@@ -5,10 +5,11 @@ use Rattle.events.specs.Queue.{kept as pieces_kept}
 use Rattle.gateway.specs.Log.{Output}
 use Rattle.gateway.specs.State.{State, counts_of}
 use Rattle.gateway.specs.declared.ports.Next.{Next}
+use Rattle.live.specs.declared.watched.Failure.{Failure}
 use Rattle.live.specs.declared.watched.Notice.{Notice}
 use Rattle.live.specs.declared.watched.Sight.{Sight}
 use Rattle.runlog.specs.Watching.{Watching, heard, put, is_look_due, looked_at, judged}
-use Rattle.runlog.specs.Watching.{unless_line, line_of, sum_line}
+use Rattle.runlog.specs.Watching.{unless_line, line_of, sum_line, failed}
 use Rattle.runlog.specs.declared.note.LogLine.{LogLine}
 use Rattle.runlog.specs.declared.note.Note.{Note}
 use Rattle.runlog.specs.declared.note.Note.TheVariants as note
@@ -61,6 +62,11 @@ pub record Puts (old : Book) (now : ℕ) (action : Output) (new : Book) : Type 0
   pub taken : Bool
   pub done : new ≡ unless_over old (after (put now action old.watching) taken old)
 
+-- an action was put out, or the port failed: then nothing went out, and nothing is told
+abbrev pub PutsGone : (has_gone : Bool) → Book → (now : ℕ) → Output → Book → Type 0
+PutsGone true old now action new = Puts old now action new
+PutsGone false old now action new = new ≡ old
+
 -- a number as it is told: past the greatest of its type it stays there
 abbrev pub counted : ℕ → ℕ
 counted n = min n (2 ^ 64 - 1)
@@ -82,11 +88,23 @@ pub record Looks (old : Book) (gateway : State) (new : Book) : Type 0 where
   pub taken : Bool
   pub done : new ≡ unless_over old (after (looked gateway old.watching) taken old)
 
--- the run is over: the counts are told once more
-pub record Closes (old : Book) (gateway : State) (new : Book) : Type 0 where
+-- what has failed is told, if anything
+pub record Fails (old : Book) (failure : Option Failure) (new : Book) : Type 0 where
+  pub taken : Bool
+  pub done : new ≡ unless_over old (after (failed failure old.watching) taken old)
+
+-- the counts are told once more
+pub record Sums (old : Book) (gateway : State) (new : Book) : Type 0 where
   pub taken : Bool
   pub done : new ≡ unless_over old
       (told (Some (sum_line (counts_of gateway) (taken_in gateway) old.watching)) taken old)
+
+-- the run is over: what has failed is told, if anything, and then the counts
+pub record Closes (old : Book) (failure : Option Failure) (gateway : State) (new : Book) :
+    Type 0 where
+  pub between : Book
+  pub fails : Fails old failure between
+  pub sums : Sums between gateway new
 
 pub record IsTold (line : Option LogLine) (old new : Book) : Type 0 where
   pub taken : Bool

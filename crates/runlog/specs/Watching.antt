@@ -12,6 +12,8 @@ use Rattle.gateway.specs.declared.counts.Counts.{Counts}
 use Rattle.gateway.specs.declared.ports.Next.{Next}
 use Rattle.gateway.specs.declared.ports.Next.TheVariants as next
 use Rattle.gateway.specs.declared.settings.Station.{Station}
+use Rattle.live.specs.declared.watched.Failure.{Failure}
+use Rattle.live.specs.declared.watched.Failure.TheVariants as failure
 use Rattle.live.specs.declared.watched.Sight.{Sight}
 use Rattle.live.specs.declared.wires.Presence.TheVariants.{Away}
 use Rattle.runlog.specs.Ends.{new_limit, changed, new_line, new_door, new_connection, line_seen}
@@ -43,6 +45,7 @@ use Rattle.runlog.specs.declared.note.LogLine.{LogLine}
 use Rattle.runlog.specs.declared.note.Note.{Note}
 use Rattle.runlog.specs.declared.note.Note.TheVariants as note
 use Rattle.runlog.specs.declared.note.Tally.{Tally}
+use Rattle.runlog.specs.declared.note.Trouble.TheVariants.{StateUnusable}
 use Rattle.runlog.specs.declared.queue.QueueWatch.{QueueWatch}
 use Rattle.runlog.specs.declared.stations.StationWatch.{StationWatch}
 
@@ -267,8 +270,8 @@ wall_at now wall = min (wall.shown + (now - wall.moment)) (2 ^ 64 - 1)
 abbrev pub wall_of : Watching → Option ℕ
 wall_of w = option_map (wall_at w.moment) w.wall
 
--- An event, whose octets are the front of the buffer: a connection that is opened or cut, the
--- line's end; after any other the ends are seen.
+-- An event, whose octets are the front of the buffer: a connection that is opened or cut; after any
+-- other the ends are seen.
 abbrev pub came : Next → List ℕ → Sight → Watching → Watching × Option LogLine
 came (next.Open now) buf s w =
     with_connection (connection_opened s.peer now w.connection) (at_end now w)
@@ -278,7 +281,7 @@ came (next.Line now len) buf s w = seen s (line_heard (take len buf) (at now w))
 came (next.Bytes now len) buf s w = seen s (received (take len buf) (at now w))
 came (next.Tick now) buf s w = seen s (at now w)
 came (next.Wall now number) buf s w = seen s (walled now number (at now w))
-came next.Fault buf s w = with_line (line_seen Away w.moment w.line) w
+came next.Fault buf s w = (w, None)
 came next.Done buf s w = (w, None)
 
 -- and what was late before it is noted first
@@ -317,6 +320,13 @@ tally counts taken w = record {
 
 abbrev pub line_of : Note → Watching → LogLine
 line_of what w = record { moment = w.moment; note = what; left_out = 0 }
+
+-- The device failed: that the line is away, or that the state can't be kept; nothing where it
+-- didn't.
+abbrev pub failed : Option Failure → Watching → Watching × Option LogLine
+failed None w = (w, None)
+failed (Some failure.Line) w = with_line (line_seen Away w.moment w.line) w
+failed (Some failure.State) w = (w, Some (line_of (note.Trouble StateUnusable) w))
 
 abbrev pub sum_line : Counts → (taken : ℕ) → Watching → LogLine
 sum_line counts taken w = line_of (note.Counts (tally counts taken w)) w

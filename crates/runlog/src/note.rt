@@ -35,7 +35,7 @@ pub struct Tally {
     pub connections: u64,
 }
 
-/// Why a run can't begin.
+/// Why a run can't begin, or go on.
 #[derive(Clone, Copy, Debug, PartialEq, Eq)]
 pub enum Trouble {
     /// Nobody listens where the line should be.
@@ -52,7 +52,7 @@ pub enum Trouble {
     PortUnusable,
     /// Another process keeps its state there.
     StateInUse,
-    /// The state can't be kept there.
+    /// The state can't be kept there, at the start or any more.
     StateUnusable,
     /// Who wants to look at the run can't come in there.
     StatusUnusable,
@@ -108,7 +108,7 @@ pub enum Note {
     StatePutAside,
     /// The state on the disk, from now on or still.
     State(Notice),
-    /// The run can't begin.
+    /// The run can't begin, or go on.
     Trouble(Trouble),
     /// This command of the control centre, whose address may be known, goes on to its station.
     Ordered(Order, Option<IpAddr>),

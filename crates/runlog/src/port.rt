@@ -3,7 +3,7 @@ ghost use Rattle.std.specs.Prelude.{◌≡◌, ◌+◌, ◌<◌, ◌∷◌, [], 
 ghost use Rattle.gateway.specs.Log.{Went, tell};
 ghost use Rattle.gateway.specs.Ports.{FitsBuffer, faults_of, output_of, told_by};
 ghost use Rattle.gateway.specs.declared.ports.Next.TheVariants.{Done};
-ghost use Rattle.runlog.specs.Telling.{Hears, Puts, Tends, Closes};
+ghost use Rattle.runlog.specs.Telling.{Hears, PutsGone, Tends, Closes};
 
 use crate::sink::Sink;
 use crate::teller::Teller;
@@ -56,12 +56,15 @@ impl<P: Watched + Drop, S: Sink + Drop> RunLog<P, S> {
         notice
     }
 
-    /// The run is over: tells what the gateway counted.
+    /// The run is over: tells what of the port's device has failed, if anything, and then what the
+    /// gateway counted.
     pub fn close(&mut self, gateway: &Gateway)
         ensures passes { self.new.port ≡ self.old.port }
-        ensures closes { Closes self.old.teller gateway.now self.new.teller }
+        ensures closes { Closes self.old.teller (P.failure self.old.port) gateway.now
+            self.new.teller }
     {
-        self.teller.close(gateway);
+        let sight = self.port.sight();
+        self.teller.close(sight.failure, gateway);
     }
 }
 
@@ -100,10 +103,16 @@ impl<P: Watched + Drop, S: Sink + Drop> Port for RunLog<P, S> {
         ensures script { P.script self.new.port ≡ P.script self.old.port }
         ensures cause { P.failed self.new.port
             ≡ P.failed self.old.port + (if result then 0 else 1) }
-        ensures puts { Puts self.old.teller now (output_of action.now) self.new.teller }
+        ensures puts { PutsGone result self.old.teller now (output_of action.now)
+            self.new.teller }
     {
-        self.teller.put(now, action);
-        self.port.put(now, action)
+        let has_gone = self.port.put(now, action);
+        // Behind the port: where that fails, nothing went out (docs/DECISIONS.md, "`run --log` is a
+        // port around the port").
+        if has_gone {
+            self.teller.put(now, action);
+        }
+        has_gone
     }
 
     fn failures(&self) -> u64 {

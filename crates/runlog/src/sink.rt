@@ -1,5 +1,5 @@
 //! Where the lines go.
-ghost use Rattle.std.specs.Prelude.{None};
+ghost use Rattle.std.specs.Prelude.{◌≡◌, None, true, false};
 
 use crate::names::{NamedLine, Names};
 use crate::note::LogLine;
@@ -29,7 +29,10 @@ pub struct StandardError<'a, 'n, R> {
 
 impl<'a, 'n, R> StandardError<'a, 'n, R> {
     /// That of this process. Behind each line stands the name of what it is told of, if it has one.
-    pub fn new(rt: &'a R, names: Names<'n>) -> StandardError<'a, 'n, R> {
+    pub fn new(rt: &'a R, names: Names<'n>) -> StandardError<'a, 'n, R>
+        ensures names { result.names ≡ names.entry }
+        ensures plain { result.has_severity ≡ false }
+    {
         StandardError {
             rt,
             names,
@@ -39,7 +42,10 @@ impl<'a, 'n, R> StandardError<'a, 'n, R> {
 
     /// The same, where each line begins with how severe it is, as `<4>`: so systemd's journal takes
     /// it, which leaves that out of the text.
-    pub fn with_severity(self) -> StandardError<'a, 'n, R> {
+    pub fn with_severity(self) -> StandardError<'a, 'n, R>
+        ensures names { result.names ≡ self.entry.names }
+        ensures severity { result.has_severity ≡ true }
+    {
         StandardError {
             rt: self.rt,
             names: self.names,

@@ -3,13 +3,13 @@ ghost use Rattle.std.specs.Prelude.{◌≡◌, ◌&&◌, false, true, length, no
 ghost use Rattle.events.specs.Queue.{kept};
 ghost use Rattle.gateway.specs.Ports.{FitsBuffer, output_of};
 ghost use Rattle.runlog.specs.Telling.{counted, looked_if_due, HearsSeeing, Puts, Looks, Closes};
-ghost use Rattle.runlog.specs.Telling.{Notes, Tells, IsTold};
+ghost use Rattle.runlog.specs.Telling.{Notes, Fails, Sums, Tells, IsTold};
 
 use crate::note::{LogLine, Note};
 use crate::sink::Sink;
 use crate::watch::Watch;
 use gateway::{Action, Gateway, Next};
-use live::{Notice, Sight};
+use live::{Failure, Notice, Sight};
 use std::marker::Model;
 
 /// Tells the lines of a run to a sink, until that takes none any more.
@@ -174,9 +174,28 @@ impl<S: Sink + Drop> Teller<S> {
         self.watch.look(gateway.counts(), taken_places(gateway))
     }
 
-    /// The run is over.
-    pub(crate) fn close(&mut self, gateway: &Gateway)
-        ensures { Closes self.old gateway.now self.new }
+    /// The run is over: tells what has failed, if anything, and then the counts.
+    pub(crate) fn close(&mut self, failure: Option<Failure>, gateway: &Gateway)
+        ensures { Closes self.old failure gateway.now self.new }
+    {
+        self.fail(failure);
+        self.sum(gateway);
+    }
+
+    /// The device has failed, if it has.
+    fn fail(&mut self, failure: Option<Failure>)
+        ensures { Fails self.old failure self.new }
+    {
+        if self.is_idle() {
+            return;
+        }
+        let line = self.watch.fail(failure);
+        self.tell(line);
+    }
+
+    /// Tells the counts.
+    fn sum(&mut self, gateway: &Gateway)
+        ensures { Sums self.old gateway.now self.new }
     {
         if self.is_idle() {
             return;

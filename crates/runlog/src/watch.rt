@@ -7,14 +7,14 @@ ghost use Rattle.runlog.specs.Watching as spec;
 use crate::ends::{ConnectionWatch, DoorWatch, LineWatch, Opening};
 use crate::exchange::Exchange;
 use crate::inbox::Inbox;
-use crate::note::{LogLine, Note, Tally};
+use crate::note::{LogLine, Note, Tally, Trouble};
 use crate::queue::QueueWatch;
 use crate::stations::{StationWatch, gap};
 use crate::traffic::{Traffic, traffic_line};
 use asdu::Sizes;
 use ft12::LinkSize;
 use gateway::{Action, Config, Counts, Gateway, Next};
-use live::{Presence, Sight};
+use live::{Failure, Presence, Sight};
 use session::Close;
 use std::alloc::{AllocError, Global};
 use std::marker::Model;
@@ -274,8 +274,8 @@ impl Watch {
                 self.wall = Some(WallShown { moment: now, shown });
                 self.see(sight)
             }
-            Next::Fault => self.line.see(Presence::Away, self.moment),
-            Next::Done => None,
+            // It may be the store as well as the line (docs/DECISIONS.md, "What ended a run").
+            Next::Fault | Next::Done => None,
         }
     }
 
@@ -395,6 +395,16 @@ impl Watch {
         }
         self.counted = self.moment;
         Some(self.sum(counts, taken))
+    }
+
+    /// The device has failed, and so the run is over: what of it has, if anything.
+    pub(crate) fn fail(&mut self, failure: Option<Failure>) -> Option<LogLine>
+        ensures { (self.new, result) ≡ spec.failed failure self.old }
+    {
+        match failure? {
+            Failure::Line => self.line.see(Presence::Away, self.moment),
+            Failure::State => Some(self.line(Note::Trouble(Trouble::StateUnusable))),
+        }
     }
 
     /// The line of the counts.

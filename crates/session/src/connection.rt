@@ -126,6 +126,8 @@ impl Session {
     pub fn open(&mut self, now: u64)
         ensures { self.new ≡ opened now self.old }
     {
+        // The one that was open may be long dead, and t1 alone would show it (docs/DECISIONS.md, "A
+        // new connection replaces the open one").
         self.transfer = Transfer::Stopped;
         self.unacknowledged.clear();
         self.acked_queue = 0;
@@ -457,6 +459,8 @@ impl Session {
             return None;
         }
         let waited = now.saturating_sub(self.unconfirmed_since);
+        // Before a test: the other side's t1 may run for these frames (docs/DECISIONS.md, "S before
+        // TESTFR").
         if self.unconfirmed > 0 && (self.unconfirmed >= self.w || waited >= self.t2) {
             return Some(self.confirm_received());
         }

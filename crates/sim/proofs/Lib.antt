@@ -1,5 +1,6 @@
 pub mod ScriptLemmas
 pub mod Numbering
+pub mod LossLemmas
 pub mod Places
 pub mod Counts
 pub mod Standing

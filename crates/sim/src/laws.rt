@@ -1,19 +1,26 @@
 //! What holds of every run over a simulated line.
-ghost use Rattle.std.specs.Prelude.{◌≡◌, ◌<◌, ◌^◌, List, Option};
+ghost use Rattle.std.specs.Prelude.{◌≡◌, ◌<◌, ◌^◌, ◌++◌, ◌∷◌, ℕ, suc, true, false, List, length};
+ghost use Rattle.std.specs.Prelude.{Contains, Option, Some, None, codes};
 ghost use Rattle.ft12.specs.declared.frame.Frame.{Frame};
+ghost use Rattle.ft12.specs.declared.frame.LinkSize.{LinkSize};
 ghost use Rattle.link.specs.Secondary.{Secondary};
 ghost use Rattle.gateway.specs.Course.{here_of};
 ghost use Rattle.gateway.specs.Config.{Settings, AreDistinct};
-ghost use Rattle.gateway.specs.Log.{Log};
+ghost use Rattle.gateway.specs.Log.{Log, Went, LineOut};
 ghost use Rattle.gateway.specs.Reports.{Setup};
 ghost use Rattle.gateway.specs.Setups.{setup_of};
 ghost use Rattle.gateway.specs.Traffic.{IsFaithful};
 ghost use Rattle.delivery.specs.Delivery.{Delivers};
 ghost use Rattle.sim.specs.declared.directive.Directive.{Directive};
+ghost use Rattle.sim.specs.declared.directive.Directive.TheVariants.{LoseRequest, LoseAnswer};
+ghost use Rattle.sim.specs.declared.directive.Directive.TheVariants.{SpoilAnswer, Cut, Send};
 ghost use Rattle.sim.specs.declared.tally.StationTally.{StationTally};
 ghost use Rattle.sim.specs.Tallies.{tallies_of};
 ghost use Rattle.sim.specs.Connections.{counted_in};
-ghost use Rattle.sim.specs.Lives.{plan_of, requests_in};
+ghost use Rattle.sim.specs.Directives.{number_of, directive_in};
+ghost use Rattle.sim.specs.Fates.{IsFate, IsByItsLines};
+ghost use Rattle.sim.specs.Lives.{Plan, AreLived, plan_of, requests_in, waiting_in};
+ghost use Rattle.sim.specs.Losses.{fate_of, is_cut_at, sent_at};
 ghost use Rattle.sim.specs.Played.{IsPlayed};
 ghost use Rattle.sim.specs.Outstations.{HaveServed};
 ghost use Rattle.sim.specs.Texts.{connection_lines};
@@ -58,3 +65,46 @@ pub fn connections_are_counted()
 {
     spellings_cancel();
 }
+
+/// A line of a script is about the one request, or the one call, whose number it has, whatever
+/// other lines there are. So a script that loses request n loses no other: a request isn't heard if
+/// and only if a line `lose request` has its number, and what becomes of its answer depends on the
+/// lines with its number alone. The connection is cut at the calls of the lines `cut`, and what is
+/// sent at a call is of a line `send` with its number. The number is that which the line's digits
+/// write.
+pub fn each_line_is_about_its_number()
+    ensures fates { (ds : List Directive) (request : ℕ) →
+        IsFate ds request (fate_of ds request) }
+    ensures cuts { (ds : List Directive) (call : ℕ) →
+        (is_cut_at ds call ≡ true → Contains ds (Cut call))
+        × (is_cut_at ds call ≡ false → Contains ds (Cut call) → ⊥) }
+    ensures sends { (ds : List Directive) (call : ℕ) →
+        ((octets : List ℕ) → sent_at ds call ≡ Some octets → Contains ds (Send call octets))
+        × (sent_at ds call ≡ None → (octets : List ℕ) → Contains ds (Send call octets) → ⊥) }
+    ensures request_lines { (size : LinkSize) (stations : ℕ) (digits : List ℕ) (n : ℕ) →
+        number_of digits ≡ Some n →
+        directive_in size stations (codes "lose request " ++ digits) ≡ Some (LoseRequest n) }
+    ensures answer_lines { (size : LinkSize) (stations : ℕ) (digits : List ℕ) (n : ℕ) →
+        number_of digits ≡ Some n →
+        directive_in size stations (codes "lose answer " ++ digits) ≡ Some (LoseAnswer n) }
+    ensures spoil_lines { (size : LinkSize) (stations : ℕ) (digits places : List ℕ)
+        (n place : ℕ) → number_of digits ≡ Some n → number_of places ≡ Some place →
+        directive_in size stations (codes "spoil answer " ++ digits ++ 32 ∷ places)
+        ≡ Some (SpoilAnswer n place) }
+    ensures cut_lines { (size : LinkSize) (stations : ℕ) (digits : List ℕ) (n : ℕ) →
+        number_of digits ≡ Some n →
+        directive_in size stations (codes "cut " ++ digits) ≡ Some (Cut n) }
+{}
+
+/// The requests of a run are counted as they go out: what becomes of the one that has so many
+/// before it, and of its answer, is what the lines of the script with its number say. One that is
+/// lost is answered by none and leaves each station as it was, and any other is heard by all. What
+/// waits of an answer are its octets, or with one of them spoilt, or nothing where it is lost.
+pub fn each_request_fares_by_its_lines()
+    ensures { (plan : Plan) (log : Log) (answers : List (Option Frame))
+        (stations : List Secondary) (now : ℕ) (octets : List ℕ) (answer : Option Frame) →
+        AreLived plan (Went now (LineOut octets) ∷ log) (answer ∷ answers) stations →
+        (before : List Secondary) × AreLived plan log answers before
+        × IsByItsLines plan (suc (length answers)) octets before answer stations
+        (waiting_in plan (Went now (LineOut octets) ∷ log) (answer ∷ answers)) }
+{}

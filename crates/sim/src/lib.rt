@@ -27,6 +27,10 @@
 //! order of actions in each step and delivers what was taken, and that its lines have the numbers
 //! of that run (`specs/Runs.antt`).
 //!
+//! A line of a script is about the one request or call whose number it has
+//! ([`each_line_is_about_its_number`]), and what becomes of a request and of its answer is what the
+//! lines with its number say ([`each_request_fares_by_its_lines`], `specs/Fates.antt`).
+//!
 //! Worked examples have literal texts and octets: of scripts ([`scripts_by_example`]), of what they
 //! do to requests and answers ([`losses_by_example`]), of what stations hear
 //! ([`hearings_by_example`]), of calls ([`calls_by_example`]) and of closing lines
@@ -66,7 +70,10 @@ pub use examples::{
 };
 pub use fault::SimFault;
 pub use hearing::{arriving, put_out};
-pub use laws::{connections_are_counted, stations_are_honest};
+pub use laws::{
+    connections_are_counted, each_line_is_about_its_number, each_request_fares_by_its_lines,
+    stations_are_honest,
+};
 pub use line::read_line;
 pub use reading::read_script;
 pub use script::Script;

@@ -16,6 +16,7 @@ use traces::{parts, read_decimal, read_octets};
 const SPACE: u8 = b' ';
 
 /// The most digits of a number.
+// No sum of such numbers passes 64 bits (docs/DECISIONS.md, "Numbers of nine digits").
 const MOST_DIGITS: usize = 9;
 
 /// A number of 1 to 9 decimal digits.

@@ -14,7 +14,7 @@ use Rattle.state.specs.Replays.{whole_lines, whole_parts}
 feed : ℕ → Bool
 feed = λ b. b == 10
 
-parts_read : (row : List ℕ) (parts : List (List ℕ)) → 0 < length parts
+pub parts_read : (row : List ℕ) (parts : List (List ℕ)) → 0 < length parts
     → whole_parts (row ∷ parts) ≡ row ∷ whole_parts parts
 parts_read row [] some = absurd (omega arith)
 parts_read row (next ∷ parts) some = refl

@@ -2,7 +2,7 @@
 use Rattle.std.proofs.Common.{◌≡◌, Bool, true, false, [], ◌∷◌, ◌++◌, refl, ap, inl, inr}
 use Rattle.gateway.specs.Log.{LogEntry}
 use Rattle.state.specs.Deeds.{Deed, Deeds, AreRight, IsAllOnDisk, IsSafe, MayBe, Heard, Appended}
-use Rattle.state.specs.Deeds.{Synced, Begun, GivenUp, PutOut, appended, on_disk}
+use Rattle.state.specs.Deeds.{Synced, Begun, GivenUp, PutOut, appended, on_disk, waiting}
 use Rattle.state.specs.Stores.{led_to_head, safe, written}
 
 -- a deed might be done when it was
@@ -49,3 +49,12 @@ all_on_disk (Synced ∷ deeds) = all_appended deeds
 all_on_disk (Begun state ∷ deeds) = refl
 all_on_disk (GivenUp loss ∷ deeds) = all_on_disk deeds
 all_on_disk (PutOut action ∷ deeds) = all_on_disk deeds
+
+pub all_written : (deeds : Deeds) → written deeds ≡ waiting deeds ++ safe deeds
+all_written [] = refl
+all_written (Heard event ∷ deeds) = all_written deeds
+all_written (Appended event ∷ deeds) = ap (λ log. event ∷ log) (all_written deeds)
+all_written (Synced ∷ deeds) = refl
+all_written (Begun state ∷ deeds) = refl
+all_written (GivenUp loss ∷ deeds) = all_written deeds
+all_written (PutOut action ∷ deeds) = all_written deeds

@@ -1,6 +1,9 @@
 -- What a keeper is to its callers (profile).
-use Rattle.std.specs.Prelude.{◌≡◌, ◌⊎◌, ℕ, ◌<◌, ◌^◌, Bool, true, false, Option}
+use Rattle.std.specs.Prelude.{◌≡◌, ◌⊎◌, ℕ, ◌<◌, ◌^◌, Bool, true, false, Option, Some, nat_lt}
+use Rattle.std.specs.Prelude.{if◌then◌else◌}
 use Rattle.gateway.specs.State.{State}
+use Rattle.live.specs.declared.watched.Failure.{Failure}
+use Rattle.live.specs.declared.watched.Failure.TheVariants as failures
 use Rattle.live.specs.declared.watched.Notice.{Notice}
 use Rattle.state.specs.Deeds.{Deeds, AreRight, IsInTime}
 use Rattle.state.specs.Renewals.{after_notice, is_try_due, notice_of}
@@ -48,3 +51,8 @@ pub record HasTended {E : Type 0} (deeds : E → Deeds) (old : Keeping E) (state
   pub looks : HasLooked deeds old state looked
   pub tells : notice ≡ notice_of (is_lost looked.standing) looked.patience
   pub after : new ≡ record looked { patience = after_notice notice looked.patience }
+
+-- What has failed, where the run was stopped so often since its store had failed: the state, and
+-- else what the port says.
+abbrev pub failure_of : (stops : ℕ) → (of_port : Option Failure) → Option Failure
+failure_of stops of_port = if nat_lt 0 stops then Some failures.State else of_port

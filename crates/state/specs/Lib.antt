@@ -12,3 +12,4 @@ pub mod Origins
 pub mod Unread
 pub mod Directories
 pub mod Sights
+pub mod Crashed

@@ -9,12 +9,14 @@ pub trait Ends {
     ghost use Rattle.gateway.specs.Log.{LogEntry, Went, tell};
     ghost use Rattle.gateway.specs.Ports.{FitsBuffer, faults_of, output_of, told_by};
     ghost use Rattle.gateway.specs.declared.ports.Next.TheVariants.{Done};
+    ghost use Rattle.live.specs.declared.watched.Failure.{Failure};
     ghost use Rattle.state.specs.Deeds.{Appended, Begun, Deed, GivenUp, Heard, IsSafe, PutOut};
     ghost use Rattle.state.specs.Deeds.{Synced, is_kept};
     ghost use Rattle.state.specs.Renewals.{is_renewal_due};
     ghost use Rattle.state.specs.Standings.{IsPortLeft};
     ghost use Rattle.std.specs.Prelude.{◌≡◌, ℕ, ◌+◌, ◌<◌, Bool, true, List, [], ◌∷◌, ◌++◌, map};
-    ghost use Rattle.std.specs.Prelude.{Option, if◌then◌else◌, MatchResult};
+    ghost use Rattle.std.specs.Prelude.{Option, nat_lt, if◌then◌else◌, MatchResult};
+    ghost use Rattle.std.specs.Option.{is_some};
 
     /// The log of the port, as a port tells it.
     ghost log: { Self → Option (List LogEntry) };
@@ -57,8 +59,13 @@ pub trait Ends {
     fn failures(&self) -> u64
         ensures { result ≡ failed self.now };
 
+    /// What has failed of the port's device, as a port says it.
+    ghost failure: { Self → Option Failure };
+
     /// Looks at the port's ends, and asks nothing of them.
-    fn sight(&self) -> Sight;
+    fn sight(&self) -> Sight
+        ensures failure { result.failure ≡ failure self.now }
+        ensures failed { is_some result.failure ≡ nat_lt 0 (failed self.now) };
 
     /// Appends the line of an event to the log, whose octets are the front of the buffer. An `Err`
     /// says that the store has failed, and whether the state on the disk is marked as stale.

@@ -1,11 +1,12 @@
 //! A port whose events are kept on a disk before anything goes out on them.
 ghost use Rattle.std.specs.Prelude.{◌≡◌, ◌+◌, ◌<◌, ◌≤◌, ◌∷◌, [], ◌++◌, ◌⊎◌, true, false};
-ghost use Rattle.std.specs.Prelude.{if◌then◌else◌};
+ghost use Rattle.std.specs.Prelude.{if◌then◌else◌, nat_lt};
+ghost use Rattle.std.specs.Option.{is_some};
 ghost use Rattle.gateway.specs.Log.{Went, tell};
 ghost use Rattle.gateway.specs.Ports.{FitsBuffer, faults_of, output_of, told_by};
 ghost use Rattle.gateway.specs.declared.ports.Next.TheVariants.{Done};
 ghost use Rattle.state.specs.Deeds.{passed};
-ghost use Rattle.state.specs.Keeping.{IsOrderly};
+ghost use Rattle.state.specs.Keeping.{IsOrderly, failure_of};
 ghost use Rattle.state.specs.Renewals.{after_notice, is_renewal_due, is_try_due, moment_after};
 ghost use Rattle.state.specs.Renewals.{notice_of};
 ghost use Rattle.state.specs.Standings.{IsPortLeft, Renews, is_lost, is_stopped};
@@ -15,7 +16,7 @@ use crate::keeping::{is_stopped, keep, settle};
 use crate::renewal::Patience;
 use crate::standing::Standing;
 use gateway::{Action, Gateway, Next, Port};
-use live::{Notice, Sight, Watched};
+use live::{Failure, Notice, Sight, Watched};
 use std::marker::Model;
 
 /// A port that passes each event and each action of another one on unchanged. The line of each
@@ -216,12 +217,26 @@ impl<E: Ends + Drop> Port for Keeper<E> {
 }
 
 impl<E: Ends + Drop> Watched for Keeper<E> {
-    ghost use Rattle.state.specs.Keeping.{HasTended};
+    ghost use Rattle.state.specs.Keeping.{HasTended, failure_of};
 
     ghost tends = { λ old state new notice. HasTended E.deeds old state new notice };
 
-    fn sight(&self) -> Sight {
-        self.ends.sight()
+    ghost failure = { λ k. failure_of k.stops (E.failure k.ends) };
+
+    /// A port that isn't asked any more hasn't failed: the store has.
+    fn sight(&self) -> Sight
+        ensures failure { result.failure ≡ failure_of self.now.stops (E.failure self.now.ends) }
+        ensures failed { is_some result.failure
+            ≡ nat_lt 0 (E.failed self.now.ends + self.now.stops) }
+    {
+        let sight = self.ends.sight();
+        if self.stops == 0 {
+            return sight;
+        }
+        Sight {
+            failure: Some(Failure::State),
+            ..sight
+        }
     }
 
     fn tend(&mut self, gateway: &Gateway) -> Option<Notice> {

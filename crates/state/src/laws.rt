@@ -1,9 +1,15 @@
 //! What holds of each history.
-ghost use Rattle.std.specs.Prelude.{◌≡◌, ◌++◌, ◌∷◌, Bool, false};
-ghost use Rattle.gateway.specs.Log.{LogEntry};
+ghost use Rattle.std.specs.Prelude.{◌≡◌, ◌++◌, ◌∷◌, ℕ, Bool, false, List};
+ghost use Rattle.gateway.specs.Log.{Log, LogEntry};
+ghost use Rattle.segments.specs.Crashes.{lines_behind};
+ghost use Rattle.state.specs.Beginnings.{AreLinesRead};
+ghost use Rattle.state.specs.Crashed.{AreLeft, HasLog};
 ghost use Rattle.state.specs.Deeds.{AreRight, Deeds, IsAllOnDisk, IsSafe, PutOut, appended};
-ghost use Rattle.state.specs.Deeds.{on_disk};
+ghost use Rattle.state.specs.Deeds.{on_disk, waiting};
+ghost use Rattle.state.specs.Replays.{whole_lines};
 ghost use Rattle.state.specs.Stores.{led_to_head, safe, written};
+
+use sqlite_disk::Disk;
 
 /// Whatever action was handed out: when it was, all events that had been heard were on the disk, or
 /// the state there was marked as stale; and where a loss isn't borne, they were on the disk.
@@ -19,4 +25,18 @@ pub fn nothing_goes_out_before_it_is_on_disk()
 pub fn what_is_on_disk_is_in_the_log()
     ensures appended { (deeds : Deeds) → appended deeds ≡ written deeds ++ led_to_head deeds }
     ensures on_disk { (deeds : Deeds) → on_disk deeds ≡ safe deeds ++ led_to_head deeds }
+    ensures behind { (deeds : Deeds) → written deeds ≡ waiting deeds ++ safe deeds }
+{}
+
+/// No crash leaves a line that can't be read. The lines of events were appended behind a
+/// checkpoint, and some of them were synced. Whatever a crash leaves of the file, a start reads
+/// there the lines of all synced events, those of the oldest events that waited, and nothing else.
+/// So a line that can't be read tells of damage, and no power cut resets a link by it.
+pub fn no_crash_leaves_another_line<D: Disk>()
+    ensures left { (mine : D) (number : ℕ) (body : List ℕ) (later synced : Log) (c : List ℕ) →
+        HasLog (D.Disk.may_leave mine) number body later synced → D.Disk.may_leave mine c →
+        AreLeft later synced (whole_lines (lines_behind body c)) }
+    ensures read { (mine : D) (number : ℕ) (body : List ℕ) (later synced : Log) (c : List ℕ) →
+        HasLog (D.Disk.may_leave mine) number body later synced → D.Disk.may_leave mine c →
+        AreLinesRead c }
 {}

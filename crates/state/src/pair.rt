@@ -89,6 +89,8 @@ impl<P: Watched + Drop, S: Store + Drop> Ends for Pair<P, S> {
 
     ghost script = { λ p. P.script p.port };
 
+    ghost failure = { λ p. P.failure p.port };
+
     ghost deeds = { λ p. p.deeds };
 
     ghost grown = { λ p. length (S.stored p.store).text };

@@ -31,6 +31,10 @@ use std::{fs, io};
 /// How many files that couldn't be read are kept.
 const MOST_UNREAD: u32 = 9;
 
+/// How often the lock is tried: some milliseconds. Who looks at the directory ([`stood_in`]) has it
+/// for a few microseconds.
+const TRIES: u32 = 10_000;
+
 /// The directory of a state. It is made, and locked, where its files are opened first.
 #[derive(Drop)]
 pub struct Directory {
@@ -42,6 +46,18 @@ pub struct Directory {
     mark: Option<bool>,
     /// Files that couldn't be read were put aside.
     has_put_aside: bool,
+}
+
+/// Locks a file. `false`: another process has it.
+fn lock(file: &fs::File) -> io::Result<bool> {
+    for _ in 0..TRIES {
+        match file.try_lock() {
+            Ok(()) => return Ok(true),
+            Err(fs::TryLockError::WouldBlock) => {}
+            Err(fs::TryLockError::Error(error)) => return Err(error),
+        }
+    }
+    Ok(false)
 }
 
 /// Why the system refused.
@@ -139,14 +155,11 @@ impl Directory {
         }
         fs::create_dir_all(&self.rt, self.path.as_str())?;
         let file = self.make("lock")?;
-        match file.try_lock() {
-            Ok(()) => {
-                self.lock = Some(file);
-                Ok(true)
-            }
-            Err(fs::TryLockError::WouldBlock) => Ok(false),
-            Err(fs::TryLockError::Error(error)) => Err(error),
+        let is_locked = lock(&file)?;
+        if is_locked {
+            self.lock = Some(file);
         }
+        Ok(is_locked)
     }
 
     /// Makes the file that says that the state is good, where none says anything.

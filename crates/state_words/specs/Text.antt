@@ -45,37 +45,25 @@ events_words events = codes ", events behind its head: " ++ decimal events ++ 10
 abbrev pub segment_line : Seen → List ℕ
 segment_line s = segment_words s.number ++ file_name s.side ++ events_words s.events
 
+-- two numbers, each behind its words, to the end of a line
+abbrev pub both : (words : List ℕ) → (number : ℕ) → (more : List ℕ) → (other : ℕ) → List ℕ
+both words number more other = words ++ decimal number ++ more ++ decimal other ++ 10 ∷ []
+
 -- some of the lines can't be read
-abbrev pub read_words : (events : ℕ) → List ℕ
-read_words events = codes "lines there that can be read: " ++ decimal events
-
-abbrev pub of_words : (lines : ℕ) → List ℕ
-of_words lines = codes " of " ++ decimal lines ++ 10 ∷ []
-
-abbrev pub cut_line : (events lines : ℕ) → List ℕ
-cut_line events lines = read_words events ++ of_words lines
-
 abbrev pub unread_line : (is_cut : Bool) → (events lines : ℕ) → List ℕ
 unread_line false events lines = []
-unread_line true events lines = cut_line events lines
+unread_line true events lines =
+    both (codes "lines there that can be read: ") events (codes " of ") lines
 
 -- the moment of the latest event
 abbrev pub moment_words : (moment : ℕ) → List ℕ
 moment_words moment = codes "moment in ms " ++ decimal moment
 
 -- what the wall clock showed when it was told last, and when that was
-abbrev pub clock_words : (number : ℕ) → List ℕ
-clock_words number = codes ", wall clock in ms " ++ decimal number
-
-abbrev pub at_words : (moment : ℕ) → List ℕ
-at_words moment = codes " at moment " ++ decimal moment ++ 10 ∷ []
-
-abbrev pub told_words : (number moment : ℕ) → List ℕ
-told_words number moment = clock_words number ++ at_words moment
-
 abbrev pub wall_words : Option Wall → List ℕ
 wall_words None = codes ", wall clock not told yet" ++ 10 ∷ []
-wall_words (Some wall) = told_words wall.number wall.moment
+wall_words (Some wall) =
+    both (codes ", wall clock in ms ") wall.number (codes " at moment ") wall.moment
 
 -- the gateway that a run would go on with
 abbrev pub gateway_lines : State → List ℕ

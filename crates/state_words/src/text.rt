@@ -76,26 +76,21 @@ fn push_segment(text: &mut String, seen: &Seen) -> Result<(), AllocError>
     push_events(text, seen.events)
 }
 
-fn push_read(text: &mut String, events: u64) -> Result<(), AllocError>
+/// Two numbers, each behind its words, to the end of a line.
+fn push_both(
+    text: &mut String,
+    words: &str,
+    number: u64,
+    more: &str,
+    other: u64,
+) -> Result<(), AllocError>
     ensures { OnOk result (string_bytes text.new ≡ string_bytes text.old
-        ++ spec.read_words events) }
+        ++ spec.both words.now number more.now other) }
 {
-    write!(text, "lines there that can be read: {events}")
-}
-
-fn push_of(text: &mut String, lines: u64) -> Result<(), AllocError>
-    ensures { OnOk result (string_bytes text.new ≡ string_bytes text.old
-        ++ spec.of_words lines) }
-{
-    writeln!(text, " of {lines}")
-}
-
-fn push_cut(text: &mut String, events: u64, lines: u64) -> Result<(), AllocError>
-    ensures { OnOk result (string_bytes text.new ≡ string_bytes text.old
-        ++ spec.cut_line events lines) }
-{
-    push_read(text, events)?;
-    push_of(text, lines)
+    text.push_str(words)?;
+    write!(text, "{number}")?;
+    text.push_str(more)?;
+    writeln!(text, "{other}")
 }
 
 fn push_unread(text: &mut String, is_cut: bool, events: u64, lines: u64) -> Result<(), AllocError>
@@ -103,32 +98,16 @@ fn push_unread(text: &mut String, is_cut: bool, events: u64, lines: u64) -> Resu
         ++ spec.unread_line is_cut events lines) }
 {
     if is_cut {
-        push_cut(text, events, lines)
+        push_both(
+            text,
+            "lines there that can be read: ",
+            events,
+            " of ",
+            lines,
+        )
     } else {
         Ok(())
     }
-}
-
-fn push_clock(text: &mut String, number: u64) -> Result<(), AllocError>
-    ensures { OnOk result (string_bytes text.new ≡ string_bytes text.old
-        ++ spec.clock_words number) }
-{
-    write!(text, ", wall clock in ms {number}")
-}
-
-fn push_at(text: &mut String, moment: u64) -> Result<(), AllocError>
-    ensures { OnOk result (string_bytes text.new ≡ string_bytes text.old
-        ++ spec.at_words moment) }
-{
-    writeln!(text, " at moment {moment}")
-}
-
-fn push_told(text: &mut String, number: u64, moment: u64) -> Result<(), AllocError>
-    ensures { OnOk result (string_bytes text.new ≡ string_bytes text.old
-        ++ spec.told_words number moment) }
-{
-    push_clock(text, number)?;
-    push_at(text, moment)
 }
 
 fn push_wall(text: &mut String, wall: Option<Wall>) -> Result<(), AllocError>
@@ -136,7 +115,13 @@ fn push_wall(text: &mut String, wall: Option<Wall>) -> Result<(), AllocError>
         ++ spec.wall_words wall) }
 {
     match wall {
-        Some(wall) => push_told(text, wall.number, wall.moment),
+        Some(wall) => push_both(
+            text,
+            ", wall clock in ms ",
+            wall.number,
+            " at moment ",
+            wall.moment,
+        ),
         None => writeln!(text, ", wall clock not told yet"),
     }
 }

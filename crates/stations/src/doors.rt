@@ -1,11 +1,9 @@
 //! A door at the place where a live run looks for its line.
-ghost use Rattle.live.specs.Wires.{FitsBuffer};
-
-use live::{CentreListener, CentreSocket, Door, Got, Guests, SentAway, Visitor, Wire};
+use live::{CentreListener, CentreSocket, Door, Got, Guests, LocalSocket, SentAway, Visitor, Wire};
 use std::io;
-use std::io::{Eprint, ErrorKind, Read, Write};
+use std::io::{Eprint, ErrorKind};
 use std::net::{IpAddr, Ipv4Addr, Net, TcpListener, TcpStream};
-use std::os::unix::net::{UnixListener, UnixStream};
+use std::os::unix::net::UnixListener;
 use std::rt::Files;
 
 /// Where a gateway comes in as to a serial device server.
@@ -42,7 +40,7 @@ pub enum LineGuest {
     /// By TCP.
     Tcp(CentreSocket),
     /// By a Unix socket.
-    Unix(UnixStream),
+    Unix(LocalSocket),
 }
 
 impl Wire for LineGuest {
@@ -53,7 +51,7 @@ impl Wire for LineGuest {
     fn read(&mut self, buf: &mut [u8; 1024]) -> Got {
         match self {
             LineGuest::Tcp(socket) => socket.read(buf),
-            LineGuest::Unix(stream) => read_once(stream, buf),
+            LineGuest::Unix(socket) => socket.read(buf),
         }
     }
 
@@ -65,38 +63,15 @@ impl Wire for LineGuest {
     fn write(&mut self, octets: &[u8]) -> bool {
         match self {
             LineGuest::Tcp(socket) => socket.write(octets),
-            LineGuest::Unix(stream) => write_once(stream, octets),
+            LineGuest::Unix(socket) => socket.write(octets),
         }
     }
 }
 
-/// Reads once: an interruption is quiet, an end and every other failure are the wire's end.
-fn read_once(stream: &mut UnixStream, buf: &mut [u8; 1024]) -> Got
-    ensures { FitsBuffer result }
-{
-    match stream.read(buf) {
-        Ok(0) => Got::Gone,
-        Ok(len) => Got::Octets(len),
-        Err(fault) => match fault.kind() {
-            ErrorKind::WouldBlock | ErrorKind::TimedOut | ErrorKind::Interrupted => Got::Quiet,
-            _ => Got::Gone,
-        },
-    }
-}
-
-/// Writes in one call, and answers whether all octets were taken.
-fn write_once(stream: &mut UnixStream, octets: &[u8]) -> bool {
-    match stream.write(octets) {
-        Ok(count) => count == octets.len(),
-        Err(_) => false,
-    }
-}
-
 /// Who waits at a Unix socket. There is no address at its other end: it is on this machine.
-fn accept_local(listener: &UnixListener) -> Option<UnixStream> {
+fn accept_local(listener: &UnixListener) -> Option<LocalSocket> {
     let (stream, _) = listener.accept().ok()?;
-    stream.set_nonblocking(true).ok()?;
-    Some(stream)
+    LocalSocket::new(stream).ok()
 }
 
 impl<R: Net<Listener = TcpListener, Stream = TcpStream> + Eprint + Files> Door
@@ -117,14 +92,14 @@ impl<R: Net<Listener = TcpListener, Stream = TcpStream> + Eprint + Files> Door
                 })
             }
             LineListener::Unix(listener) => {
-                let stream = accept_local(listener)?;
+                let socket = accept_local(listener)?;
                 let address = IpAddr::V4(Ipv4Addr::LOCALHOST);
                 if !guests.lets_in(address) {
                     return None;
                 }
                 Some(Visitor {
                     address,
-                    wire: LineGuest::Unix(stream),
+                    wire: LineGuest::Unix(socket),
                 })
             }
         }

@@ -9,11 +9,11 @@ use Rattle.std.proofs.lemmas.List.{take_rest, take_all, length-take-le}
 use Rattle.std.proofs.lemmas.List.Elements.{All-append, All-cons, All-nil}
 use Rattle.std.specs.List.{All}
 use Rattle.status.specs.Page.{Sheet, empty, put, text_with}
-use Rattle.status.specs.Seats.{IsNext, IsKept, Hears, answer_on, cleared}
-use Rattle.status.specs.Streams.{Told, IsNew, more_told}
+use Rattle.status.specs.Seats.{IsNext, IsKept, Receives, answer_on, cleared}
+use Rattle.status.specs.Streams.{Passed, IsNew, more_passed}
 use Rattle.status.specs.declared.seat.Desk.{Desk}
 use Rattle.status.specs.declared.seat.Stage.{Stage}
-use Rattle.status.specs.declared.seat.Stage.TheVariants.{Hearing, Answering, Leaving}
+use Rattle.status.specs.declared.seat.Stage.TheVariants.{Receiving, Answering, Leaving}
 use Rattle.status.proofs.Sheets.{text_with_append}
 
 -- one piece more
@@ -85,26 +85,26 @@ none_some e = cc
 some_same : {A : Type 0} {x y : A} → Some x ≡ Some y → x ≡ y
 some_same e = cc
 
--- what tells nothing goes on so; what tells has told the beginning of what it tells now
-told_before : (t : Told) (octets all : List ℕ) → more_told t octets ≡ Some all
+-- what keeps none goes on so; what keeps them had the beginning of what it has now
+was_before : (t : Passed) (octets all : List ℕ) → more_passed t octets ≡ Some all
     → (before : List ℕ) × (t ≡ Some before) × (all ≡ before ++ octets)
-told_before None octets all is = absurd (none_some is)
-told_before (Some before) octets all is = (before, refl, some_same (sym is))
+was_before None octets all is = absurd (none_some is)
+was_before (Some before) octets all is = (before, refl, some_same (sym is))
 
-answering_hearing : Answering ≡ Hearing → ⊥
-answering_hearing e = cc
+answering_receiving : Answering ≡ Receiving → ⊥
+answering_receiving e = cc
 
 answering_leaving : Answering ≡ Leaving → ⊥
 answering_leaving e = cc
 
-leaving_hearing : Leaving ≡ Hearing → ⊥
-leaving_hearing e = cc
+leaving_receiving : Leaving ≡ Receiving → ⊥
+leaving_receiving e = cc
 
-heard_more : (page page' : Sheet) (before octets : List ℕ)
+received_more : (page page' : Sheet) (before octets : List ℕ)
     → page.text ≡ (put before (empty page.room)).text
     → page' ≡ put octets page → page'.text ≡ (put (before ++ octets) (empty page'.room)).text
 unfolding put
-heard_more page page' before octets had puts =
+received_more page page' before octets had puts =
     let room : page'.room ≡ page.room = ap (λ (s : Sheet). s.room) puts in
     let text : page'.text ≡ text_with page.room octets page.text =
     ap (λ (s : Sheet). s.text) puts in
@@ -113,64 +113,64 @@ heard_more page page' before octets had puts =
     ∙ ap (λ (r : ℕ). text_with r (before ++ octets) (Some [])) (sym room)
 
 -- more of the request came
-pub kept_heard : (heard taken heard' taken' : Told) (stage : Stage) (sent : ℕ) (d : Desk)
+pub kept_received : (given taken given' taken' : Passed) (stage : Stage) (sent : ℕ) (d : Desk)
     (page' : Sheet)
-    → IsKept heard taken stage sent d → stage ≡ Hearing → Hears heard d.request heard' page'
+    → IsKept given taken stage sent d → stage ≡ Receiving → Receives given d.request given' page'
     → taken' ≡ taken
     → let d' : Desk = record { request = page'; head = d.head; body = d.body } in
-    IsKept heard' taken' stage sent d'
-kept_heard heard taken heard' taken' stage sent d page' k is (octets, more, puts) same = record {
-  hears = λ _ all tells.
-      let told = told_before heard octets all (sym more ∙ tells) in
-      heard_more d.request page' told.0 octets (k.hears is told.0 told.1) puts
-      ∙ ap (λ (l : List ℕ). (put l (empty page'.room)).text) (sym told.2);
+    IsKept given' taken' stage sent d'
+kept_received given taken given' taken' stage sent d page' k is (octets, more, puts) same = record {
+  receives = λ _ all is_all.
+      let was = was_before given octets all (sym more ∙ is_all) in
+      received_more d.request page' was.0 octets (k.receives is was.0 was.1) puts
+      ∙ ap (λ (l : List ℕ). (put l (empty page'.room)).text) (sym was.2);
   unsent = k.unsent;
-  begun = λ all tells. k.begun all (sym same ∙ tells);
+  begun = λ all is_all. k.begun all (sym same ∙ is_all);
   within = k.within;
   whole = k.whole;
 }
 
 -- the request has come whole, and the answer lies on the desk
-pub kept_answered : (heard taken : Told) (stage : Stage) (sent : ℕ) (d d' : Desk)
-    → IsKept heard taken stage sent d → stage ≡ Hearing → IsKept heard taken Answering sent d'
-kept_answered heard taken stage sent d d' k is =
+pub kept_answered : (given taken : Passed) (stage : Stage) (sent : ℕ) (d d' : Desk)
+    → IsKept given taken stage sent d → stage ≡ Receiving → IsKept given taken Answering sent d'
+kept_answered given taken stage sent d d' k is =
     let none : sent ≡ 0 = k.unsent is in
     record {
-      hears = λ e. absurd (answering_hearing e);
+      receives = λ e. absurd (answering_receiving e);
       unsent = λ e. none;
-      begun = λ all tells. k.begun all tells ∙ ap (λ (n : ℕ). take n (answer_on d)) none
+      begun = λ all is_all. k.begun all is_all ∙ ap (λ (n : ℕ). take n (answer_on d)) none
           ∙ sym (ap (λ (n : ℕ). take n (answer_on d')) none);
       within = omega arith;
       whole = λ e. absurd (answering_leaving e);
     }
 
 -- more of the answer was taken
-pub kept_sent : (heard taken heard' taken' : Told) (stage : Stage) (sent count : ℕ) (d : Desk)
+pub kept_sent : (given taken given' taken' : Passed) (stage : Stage) (sent count : ℕ) (d : Desk)
     (piece : List ℕ)
-    → IsKept heard taken stage sent d → stage ≡ Answering → IsNext (answer_on d) sent piece
+    → IsKept given taken stage sent d → stage ≡ Answering → IsNext (answer_on d) sent piece
     → count ≤ length piece
-    → taken' ≡ more_told taken (take count piece) → IsKept heard' taken' stage (sent + count) d
-kept_sent heard taken heard' taken' stage sent count d piece k is next le more = record {
-  hears = λ e. absurd (answering_hearing (sym is ∙ e));
-  unsent = λ e. absurd (answering_hearing (sym is ∙ e));
-  begun = λ all tells.
-      let told = told_before taken (take count piece) all (sym more ∙ tells) in
-      told.2 ∙ ap (λ (l : List ℕ). l ++ take count piece) (k.begun told.0 told.1)
+    → taken' ≡ more_passed taken (take count piece) → IsKept given' taken' stage (sent + count) d
+kept_sent given taken given' taken' stage sent count d piece k is next le more = record {
+  receives = λ e. absurd (answering_receiving (sym is ∙ e));
+  unsent = λ e. absurd (answering_receiving (sym is ∙ e));
+  begun = λ all is_all.
+      let was = was_before taken (take count piece) all (sym more ∙ is_all) in
+      was.2 ∙ ap (λ (l : List ℕ). l ++ take count piece) (k.begun was.0 was.1)
       ∙ sym (more_taken (answer_on d) sent count piece next le);
   within = within_all (answer_on d) sent count piece next k.within le;
   whole = λ e. absurd (answering_leaving (sym is ∙ e));
 }
 
 -- all of it was taken
-pub kept_left : (heard taken heard' taken' : Told) (stage : Stage) (sent : ℕ) (d : Desk)
+pub kept_left : (given taken given' taken' : Passed) (stage : Stage) (sent : ℕ) (d : Desk)
     (piece : List ℕ)
-    → IsKept heard taken stage sent d → IsNext (answer_on d) sent piece → length piece ≡ 0
+    → IsKept given taken stage sent d → IsNext (answer_on d) sent piece → length piece ≡ 0
     → taken' ≡ taken
-    → IsKept heard' taken' Leaving sent d
-kept_left heard taken heard' taken' stage sent d piece k (rest, cut, goes) none same = record {
-  hears = λ e. absurd (leaving_hearing e);
-  unsent = λ e. absurd (leaving_hearing e);
-  begun = λ all tells. k.begun all (sym same ∙ tells);
+    → IsKept given' taken' Leaving sent d
+kept_left given taken given' taken' stage sent d piece k (rest, cut, goes) none same = record {
+  receives = λ e. absurd (leaving_receiving e);
+  unsent = λ e. absurd (leaving_receiving e);
+  begun = λ all is_all. k.begun all (sym same ∙ is_all);
   within = k.within;
   whole = λ e. all_sent sent (length (answer_on d)) (length piece) k.within goes none;
 }
@@ -184,34 +184,34 @@ kept_left heard taken heard' taken' stage sent d piece k (rest, cut, goes) none 
         ]
 
 -- what still came was dropped
-pub kept_drained : (heard taken heard' taken' : Told) (sent : ℕ) (d : Desk) (stage : Stage)
-    → IsKept heard taken stage sent d → stage ≡ Leaving → taken' ≡ taken
-    → IsKept heard' taken' stage sent d
-kept_drained heard taken heard' taken' sent d stage k is same = record {
-  hears = λ e. absurd (leaving_hearing (sym is ∙ e));
+pub kept_drained : (given taken given' taken' : Passed) (sent : ℕ) (d : Desk) (stage : Stage)
+    → IsKept given taken stage sent d → stage ≡ Leaving → taken' ≡ taken
+    → IsKept given' taken' stage sent d
+kept_drained given taken given' taken' sent d stage k is same = record {
+  receives = λ e. absurd (leaving_receiving (sym is ∙ e));
   unsent = k.unsent;
-  begun = λ all tells. k.begun all (sym same ∙ tells);
+  begun = λ all is_all. k.begun all (sym same ∙ is_all);
   within = k.within;
   whole = k.whole;
 }
 
-told_new : (t : Told) (all : List ℕ) → IsNew t → t ≡ Some all → all ≡ []
-told_new None all new tells = absurd (none_some tells)
-told_new (Some before) all new tells = some_same (sym tells) ∙ new
+was_new : (t : Passed) (all : List ℕ) → IsNew t → t ≡ Some all → all ≡ []
+was_new None all new is_all = absurd (none_some is_all)
+was_new (Some before) all new is_all = some_same (sym is_all) ∙ new
 
 -- somebody comes to a desk that is cleared
-pub kept_new : (heard taken : Told) (d d' : Desk) → IsNew heard → IsNew taken → d' ≡ cleared d
-    → IsKept heard taken Hearing 0 d'
+pub kept_new : (given taken : Passed) (d d' : Desk) → IsNew given → IsNew taken → d' ≡ cleared d
+    → IsKept given taken Receiving 0 d'
 unfolding put
-kept_new heard taken d d' new none is = record {
-  hears = λ _ all tells.
+kept_new given taken d d' new none is = record {
+  receives = λ _ all is_all.
       ap (λ (e : Desk). e.request.text) is
       ∙ sym (ap (λ (l : List ℕ). (put l (empty d'.request.room)).text)
-      (told_new heard all new tells));
+      (was_new given all new is_all));
   unsent = λ _. refl;
-  begun = λ all tells. told_new taken all none tells;
+  begun = λ all is_all. was_new taken all none is_all;
   within = omega arith;
-  whole = λ e. absurd (leaving_hearing (sym e));
+  whole = λ e. absurd (leaving_receiving (sym e));
 }
 
 pub for_some : {A : Type 0} (P : A → Type 0) (a : A) → P a → (x : A) → Some a ≡ Some x → P x

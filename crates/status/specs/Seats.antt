@@ -4,12 +4,12 @@ use Rattle.std.specs.Prelude.{Some, None}
 use Rattle.status.specs.Answer.{body_sent, head_of}
 use Rattle.status.specs.Page.{Sheet, empty, put, shown}
 use Rattle.status.specs.Request.{Asks}
-use Rattle.status.specs.Streams.{Told, more_told}
+use Rattle.status.specs.Streams.{Passed, more_passed}
 use Rattle.status.specs.declared.request.Asked.{Asked}
 use Rattle.status.specs.declared.request.Asked.TheVariants.{Nothing, TooLong}
 use Rattle.status.specs.declared.seat.Desk.{Desk}
 use Rattle.status.specs.declared.seat.Stage.{Stage}
-use Rattle.status.specs.declared.seat.Stage.TheVariants.{Hearing, Answering, Leaving}
+use Rattle.status.specs.declared.seat.Stage.TheVariants.{Receiving, Answering, Leaving}
 use Rattle.status.specs.declared.seat.TheConstants.{REQUEST_ROOM, HEAD_ROOM, BODY_ROOM}
 use Rattle.status.specs.declared.snapshot.Snapshot.{Snapshot}
 
@@ -40,34 +40,34 @@ IsAnswer s before after =
     × (after.body ≡ body_sent before.body.room asked s)
 
 -- a stream gave octets, and they were put on a sheet
-abbrev pub Hears : Told → Sheet → Told → Sheet → Type 0
-Hears heard page heard_then page_then =
-    (octets : List ℕ) × (heard_then ≡ more_told heard octets) × (page_then ≡ put octets page)
+abbrev pub Receives : Passed → Sheet → Passed → Sheet → Type 0
+Receives given page given_then page_then =
+    (octets : List ℕ) × (given_then ≡ more_passed given octets) × (page_then ≡ put octets page)
 
 -- octets that go out next, where so many have gone out: some, unless all have
 abbrev pub IsNext : (all : List ℕ) → (sent : ℕ) → List ℕ → Type 0
 IsNext all sent piece =
     (rest : List ℕ) × (drop sent all ≡ piece ++ rest) × (sent < length all → 0 < length piece)
 
--- What is known of who sits there, by what the stream told. While the request comes, what it gave
+-- What is known of who sits there, by what the stream keeps. While the request comes, what it gave
 -- is the request. What it took is a beginning of the answer on the desk, and all of it at the end.
-pub record IsKept (heard taken : Told) (stage : Stage) (sent : ℕ) (d : Desk) : Type 0 where
-  pub hears : stage ≡ Hearing → (octets : List ℕ) → heard ≡ Some octets
+pub record IsKept (given taken : Passed) (stage : Stage) (sent : ℕ) (d : Desk) : Type 0 where
+  pub receives : stage ≡ Receiving → (octets : List ℕ) → given ≡ Some octets
       → d.request.text ≡ (put octets (empty d.request.room)).text
-  pub unsent : stage ≡ Hearing → sent ≡ 0
+  pub unsent : stage ≡ Receiving → sent ≡ 0
   pub begun : (octets : List ℕ) → taken ≡ Some octets → octets ≡ take sent (answer_on d)
   pub within : sent ≤ length (answer_on d)
   pub whole : stage ≡ Leaving → sent ≡ length (answer_on d)
 
 -- The request hasn't come whole; or the answer has been made, and is that of this moment.
 abbrev pub Answers : Stage → Snapshot → (before after : Desk) → Type 0
-Answers Hearing s before after = IsAsked after.request.text Nothing
+Answers Receiving s before after = IsAsked after.request.text Nothing
 Answers Answering s before after = IsAnswer s before after
 Answers Leaving s before after = Unit {0}
 
 -- what a turn does to the desk: nothing but while the request comes
 abbrev pub Turned : Stage → Stage → Snapshot → Desk → Desk → Type 0
-Turned Hearing now s before after = Answers now s before after
+Turned Receiving now s before after = Answers now s before after
 Turned Answering now s before after = after ≡ before
 Turned Leaving now s before after = after ≡ before
 

@@ -1,9 +1,9 @@
--- What a stream gives and takes, and what it tells of it (this gateway's own profile).
+-- What a stream gives and takes, and what it keeps of it (this gateway's own profile).
 use Rattle.std.specs.Prelude.{◌≡◌, ℕ, ◌≤◌, List, [], ◌++◌, take, Option, Some, None}
-use Rattle.status.specs.declared.door.Received.{Received}
-use Rattle.status.specs.declared.door.Received.TheVariants as got
-use Rattle.status.specs.declared.door.Took.{Took}
-use Rattle.status.specs.declared.door.Took.TheVariants as took
+use Rattle.status.specs.declared.streams.Received.{Received}
+use Rattle.status.specs.declared.streams.Received.TheVariants as got
+use Rattle.status.specs.declared.streams.Took.{Took}
+use Rattle.status.specs.declared.streams.Took.TheVariants as took
 
 -- octets are at least one, and within the buffer
 abbrev pub FitsBuffer : Received → Type 0
@@ -21,21 +21,21 @@ abbrev pub took_count : Took → ℕ
 took_count (took.Octets count) = count
 took_count took.Nothing = 0
 
--- octets in the order in which they passed, where they are told
-abbrev pub Told : Type 0
-Told = Option (List ℕ)
+-- octets in the order in which they passed, where they are kept
+abbrev pub Passed : Type 0
+Passed = Option (List ℕ)
 
--- with more; what tells nothing goes on telling nothing
-abbrev pub more_told : Told → List ℕ → Told
-more_told None octets = None
-more_told (Some before) octets = Some (before ++ octets)
+-- with more; what keeps none goes on keeping none
+abbrev pub more_passed : Passed → List ℕ → Passed
+more_passed None octets = None
+more_passed (Some before) octets = Some (before ++ octets)
 
 -- nothing has passed yet
-abbrev pub IsNew : Told → Type 0
+abbrev pub IsNew : Passed → Type 0
 IsNew None = Unit {0}
 IsNew (Some before) = before ≡ []
 
--- what is told is that
-abbrev pub Tells : Told → List ℕ → Type 0
-Tells None octets = Unit {0}
-Tells (Some before) octets = before ≡ octets
+-- what is kept is that
+abbrev pub Holds : Passed → List ℕ → Type 0
+Holds None octets = Unit {0}
+Holds (Some before) octets = before ≡ octets

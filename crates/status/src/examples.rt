@@ -33,7 +33,7 @@ pub fn texts_by_example()
         × (age_text 0 5 9 ≡ codes "0 s  ") × (age_or 0 9 None (codes "none") ≡ codes "none") }
 {}
 
-/// What is asked, how a number is told to Prometheus, and what a monitor makes of a line.
+/// What is asked, how a number is written for Prometheus, and what a monitor makes of a line.
 pub fn answers_by_example()
     ensures asked { (asked_by (codes "GET") (codes "/") ≡ asked.Page view.Person true)
         × (asked_by (codes "HEAD") (codes "/status.json") ≡ asked.Page view.Json false)

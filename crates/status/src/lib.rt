@@ -1,11 +1,11 @@
-//! A door for looking at the state as it is now: pages for a person, JSON, Prometheus' text format
-//! and a table for a terminal, over HTTP/1.0 and HTTP/1.1 (RFC 9110, RFC 9112).
+//! The state as it is now, for who looks: pages for a person, JSON, Prometheus' text format and a
+//! table for a terminal, over HTTP/1.0 and HTTP/1.1 (RFC 9110, RFC 9112).
 //!
-//! [`Visitors`] come through a [`StreamSource`]: four at once at the most, each for two seconds at
+//! [`Visitors`] come from a [`StreamSource`]: four at once at the most, each for two seconds at
 //! the most. [`Visitors::turn`] is called between two events. At most one visitor comes then, and
 //! each gets one read or one write, which never waits. What is shown is a [`Snapshot`], plain data
 //! that the caller fills in and lends. This crate doesn't know the gateway, so who looks changes
-//! nothing. All memory is taken by [`Visitors::new`]. [`VisitorListener`] is the door on the
+//! nothing. All memory is taken by [`Visitors::new`]. [`VisitorListener`] is the source on the
 //! system's sockets.
 //!
 //! Proved: the body of each page is a small function of the snapshot, text for text, with what is
@@ -23,7 +23,6 @@
 #![tactic(auto)]
 
 mod answer;
-mod door;
 mod examples;
 mod hour;
 mod html;
@@ -39,12 +38,12 @@ mod request;
 mod seat;
 mod snapshot;
 mod sockets;
+mod streams;
 mod table;
 mod texts;
 mod visitors;
 mod words;
 
-pub use door::{Received, Stream, StreamSource, Took};
 pub use examples::{answers_by_example, texts_by_example};
 pub use hour::Hour;
 pub use judging::{Judgement, judge};
@@ -54,4 +53,5 @@ pub use snapshot::{
     CentreView, Keeping, LineView, LinkState, Queue, Setting, Snapshot, StationView,
 };
 pub use sockets::{VisitorListener, VisitorSocket};
+pub use streams::{Received, Stream, StreamSource, Took};
 pub use visitors::Visitors;

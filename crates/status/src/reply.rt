@@ -12,7 +12,7 @@ const FIELDS: usize = 64;
 /// The status of an answer that shows a page (RFC 9110, 15.3.1).
 const SHOWN: u16 = 200;
 
-/// What can't be told: nobody answers, or not as this gateway does.
+/// What isn't known: nobody answers, or not as this gateway does.
 pub const UNKNOWN: u8 = 3;
 
 /// The exit status that a monitor wants (Nagios): 0 ok, 1 a warning, 2 critical, 3 unknown. It is

@@ -1,18 +1,18 @@
-//! A visitor's seat: what was heard of who sits there, and the answer on its way.
+//! A visitor's seat: what was received of who sits there, and the answer on its way.
 ghost use Rattle.std.specs.Prelude.{◌≡◌, ◌≤◌, ◌<◌, ◌^◌, length, min, take, IfOk, IfSome, None};
 ghost use Rattle.std.proofs.Props.{props};
 ghost use Rattle.std.specs.Bool.{OnTrue};
 ghost use Rattle.std.specs.Option.{ForSome, is_none};
 ghost use Rattle.status.specs.Page.{shown};
-ghost use Rattle.status.specs.Seats.{Answers, Turned, Hears, IsAsked, IsKept, IsNext, IsYoung};
+ghost use Rattle.status.specs.Seats.{Answers, Turned, Receives, IsAsked, IsKept, IsNext, IsYoung};
 ghost use Rattle.status.specs.Seats.{answer_on, cleared, fresh_desk};
-ghost use Rattle.status.specs.Streams.{IsNew, more_told};
+ghost use Rattle.status.specs.Streams.{IsNew, more_passed};
 
 use crate::answer::make_answer;
-use crate::door::{Received, Stream, Took};
 use crate::page::Page;
 use crate::request::{Asked, asked_of};
 use crate::snapshot::Snapshot;
+use crate::streams::{Received, Stream, Took};
 use std::alloc::{AllocError, Global};
 
 /// How many octets a request may have.
@@ -26,16 +26,18 @@ const HEAD_ROOM: usize = 512;
 const BODY_ROOM: usize = 65_536;
 
 /// How many octets are handed to a stream at once at the most.
+// So one turn holds the run up by little (docs/DECISIONS.md, "Who looks at the state").
 const PIECE: usize = 16_384;
 
 /// How long a visitor may stay, in ms.
+// A visitor who hangs leaves soon (docs/DECISIONS.md, "Who looks at the state").
 const STAY_MS: u64 = 2_000;
 
 /// How far a visitor has come.
 #[derive(Clone, Copy, Debug, PartialEq, Eq)]
 pub(crate) enum Stage {
     /// The request is coming.
-    Hearing,
+    Receiving,
     /// The answer is going out.
     Answering,
     /// The answer has gone out. What still comes is dropped until the visitor goes: a stream that
@@ -102,9 +104,9 @@ impl Desk {
     }
 }
 
-/// Hears more of a request. `false` says that the visitor has gone.
-fn hear<S: Stream>(stream: &mut S, request: &mut Page) -> bool
-    ensures heard { Hears (S.heard stream.old) request.old (S.heard stream.new) request.new }
+/// Receives more of a request. `false` says that the visitor has gone.
+fn receive<S: Stream>(stream: &mut S, request: &mut Page) -> bool
+    ensures given { Receives (S.given stream.old) request.old (S.given stream.new) request.new }
     ensures taken { S.taken stream.new ≡ S.taken stream.old }
 {
     let mut octets = [0; 1024];
@@ -130,8 +132,8 @@ fn drain<S: Stream>(stream: &mut S) -> bool
 fn send<S: Stream>(stream: &mut S, octets: &[u8]) -> Option<usize>
     ensures fits { IfSome result (λ count. count ≤ length octets.now) }
     ensures taken { IfSome result (λ count.
-        S.taken stream.new ≡ more_told (S.taken stream.old) (take count octets.now)) }
-    ensures heard { S.heard stream.new ≡ S.heard stream.old }
+        S.taken stream.new ≡ more_passed (S.taken stream.old) (take count octets.now)) }
+    ensures given { S.given stream.new ≡ S.given stream.old }
 {
     match stream.write(octets) {
         Took::Octets(count) => Some(count),
@@ -141,7 +143,7 @@ fn send<S: Stream>(stream: &mut S, octets: &[u8]) -> Option<usize>
 
 /// Who sits there.
 #[derive(Drop)]
-struct Guest<S: Stream> {
+struct Client<S: Stream> {
     stream: S,
     /// When the visitor came.
     since_ms: u64,
@@ -150,69 +152,69 @@ struct Guest<S: Stream> {
     sent: usize,
 }
 
-/// Hears more of the request, and makes its answer where it has come whole.
-fn hear_more<S: Stream>(guest: &mut Guest<S>, desk: &mut Desk, snapshot: &Snapshot<'_>) -> bool
-    requires stage { guest.old.stage ≡ Stage.Hearing }
-    requires kept { IsKept (S.heard guest.old.stream) (S.taken guest.old.stream)
-        guest.old.stage guest.old.sent desk.old }
-    ensures kept { OnTrue result (IsKept (S.heard guest.new.stream) (S.taken guest.new.stream)
-        guest.new.stage guest.new.sent desk.new) }
-    ensures since { guest.new.since_ms ≡ guest.old.since_ms }
-    ensures answers { OnTrue result (Answers guest.new.stage snapshot.now desk.old desk.new) }
+/// Receives more of the request, and makes its answer where it has come whole.
+fn receive_more<S: Stream>(client: &mut Client<S>, desk: &mut Desk, snapshot: &Snapshot<'_>) -> bool
+    requires stage { client.old.stage ≡ Stage.Receiving }
+    requires kept { IsKept (S.given client.old.stream) (S.taken client.old.stream)
+        client.old.stage client.old.sent desk.old }
+    ensures kept { OnTrue result (IsKept (S.given client.new.stream) (S.taken client.new.stream)
+        client.new.stage client.new.sent desk.new) }
+    ensures since { client.new.since_ms ≡ client.old.since_ms }
+    ensures answers { OnTrue result (Answers client.new.stage snapshot.now desk.old desk.new) }
 {
-    if !hear(&mut guest.stream, &mut desk.request) {
+    if !receive(&mut client.stream, &mut desk.request) {
         return false;
     }
     match desk.asked() {
         Asked::Nothing => {}
         asked => {
             make_answer(&mut desk.head, &mut desk.body, asked, snapshot);
-            guest.stage = Stage::Answering;
+            client.stage = Stage::Answering;
         }
     }
     true
 }
 
 /// Sends more of the answer.
-fn send_more<S: Stream>(guest: &mut Guest<S>, desk: &Desk) -> bool
-    requires stage { guest.old.stage ≡ Stage.Answering }
-    requires kept { IsKept (S.heard guest.old.stream) (S.taken guest.old.stream)
-        guest.old.stage guest.old.sent desk.now }
-    ensures kept { OnTrue result (IsKept (S.heard guest.new.stream) (S.taken guest.new.stream)
-        guest.new.stage guest.new.sent desk.now) }
-    ensures since { guest.new.since_ms ≡ guest.old.since_ms }
+fn send_more<S: Stream>(client: &mut Client<S>, desk: &Desk) -> bool
+    requires stage { client.old.stage ≡ Stage.Answering }
+    requires kept { IsKept (S.given client.old.stream) (S.taken client.old.stream)
+        client.old.stage client.old.sent desk.now }
+    ensures kept { OnTrue result (IsKept (S.given client.new.stream) (S.taken client.new.stream)
+        client.new.stage client.new.sent desk.now) }
+    ensures since { client.new.since_ms ≡ client.old.since_ms }
 {
-    let piece = desk.next(guest.sent);
+    let piece = desk.next(client.sent);
     if piece.is_empty() {
-        guest.stream.finish();
-        guest.stage = Stage::Leaving;
+        client.stream.finish();
+        client.stage = Stage::Leaving;
         return true;
     }
-    let Some(count) = send(&mut guest.stream, piece) else {
+    let Some(count) = send(&mut client.stream, piece) else {
         return false;
     };
-    if usize::MAX - guest.sent < count {
+    if usize::MAX - client.sent < count {
         // No answer is that long.
         return false;
     }
-    guest.sent += count;
+    client.sent += count;
     true
 }
 
 /// Reads once, or writes once. `false` says that the visitor has gone.
-fn take_turn<S: Stream>(guest: &mut Guest<S>, desk: &mut Desk, snapshot: &Snapshot<'_>) -> bool
-    requires kept { IsKept (S.heard guest.old.stream) (S.taken guest.old.stream)
-        guest.old.stage guest.old.sent desk.old }
-    ensures kept { OnTrue result (IsKept (S.heard guest.new.stream) (S.taken guest.new.stream)
-        guest.new.stage guest.new.sent desk.new) }
-    ensures since { guest.new.since_ms ≡ guest.old.since_ms }
-    ensures answers { OnTrue result (Turned guest.old.stage guest.new.stage snapshot.now
+fn take_turn<S: Stream>(client: &mut Client<S>, desk: &mut Desk, snapshot: &Snapshot<'_>) -> bool
+    requires kept { IsKept (S.given client.old.stream) (S.taken client.old.stream)
+        client.old.stage client.old.sent desk.old }
+    ensures kept { OnTrue result (IsKept (S.given client.new.stream) (S.taken client.new.stream)
+        client.new.stage client.new.sent desk.new) }
+    ensures since { client.new.since_ms ≡ client.old.since_ms }
+    ensures answers { OnTrue result (Turned client.old.stage client.new.stage snapshot.now
         desk.old desk.new) }
 {
-    match guest.stage {
-        Stage::Hearing => hear_more(guest, desk, snapshot),
-        Stage::Answering => send_more(guest, desk),
-        Stage::Leaving => drain(&mut guest.stream),
+    match client.stage {
+        Stage::Receiving => receive_more(client, desk, snapshot),
+        Stage::Answering => send_more(client, desk),
+        Stage::Leaving => drain(&mut client.stream),
     }
 }
 
@@ -220,59 +222,59 @@ fn take_turn<S: Stream>(guest: &mut Guest<S>, desk: &mut Desk, snapshot: &Snapsh
 /// answer on the desk of that seat, in its order.
 #[derive(Drop)]
 pub(crate) struct Seat<S: Stream> {
-    guest: Option<Guest<S>>,
+    client: Option<Client<S>>,
     desk: Desk,
-    ghost kept: { ForSome guest (λ g. IsKept (S.Stream.heard g.stream) (S.Stream.taken g.stream)
+    ghost kept: { ForSome client (λ g. IsKept (S.Stream.given g.stream) (S.Stream.taken g.stream)
         g.stage g.sent desk) } by { Prim.hlevel props },
 }
 
 impl<S: Stream> Seat<S> {
     /// A free seat.
     pub(crate) fn new(alloc: Global) -> Result<Seat<S>, AllocError>
-        ensures { IfOk result (λ seat. seat.guest ≡ None) }
+        ensures { IfOk result (λ seat. seat.client ≡ None) }
     {
         Ok(Seat {
-            guest: None,
+            client: None,
             desk: Desk::new(alloc)?,
         })
     }
 
     /// Nobody sits there.
     pub(crate) fn is_free(&self) -> bool
-        ensures { result ≡ is_none self.now.guest }
+        ensures { result ≡ is_none self.now.client }
     {
-        self.guest.is_none()
+        self.client.is_none()
     }
 
     /// Somebody comes.
     pub(crate) fn admit(&mut self, stream: S, now_ms: u64)
-        requires heard { IsNew (S.heard stream) }
+        requires given { IsNew (S.given stream) }
         requires taken { IsNew (S.taken stream) }
     {
-        self.guest = None;
+        self.client = None;
         self.desk.clear();
-        self.guest = Some(Guest {
+        self.client = Some(Client {
             stream,
             since_ms: now_ms,
-            stage: Stage::Hearing,
+            stage: Stage::Receiving,
             sent: 0,
         });
     }
 
     /// Reads once, or writes once. Who has been there for two seconds goes.
     pub(crate) fn turn(&mut self, now_ms: u64, snapshot: &Snapshot<'_>)
-        ensures young { ForSome self.new.guest (λ g. IsYoung now_ms g.since_ms) }
+        ensures young { ForSome self.new.client (λ g. IsYoung now_ms g.since_ms) }
     {
         // Who isn't put back is gone: dropping the stream closes it.
-        let Some(mut guest) = self.guest.take() else {
+        let Some(mut client) = self.client.take() else {
             return;
         };
         // Before the turn: who sends an octet now and then would stay for good.
-        if STAY_MS <= now_ms.saturating_sub(guest.since_ms) {
+        if STAY_MS <= now_ms.saturating_sub(client.since_ms) {
             return;
         }
-        if take_turn(&mut guest, &mut self.desk, snapshot) {
-            self.guest = Some(guest);
+        if take_turn(&mut client, &mut self.desk, snapshot) {
+            self.client = Some(client);
         }
     }
 }

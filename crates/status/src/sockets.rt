@@ -1,7 +1,7 @@
-//! The door on the system's sockets. No call waits.
+//! The streams of visitors on the system's sockets. No call waits.
 ghost use Rattle.std.specs.Prelude.{None};
 
-use crate::door::{Received, Stream, StreamSource, Took};
+use crate::streams::{Received, Stream, StreamSource, Took};
 use std::io;
 use std::io::{ErrorKind, Read, Write};
 use std::net::{Net, OpenListener, OpenStream, Shutdown, SocketAddr, TcpListener, TcpStream};
@@ -11,7 +11,7 @@ use std::net::{Net, OpenListener, OpenStream, Shutdown, SocketAddr, TcpListener,
 pub struct VisitorSocket(TcpStream);
 
 impl Stream for VisitorSocket {
-    ghost heard = { λ _. None };
+    ghost given = { λ _. None };
 
     ghost taken = { λ _. None };
 
@@ -33,7 +33,7 @@ impl Stream for VisitorSocket {
     }
 
     fn finish(&mut self) {
-        // Where the other end has gone already, the next look tells.
+        // Where the other end has gone already, the next look finds it.
         let _ = self.0.shutdown(Shutdown::Write);
     }
 }
@@ -44,7 +44,7 @@ fn is_quiet(fault: &io::Error) -> bool {
     matches!(fault.kind(), ErrorKind::WouldBlock | ErrorKind::Interrupted)
 }
 
-/// The door: a TCP listener that doesn't wait.
+/// A TCP listener that doesn't wait.
 #[derive(Drop)]
 pub struct VisitorListener {
     listener: TcpListener,
@@ -80,7 +80,7 @@ impl StreamSource for VisitorListener {
     type Stream = VisitorSocket;
 
     fn accept(&mut self) -> Option<VisitorSocket> {
-        // Who can't be accepted is no visitor, and the door stays open.
+        // Who can't be accepted is no visitor, and the listener stays open.
         let (stream, _) = self.listener.accept().ok()?;
         stream.set_nonblocking(true).ok()?;
         // Head and body go out in two writes; the system would hold the second one back.

@@ -4,43 +4,44 @@ ghost use Rattle.std.specs.Option.{ForSome};
 ghost use Rattle.std.specs.Prelude.{◌≡◌, IfOk, vec_len};
 ghost use Rattle.status.specs.Seats.{IsYoung};
 
-use crate::door::{Stream, StreamSource};
 use crate::seat::Seat;
 use crate::snapshot::Snapshot;
+use crate::streams::{Stream, StreamSource};
 use std::alloc::{AllocError, Global};
 
 /// How many visitors there are at the most at once.
+// Three, and one beside who hangs (docs/DECISIONS.md, "Who looks at the state").
 const SEATS: usize = 4;
 
 /// Visitors who look at the state of the gateway, each from a seat of its own.
 #[derive(Drop)]
 pub struct Visitors<D: StreamSource + Drop> {
-    door: D,
+    source: D,
     seats: Vec<Seat<D::Stream>>,
 }
 
 impl<D: StreamSource + Drop> Visitors<D> {
-    /// Visitors who come through this door. All memory is taken here.
+    /// Visitors whose streams come from this source. All memory is taken here.
     ///
     /// # Errors
     ///
     /// Want of memory.
-    pub fn new(alloc: Global, door: D) -> Result<Visitors<D>, AllocError>
+    pub fn new(alloc: Global, source: D) -> Result<Visitors<D>, AllocError>
         ensures { IfOk result (λ visitors. vec_len visitors.seats ≡ 4) }
     {
         let mut seats = Vec::with_capacity(alloc, SEATS)?;
         for _ in 0..SEATS {
             seats.push(Seat::new(alloc)?)?;
         }
-        Ok(Visitors { door, seats })
+        Ok(Visitors { source, seats })
     }
 
     /// Lets in who has come, if a seat is free; who finds none is sent away at once.
     fn admit(&mut self, now_ms: u64)
         ensures few { vec_len self.new.seats ≡ vec_len self.old.seats }
     {
-        // Before a seat is sought: who finds none is sent away, and doesn't wait at the door.
-        let Some(stream) = self.door.accept() else {
+        // Before a seat is sought: who finds none is sent away, and doesn't wait at the listener.
+        let Some(stream) = self.source.accept() else {
             return;
         };
         for seat in self.seats.iter_mut() {
@@ -57,7 +58,7 @@ impl<D: StreamSource + Drop> Visitors<D> {
     pub fn turn(&mut self, now_ms: u64, snapshot: &Snapshot<'_>)
         ensures few { vec_len self.new.seats ≡ vec_len self.old.seats }
         // Nobody has been there for two seconds.
-        ensures young { All (λ seat. ForSome seat.guest (λ g. IsYoung now_ms g.since_ms))
+        ensures young { All (λ seat. ForSome seat.client (λ g. IsYoung now_ms g.since_ms))
             self.new.seats.items }
     {
         self.admit(now_ms);
@@ -67,7 +68,7 @@ impl<D: StreamSource + Drop> Visitors<D> {
 
 /// Gives each visitor a turn.
 fn turn_each<S: Stream>(seats: &mut [Seat<S>], now_ms: u64, snapshot: &Snapshot<'_>)
-    ensures young { All (λ seat. ForSome seat.guest (λ g. IsYoung now_ms g.since_ms)) seats.new }
+    ensures young { All (λ seat. ForSome seat.client (λ g. IsYoung now_ms g.since_ms)) seats.new }
 {
     for seat in seats.iter_mut() {
         seat.turn(now_ms, snapshot);

@@ -86,6 +86,8 @@ impl<P: Watched + Drop> Watched for Life<P> {
     ghost tends = { λ old state new notice.
         P.tends old.port state new.port notice };
 
+    ghost failure = { λ l. P.failure l.port };
+
     fn sight(&self) -> Sight {
         self.port.sight()
     }

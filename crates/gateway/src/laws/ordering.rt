@@ -9,8 +9,10 @@ ghost use Rattle.gateway.specs.Moments.{IsGreatest, BearGreatest};
 ghost use Rattle.gateway.specs.Setups.{setup_of};
 
 /// A step puts out at most one request to the line and at most one close, and nothing goes to TCP
-/// after a close. The premises, that neither w nor t3 is 0, hold of all settings: with a 0 an S
-/// frame or a test would be due at once on a connection that has just replaced another.
+/// after a close. A request goes out before octets to TCP, but for those that a frame of the event
+/// brings about: they go out behind it, before the next one is taken. The premises, that neither w
+/// nor t3 is 0, hold of all settings: with a 0 an S frame or a test would be due at once on a
+/// connection that has just replaced another.
 pub fn steps_keep_their_order()
     ensures setups { (p : Setup) (log : Log) → 0 < p.session.w → 0 < p.session.t3 →
         IsFaithful p log → KeepsOrder log }

@@ -1,19 +1,32 @@
 //! The turns of the line, on logs.
-ghost use Rattle.std.specs.Prelude.{◌≤◌, Some};
+ghost use Rattle.std.specs.Prelude.{◌≡◌, ◌≤◌, List, Some};
 ghost use Rattle.gateway.specs.Config.{Settings, AreStations};
 ghost use Rattle.gateway.specs.Setups.{setup_of};
+ghost use Rattle.link.specs.Runs.{Call};
 ghost use Rattle.gateway.specs.Log.{Log};
+ghost use Rattle.gateway.specs.Reports.{Setup};
+ghost use Rattle.gateway.specs.Calling.{CallsOf};
 ghost use Rattle.gateway.specs.State.{State};
 ghost use Rattle.gateway.specs.Agrees.{Follows};
 ghost use Rattle.gateway.specs.Turning.{KeepsTurns};
 
-use link::{commands_go_before_polls, no_station_starves, turns_end};
+use apci::{one_front, spellings_cancel};
+use asdu::{objects_are_those_of_the_asdu, one_asdu_one_spelling};
+use command::{commands_are_forwarded, waiting_commands_stay};
+use link::{
+    class_1_polls_go_on, commands_go_before_polls, giving_up_is_for_one_station, giving_up_is_told,
+    line_keeps_the_procedures, no_station_starves, polls_follow_commands, repeats_come_at_once,
+    turns_end,
+};
 
-/// On each log that a gateway follows turns end, no station starves, and commands go before polls,
-/// as the laws of the link have it over lists of calls: the log's exchanges are those of such a
-/// list. At a restart the calls give up the link to each station with a command without an answer;
-/// that ends its visit, and the next visit of that station resets its link. (Settings have 1 to 32
-/// stations, each with an address, and a burst of at least one.)
+/// On each log that a gateway follows turns end, no station starves, commands go before polls,
+/// class 1 goes on while ACD is set, and repeats and the poll behind a command come at once, as the
+/// laws of the link have it over lists of calls. The list is the one that the log shows
+/// (`CallsOf`): in each step what waits is offered and a request is asked for, at the step's
+/// moment, with leave to poll exactly where the queue has room. The log's exchanges are those of
+/// these calls. At a restart the calls give up the link to each station with a command without an
+/// answer; that ends its visit, and the next visit of that station resets its link. (Settings have
+/// 1 to 32 stations, each with an address, and a burst of at least one.)
 pub fn logs_keep_turns()
     ensures { (c : Settings) (s : State) (log : Log) →
         AreStations c.line.link c.line.sizes.ca c.stations → 1 ≤ c.line.burst →
@@ -22,4 +35,25 @@ pub fn logs_keep_turns()
     turns_end();
     no_station_starves();
     commands_go_before_polls();
+    class_1_polls_go_on();
+    repeats_come_at_once();
+    polls_follow_commands();
+    line_keeps_the_procedures();
+    giving_up_is_told();
+    giving_up_is_for_one_station();
+    commands_are_forwarded();
+    waiting_commands_stay();
+}
+
+/// A log shows one list of calls. So `logs_keep_turns` speaks of no other: the moment and the leave
+/// of each call, and what was offered before it, are those of the log.
+pub fn one_list_of_calls()
+    ensures { (p : Setup) (log : Log) (calls other : List Call) → CallsOf p log calls →
+        CallsOf p log other → calls ≡ other }
+{
+    one_front();
+    spellings_cancel();
+    one_asdu_one_spelling();
+    objects_are_those_of_the_asdu();
+    line_keeps_the_procedures();
 }

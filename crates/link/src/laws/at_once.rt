@@ -1,7 +1,11 @@
 //! Repeats come at once, and polls behind a command.
-ghost use Rattle.std.specs.Prelude.{ℕ, List, None};
-ghost use Rattle.link.specs.AtOnce.{RepeatsComeAtOnce, PollsFollowCommands};
-ghost use Rattle.link.specs.Procedure.{LinkSettings};
+ghost use Rattle.std.specs.Prelude.{◌≡◌, ◌<◌, ◌≤◌, ◌||◌, ℕ, suc, nat_le, Bool, List, length, None};
+ghost use Rattle.std.specs.List.{AllByRecursion};
+ghost use Rattle.link.specs.Answers.{Service};
+ghost use Rattle.link.specs.AtOnce.{RepeatsComeAtOnce, PollsFollowCommands, TurnsGoOn};
+ghost use Rattle.link.specs.Exchanges.{Exchange};
+ghost use Rattle.link.specs.Procedure.{LinkSettings, Next, link_after, has_repeats, is_up};
+ghost use Rattle.link.specs.Repeats.{IsMissed};
 ghost use Rattle.link.specs.Primary.{start};
 ghost use Rattle.link.specs.Runs.{Call};
 
@@ -14,6 +18,24 @@ pub fn repeats_come_at_once()
         RepeatsComeAtOnce (start settings addresses) None calls }
 {}
 
+/// An unanswered service is repeated as often as the settings say. It has a repeat left as long as
+/// it was sent no more often than `retries` says, each time without an answer, and then none. Until
+/// then its link stays up, and behind the last repeat only where `hold` says so.
+pub fn repeats_are_as_many_as_set()
+    ensures again { (settings : LinkSettings) (station : ℕ) (fcb : Bool) (service : Service)
+        (sent : List Exchange) →
+        AllByRecursion (IsMissed station fcb service) sent → 0 < length sent →
+        length sent ≤ suc settings.retries →
+        has_repeats settings (link_after settings station (Next fcb) sent)
+        ≡ nat_le (length sent) settings.retries }
+    ensures up { (settings : LinkSettings) (station : ℕ) (fcb : Bool) (service : Service)
+        (sent : List Exchange) →
+        AllByRecursion (IsMissed station fcb service) sent → 0 < length sent →
+        length sent ≤ suc settings.retries →
+        is_up (link_after settings station (Next fcb) sent)
+        ≡ (settings.hold || nat_le (length sent) settings.retries) }
+{}
+
 /// Whatever is called: where the latest request of the line is a command that was answered, and the
 /// station's link is up, the next request goes to the same station, if the caller has leave. It is
 /// the poll that ACD asks for, or the command that waits there. (That one may follow a command that
@@ -22,4 +44,13 @@ pub fn repeats_come_at_once()
 pub fn polls_follow_commands()
     ensures { (settings : LinkSettings) (addresses : List ℕ) (calls : List Call) →
         PollsFollowCommands (start settings addresses) None calls }
+{}
+
+/// Whatever is called: where a turn began with a service that was held, its repeats being used up,
+/// and that was answered, and the station's link is up, the next request goes to the same station,
+/// if the caller has leave. It is the command that waits there, or the poll that ACD asks for. So a
+/// held service takes the place of none of the turn's requests.
+pub fn turns_go_on_behind_held_services()
+    ensures { (settings : LinkSettings) (addresses : List ℕ) (calls : List Call) →
+        TurnsGoOn (start settings addresses) None calls }
 {}

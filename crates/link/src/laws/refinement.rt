@@ -10,6 +10,16 @@ ghost use Rattle.link.specs.Delivery.{learnt, IsHonest, IsKnown, IsSessionKnown,
 ghost use Rattle.link.specs.Delivery.{pending_after, IsAllOrButLast, IsLatestAnswered, reports};
 ghost use Rattle.link.specs.Delivery.{HasReports, AcceptsSendings, AcceptsAllSendings};
 ghost use Rattle.link.specs.Delivery.{sendings_not_busy, is_command_pending, commands};
+ghost use Rattle.link.specs.Bits.{BitsFollow};
+
+/// From one exchange with a station to the next the frame count bit is as the standard has it: 1
+/// behind a reset that was confirmed, the other one behind a service that was served, and the same
+/// behind one that had no answer, which is sent again as it was. No service comes behind a status,
+/// nor behind a service that couldn't be served, nor behind a link that was given up.
+pub fn frame_count_bits_alternate()
+    ensures { (settings : LinkSettings) (station : ℕ) (xs : List Exchange) →
+        KeepsFrameCountBit settings station Down xs → BitsFollow station xs }
+{}
 
 /// In each session of the link an honest outstation has done what the primary learnt, and then at
 /// most what the session's last service asks for. What is learnt and done is learnt and done in the

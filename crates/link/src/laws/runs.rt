@@ -1,5 +1,6 @@
 //! What holds of every list of calls of a primary station.
-ghost use Rattle.std.specs.Prelude.{◌≡◌, ◌≢◌, ◌<◌, ◌↔◌, [], ℕ, Bool, true, false, List, All};
+ghost use Rattle.std.specs.Prelude.{◌≡◌, ◌≢◌, ◌<◌, ◌+◌, ◌%◌, ◌↔◌, [], ℕ, Bool, true, false, List};
+ghost use Rattle.std.specs.Prelude.{All};
 ghost use Rattle.std.specs.Prelude.{length, slice_index, Option, Some, None};
 ghost use Rattle.ft12.specs.declared.frame.Front.{Front};
 ghost use Rattle.ft12.specs.Fronts.{front_of};
@@ -17,7 +18,7 @@ ghost use Rattle.link.specs.Primary.{received_outcome, timed_out, due_outcome};
 ghost use Rattle.link.specs.declared.outcome.Outcome.TheVariants as outcome;
 ghost use Rattle.link.specs.Telling.{Tells};
 ghost use Rattle.link.specs.Runs.{Call, MayCallAll, called_all, exchanged_all, all_deeds};
-ghost use Rattle.link.specs.Runs.{AreInOrder, BeginsTurn, HaveNone, silence_outcome};
+ghost use Rattle.link.specs.Runs.{AreInOrder, BeginsTurn, HaveNone, nth_after, silence_outcome};
 
 use ft12::front_is_computed;
 
@@ -37,7 +38,7 @@ pub fn frame_count_bits_are_kept()
 
 /// Turns go round: the present turn goes on as long as it has a request. Then the first station has
 /// its turn, round from the one after the last served, that has a request. Where none goes out,
-/// none has one.
+/// none has one. Round means in the order of the stations, and behind the last the first again.
 pub fn turns_go_round()
     ensures goes_on { (p : Primary) (may_poll : Bool) (w : Wanted) → p.outstanding ≡ None →
         wanted p.settings.burst may_poll p.again (station_at p.stations p.turn) p.phase ≡ Some w →
@@ -47,6 +48,8 @@ pub fn turns_go_round()
         sending p may_poll ≡ Some s → BeginsTurn p may_poll s }
     ensures rests { (p : Primary) (may_poll : Bool) → p.outstanding ≡ None →
         sending p may_poll ≡ None → HaveNone p may_poll }
+    ensures order { (count place steps : ℕ) → place < count →
+        nth_after count place steps ≡ (place + steps) % count }
 {}
 
 /// What the caller is told of octets is the answer of the exchange that is outstanding, if they

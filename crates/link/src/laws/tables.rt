@@ -1,10 +1,14 @@
 //! The tables of the link layer are whole.
-ghost use Rattle.std.specs.Prelude.{◌≡◌, ◌+◌, ◌/◌, ◌%◌, ◌==◌, ◌⊎◌, ℕ, List, None};
+ghost use Rattle.std.specs.Prelude.{◌≡◌, ◌+◌, ◌/◌, ◌%◌, ◌==◌, ◌⊎◌, ℕ, Bool, List, [], None};
+ghost use Rattle.std.specs.Prelude.{if◌then◌else◌};
 ghost use Rattle.arrayvec.specs.ArrayVec.{ArrayVec};
-ghost use Rattle.link.specs.Answers.{Single, Fixed, Data, Asked, answer_of};
+ghost use Rattle.link.specs.Answers.{Single, Fixed, Data, Class1, Class2, Command, Asked, Status};
+ghost use Rattle.link.specs.Answers.{Reset, Counted, answer_of};
 ghost use Rattle.link.specs.Primary.{outcome_of, acd_of, dfc_of};
-ghost use Rattle.link.specs.Requests.{reading_of};
+ghost use Rattle.link.specs.Requests.{request_frame, reading_of, Foreign, Unknown, Asks};
+ghost use Rattle.link.specs.Secondary.{data_frame};
 ghost use Rattle.link.specs.Tables.{row, answer_in, told_row, outcome_in, data_row, single_row};
+ghost use Rattle.link.specs.Tables.{plain_row, counted_row, reading_in};
 
 /// For each request, each of the sixteen functions of a secondary station is an answer that its
 /// table says, or none, and so is what the caller is told of it. A frame that a primary station
@@ -53,4 +57,36 @@ pub fn reserved_bits_are_not_looked_at()
         ≡ reading_of station (Fixed octet address))
         × (reading_of station (Data (octet + 128) address body)
         ≡ reading_of station (Data octet address body)) }
+{}
+
+/// Each request has one control octet, whatever the address of its station: PRM 1, FCV 1 and FCB in
+/// bit 5 where it is a service. Of the frames to a station, by each of the sixteen functions of a
+/// primary station, with FCV or without, those in the rows are requests that it knows, and no
+/// others. A frame that a secondary station sent (PRM 0), or that has another address, asks
+/// nothing of it.
+pub fn requests_are_whole()
+    ensures frames { (address : ℕ) (fcb : Bool) (asdu : List ℕ) →
+        (request_frame address Status ≡ Fixed 0x49 address)
+        × (request_frame address Reset ≡ Fixed 0x40 address)
+        × (request_frame address (Counted fcb Class1) ≡ Fixed (if fcb then 0x7A else 0x5A) address)
+        × (request_frame address (Counted fcb Class2) ≡ Fixed (if fcb then 0x7B else 0x5B) address)
+        × (request_frame address (Counted fcb (Command asdu))
+        ≡ data_frame (if fcb then 0x73 else 0x53) address asdu) }
+    ensures plain { (station octet : ℕ) → octet / 64 % 2 ≡ 1 → octet / 16 % 2 ≡ 0 →
+        reading_of station (Fixed octet station) ≡ reading_in (octet % 16) plain_row }
+    ensures counted { (station octet : ℕ) → octet / 64 % 2 ≡ 1 → octet / 16 % 2 ≡ 1 →
+        reading_of station (Fixed octet station)
+        ≡ reading_in (octet % 16) (counted_row (octet / 32 % 2 == 1)) }
+    ensures user_data { (station octet : ℕ) (body : ArrayVec ℕ) → octet / 64 % 2 ≡ 1 →
+        octet / 16 % 2 ≡ 1 → octet % 16 ≡ 3 → (body.items ≡ [] → ⊥) →
+        reading_of station (Data octet station body)
+        ≡ Asks (Counted (octet / 32 % 2 == 1) (Command body.items)) }
+    ensures other_data { (station octet : ℕ) (body : ArrayVec ℕ) → octet / 64 % 2 ≡ 1 →
+        (octet / 16 % 2 ≡ 0) ⊎ ((octet % 16 ≡ 3 → ⊥) ⊎ (body.items ≡ [])) →
+        reading_of station (Data octet station body) ≡ Unknown }
+    ensures foreign { (station octet address : ℕ) (body : ArrayVec ℕ) →
+        (octet / 64 % 2 ≡ 0) ⊎ (address ≡ station → ⊥) →
+        (reading_of station (Fixed octet address) ≡ Foreign)
+        × (reading_of station (Data octet address body) ≡ Foreign)
+        × (reading_of station Single ≡ Foreign) }
 {}

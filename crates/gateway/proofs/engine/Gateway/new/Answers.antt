@@ -7,5 +7,10 @@ returns-clause-begins c =
     let config = c.args.config.now in
     first_follows config c.in_ok-gateway.gateway (Some []) c.master_tells_the_log.ensures.start
     c.session_keeps_the_standard.ensures c.commands_keep_the_rules.ensures.calls
+    (record {
+      places = c.places_come_back.ensures.waiting;
+      others = c.faultless_commands_pass.ensures.others;
+      executes_pass = c.faultless_commands_pass.ensures.executes;
+    })
     c.line_keeps_the_procedures.ensures c.stations-stations.ensures.rules
     (timely config.tcp) c.in_ok-gateway.ensures refl

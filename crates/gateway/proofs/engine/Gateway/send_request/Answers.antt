@@ -15,7 +15,7 @@ returns-in-None-clause-kept g c = λ p h.
     let none : sending r.serial.line (has_room r.centre.queue) ≡ None =
     none_is r.serial.line _ (sym c.in-None.is ∙ c.next_request-next.ensures.request) in
     asked_none c.line_keeps_the_procedures.ensures p _ c.args.self.now r
-    c.next_request-next.new.self c.requires.told
+    c.next_request-next.new.self c.requires.told c.requires.in_time
     (record {
       is = c.offer_all.ensures.state;
       tells =
@@ -36,7 +36,7 @@ returns-in-Some-clause-kept g c = λ p h.
     asked_leaves c.line_keeps_the_procedures.ensures c.put.result p (g.P.Port.log c.args.port.now)
     (g.P.Port.log c.put.new.self) c.args.self.now r c.next_request-next.new.self next.0
     c.deref.result.now
-    c.moment.result c.requires.told
+    c.moment.result c.requires.told c.requires.in_time
     (record {
       is = c.offer_all.ensures.state;
       tells =
@@ -52,7 +52,7 @@ pub returns-then-is_awaiting-clause-kept : goal.returns-then-is_awaiting-clause-
 returns-then-is_awaiting-clause-kept g c = λ p h.
     let r : State = c.offer_all.new.self in
     let some = sym c.is_awaiting.ensures ∙ c.if-is_awaiting.true in
-    asked_none c.line_keeps_the_procedures.ensures p _ c.args.self.now r r c.requires.told
+    asked_none c.line_keeps_the_procedures.ensures p _ c.args.self.now r r c.requires.told c.requires.in_time
     (record {
       is = c.offer_all.ensures.state;
       tells =

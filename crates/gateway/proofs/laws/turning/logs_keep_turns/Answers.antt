@@ -3,6 +3,26 @@ use Rattle.gateway.proofs.laws.turning.logs_keep_turns.Goals as goal
 
 pub returns : goal.returns
 returns c = λ settings s log rules burst follows.
-    turns c.turns_end.ensures.visits c.no_station_starves.ensures c.commands_go_before_polls.ensures
-    settings s log
-    rules burst follows.0
+    turns (record {
+      ends = c.turns_end.ensures.visits;
+      starves = c.no_station_starves.ensures;
+      first = c.commands_go_before_polls.ensures;
+      bursts = c.class_1_polls_go_on.ensures;
+      repeats = c.repeats_come_at_once.ensures;
+      polls = c.polls_follow_commands.ensures;
+    }) (record {
+      line = c.line_keeps_the_procedures.ensures;
+      gives_up = record {
+        awaits = c.giving_up_is_told.ensures.awaits;
+        one = c.giving_up_is_told.ensures.one;
+      };
+      for_one = record {
+        done = c.giving_up_is_for_one_station.ensures.done;
+        itself = c.giving_up_is_for_one_station.ensures.itself;
+        others = c.giving_up_is_for_one_station.ensures.others;
+        awaited = c.giving_up_is_for_one_station.ensures.awaited;
+        number = c.giving_up_is_for_one_station.ensures.number;
+      };
+      waiting = c.commands_are_forwarded.ensures.waiting;
+      stay = c.waiting_commands_stay.ensures.mirrored;
+    }) settings s log rules burst follows.0

@@ -1,3 +1,4 @@
+use Rattle.link.proofs.Round.{nth_is}
 use Rattle.link.proofs.Turning.{goes_on, passes_on, rests}
 use Rattle.link.proofs.laws.runs.turns_go_round.Goals as goal
 
@@ -9,3 +10,6 @@ returns-clause-passes_on c = λ p may_poll s free is sent. passes_on p may_poll 
 
 pub returns-clause-rests : goal.returns-clause-rests
 returns-clause-rests c = λ p may_poll free none. rests p may_poll free none
+
+pub returns-clause-order : goal.returns-clause-order
+returns-clause-order c = nth_is

@@ -38,7 +38,6 @@ use Rattle.command.specs.Judging.{makes_selection, selected, queued, forwarded}
 use Rattle.command.specs.Mirrors.{mirrored}
 use Rattle.command.specs.Calls.{Call, Judge, PutOnLine, Accept, Busy, Lose, Mirror, Own, SendOwn}
 use Rattle.command.specs.Calls.{Cut, Due, Run, after_sending, after_answer, after_call}
-use Rattle.delivery.proofs.Sublists.{all_append}
 
 -- Octets
 
@@ -153,6 +152,12 @@ command_fits size s ca xs h = record {
 }
 
 -- What waits
+
+all_append : {X : Type 0} (P : X → Type 0) (xs ys : List X) → AllByRecursion P xs
+    → AllByRecursion P ys
+    → AllByRecursion P (xs ++ ys)
+all_append {X} P [] ys h k = k
+all_append {X} P (x ∷ xs) ys h k = (h.0, all_append P xs ys h.1 k)
 
 abbrev pub AllFitLine : LinkSize → List Waiting → Type 0
 AllFitLine size ws = AllByRecursion (λ (w : Waiting). IsUserData size w.octets) ws

@@ -23,30 +23,30 @@ pub enum Took {
 /// Octets both ways. No call waits. Dropping it closes it.
 pub trait Stream: Drop {
     ghost use Rattle.std.specs.Prelude.{◌≡◌, ◌≤◌, length, take};
-    ghost use Rattle.status.specs.Streams.{Told, FitsBuffer, got_of, more_told, took_count};
+    ghost use Rattle.status.specs.Streams.{Passed, FitsBuffer, got_of, more_passed, took_count};
 
-    /// The octets that it gave, where it tells them.
-    ghost heard: { Self → Told };
+    /// The octets that it gave, where it keeps them.
+    ghost given: { Self → Passed };
 
-    /// The octets that it took, where it tells them.
-    ghost taken: { Self → Told };
+    /// The octets that it took, where it keeps them.
+    ghost taken: { Self → Passed };
 
     /// Looks once. Octets are put at the front of the buffer.
     fn read(&mut self, buf: &mut [u8; 1024]) -> Received
         ensures fits { FitsBuffer result }
-        ensures heard { heard self.new ≡ more_told (heard self.old) (got_of result buf.new) }
+        ensures given { given self.new ≡ more_passed (given self.old) (got_of result buf.new) }
         ensures taken { taken self.new ≡ taken self.old };
 
     /// Hands it octets.
     fn write(&mut self, octets: &[u8]) -> Took
         ensures fits { took_count result ≤ length octets.now }
         ensures taken { taken self.new
-            ≡ more_told (taken self.old) (take (took_count result) octets.now) }
-        ensures heard { heard self.new ≡ heard self.old };
+            ≡ more_passed (taken self.old) (take (took_count result) octets.now) }
+        ensures given { given self.new ≡ given self.old };
 
-    /// Tells the other end that nothing more will be written.
+    /// Holds the other end that nothing more will be written.
     fn finish(&mut self)
-        ensures heard { heard self.new ≡ heard self.old }
+        ensures given { given self.new ≡ given self.old }
         ensures taken { taken self.new ≡ taken self.old };
 }
 
@@ -59,6 +59,6 @@ pub trait StreamSource {
 
     /// Looks once for somebody who has come, without a wait. Nothing has been read or written yet.
     fn accept(&mut self) -> Option<Self::Stream>
-        ensures heard { IfSome result (λ stream. IsNew (Self.Stream.heard stream)) }
+        ensures given { IfSome result (λ stream. IsNew (Self.Stream.given stream)) }
         ensures taken { IfSome result (λ stream. IsNew (Self.Stream.taken stream)) };
 }

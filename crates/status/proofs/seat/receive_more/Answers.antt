@@ -1,11 +1,11 @@
 use Rattle.std.proofs.Common.{refl}
-use Rattle.status.proofs.SeatLemmas.{kept_heard, kept_answered}
-use Rattle.status.proofs.seat.hear_more.Goals as goal
+use Rattle.status.proofs.SeatLemmas.{kept_received, kept_answered}
+use Rattle.status.proofs.seat.receive_more.Goals as goal
 
 pub returns-in-Nothing-clause-kept : goal.returns-in-Nothing-clause-kept
 returns-in-Nothing-clause-kept g c =
-    kept_heard _ _ _ _ _ _ c.args.desk.now c.hear.new.request c.requires.kept c.requires.stage
-    c.hear.ensures.heard c.hear.ensures.taken
+    kept_received _ _ _ _ _ _ c.args.desk.now c.receive.new.request c.requires.kept c.requires.stage
+    c.receive.ensures.given c.receive.ensures.taken
 
 pub returns-in-Nothing-clause-answers : goal.returns-in-Nothing-clause-answers
 returns-in-Nothing-clause-answers g c = rw c.requires.stage c.in-Nothing.ensures
@@ -13,8 +13,8 @@ returns-in-Nothing-clause-answers g c = rw c.requires.stage c.in-Nothing.ensures
 pub returns-in_default : goal.returns-in_default
 returns-in_default g c = record {
   kept = kept_answered _ _ _ _ _ _
-      (kept_heard _ _ _ _ _ _ c.args.desk.now c.hear.new.request c.requires.kept c.requires.stage
-      c.hear.ensures.heard c.hear.ensures.taken)
+      (kept_received _ _ _ _ _ _ c.args.desk.now c.receive.new.request c.requires.kept c.requires.stage
+      c.receive.ensures.given c.receive.ensures.taken)
       c.requires.stage;
   since = refl;
   answers = (

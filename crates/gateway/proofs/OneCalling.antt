@@ -1,0 +1,61 @@
+-- A log shows one list of calls.
+use Rattle.std.proofs.Common.{◌≡◌, Bool, true, false, List, [], ◌∷◌, ◌++◌, length, refl, ap, sym}
+use Rattle.std.proofs.Common.{◌∙◌, subst}
+use Rattle.link.specs.Runs.{Call, Next}
+use Rattle.gateway.specs.Log.{Log, LineOut, TcpOut, Closed, GapOut, Came, Went, latest}
+use Rattle.gateway.specs.Reports.{Setup, exchanges_of}
+use Rattle.gateway.specs.Room.{IsFull}
+use Rattle.gateway.specs.Course.{Course, here_of}
+use Rattle.gateway.specs.Calling.{is_asking, offers, IsLeave, Asks, EndsStep, event_calls}
+use Rattle.gateway.specs.Calling.{action_calls, CallsOf}
+use Rattle.gateway.proofs.OneCourse.{Laws, one_whole}
+
+-- the room decides the leave
+one_leave : (p : Setup) (log : Log) (c d : Course) → c ≡ d → (a b : Bool) → IsLeave p log c a
+    → IsLeave p log d b → a ≡ b
+one_leave p log c d same true true h k = refl
+one_leave p log c d same true false h k =
+    absurd (h (subst (λ (x : Course). IsFull p log (here_of x ∷ x.earlier)) (sym same) k))
+one_leave p log c d same false true h k =
+    absurd (k (subst (λ (x : Course). IsFull p log (here_of x ∷ x.earlier)) same h))
+one_leave p log c d same false false h k = refl
+
+one_asking : Laws → (p : Setup) (log : Log) (xs ys : List Call) → Asks p log xs → Asks p log ys
+    → xs ≡ ys
+one_asking laws p log xs ys a b =
+    let same : a.course ≡ b.course =
+    one_whole laws p log a.course b.course a.runs b.runs a.all b.all in
+    let leave : a.leave ≡ b.leave =
+    one_leave p log a.course b.course same a.leave b.leave a.room b.room in
+    a.are
+    ∙ ap (λ (c : Course). offers p (length p.addresses) c.works.history
+    ++ Next (latest log) a.leave ∷ []) same
+    ∙ ap (λ (l : Bool). offers p (length p.addresses) b.course.works.history
+    ++ Next (latest log) l ∷ []) leave
+    ∙ sym b.are
+
+one_end : Laws → (p : Setup) (log : Log) (asking : Bool) (xs ys : List Call)
+    → EndsStep p log asking xs → EndsStep p log asking ys → xs ≡ ys
+one_end laws p log true xs ys h k = one_asking laws p log xs ys h k
+one_end laws p log false xs ys h k = h ∙ sym k
+
+pub one_list : Laws → (p : Setup) (log : Log) (xs ys : List Call) → CallsOf p log xs
+    → CallsOf p log ys → xs ≡ ys
+one_list laws p [] xs ys h k = h ∙ sym k
+one_list laws p (Came now event ∷ log) xs ys h k =
+    let more : List Call =
+    event_calls p (latest (Came now event ∷ log)) event (exchanges_of p log) in
+    h.4 ∙ ap (λ (l : List Call). (l ++ h.1) ++ more) (one_list laws p log h.0 k.0 h.2 k.2)
+    ∙ ap (λ (l : List Call). (k.0 ++ l) ++ more)
+    (one_end laws p log (is_asking log) h.1 k.1 h.3 k.3)
+    ∙ sym k.4
+one_list laws p (Went now (LineOut octets) ∷ log) xs ys h k =
+    h.4 ∙ ap (λ (l : List Call). l ++ h.1) (one_list laws p log h.0 k.0 h.2 k.2)
+    ∙ ap (λ (l : List Call). k.0 ++ l) (one_asking laws p log h.1 k.1 h.3 k.3) ∙ sym k.4
+one_list laws p (Went now (TcpOut octets) ∷ log) xs ys h k =
+    h.2 ∙ ap (λ (l : List Call). l ++ []) (one_list laws p log h.0 k.0 h.1 k.1) ∙ sym k.2
+one_list laws p (Went now (Closed cause) ∷ log) xs ys h k =
+    h.2 ∙ ap (λ (l : List Call). l ++ action_calls (Closed cause))
+    (one_list laws p log h.0 k.0 h.1 k.1) ∙ sym k.2
+one_list laws p (Went now (GapOut station session) ∷ log) xs ys h k =
+    h.2 ∙ ap (λ (l : List Call). l ++ []) (one_list laws p log h.0 k.0 h.1 k.1) ∙ sym k.2

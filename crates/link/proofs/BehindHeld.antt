@@ -1,0 +1,415 @@
+-- What goes out behind a held service with which a turn began.
+use Rattle.std.specs.Prelude.{◌==◌}
+use Rattle.std.proofs.Common.{◌≡◌, ℕ, ◌||◌, ◌&&◌, not, Bool, true, false, List, [], ◌∷◌, ◌++◌}
+use Rattle.std.proofs.Common.{slice_set, map, Option, Some, None, refl, sym, ap, subst, ◌∙◌}
+use Rattle.std.proofs.Common.{if◌then◌else◌}
+use Rattle.std.proofs.lemmas.Bool.{eqb-true, eqb-false}
+use Rattle.std.proofs.lemmas.List.{get_or-set_other}
+use Rattle.ft12.specs.declared.frame.Front.{Front}
+use Rattle.ft12.specs.Fronts.{front_of}
+use Rattle.link.specs.Answers.{Frame, Service, Asked, Status, Reset, Counted, Answer, Ready}
+use Rattle.link.specs.Answers.{Confirmed, Busy, Report, NoData, Unable}
+use Rattle.link.specs.Exchanges.{Sending, whole_of}
+use Rattle.link.specs.Procedure.{LinkSettings, Link, Down, Available, Next, Held, is_held}
+use Rattle.link.specs.Procedure.{is_service, has_repeats, after_answer}
+use Rattle.link.specs.Turns.{StationState, no_station, Phase, Starting, Commanding, Polling}
+use Rattle.link.specs.Turns.{Class1Polling, Over, Wanted, Chosen, station_at, is_poll, wants}
+use Rattle.link.specs.Turns.{wanted_by}
+use Rattle.link.specs.Primary.{Outstanding, Primary, start, choice, after_choice, asked_from}
+use Rattle.link.specs.Primary.{asked, sending_by, sending_from, phase_after, answer_at, answered}
+use Rattle.link.specs.Primary.{station_answered, said_by, open_octets, took, with_octets}
+use Rattle.link.specs.Primary.{received_after, received_from, received, station_unanswered}
+use Rattle.link.specs.Primary.{unanswered, is_late, due_from, timed_out, may_offer, with_offer}
+use Rattle.link.specs.Primary.{without_offer, offered_to}
+use Rattle.link.specs.Carried.{station_given_up, given_up}
+use Rattle.link.specs.Runs.{Call, Octets, Due, Offer, Withdraw, GivesUp, called}
+use Rattle.link.specs.Runs as runs
+use Rattle.link.specs.Bursts.{is_answered}
+use Rattle.link.specs.AtOnce.{is_spent, began_by, began_out, began_after, TurnGoesOn, TurnIsNext}
+use Rattle.link.specs.AtOnce.{TurnsGoOn}
+use Rattle.link.proofs.Leaving.{set_none, without_links}
+use Rattle.link.proofs.Preceding.{IsChosen, here, there, is_chosen}
+use Rattle.link.proofs.Links.{set_view}
+use Rattle.link.proofs.Bursting.{not_both, silent_down}
+use Rattle.link.proofs.Repeating.{IsBeforePolls, none_out, held_is}
+use Rattle.link.proofs.BehindCommands.{goes_on}
+
+-- A service is sent again at once only where repeats are left, and nothing is outstanding.
+abbrev pub AgainHas : Primary → Type 0
+AgainHas p =
+    p.again ≡ true → (p.outstanding ≡ None)
+    × (is_held (station_at p.stations p.turn).link ≡ true
+    → has_repeats p.settings (station_at p.stations p.turn).link ≡ true)
+
+-- The service is outstanding, or it ended; a command and polls are next.
+pub data Stays (outstanding : Option Outstanding) (phase : Phase) (link : Link) : Type 0 where
+  waits : (o : Outstanding) → outstanding ≡ Some o → is_service o.request ≡ true
+      → phase ≡ Commanding → Stays outstanding phase link
+  ended : outstanding ≡ None → (is_answered link ≡ true → phase ≡ Commanding)
+      → Stays outstanding phase link
+
+abbrev pub Began : Primary → Option ℕ → Type 0
+Began p None = Unit {0}
+Began p (Some station) =
+    (p.turn ≡ station) × Stays p.outstanding p.phase (station_at p.stations p.turn).link
+
+abbrev pub Tells : Primary → Option ℕ → Type 0
+Tells p began = AgainHas p × Began p began
+
+-- ---- `next`
+
+abbrev pub held_want : Bool → Service → Wanted
+held_want fcb service = record { request = Counted fcb service; following = Commanding }
+
+same_want : (v w : Wanted) → Some v ≡ Some w → v ≡ w
+same_want v w e = cc
+
+-- A held service that begins a turn is followed by a command and polls.
+held_follows : (burst : ℕ) (may_poll again : Bool) (s : StationState) (link : Link) (phase : Phase)
+    (w : Wanted) → is_held link ≡ true → (again ≡ true → ⊥)
+    → wanted_by burst may_poll again s link phase ≡ Some w
+    → (is_service w.request ≡ true) × (w.following ≡ Commanding)
+held_follows burst may_poll again s (Held fcb service missed) Starting w held once is =
+    go (may_poll || not (is_poll service)) is
+  where
+    go : (b : Bool) → (if b then wants (Counted fcb service) Commanding else None) ≡ Some w
+        → (is_service w.request ≡ true) × (w.following ≡ Commanding)
+    go true e =
+        let same = same_want (held_want fcb service) w e in (
+          ap (λ (x : Wanted). is_service x.request) (sym same),
+          ap (λ (x : Wanted). x.following) (sym same),
+        )
+    go false e = let no : ⊥ = cc in absurd no
+held_follows burst may_poll true s (Held fcb service missed) Commanding w held once is =
+    absurd (once refl)
+held_follows burst may_poll true s (Held fcb service missed) Polling w held once is =
+    absurd (once refl)
+held_follows burst may_poll true s (Held fcb service missed) (Class1Polling sent) w held once is =
+    absurd (once refl)
+held_follows burst may_poll true s (Held fcb service missed) Over w held once is =
+    absurd (once refl)
+held_follows burst may_poll false s (Held fcb service missed) Commanding w held once is =
+    let no : ⊥ = cc in absurd no
+held_follows burst may_poll false s (Held fcb service missed) Polling w held once is =
+    let no : ⊥ = cc in absurd no
+held_follows burst may_poll false s (Held fcb service missed) (Class1Polling sent) w held once is =
+    let no : ⊥ = cc in absurd no
+held_follows burst may_poll false s (Held fcb service missed) Over w held once is =
+    let no : ⊥ = cc in absurd no
+held_follows burst may_poll again s Down phase w held once is = let no : ⊥ = cc in absurd no
+held_follows burst may_poll again s Available phase w held once is = let no : ⊥ = cc in absurd no
+held_follows burst may_poll again s (Next fcb) phase w held once is = let no : ⊥ = cc in absurd no
+
+parts : (a b : Bool) → (a && not b) ≡ true → (a ≡ true) × (b ≡ false)
+parts true false e = (refl, refl)
+parts true true e = let no : ⊥ = cc in absurd no
+parts false b e = let no : ⊥ = cc in absurd no
+
+begins : (p : Primary) (c : Chosen) (may_poll : Bool) → AgainHas p → IsChosen p may_poll c
+    → is_spent p c.station ≡ true
+    → (is_service c.wanted.request ≡ true) × (c.wanted.following ≡ Commanding)
+begins p c may_poll has (here at is) spent =
+    held_follows p.settings.burst may_poll p.again (station_at p.stations c.station) link p.phase
+    c.wanted both.0 (λ again. not_both (has_repeats p.settings link) (repeats again) both.1) is
+  where
+    link : Link
+    link = (station_at p.stations c.station).link
+
+    both : (is_held link ≡ true) × (has_repeats p.settings link ≡ false)
+    both = parts (is_held link) (has_repeats p.settings link) spent
+
+    repeats : p.again ≡ true → has_repeats p.settings link ≡ true
+    repeats again = subst (λ (i : ℕ). is_held (station_at p.stations i).link ≡ true
+        → has_repeats p.settings (station_at p.stations i).link ≡ true) (sym at) (has again).1
+        both.0
+begins p c may_poll has (there is) spent =
+    held_follows p.settings.burst may_poll false (station_at p.stations c.station)
+    (station_at p.stations c.station).link Starting c.wanted
+    (parts (is_held (station_at p.stations c.station).link)
+    (has_repeats p.settings (station_at p.stations c.station).link) spent).0
+    (λ e. not_both false e refl) is
+
+asked_tells : (p : Primary) (began : Option ℕ) (now : ℕ) (may_poll : Bool) → Tells p began
+    → Tells (asked p now may_poll) (began_out p p.outstanding may_poll began)
+asked_tells p began now may_poll tells = go p.outstanding refl
+  where
+    by : p.outstanding ≡ None → (c : Option Chosen) → choice p may_poll ≡ c
+        → Tells (after_choice p now c) (began_by p (sending_by c))
+    by out None e = ((λ again. absurd (not_both false again refl)), tt)
+    by out (Some c) e =
+        ((λ again. absurd (not_both false again refl)), mark (is_spent p c.station) refl)
+      where
+        mark : (b : Bool) → is_spent p c.station ≡ b
+            → Began (after_choice p now (Some c)) (if b then Some c.station else None)
+        mark true is =
+            let it = begins p c may_poll tells.0 (is_chosen p may_poll c e) is in (
+              refl,
+              waits (record {
+                request = c.wanted.request;
+                since = now;
+                heard = Some [];
+                has_octets = false;
+              }) refl it.0 it.1,
+            )
+        mark false is = tt
+
+    go : (o : Option Outstanding) → p.outstanding ≡ o
+        → Tells (asked_from p o now may_poll) (began_out p o may_poll began)
+    go (Some o) e = tells
+    go None e =
+        subst (λ (s : Option Sending). Tells (after_choice p now (choice p may_poll))
+        (began_by p s))
+        (sym (ap (λ (o : Option Outstanding). sending_from p o may_poll) e))
+        (by e (choice p may_poll) refl)
+
+-- ---- an answer
+
+same_out : (x o : Outstanding) → Some x ≡ Some o → x ≡ o
+same_out x o e = cc
+
+-- the phase behind an answer, where the link is up
+phase_stays : (request : Asked) (answer : Answer) (phase : Phase) (link link' : Link)
+    → is_service request ≡ true
+    → (is_answered (after_answer request answer link) ≡ false → is_answered link' ≡ false)
+    → phase ≡ Commanding → is_answered link' ≡ true → phase_after answer phase ≡ Commanding
+phase_stays request Ready phase link link' service down is up = is
+phase_stays request Confirmed phase link link' service down is up = is
+phase_stays request Busy phase link link' service down is up = is
+phase_stays request (Report asdu) phase link link' service down is up = is
+phase_stays request NoData phase link link' service down is up = is
+phase_stays (Counted fcb asked_for) Unable phase link link' service down is up =
+    absurd (not_both (is_answered link') up (down refl))
+phase_stays Status Unable phase link link' service down is up = let no : ⊥ = cc in absurd no
+phase_stays Reset Unable phase link link' service down is up = let no : ⊥ = cc in absurd no
+
+answer_tells : (p : Primary) (began : Option ℕ) (o : Outstanding) (frame : Frame) (answer : Answer)
+    → p.outstanding ≡ Some o → Tells p began → Tells (answered p o.request frame answer) began
+answer_tells p began o frame answer e tells =
+    ((λ again. absurd (none_out p.outstanding o (tells.0 again).0 e)), go began tells.1)
+  where
+    it : StationState
+    it = station_answered (station_at p.stations p.turn) o.request frame answer
+
+    go : (b : Option ℕ) → Began p b → Began (answered p o.request frame answer) b
+    go None state = tt
+    go (Some station) (turn, ended free phase) = absurd (none_out p.outstanding o free e)
+    go (Some station) (turn, waits x awaited service phase) = (
+      turn,
+      ended refl (phase_stays o.request answer p.phase (station_at p.stations p.turn).link
+          (station_at (slice_set p.stations p.turn it) p.turn).link
+          (ap (λ (y : Outstanding). is_service y.request)
+          (sym (same_out x o (sym awaited ∙ e))) ∙ service)
+          (λ down. set_none (λ (t : StationState). is_answered t.link) p.stations p.turn it down
+          refl)
+          phase),
+    )
+
+octets_tell : (front : List ℕ → Front) (p : Primary) (came : List ℕ) (began : Option ℕ)
+    → Tells p began → Tells (received front p came) began
+octets_tell front p came began tells = listen_from p.outstanding refl
+  where
+    stays : (o : Outstanding) → p.outstanding ≡ Some o → (heard : Option (List ℕ))
+        → Tells (took p (with_octets came o) heard None) began
+    stays o e heard =
+        ((λ again. absurd (none_out p.outstanding o (tells.0 again).0 e)), go began tells.1)
+      where
+        go : (b : Option ℕ) → Began p b → Began (took p (with_octets came o) heard None) b
+        go None state = tt
+        go (Some station) (turn, ended free phase) = absurd (none_out p.outstanding o free e)
+        go (Some station) (turn, waits x awaited service phase) = (
+          turn,
+          waits (record {
+            request = o.request;
+            since = o.since;
+            heard = heard;
+            has_octets = (with_octets came o).has_octets;
+          }) refl (ap (λ (y : Outstanding). is_service y.request)
+              (sym (same_out x o (sym awaited ∙ e))) ∙ service) phase,
+        )
+
+    say : (o : Outstanding) → p.outstanding ≡ Some o → (frame : Frame) (m : Option Answer)
+        → Tells (said_by p (with_octets came o) frame m) began
+    say o e frame None = stays o e None
+    say o e frame (Some answer) = answer_tells p began o frame answer e tells
+
+    take_it : (o : Outstanding) → p.outstanding ≡ Some o
+        → (heard : Option (List ℕ)) (f : Option Frame)
+        → Tells (took p (with_octets came o) heard f) began
+    take_it o e heard None = stays o e heard
+    take_it o e heard (Some frame) = say o e frame (answer_at p (with_octets came o) frame)
+
+    listen : (o : Outstanding) → p.outstanding ≡ Some o → (h : Option (List ℕ))
+        → Tells (received_after front p (with_octets came o) h came) began
+    listen o e None = stays o e None
+    listen o e (Some before) = take_it o e (open_octets (before ++ came) (front (before ++ came)))
+        (whole_of (front (before ++ came)))
+
+    listen_from : (o : Option Outstanding) → p.outstanding ≡ o
+        → Tells (received_from front p o came) began
+    listen_from None e = tells
+    listen_from (Some o) e = listen o e o.heard
+
+-- ---- no answer in time
+
+missed_tells : (p : Primary) (began : Option ℕ) (o : Outstanding) → p.outstanding ≡ Some o
+    → Tells p began → Tells (unanswered p o) began
+missed_tells p began o e tells = (repeats, go began tells.1)
+  where
+    it : StationState
+    it = station_unanswered p.settings (station_at p.stations p.turn) o.request
+
+    link : Link
+    link = (station_at (slice_set p.stations p.turn it) p.turn).link
+
+    repeats : has_repeats p.settings it.link ≡ true → ((unanswered p o).outstanding ≡ None)
+        × (is_held link ≡ true → has_repeats p.settings link ≡ true)
+    repeats again = (
+      refl,
+      λ held.
+          ap (has_repeats p.settings) (held_is p.stations p.turn it held) ∙ again,
+    )
+
+    go : (b : Option ℕ) → Began p b → Began (unanswered p o) b
+    go None state = tt
+    go (Some station) (turn, ended free phase) = absurd (none_out p.outstanding o free e)
+    go (Some station) (turn, waits x awaited service phase) = (
+      turn,
+      ended refl (λ up. absurd (not_both (is_answered link) up
+          (set_none (λ (t : StationState). is_answered t.link) p.stations p.turn it
+          (silent_down p.settings o.request (station_at p.stations p.turn).link) refl))),
+    )
+
+due_tells : (p : Primary) (at : ℕ) (began : Option ℕ) → Tells p began
+    → Tells (timed_out p at) began
+due_tells p at began tells = go p.outstanding refl
+  where
+    late : (o : Outstanding) → p.outstanding ≡ Some o → (b : Bool)
+        → Tells (if b then unanswered p o else p) began
+    late o e true = missed_tells p began o e tells
+    late o e false = tells
+
+    go : (o : Option Outstanding) → p.outstanding ≡ o → Tells (due_from p o at) began
+    go None e = tells
+    go (Some o) e = late o e (is_late p o at)
+
+-- ---- the other calls
+
+-- Only what is offered is another.
+offers_tell : (p : Primary) (stations : List StationState) (began : Option ℕ)
+    → (station_at stations p.turn).link ≡ (station_at p.stations p.turn).link → Tells p began
+    → Tells (record p { stations = stations }) began
+offers_tell p stations began same tells = (
+  (λ again. (
+    (tells.0 again).0,
+    subst (λ (l : Link). is_held l ≡ true → has_repeats p.settings l ≡ true) (sym same)
+        (tells.0 again).1,
+  )),
+  go began tells.1,
+)
+  where
+    go : (b : Option ℕ) → Began p b → Began (record p { stations = stations }) b
+    go None state = tt
+    go (Some station) (turn, state) =
+        (turn, subst (λ (l : Link). Stays p.outstanding p.phase l) (sym same) state)
+
+offer_tells : (p : Primary) (i : ℕ) (asdu : List ℕ) (began : Option ℕ) → Tells p began
+    → Tells (offered_to p i asdu) began
+offer_tells p i asdu began tells = go (may_offer p i)
+  where
+    go : (b : Bool) → Tells (if b then record p {
+      stations = slice_set p.stations i (with_offer (station_at p.stations i) (Some asdu));
+    } else p) began
+    go true =
+        offers_tell p (slice_set p.stations i (with_offer (station_at p.stations i) (Some asdu)))
+        began
+        (set_view (λ (s : StationState). s.link) p.stations i
+        (with_offer (station_at p.stations i) (Some asdu)) refl p.turn)
+        tells
+    go false = tells
+
+-- Where the link of the station is given up, its request is over.
+give_up_tells : (p : Primary) (k : ℕ) (began : Option ℕ) → Tells p began
+    → Tells (given_up k p) began
+give_up_tells p k began tells = (repeats (p.turn == k) refl, go began tells.1)
+  where
+    it : StationState
+    it = station_given_up (station_at p.stations k)
+
+    link : Link
+    link = (station_at (slice_set p.stations k it) p.turn).link
+
+    same : (p.turn == k) ≡ false → link ≡ (station_at p.stations p.turn).link
+    same e = ap (λ (t : StationState). t.link)
+        (get_or-set_other p.stations k p.turn it no_station (eqb-false p.turn k e))
+
+    down : (p.turn == k) ≡ true → is_answered link ≡ true → ⊥
+    down e is = not_both (is_answered link) is
+        (subst (λ (i : ℕ). is_answered (station_at (slice_set p.stations k it) i).link ≡ false)
+        (sym (eqb-true p.turn k e))
+        (set_none (λ (t : StationState). is_answered t.link) p.stations k it refl refl))
+
+    repeats : (b : Bool) → (p.turn == k) ≡ b → (if b then false else p.again) ≡ true
+        → ((if b then None else p.outstanding) ≡ None)
+        × (is_held link ≡ true → has_repeats p.settings link ≡ true)
+    repeats true e again = absurd (not_both false again refl)
+    repeats false e again = (
+      (tells.0 again).0,
+      subst (λ (l : Link). is_held l ≡ true → has_repeats p.settings l ≡ true) (sym (same e))
+          (tells.0 again).1,
+    )
+
+    stands : Stays p.outstanding p.phase (station_at p.stations p.turn).link → (b : Bool)
+        → (p.turn == k) ≡ b
+        → Stays (if b then None else p.outstanding) (if b then Over else p.phase) link
+    stands state true e = ended refl (λ up. absurd (down e up))
+    stands state false e =
+        subst (λ (l : Link). Stays p.outstanding p.phase l) (sym (same e)) state
+
+    go : (b : Option ℕ) → Began p b → Began (given_up k p) b
+    go None state = tt
+    go (Some station) (turn, state) = (turn, stands state (p.turn == k) refl)
+
+call_tells : (p : Primary) (began : Option ℕ) (call : Call) → Tells p began
+    → Tells (called p call) (began_after p call began)
+call_tells p began (runs.Next now may_poll) tells = asked_tells p began now may_poll tells
+call_tells p began (Octets octets) tells =
+    octets_tell (front_of p.settings.size) p octets began tells
+call_tells p began (Due now) tells = due_tells p now began tells
+call_tells p began (Offer station asdu) tells = offer_tells p station asdu began tells
+call_tells p began Withdraw tells =
+    offers_tell p (map without_offer p.stations) began (without_links p.stations p.turn) tells
+call_tells p began (GivesUp station) tells = give_up_tells p station began tells
+
+-- ---- what goes out behind it
+
+goes_behind : (p : Primary) (began : Option ℕ) (call : Call) → Tells p began
+    → TurnIsNext p began call
+goes_behind p (Some station) (runs.Next now true) (has, (turn, waits o awaited service phase)) =
+    λ out is. absurd (none_out p.outstanding o out awaited)
+goes_behind p (Some station) (runs.Next now true) (has, (turn, ended free phase)) =
+    λ out is.
+    let up : is_answered (station_at p.stations p.turn).link ≡ true =
+    subst (λ (i : ℕ). is_answered (station_at p.stations i).link ≡ true) (sym turn) is in
+    subst (λ (i : ℕ). TurnGoesOn p i (station_at p.stations i)) turn
+    (goes_on p out up (subst (λ (f : Phase). IsBeforePolls f) (sym (phase up)) tt))
+goes_behind p (Some station) (runs.Next now false) tells = tt
+goes_behind p (Some station) (Octets octets) tells = tt
+goes_behind p (Some station) (Due now) tells = tt
+goes_behind p (Some station) (Offer other asdu) tells = tt
+goes_behind p (Some station) Withdraw tells = tt
+goes_behind p (Some station) (GivesUp other) tells = tt
+goes_behind p None call tells = tt
+
+go_behind : (p : Primary) (began : Option ℕ) (calls : List Call) → Tells p began
+    → TurnsGoOn p began calls
+go_behind p began [] tells = tt
+go_behind p began (call ∷ calls) tells = (
+  goes_behind p began call tells,
+  go_behind (called p call) (began_after p call began) calls (call_tells p began call tells),
+)
+
+pub all_go_on : (settings : LinkSettings) (addresses : List ℕ) (calls : List Call)
+    → TurnsGoOn (start settings addresses) None calls
+all_go_on settings addresses calls =
+    go_behind (start settings addresses) None calls
+    ((λ again. absurd (not_both false again refl)), tt)

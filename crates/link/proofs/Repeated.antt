@@ -1,0 +1,109 @@
+-- How often a service without an answer is sent.
+use Rattle.std.specs.Prelude.{◌||◌}
+use Rattle.std.proofs.Common.{◌≡◌, ℕ, suc, ◌+◌, ◌<◌, ◌≤◌, nat_lt, nat_le, Bool, true, false, List}
+use Rattle.std.proofs.Common.{[], ◌∷◌, length, Option, Some, None, refl, sym, ap, subst, ◌∙◌, arith}
+use Rattle.std.proofs.Common.{if◌then◌else◌}
+use Rattle.std.specs.List.{AllByRecursion}
+use Rattle.link.specs.Answers.{Service, Asked, Counted, Answer}
+use Rattle.link.specs.Exchanges.{Exchange, answer_to}
+use Rattle.link.specs.Procedure.{LinkSettings, Link, Down, Next, Held, after, after_outcome, held}
+use Rattle.link.specs.Procedure.{link_after, missed_so_far, has_repeats, is_up}
+use Rattle.link.specs.Repeats.{IsMissed}
+
+after_missed : (settings : LinkSettings) (station : ℕ) (fcb : Bool) (service : Service)
+    (x : Exchange) (link : Link) → IsMissed station fcb service x
+    → after settings station x link ≡ held settings fcb service (suc (missed_so_far link))
+after_missed settings station fcb service x link is =
+    ap (λ (b : Bool). if b then Down
+    else after_outcome settings (answer_to station x) x.request x.closed link) is.stands
+    ∙ ap (λ (m : Option Answer). after_outcome settings m x.request x.closed link) is.unanswered.0
+    ∙ ap (λ (r : Asked). after_outcome settings None r x.closed link) is.request
+    ∙ ap (λ (b : Bool). after_outcome settings None (Counted fcb service) b link) is.unanswered.1
+
+not_last : (settings : LinkSettings) (fcb : Bool) (service : Service) (n : ℕ) → n ≤ settings.retries
+    → held settings fcb service n ≡ Held fcb service n
+not_last settings fcb service n le =
+    let e : nat_lt settings.retries n ≡ false = grind arith in rw e refl
+
+still : (settings : LinkSettings) (fcb : Bool) (service : Service) (n : ℕ) → n ≤ settings.retries
+    → missed_so_far (held settings fcb service n) ≡ n
+still settings fcb service n le = ap (λ (l : Link). missed_so_far l)
+    (not_last settings fcb service n le)
+
+missed : (settings : LinkSettings) (station : ℕ) (fcb : Bool) (service : Service) (link : Link)
+    (x : Exchange) (xs : List Exchange)
+    → missed_so_far link + length (x ∷ xs) ≤ suc settings.retries
+    → AllByRecursion (IsMissed station fcb service) (x ∷ xs)
+    → link_after settings station link (x ∷ xs)
+    ≡ held settings fcb service (missed_so_far link + length (x ∷ xs))
+missed settings station fcb service link x [] few all =
+    after_missed settings station fcb service x link all.0
+    ∙ ap (λ (n : ℕ). held settings fcb service n)
+    (let e : suc (missed_so_far link) ≡ missed_so_far link + 1 = omega arith in e)
+missed settings station fcb service link x (y ∷ ys) few all =
+    let next = after settings station x link in
+    let here : next ≡ held settings fcb service (suc (missed_so_far link)) =
+    after_missed settings station fcb service x link all.0 in
+    let count : missed_so_far next ≡ suc (missed_so_far link) =
+    ap (λ (l : Link). missed_so_far l) here
+    ∙ still settings fcb service (suc (missed_so_far link)) (omega arith) in
+    let sum : missed_so_far next + length (y ∷ ys)
+    ≡ missed_so_far link + length (x ∷ (y ∷ ys)) = omega (arith, count) in
+    missed settings station fcb service next y ys (omega (arith, sum, few)) all.1
+    ∙ ap (λ (n : ℕ). held settings fcb service n) sum
+
+again_by : (settings : LinkSettings) (fcb : Bool) (service : Service) (n : ℕ)
+    → has_repeats settings (held settings fcb service n) ≡ nat_le n settings.retries
+again_by settings fcb service n = go (nat_lt settings.retries n) settings.hold refl
+  where
+    go : (last hold : Bool) → nat_lt settings.retries n ≡ last
+        → has_repeats settings (if last
+        then (if hold then Held fcb service (suc settings.retries) else Down)
+        else Held fcb service n) ≡ nat_le n settings.retries
+    go true true e = grind arith
+    go true false e = grind arith
+    go false hold e = refl
+
+up_by : (settings : LinkSettings) (fcb : Bool) (service : Service) (n : ℕ)
+    → is_up (held settings fcb service n) ≡ (settings.hold || nat_le n settings.retries)
+up_by settings fcb service n = go (nat_lt settings.retries n) settings.hold refl
+  where
+    go : (last hold : Bool) → nat_lt settings.retries n ≡ last
+        → is_up (if last
+        then (if hold then Held fcb service (suc settings.retries) else Down)
+        else Held fcb service n) ≡ (hold || nat_le n settings.retries)
+    go true true e = refl
+    go true false e = grind arith
+    go false true e = refl
+    go false false e = grind arith
+
+from_next : (settings : LinkSettings) (station : ℕ) (fcb : Bool) (service : Service) (x : Exchange)
+    (xs : List Exchange) → AllByRecursion (IsMissed station fcb service) (x ∷ xs)
+    → length (x ∷ xs) ≤ suc settings.retries
+    → link_after settings station (Next fcb) (x ∷ xs)
+    ≡ held settings fcb service (length (x ∷ xs))
+from_next settings station fcb service x xs all few =
+    let sum : 0 + length (x ∷ xs) ≡ length (x ∷ xs) = omega arith in
+    missed settings station fcb service (Next fcb) x xs (omega (arith, few)) all
+    ∙ ap (λ (n : ℕ). held settings fcb service n) sum
+
+pub again : (settings : LinkSettings) (station : ℕ) (fcb : Bool) (service : Service)
+    (xs : List Exchange) → AllByRecursion (IsMissed station fcb service) xs → 0 < length xs
+    → length xs ≤ suc settings.retries
+    → has_repeats settings (link_after settings station (Next fcb) xs)
+    ≡ nat_le (length xs) settings.retries
+again settings station fcb service [] all some few = absurd (omega (arith, some))
+again settings station fcb service (x ∷ xs) all some few =
+    ap (λ (l : Link). has_repeats settings l)
+    (from_next settings station fcb service x xs all few)
+    ∙ again_by settings fcb service (length (x ∷ xs))
+
+pub up : (settings : LinkSettings) (station : ℕ) (fcb : Bool) (service : Service)
+    (xs : List Exchange) → AllByRecursion (IsMissed station fcb service) xs → 0 < length xs
+    → length xs ≤ suc settings.retries
+    → is_up (link_after settings station (Next fcb) xs)
+    ≡ (settings.hold || nat_le (length xs) settings.retries)
+up settings station fcb service [] all some few = absurd (omega (arith, some))
+up settings station fcb service (x ∷ xs) all some few =
+    ap (λ (l : Link). is_up l) (from_next settings station fcb service x xs all few)
+    ∙ up_by settings fcb service (length (x ∷ xs))

@@ -1,0 +1,82 @@
+-- What is noted of a run at each look, for those who look at it (this gateway's own profile).
+use Rattle.std.specs.Prelude.{◌≡◌, ℕ, ◌-◌, nat_le, Bool, true, false, not, ◌&&◌, ◌||◌, List, []}
+use Rattle.std.specs.Prelude.{Option, Some, None, is_some, is_none, option_map, string_bytes}
+use Rattle.std.specs.Prelude.{if◌then◌else◌}
+use Rattle.gateway.specs.Config.{Settings}
+use Rattle.gateway.specs.State.{State}
+use Rattle.live.specs.declared.watched.Notice.{Notice}
+use Rattle.lookout.specs.Shown.{AreKnown, keeping_after, text_or_none}
+use Rattle.lookout.specs.declared.lookout.Shown.{Shown}
+use Rattle.runlog.specs.Telling.{taken_in}
+use Rattle.runlog.specs.Watching.{Watching}
+use Rattle.runlog.specs.declared.names.Names.{Names}
+use Rattle.status.specs.Hour as hour
+use Rattle.status.specs.declared.snapshot.Keeping.{Keeping}
+use Rattle.status.specs.declared.snapshot.Keeping.TheVariants.{Kept, Off}
+
+-- so many ms have passed since then, or it never was
+abbrev pub is_over : Option ℕ → (now ms : ℕ) → Bool
+is_over None now ms = true
+is_over (Some since) now ms = nat_le ms (now - since)
+
+abbrev pub keeping_at_first : (keeps : Bool) → Keeping
+keeping_at_first true = Kept
+keeping_at_first false = Off
+
+abbrev pub keeping_by : Option Notice → Keeping → Keeping
+keeping_by None before = before
+keeping_by (Some notice) before = keeping_after notice
+
+-- nothing of the run has been seen: the settings' stations and places are known, and their names
+pub record IsFresh (c : Settings) (names : Names) (keeps : Bool) (s : Shown) : Type 0 where
+  pub name : string_bytes s.name ≡ text_or_none (option_map (λ n. n.now) names.line)
+  pub known : AreKnown names.stations.now c.stations s.known.items
+  pub places : s.places ≡ c.line.queue
+  pub began : s.began ≡ None
+  pub keeping : s.keeping ≡ keeping_at_first keeps
+  pub numbers : s.hour ≡ record { numbers = []; noted_ms = None }
+  pub taken : s.taken ≡ 0
+  pub counted : s.counted ≡ None
+  pub opened : s.opened ≡ 0
+  pub gone_since : s.gone_since ≡ 0
+  pub was_open : s.was_open ≡ false
+
+abbrev pub first_of : Option ℕ → (now : ℕ) → ℕ
+first_of None now = now
+first_of (Some began) now = began
+
+-- since when no connection is open: from the first look on, or from the one that missed one
+abbrev pub gone_after : Option ℕ → (was is : Bool) → (now since : ℕ) → ℕ
+gone_after began was is now since = if is_none began || (was && not is) then now else since
+
+-- a look at a run that was watched so, beside the name of who has connected
+abbrev pub noted : Watching → Option Notice → Shown → Shown
+noted w notice s = let is_open = is_some w.connection.opening in record s {
+  began = Some (first_of s.began w.moment);
+  keeping = keeping_by notice s.keeping;
+  gone_since = gone_after s.began s.was_open is_open w.moment s.gone_since;
+  was_open = is_open;
+  opened = w.connection.count;
+}
+
+-- once a second the gateway's pieces are counted
+abbrev pub counted : State → (now : ℕ) → Shown → Shown
+counted gateway now s =
+    if is_over s.counted now 1000
+    then record s {
+      counted = Some now;
+      taken = taken_in gateway;
+      hour = hour.noted now (taken_in gateway) s.hour;
+    }
+    else s
+
+-- and a look at which the visitors have a turn counts them, if that is due
+abbrev pub looked : (turned : Option ℕ) → State → Watching → Option Notice → Shown → Shown
+looked turned gateway w notice s =
+    if is_over turned w.moment 20
+    then counted gateway w.moment (noted w notice s)
+    else noted w notice s
+
+-- when the visitors had their latest turn
+abbrev pub turned_after : Option ℕ → (now : ℕ) → Option ℕ
+turned_after turned now = if is_over turned now 20 then Some now else turned

@@ -1,0 +1,53 @@
+-- What becomes of each request of a run, by the lines of the script that have its number (this
+-- gateway's own profile).
+use Rattle.std.specs.Prelude.{◌≡◌, ◌≢◌, ℕ, ◌%◌, List, length, Contains, Option, Some, None}
+use Rattle.ft12.specs.declared.frame.Frame.{Frame}
+use Rattle.ft12.specs.Spelling.{spelling}
+use Rattle.ft12.specs.Spoiling.{spoilt}
+use Rattle.link.specs.Secondary.{Secondary}
+use Rattle.sim.specs.declared.directive.Directive.{Directive}
+use Rattle.sim.specs.declared.directive.Directive.TheVariants.{LoseRequest, LoseAnswer, SpoilAnswer}
+use Rattle.sim.specs.declared.directive.RequestFate.{RequestFate}
+use Rattle.sim.specs.declared.directive.RequestFate.TheVariants.{Unheard, AnswerLost, AnswerSpoilt}
+use Rattle.sim.specs.declared.directive.RequestFate.TheVariants.{Answered}
+use Rattle.sim.specs.Lives.{Plan, HeardByAll}
+
+-- The script has no line that loses the request with this number, and none that loses its answer.
+abbrev pub IsHeardBy : List Directive → (request : ℕ) → Type 0
+IsHeardBy ds request = Contains ds (LoseRequest request) → ⊥
+
+abbrev pub IsNotLostBy : List Directive → (request : ℕ) → Type 0
+IsNotLostBy ds request = Contains ds (LoseAnswer request) → ⊥
+
+-- A request isn't heard where a line `lose request` has its number. Else its answer is lost where a
+-- line `lose answer` has it, or else spoilt where a line `spoil answer` has it. Where no line has
+-- it, its answer comes.
+abbrev pub IsFate : List Directive → (request : ℕ) → RequestFate → Type 0
+IsFate ds request Unheard = Contains ds (LoseRequest request)
+IsFate ds request AnswerLost = IsHeardBy ds request × Contains ds (LoseAnswer request)
+IsFate ds request (AnswerSpoilt place) =
+    IsHeardBy ds request × IsNotLostBy ds request × Contains ds (SpoilAnswer request place)
+IsFate ds request Answered =
+    IsHeardBy ds request × IsNotLostBy ds request
+    × ((place : ℕ) → Contains ds (SpoilAnswer request place) → ⊥)
+
+-- what waits for the gateway of an answer with these octets
+abbrev pub WaitsBy : RequestFate → List ℕ → Option (List ℕ) → Type 0
+WaitsBy Unheard octets waiting = waiting ≡ None
+WaitsBy AnswerLost octets waiting = waiting ≡ None
+WaitsBy (AnswerSpoilt place) octets waiting =
+    waiting ≡ Some (spoilt (place % length octets) octets)
+WaitsBy Answered octets waiting = waiting ≡ Some octets
+
+-- The request with this number went out to stations that stood so before, was answered so, and
+-- left them so: all of it by the lines of the script that have its number. One that isn't heard is
+-- answered by none and changes none; any other is heard by all.
+pub record IsByItsLines (plan : Plan) (request : ℕ) (octets : List ℕ) (before : List Secondary)
+    (answer : Option Frame) (after : List Secondary) (waiting : Option (List ℕ)) : Type 0 where
+  pub fate : RequestFate
+  pub said : IsFate plan.directives request fate
+  pub unheard : fate ≡ Unheard → (answer ≡ None) × (after ≡ before)
+  pub heard : fate ≢ Unheard → HeardByAll octets before answer after
+  pub none : answer ≡ None → waiting ≡ None
+  pub comes : (frame : Frame) → answer ≡ Some frame →
+      WaitsBy fate (spelling plan.size frame) waiting
