@@ -5,8 +5,8 @@ records.
     checks/capture.py [--program FILE] [--only NAME] [--runs N] [--keep FILE] [CONFIG RECORD ..]
 
 The script runs `telegate capture CONFIG RECORD` over the records that are given. Without any it
-takes those of `examples`, the runs of its traces, and N runs of checks/agree.py (if there is a
-rustc).
+takes those of `examples`, the runs of its traces, one with a gap, and N runs of checks/agree.py (if
+there is a rustc).
 
 - No checksum and no number of a segment may be wrong.
 - No frame may be malformed, and tshark may remark nothing but opens, closes and cuts of the
@@ -16,6 +16,7 @@ rustc).
   record's lines `R` and `> T` between its opens, in their order. The octets of the packets of the
   line are those of `S` and `> S`.
 - Each packet stands at its line's moment.
+- Each gap of the record is a packet of the line without octets, which says its station and session.
 
 Without tshark the script is skipped.
 """
@@ -33,10 +34,17 @@ import plain
 FINE = ("Connection establish request", "Connection establish acknowledge", "Connection finish", "Connection reset",
         "This frame initiates the connection closing", "This frame undergoes the connection closing",
         # The comments that the capture itself puts on packets.
-        "repeat", "late", "spoilt", "no whole frame", "closed: ")
+        "repeat", "late", "spoilt", "no whole frame", "gap: ", "closed: ")
 
 # Traces with frames that aren't as they should be (a type 2 without its time tag).
 ODD = ("left.trace",)
+
+
+# A poll is never answered, and the reset that follows tells of a gap.
+GAPPED = (
+    '[line]\nlink = 1\ncause = 1\nca = 1\nioa = 2\nretries = 0\nsilence = "reset"\n[[station]]\naddress = 1\nca = 1\n',
+    "0 W 1709210100000\n10 S 100B010C16\n20 S E5\n400 T\n410 S 100B010C16\n420 S E5\n430 O\n440 R 680407000000\n",
+)
 
 
 def record_of(program, config, trace):
@@ -126,6 +134,10 @@ def faults_of(capture, sizes, record, is_made_up):
             heard["down" if octets[16:18] == "01" else "up"] += octets[24:]
     if heard != line:
         faults.append("the line carries other octets than the record's")
+    gaps = ["gap: station %s, session %s" % tuple(text.split(" ")[3:5]) for text in record.splitlines() if " > G " in text]
+    told = tshark(capture, {}, 'rtacser && frame.comment contains "gap: "', ["frame.comment", "frame.len"])
+    if told != [[gap, "12"] for gap in gaps]:
+        faults.append(f"the gaps told are {told}, and not {gaps}")
     for (at,) in tshark(capture, {}, "", ["frame.time_epoch"]):
         if round(float(at) * 1000) * 1000 not in moments:
             faults.append(f"a packet stands at {at}, where no line does")
@@ -154,6 +166,11 @@ def pairs_of(given, program, folder):
         near = os.path.dirname(config)
         files = glob.glob(os.path.join(near, "*.trace")) + glob.glob(os.path.join(near, "*.record"))
         yield from ((config, file, os.path.basename(file) in ODD) for file in sorted(files))
+    gapped = [os.path.join(folder, name) for name in ("gapped.toml", "gapped.trace")]
+    for name, text in zip(gapped, GAPPED):
+        with open(name, "w") as file:
+            file.write(text)
+    yield (*gapped, False)
     yield from ((config, file, True) for config, file in made_up(folder, given.runs))
 
 

@@ -6,6 +6,7 @@
 - Every exit status, with what stands on standard output and on standard error.
 - Words that are no text, files that can't be read, and outputs that fail.
 - How far a long run has come, which a terminal shows and nothing else.
+- Colours, on a terminal alone, by NO_COLOR and `--color`.
 - A live run that asks its line for its status. It ends with 3 when the line ends, or reaches it
   again with --redial.
 - The script ./telegate, also through a link, and if nothing is built.
@@ -83,6 +84,9 @@ STRANGE_WORDS = (
     "440 control centre > gateway  the connection is cut\n"
 )
 
+# The record in words: its events in their order, and nothing before them.
+RECORD_WORDS = "0 gateway  the wall clock shows 1709210100000\n" + WORDS
+
 # The words, standard output, standard error, the exit status. None stands for any text.
 ROWS = [
     ("show101 1112 E5", "single\n", "", 0),
@@ -132,6 +136,20 @@ ROWS = [
     ("replay --color good.toml one.trace", LINES, "", 0),
     ("replay --words good.toml strange.trace", STRANGE_WORDS, "", 0),
     ("replay --words good.toml none.script", "", "trace: line 1\n", 1),
+    # A record is told too: its actions are passed over, and so are lines that were cut short.
+    ("replay --words good.toml whole.record", RECORD_WORDS, "", 0),
+    ("replay --words --left --counts good.toml whole.record", RECORD_WORDS + LEFT + COUNTS, "", 0),
+    ("replay --words good.toml cut.record", RECORD_WORDS, "", 0),
+    ("replay --words good.toml marked.record", RECORD_WORDS, "", 0),
+    ("replay --words good.toml other.record", RECORD_WORDS, "", 0),
+    ("replay --words good.toml late.record", RECORD_WORDS.replace("0 ", "7 ", 2), "", 0),
+    ("replay --words good.toml begun.record", RECORD_WORDS.split("50 ")[0], "", 0),
+    ("replay --words good.toml wrong.record", "", "trace: line 6\n", 1),
+    ("replay --words good.toml noted.trace", WORDS, "", 0),
+    ("replay --words good.toml marked.trace", "", "trace: line 6\n", 1),
+    # Without --words a line of an action is a wrong line.
+    ("replay good.toml whole.record", "", "trace: line 2\n", 1),
+    ("replay --left good.toml whole.record", "", "trace: line 2\n", 1),
     ("replay --words empty one.trace", "", "config: line.link\n", 1),
     ("replay --words good.toml elsewhere", "", "cannot read elsewhere\n", 3),
     ("sim --words good.toml none.script", STATION, "", 0),
@@ -262,6 +280,7 @@ FILES = {
     "one.trace": TRACE,
     "strange.trace": STRANGE,
     "none.script": "turns 0\n",
+    "one.script": "turns 1\n",
     "wrong.toml": CONFIG.replace("link = 1", "link = 3"),
     "far.toml": CONFIG + '[live]\nline = "tcp:192.0.2.7:4001"\nlisten = "127.0.0.1:2404"\n',
     "no-door.toml": CONFIG + '[live]\nline = "unix:nowhere"\n',
@@ -273,6 +292,15 @@ FILES = {
     "whole.record": RECORD,
     "cut.record": RECORD[:-1],
     "other.record": RECORD.replace("0 > S 1049014A16", "1 > S 1049014A16"),
+    "marked.record": RECORD.replace("20 S E5\n", "20 S E!\n20 S E5\n# 20 S\n\n"),
+    # The run begins at 7 ms: no tick at moment 0 asks the line before that.
+    "late.record": RECORD.replace("0 W", "7 W").replace("0 > S 1049", "7 > S 1049"),
+    # The last event was cut short.
+    "begun.record": RECORD[: RECORD.index("50 S") + 20],
+    "wrong.record": RECORD.replace("20 S E5\n", "20 S E5\n20 s E5\n").replace("20 S E5\n20 s", "20 S E!\n20 s"),
+    # A comment tells no action.
+    "noted.trace": "# > S 1049014A16\n" + TRACE,
+    "marked.trace": TRACE + "60 S E!\n",
     "no-line.toml": CONFIG + '[live]\nline = "unix:nowhere"\nlisten = "127.0.0.1:2404"\n',
 }
 
@@ -328,6 +356,8 @@ def pipes(count, program, folder):
         ("show104 --words -", "68044300\n680443000000\n", "octets of a frame (4)\nTESTFR act\n", "", 1),
         ("show104 -", "", "", "", 0),
         ("replay --words good.toml -", TRACE, WORDS, "", 0),
+        ("replay --words good.toml -", RECORD, RECORD_WORDS, "", 0),
+        ("replay good.toml -", RECORD, "", "trace: line 2\n", 1),
     )
     for words, given, out, err, status in rows:
         done = subprocess.run([program, *words.split()], cwd=folder, input=given.encode(), capture_output=True, timeout=SECONDS)
@@ -387,7 +417,8 @@ def looked_at(program, words, folder, **more):
     """What a terminal for standard error got, and the rest."""
     ours, theirs = pty.openpty()
     try:
-        done = ran([program, *words.split()], folder, stderr=theirs, **{end: theirs for end in more.get("ends", ())})
+        ends = {end: theirs for end in more.pop("ends", ())}
+        done = ran([program, *words.split()], folder, stderr=theirs, **ends, **more)
     finally:
         os.close(theirs)
     told = b""
@@ -399,6 +430,44 @@ def looked_at(program, words, folder, **more):
         pass
     os.close(ours)
     return told, done
+
+
+def colours(count, program, folder):
+    """A run in words has colours on a terminal, unless NO_COLOR is set to some text. --color asks
+    for them in any case."""
+    for flag, variable, is_terminal, told in (
+        ("", None, True, COLOURS),
+        ("", "", True, COLOURS),
+        ("", "1", True, WORDS),
+        ("", "0", True, WORDS),
+        ("", "\udcff", True, WORDS),
+        ("--color ", None, True, COLOURS),
+        ("--color ", "1", True, COLOURS),
+        ("", None, False, WORDS),
+        ("", "", False, WORDS),
+        ("", "1", False, WORDS),
+        ("--color ", None, False, COLOURS),
+        ("--color ", "1", False, COLOURS),
+    ):
+        given = {name: value for name, value in os.environ.items() if name != "NO_COLOR"}
+        if variable is not None:
+            given["NO_COLOR"] = variable
+        words = f"replay --words {flag}good.toml one.trace"
+        if is_terminal:
+            seen, done = looked_at(program, words, folder, ends=["stdout"], env=given)
+        else:
+            done = ran([program, *words.split()], folder, env=given)
+            seen = done.stdout
+        is_right = (text(seen).replace("\r\n", "\n"), done.returncode) == (told, 0)
+        end = "terminal" if is_terminal else "pipe"
+        count.judge(f"{words}, NO_COLOR {variable!r}, to a {end}", is_right, (seen, done))
+    # Without words, and where a frame is told, there are none.
+    for words in ("replay good.toml one.trace", "show101 --words 1112 E5"):
+        seen, done = looked_at(program, words, folder, ends=["stdout"])
+        count.judge(f"{words} to a terminal", b"\x1b" not in seen and done.returncode == 0, (seen, done))
+    # A simulated run has them too.
+    seen, done = looked_at(program, "sim --words good.toml one.script", folder, ends=["stdout"])
+    count.judge("sim --words to a terminal", seen.startswith(b"1 \x1b[36mgateway > outstation\x1b[0m  "), (seen, done))
 
 
 def looks(count, program, folder):
@@ -624,5 +693,5 @@ def with_files(part):
 
 
 if __name__ == "__main__":
-    parts = (words_and_files, pipes, statuses, failing_outputs, looks, live_runs, redialled_runs, versions, helps, scripts)
+    parts = (words_and_files, pipes, statuses, failing_outputs, colours, looks, live_runs, redialled_runs, versions, helps, scripts)
     frame.main(*map(with_files, parts))

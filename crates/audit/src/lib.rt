@@ -18,4 +18,4 @@ mod rerun;
 
 pub use audit::{RecordFault, Verdict, audit_text};
 pub use examples::record_lines_by_example;
-pub use passing::{is_cut, part_of};
+pub use passing::{event_line, is_action, is_cut, part_of};

@@ -5,7 +5,7 @@ ghost use Rattle.std.specs.Prelude.{◌≡◌, ◌==◌, Some, false, true};
 ghost use Rattle.traces.specs.Fields.{parts_after};
 ghost use Rattle.audit.specs.Passing.{IsKind, IsLineJudged, IsNext, IsOneLine, IsTally};
 ghost use Rattle.audit.specs.Passing.{IsWrongAmong};
-ghost use Rattle.audit.specs.Record.{is_cut, is_marked, whole_lines};
+ghost use Rattle.audit.specs.Record.{event_line, is_action, is_cut, is_marked, whole_lines};
 
 use gateway::Next;
 use memchr::{memchr, memrchr};
@@ -66,6 +66,24 @@ fn is_marked(line: &[u8]) -> bool
             second == b">".as_slice()
         }
     }
+}
+
+/// Whether a line tells an action, and no event.
+pub fn is_action(line: &[u8]) -> bool
+    ensures { result ≡ is_action line.now }
+{
+    !is_cut(line) && is_marked(line)
+}
+
+/// A line as that of an event: an empty one in the place of an action, and of a line that was cut
+/// short.
+pub fn event_line(line: &[u8]) -> &[u8]
+    ensures { result.now ≡ event_line line.entry.now }
+{
+    if is_cut(line) || is_marked(line) {
+        return b"".as_slice();
+    }
+    line
 }
 
 /// What a line tells. The octets of an event are put at the front of the buffer.

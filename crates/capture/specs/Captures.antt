@@ -4,7 +4,7 @@ use Rattle.std.specs.Prelude.{Option, Some, None}
 use Rattle.std.specs.List.{flat_map}
 use Rattle.ft12.specs.declared.frame.LinkSize.{LinkSize}
 use Rattle.gateway.specs.Log.{LogEntry, Came, Went, LineIn, Opened, TcpIn, CutOff, LineOut, TcpOut}
-use Rattle.gateway.specs.Log.{Closed}
+use Rattle.gateway.specs.Log.{Closed, GapOut}
 use Rattle.session.specs.declared.kinds.Close.{Close}
 use Rattle.session.specs.declared.kinds.Close.TheVariants.{Grammar, SendNumber, ReceiveNumber}
 use Rattle.session.specs.declared.kinds.Close.TheVariants.{Stopped, Timeout, OwnAnswers, Replaced}
@@ -13,8 +13,8 @@ use Rattle.capture.specs.Clocks.{clock_after, micros_of}
 use Rattle.capture.specs.Connections.{Deed, Opens, Carries, Closes, Cuts, Sent, after_deeds}
 use Rattle.capture.specs.Connections.{sent_blocks, sent_in}
 use Rattle.capture.specs.Recorded.{entry_told}
-use Rattle.capture.specs.Wires.{Line, Serial, after_answer, after_request, asked, heard, no_frame}
-use Rattle.capture.specs.Wires.{serial_blocks}
+use Rattle.capture.specs.Wires.{Line, Serial, after_answer, after_request, asked, gap, heard}
+use Rattle.capture.specs.Wires.{no_frame, serial_blocks}
 use Rattle.capture.specs.declared.clock.Clock.{Clock}
 use Rattle.capture.specs.declared.connection.Connection.{Connection}
 
@@ -58,10 +58,11 @@ deeds_of (Went now (TcpOut octets)) = Carries true octets ∷ []
 deeds_of (Went now (Closed cause)) = closes_for cause
 deeds_of entry = []
 
--- what goes over the line
+-- what goes over the line, and a gap
 abbrev pub serial_of : Line → LogEntry → List Serial
 serial_of line (Came now (LineIn octets)) = heard line octets
 serial_of line (Went now (LineOut octets)) = asked line octets
+serial_of line (Went now (GapOut station session)) = gap station session ∷ []
 serial_of line entry = []
 
 abbrev pub line_after : Line → LogEntry → Line

@@ -1,7 +1,8 @@
 -- The line as packets: octets of a serial line as captured (link type 250, RTAC serial). Each frame
 -- (IEC 60870-5-1, 6.2.4.2) is a packet of its own.
-use Rattle.std.specs.Prelude.{ℕ, zero, suc, ◌/◌, ◌%◌, Bool, true, false, if◌then◌else◌, List, []}
-use Rattle.std.specs.Prelude.{◌∷◌, ◌++◌, codes, length, take, drop}
+use Rattle.std.specs.Prelude.{ℕ, zero, suc, ◌+◌, ◌/◌, ◌%◌, Bool, true, false, if◌then◌else◌, List}
+use Rattle.std.specs.Prelude.{[], ◌∷◌, ◌++◌, codes, length, take, drop}
+use Rattle.std.specs.Fmt.{decimal}
 use Rattle.std.specs.List.{flat_map}
 use Rattle.std.specs.Str.{bytes_eq}
 use Rattle.ft12.specs.Fronts.{front_of}
@@ -139,3 +140,18 @@ line_behind line cut = record line {
 
 abbrev pub after_answer : Line → List ℕ → Line
 after_answer line octets = line_behind line (cut_of line.size (line.pending ++ octets))
+
+-- ---- Gaps
+
+-- the number of a station, counted from 1, and that of the session that ended
+abbrev pub gap_comment : (station session : ℕ) → List ℕ
+gap_comment station session =
+    codes "gap: station " ++ (decimal (station + 1) ++ (codes ", session " ++ decimal session))
+
+-- A gap in a station's reports: its packet has no octets, since the line brought none.
+abbrev pub gap : (station session : ℕ) → Serial
+gap station session = record {
+  is_request = false;
+  octets = [];
+  comment = gap_comment station session;
+}

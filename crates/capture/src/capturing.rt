@@ -126,7 +126,9 @@ impl Capture {
             // The connection whose place a new one took is closed already.
             Told::Close(_, Close::Replaced) => Ok(()),
             Told::Close(_, cause) => self.close(page, *cause),
-            Told::Gap(..) => Ok(()),
+            Told::Gap(_, station, session) => {
+                self.wire.gap(page, self.clock.micros(), *station, *session)
+            }
         }
     }
 

@@ -6,7 +6,8 @@
 //! documentation, the line the octets of a serial line, each frame in a packet of its own. A packet
 //! of the line may have a comment: `repeat` (a request with the octets of the latest one), `late`
 //! (a frame where one came since the latest request), `spoilt` (octets that begin no frame), or `no
-//! whole frame` (the beginning of one, where a request goes out or the record ends).
+//! whole frame` (the beginning of one, where a request goes out or the record ends). A gap has a
+//! packet of the line without octets, whose comment says the station and the session.
 //!
 //! Proved: what each call appends are the octets of one definition (`specs/Captures.antt`), and a
 //! line that is neither an event nor an action, nor empty or a comment, is told, and appends

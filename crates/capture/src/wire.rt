@@ -1,9 +1,10 @@
 //! The line as packets: octets of a serial line, each frame in a packet of its own.
-ghost use Rattle.std.specs.Prelude.{◌≡◌, ◌++◌, ◌+◌, ◌<◌, ◌≤◌, ◌^◌, [], codes, false, drop, length};
-ghost use Rattle.std.specs.Prelude.{IfOk, OnOk};
+ghost use Rattle.std.specs.Prelude.{◌≡◌, ◌++◌, ◌+◌, ◌<◌, ◌≤◌, ◌^◌, ◌∷◌, [], codes, false, drop};
+ghost use Rattle.std.specs.Prelude.{length, string_bytes, IfOk, OnOk};
 ghost use Rattle.ft12.specs.Fronts.{front_of};
 ghost use Rattle.capture.specs.Wires.{after_answer, after_request, answer as answer_of, answers};
-ghost use Rattle.capture.specs.Wires.{asked, cut_of, heard, no_frame, request_of, serial_block};
+ghost use Rattle.capture.specs.Wires.{asked, cut_of, gap as gap_of, gap_comment as comment_of_gap};
+ghost use Rattle.capture.specs.Wires.{heard, no_frame, request_of, serial_block};
 ghost use Rattle.capture.specs.Wires.{serial_blocks, serial_octets, spoilt_part, begun_part};
 ghost use Rattle.capture.specs.Wires.{still_awaited, way_octets};
 
@@ -131,6 +132,19 @@ fn put_frames(
         end += len;
     }
     Ok(end)
+}
+
+/// What a gap of a station, from 0, at the end of one of its sessions is told by.
+#[tactic(auto, using(crate::proofs::Lengths::gap_short))]
+fn gap_comment(alloc: Global, station: usize, session: u64) -> Result<String, AllocError>
+    ensures text { IfOk result (λ text. string_bytes text ≡ comment_of_gap station session) }
+    ensures bound { IfOk result (λ text. length (string_bytes text) < 2 ^ 16) }
+{
+    let mut text = String::new(alloc);
+    // Wide enough for one past the greatest index.
+    let number = station as u128 + 1;
+    write!(text, "gap: station {number}, session {session}")?;
+    Ok(text)
 }
 
 /// What the line has of the next frame, and which request is the latest.
@@ -263,5 +277,25 @@ impl Wire {
         put_no_frame(page, &mut self.packet, micros, pending, "no whole frame")?;
         self.pending.clear();
         Ok(())
+    }
+
+    /// Puts a gap of a station, from 0, at the end of one of its sessions. The frame that brought
+    /// it was put before it is told, so that it has a packet of its own (docs/DECISIONS.md, "A gap
+    /// in a capture").
+    pub(crate) fn gap(
+        &mut self,
+        page: &mut Page,
+        micros: u64,
+        station: usize,
+        session: u64,
+    ) -> Result<(), AllocError>
+        ensures put { OnOk result (page.new
+            ≡ page.old ++ serial_blocks micros (gap_of station session ∷ [])) }
+        ensures same { self.new ≡ self.old }
+    {
+        let comment = gap_comment(self.alloc, station, session)?;
+        let packet = &mut self.packet;
+        let none = b"".as_slice();
+        put_serial(page, packet, micros, false, none, comment.as_str())
     }
 }

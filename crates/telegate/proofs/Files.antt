@@ -127,11 +127,11 @@ module _ (has : Text → List ℕ → Type 0) (lacks : Text → Type 0) where
       → List ℕ → Type 0)
       (silent : Text → Type 0)
       (played : List ℕ → List ℕ → Result (Unit {0}) Fault → Type 0)
-      (stands : Text → Stood → Type 0) where
+      (stands : Text → Stood → Type 0) (colours : Bool) where
     -- a command whose files can't be read
     pub unanswered : (request : Request) (files : List Text) (known : Option (List ℕ)) (exit : ℕ)
         → files_of request ≡ files → IsNotRead has lacks files exit
-        → Responds has lacks ran answered silent played stands request known known exit
+        → Responds has lacks ran answered silent played stands colours request known known exit
     unanswered request files known exit are h =
         inr (subst (λ (fs : List Text). IsNotRead has lacks fs exit) (sym are) h, keeps_same known)
 
@@ -140,12 +140,13 @@ module _ (has : Text → List ℕ → Type 0) (lacks : Text → Type 0) where
         (old new : Option (List ℕ)) (exit : ℕ)
         → request ≡ Replay config trace left counts words color
         → has config.now octets
-        → ReplaysFile has lacks trace.now octets (manner_of words color)
+        → ReplaysFile has lacks trace.now octets (manner_of words color colours)
         (record { left = left; counts = counts })
         old new exit
-        → Responds has lacks ran answered silent played stands request old new exit
+        → Responds has lacks ran answered silent played stands colours request old new exit
     has_replayed request config trace left counts words color octets old new exit is read h =
-        subst (λ (r : Request). Responds has lacks ran answered silent played stands r old new exit)
+        subst (λ (r : Request). Responds has lacks ran answered silent played stands colours r old
+        new exit)
         (sym is)
         (elim h [
           | inl ran ↦ inl (record { octets = octets; read = read; ran = ran })
@@ -156,9 +157,10 @@ module _ (has : Text → List ℕ → Type 0) (lacks : Text → Type 0) where
     pub has_run : (request : Request) (config : Bor Text) (words : RunWords)
         (known : Option (List ℕ)) (exit : ℕ)
         → request ≡ Run config words → RunsAsSaid has lacks ran config.now words exit
-        → Responds has lacks ran answered silent played stands request known known exit
+        → Responds has lacks ran answered silent played stands colours request known known exit
     has_run request config words known exit is h =
-        subst (λ (r : Request). Responds has lacks ran answered silent played stands r known known
+        subst (λ (r : Request). Responds has lacks ran answered silent played stands colours r known
+        known
         exit)
         (sym is)
         (elim h [
@@ -172,17 +174,19 @@ module _ (has : Text → List ℕ → Type 0) (lacks : Text → Type 0) where
         → request ≡ Check config site live explain
         → ChecksBehind has lacks (text_of site) config.now
         (record { live = live; explain = explain }) old new exit
-        → Responds has lacks ran answered silent played stands request old new exit
+        → Responds has lacks ran answered silent played stands colours request old new exit
     has_checked request config site live explain old new exit is h =
-        subst (λ (r : Request). Responds has lacks ran answered silent played stands r old new exit)
+        subst (λ (r : Request). Responds has lacks ran answered silent played stands colours r old
+        new exit)
         (sym is) h
 
     pub have_played : (request : Request) (config script : Bor Text) (known : Option (List ℕ))
         (exit : ℕ) → request ≡ Stations config script
         → PlayFiles has lacks played config.now script.now exit
-        → Responds has lacks ran answered silent played stands request known known exit
+        → Responds has lacks ran answered silent played stands colours request known known exit
     have_played request config script known exit is h =
-        subst (λ (r : Request). Responds has lacks ran answered silent played stands r known known
+        subst (λ (r : Request). Responds has lacks ran answered silent played stands colours r known
+        known
         exit)
         (sym is)
         (elim h [
@@ -193,7 +197,8 @@ module _ (has : Text → List ℕ → Type 0) (lacks : Text → Type 0) where
     pub has_shown : (request : Request) (directory : Bor Text) (config : Option (Bor Text))
         (old new : Option (List ℕ)) (exit : ℕ) → request ≡ State directory config
         → ShowsState has lacks stands directory.now (text_of config) old new exit
-        → Responds has lacks ran answered silent played stands request old new exit
+        → Responds has lacks ran answered silent played stands colours request old new exit
     has_shown request directory config old new exit is h =
-        subst (λ (r : Request). Responds has lacks ran answered silent played stands r old new exit)
+        subst (λ (r : Request). Responds has lacks ran answered silent played stands colours r old
+        new exit)
         (sym is) h

@@ -15,6 +15,7 @@ pub mod SimLemmas
 pub mod Performed
 pub mod TextLemmas
 pub mod PartLemmas
+pub mod RecordLemmas
 pub mod CheckLemmas
 pub mod KeptLemmas
 pub mod PipeLemmas

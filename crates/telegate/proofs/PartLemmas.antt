@@ -16,13 +16,14 @@ use Rattle.gateway.specs.Traffic.{IsFaithful, HasRested}
 use Rattle.sim.specs.Runs.{IsBegun}
 use Rattle.traces.specs.Actions.{lines_of_actions}
 use Rattle.traces.specs.Progress.{Part, Progress, Standing, AreRight, coming_in, events_in}
-use Rattle.traces.specs.Progress.{events_left, events_of_part, is_through, script_in, script_of}
+use Rattle.traces.specs.Progress.{events_left, events_of_part, is_through, script_of}
 use Rattle.traces.specs.Trace.{lines_of, first_wrong}
 use Rattle.telegate.specs.Manners.{AreLines}
 use Rattle.telegate.specs.Parts.{IsJudgedFault, IsLineFault, IsRightText, IsWrongText, GoesOn}
 use Rattle.telegate.specs.Parts.{StaysFaithful, IsClear, IsPartRun, IsPartStopped, IsRunOver}
-use Rattle.telegate.specs.Parts.{IsStoppedOver, part_behind}
+use Rattle.telegate.specs.Parts.{IsPartRead, IsStoppedOver, part_behind}
 use Rattle.telegate.specs.Printed.{IsPoured}
+use Rattle.telegate.specs.Records.{behind_tick, lines_read, script_read}
 use Rattle.telegate.specs.Source.{Gives}
 use Rattle.telegate.specs.declared.fault.Fault.{Fault}
 use Rattle.telegate.specs.declared.fault.Fault.TheVariants.{Config, Site, Trace, Script, Record}
@@ -31,8 +32,12 @@ use Rattle.telegate.specs.declared.fault.Fault.TheVariants.{StateInUse, StateUnu
 use Rattle.telegate.specs.declared.fault.Fault.TheVariants.{Unread, NoMemory}
 use Rattle.telegate.proofs.Kept.{keeps_same}
 use Rattle.telegate.proofs.Poured.{appends_none, poured_begun}
-use Rattle.traces.proofs.JoinedLemmas.{lines_joined, wrong_behind, wrong_before, none_wrong_from}
-use Rattle.telegate.proofs.TextLemmas.{few_events, part_joined}
+use Rattle.traces.proofs.JoinedLemmas.{events_joined, lines_joined, wrong_behind, wrong_before}
+use Rattle.traces.proofs.JoinedLemmas.{none_wrong_from}
+use Rattle.audit.specs.Record.{event_lines, whole_lines}
+use Rattle.audit.proofs.LineLemmas.{whole_joined}
+use Rattle.audit.proofs.RunLemmas.{lines_behind}
+use Rattle.telegate.proofs.TextLemmas.{few_events}
 
 -- What is left
 
@@ -76,83 +81,137 @@ rest_some None coming before is = ([], tt)
 rest_some (Some text) None before is = absurd is
 rest_some (Some text) (Some rest) before is = (rest, is)
 
--- these lines, and what may follow them
-abbrev pub BeginsWith : (t lines : List ℕ) → Type 0
-BeginsWith t lines = (t ≡ lines) ⊎ ((l : List ℕ) × (t ≡ lines ++ 10 ∷ l))
-
-rest_with : (known coming later : Option (List ℕ)) (before lines : List ℕ) (over : Bool)
+-- a line feed follows these lines, and more
+pub rest_more : (known coming later : Option (List ℕ)) (before lines : List ℕ)
     → IsRest known before coming
-    → IfSome coming (λ text. AreCutOff text lines over later)
-    → (t : List ℕ) × Gives known (before ++ t) × BeginsWith t lines
-rest_with known coming later before lines true is cut =
-    (lines, rest_last known coming later before lines is cut, inl refl)
-rest_with None coming later before lines false is cut = (lines, tt, inl refl)
-rest_with (Some text) None later before lines false is cut = absurd is
-rest_with (Some text) (Some rest) None before lines false is cut = absurd cut
-rest_with (Some text) (Some rest) (Some l) before lines false is cut =
-    (lines ++ 10 ∷ l, is ∙ ap (λ xs. before ++ xs) cut, inr (l, refl))
+    → IfSome coming (λ text. AreCutOff text lines false later)
+    → (more : List ℕ) × Gives known (before ++ (lines ++ 10 ∷ more))
+rest_more None coming later before lines is cut = ([], tt)
+rest_more (Some text) None later before lines is cut = absurd is
+rest_more (Some text) (Some rest) None before lines is cut = absurd cut
+rest_more (Some text) (Some rest) (Some l) before lines is cut =
+    (l, is ∙ ap (λ xs. before ++ xs) cut)
+
+-- What is read of a block
+
+-- of a trace its lines
+pub trace_part : (lines : List ℕ) (is_over : Bool) → IsPartRead false lines is_over lines
+trace_part lines is_over = record {
+  before_more = λ goes more. lines_joined lines more;
+  last_events = λ over. refl;
+  last_wrong = λ over first. refl;
+}
+
+-- of a record those of its events
+module _ (lines part : List ℕ) where
+  events_more : lines_of part ≡ event_lines (lines_of lines) → (more : List ℕ)
+      → lines_read true (lines ++ 10 ∷ more) ≡ lines_of part ++ lines_read true more
+  events_more are more =
+      ap event_lines (whole_joined lines more)
+      ∙ lines_behind (lines_of lines) (whole_lines more)
+      ∙ ap (λ (ls : List (List ℕ)). ls ++ event_lines (whole_lines more)) (sym are)
+
+  -- before more comes
+  pub record_part : lines_of part ≡ event_lines (lines_of lines)
+      → IsPartRead true lines false part
+  record_part are = record {
+    before_more = λ goes more. events_more are more;
+    last_events = λ over. cc;
+    last_wrong = λ over first. cc;
+  }
+
+  -- and at the end, where a line feed ends some of its lines, or none
+  pub last_part : lines_of part ≡ event_lines (whole_lines lines)
+      → IsPartRead true lines true part
+  last_part are = record {
+    before_more = λ goes more. cc;
+    last_events = λ over. ap events_in (sym are);
+    last_wrong = λ over first. ap (first_wrong first) (sym are);
+  }
+
+  pub no_part : part ≡ [] → whole_lines lines ≡ [] → IsPartRead true lines true part
+  no_part none whole = record {
+    before_more = λ goes more. cc;
+    last_events = λ over. ap (λ (ls : List (List ℕ)). events_in (event_lines ls)) whole
+        ∙ ap (λ (xs : List ℕ). events_in (lines_of xs)) (sym none);
+    last_wrong = λ over first.
+        ap (λ (ls : List (List ℕ)). first_wrong first (event_lines ls)) whole
+        ∙ ap (λ (xs : List ℕ). first_wrong first (lines_of xs)) (sym none);
+  }
+
+-- a part that was read is what was run
+pub part_as : (as_record : Bool) (lines lines_too : List ℕ) (is_over over : Bool) (part : List ℕ)
+    → lines ≡ lines_too → is_over ≡ over → IsPartRead as_record lines is_over part
+    → IsPartRead as_record lines_too over part
+part_as as_record lines lines_too is_over over part same so read =
+    subst (λ (o : Bool). IsPartRead as_record lines_too o part) so
+    (subst (λ (ls : List ℕ). IsPartRead as_record ls is_over part) same read)
 
 -- Judging
 
 -- a text was judged as far as it was read, and the line that comes next has this number
-pub record IsJudgedTo (known coming : Option (List ℕ)) (next : ℕ) : Type 0 where
+pub record IsJudgedTo (r : Bool) (known coming : Option (List ℕ)) (next : ℕ) : Type 0 where
   pub before : List ℕ
   pub rest : IsRest known before coming
-  pub wrong : (t : List ℕ) → first_wrong 1 (lines_of (before ++ t)) ≡ first_wrong next (lines_of t)
+  pub wrong : (t : List ℕ)
+      → first_wrong 1 (lines_read r (before ++ t)) ≡ first_wrong next (lines_read r t)
 
-pub judging_begins : (known : Option (List ℕ)) → IsJudgedTo known known 1
-judging_begins known = record { before = []; rest = rest_begins known; wrong = λ t. refl }
+pub judging_begins : (r : Bool) (known : Option (List ℕ)) → IsJudgedTo r known known 1
+judging_begins r known = record { before = []; rest = rest_begins known; wrong = λ t. refl }
 
-module _ (known coming later : Option (List ℕ)) (lines : List ℕ) (first : ℕ)
-    (h : IsJudgedTo known coming first) where
+module _ (r : Bool) (known coming later : Option (List ℕ)) (lines part : List ℕ) (over : Bool)
+    (first : ℕ) (h : IsJudgedTo r known coming first) (read : IsPartRead r lines over part) where
   -- a block more was judged
-  pub judged_on : (next : ℕ) → IfSome coming (λ text. AreCutOff text lines false later)
-      → AreRight first (lines_of lines) next → IsJudgedTo known later next
-  judged_on next cut right = record {
+  pub judged_on : (next : ℕ) → over ≡ false
+      → IfSome coming (λ text. AreCutOff text lines false later)
+      → AreRight first (lines_of part) next → IsJudgedTo r known later next
+  judged_on next goes cut right = record {
     before = h.before ++ (lines ++ 10 ∷ []);
     rest = rest_behind known coming later h.before lines h.rest cut;
-    wrong = λ t. ap (λ xs. first_wrong 1 (lines_of xs)) (joined h.before lines t)
+    wrong = λ t. ap (λ xs. first_wrong 1 (lines_read r xs)) (joined h.before lines t)
         ∙ h.wrong (lines ++ 10 ∷ t)
-        ∙ ap (first_wrong first) (lines_joined lines t)
-        ∙ wrong_behind first (lines_of lines) (lines_of t) right.0
-        ∙ ap (λ n. first_wrong n (lines_of t)) (sym right.1);
+        ∙ ap (first_wrong first) (read.before_more goes t)
+        ∙ wrong_behind first (lines_of part) (lines_read r t) right.0
+        ∙ ap (λ n. first_wrong n (lines_read r t)) (sym right.1);
   }
 
   -- and it was the last one
-  pub judged_last : (next : ℕ) → IfSome coming (λ text. AreCutOff text lines true later)
-      → AreRight first (lines_of lines) next → IsRightText known
-  judged_last next cut right = record {
+  pub judged_last : (next : ℕ) → over ≡ true
+      → IfSome coming (λ text. AreCutOff text lines true later)
+      → AreRight first (lines_of part) next → IsRightText r known
+  judged_last next is cut right = record {
     octets = h.before ++ lines;
     given = rest_last known coming later h.before lines h.rest cut;
-    right = h.wrong lines ∙ right.0;
+    right = h.wrong lines ∙ read.last_wrong is first ∙ right.0;
   }
 
   -- or a line of it is wrong
-  pub judged_wrong : (n : ℕ) (over : Bool) → IfSome coming (λ text. AreCutOff text lines over later)
-      → first_wrong first (lines_of lines) ≡ Some n → IsWrongText known n
-  judged_wrong n over cut wrong =
-      let with = rest_with known coming later h.before lines over h.rest cut in
-      by with.0 with.1 with.2
+  pub judged_wrong : (n : ℕ) → IfSome coming (λ text. AreCutOff text lines over later)
+      → first_wrong first (lines_of part) ≡ Some n → IsWrongText r known n
+  judged_wrong n cut wrong = by over refl cut
     where
-      by : (t : List ℕ) → Gives known (h.before ++ t) → BeginsWith t lines → IsWrongText known n
-      by t given (inl is) = record {
-        octets = h.before ++ t;
-        given = given;
-        wrong = h.wrong t ∙ ap (λ xs. first_wrong first (lines_of xs)) is ∙ wrong;
+      by : (o : Bool) → over ≡ o → IfSome coming (λ text. AreCutOff text lines o later)
+          → IsWrongText r known n
+      by true is cut = record {
+        octets = h.before ++ lines;
+        given = rest_last known coming later h.before lines h.rest cut;
+        wrong = h.wrong lines ∙ read.last_wrong is first ∙ wrong;
       }
-      by t given (inr more) = record {
-        octets = h.before ++ t;
-        given = given;
-        wrong = h.wrong t ∙ ap (λ xs. first_wrong first (lines_of xs)) more.1
-            ∙ ap (first_wrong first) (lines_joined lines more.0)
-            ∙ wrong_before first n (lines_of lines) (lines_of more.0) wrong;
-      }
+      by false goes cut =
+          let some = rest_more known coming later h.before lines h.rest cut in
+          record {
+            octets = h.before ++ (lines ++ 10 ∷ some.0);
+            given = some.1;
+            wrong = h.wrong (lines ++ 10 ∷ some.0)
+                ∙ ap (first_wrong first) (read.before_more goes some.0)
+                ∙ wrong_before first n (lines_of part) (lines_read r some.0) wrong;
+          }
 
 -- of a block that was read so
-module _ (known coming : Option (List ℕ)) (first : ℕ) (h : IsJudgedTo known coming first)
-    (block : Reading)
-    (lines : List ℕ) (same : lines ≡ block.lines)
-    (cut : IfSome coming (λ text. IsGiven text block)) where
+module _ (r : Bool) (known coming : Option (List ℕ)) (first : ℕ)
+    (h : IsJudgedTo r known coming first) (block : Reading) (lines part : List ℕ)
+    (same : lines ≡ block.lines) (cut : IfSome coming (λ text. IsGiven text block))
+    (read : IsPartRead r lines block.is_over part) where
   cut_as : (over : Bool) → block.is_over ≡ over
       → IfSome coming (λ text. AreCutOff text lines over block.coming)
   cut_as over is = subst (λ (o : Bool). IfSome coming (λ text. AreCutOff text lines o block.coming))
@@ -160,20 +219,19 @@ module _ (known coming : Option (List ℕ)) (first : ℕ) (h : IsJudgedTo known 
       (subst (λ (ls : List ℕ). IfSome coming (λ text. AreCutOff text ls block.is_over block.coming))
       (sym same) cut)
 
-  pub judged_block : (next : ℕ) → block.is_over ≡ false → AreRight first (lines_of lines) next
-      → IsJudgedTo known block.coming next
-  judged_block next is right = judged_on known coming block.coming lines first h next
-      (cut_as false is) right
+  pub judged_block : (next : ℕ) → block.is_over ≡ false → AreRight first (lines_of part) next
+      → IsJudgedTo r known block.coming next
+  judged_block next is right = judged_on r known coming block.coming lines part block.is_over
+      first h read next is (cut_as false is) right
 
-  pub judged_all : (next : ℕ) → block.is_over ≡ true → AreRight first (lines_of lines) next
-      → IsRightText known
-  judged_all next is right = judged_last known coming block.coming lines first h next
-      (cut_as true is) right
+  pub judged_all : (next : ℕ) → block.is_over ≡ true → AreRight first (lines_of part) next
+      → IsRightText r known
+  judged_all next is right = judged_last r known coming block.coming lines part block.is_over
+      first h read next is (cut_as true is) right
 
-  pub judged_fault : (fault : Fault) → IsLineFault first lines fault → IsJudgedFault known fault
-  judged_fault (Trace n) wrong = judged_wrong known coming block.coming lines first h n
-      block.is_over
-      (cut_as block.is_over refl) wrong
+  pub judged_fault : (fault : Fault) → IsLineFault first part fault → IsJudgedFault r known fault
+  judged_fault (Trace n) wrong = judged_wrong r known coming block.coming lines part
+      block.is_over first h read n (cut_as block.is_over refl) wrong
   judged_fault NoMemory wrong = tt
   judged_fault Unread wrong = absurd wrong
   judged_fault (Config why) wrong = absurd wrong
@@ -191,15 +249,16 @@ module _ (known coming : Option (List ℕ)) (first : ℕ) (h : IsJudgedTo known 
 -- Running
 
 -- how far a run over a text has come, and what was printed of it
-pub record RunsTo (Tells : Log → List ℕ → Type 0) (known coming : Option (List ℕ))
+pub record RunsTo (Tells : Log → List ℕ → Type 0) (r : Bool) (known coming : Option (List ℕ))
     (began state : State) (s : Standing)
     (is_whole : Bool) (old new : Option (List ℕ)) : Type 0 where
   pub before : List ℕ
   pub rest : IsRest known before coming
-  pub right : (t : List ℕ) → first_wrong 1 (lines_of t) ≡ None
-      → first_wrong 1 (lines_of (before ++ t)) ≡ None
-  pub events : (t : List ℕ) → events_of s.log ++ events_of_part (not s.started) t
-      ≡ script_in (before ++ t)
+  pub right : (t : List ℕ) → first_wrong 1 (lines_read r t) ≡ None
+      → first_wrong 1 (lines_read r (before ++ t)) ≡ None
+  pub events : (t : List ℕ)
+      → events_of s.log ++ behind_tick s.started (events_in (lines_read r t))
+      ≡ script_read r (before ++ t)
   pub goes : (p : Setup) → Follows p began (Some []) → Follows p state (Some s.log)
       × HasRested p s.log
   pub faithful : Keeps old new ⊎ ((p : Setup) → Follows p began (Some []) → IsFaithful p s.log)
@@ -209,41 +268,63 @@ pub record RunsTo (Tells : Log → List ℕ → Type 0) (known coming : Option (
   pub poured : IsPoured is_whole old new lines
 
 -- the events of a part, where the tick came before
-later_events : (b : Bool) (t : List ℕ) → b ≡ true → events_of_part (not b) t
-    ≡ events_in (lines_of t)
-later_events true t is = refl
-later_events false t is = cc
+later_events : (b : Bool) (es : List LogEntry) → b ≡ true → behind_tick b es ≡ es
+later_events true es is = refl
+later_events false es is = cc
+
+part_events : (b : Bool) (text : List ℕ) → events_of_part (not b) text
+    ≡ behind_tick b (events_in (lines_of text))
+part_events true text = refl
+part_events false text = refl
+
+behind_joined : (b : Bool) (xs ys : List LogEntry) → behind_tick b (xs ++ ys)
+    ≡ behind_tick b xs ++ ys
+behind_joined true xs ys = refl
+behind_joined false xs ys = refl
 
 -- the events of lines, and of what follows them
-events_on : (earlier : List LogEntry) (is_first : Bool) (lines t : List ℕ)
-    → (earlier ++ events_of_part is_first lines) ++ events_in (lines_of t)
-    ≡ earlier ++ events_of_part is_first (lines ++ 10 ∷ t)
-events_on earlier is_first lines t =
-    append_assoc earlier (events_of_part is_first lines) (events_in (lines_of t))
-    ∙ ap (λ es. earlier ++ es) (sym (part_joined is_first lines t))
+events_on : (r : Bool) (earlier : List LogEntry) (b : Bool) (lines part t : List ℕ)
+    → lines_read r (lines ++ 10 ∷ t) ≡ lines_of part ++ lines_read r t
+    → (earlier ++ events_of_part (not b) part) ++ events_in (lines_read r t)
+    ≡ earlier ++ behind_tick b (events_in (lines_read r (lines ++ 10 ∷ t)))
+events_on r earlier b lines part t more =
+    let later = events_in (lines_read r t) in
+    append_assoc earlier (events_of_part (not b) part) later
+    ∙ ap (λ es. earlier ++ es) (ap (λ es. es ++ later) (part_events b part)
+    ∙ sym (behind_joined b (events_in (lines_of part)) later)
+    ∙ ap (behind_tick b) (sym (events_joined (lines_of part) (lines_read r t))
+    ∙ ap events_in (sym more)))
 
-module _ (Tells : Log → List ℕ → Type 0) (known coming later : Option (List ℕ))
+module _ (Tells : Log → List ℕ → Type 0) (r : Bool) (known coming later : Option (List ℕ))
     (began state : State) (s : Standing)
-    (is_whole : Bool) (old new : Option (List ℕ)) (lines : List ℕ)
-    (h : RunsTo Tells known coming began state s is_whole old new) where
+    (is_whole : Bool) (old new : Option (List ℕ)) (lines part : List ℕ) (over : Bool)
+    (h : RunsTo Tells r known coming began state s is_whole old new)
+    (read : IsPartRead r lines over part) where
+  -- all events of the last part
+  last_part_events : over ≡ true → events_of s.log ++ events_of_part (not s.started) part
+      ≡ script_read r (h.before ++ lines)
+  last_part_events is = ap (λ es. events_of s.log ++ es) (part_events s.started part
+      ∙ ap (behind_tick s.started) (sym (read.last_events is))) ∙ h.events lines
+
   -- a block more was run
   pub ran_on : (ended : State) (after : Standing) (whole : Bool) (newer : Option (List ℕ))
-      (text : List ℕ)
+      (text : List ℕ) → over ≡ false
       → IfSome coming (λ text. AreCutOff text lines false later)
-      → IsPartRun s lines state ended after
+      → IsPartRun s part state ended after
       → Tells after.log text → IsPoured whole old newer text
-      → RunsTo Tells known later began ended after whole old newer
-  ran_on ended after whole newer text cut run told poured = record {
+      → RunsTo Tells r known later began ended after whole old newer
+  ran_on ended after whole newer text goes cut run told poured = record {
     before = h.before ++ (lines ++ 10 ∷ []);
     rest = rest_behind known coming later h.before lines h.rest cut;
-    right = λ t right. ap (λ xs. first_wrong 1 (lines_of xs)) (joined h.before lines t)
-        ∙ h.right (lines ++ 10 ∷ t) (ap (first_wrong 1) (lines_joined lines t)
-        ∙ wrong_behind 1 (lines_of lines) (lines_of t) run.right
-        ∙ none_wrong_from 1 (1 + length (lines_of lines)) (lines_of t) right);
-    events = λ t. ap (λ es. events_of after.log ++ es) (later_events after.started t run.started)
-        ∙ ap (λ es. es ++ events_in (lines_of t)) run.events
-        ∙ events_on (events_of s.log) (not s.started) lines t
-        ∙ h.events (lines ++ 10 ∷ t) ∙ ap script_in (sym (joined h.before lines t));
+    right = λ t right. ap (λ xs. first_wrong 1 (lines_read r xs)) (joined h.before lines t)
+        ∙ h.right (lines ++ 10 ∷ t) (ap (first_wrong 1) (read.before_more goes t)
+        ∙ wrong_behind 1 (lines_of part) (lines_read r t) run.right
+        ∙ none_wrong_from 1 (1 + length (lines_of part)) (lines_read r t) right);
+    events = λ t. ap (λ es. events_of after.log ++ es)
+        (later_events after.started (events_in (lines_read r t)) run.started)
+        ∙ ap (λ es. es ++ events_in (lines_read r t)) run.events
+        ∙ events_on r (events_of s.log) s.started lines part t (read.before_more goes t)
+        ∙ h.events (lines ++ 10 ∷ t) ∙ ap (script_read r) (sym (joined h.before lines t));
     goes = λ p begins. let at = h.goes p begins in
         let done = run.goes p at.0 at.1 in
         (done.follows, done.rests);
@@ -258,17 +339,17 @@ module _ (Tells : Log → List ℕ → Type 0) (known coming later : Option (Lis
 
   -- and it was the last one
   pub ran_last : (ended : State) (after : Standing) (whole : Bool) (newer : Option (List ℕ))
-      (text : List ℕ)
+      (text : List ℕ) → over ≡ true
       → IfSome coming (λ text. AreCutOff text lines true later)
-      → IsPartRun s lines state ended after
+      → IsPartRun s part state ended after
       → Tells after.log text → IsPoured whole old newer text
-      → IsRunOver Tells known began ended old newer whole
-  ran_last ended after whole newer text cut run told poured = record {
+      → IsRunOver Tells r known began ended old newer whole
+  ran_last ended after whole newer text is cut run told poured = record {
     octets = h.before ++ lines;
     given = rest_last known coming later h.before lines h.rest cut;
-    right = h.right lines run.right;
+    right = h.right lines (read.last_wrong is 1 ∙ run.right);
     log = after.log;
-    events = run.events ∙ h.events lines;
+    events = run.events ∙ last_part_events is;
     goes = λ p begins rested. let at = h.goes p begins in run.goes p at.0 at.1;
     lines = text;
     told = told;
@@ -276,51 +357,55 @@ module _ (Tells : Log → List ℕ → Type 0) (known coming later : Option (Lis
   }
 
   -- or the run stopped in it
-  pub ran_into : (over : Bool) (newer : Option (List ℕ))
+  pub ran_into : (newer : Option (List ℕ))
       → IfSome coming (λ text. AreCutOff text lines over later)
-      → IsPartStopped Tells s lines state old newer → IsStoppedOver Tells known began old newer
-  ran_into over newer cut stop =
-      let with = rest_with known coming later h.before lines over h.rest cut in
-      by with.0 with.1 with.2
+      → IsPartStopped Tells s part state old newer
+      → IsStoppedOver Tells r known began old newer
+  ran_into newer cut stop = by over refl cut
     where
-      by : (t : List ℕ) → Gives known (h.before ++ t) → BeginsWith t lines
-          → IsStoppedOver Tells known began old newer
-      by t given (inl is) = record {
-        octets = h.before ++ t;
-        given = given;
+      by : (o : Bool) → over ≡ o → IfSome coming (λ text. AreCutOff text lines o later)
+          → IsStoppedOver Tells r known began old newer
+      by true is cut = record {
+        octets = h.before ++ lines;
+        given = rest_last known coming later h.before lines h.rest cut;
         log = stop.log;
         rest = stop.rest;
-        events = stop.events ∙ h.events lines ∙ ap (λ xs. script_in (h.before ++ xs)) (sym is);
+        events = stop.events ∙ last_part_events is;
         faithful = λ p begins rested. let at = h.goes p begins in stop.faithful p at.0 at.1;
         lines = stop.lines;
         told = stop.told;
         begun = stop.begun;
       }
-      by t given (inr more) = record {
-        octets = h.before ++ t;
-        given = given;
-        log = stop.log;
-        rest = stop.rest ++ events_in (lines_of more.0);
-        events = sym (append_assoc (events_of stop.log) stop.rest (events_in (lines_of more.0)))
-            ∙ ap (λ es. es ++ events_in (lines_of more.0)) stop.events
-            ∙ events_on (events_of s.log) (not s.started) lines more.0
-            ∙ h.events (lines ++ 10 ∷ more.0) ∙ ap (λ xs. script_in (h.before ++ xs)) (sym more.1);
-        faithful = λ p begins rested. let at = h.goes p begins in stop.faithful p at.0 at.1;
-        lines = stop.lines;
-        told = stop.told;
-        begun = stop.begun;
-      }
+      by false goes cut =
+          let some = rest_more known coming later h.before lines h.rest cut in
+          let more = events_in (lines_read r some.0) in
+          record {
+            octets = h.before ++ (lines ++ 10 ∷ some.0);
+            given = some.1;
+            log = stop.log;
+            rest = stop.rest ++ more;
+            events = sym (append_assoc (events_of stop.log) stop.rest more)
+                ∙ ap (λ es. es ++ more) stop.events
+                ∙ events_on r (events_of s.log) s.started lines part some.0
+                (read.before_more goes some.0)
+                ∙ h.events (lines ++ 10 ∷ some.0);
+            faithful = λ p begins rested. let at = h.goes p begins in stop.faithful p at.0 at.1;
+            lines = stop.lines;
+            told = stop.told;
+            begun = stop.begun;
+          }
 
 -- the run stopped between two blocks
-pub ran_to : (Tells : Log → List ℕ → Type 0) (known coming : Option (List ℕ)) (began state : State)
+pub ran_to : (Tells : Log → List ℕ → Type 0) (r : Bool) (known coming : Option (List ℕ))
+    (began state : State)
     (s : Standing)
     (is_whole : Bool) (old new : Option (List ℕ))
-    → RunsTo Tells known coming began state s is_whole old new
-    → Keeps old new ⊎ IsStoppedOver Tells known began old new
-ran_to Tells known coming began state s is_whole old new h = by h.faithful
+    → RunsTo Tells r known coming began state s is_whole old new
+    → Keeps old new ⊎ IsStoppedOver Tells r known began old new
+ran_to Tells r known coming began state s is_whole old new h = by h.faithful
   where
     by : Keeps old new ⊎ ((p : Setup) → Follows p began (Some []) → IsFaithful p s.log)
-        → Keeps old new ⊎ IsStoppedOver Tells known began old new
+        → Keeps old new ⊎ IsStoppedOver Tells r known began old new
     by (inl keeps) = inl keeps
     by (inr faithful) =
         let some = rest_some known coming h.before h.rest in
@@ -328,7 +413,7 @@ ran_to Tells known coming began state s is_whole old new h = by h.faithful
           octets = h.before ++ some.0;
           given = some.1;
           log = s.log;
-          rest = events_of_part (not s.started) some.0;
+          rest = behind_tick s.started (events_in (lines_read r some.0));
           events = h.events some.0;
           faithful = λ p begins rested. faithful p begins;
           lines = h.lines;
@@ -337,14 +422,15 @@ ran_to Tells known coming began state s is_whole old new h = by h.faithful
         })
 
 -- at first
-pub runs_begin : (Tells : Log → List ℕ → Type 0) (known coming : Option (List ℕ)) (began : State)
+pub runs_begin : (Tells : Log → List ℕ → Type 0) (r : Bool) (known coming : Option (List ℕ))
+    (began : State)
     (s : Standing)
     (old : Option (List ℕ)) → coming ≡ known
-    → s ≡ record { started = false; log = []; poured = []; page = []; failed = 0 } → Tells [] []
-    → RunsTo Tells known coming began began s true old old
-runs_begin Tells known coming began s old all fresh nothing =
-    subst (λ (c : Option (List ℕ)). RunsTo Tells known c began began s true old old) (sym all)
-    (subst (λ (x : Standing). RunsTo Tells known known began began x true old old) (sym fresh)
+    → s ≡ record { started = r; log = []; poured = []; page = []; failed = 0 } → Tells [] []
+    → RunsTo Tells r known coming began began s true old old
+runs_begin Tells r known coming began s old all fresh nothing =
+    subst (λ (c : Option (List ℕ)). RunsTo Tells r known c began began s true old old) (sym all)
+    (subst (λ (x : Standing). RunsTo Tells r known known began began x true old old) (sym fresh)
     (record {
       before = [];
       rest = rest_begins known;
@@ -361,18 +447,20 @@ runs_begin Tells known coming began s old all fresh nothing =
 -- the lines of its actions were printed
 pub poured_lines : (known coming : Option (List ℕ)) (began state : State) (s : Standing)
     (is_whole : Bool)
-    (old mid : Option (List ℕ)) → RunsTo AreLines known coming began state s is_whole old mid
+    (old mid : Option (List ℕ)) → RunsTo AreLines false known coming began state s is_whole old mid
     → IsPoured is_whole old mid (lines_of_actions s.log)
 poured_lines known coming began state s is_whole old mid h =
     subst (λ (xs : List ℕ). IsPoured is_whole old mid xs) h.told h.poured
 
 -- over a block that was read so
-module _ (Tells : Log → List ℕ → Type 0) (known coming : Option (List ℕ)) (began state : State)
+module _ (Tells : Log → List ℕ → Type 0) (r : Bool) (known coming : Option (List ℕ))
+    (began state : State)
     (s : Standing)
-    (is_whole : Bool) (old mid : Option (List ℕ)) (h : RunsTo Tells known coming began state s
+    (is_whole : Bool) (old mid : Option (List ℕ)) (h : RunsTo Tells r known coming began state s
     is_whole old mid)
-    (block : Reading) (lines : List ℕ) (same : lines ≡ block.lines)
-    (cut : IfSome coming (λ text. IsGiven text block)) where
+    (block : Reading) (lines part : List ℕ) (same : lines ≡ block.lines)
+    (cut : IfSome coming (λ text. IsGiven text block))
+    (read : IsPartRead r lines block.is_over part) where
   cut_so : (over : Bool) → block.is_over ≡ over
       → IfSome coming (λ text. AreCutOff text lines over block.coming)
   cut_so over is = subst (λ (o : Bool). IfSome coming (λ text. AreCutOff text lines o block.coming))
@@ -381,29 +469,30 @@ module _ (Tells : Log → List ℕ → Type 0) (known coming : Option (List ℕ)
       (sym same) cut)
 
   module _ (ended : State) (after : Standing) (whole : Bool) (new : Option (List ℕ))
-      (run : IsPartRun s lines state ended after) (text : List ℕ) (told : Tells after.log text)
+      (run : IsPartRun s part state ended after) (text : List ℕ) (told : Tells after.log text)
       (poured : IsPoured whole old new text) where
-    pub block_run : block.is_over ≡ false → RunsTo Tells known block.coming began ended after whole
+    pub block_run : block.is_over ≡ false
+        → RunsTo Tells r known block.coming began ended after whole
         old new
-    block_run is = ran_on Tells known coming block.coming began state s is_whole old mid lines h
-        ended after whole new
-        text (cut_so false is) run told poured
+    block_run is = ran_on Tells r known coming block.coming began state s is_whole old mid lines
+        part block.is_over h read ended after whole new
+        text is (cut_so false is) run told poured
 
-    pub all_run : block.is_over ≡ true → IsRunOver Tells known began ended old new whole
-    all_run is = ran_last Tells known coming block.coming began state s is_whole old mid lines h
-        ended after whole new
-        text (cut_so true is) run told poured
+    pub all_run : block.is_over ≡ true → IsRunOver Tells r known began ended old new whole
+    all_run is = ran_last Tells r known coming block.coming began state s is_whole old mid lines
+        part block.is_over h read ended after whole new
+        text is (cut_so true is) run told poured
 
   -- the run stopped before it, or in it
-  pub block_left : (new : Option (List ℕ)) → (new ≡ mid) ⊎ IsPartStopped Tells s lines state old new
-      → Keeps old new ⊎ IsStoppedOver Tells known began old new
+  pub block_left : (new : Option (List ℕ)) → (new ≡ mid) ⊎ IsPartStopped Tells s part state old new
+      → Keeps old new ⊎ IsStoppedOver Tells r known began old new
   block_left new (inl unchanged) =
-      subst (λ (n : Option (List ℕ)). Keeps old n ⊎ IsStoppedOver Tells known began old n)
+      subst (λ (n : Option (List ℕ)). Keeps old n ⊎ IsStoppedOver Tells r known began old n)
       (sym unchanged)
-      (ran_to Tells known coming began state s is_whole old mid h)
+      (ran_to Tells r known coming began state s is_whole old mid h)
   block_left new (inr stop) =
-      inr (ran_into Tells known coming block.coming began state s is_whole old mid lines h
-      block.is_over new (cut_so block.is_over refl) stop)
+      inr (ran_into Tells r known coming block.coming began state s is_whole old mid lines part
+      block.is_over h read new (cut_so block.is_over refl) stop)
 
 -- One part
 

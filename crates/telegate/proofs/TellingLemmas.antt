@@ -29,10 +29,11 @@ events_behind (Came now event ∷ news) log =
 events_behind (Went now action ∷ news) log = events_behind news log
 
 -- how far a run over a text has come, with a scribe that has written of all
-pub record TellsTo (style : Style) (known coming : Option (List ℕ)) (began state : State)
+pub record TellsTo (style : Style) (r : Bool) (known coming : Option (List ℕ))
+    (began state : State)
     (s : Standing)
     (scribe : Scribing) (is_whole : Bool) (old new : Option (List ℕ)) : Type 0 where
-  pub run : RunsTo (IsLadder style) known coming began state s is_whole old new
+  pub run : RunsTo (IsLadder style) r known coming began state s is_whole old new
   pub written : HasWritten style s.log scribe
   pub poured : IsPoured is_whole old new scribe.told
 
@@ -47,15 +48,16 @@ blank style = record {
   is_noted = true;
 }
 
-abbrev pub unbegun : Standing
-unbegun = record { started = false; log = []; poured = []; page = []; failed = 0 }
+abbrev pub unbegun : (as_record : Bool) → Standing
+unbegun as_record =
+    record { started = as_record; log = []; poured = []; page = []; failed = 0 }
 
-pub tells_begin : (style : Style) (known coming : Option (List ℕ)) (began : State) (s : Standing)
-    (scribe : Scribing)
-    (old : Option (List ℕ)) → coming ≡ known → s ≡ unbegun → scribe ≡ blank style
-    → TellsTo style known coming began began s scribe true old old
-tells_begin style known coming began s scribe old all fresh new = record {
-  run = runs_begin (IsLadder style) known coming began s old all fresh (no_words style);
+pub tells_begin : (style : Style) (r : Bool) (known coming : Option (List ℕ)) (began : State)
+    (s : Standing) (scribe : Scribing)
+    (old : Option (List ℕ)) → coming ≡ known → s ≡ unbegun r → scribe ≡ blank style
+    → TellsTo style r known coming began began s scribe true old old
+tells_begin style r known coming began s scribe old all fresh new = record {
+  run = runs_begin (IsLadder style) r known coming began s old all fresh (no_words style);
   written = subst (λ (x : Scribing). HasWritten style s.log x) (sym new)
       (subst (λ (x : Standing). HasWritten style x.log (blank style)) (sym fresh) (record {
         style_is = refl;

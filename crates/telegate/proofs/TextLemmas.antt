@@ -1,22 +1,15 @@
--- Texts that stand one behind the other, with a line feed between them: their events.
+-- How many events a text has.
 use Rattle.std.proofs.Common.{◌≡◌, ℕ, ◌+◌, ◌≤◌, Bool, true, false, List, [], ◌∷◌, ◌++◌, length, map}
-use Rattle.std.proofs.Common.{Option, Some, None, ap, ◌∙◌, arith}
+use Rattle.std.proofs.Common.{Option, Some, None, ap, arith}
 use Rattle.std.specs.List.{count_by, cons_option}
 use Rattle.std.specs.Prelude.{◌==◌}
 use Rattle.std.proofs.lemmas.List.{length-append}
 use Rattle.std.proofs.lemmas.List.Splits.{length-slice_split}
 use Rattle.std.proofs.lemmas.List.Sums.{count_by-le-length}
-use Rattle.gateway.specs.Log.{Came, Ticked}
 use Rattle.traces.specs.Event.{Event}
 use Rattle.traces.specs.Progress.{came, events_in, events_of_part}
 use Rattle.traces.specs.Trace.{lines_of, told}
-use Rattle.traces.proofs.JoinedLemmas.{events_joined, lines_joined}
-
-pub part_joined : (is_first : Bool) (a b : List ℕ)
-    → events_of_part is_first (a ++ 10 ∷ b) ≡ events_of_part is_first a ++ events_in (lines_of b)
-part_joined true a b = ap (λ es. Came 0 Ticked ∷ es)
-    (ap events_in (lines_joined a b) ∙ events_joined (lines_of a) (lines_of b))
-part_joined false a b = ap events_in (lines_joined a b) ∙ events_joined (lines_of a) (lines_of b)
+use Rattle.traces.proofs.JoinedLemmas.{events_joined}
 
 one_most : (line : List ℕ) → length (events_in (line ∷ [])) ≤ 1
 one_most line = by (told line)

@@ -9,8 +9,7 @@ use Rattle.show.specs.declared.outcome.Outcome.{Outcome}
 use Rattle.show.specs.declared.outcome.Outcome.TheVariants.{Good, Faulty}
 use Rattle.traces.specs.Fields.{octets_of}
 use Rattle.words.specs.Told.{IsLineTold, IsTcpTold}
-use Rattle.traces.specs.Progress.{script_in}
-use Rattle.traces.specs.Trace.{lines_of, first_wrong}
+use Rattle.traces.specs.Trace.{first_wrong}
 use Rattle.traces.specs.declared.reading.TextFault.TheVariants.{Line as WrongLine}
 use Rattle.gateway.specs.Config.{Settings}
 use Rattle.gateway.specs.Log.{Log, LogEntry, events_of}
@@ -29,6 +28,7 @@ use Rattle.telegate.specs.Closing.{closing_lines}
 use Rattle.telegate.specs.Faults.{status_of_end}
 use Rattle.telegate.specs.Given.{Gives}
 use Rattle.telegate.specs.Manners.{Tells}
+use Rattle.telegate.specs.Records.{IsFound, lines_read, script_read}
 use Rattle.telegate.specs.SimulatedTold.{IsSimulatedIn, IsCutShortIn, IsStoppedIn}
 use Rattle.telegate.specs.declared.closing.Closing.{Closing}
 use Rattle.telegate.specs.declared.answer.Answer.{Answer}
@@ -85,16 +85,16 @@ pub record IsTcpAnswer (words : Bool) (hex : List ℕ) (answer : Answer) : Type 
 abbrev pub IsShown104 : (words : Bool) → List ℕ → Result Answer Fault → Type 0
 IsShown104 words hex result = MatchResult result (IsTcpAnswer words hex) (IsOctetsFault hex)
 
--- The text of the log of a run over this trace, and the lines with which the run ends: the events
--- of the log are a tick at moment 0 and those of the trace, the log keeps every promise of a
--- gateway with these settings, and so delivers what the outstations reported. What is left and was
--- counted is that of a gateway whose state agrees with this log: of the reports that went out on
--- the open connection the very ASDUs that aren't acknowledged, then as many pieces of the others as
--- have places.
-pub record IsRun (settings : Settings) (manner : Manner) (trace : List ℕ) (closing : Closing)
-    (text : List ℕ) : Type 0 where
+-- The text of the log of a run over this text, and the lines with which the run ends: the events of
+-- the log are those of the text, as a trace (with a tick at moment 0 before them) or as a record,
+-- the log keeps every promise of a gateway with these settings, and so delivers what the
+-- outstations reported. What is left and was counted is that of a gateway whose state agrees with
+-- this log: of the reports that went out on the open connection the very ASDUs that aren't
+-- acknowledged, then as many pieces of the others as have places.
+pub record IsRun (settings : Settings) (manner : Manner) (as_record : Bool) (trace : List ℕ)
+    (closing : Closing) (text : List ℕ) : Type 0 where
   pub log : Log
-  pub events : events_of log ≡ script_in trace
+  pub events : events_of log ≡ script_read as_record trace
   pub faithful : IsFaithful (setup_of settings) log
   pub rests : HasRested (setup_of settings) log
   pub ordered : KeepsOrder log
@@ -107,87 +107,97 @@ pub record IsRun (settings : Settings) (manner : Manner) (trace : List ℕ) (clo
   pub joined : text ≡ lines ++ closing_lines closing.left closing.counts state
 
 -- a text whose octets may be these was judged, and no line of it is wrong
-pub record WasJudged (has : List ℕ → Type 0) : Type 0 where
+pub record WasJudged (as_record : Bool) (has : List ℕ → Type 0) : Type 0 where
   pub trace : List ℕ
   pub is : has trace
-  pub right : first_wrong 1 (lines_of trace) ≡ None
+  pub right : first_wrong 1 (lines_read as_record trace) ≡ None
 
--- a run over a trace whose octets may be these, of which no line is wrong, and so much of the run's
+-- a run over a text whose octets may be these, of which no line is wrong, and so much of the run's
 -- text was printed
-pub record IsRunOf (settings : Settings) (manner : Manner) (has : List ℕ → Type 0)
-    (closing : Closing) (IsPrinted : List ℕ → Type 0) : Type 0 where
+pub record IsRunOf (settings : Settings) (manner : Manner) (as_record : Bool)
+    (has : List ℕ → Type 0) (closing : Closing) (IsPrinted : List ℕ → Type 0) : Type 0 where
   pub trace : List ℕ
   pub is : has trace
-  pub right : first_wrong 1 (lines_of trace) ≡ None
+  pub right : first_wrong 1 (lines_read as_record trace) ≡ None
   pub text : List ℕ
-  pub run : IsRun settings manner trace closing text
+  pub run : IsRun settings manner as_record trace closing text
   pub printed : IsPrinted text
 
--- The same of a run that stopped before its end: the events of its log are the first of the trace,
+-- The same of a run that stopped before its end: the events of its log are the first of the text,
 -- and a beginning of its text was printed.
-pub record IsStopOf (settings : Settings) (manner : Manner) (has : List ℕ → Type 0)
-    (old new : Option (List ℕ)) : Type 0 where
+pub record IsStopOf (settings : Settings) (manner : Manner) (as_record : Bool)
+    (has : List ℕ → Type 0) (old new : Option (List ℕ)) : Type 0 where
   pub trace : List ℕ
   pub is : has trace
   pub log : Log
   pub rest : List LogEntry
-  pub events : events_of log ++ rest ≡ script_in trace
+  pub events : events_of log ++ rest ≡ script_read as_record trace
   pub faithful : IsFaithful (setup_of settings) log
   pub text : List ℕ
   pub told : Tells manner settings log text
   pub printed : IsBegun old new text
 
--- How a run over a trace ends that was judged. Where the output failed, of the text of the whole
--- run a beginning was printed. Where memory was refused, the trace can't be read on, or a line of
--- it is wrong that wasn't, the run stops, or doesn't begin.
-abbrev pub IsEndFault : Settings → Manner → (has : List ℕ → Type 0) → Closing
+-- How a run over a text ends that was judged. Where the output failed, of the text of the whole run
+-- a beginning was printed. Where memory was refused, the text can't be read on, or a line of it is
+-- wrong that wasn't, the run stops, or doesn't begin.
+abbrev pub IsEndFault : Settings → Manner → (as_record : Bool) → (has : List ℕ → Type 0) → Closing
     → (old new : Option (List ℕ)) → Fault → Type 0
-IsEndFault settings manner has closing old new Device =
-    IsRunOf settings manner has closing (IsBegun old new)
-IsEndFault settings manner has closing old new NoMemory =
-    Keeps old new ⊎ IsStopOf settings manner has old new
-IsEndFault settings manner has closing old new Unread =
-    Keeps old new ⊎ IsStopOf settings manner has old new
-IsEndFault settings manner has closing old new _ = ⊥
+IsEndFault settings manner as_record has closing old new Device =
+    IsRunOf settings manner as_record has closing (IsBegun old new)
+IsEndFault settings manner as_record has closing old new NoMemory =
+    Keeps old new ⊎ IsStopOf settings manner as_record has old new
+IsEndFault settings manner as_record has closing old new Unread =
+    Keeps old new ⊎ IsStopOf settings manner as_record has old new
+IsEndFault settings manner as_record has closing old new _ = ⊥
 
-abbrev pub IsEndOf : Settings → Manner → (has : List ℕ → Type 0) → Closing
+abbrev pub IsEndOf : Settings → Manner → (as_record : Bool) → (has : List ℕ → Type 0) → Closing
     → (old new : Option (List ℕ)) → Result (Unit {0}) Fault → Type 0
-IsEndOf settings manner has closing old new result =
-    MatchResult result (λ done. IsRunOf settings manner has closing (Appends old new))
-    (IsEndFault settings manner has closing old new)
+IsEndOf settings manner as_record has closing old new result =
+    MatchResult result
+    (λ done. IsRunOf settings manner as_record has closing (Appends old new))
+    (IsEndFault settings manner as_record has closing old new)
 
--- Settings and trace are free of faults, and a run over the trace ended so. The trace is read
--- twice, so that its octets may be others the second time.
-pub record HasRun (config : List ℕ) (has : List ℕ → Type 0) (IsEnd : Settings → Type 0)
-    : Type 0 where
+-- Settings and text are free of faults, and a run over the text ended so. The text is opened more
+-- than once, so that its octets may be others each time.
+pub record HasRun (config : List ℕ) (manner : Manner) (has : List ℕ → Type 0)
+    (IsEnd : Settings → (as_record : Bool) → Type 0) : Type 0 where
   pub settings : Settings
   pub read_config : IsReadOfText config (Ok settings)
-  pub judged : WasJudged has
-  pub end : IsEnd settings
+  pub as_record : Bool
+  pub found : IsFound manner has as_record
+  pub judged : WasJudged as_record has
+  pub end : IsEnd settings as_record
 
--- Settings are judged before the trace, and both before anything is printed.
+-- this line is the first wrong one of a text whose octets may be these
+pub record IsWrongTrace (manner : Manner) (has : List ℕ → Type 0) (line : ℕ) : Type 0 where
+  pub as_record : Bool
+  pub found : IsFound manner has as_record
+  pub trace : List ℕ
+  pub is : has trace
+  pub wrong : first_wrong 1 (lines_read as_record trace) ≡ Some line
+
+-- Settings are judged before the text, and both before anything is printed.
 abbrev pub IsReplayFault : List ℕ → Manner → (has : List ℕ → Type 0) → Closing
     → (old new : Option (List ℕ)) → Fault → Type 0
 IsReplayFault config manner has closing old new (Config why) =
     IsReadOfText config (Err why) × Keeps old new
 IsReplayFault config manner has closing old new (Trace n) =
-    ((s : Settings) × IsReadOfText config (Ok s))
-    × ((trace : List ℕ) × has trace × (first_wrong 1 (lines_of trace) ≡ Some n))
-    × Keeps old new
+    ((s : Settings) × IsReadOfText config (Ok s)) × IsWrongTrace manner has n × Keeps old new
 IsReplayFault config manner has closing old new Device =
-    HasRun config has (λ s. IsRunOf s manner has closing (IsBegun old new))
+    HasRun config manner has (λ s r. IsRunOf s manner r has closing (IsBegun old new))
 IsReplayFault config manner has closing old new NoMemory =
-    Keeps old new ⊎ HasRun config has (λ s. IsStopOf s manner has old new)
+    Keeps old new ⊎ HasRun config manner has (λ s r. IsStopOf s manner r has old new)
 IsReplayFault config manner has closing old new Unread =
-    Keeps old new ⊎ HasRun config has (λ s. IsStopOf s manner has old new)
+    Keeps old new ⊎ HasRun config manner has (λ s r. IsStopOf s manner r has old new)
 IsReplayFault config manner has closing old new _ = ⊥
 
--- a replay of a trace whose octets may be these
+-- a replay of a text whose octets may be these
 abbrev pub IsReplayed : List ℕ → Manner → (has : List ℕ → Type 0) → Closing
     → (old new : Option (List ℕ)) → Result (Unit {0}) Fault → Type 0
 IsReplayed config manner has closing old new result =
     MatchResult result
-    (λ done. HasRun config has (λ s. IsRunOf s manner has closing (Appends old new)))
+    (λ done. HasRun config manner has
+    (λ s r. IsRunOf s manner r has closing (Appends old new)))
     (IsReplayFault config manner has closing old new)
 
 -- settings and script are free of faults, and this holds of a run of the script

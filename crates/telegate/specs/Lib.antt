@@ -12,6 +12,7 @@ pub mod Guests
 pub mod Audits
 pub mod Examples
 pub mod Source
+pub mod Records
 pub mod Parts
 pub mod Lives
 pub mod Sites

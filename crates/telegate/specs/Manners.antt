@@ -1,5 +1,9 @@
 -- How a run is printed (this gateway's own profile).
-use Rattle.std.specs.Prelude.{◌≡◌, ℕ, Bool, if◌then◌else◌, List}
+use Rattle.std.specs.Prelude.{◌≡◌, ◌&&◌, ◌||◌, not, ℕ, Bool, true, false, if◌then◌else◌, List, []}
+use Rattle.std.specs.Prelude.{◌∷◌, Result, Ok, Err, String, string_bytes}
+use Rattle.std.specs.declared.alloc.Global.{Global}
+use Rattle.std.specs.declared.env.VarError.{VarError}
+use Rattle.std.specs.declared.env.VarError.TheVariants.{NotPresent}
 use Rattle.gateway.specs.Config.{Settings}
 use Rattle.gateway.specs.Log.{Log}
 use Rattle.ladder.specs.Told.{IsLadder}
@@ -8,9 +12,24 @@ use Rattle.traces.specs.Actions.{lines_of_actions}
 use Rattle.telegate.specs.declared.manner.Manner.{Manner}
 use Rattle.telegate.specs.declared.manner.Manner.TheVariants.{Lines, Words}
 
--- by the flags `--words` and `--color`
-abbrev pub manner_of : (words color : Bool) → Manner
-manner_of words color = if words then Words color else Lines
+-- by the flags `--words` and `--color`, and by whether standard output shows colours of itself
+abbrev pub manner_of : (words color has_colours : Bool) → Manner
+manner_of words color has_colours = if words then Words (color || has_colours) else Lines
+
+abbrev pub is_empty : List ℕ → Bool
+is_empty [] = true
+is_empty (octet ∷ octets) = false
+
+-- a variable of the environment is there, and isn't empty
+abbrev pub is_set : Result (String Global) VarError → Bool
+is_set (Ok text) = not (is_empty (string_bytes text))
+is_set (Err NotPresent) = false
+is_set (Err why) = true
+
+-- Standard output shows colours of itself where it is a terminal, unless the environment has a
+-- NO_COLOR that isn't empty (https://no-color.org).
+abbrev pub shows_colours : (is_terminal has_no_color : Bool) → Bool
+shows_colours is_terminal has_no_color = is_terminal && not has_no_color
 
 -- how lines in words are written for these settings
 abbrev pub style_of : Settings → (is_coloured : Bool) → Style

@@ -1,5 +1,6 @@
 -- A run over a text that is read part by part.
-use Rattle.std.specs.Prelude.{◌≡◌, ◌⊎◌, ℕ, Bool, true, not, List, [], ◌++◌, Option, Some, None}
+use Rattle.std.specs.Prelude.{◌≡◌, ◌⊎◌, ℕ, Bool, true, false, not, List, [], ◌∷◌, ◌++◌, Option}
+use Rattle.std.specs.Prelude.{Some, None}
 use Rattle.std.specs.Prelude.{Result, MatchResult}
 use Rattle.std.specs.Io.KnownBytes.{Keeps}
 use Rattle.gateway.specs.Accounts.{IsAccounted}
@@ -9,9 +10,10 @@ use Rattle.gateway.specs.Reports.{Setup}
 use Rattle.gateway.specs.State.{State}
 use Rattle.gateway.specs.Traffic.{IsFaithful, HasRested}
 use Rattle.sim.specs.Runs.{IsBegun}
-use Rattle.traces.specs.Progress.{Part, Standing, script_in, script_of}
+use Rattle.traces.specs.Progress.{Part, Standing, events_in, script_of}
 use Rattle.traces.specs.Trace.{lines_of, first_wrong}
 use Rattle.telegate.specs.Printed.{IsPoured}
+use Rattle.telegate.specs.Records.{is_record, lines_read, script_read}
 use Rattle.telegate.specs.Source.{Gives}
 use Rattle.telegate.specs.declared.fault.Fault.{Fault}
 use Rattle.telegate.specs.declared.fault.Fault.TheVariants.{Trace, Unread, NoMemory}
@@ -22,19 +24,38 @@ IsWant Unread = Unit {0}
 IsWant NoMemory = Unit {0}
 IsWant _ = ⊥
 
+-- Blocks
+
+-- A part of a text is what is read of one of its blocks, behind which more of it comes, or nothing
+-- does.
+pub record IsPartRead (as_record : Bool) (lines : List ℕ) (is_over : Bool) (part : List ℕ)
+    : Type 0 where
+  pub before_more : is_over ≡ false → (more : List ℕ)
+      → lines_read as_record (lines ++ 10 ∷ more) ≡ lines_of part ++ lines_read as_record more
+  pub last_events : is_over ≡ true
+      → events_in (lines_read as_record lines) ≡ events_in (lines_of part)
+  pub last_wrong : is_over ≡ true → (first : ℕ)
+      → first_wrong first (lines_read as_record lines) ≡ first_wrong first (lines_of part)
+
 -- Judging
 
--- no line of a text is wrong
-pub record IsRightText (known : Option (List ℕ)) : Type 0 where
+-- whether a text is a record
+pub record IsFoundIn (known : Option (List ℕ)) (found : Bool) : Type 0 where
   pub octets : List ℕ
   pub given : Gives known octets
-  pub right : first_wrong 1 (lines_of octets) ≡ None
+  pub is : found ≡ is_record octets
+
+-- no line of a text is wrong
+pub record IsRightText (as_record : Bool) (known : Option (List ℕ)) : Type 0 where
+  pub octets : List ℕ
+  pub given : Gives known octets
+  pub right : first_wrong 1 (lines_read as_record octets) ≡ None
 
 -- this line is the first wrong one
-pub record IsWrongText (known : Option (List ℕ)) (line : ℕ) : Type 0 where
+pub record IsWrongText (as_record : Bool) (known : Option (List ℕ)) (line : ℕ) : Type 0 where
   pub octets : List ℕ
   pub given : Gives known octets
-  pub wrong : first_wrong 1 (lines_of octets) ≡ Some line
+  pub wrong : first_wrong 1 (lines_read as_record octets) ≡ Some line
 
 -- the same of some lines, of which the first has this number
 abbrev pub IsLineFault : (first : ℕ) → List ℕ → Fault → Type 0
@@ -42,12 +63,13 @@ IsLineFault first text (Trace n) = first_wrong first (lines_of text) ≡ Some n
 IsLineFault first text NoMemory = Unit {0}
 IsLineFault first text _ = ⊥
 
-abbrev pub IsJudgedFault : Option (List ℕ) → Fault → Type 0
-IsJudgedFault known (Trace n) = IsWrongText known n
-IsJudgedFault known fault = IsWant fault
+abbrev pub IsJudgedFault : (as_record : Bool) → Option (List ℕ) → Fault → Type 0
+IsJudgedFault as_record known (Trace n) = IsWrongText as_record known n
+IsJudgedFault as_record known fault = IsWant fault
 
-abbrev pub IsJudged : Option (List ℕ) → Result ℕ Fault → Type 0
-IsJudged known result = MatchResult result (λ size. IsRightText known) (IsJudgedFault known)
+abbrev pub IsJudged : (as_record : Bool) → Option (List ℕ) → Result ℕ Fault → Type 0
+IsJudged as_record known result =
+    MatchResult result (λ number. IsRightText as_record known) (IsJudgedFault as_record known)
 
 -- Running
 
@@ -99,13 +121,14 @@ pub record IsPartStopped (Tells : Log → List ℕ → Type 0) (s : Standing) (t
 
 -- A run over a whole text, of which no line is wrong; all lines of its log were printed, or, where
 -- the output failed, a beginning of them.
-pub record IsRunOver (Tells : Log → List ℕ → Type 0) (known : Option (List ℕ))
-    (began ended : State) (old new : Option (List ℕ)) (is_whole : Bool) : Type 0 where
+pub record IsRunOver (Tells : Log → List ℕ → Type 0) (as_record : Bool)
+    (known : Option (List ℕ)) (began ended : State) (old new : Option (List ℕ)) (is_whole : Bool)
+    : Type 0 where
   pub octets : List ℕ
   pub given : Gives known octets
-  pub right : first_wrong 1 (lines_of octets) ≡ None
+  pub right : first_wrong 1 (lines_read as_record octets) ≡ None
   pub log : Log
-  pub events : events_of log ≡ script_in octets
+  pub events : events_of log ≡ script_read as_record octets
   pub goes : GoesOn began [] ended log
   pub lines : List ℕ
   pub told : Tells log lines
@@ -113,20 +136,20 @@ pub record IsRunOver (Tells : Log → List ℕ → Type 0) (known : Option (List
 
 -- a run over a text stopped before its end, and a beginning of its lines was printed; or before
 -- its beginning, and nothing was
-pub record IsStoppedOver (Tells : Log → List ℕ → Type 0) (known : Option (List ℕ)) (began : State)
-    (old new : Option (List ℕ)) : Type 0 where
+pub record IsStoppedOver (Tells : Log → List ℕ → Type 0) (as_record : Bool)
+    (known : Option (List ℕ)) (began : State) (old new : Option (List ℕ)) : Type 0 where
   pub octets : List ℕ
   pub given : Gives known octets
   pub log : Log
   pub rest : List LogEntry
-  pub events : events_of log ++ rest ≡ script_in octets
+  pub events : events_of log ++ rest ≡ script_read as_record octets
   pub faithful : StaysFaithful began [] log
   pub lines : List ℕ
   pub told : Tells log lines
   pub begun : IsBegun old new lines
 
-abbrev pub RunsOver : (Tells : Log → List ℕ → Type 0) → Option (List ℕ) → (began ended : State)
-    → (old new : Option (List ℕ)) → Result Bool Fault → Type 0
-RunsOver Tells known began ended old new result =
-    MatchResult result (IsRunOver Tells known began ended old new)
-    (λ fault. IsWant fault × (Keeps old new ⊎ IsStoppedOver Tells known began old new))
+abbrev pub RunsOver : (Tells : Log → List ℕ → Type 0) → (as_record : Bool) → Option (List ℕ)
+    → (began ended : State) → (old new : Option (List ℕ)) → Result Bool Fault → Type 0
+RunsOver Tells as_record known began ended old new result =
+    MatchResult result (IsRunOver Tells as_record known began ended old new)
+    (λ fault. IsWant fault × (Keeps old new ⊎ IsStoppedOver Tells as_record known began old new))

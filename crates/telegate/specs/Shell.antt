@@ -42,13 +42,13 @@ use Rattle.telegate.specs.declared.job.Job.TheVariants as job
 -- Files
 
 -- the job of a request, with what its files have in place of their names
-abbrev pub IsJobOf : (has : Text → List ℕ → Type 0) → Request → Job → Type 0
-IsJobOf has (Show101 sizes hex words) (job.Show101 s h w) =
+abbrev pub IsJobOf : (has : Text → List ℕ → Type 0) → (colours : Bool) → Request → Job → Type 0
+IsJobOf has colours (Show101 sizes hex words) (job.Show101 s h w) =
     (s.now ≡ sizes.now) × (h.now ≡ hex.now) × (w ≡ words)
-IsJobOf has (Show104 hex words) (job.Show104 h w) = (h.now ≡ hex.now) × (w ≡ words)
-IsJobOf has (Sim config script words color) (job.Sim c s manner) =
-    has config.now c.now × has script.now s.now × (manner ≡ manner_of words color)
-IsJobOf has _ _ = ⊥
+IsJobOf has colours (Show104 hex words) (job.Show104 h w) = (h.now ≡ hex.now) × (w ≡ words)
+IsJobOf has colours (Sim config script words color) (job.Sim c s manner) =
+    has config.now c.now × has script.now s.now × (manner ≡ manner_of words color colours)
+IsJobOf has colours _ _ = ⊥
 
 -- what is read first where a site's file is judged before the settings are read
 abbrev pub first_file : (site : Option Text) → (config : Text) → Text
@@ -101,10 +101,10 @@ pub record IsNotRead (has : Text → List ℕ → Type 0) (lacks : Text → Type
 -- Commands
 
 -- the command's job was done
-pub record IsJobDone (has : Text → List ℕ → Type 0) (request : Request) (old new : Option (List ℕ))
-    (exit : ℕ) : Type 0 where
+pub record IsJobDone (has : Text → List ℕ → Type 0) (colours : Bool) (request : Request)
+    (old new : Option (List ℕ)) (exit : ℕ) : Type 0 where
   pub job : Job
-  pub of : IsJobOf has request job
+  pub of : IsJobOf has colours request job
   pub done : Performs job old new exit
 
 -- the settings of this name were judged
@@ -288,45 +288,47 @@ abbrev pub IsDone : (has : Text → List ℕ → Type 0) → (lacks : Text → T
     → (ran : List ℕ → Wishes → Result (Unit {0}) Fault → Type 0)
     → (answered : Text → List ℕ → List ℕ → Type 0) → (silent : Text → Type 0)
     → (played : List ℕ → List ℕ → Result (Unit {0}) Fault → Type 0)
-    → (stands : Text → Stood → Type 0) → Request
+    → (stands : Text → Stood → Type 0) → (colours : Bool) → Request
     → (old new : Option (List ℕ)) → (exit : ℕ) → Type 0
-IsDone has lacks ran answered silent played stands (Run config words) old new exit =
+IsDone has lacks ran answered silent played stands colours (Run config words) old new exit =
     HasRunAsSaid has ran config.now words exit × Keeps old new
-IsDone has lacks ran answered silent played stands (Check config site live explain) old new exit =
+IsDone has lacks ran answered silent played stands colours (Check config site live explain) old new
+    exit =
     HasCheckedBehind has lacks (text_of site) config.now
     (record { live = live; explain = explain }) old new exit
-IsDone has lacks ran answered silent played stands (Replay config trace left counts words color)
+IsDone has lacks ran answered silent played stands colours
+    (Replay config trace left counts words color)
     old new exit =
-    HasReplayed has config.now trace.now (manner_of words color)
+    HasReplayed has config.now trace.now (manner_of words color colours)
     (record { left = left; counts = counts }) old new exit
-IsDone has lacks ran answered silent played stands (Audit config text) old new exit =
+IsDone has lacks ran answered silent played stands colours (Audit config text) old new exit =
     HasAudited has config.now text.now old new exit
-IsDone has lacks ran answered silent played stands (Show101 sizes hex words) old new exit =
-    IsShownOrPiped hex.now (IsJobDone has (Show101 sizes hex words) old new exit)
+IsDone has lacks ran answered silent played stands colours (Show101 sizes hex words) old new exit =
+    IsShownOrPiped hex.now (IsJobDone has colours (Show101 sizes hex words) old new exit)
     (PipesLine sizes.now words (has input) old new exit)
-IsDone has lacks ran answered silent played stands (Show104 hex words) old new exit =
-    IsShownOrPiped hex.now (IsJobDone has (Show104 hex words) old new exit)
+IsDone has lacks ran answered silent played stands colours (Show104 hex words) old new exit =
+    IsShownOrPiped hex.now (IsJobDone has colours (Show104 hex words) old new exit)
     (HasPiped Connection words (has input) old new exit)
-IsDone has lacks ran answered silent played stands (Status place json) old new exit =
+IsDone has lacks ran answered silent played stands colours (Status place json) old new exit =
     ShowsStatus answered silent place.now json old new exit
-IsDone has lacks ran answered silent played stands (State directory config) old new exit =
+IsDone has lacks ran answered silent played stands colours (State directory config) old new exit =
     HasShownState has lacks stands directory.now (text_of config) old new exit
-IsDone has lacks ran answered silent played stands (Capture config text) old new exit =
+IsDone has lacks ran answered silent played stands colours (Capture config text) old new exit =
     HasCaptured has config.now text.now old new exit
-IsDone has lacks ran answered silent played stands (Stations config script) old new exit =
+IsDone has lacks ran answered silent played stands colours (Stations config script) old new exit =
     HavePlayedFiles has played config.now script.now exit × Keeps old new
-IsDone has lacks ran answered silent played stands request old new exit =
-    IsJobDone has request old new exit
+IsDone has lacks ran answered silent played stands colours request old new exit =
+    IsJobDone has colours request old new exit
 
 -- the command is done, or a file couldn't be read and nothing was printed
 abbrev pub Responds : (has : Text → List ℕ → Type 0) → (lacks : Text → Type 0)
     → (ran : List ℕ → Wishes → Result (Unit {0}) Fault → Type 0)
     → (answered : Text → List ℕ → List ℕ → Type 0) → (silent : Text → Type 0)
     → (played : List ℕ → List ℕ → Result (Unit {0}) Fault → Type 0)
-    → (stands : Text → Stood → Type 0) → Request
+    → (stands : Text → Stood → Type 0) → (colours : Bool) → Request
     → (old new : Option (List ℕ)) → (exit : ℕ) → Type 0
-Responds has lacks ran answered silent played stands request old new exit =
-    IsDone has lacks ran answered silent played stands request old new exit
+Responds has lacks ran answered silent played stands colours request old new exit =
+    IsDone has lacks ran answered silent played stands colours request old new exit
     ⊎ (IsNotRead has lacks (files_of request) exit × Keeps old new)
 
 -- Words
@@ -353,11 +355,11 @@ pub record IsAskedAndDone (has : Text → List ℕ → Type 0) (lacks : Text →
     (ran : List ℕ → Wishes → Result (Unit {0}) Fault → Type 0)
     (answered : Text → List ℕ → List ℕ → Type 0) (silent : Text → Type 0)
     (played : List ℕ → List ℕ → Result (Unit {0}) Fault → Type 0)
-    (stands : Text → Stood → Type 0) (words : List Text) (old new : Option (List ℕ))
-    (exit : ℕ) : Type 0 where
+    (stands : Text → Stood → Type 0) (colours : Bool) (words : List Text)
+    (old new : Option (List ℕ)) (exit : ℕ) : Type 0 where
   pub request : Request
   pub asked : IsRequestOf (subcommand_of program words) (Some request)
-  pub done : Responds has lacks ran answered silent played stands request old new exit
+  pub done : Responds has lacks ran answered silent played stands colours request old new exit
 
 -- the words are wrong, or ask for help or the version; wrong ones print nothing
 pub record IsUsage (words : List Text) (old new : Option (List ℕ)) (exit : ℕ) : Type 0 where
@@ -375,8 +377,8 @@ abbrev pub Obeys : (has : Text → List ℕ → Type 0) → (lacks : Text → Ty
     → (ran : List ℕ → Wishes → Result (Unit {0}) Fault → Type 0)
     → (answered : Text → List ℕ → List ℕ → Type 0) → (silent : Text → Type 0)
     → (played : List ℕ → List ℕ → Result (Unit {0}) Fault → Type 0)
-    → (stands : Text → Stood → Type 0) → (words : List Text)
+    → (stands : Text → Stood → Type 0) → (colours : Bool) → (words : List Text)
     → (old new : Option (List ℕ)) → (exit : ℕ) → Type 0
-Obeys has lacks ran answered silent played stands words old new exit =
-    IsAskedAndDone has lacks ran answered silent played stands words old new exit
+Obeys has lacks ran answered silent played stands colours words old new exit =
+    IsAskedAndDone has lacks ran answered silent played stands colours words old new exit
     ⊎ (IsUsage words old new exit ⊎ IsNoRequest words old new exit)

@@ -90,7 +90,7 @@ const RUN_IN_WORDS: &str =
     "Prints a line for each event and each action, with the frame in the words of the standard";
 
 /// What the flag `--color` does.
-const IN_COLORS: &str = "Prints the words in the colours of a terminal, one for each side";
+const IN_COLORS: &str = "Prints the words in colours, one for each side, also where no terminal is";
 
 /// What octets are.
 const OCTETS: &str = "1 to 1,024 octets in hexadecimal; or - for lines of octets on standard input";

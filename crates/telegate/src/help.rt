@@ -28,7 +28,9 @@ milliseconds (1 to 15 digits), HEX is 1 to 1,024 octets, and one space stands be
 Printed, one action a line: `MS > S HEX` to the line, `MS > T HEX` to the control centre,
 `MS > X CAUSE` where the gateway closes the connection, and `MS > G S K` where session K of the link
 to station S has ended, and its last report may be lost. With --words each event and each action is
-a line: MS, the way, and the frame in words; with --color too the ways are coloured.
+a line: MS, the way, and the frame in words. TRACE may then be a record too (`run --record`): its
+events are run, from the first one on, and the lines of its actions are passed over. The ways are
+coloured on a terminal, unless NO_COLOR is set, and always with --color.
 Exit status: 0 done, 1 wrong settings or trace, 2 usage, 3 a file or the output failed, \
 4 no memory";
 
@@ -97,9 +99,9 @@ pub(crate) const CAPTURE: &str = "\
 RECORD is what `run --record` prints, as `audit` takes it; `-` is standard input, so that a live run
 can be followed: `telegate run --record CONFIG | telegate capture CONFIG - | wireshark -k -i -`.
 Printed: the capture. The connection is TCP between 192.0.2.1 (the control centre) and 192.0.2.2
-port 2404 (the gateway). The line is an interface of its own. Each packet stands at its time. At the
-first line that is neither an event nor an action the capture ends. Wireshark and tshark show the
-frames of the line with
+port 2404 (the gateway). The line is an interface of its own, and a gap is a packet there without
+octets. Each packet stands at its time. At the first line that is neither an event nor an action the
+capture ends. Wireshark and tshark show the frames of the line with
   -d rtacser.data,iec60870_101
 and the sizes of its addresses by the preferences, each `1 octet` to `3 octet` as in CONFIG,
   -o 'iec60870_101.linkaddr_len:1 octet'    `link`

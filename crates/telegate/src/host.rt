@@ -1,5 +1,5 @@
 //! What the program needs of the system that it runs on.
-ghost use Rattle.std.specs.Prelude.{◌≡◌, ℕ, List, Result, IfOk, IfErr};
+ghost use Rattle.std.specs.Prelude.{◌≡◌, ℕ, Bool, List, Result, IfOk, IfErr};
 ghost use Rattle.stations.specs.Scenarios.{FitsScenario};
 ghost use Rattle.telegate.specs.Playing.{ArePlayed};
 ghost use Rattle.telegate.specs.Ran.{answer_to};
@@ -94,6 +94,9 @@ pub(crate) trait Host {
     // Nobody answers at this place.
     ghost silent: { Self → List ℕ → Type 0 };
 
+    // Whether standard output shows colours of itself.
+    ghost colours: { Self → Bool };
+
     /// What the text of a file is read from.
     type Text: Read + Drop;
 
@@ -112,6 +115,10 @@ pub(crate) trait Host {
 
     /// Whether somebody looks on at standard error.
     fn is_watched(&self) -> bool;
+
+    /// Whether standard output shows colours of itself.
+    fn shows_colours(&self) -> bool
+        ensures { result ≡ colours self.now };
 
     /// Runs the gateway live, by settings of these octets, until it ends.
     fn run(&self, config: &[u8], wishes: Wishes<'_>) -> Result<(), Fault>
@@ -141,6 +148,8 @@ pub(crate) struct System<'r> {
     pub(crate) rt: &'r HostRuntime,
     /// Whether its standard error is a terminal, and its standard output isn't.
     pub(crate) is_watched: bool,
+    /// Whether standard output shows colours of itself.
+    pub(crate) has_colours: bool,
 }
 
 impl Host for System<'_> {
@@ -164,6 +173,8 @@ impl Host for System<'_> {
     ghost answered = { λ _ _ _ _. Unit {0} };
 
     ghost silent = { λ _ _. Unit {0} };
+
+    ghost colours = { λ s. s.has_colours };
 
     type Text = File;
 
@@ -192,6 +203,10 @@ impl Host for System<'_> {
 
     fn is_watched(&self) -> bool {
         self.is_watched
+    }
+
+    fn shows_colours(&self) -> bool {
+        self.has_colours
     }
 
     fn run(&self, config: &[u8], wishes: Wishes<'_>) -> Result<(), Fault> {

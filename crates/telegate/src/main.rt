@@ -41,6 +41,7 @@ mod performing;
 mod piping;
 mod playing;
 mod printed;
+mod recorded;
 mod replay;
 mod run_words;
 mod running;
@@ -56,21 +57,24 @@ mod wishes;
 
 use fault::{Fault, USAGE};
 use host::{Host, System};
+use manner::shows_colours;
 use performing::tell;
 use shell::obey;
-use std::io;
 use std::io::{IsTerminal, Write};
 use std::process::ExitCode;
 use std::rt::Env;
+use std::{env, io};
 
 fn main(rt: HostRuntime) -> ExitCode {
     let mut out = rt.stdout();
     let mut err = rt.stderr();
     // Lines that pass on a terminal tell by their moments how far a run has come.
     let is_watched = err.is_terminal() && !out.is_terminal();
+    let has_colours = shows_colours(out.is_terminal(), &env::var(&rt, "NO_COLOR"));
     let system = System {
         rt: &rt,
         is_watched,
+        has_colours,
     };
     ExitCode::from(run(&rt, &system, &mut out, &mut err))
 }
@@ -101,7 +105,7 @@ enum Unspoken {
 
 /// The words of the process. The first is the program's name.
 fn words_of<R: Env + AllocGlobal>(rt: &R) -> Result<Vec<String>, Unspoken> {
-    match std::env::args(rt) {
+    match env::args(rt) {
         Ok(words) => match words.collect::<Vec<String>>(rt.alloc()) {
             Ok(words) => Ok(words),
             Err(_) => Err(Unspoken::NoMemory),

@@ -1,10 +1,11 @@
 //! How a run is printed.
 ghost use Rattle.std.specs.Prelude.{◌≡◌};
-ghost use Rattle.telegate.specs.Manners.{manner_of, style_of};
+ghost use Rattle.telegate.specs.Manners.{is_set, manner_of, shows_colours, style_of};
 
 use gateway::Config;
 use ladder::Style;
 use show::LineSizes;
+use std::env::VarError;
 
 /// How what passes in a run is printed.
 #[derive(Clone, Copy, Debug, PartialEq, Eq)]
@@ -15,12 +16,35 @@ pub enum Manner {
     Words { is_coloured: bool },
 }
 
-/// How a run is printed, by the flags `--words` and `--color`.
-pub(crate) fn manner_of(words: bool, color: bool) -> Manner
-    ensures { result ≡ manner_of words color }
+/// Whether a variable of the environment is there, and isn't empty.
+fn is_set(variable: &Result<String, VarError>) -> bool
+    ensures { result ≡ is_set variable.now }
+{
+    match variable {
+        Ok(text) => !text.as_bytes().is_empty(),
+        Err(VarError::NotPresent) => false,
+        // No empty text is read so.
+        Err(_) => true,
+    }
+}
+
+/// Whether standard output shows colours of itself: where it is a terminal, unless NO_COLOR says
+/// otherwise (docs/DECISIONS.md, "Colours").
+pub(crate) fn shows_colours(is_terminal: bool, no_color: &Result<String, VarError>) -> bool
+    ensures { result ≡ shows_colours is_terminal (is_set no_color.now) }
+{
+    is_terminal && !is_set(no_color)
+}
+
+/// How a run is printed, by the flags `--words` and `--color`, and by whether standard output shows
+/// colours of itself.
+pub(crate) fn manner_of(words: bool, color: bool, has_colours: bool) -> Manner
+    ensures { result ≡ manner_of words color has_colours }
 {
     if words {
-        Manner::Words { is_coloured: color }
+        Manner::Words {
+            is_coloured: color || has_colours,
+        }
     } else {
         Manner::Lines
     }

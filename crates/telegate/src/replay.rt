@@ -20,6 +20,7 @@ use crate::fault::Fault;
 use crate::host::Unread;
 use crate::manner::Manner;
 use crate::printed::{blank_if, drive_printed, print_closing, tell_percent};
+use crate::recorded::{is_record, read_part};
 use crate::source::Source;
 use crate::telling::run_told;
 use blocks::{BlockFault, Blocks};
@@ -57,7 +58,9 @@ struct Course {
 /// one in words for each event and each action, and then the closing lines. The settings are judged
 /// before the trace, and the whole trace before the run, so that nothing is printed where either is
 /// wrong. The trace is read twice, block by block. Where it is watched, a long run tells on
-/// standard error how far it has come; one in words doesn't.
+/// standard error how far it has come; one in words doesn't. In words a record is told too (a text
+/// of which a line tells an action): its events are run, and the lines of its actions are passed
+/// over.
 pub(crate) fn replay<S: Source, W: Write, E: Write>(
     alloc: Global,
     asked: &Asked<'_>,
@@ -71,17 +74,24 @@ pub(crate) fn replay<S: Source, W: Write, E: Write>(
 {
     let text = open(trace)?;
     let config = read_config(alloc, asked.config)?;
-    let size = judge_text(alloc, text)?;
-    let course = Course {
-        closing: asked.closing,
-        size,
-        is_watched: asked.is_watched,
-    };
-    let text = open(trace)?;
     match asked.manner {
-        Manner::Lines => run(alloc, &config, text, &course, out, err),
+        Manner::Lines => {
+            let size = judge_text(alloc, text, false)?;
+            let course = Course {
+                closing: asked.closing,
+                size,
+                is_watched: asked.is_watched,
+            };
+            let text = open(trace)?;
+            run(alloc, &config, text, &course, out, err)
+        }
         Manner::Words { is_coloured } => {
-            run_told(alloc, &config, text, is_coloured, asked.closing, out)
+            let as_record = is_record(alloc, text)?;
+            let text = open(trace)?;
+            judge_text(alloc, text, as_record)?;
+            let text = open(trace)?;
+            let closing = asked.closing;
+            run_told(alloc, &config, text, as_record, is_coloured, closing, out)
         }
     }
 }
@@ -126,17 +136,21 @@ fn judge_lines(lines: &[u8], first: u64) -> Result<u64, Fault>
     }
 }
 
-/// Judges the lines of a text, block by block. Answers its size as a course has it.
-fn judge_text<R: Read + Drop>(alloc: Global, text: R) -> Result<u64, Fault>
-    ensures { IsJudged (R.remaining text) result }
+/// Judges the lines of a text, block by block, as those of a trace or of a record. Answers its size
+/// as a course has it.
+fn judge_text<R: Read + Drop>(alloc: Global, text: R, as_record: bool) -> Result<u64, Fault>
+    ensures { IsJudged as_record (R.remaining text) result }
 {
     let mut blocks = Blocks::new(alloc, text);
+    let mut part = Vec::new(alloc);
     let mut next = 1;
     let mut size = 0;
     'judging: for _ in 0..u64::MAX {
         advance(&mut blocks)?;
         let lines = blocks.lines();
-        next = judge_lines(lines, next)?;
+        let is_last = blocks.is_over();
+        let read = read_part(&mut part, lines, is_last, as_record)?;
+        next = judge_lines(read, next)?;
         size = with_lines(size, lines);
         if blocks.is_over() {
             return Ok(size);
@@ -161,8 +175,8 @@ fn run<R: Read + Drop, W: Write, E: Write>(
     out: &mut W,
     err: &mut E,
 ) -> Result<(), Fault>
-    ensures answer { IsEndOf config.now Lines (Gives (R.remaining text)) course.now.closing
-        (W.contents out.old) (W.contents out.new) result }
+    ensures answer { IsEndOf config.now Lines false (Gives (R.remaining text))
+        course.now.closing (W.contents out.old) (W.contents out.new) result }
     ensures unwatched { course.now.is_watched ≡ false → err.new ≡ err.old }
 {
     nothing_is_lost();
@@ -192,7 +206,7 @@ fn run_parts<R: Read + Drop, W: Write, E: Write>(
     out: &mut W,
     err: &mut E,
 ) -> Result<bool, Fault>
-    ensures answer { RunsOver AreLines (R.remaining text) gateway.old gateway.new
+    ensures answer { RunsOver AreLines false (R.remaining text) gateway.old gateway.new
         (W.contents out.old) (W.contents out.new) result }
     ensures unwatched { course.now.is_watched ≡ false → err.new ≡ err.old }
 {

@@ -51,7 +51,7 @@ pub(crate) fn obey<H: Host, W: Write, E: Write>(
     err: &mut E,
 ) -> u8
     ensures { Obeys (H.has host.now) (H.lacks host.now) (H.ran host.now) (H.answered host.now)
-        (H.silent host.now) (H.played host.now) (H.stands host.now)
+        (H.silent host.now) (H.played host.now) (H.stands host.now) (H.colours host.now)
         (map string_bytes words.now) (W.contents out.old) (W.contents out.new) result }
 {
     match parse(alloc, words) {
@@ -106,10 +106,11 @@ pub(crate) fn respond<H: Host, W: Write, E: Write>(
     err: &mut E,
 ) -> u8
     ensures { Responds (H.has host.now) (H.lacks host.now) (H.ran host.now) (H.answered host.now)
-        (H.silent host.now) (H.played host.now) (H.stands host.now)
+        (H.silent host.now) (H.played host.now) (H.stands host.now) (H.colours host.now)
         request.now (W.contents out.old) (W.contents out.new) result }
 {
     let is_watched = host.is_watched();
+    let has_colours = host.shows_colours();
     match request {
         Request::Show101 { sizes, hex, words } => {
             if *hex == INPUT {
@@ -147,7 +148,7 @@ pub(crate) fn respond<H: Host, W: Write, E: Write>(
             Ok(config) => {
                 let asked = Asked {
                     config: config.as_slice(),
-                    manner: manner_of(*words, *color),
+                    manner: manner_of(*words, *color, has_colours),
                     closing: Closing {
                         left: *left,
                         counts: *counts,
@@ -165,7 +166,7 @@ pub(crate) fn respond<H: Host, W: Write, E: Write>(
             color,
         } => match read_files(host, *config, *script, err) {
             Ok((config, script)) => {
-                let manner = manner_of(*words, *color);
+                let manner = manner_of(*words, *color, has_colours);
                 let job = Job::Sim(config.as_slice(), script.as_slice(), manner);
                 perform(alloc, &job, is_watched, out, err)
             }

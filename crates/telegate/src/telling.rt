@@ -11,6 +11,7 @@ ghost use Rattle.ladder.specs.Told.{IsLadder};
 use crate::closing::Closing;
 use crate::fault::Fault;
 use crate::manner::style_of;
+use crate::recorded::{pause_before, read_part};
 use crate::replay::{advance, close, fault_in, turns_of};
 use blocks::Blocks;
 use delivery::nothing_is_lost;
@@ -20,24 +21,25 @@ use std::alloc::Global;
 use std::io::{Read, Write};
 use traces::Pause;
 
-/// Runs the gateway over a trace that was judged, and prints its events and actions in words. An
-/// output that fails is written to no more, and told at the end.
+/// Runs the gateway over a trace or a record that was judged, and prints its events and actions in
+/// words. An output that fails is written to no more, and told at the end.
 pub(crate) fn run_told<R: Read + Drop, W: Write>(
     alloc: Global,
     config: &Config,
     text: R,
+    as_record: bool,
     is_coloured: bool,
     closing: Closing,
     out: &mut W,
 ) -> Result<(), Fault>
-    ensures { IsEndOf config.now (Words is_coloured) (Gives (R.remaining text)) closing
+    ensures { IsEndOf config.now (Words is_coloured) as_record (Gives (R.remaining text)) closing
         (W.contents out.old) (W.contents out.new) result }
 {
     nothing_is_lost();
     steps_keep_their_order();
     let mut gateway = Gateway::new(alloc, config)?;
     let style = style_of(config, is_coloured);
-    let is_whole = tell_parts(alloc, &mut gateway, text, style, out)?;
+    let is_whole = tell_parts(alloc, &mut gateway, text, as_record, style, out)?;
     close(alloc, &gateway, closing, is_whole, out)
 }
 
@@ -47,20 +49,24 @@ fn tell_parts<R: Read + Drop, W: Write>(
     alloc: Global,
     gateway: &mut Gateway,
     text: R,
+    as_record: bool,
     style: Style,
     out: &mut W,
 ) -> Result<bool, Fault>
-    ensures { RunsOver (IsLadder style) (R.remaining text) gateway.old gateway.new
+    ensures { RunsOver (IsLadder style) as_record (R.remaining text) gateway.old gateway.new
         (W.contents out.old) (W.contents out.new) result }
 {
     let mut blocks = Blocks::new(alloc, text);
-    let mut pause = Pause::new(alloc);
+    let mut part = Vec::new(alloc);
+    let mut pause = pause_before(alloc, as_record);
     let mut scribe = Scribe::new(alloc, style);
     let mut is_whole = true;
     'telling: for _ in 0..u64::MAX {
         advance(&mut blocks)?;
         let lines = blocks.lines();
-        (pause, scribe, is_whole) = tell_part(gateway, pause, scribe, lines, is_whole, out)?;
+        let is_last = blocks.is_over();
+        let read = read_part(&mut part, lines, is_last, as_record)?;
+        (pause, scribe, is_whole) = tell_part(gateway, pause, scribe, read, is_whole, out)?;
         if blocks.is_over() {
             return Ok(is_whole);
         }

@@ -66,9 +66,35 @@ impl Pause {
           failed = 0;
         } }
     {
+        Pause::begun(alloc, false)
+    }
+
+    /// The same without the tick at moment 0: a record begins with the first event of its run.
+    pub fn without_tick(alloc: Global) -> Pause
+        ensures { result ≡ record {
+          started = true;
+          log = [];
+          poured = [];
+          page = [];
+          failed = 0;
+        } }
+    {
+        Pause::begun(alloc, true)
+    }
+
+    /// A run that has given the tick at moment 0 if it is to be taken so, and nothing else.
+    fn begun(alloc: Global, is_started: bool) -> Pause
+        ensures { result ≡ record {
+          started = is_started;
+          log = [];
+          poured = [];
+          page = [];
+          failed = 0;
+        } }
+    {
         Pause {
             alloc,
-            is_started: false,
+            is_started,
             history: History::new(),
             poured: History::new(),
             page: Page::new(alloc),

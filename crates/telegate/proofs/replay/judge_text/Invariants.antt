@@ -5,6 +5,6 @@ use Rattle.telegate.proofs.replay.judge_text.Given as goal
 
 abbrev pub invariant-judging : goal.invariant-judging
 invariant-judging g l = record {
-  judged : IsJudgedTo (g.R.Read.remaining l.fn.text) l.blocks.coming l.next;
+  judged : IsJudgedTo l.fn.as_record (g.R.Read.remaining l.fn.text) l.blocks.coming l.next;
   goes_on : l.blocks.is_over ≡ false;
 }

@@ -1,3 +1,4 @@
+use Rattle.std.proofs.Common.{false}
 use Rattle.gateway.specs.Setups.{setup_of}
 use Rattle.telegate.specs.Answers.{IsEndOf}
 use Rattle.telegate.specs.Source.{Gives}
@@ -14,10 +15,10 @@ returns-in_err-is_whole-clause-answer g c =
     let old = g.W.Write.contents c.args.out.now in
     let new = g.W.Write.contents c.run_parts-ran.new.out in
     let fault = c.in_err-is_whole.field-0.0 in
-    as_err (IsEndOf settings Lines (Gives known) closing old new)
+    as_err (IsEndOf settings Lines false (Gives known) closing old new)
     c.from_residual-in_err-is_whole.result fault
     c.from_residual-in_err-is_whole.ensures.1
-    (stopped_by Lines closing settings known old new c.in_ok-gateway.gateway
+    (stopped_by Lines false closing settings known old new c.in_ok-gateway.gateway
     c.in_ok-gateway.ensures.begins fault
     c.in_err-is_whole.ensures.answer.0 c.in_err-is_whole.ensures.answer.1)
 
@@ -28,7 +29,8 @@ returns-clause-answer g c =
     let run = c.in_ok-is_whole.ensures.answer in
     let old = g.W.Write.contents c.args.out.now in
     let done = run.goes (setup_of settings) c.in_ok-gateway.ensures.begins tt in
-    ended Lines (Gives known) c.args.course.now.closing settings run.octets run.log run.lines old
+    ended Lines false (Gives known) c.args.course.now.closing settings run.octets run.log run.lines
+    old
     (g.W.Write.contents c.close.new.out)
     run.given done.faithful run.told c.run_parts-ran.new.gateway run.right run.events done.rests
     (c.steps_keep_their_order.ensures.settings settings run.log done.faithful)

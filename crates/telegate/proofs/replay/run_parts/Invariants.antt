@@ -6,7 +6,7 @@ use Rattle.telegate.proofs.replay.run_parts.Given as goal
 
 abbrev pub invariant-running : goal.invariant-running
 invariant-running g l = record {
-  run : RunsTo AreLines (g.R.Read.remaining l.fn.text) l.blocks.coming l.fn.gateway l.gateway
+  run : RunsTo AreLines false (g.R.Read.remaining l.fn.text) l.blocks.coming l.fn.gateway l.gateway
       l.pause l.is_whole
       (g.W.Write.contents l.fn.out) (g.W.Write.contents l.out);
   goes_on : l.blocks.is_over ≡ false;

@@ -1,5 +1,6 @@
-use Rattle.std.proofs.Common.{ap, subst, List, ℕ, ◌∷◌, []}
+use Rattle.std.proofs.Common.{ap, subst, Bool, List, ℕ, ◌∷◌, [], ◌∙◌}
 use Rattle.telegate.specs.Shell.{ReplaysFile, files_of}
+use Rattle.telegate.specs.Manners.{manner_of}
 use Rattle.telegate.specs.declared.manner.Manner.{Manner}
 use Rattle.telegate.proofs.Files.{first_of_more, has_checked, has_replayed, has_run, has_shown}
 use Rattle.telegate.proofs.Files.{have_played}
@@ -11,7 +12,7 @@ returns-in-Check g c =
     has_checked (g.H.Host.has c.args.host.now) (g.H.Host.lacks c.args.host.now)
     (g.H.Host.ran c.args.host.now) (g.H.Host.answered c.args.host.now)
     (g.H.Host.silent c.args.host.now) (g.H.Host.played c.args.host.now)
-    (g.H.Host.stands c.args.host.now)
+    (g.H.Host.stands c.args.host.now) (g.H.Host.colours c.args.host.now)
     c.args.request.now c.in-Check.config c.in-Check.site c.in-Check.live c.in-Check.explain
     (g.W.Write.contents c.args.out.now) (g.W.Write.contents c.check_behind.new.out)
     c.check_behind.result c.in-Check.is c.check_behind.ensures
@@ -21,7 +22,7 @@ returns-in-Err g c =
     unanswered (g.H.Host.has c.args.host.now) (g.H.Host.lacks c.args.host.now)
     (g.H.Host.ran c.args.host.now) (g.H.Host.answered c.args.host.now)
     (g.H.Host.silent c.args.host.now) (g.H.Host.played c.args.host.now)
-    (g.H.Host.stands c.args.host.now)
+    (g.H.Host.stands c.args.host.now) (g.H.Host.colours c.args.host.now)
     c.args.request.now _ (g.W.Write.contents c.args.out.now) c.in-Err.status
     (ap files_of c.in-Replay.is)
     (first_of_more (g.H.Host.has c.args.host.now) (g.H.Host.lacks c.args.host.now)
@@ -33,7 +34,7 @@ returns-in-Err-read_files g c =
     unanswered (g.H.Host.has c.args.host.now) (g.H.Host.lacks c.args.host.now)
     (g.H.Host.ran c.args.host.now) (g.H.Host.answered c.args.host.now)
     (g.H.Host.silent c.args.host.now) (g.H.Host.played c.args.host.now)
-    (g.H.Host.stands c.args.host.now)
+    (g.H.Host.stands c.args.host.now) (g.H.Host.colours c.args.host.now)
     c.args.request.now _
     (g.W.Write.contents c.args.out.now) c.in-Err-read_files.status
     (ap files_of c.in-Sim.is) c.in-Err-read_files.ensures.unread
@@ -43,7 +44,7 @@ returns-in-Err-read_file g c =
     unanswered (g.H.Host.has c.args.host.now) (g.H.Host.lacks c.args.host.now)
     (g.H.Host.ran c.args.host.now) (g.H.Host.answered c.args.host.now)
     (g.H.Host.silent c.args.host.now) (g.H.Host.played c.args.host.now)
-    (g.H.Host.stands c.args.host.now)
+    (g.H.Host.stands c.args.host.now) (g.H.Host.colours c.args.host.now)
     c.args.request.now _ (g.W.Write.contents c.args.out.now) c.in-Err-read_file.status
     (ap files_of c.in-Audit.is)
     (first_of_more (g.H.Host.has c.args.host.now) (g.H.Host.lacks c.args.host.now)
@@ -55,7 +56,7 @@ returns-in-Run g c =
     has_run (g.H.Host.has c.args.host.now) (g.H.Host.lacks c.args.host.now)
     (g.H.Host.ran c.args.host.now) (g.H.Host.answered c.args.host.now)
     (g.H.Host.silent c.args.host.now) (g.H.Host.played c.args.host.now)
-    (g.H.Host.stands c.args.host.now)
+    (g.H.Host.stands c.args.host.now) (g.H.Host.colours c.args.host.now)
     c.args.request.now c.in-Run.config c.in-Run.words
     (g.W.Write.contents c.args.out.now) c.run_wished.result c.in-Run.is c.run_wished.ensures
 
@@ -64,7 +65,7 @@ returns-in-Ok g c =
     has_replayed (g.H.Host.has c.args.host.now) (g.H.Host.lacks c.args.host.now)
     (g.H.Host.ran c.args.host.now) (g.H.Host.answered c.args.host.now)
     (g.H.Host.silent c.args.host.now) (g.H.Host.played c.args.host.now)
-    (g.H.Host.stands c.args.host.now)
+    (g.H.Host.stands c.args.host.now) (g.H.Host.colours c.args.host.now)
     c.args.request.now c.in-Replay.config c.in-Replay.trace c.in-Replay.left c.in-Replay.counts
     c.in-Replay.words
     c.in-Replay.color c.in-Ok.config.items (g.W.Write.contents c.args.out.now)
@@ -75,7 +76,9 @@ returns-in-Ok g c =
     c.in-Replay.trace.now c.in-Ok.config.items manner
     (record { left = c.in-Replay.left; counts = c.in-Replay.counts })
     (g.W.Write.contents c.args.out.now)
-    (g.W.Write.contents c.replay_file.new.out) c.replay_file.result) c.manner_of.ensures
+    (g.W.Write.contents c.replay_file.new.out) c.replay_file.result)
+    (c.manner_of.ensures ∙ ap (λ (b : Bool). manner_of c.in-Replay.words c.in-Replay.color b)
+    c.shows_colours-has_colours.ensures)
     (subst (λ (xs : List ℕ). ReplaysFile (g.H.Host.has c.args.host.now)
     (g.H.Host.lacks c.args.host.now)
     c.in-Replay.trace.now xs c.manner_of.result
@@ -90,7 +93,7 @@ returns-in-Err-read_file-2 g c =
     unanswered (g.H.Host.has c.args.host.now) (g.H.Host.lacks c.args.host.now)
     (g.H.Host.ran c.args.host.now) (g.H.Host.answered c.args.host.now)
     (g.H.Host.silent c.args.host.now) (g.H.Host.played c.args.host.now)
-    (g.H.Host.stands c.args.host.now)
+    (g.H.Host.stands c.args.host.now) (g.H.Host.colours c.args.host.now)
     c.args.request.now _ (g.W.Write.contents c.args.out.now) c.in-Err-read_file-2.status
     (ap files_of c.in-Capture.is)
     (first_of_more (g.H.Host.has c.args.host.now) (g.H.Host.lacks c.args.host.now)
@@ -102,7 +105,7 @@ returns-in-Stations g c =
     have_played (g.H.Host.has c.args.host.now) (g.H.Host.lacks c.args.host.now)
     (g.H.Host.ran c.args.host.now) (g.H.Host.answered c.args.host.now)
     (g.H.Host.silent c.args.host.now) (g.H.Host.played c.args.host.now)
-    (g.H.Host.stands c.args.host.now)
+    (g.H.Host.stands c.args.host.now) (g.H.Host.colours c.args.host.now)
     c.args.request.now c.in-Stations.config c.in-Stations.script
     (g.W.Write.contents c.args.out.now) c.play_files.result c.in-Stations.is c.play_files.ensures
 
@@ -111,7 +114,7 @@ returns-in-State g c =
     has_shown (g.H.Host.has c.args.host.now) (g.H.Host.lacks c.args.host.now)
     (g.H.Host.ran c.args.host.now) (g.H.Host.answered c.args.host.now)
     (g.H.Host.silent c.args.host.now) (g.H.Host.played c.args.host.now)
-    (g.H.Host.stands c.args.host.now)
+    (g.H.Host.stands c.args.host.now) (g.H.Host.colours c.args.host.now)
     c.args.request.now c.in-State.directory c.in-State.config (g.W.Write.contents c.args.out.now)
     (g.W.Write.contents c.show_state.new.out) c.show_state.result c.in-State.is
     c.show_state.ensures

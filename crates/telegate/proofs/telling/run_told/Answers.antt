@@ -21,12 +21,14 @@ returns-in_err-is_whole g c =
     let new = g.W.Write.contents c.tell_parts.new.out in
     let fault = c.in_err-is_whole.field-0.0 in
     let began = c.in_ok-gateway.gateway in
-    as_err (IsEndOf settings manner (Gives known) closing old new)
+    as_err (IsEndOf settings manner c.args.as_record (Gives known) closing old new)
     c.from_residual-in_err-is_whole.result fault
     c.from_residual-in_err-is_whole.ensures.1
-    (stopped_by manner closing settings known old new began c.in_ok-gateway.ensures.begins fault
+    (stopped_by manner c.args.as_record closing settings known old new began
+    c.in_ok-gateway.ensures.begins fault
     c.in_err-is_whole.ensures.0
-    (subst (λ (s : Style). Keeps old new ⊎ IsStoppedOver (IsLadder s) known began old new)
+    (subst (λ (s : Style). Keeps old new ⊎ IsStoppedOver (IsLadder s) c.args.as_record known began
+    old new)
     c.style_of-style.ensures
     c.in_err-is_whole.ensures.1))
 
@@ -37,7 +39,8 @@ returns g c =
     let run = c.in_ok-is_whole.ensures in
     let old = g.W.Write.contents c.args.out.now in
     let done = run.goes (setup_of settings) c.in_ok-gateway.ensures.begins tt in
-    ended (Words c.args.is_coloured) (Gives known) c.args.closing settings run.octets run.log
+    ended (Words c.args.is_coloured) c.args.as_record (Gives known) c.args.closing settings
+    run.octets run.log
     run.lines old
     (g.W.Write.contents c.close.new.out)
     run.given done.faithful (subst (λ (s : Style). IsLadder s run.log run.lines)

@@ -1,8 +1,8 @@
-use Rattle.std.proofs.Common.{ap, sym, subst, inl, inr, ◌∙◌}
+use Rattle.std.proofs.Common.{Bool, ap, sym, subst, inl, inr, ◌∙◌}
 use Rattle.blocks.specs.Reading.{Reading}
 use Rattle.ladder.specs.Told.{IsLadder}
 use Rattle.ladder.specs.declared.rungs.Style.{Style}
-use Rattle.telegate.specs.Parts.{IsPartStopped, RunsOver}
+use Rattle.telegate.specs.Parts.{IsPartRead, IsPartStopped, RunsOver}
 use Rattle.telegate.specs.Telling.{HasWritten}
 use Rattle.telegate.proofs.PartLemmas.{ran_to, block_run, all_run, block_left}
 use Rattle.telegate.proofs.RunLemmas.{as_err}
@@ -11,10 +11,10 @@ use Rattle.telegate.proofs.telling.tell_parts.Goals as goal
 
 pub telling-init : goal.telling-init
 telling-init g c = record {
-  run = tells_begin c.args.style (g.R.Read.remaining c.args.text) c.new-blocks.result.coming
-      c.args.gateway.now
-      c.new-pause.result c.new-scribe.result (g.W.Write.contents c.args.out.now)
-      (ap (λ (r : Reading). r.coming) c.new-blocks.ensures) c.new-pause.ensures
+  run = tells_begin c.args.style c.args.as_record (g.R.Read.remaining c.args.text)
+      c.new-blocks.result.coming c.args.gateway.now
+      c.pause_before-pause.result c.new-scribe.result (g.W.Write.contents c.args.out.now)
+      (ap (λ (r : Reading). r.coming) c.new-blocks.ensures) c.pause_before-pause.ensures
       c.new-scribe.ensures;
   goes_on = ap (λ (r : Reading). r.is_over) c.new-blocks.ensures;
 }
@@ -25,12 +25,27 @@ returns-in_err-advance g c =
     let old = g.W.Write.contents c.args.out.now in
     let new = g.W.Write.contents c.telling.out in
     let tells = IsLadder c.args.style in
-    as_err (RunsOver tells known c.args.gateway.now c.telling.gateway old new)
+    as_err (RunsOver tells c.args.as_record known c.args.gateway.now c.telling.gateway old new)
     c.from_residual.result
     c.in_err-advance.field-0.0 c.from_residual.ensures.1 (
       c.in_err-advance.ensures.fault,
-      ran_to tells known c.telling.blocks.coming c.args.gateway.now c.telling.gateway
-          c.telling.pause c.telling.is_whole
+      ran_to tells c.args.as_record known c.telling.blocks.coming c.args.gateway.now
+          c.telling.gateway c.telling.pause c.telling.is_whole
+          old new c.telling.invariant.run.run,
+    )
+
+pub returns-in_err-read : goal.returns-in_err-read
+returns-in_err-read g c =
+    let known = g.R.Read.remaining c.args.text in
+    let old = g.W.Write.contents c.args.out.now in
+    let new = g.W.Write.contents c.telling.out in
+    let tells = IsLadder c.args.style in
+    as_err (RunsOver tells c.args.as_record known c.args.gateway.now c.telling.gateway old new)
+    c.from_residual-in_err-read.result
+    c.in_err-read.field-0.0 c.from_residual-in_err-read.ensures.1 (
+      tt,
+      ran_to tells c.args.as_record known c.telling.blocks.coming c.args.gateway.now
+          c.telling.gateway c.telling.pause c.telling.is_whole
           old new c.telling.invariant.run.run,
     )
 
@@ -41,20 +56,26 @@ returns-in_err-pause g c =
     let mid = g.W.Write.contents c.telling.out in
     let new = g.W.Write.contents c.tell_part.new.out in
     let tells = IsLadder c.args.style in
-    as_err (RunsOver tells known c.args.gateway.now c.tell_part.new.gateway old new)
+    let lines = c.lines-lines.result.now in
+    let part = c.in_ok-read.read.now in
+    as_err (RunsOver tells c.args.as_record known c.args.gateway.now c.tell_part.new.gateway old
+    new)
     c.from_residual-in_err-pause.result
     c.in_err-pause.field-0.0 c.from_residual-in_err-pause.ensures.1 (
       c.in_err-pause.ensures.stopped,
-      block_left tells known c.telling.blocks.coming c.args.gateway.now c.telling.gateway
+      block_left tells c.args.as_record known c.telling.blocks.coming c.args.gateway.now
+          c.telling.gateway
           c.telling.pause
           c.telling.is_whole old mid c.telling.invariant.run.run c.advance.new.blocks
-          c.lines-lines.result.now
-          c.lines-lines.ensures c.in_ok-advance.ensures.block new
+          lines part
+          c.lines-lines.ensures c.in_ok-advance.ensures.block
+          (subst (λ (o : Bool). IsPartRead c.args.as_record lines o part) c.is_over-is_last.ensures
+          c.in_ok-read.ensures) new
           (elim c.in_err-pause.ensures.begun [
             | inl unchanged ↦ inl (ap g.W.Write.contents unchanged)
             | inr stop ↦ inr (subst
                 (λ (st : Style). IsPartStopped (IsLadder st) c.telling.pause
-                c.lines-lines.result.now c.telling.gateway old new)
+                part c.telling.gateway old new)
                 c.telling.invariant.run.written.style_is (stop old c.telling.invariant.run.poured))
           ]),
     )
@@ -65,16 +86,21 @@ returns-then-is_over g c =
     let old = g.W.Write.contents c.args.out.now in
     let mid = g.W.Write.contents c.telling.out in
     let new = g.W.Write.contents c.tell_part.new.out in
+    let lines = c.lines-lines.result.now in
+    let part = c.in_ok-read.read.now in
     let run = c.telling.invariant.run in
     let written : HasWritten c.args.style c.in_ok-pause.field-0-0.log c.in_ok-pause.field-0-1 =
     subst (λ (st : Style). HasWritten st c.in_ok-pause.field-0-0.log c.in_ok-pause.field-0-1)
     run.written.style_is
     c.in_ok-pause.ensures.written in
-    all_run (IsLadder c.args.style) known c.telling.blocks.coming c.args.gateway.now
+    all_run (IsLadder c.args.style) c.args.as_record known c.telling.blocks.coming
+    c.args.gateway.now
     c.telling.gateway c.telling.pause
     c.telling.is_whole old mid run.run
-    c.advance.new.blocks c.lines-lines.result.now c.lines-lines.ensures
+    c.advance.new.blocks lines part c.lines-lines.ensures
     c.in_ok-advance.ensures.block
+    (subst (λ (o : Bool). IsPartRead c.args.as_record lines o part) c.is_over-is_last.ensures
+    c.in_ok-read.ensures)
     c.tell_part.new.gateway c.in_ok-pause.field-0-0 c.in_ok-pause.field-0-2 new
     c.in_ok-pause.ensures.run c.in_ok-pause.field-0-1.told written.told
     (c.in_ok-pause.ensures.printed old run.poured) (sym c.is_over.ensures ∙ c.if-is_over.true)
@@ -86,6 +112,8 @@ telling-preserved g c =
     let old = g.W.Write.contents c.args.out.now in
     let mid = g.W.Write.contents c.telling.out in
     let new = g.W.Write.contents c.tell_part.new.out in
+    let lines = c.lines-lines.result.now in
+    let part = c.in_ok-read.read.now in
     let run = c.telling.invariant.run in
     let written : HasWritten c.args.style c.in_ok-pause.field-0-0.log c.in_ok-pause.field-0-1 =
     subst (λ (st : Style). HasWritten st c.in_ok-pause.field-0-0.log c.in_ok-pause.field-0-1)
@@ -94,11 +122,15 @@ telling-preserved g c =
     let poured = c.in_ok-pause.ensures.printed old run.poured in
     record {
       run = record {
-        run = block_run (IsLadder c.args.style) known c.telling.blocks.coming c.args.gateway.now
+        run = block_run (IsLadder c.args.style) c.args.as_record known c.telling.blocks.coming
+            c.args.gateway.now
             c.telling.gateway
             c.telling.pause c.telling.is_whole old mid run.run
-            c.advance.new.blocks c.lines-lines.result.now c.lines-lines.ensures
-            c.in_ok-advance.ensures.block c.tell_part.new.gateway c.in_ok-pause.field-0-0
+            c.advance.new.blocks lines part c.lines-lines.ensures
+            c.in_ok-advance.ensures.block
+            (subst (λ (o : Bool). IsPartRead c.args.as_record lines o part)
+            c.is_over-is_last.ensures c.in_ok-read.ensures)
+            c.tell_part.new.gateway c.in_ok-pause.field-0-0
             c.in_ok-pause.field-0-2
             new c.in_ok-pause.ensures.run c.in_ok-pause.field-0-1.told written.told
             poured goes_on;
@@ -111,7 +143,8 @@ telling-preserved g c =
 pub returns : goal.returns
 returns g c = (
   tt,
-  ran_to (IsLadder c.args.style) (g.R.Read.remaining c.args.text) c.telling.blocks.coming
+  ran_to (IsLadder c.args.style) c.args.as_record (g.R.Read.remaining c.args.text)
+      c.telling.blocks.coming
       c.args.gateway.now
       c.telling.gateway c.telling.pause c.telling.is_whole (g.W.Write.contents c.args.out.now)
       (g.W.Write.contents c.telling.out) c.telling.invariant.run.run,

@@ -5,7 +5,8 @@ use Rattle.telegate.proofs.telling.tell_parts.Given as goal
 
 abbrev pub invariant-telling : goal.invariant-telling
 invariant-telling g l = record {
-  run : TellsTo l.fn.style (g.R.Read.remaining l.fn.text) l.blocks.coming l.fn.gateway l.gateway
+  run : TellsTo l.fn.style l.fn.as_record (g.R.Read.remaining l.fn.text) l.blocks.coming
+      l.fn.gateway l.gateway
       l.pause l.scribe
       l.is_whole (g.W.Write.contents l.fn.out) (g.W.Write.contents l.out);
   goes_on : l.blocks.is_over ≡ false;
