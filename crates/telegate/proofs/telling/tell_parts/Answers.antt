@@ -7,6 +7,7 @@ use Rattle.telegate.specs.Telling.{HasWritten}
 use Rattle.telegate.proofs.PartLemmas.{ran_to, block_run, all_run, block_left}
 use Rattle.telegate.proofs.RunLemmas.{as_err}
 use Rattle.telegate.proofs.TellingLemmas.{tells_begin}
+use Rattle.telegate.specs.declared.fault.Fault.TheVariants.{NoMemory}
 use Rattle.telegate.proofs.telling.tell_parts.Goals as goal
 
 pub telling-init : goal.telling-init
@@ -42,7 +43,7 @@ returns-in_err-read g c =
     let tells = IsLadder c.args.style in
     as_err (RunsOver tells c.args.as_record known c.args.gateway.now c.telling.gateway old new)
     c.from_residual-in_err-read.result
-    c.in_err-read.field-0.0 c.from_residual-in_err-read.ensures.1 (
+    NoMemory c.from_residual-in_err-read.ensures.1 (
       tt,
       ran_to tells c.args.as_record known c.telling.blocks.coming c.args.gateway.now
           c.telling.gateway c.telling.pause c.telling.is_whole
