@@ -351,6 +351,9 @@ impl Gateway {
         ensures puts { Puts P.log P.script P.failed port.old port.new (faults_unless result) }
     {
         line_keeps_the_procedures();
+        // The old one may be long dead, and t1 alone would show it (docs/DECISIONS.md, "A new
+        // connection replaces the open one").
+        //
         // A live port shuts nothing now: the new connection has taken the place of the old one
         // (docs/DECISIONS.md, "A close with cause 7").
         if !port.put(self.moment(), &Action::Close(Close::Replaced)) {
@@ -427,6 +430,8 @@ impl Gateway {
         if !self.is_open() {
             return true;
         }
+        // Dropped, it would leave the control centre waiting, or sure of its command
+        // (docs/DECISIONS.md, "An own answer without a place").
         self.close(Close::OwnAnswers, port)
     }
 
