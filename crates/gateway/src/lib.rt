@@ -21,9 +21,10 @@
 //! causes never both stand ([`one_cause`]). What is free is only how far the octets of an event
 //! were judged where the device failed in its step. A port whose device fails breaks none of this
 //! for the log so far. And they leave no choice: two logs with the same events are the same
-//! ([`what_comes_decides_what_goes_out`]). What is due to the control centre is given ([`what_is_due_is_given`]), and
-//! on the line turns end, no station starves and commands go before polls ([`logs_keep_turns`]), by
-//! the one list of calls that the log shows ([`one_list_of_calls`]).
+//! ([`what_comes_decides_what_goes_out`]). What is due to the control centre is given
+//! ([`what_is_due_is_given`]), and on the line turns end, no station starves and commands go before
+//! polls ([`logs_keep_turns`]), by the one list of calls that the log shows
+//! ([`one_list_of_calls`]).
 //!
 //! At a restart a gateway is read from the lines of its state ([`Gateway::read_state`]), gives up
 //! the commands without an answer ([`Gateway::give_up_commands`]), and goes on with other settings
