@@ -149,7 +149,7 @@ def judge_entries(judge):
     """Each heading of a document that a comment names is there: a heading of a part, or the bold
     words that a point begins with."""
     for name in sorted(glob.glob("crates/*/src/**/*.rt", root_dir=TOP, recursive=True)):
-        comments = re.sub(r"\n\s*// ", " ", read(name))
+        comments = re.sub(r"\n\s*//[/!]? ", " ", read(name))
         for document, heading in re.findall(r'(docs/\w+\.md), "([^"]*)"', comments):
             headings = re.findall(r"^(?:- \*\*(.*?)\.\*\*|#+ (.*))", read(document), re.M)
             judge.case(any(heading in found for found in headings), f'{name} names {document}, "{heading}", which isn\'t there')
