@@ -467,7 +467,8 @@ def colours(count, program, folder):
         count.judge(f"{words} to a terminal", b"\x1b" not in seen and done.returncode == 0, (seen, done))
     # A simulated run has them too.
     seen, done = looked_at(program, "sim --words good.toml one.script", folder, ends=["stdout"])
-    count.judge("sim --words to a terminal", seen.startswith(b"1 \x1b[36mgateway > outstation\x1b[0m  "), (seen, done))
+    wanted = [b"1 \x1b[32mcontrol centre > gateway\x1b[0m  connects", b"1 \x1b[36mgateway > outstation\x1b[0m  link status to 1"]
+    count.judge("sim --words to a terminal", seen.splitlines()[:2] == wanted, (seen, done))
 
 
 def looks(count, program, folder):
