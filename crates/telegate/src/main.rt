@@ -20,6 +20,7 @@
 //! faults, are tested.
 #![tactic(auto)]
 
+mod allow_list;
 mod answer;
 mod asking;
 mod auditing;
@@ -29,7 +30,6 @@ mod closing;
 mod command_line;
 mod examples;
 mod fault;
-mod guests;
 mod help;
 mod host;
 mod inquiry;
