@@ -93,4 +93,4 @@ pub use redial::{Dialled, Dialler, Redialled};
 pub use sockets::{
     CentreListener, CentreSocket, LineDialler, LineSocket, LocalSocket, SystemClock,
 };
-pub use watched::{Failure, Notice, Sight, Watched};
+pub use watched::{EndsSight, Failure, Notice, Watched};

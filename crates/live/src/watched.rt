@@ -10,7 +10,7 @@ use std::net::IpAddr;
 
 /// What is seen of a port's ends.
 #[derive(Clone, Copy, Debug, PartialEq, Eq)]
-pub struct Sight {
+pub struct EndsSight {
     /// Whether the line is there.
     pub line: Presence,
     /// Whose connection is open.
@@ -60,7 +60,7 @@ pub trait Watched: Port {
     ghost failure: { Self → Option Failure };
 
     /// Looks at its ends, and asks nothing of them.
-    fn sight(&self) -> Sight
+    fn sight(&self) -> EndsSight
         ensures failure { result.failure ≡ failure self.now }
         ensures failed { is_some result.failure ≡ nat_lt 0 (Self.failed self.now) };
 
@@ -79,13 +79,13 @@ impl<S: OctetStream + Reached, L: Listener + Drop, C: RunClock + Drop> Watched f
 
     ghost failure = { λ ends. failure_of ends.failed };
 
-    fn sight(&self) -> Sight
+    fn sight(&self) -> EndsSight
         ensures failure { result.failure ≡ failure_of self.now.failed }
         ensures failed { is_some result.failure ≡ nat_lt 0 self.now.failed }
         ensures peer { result.peer ≡ option_map (λ (p : Peer). p.address) self.now.connection }
         ensures late { result.late_octets ≡ self.now.late }
     {
-        Sight {
+        EndsSight {
             line: self.line_presence(),
             peer: self.peer(),
             why_cut: self.why_cut(),

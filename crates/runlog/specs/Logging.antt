@@ -7,7 +7,7 @@ use Rattle.gateway.specs.State.{State, counts_of}
 use Rattle.gateway.specs.declared.ports.Next.{Next}
 use Rattle.live.specs.declared.watched.Failure.{Failure}
 use Rattle.live.specs.declared.watched.Notice.{Notice}
-use Rattle.live.specs.declared.watched.Sight.{Sight}
+use Rattle.live.specs.declared.watched.EndsSight.{EndsSight}
 use Rattle.runlog.specs.Watching.{Watching, event_noted, put, is_look_due, looked_at, judged}
 use Rattle.runlog.specs.Watching.{unless_line, line_of, sum_line, failed}
 use Rattle.runlog.specs.declared.note.LogLine.{LogLine}
@@ -47,14 +47,15 @@ abbrev pub unless_over : Book → Book → Book
 unless_over old new = if old.is_over && not old.is_watching then old else new
 
 -- an event came, whose octets are the front of the buffer, and the ends were seen so
-pub record LogsEventSeeing (sight : Sight) (old : Book) (event : Next) (buf : List ℕ) (new : Book) :
+pub record LogsEventSeeing (sight : EndsSight) (old : Book) (event : Next) (buf : List ℕ)
+    (new : Book) :
     Type 0 where
   pub taken : Bool
   pub done : new ≡ unless_over old (after (event_noted event buf sight old.watching) taken old)
 
 -- an event came, and the ends were seen in some way
 pub record LogsEvent (old : Book) (event : Next) (buf : List ℕ) (new : Book) : Type 0 where
-  pub sight : Sight
+  pub sight : EndsSight
   pub logs : LogsEventSeeing sight old event buf new
 
 -- an action went out

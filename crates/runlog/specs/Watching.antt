@@ -14,7 +14,7 @@ use Rattle.gateway.specs.declared.ports.Next.TheVariants as next
 use Rattle.gateway.specs.declared.settings.Station.{Station}
 use Rattle.live.specs.declared.watched.Failure.{Failure}
 use Rattle.live.specs.declared.watched.Failure.TheVariants as failure
-use Rattle.live.specs.declared.watched.Sight.{Sight}
+use Rattle.live.specs.declared.watched.EndsSight.{EndsSight}
 use Rattle.live.specs.declared.ends.Presence.TheVariants.{Away}
 use Rattle.runlog.specs.Ends.{new_limit, changed, new_line, new_listener, new_connection, line_seen}
 use Rattle.runlog.specs.Ends.{listener_seen, connection_opened, connection_cut, connection_sent}
@@ -140,11 +140,11 @@ abbrev pub with_stations : List StationWatch × Option LogLine → Watching → 
 with_stations logged w = (record w { stations = logged.0 }, logged.1)
 
 -- the listener is seen, unless the line had something to log: an event has one line at most
-abbrev pub unless_logged : Sight → Watching × Option LogLine → Watching × Option LogLine
+abbrev pub unless_logged : EndsSight → Watching × Option LogLine → Watching × Option LogLine
 unless_logged s (w, Some line) = (w, Some line)
 unless_logged s (w, None) = with_listener (listener_seen s.refused w.moment w.listener) w
 
-abbrev pub seen : Sight → Watching → Watching × Option LogLine
+abbrev pub seen : EndsSight → Watching → Watching × Option LogLine
 seen s w = unless_logged s (with_line (line_seen s.line w.moment w.line) w)
 
 -- an event begins
@@ -273,7 +273,7 @@ wall_of w = option_map (wall_at w.moment) w.wall
 
 -- An event, whose octets are the front of the buffer: a connection that is opened or cut; after any
 -- other the ends are seen.
-abbrev pub came : Next → List ℕ → Sight → Watching → Watching × Option LogLine
+abbrev pub came : Next → List ℕ → EndsSight → Watching → Watching × Option LogLine
 came (next.Open now) buf s w =
     with_connection (connection_opened s.peer now w.connection) (at_end now w)
 came (next.Cut now) buf s w =
@@ -286,7 +286,7 @@ came next.Fault buf s w = (w, None)
 came next.Done buf s w = (w, None)
 
 -- and what was late before it is noted first
-abbrev pub event_noted : Next → List ℕ → Sight → Watching → Watching × Option LogLine
+abbrev pub event_noted : Next → List ℕ → EndsSight → Watching → Watching × Option LogLine
 event_noted event buf s w = came event buf s (late_noted s.late_octets w)
 
 abbrev pub inbox_after : Close → Inbox → Inbox

@@ -10,7 +10,7 @@ use crate::note::{LogLine, Note};
 use crate::sink::LogSink;
 use crate::watch::Watch;
 use gateway::{Action, Gateway, Next};
-use live::{Failure, Notice, Sight};
+use live::{EndsSight, Failure, Notice};
 use std::marker::Model;
 
 /// Logs the lines of a run to a sink, until that takes none any more.
@@ -117,7 +117,7 @@ impl<S: LogSink + Drop> Logger<S> {
     }
 
     /// An event came, whose octets are the front of the buffer, and the ends are seen so.
-    pub(crate) fn note_event(&mut self, event: Next, buf: &[u8; 1024], sight: &Sight)
+    pub(crate) fn note_event(&mut self, event: Next, buf: &[u8; 1024], sight: &EndsSight)
         requires { FitsBuffer event }
         ensures { LogsEventSeeing sight.now self.old event buf.now self.new }
     {

@@ -14,7 +14,7 @@ use crate::traffic::{Traffic, traffic_line};
 use asdu::Sizes;
 use ft12::LinkSize;
 use gateway::{Action, Config, Counts, Gateway, Next};
-use live::{Failure, Presence, Sight};
+use live::{EndsSight, Failure, Presence};
 use session::Close;
 use std::alloc::{AllocError, Global};
 use std::marker::Model;
@@ -233,7 +233,7 @@ impl Watch {
         &mut self,
         next: Next,
         buf: &[u8; 1024],
-        sight: &Sight,
+        sight: &EndsSight,
     ) -> Option<LogLine>
         requires { FitsBuffer next }
         ensures { (self.new, result) ≡ spec.event_noted next buf.now sight.now self.old }
@@ -244,7 +244,7 @@ impl Watch {
     }
 
     /// The same, once what was late before it is noted.
-    fn come(&mut self, next: Next, buf: &[u8; 1024], sight: &Sight) -> Option<LogLine>
+    fn come(&mut self, next: Next, buf: &[u8; 1024], sight: &EndsSight) -> Option<LogLine>
         requires { FitsBuffer next }
         ensures { (self.new, result) ≡ spec.came next buf.now sight.now self.old }
     {
@@ -303,7 +303,7 @@ impl Watch {
     }
 
     /// The ends are seen so.
-    fn see(&mut self, sight: &Sight) -> Option<LogLine>
+    fn see(&mut self, sight: &EndsSight) -> Option<LogLine>
         ensures { (self.new, result) ≡ spec.seen sight.now self.old }
     {
         let now = self.moment;
