@@ -9,8 +9,8 @@ use Rattle.record.specs.Recording.{Recording}
 use Rattle.telegate.specs.Lives.{all_told}
 use Rattle.telegate.specs.Running.{HasEnded, HasRunFaithfully, IsRecorded}
 
--- The port is that of a run with these settings and these guests; where it goes on after a restart
--- it began with the cut of the connection of then.
+-- The port is that of a run with these settings and this allow list; where it goes on after a
+-- restart it began with the cut of the connection of then.
 abbrev pub IsPortOf : Settings → AllowList → (goes_on : Bool) → LiveEnds → Type 0
 IsPortOf settings allow_list goes_on port = fixed_of port ≡ record {
   allow_list = allow_list;

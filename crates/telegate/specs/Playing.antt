@@ -12,8 +12,8 @@ use Rattle.telegate.specs.declared.fault.Fault.{Fault}
 use Rattle.telegate.specs.declared.fault.Fault.TheVariants.{Config, Script, Device, NoMemory}
 use Rattle.traces.specs.declared.reading.TextFault.TheVariants.{Line as WrongLine}
 
--- The outstations of a text stood behind a door, and played as many rounds as 64 bits count, one
--- after another, at the moments that a clock told.
+-- The outstations of a text stood behind a listener, and played as many rounds as 64 bits count,
+-- one after another, at the moments that a clock gave.
 pub record HavePlayed (settings : Settings) (scenario : Scenario) : Type 0 where
   pub listener : Attempts
   pub before : Moments
@@ -23,7 +23,7 @@ pub record HavePlayed (settings : Settings) (scenario : Scenario) : Type 0 where
   pub ended : TimedServer
   pub played : PlaysOn rounds before after (first_server settings scenario listener) ended
 
--- or the door or the clock can't be had, or memory was refused
+-- or the listener or the clock can't be had, or memory was refused
 abbrev pub ArePlayed : Settings → Scenario → Result (Unit {0}) Fault → Type 0
 ArePlayed settings scenario (Ok done) = HavePlayed settings scenario
 ArePlayed settings scenario (Err Device) = Unit {0}

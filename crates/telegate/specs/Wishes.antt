@@ -121,7 +121,7 @@ abbrev pub IsNoAllowList : (words site : Option (List Text)) → Fault → Type 
 IsNoAllowList None site fault = IsNoSiteAllowList site fault
 IsNoAllowList (Some words) site fault = IsAllowListFault (Some words) fault
 
--- what is said can't be: a state isn't named, or, where it is, guests aren't addresses
+-- what is said can't be: a state isn't named, or, where it is, the allow list has no addresses
 abbrev pub IsWishFault : (words site : Said) → Fault → Type 0
 IsWishFault words site fault =
     let said = said_of words site in

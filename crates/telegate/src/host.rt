@@ -51,7 +51,7 @@ pub(crate) enum Unread {
 pub(crate) struct Wishes<'a> {
     /// A line that isn't there, or ends, is reached again.
     pub(crate) redial: bool,
-    /// What happens is told on standard error.
+    /// What happens is logged on standard error.
     pub(crate) log: bool,
     /// Each line of that begins with how severe it is.
     pub(crate) log_severity: bool,
@@ -283,7 +283,7 @@ fn answer_to(ended: Result<(), DeviceFailed>) -> Result<(), Fault>
     }
 }
 
-/// A process with these settings, names and form of what it tells.
+/// A process with these settings, names and form of its log.
 fn process_of<'a>(
     rt: &'a HostRuntime,
     places: &'a LiveSettings,
@@ -307,7 +307,7 @@ fn named_by<'a>(names: &'a SiteNames, stations: &'a [NamedStation<'a>]) -> LogNa
     LogNames { line, stations }
 }
 
-/// What stations are called, for who tells and who shows it.
+/// What stations are called, for the log and for who looks.
 fn names_of<'a>(alloc: Global, names: &'a SiteNames) -> Result<Vec<NamedStation<'a>>, AllocError> {
     let mut called = Vec::new(alloc);
     for station in &names.stations {

@@ -41,8 +41,8 @@ pub(crate) fn read_live(alloc: Global, config: &[u8]) -> Result<(Config, LiveSet
     }
 }
 
-/// Who tells of a run, if it is to be told, writes it down, if it is to be recorded, and shows it,
-/// if it is to be shown.
+/// What logs a run, if it is to be logged, records it, if it is to be recorded, and shows it, if it
+/// is to be shown.
 #[tactic(auto, using(crate::proofs::KeptLemmas::memory_is_end))]
 fn scribes_of<T: Site>(
     site: &T,
@@ -66,7 +66,7 @@ fn scribes_of<T: Site>(
     })
 }
 
-/// Who looks at a run, if there is to be a door for it.
+/// Who looks at a run, if there is to be a listener for it.
 fn lookout_of<T: Site>(
     site: &T,
     config: &Config,
@@ -107,9 +107,9 @@ struct RunEnds<S: OctetStream, L: Listener + Drop, C: live::RunClock + Drop> {
     clock: C,
 }
 
-/// The ends, opened in this order: the door, the line, and the clock, which begins at this moment,
-/// in ms. A second process that is started by mistake ends at the door, and leaves the line of the
-/// first alone.
+/// The ends, opened in this order: the listener, the line, and the clock, which begins at this
+/// moment, in ms. A second process that is started by mistake ends at the listener, and leaves the
+/// line of the first alone.
 fn opened<T: Site>(
     site: &T,
     redial: bool,
@@ -134,7 +134,7 @@ fn opened<T: Site>(
     }
 }
 
-/// The door, opened. Its address is told, if that is known.
+/// The listener, opened. Its address is logged, if that is known.
 fn listener_of<T: Site>(site: &T, logger: &mut Logger<T::Sink>) -> Result<T::Listener, Fault>
     ensures told { IfOk result (λ _. (address : Option SocketAddr)
         × NotesIf (note_of_address address) logger.old logger.new) }
@@ -150,7 +150,7 @@ fn listener_of<T: Site>(site: &T, logger: &mut Logger<T::Sink>) -> Result<T::Lis
     }
 }
 
-/// What tells where it is listened, if that is known.
+/// What is logged of where it listens, if that is known.
 fn note_of_address(address: Option<SocketAddr>) -> Option<Note>
     ensures { result ≡ note_of_address address }
 {
@@ -160,7 +160,7 @@ fn note_of_address(address: Option<SocketAddr>) -> Option<Note>
     }
 }
 
-/// Tells this, if there is anything to tell.
+/// Logs this, if there is anything to log.
 fn tell<S: LogSink + Drop>(note: Option<Note>, logger: &mut Logger<S>)
     ensures { NotesIf note logger.old logger.new }
 {
@@ -169,7 +169,7 @@ fn tell<S: LogSink + Drop>(note: Option<Note>, logger: &mut Logger<S>)
     }
 }
 
-/// An end can't be had, which is told.
+/// An end can't be had, which is logged.
 #[tactic(auto, using(crate::proofs::KeptLemmas::refused_is_end))]
 fn refused<S: LogSink + Drop>(refusal: Refusal, logger: &mut Logger<S>) -> Fault
     ensures refused { IsRefused result logger.old logger.new }
@@ -323,7 +323,7 @@ fn run_from<T: Site>(
     live(gateway, keeper, before, scribes)
 }
 
-/// What this directory has, or a new state, which is told.
+/// What this directory has, or a new state, which is logged.
 #[tactic(auto, using(crate::proofs::KeptLemmas::memory_is_unkept))]
 fn begun_in<T: Site>(
     site: &T,
@@ -348,7 +348,7 @@ fn begun_in<T: Site>(
     }
 }
 
-/// The state can't be had, which is told.
+/// The state can't be had, which is logged.
 fn unkept<S: LogSink + Drop>(fault: FolderFault, logger: &mut Logger<S>) -> Fault
     ensures { IsUnkept result logger.old logger.new }
 {
@@ -365,7 +365,7 @@ fn unkept<S: LogSink + Drop>(fault: FolderFault, logger: &mut Logger<S>) -> Faul
     }
 }
 
-/// What tells with how many pieces a run goes on, if it does.
+/// What is logged of the pieces with which a run goes on, if it does.
 fn note_if_on(moment: Option<u64>, gateway: &Gateway) -> Option<Note>
     ensures { result ≡ note_if_on moment gateway.now }
 {
@@ -375,7 +375,7 @@ fn note_if_on(moment: Option<u64>, gateway: &Gateway) -> Option<Note>
     }
 }
 
-/// Tells the gap that may not have been seen, at the moment at which the run goes on, in ms.
+/// Logs the gap that may not have been seen, at the moment at which the run goes on, in ms.
 fn tell_gap<S: LogSink + Drop>(moment: Option<u64>, gap: Option<ToldGap>, logger: &mut Logger<S>)
     ensures { TellsGap moment gap logger.old logger.new }
 {
@@ -388,7 +388,7 @@ fn tell_gap<S: LogSink + Drop>(moment: Option<u64>, gap: Option<ToldGap>, logger
     logger.put(moment, &Action::Gap { station, session });
 }
 
-/// Tells how a run begins, and the gap that may not have been seen.
+/// Logs how a run begins, and the gap that may not have been seen.
 fn tell_beginning<S: LogSink + Drop>(origin: &Origin, logger: &mut Logger<S>)
     ensures { TellsBeginning origin.now logger.old logger.new }
 {

@@ -24,7 +24,7 @@ pub(crate) fn scenario_of(alloc: Global, config: &Config, text: &[u8]) -> Result
     }
 }
 
-/// Plays the outstations of a text behind a door, as long as rounds can be counted.
+/// Plays the outstations of a text behind a listener, as long as rounds can be counted.
 pub(crate) fn play_behind<R: std::rt::Clock, C: RunClock, L: Listener + Drop>(
     rt: &R,
     alloc: Global,

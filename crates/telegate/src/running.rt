@@ -17,16 +17,16 @@ use status::StreamSource;
 #[derive(Clone, Copy, Debug, PartialEq, Eq)]
 pub(crate) struct DeviceFailed;
 
-/// What is told of a run: what happens, its record, and how it stands, to who looks.
+/// What comes of a run beside its work: the log, the record, and how it stands, for who looks.
 #[derive(Drop)]
 pub(crate) struct Scribes<S: LogSink + Drop, W: Sheet + Drop, D: StreamSource + Drop> {
     pub(crate) logger: Logger<S>,
     pub(crate) pen: Pen<W>,
-    /// None where there is no door to look through.
+    /// None where there is no listener for who looks.
     pub(crate) lookout: Option<Lookout<D>>,
 }
 
-/// A run over a port that is over: the port, with what was told, and how it ended.
+/// A run over a port that is over: the port, with what was logged, and how it ended.
 #[derive(Drop)]
 pub(crate) struct Lived<P: Watched + Drop, W: Sheet + Drop, S: LogSink + Drop> {
     pub(crate) run_log: RunLog<Life<Recorder<P, W>>, S>,

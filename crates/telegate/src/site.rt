@@ -39,7 +39,7 @@ impl From<Refusal> for Fault {
     }
 }
 
-/// Where a live run finds its ends, and where what is told of it goes.
+/// Where a live run finds its ends, and where its log and its record go.
 pub(crate) trait Site {
     ghost use Rattle.telegate.specs.Sites.{IsNew};
 
@@ -55,7 +55,7 @@ pub(crate) trait Site {
 
     type Sheet: Sheet + Drop;
 
-    /// Where visitors come in who look at a run.
+    /// Where visitors connect who look at a run.
     type Glass: status::StreamSource + Drop;
 
     // This clock begins at this moment, in ms.
@@ -73,10 +73,10 @@ pub(crate) trait Site {
     fn sheet(&self) -> Self::Sheet
         ensures { IsNew (Self.Sheet.taken result) (Self.Sheet.missed result) };
 
-    /// The door, open, and its address, if that is known.
+    /// The listener, open, and its address, if that is known.
     fn listener(&self) -> Result<(Self::Listener, Option<SocketAddr>), Refusal>;
 
-    /// The door of visitors at this place, open.
+    /// The listener for visitors at this place, open.
     fn status_listener(&self, place: &str) -> Result<Self::Glass, Refusal>;
 
     /// The line: one that is there, or one that is reached again where it ends.
