@@ -41,8 +41,8 @@ use Rattle.runlog.proofs.RulesRead.{named, single, stale, selection, place}
 
 -- ---- the words of a rule
 
-abbrev worded : Option Refusal → Option (List ℕ)
-worded rule = option_map rule_words rule
+abbrev as_worded : Option Refusal → Option (List ℕ)
+as_worded rule = option_map rule_words rule
 
 tag_worded : (wall : Option ℕ) (v : Verdict) → rule_words (tag_rule wall v) ≡ age_words wall v
 tag_worded None (verdict.Good instant) = refl
@@ -211,7 +211,7 @@ module _ (xs : List ℕ) (now : ℕ) (s : State) where
   of_kept = worded (not_selected xs now s) (codes "not selected")
       ∷ worded (no_place xs s) (codes "no place") ∷ []
 
-  kept : IsGood xs → worded (admission_rule (command_at xs) now s) ≡ first_words of_kept
+  kept : IsGood xs → as_worded (admission_rule (command_at xs) now s) ≡ first_words of_kept
   kept g = at (lacks_selection (command_at xs) now s) (lacks_place (command_at xs) left)
       ∙ ap (λ (b : Bool). if b then Some (codes "not selected")
       else (if lacks_place (command_at xs) left then Some (codes "no place") else None))
@@ -223,7 +223,7 @@ module _ (xs : List ℕ) (now : ℕ) (s : State) where
       left = if ends_selection (command_at xs) then without_selection (command_at xs) s else s
 
       at : (a b : Bool)
-          → worded (if a then Some refusal.NotSelected
+          → as_worded (if a then Some refusal.NotSelected
           else (if b then Some refusal.NoPlace else None))
           ≡ (if a then Some (codes "not selected")
           else (if b then Some (codes "no place") else None))
@@ -234,7 +234,7 @@ module _ (xs : List ℕ) (now : ℕ) (s : State) where
 -- ---- the law
 
 pub worded_so : (xs : List ℕ) (now : ℕ) (wall : Option ℕ) (s : State)
-    → worded (refusal_of xs now wall s) ≡ first_words (wordings xs now wall s)
+    → as_worded (refusal_of xs now wall s) ≡ first_words (wordings xs now wall s)
 unfolding own
 worded_so xs now wall s =
     by (fault s.sizes s.stations s.max_age_ms wall xs) refl
@@ -243,7 +243,7 @@ worded_so xs now wall s =
     ∙ sym (more (own xs wall s.sizes s.stations s.max_age_ms) (of_kept xs now s))
   where
     by : (f : Option ℕ) → fault s.sizes s.stations s.max_age_ms wall xs ≡ f
-        → worded (rule_by f xs now wall s)
+        → as_worded (rule_by f xs now wall s)
         ≡ or_else (of_cause xs wall f) (first_words (of_kept xs now s))
     by (Some cause) e = refl
     by None e = kept xs now s (good s.sizes s.stations s.max_age_ms wall xs e)
@@ -263,7 +263,7 @@ text_so g s peer asdu o c why same seen first =
     ∙ by (refusal_of asdu g.moment (wall_now g) s)
     (worded_so asdu g.moment (wall_now g) s ∙ first)
   where
-    by : (r : Option Refusal) → worded r ≡ Some why
+    by : (r : Option Refusal) → as_worded r ≡ Some why
         → option_map words
         (rule_noted (r, glance_of (judged asdu g.moment (wall_now g) s).1) peer o c).refused.last
         ≡ Some (order_words o ++ peer_words peer ++ codes " refused: " ++ why)
