@@ -1,8 +1,8 @@
 //! The standard's names of types and causes.
 ghost use Rattle.std.specs.Prelude.{◌≡◌};
 ghost use Rattle.std.specs.Option.{option_copied};
-ghost use Rattle.words.specs.Names.{type_name as name_of_type, report_name as name_of_report};
-ghost use Rattle.words.specs.Names.{other_name as name_of_other, cause_name as name_of_cause};
+ghost use Rattle.elements.specs.Names.{type_name as name_of_type, report_name as name_of_report};
+ghost use Rattle.elements.specs.Names.{other_name as name_of_other, cause_name as name_of_cause};
 
 /// The name of a type identification (IEC 60870-5-101, 7.2.1; IEC 60870-5-104, 8). `None` where the
 /// standards define none.
