@@ -8,10 +8,10 @@ use Rattle.std.specs.Io.KnownBytes.{Appends}
 use Rattle.std.specs.Option.{is_some}
 use Rattle.std.specs.Prelude.{IfErr, IfSome, OnErr, OnOk, Result, Ok, Err}
 use Rattle.std.specs.Result.{IsErrAnd}
-use Rattle.audit.specs.Record.{whole_lines}
-use Rattle.audit.proofs.BlockLemmas.{AreOf}
-use Rattle.audit.proofs.LineLemmas.{whole_joined}
-use Rattle.blocks.specs.Reading.{AreCutOff, Gives, IsGiven, Reading}
+use Rattle.record.specs.Lines.{whole_lines}
+use Rattle.record.proofs.BlockLemmas.{AreOf}
+use Rattle.record.proofs.LineLemmas.{whole_joined}
+use Rattle.traces.specs.Blocks.{AreCutOff, Gives, IsGiven, Reading}
 use Rattle.ft12.specs.declared.frame.LinkSize.{LinkSize}
 use Rattle.gateway.specs.Log.{LogEntry}
 use Rattle.pages.specs.Pouring.{IsBegun}

@@ -9,7 +9,11 @@ use std::alloc::{AllocError, Global};
 use traces::append_event;
 
 /// The line of an event, or nothing where a port has none. An `Err` is want of memory.
-pub(crate) fn event_line(alloc: Global, next: Next, buf: &[u8; 1024]) -> Result<String, AllocError>
+pub(crate) fn printed_event(
+    alloc: Global,
+    next: Next,
+    buf: &[u8; 1024],
+) -> Result<String, AllocError>
     requires { FitsBuffer next }
     ensures line { IfOk result (λ line. string_bytes line ≡ lines_of_log (told_by next buf.now)) }
     ensures printable { OnOk result (AllByRecursion IsPrintable (told_by next buf.now)) }

@@ -8,7 +8,7 @@ ghost use Rattle.record.specs.Written.{AreLines, IsWritten};
 ghost use Rattle.traces.specs.Actions.{line_of};
 ghost use Rattle.traces.specs.Printed.{IsPrintable, lines_of_log};
 
-use crate::lines::event_line;
+use crate::lines::printed_event;
 use crate::sheet::Sheet;
 use gateway::{Action, Next};
 use std::alloc::Global;
@@ -135,7 +135,7 @@ impl<W: Sheet + Drop> Pen<W> {
             ≡ held_or_over result (lines_of_log (told_by next buf.now)) self.old }
         ensures printable { result ≡ true → AllByRecursion IsPrintable (told_by next buf.now) }
     {
-        match event_line(self.alloc, next, buf) {
+        match printed_event(self.alloc, next, buf) {
             Ok(line) => self.hold(line.as_str()),
             Err(_) => {
                 self.end();

@@ -8,3 +8,4 @@ pub mod Printed
 pub mod Spelling
 pub mod Progress
 pub mod FirstLines
+pub mod Blocks

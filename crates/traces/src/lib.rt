@@ -17,9 +17,13 @@
 //! nothing else; and each line that is printed, of an event or an action, reads back as that very
 //! entry ([`printed_lines_read_back`], [`printed_lines_by_example`]). What lines of a trace tell
 //! has literal examples too ([`trace_lines_by_example`]).
+//!
+//! `Blocks` reads a text on, block by block, each of whole lines: the blocks are the text, and one
+//! line feed parts two of them.
 #![tactic(auto)]
 
 mod actions;
+mod blocks;
 mod decimal;
 mod event;
 mod examples;
@@ -38,6 +42,7 @@ mod recorded;
 mod text_port;
 
 pub use actions::{append_line, print_action, print_action_at};
+pub use blocks::{BlockFault, Blocks};
 pub use decimal::decimal as read_decimal;
 pub use examples::printed_lines_by_example;
 pub use judging::judge;
