@@ -5,7 +5,7 @@ use Rattle.std.proofs.lemmas.List.{append-nil, length-map}
 use Rattle.std.specs.Prelude.{IfSome, Vec, Result, Ok, Err}
 use Rattle.std.specs.Result.{IsErrAnd}
 use Rattle.std.specs.declared.alloc.Global.{Global}
-use Rattle.traces.specs.Blocks.{AreCutOff, Gives, IsGiven, Reading}
+use Rattle.traces.specs.Blocks.{Gives, IsGiven, Reading}
 use Rattle.delivery.specs.Delivery.{Delivers}
 use Rattle.gateway.specs.Agrees.{Follows}
 use Rattle.gateway.specs.Config.{Settings}
@@ -16,6 +16,7 @@ use Rattle.gateway.specs.Traffic.{IsFaithful}
 use Rattle.traces.specs.Fields.{parts_after}
 use Rattle.traces.specs.Progress.{events_in}
 use Rattle.traces.specs.Trace.{first_wrong}
+use Rattle.traces.proofs.BlockLemmas.{gives_last, gives_on, gives_some, more_behind}
 use Rattle.traces.proofs.JoinedLemmas.{wrong_before, wrong_behind}
 use Rattle.record.proofs.LineLemmas.{none_whole, whole_joined}
 use Rattle.record.proofs.RunLemmas.{lines_behind}
@@ -28,25 +29,6 @@ use Rattle.record.specs.declared.audit.RecordFault.TheVariants as faults
 use Rattle.record.specs.declared.audit.Verdict.{Verdict}
 use Rattle.record.specs.declared.audit.comparing.Standing.{Standing}
 use Rattle.record.specs.declared.audit.comparing.Standing.TheVariants.{Level}
-
--- What is still to come
-
-gives_on : (coming later : Option (List ℕ)) (block t : List ℕ)
-    → IfSome coming (λ text. AreCutOff text block false later)
-    → Gives later t → Gives coming (block ++ 10 ∷ t)
-gives_on None later block t cut is = tt
-gives_on (Some text) None block t cut is = absurd cut
-gives_on (Some text) (Some rest) block t cut is = cut ∙ ap (λ xs. block ++ 10 ∷ xs) is
-
-gives_last : (coming later : Option (List ℕ)) (block : List ℕ)
-    → IfSome coming (λ text. AreCutOff text block true later)
-    → Gives coming block
-gives_last None later block cut = tt
-gives_last (Some text) later block cut = cut
-
-gives_some : (known : Option (List ℕ)) → (t : List ℕ) × Gives known t
-gives_some None = ([], tt)
-gives_some (Some text) = (text, refl)
 
 -- So much of a record was read, run and compared.
 pub record AuditsTo (settings : Settings) (known coming : Option (List ℕ)) (state : State)
@@ -98,24 +80,12 @@ pub record AreOf (block : List ℕ) (over : Bool) (part : Option (List ℕ)) : T
   pub last : over ≡ true → parts_after 10 part ≡ whole_lines block
   pub other : over ≡ false → part ≡ Some block
 
-joined : (before block t : List ℕ) → (before ++ (block ++ 10 ∷ [])) ++ t
-    ≡ before ++ (block ++ 10 ∷ t)
-joined before block t = append_assoc before (block ++ 10 ∷ []) t
-    ∙ ap (λ xs. before ++ xs) (append_assoc block (10 ∷ []) t)
-
 module _ (settings : Settings) (known coming : Option (List ℕ)) (state : State) (h : Halted)
     (standing : Standing)
     (so : AuditsTo settings known coming state h standing) (block : Reading) (lines : List ℕ)
     (same : lines ≡ block.lines)
     (cut : IfSome coming (λ text. IsGiven text block)) (part : Option (List ℕ))
     (of : AreOf lines block.is_over part) where
-  cut_as : (over : Bool) → block.is_over ≡ over
-      → IfSome coming (λ text. AreCutOff text lines over block.coming)
-  cut_as over is = subst (λ (o : Bool). IfSome coming (λ text. AreCutOff text lines o block.coming))
-      is
-      (subst (λ (ls : List ℕ). IfSome coming (λ text. AreCutOff text ls block.is_over block.coming))
-      (sym same) cut)
-
   lines_on : block.is_over ≡ false → (t : List ℕ)
       → whole_lines (so.before ++ (lines ++ 10 ∷ t)) ≡ (so.lines ++ parts_after 10 part)
       ++ whole_lines t
@@ -134,10 +104,10 @@ module _ (settings : Settings) (known coming : Option (List ℕ)) (state : State
       → AuditsTo settings known block.coming ended after stood
   audit_on goes ended after stood stands = record {
     before = so.before ++ (lines ++ 10 ∷ []);
-    rest = λ t is. subst (Gives known) (sym (joined so.before lines t))
-        (so.rest (lines ++ 10 ∷ t) (gives_on coming block.coming lines t (cut_as false goes) is));
+    rest = λ t is. subst (Gives known) (sym (more_behind so.before lines t))
+        (so.rest (lines ++ 10 ∷ t) (gives_on block lines coming same cut goes t is));
     lines = so.lines ++ parts_after 10 part;
-    are = λ t. ap whole_lines (joined so.before lines t) ∙ lines_on goes t;
+    are = λ t. ap whole_lines (more_behind so.before lines t) ∙ lines_on goes t;
     stands = stands;
   }
 
@@ -153,7 +123,7 @@ module _ (settings : Settings) (known coming : Option (List ℕ)) (state : State
       let is = lines_last over in
       record {
         text = so.before ++ lines;
-        given = so.rest lines (gives_last coming block.coming lines (cut_as true over));
+        given = so.rest lines (gives_last block lines coming same cut over);
         so = record {
           right = ap (λ ls. first_wrong 1 (event_lines ls)) is ∙ stands.runs.right;
           log = after.log;
@@ -193,7 +163,7 @@ module _ (settings : Settings) (known coming : Option (List ℕ)) (state : State
           let is = lines_last over in
           record {
             text = so.before ++ lines;
-            given = so.rest lines (gives_last coming block.coming lines (cut_as true over));
+            given = so.rest lines (gives_last block lines coming same cut over);
             so = ap (λ ls. first_wrong 1 (event_lines ls)) (is
                 ∙ sym (append-nil (so.lines ++ parts_after 10 part)))
                 ∙ wrong_in n wrong [];
@@ -203,8 +173,8 @@ module _ (settings : Settings) (known coming : Option (List ℕ)) (state : State
           record {
             text = so.before ++ (lines ++ 10 ∷ some.0);
             given =
-                so.rest (lines ++ 10 ∷ some.0) (gives_on coming block.coming lines some.0
-                (cut_as false goes) some.1);
+                so.rest (lines ++ 10 ∷ some.0) (gives_on block lines coming same cut goes some.0
+                some.1);
             so = ap (λ ls. first_wrong 1 (event_lines ls)) (lines_on goes some.0)
                 ∙ wrong_in n wrong (whole_lines some.0);
           }

@@ -47,7 +47,3 @@ first_difference n (line ∷ lines) run =
     if is_cut line then first_difference (n + 1) lines run
     else if is_first line run then first_difference (n + 1) lines (behind_first run)
     else Some n
-
--- a line with its line feed
-abbrev pub ended : List ℕ → List ℕ
-ended line = line ++ 10 ∷ []

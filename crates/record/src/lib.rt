@@ -18,7 +18,6 @@
 mod audit;
 mod examples;
 mod laws;
-mod lines;
 mod pen;
 mod recorder;
 mod sheet;

@@ -1,8 +1,8 @@
 -- What was read of a text, and what is still to come: together they are what they were.
 use borrow.Rule.Slice.PartMut.{put_mid}
-use Rattle.std.proofs.Common.{◌≡◌, ℕ, ◌+◌, ◌-◌, ◌<◌, ◌≤◌, List, ◌∷◌, ◌++◌, length, take, drop}
+use Rattle.std.proofs.Common.{◌≡◌, ℕ, ◌+◌, ◌-◌, ◌<◌, ◌≤◌, List, [], ◌∷◌, ◌++◌, length, take, drop}
 use Rattle.std.proofs.Common.{slice_index, Option, Some, None, refl, sym, ap, ◌∙◌, arith}
-use Rattle.std.proofs.Common.{append_assoc, append-nil, suc, get_or, length-drop}
+use Rattle.std.proofs.Common.{append_assoc, append-nil, suc, get_or, length-drop, subst}
 use Rattle.std.specs.Prelude.{Bool, true, false, IfSome}
 use Rattle.std.specs.Io.KnownBytes.{Consumes, IsAtEnd, Keeps, prepend_known}
 use Rattle.std.proofs.Math.Seq.{take-append-add, paste, split_at}
@@ -10,7 +10,7 @@ use Rattle.std.proofs.lemmas.Bool.{true≢false}
 use Rattle.std.proofs.lemmas.List.{drop-take, get_or-take, length-take-le, take-take}
 use Rattle.std.proofs.lemmas.List.Edits.{take-paste}
 use Rattle.std.proofs.lemmas.Slice.{take-put_mid, take-put_mid_below}
-use Rattle.traces.specs.Blocks.{AreCutOff}
+use Rattle.traces.specs.Blocks.{AreCutOff, Gives, IsGiven, Reading}
 
 -- the octets from `start` to `end`, moved to the front
 pub moved : (row : List ℕ) (start end : ℕ) → start ≤ end → end ≤ length row
@@ -104,3 +104,48 @@ last_block (Some text) None held unread read same kept none = absurd kept
 last_block (Some text) (Some rest) held unread read same kept none =
     ap (λ (l : List ℕ). l ++ text) (sym same) ∙ sym kept ∙ ap (λ (l : List ℕ). read ++ l) none
     ∙ append-nil read
+
+-- What is still to come
+
+-- these lines, a line feed, and more
+pub more_behind : (before lines t : List ℕ) → (before ++ (lines ++ 10 ∷ [])) ++ t
+    ≡ before ++ (lines ++ 10 ∷ t)
+more_behind before lines t = append_assoc before (lines ++ 10 ∷ []) t
+    ∙ ap (λ (l : List ℕ). before ++ l) (append_assoc lines (10 ∷ []) t)
+
+-- a reader gives some text
+pub gives_some : (known : Option (List ℕ)) → (t : List ℕ) × Gives known t
+gives_some None = ([], tt)
+gives_some (Some text) = (text, refl)
+
+on_cut : (coming later : Option (List ℕ)) (lines t : List ℕ)
+    → IfSome coming (λ text. AreCutOff text lines false later)
+    → Gives later t → Gives coming (lines ++ 10 ∷ t)
+on_cut None later lines t cut is = tt
+on_cut (Some text) None lines t cut is = absurd cut
+on_cut (Some text) (Some rest) lines t cut is = cut ∙ ap (λ (l : List ℕ). lines ++ 10 ∷ l) is
+
+last_cut : (coming later : Option (List ℕ)) (lines : List ℕ)
+    → IfSome coming (λ text. AreCutOff text lines true later)
+    → Gives coming lines
+last_cut None later lines cut = tt
+last_cut (Some text) later lines cut = cut
+
+-- of a block with these lines
+module _ (block : Reading) (lines : List ℕ) (coming : Option (List ℕ)) (same : lines ≡ block.lines)
+    (cut : IfSome coming (λ text. IsGiven text block)) where
+  pub cut_as : (over : Bool) → block.is_over ≡ over
+      → IfSome coming (λ text. AreCutOff text lines over block.coming)
+  cut_as over is = subst (λ (o : Bool). IfSome coming (λ text. AreCutOff text lines o block.coming))
+      is
+      (subst (λ (l : List ℕ). IfSome coming (λ text. AreCutOff text l block.is_over block.coming))
+      (sym same) cut)
+
+  -- where it isn't the last, a line feed stands before what is still to come
+  pub gives_on : block.is_over ≡ false → (t : List ℕ) → Gives block.coming t
+      → Gives coming (lines ++ 10 ∷ t)
+  gives_on goes t is = on_cut coming block.coming lines t (cut_as false goes) is
+
+  -- the last one is all that was still to come
+  pub gives_last : block.is_over ≡ true → Gives coming lines
+  gives_last over = last_cut coming block.coming lines (cut_as true over)
