@@ -4,7 +4,7 @@ use Rattle.std.proofs.Common.{take, drop, get_or, List, [], ◌∷◌, ◌++◌,
 use Rattle.std.proofs.Common.{Bor, refl, ap, sym, ◌∙◌, subst, append_assoc, arith}
 use Rattle.memchr.specs.Find.{IsFirstByte, IsLastByte, is_byte}
 use Rattle.std.proofs.Math.Seq.{split_at}
-use Rattle.std.proofs.lemmas.Bool.{eqb-true}
+use Rattle.std.proofs.lemmas.Bool.{eqb-true, false_from_ne_true}
 use Rattle.std.proofs.lemmas.List.{append-nil, get_or-drop, get_or_default, length-append}
 use Rattle.std.proofs.lemmas.List.{length-drop}
 use Rattle.std.proofs.lemmas.List.Folds.{list_any_at, list_any_none}
@@ -110,25 +110,19 @@ last_part text end h =
     omega (arith, lt, within, length-drop (suc end) text) in
     let same : get_or rest k d ≡ get_or text (suc end + k) 0 =
     get_or-drop (suc end) text k d ∙ get_or_default text (suc end + k) d 0 inside in
-    fails _ (λ is. h.0.after (suc end + k) (omega arith) inside (ap (λ x. x == 10) (sym same)
+    false_from_ne_true _ (λ is. h.0.after (suc end + k) (omega arith) inside
+    (ap (λ x. x == 10) (sym same)
     ∙ is)))) in
     sym (ap whole_lines (split_at text end 0 within ∙ ap (λ x. take end text ++ x ∷ rest) feed)
     ∙ whole_joined (take end text) rest ∙ ap (λ ls. lines_of (take end text) ++ ls) none
     ∙ append-nil (lines_of (take end text)))
-  where
-    fails : (b : Bool) → (b ≡ true → ⊥) → b ≡ false
-    fails true h = absurd (h refl)
-    fails false h = refl
 
 -- without a line feed there are none
 pub no_part : (text : List ℕ) → IsLastByte (is_byte 10) text None → whole_lines text ≡ []
 no_part text h = whole_none text text (slice_split_none (λ b. b == 10) text (λ k d lt.
-    fails _ (λ is. h k (omega arith) lt (ap (λ x. x == 10) (sym (get_or_default text k d 0 lt))
+    false_from_ne_true _
+    (λ is. h k (omega arith) lt (ap (λ x. x == 10) (sym (get_or_default text k d 0 lt))
     ∙ is))))
-  where
-    fails : (b : Bool) → (b ≡ true → ⊥) → b ≡ false
-    fails true h = absurd (h refl)
-    fails false h = refl
 
 -- Texts of whole lines
 
@@ -219,10 +213,7 @@ some_of (Some later) is = (later.now, refl)
 pub mark_found : (line : List ℕ) (found : Option ℕ) → IsFirstByte (is_byte 33) line found
     → is_some found ≡ is_cut line
 mark_found line None h = sym (list_any_none (λ b. b == 33) line (λ k d lt.
-    fails _ (λ is. h k (omega arith) lt (ap (λ x. x == 33) (sym (get_or_default line k d 0 lt))
+    false_from_ne_true _
+    (λ is. h k (omega arith) lt (ap (λ x. x == 33) (sym (get_or_default line k d 0 lt))
     ∙ is))))
-  where
-    fails : (b : Bool) → (b ≡ true → ⊥) → b ≡ false
-    fails true h = absurd (h refl)
-    fails false h = refl
 mark_found line (Some i) h = sym (list_any_at (λ b. b == 33) line i 0 h.0.high h.1)

@@ -6,7 +6,7 @@
 //! `Trace` is the gateway's port over entries: it gives a tick at moment 0 and then these, stores
 //! the log of the run, and writes the line of each action (`append_line`) to a writer. `TextPort`
 //! is the port over the text itself, or over one part of it after another (`Pause`): it stores no
-//! log, and prints the actions on a page, their `Moment` spelled once for all actions of a step
+//! log, and prints the actions (`Printout`), their `Moment` spelled once for all actions of a step
 //! (`print_action_at`). `judge` tells the first wrong line of a part. What the gateway does with
 //! the events, and with moments that go back, is its own matter. Proved: the entries are the events
 //! that the lines tell, in their order, and no line is wrong; a line that is refused is the first
@@ -36,6 +36,7 @@ mod octets;
 mod page;
 mod port;
 mod printing;
+mod printout;
 mod reading;
 mod readings;
 mod recorded;
@@ -52,6 +53,7 @@ pub use moments::Moment;
 pub use octets::{hex_digits, read_octets};
 pub use page::Page;
 pub use port::{Beginning, Trace};
+pub use printout::Printout;
 pub use reading::{TextFault, read_trace};
 pub use readings::trace_lines_by_example;
 pub use recorded::{append_event, print_event};

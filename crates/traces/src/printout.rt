@@ -4,15 +4,17 @@ ghost use Rattle.gateway.specs.Log.{Went};
 ghost use Rattle.gateway.specs.Ports.{told_by, output_of};
 ghost use Rattle.traces.specs.Actions.{line_of, lines_of_actions};
 
+use crate::actions::print_action_at;
+use crate::moments::Moment;
+use crate::page::Page;
 use gateway::{Action, History, Next};
 use std::alloc::{AllocError, Global};
 use std::marker::Model;
-use traces::{Moment, Page, print_action_at};
 
-/// The lines of a run's actions, as `traces` prints them, of which those alone are stored that
-/// weren't taken off. The log of the run is stored nowhere: only proofs know it.
+/// The lines of a run's actions, of which those alone are stored that weren't taken off. The log of
+/// the run is stored nowhere: only proofs know it.
 #[derive(Drop)]
-pub(crate) struct Printout {
+pub struct Printout {
     alloc: Global,
     history: History,
     /// The log as it was when the lines were taken off.
@@ -25,7 +27,7 @@ pub(crate) struct Printout {
 impl Model for Printout {
     ghost use Rattle.std.specs.Prelude.{◌≡◌, ◌++◌};
     ghost use Rattle.traces.specs.Actions.{lines_of_actions};
-    ghost use Rattle.sim.specs.Pages.{Printed};
+    ghost use Rattle.traces.specs.Printout.{Printed};
 
     ghost Value = { Printed };
 
@@ -41,7 +43,7 @@ impl Model for Printout {
 
 impl Printout {
     /// An empty one, of a run in which nothing came yet.
-    pub(crate) fn new(alloc: Global) -> Printout
+    pub fn new(alloc: Global) -> Printout
         ensures { result ≡ record { log = []; poured = []; lines = [] } }
     {
         Printout {
@@ -53,8 +55,15 @@ impl Printout {
         }
     }
 
+    /// The log so far.
+    pub(crate) fn log(&self) -> History
+        ensures { result.entries ≡ self.now.log }
+    {
+        self.history.again()
+    }
+
     /// An event has come, which an answer tells.
-    pub(crate) fn came(&mut self, next: &Next, buf: &[u8; 1024])
+    pub fn came(&mut self, next: &Next, buf: &[u8; 1024])
         ensures { self.new ≡ record self.old { log = told_by next.now buf.now ++ self.old.log } }
     {
         self.history = self.history.came(next, buf);
@@ -62,7 +71,7 @@ impl Printout {
 
     /// An action goes out at a moment: its line is printed. An `Err` is want of memory, and changes
     /// nothing.
-    pub(crate) fn went(&mut self, now: u64, action: &Action<'_>) -> Result<(), AllocError>
+    pub fn went(&mut self, now: u64, action: &Action<'_>) -> Result<(), AllocError>
         ensures ok { OnOk result (self.new ≡ record self.old {
           log = Went now (output_of action.now) ∷ self.old.log;
           lines = self.old.lines ++ line_of now (output_of action.now);
@@ -76,7 +85,7 @@ impl Printout {
     }
 
     /// The lines: those of the log's actions, behind those that were taken off.
-    pub(crate) fn lines(&self) -> &[u8]
+    pub fn lines(&self) -> &[u8]
         ensures value { result.now ≡ self.now.lines }
         ensures lines { lines_of_actions self.now.poured ++ self.now.lines
             ≡ lines_of_actions self.now.log }
@@ -85,7 +94,7 @@ impl Printout {
     }
 
     /// Takes all lines off, and keeps their room.
-    pub(crate) fn clear(&mut self)
+    pub fn clear(&mut self)
         ensures { self.new ≡ record self.old { poured = self.old.log; lines = [] } }
     {
         self.lines.clear();
