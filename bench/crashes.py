@@ -103,8 +103,8 @@ class Outstation(outstations.Outstation):
 class Visitor(outstations.Visitor):
     """A control centre that knows what another one before it has seen, and takes reports of many objects."""
 
-    def __init__(self, door, stations, chance, before=None, **more):
-        super().__init__(door, stations, chance, **more)
+    def __init__(self, listener, stations, chance, before=None, **more):
+        super().__init__(listener, stations, chance, **more)
         self.earlier = len(before[0]) if before else 0
         if before:
             self.connections, self.confirmed, self.sent, self.again, self.sure = copy.deepcopy(before)
@@ -160,13 +160,13 @@ class World:
         addresses = list(range(1, setting.count + 1))
         self.chance, self.folder, self.may_gap = chance, folder, "busy" in of_stations
         self.field = Field(stations or {a: Outstation(a, random.Random(chance.random()), **of_stations) for a in addresses}, chance)
-        door = ("127.0.0.1", ends.free_port())
+        listener = ("127.0.0.1", ends.free_port())
         environment = dict(os.environ, LD_PRELOAD=LIBRARY_AT, WATCHED=os.path.join(folder, "state"), COPY=os.path.join(folder, "copy"))
         self.gateway = state.Gateway(
-            setting.program, folder, self.field, door, environment=environment, answer_ms=100, silence=setting.silence, retries=10, **settings
+            setting.program, folder, self.field, listener, environment=environment, answer_ms=100, silence=setting.silence, retries=10, **settings
         )
         self.usual = environment
-        self.visitor = self.field.visitor = Visitor(door, addresses, random.Random(chance.random()), seen, **of_centre)
+        self.visitor = self.field.visitor = Visitor(listener, addresses, random.Random(chance.random()), seen, **of_centre)
 
     def live(self, actions):
         """A life that is cut in front of this action. Whether it came to that."""

@@ -97,7 +97,7 @@ address = 1
 ca = 1
 [live]
 line = "tcp:127.0.0.1:{line}"
-listen = "127.0.0.1:{door}"
+listen = "127.0.0.1:{listener}"
 """
 
 # A single point, spontaneous; and 48 integrated totals at successive addresses, which are a piece of 249 octets.
@@ -168,13 +168,13 @@ class Field(threading.Thread):
 class Centre(threading.Thread):
     """A control centre that acknowledges each eighth I frame, and counts them."""
 
-    def __init__(self, door):
+    def __init__(self, listener):
         super().__init__(daemon=True)
-        self.door, self.is_over, self.frames = door, False, 0
+        self.listener, self.is_over, self.frames = listener, False, 0
         self.start()
 
     def run(self):
-        centre = connected(self.door)
+        centre = connected(self.listener)
         centre.send(ends.START)
         acknowledged = 0
         while not self.is_over:
@@ -188,12 +188,12 @@ class Centre(threading.Thread):
         centre.stream.close()
 
 
-def connected(door):
+def connected(listener):
     """A connection to the gateway, as soon as it listens."""
     end = time.monotonic() + ends.PATIENCE
     while True:
         try:
-            return ends.Centre(ends.socket.create_connection(("127.0.0.1", door), timeout=ends.PATIENCE))
+            return ends.Centre(ends.socket.create_connection(("127.0.0.1", listener), timeout=ends.PATIENCE))
         except ConnectionRefusedError:
             if time.monotonic() > end:
                 raise
@@ -204,11 +204,11 @@ class Gateway:
     """`telegate run`, with a state in this folder or none."""
 
     def __init__(self, program, folder, field, queue=1000, state=True, environment=None, log=False, status=None):
-        self.door = ends.free_port()
+        self.listener = ends.free_port()
         self.state = os.path.join(folder, "state")
         config = os.path.join(folder, "gateway.toml")
         with open(config, "w") as file:
-            file.write(SETTINGS.format(queue=queue, line=field.port(), door=self.door))
+            file.write(SETTINGS.format(queue=queue, line=field.port(), listener=self.listener))
         kept, told = ["--state", self.state] if state else [], ["--log"] if log else []
         shown = ["--status", f"127.0.0.1:{status}"] if status else []
         self.words = [program, "run", "--redial", *kept, *told, *shown, config]
@@ -273,7 +273,7 @@ def measure_day(what, program, folder, seconds, pause, distance):
     counts = Counts(folder)
     field = Field(Each(distance), pause)
     gateway = Gateway(program, folder, field, environment=counts.environment)
-    centre = Centre(gateway.door)
+    centre = Centre(gateway.listener)
     time.sleep(2)
     before, requests, began = counts.now(), field.requests, time.monotonic()
     first = len(events(gateway.state))
@@ -301,7 +301,7 @@ def paced(program, folder, seconds, state):
     """The time of a poll, in ms, as fast as it goes."""
     field = Field(lambda n: POINT)
     gateway = Gateway(program, folder, field, state=state)
-    centre = Centre(gateway.door)
+    centre = Centre(gateway.listener)
     time.sleep(1)
     before, began = field.requests, time.monotonic()
     time.sleep(seconds)
@@ -320,11 +320,11 @@ def measure_pace(program, folder, seconds):
         print(f"pace: a poll takes {without:.3f} ms without a state, {kept:.3f} ms with one: {kept - without:.3f} ms more", flush=True)
 
 
-def look(door, is_over):
+def look(listener, is_over):
     """Asks for the page without end, and reads it."""
     while not is_over.is_set():
         try:
-            with ends.socket.create_connection(("127.0.0.1", door), timeout=1) as visitor:
+            with ends.socket.create_connection(("127.0.0.1", listener), timeout=1) as visitor:
                 visitor.sendall(b"GET / HTTP/1.1\r\nHost: gateway\r\n\r\n")
                 while visitor.recv(65536):
                     pass
@@ -356,7 +356,7 @@ def ways(program, both, folder, seconds, polls, state=False, log=False, visitors
     gateway = Gateway(program, folder, line, state=state, log=log, status=shown)
     for _ in range(visitors):
         threading.Thread(target=look, args=(shown, is_over), daemon=True).start()
-    words = [both, line.place, gateway.door, polls, int((seconds + 1) * polls)]
+    words = [both, line.place, gateway.listener, polls, int((seconds + 1) * polls)]
     told = subprocess.run(list(map(str, words)), stdout=subprocess.PIPE, check=True).stdout
     is_over.set()
     gateway.kill()
@@ -386,7 +386,7 @@ def measure_way(program, folder, seconds, polls):
 def until_started(gateway):
     """Seconds until a control centre is told that it may begin, from now, and the connection."""
     began = time.monotonic()
-    centre = connected(gateway.door)
+    centre = connected(gateway.listener)
     centre.send(ends.START)
     while ends.STARTED not in (centre.heard(0.05) or []):
         if time.monotonic() > began + ends.PATIENCE:

@@ -1,9 +1,9 @@
 /* The two ends of a live run, in one thread: an outstation that answers each poll with a report, at
  * a pace, and a control centre that acknowledges each eighth I frame.
  *
- *     way LINE DOOR POLLS REPORTS
+ *     way LINE LISTENER POLLS REPORTS
  *
- * LINE is the port at which it waits for the gateway, DOOR the one at which the gateway does, POLLS
+ * LINE is the port at which it waits for the gateway, LISTENER the one at which the gateway does, POLLS
  * the pace in polls a second. For each of so many REPORTS it prints how many microseconds passed
  * from before the call that hands the answer to the system to behind the call that gives the I
  * frame. Nothing else runs in this process, and no call of it waits but `ppoll`.

@@ -67,15 +67,15 @@ def library(folder, name, source):
 
 
 class Run:
-    """`telegate run` over settings of which [live] is still missing, with its line and its door on the loopback."""
+    """`telegate run` over settings of which [live] is still missing, with its line and its listener on the loopback."""
 
     def __init__(self, program, settings, environment=None, line_server=None):
         self.server = line_server or socket.create_server(("127.0.0.1", 0))
         self.server.settimeout(PATIENCE)
-        self.door = ("127.0.0.1", free_port())
+        self.listener = ("127.0.0.1", free_port())
         line = "tcp:{}:{}".format(*self.server.getsockname())
         with tempfile.NamedTemporaryFile("w", suffix=".toml", delete=False) as file:
-            file.write(f'{settings}[live]\nline = "{line}"\nlisten = "{self.door[0]}:{self.door[1]}"\n')
+            file.write(f'{settings}[live]\nline = "{line}"\nlisten = "{self.listener[0]}:{self.listener[1]}"\n')
         self.config = file.name
         self.process = subprocess.Popen(
             [program, "run", self.config], stdin=subprocess.DEVNULL, stderr=subprocess.PIPE, env=environment
@@ -98,7 +98,7 @@ class Run:
         end = time.monotonic() + PATIENCE
         while True:
             try:
-                return Centre(socket.create_connection(self.door, timeout=PATIENCE))
+                return Centre(socket.create_connection(self.listener, timeout=PATIENCE))
             except ConnectionRefusedError:
                 if self.process.poll() is not None or time.monotonic() > end:
                     raise

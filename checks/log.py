@@ -167,11 +167,11 @@ def replies(asdu):
 
 class Run:
     def __init__(self, program, folder, station, *flags, host="127.0.0.1", settings=SETTINGS):
-        self.door = (host, ends.free_port())
+        self.listener = (host, ends.free_port())
         config = os.path.join(folder, "live.toml")
         with open(config, "w") as file:
             place = f"tcp:127.0.0.1:{station.port}"
-            file.write(f'{settings}[live]\nline = "{place}"\nlisten = "{host}:{self.door[1]}"\n')
+            file.write(f'{settings}[live]\nline = "{place}"\nlisten = "{host}:{self.listener[1]}"\n')
         self.process = subprocess.Popen(
             [program, "run", *flags, config], stdin=subprocess.DEVNULL, stdout=subprocess.PIPE, stderr=subprocess.PIPE
         )
@@ -185,7 +185,7 @@ class Run:
         self.process.wait()
 
     def connect(self, here="127.0.0.1"):
-        return socket.create_connection(self.door, timeout=ends.PATIENCE, source_address=(here, 0))
+        return socket.create_connection(self.listener, timeout=ends.PATIENCE, source_address=(here, 0))
 
 
 def exchange(stream, octets, answer):
@@ -204,7 +204,7 @@ def a_run(count, program, folder):
             count.judge(words, found is not None, (at, log.lines, log.odd))
             at = found or at
 
-        comes("listening at 127.0.0.1:%d" % run.door[1])
+        comes("listening at 127.0.0.1:%d" % run.listener[1])
         comes("station 7 asked for its status")
         comes("line not there")
         station.begin()
@@ -511,8 +511,8 @@ def unheard(count, program, folder):
         count.judge("unheard: told once a minute", len(told) == 1, told)
 
 
-def sent_away(log):
-    """How many were sent away by the log's lines, once they count five, or no more come."""
+def refused(log):
+    """How many were refused by the log's lines, once they count five, or no more come."""
     end, told = time.monotonic() + ends.PATIENCE, 0
     while told < 5 and time.monotonic() < end:
         time.sleep(0.05)
@@ -521,24 +521,24 @@ def sent_away(log):
     return told
 
 
-def guests(count, program, folder):
+def allowed(count, program, folder):
     station = Station()
     with Run(program, folder, station, "--log", "--allow", "192.0.2.7", "--allow", "127.0.0.1") as run:
         count.judge("listening", run.log.waits("listening at") is not None, run.log.odd)
         centre = run.connect()
-        count.judge("a guest's STARTDT", exchange(centre, ends.START, ends.STARTED))
-        strangers = [run.connect("127.0.0.2") for _ in range(5)]
-        for stranger in strangers:
+        count.judge("an allowed address's STARTDT", exchange(centre, ends.START, ends.STARTED))
+        others = [run.connect("127.0.0.2") for _ in range(5)]
+        for other in others:
             try:
-                octets = stranger.recv(1)
+                octets = other.recv(1)
             except ConnectionError:
                 octets = b""
-            count.judge("a stranger is sent away", octets == b"", octets)
-        count.judge("the guest's connection stays", exchange(centre, ends.TEST, ends.TESTED))
+            count.judge("another address is refused", octets == b"", octets)
+        count.judge("the allowed connection stays", exchange(centre, ends.TEST, ends.TESTED))
         # In one line or in several, as they come within a second or not.
-        count.judge("it is told", sent_away(run.log) == len(strangers), run.log.lines)
+        count.judge("it is logged", refused(run.log) == len(others), run.log.lines)
         opened = [line for line in run.log.lines if line.startswith("connection opened")]
-        count.judge("no stranger opened one", len(opened) == 1, opened)
+        count.judge("no other address opened one", len(opened) == 1, opened)
         station.lose()
         count.judge("the line's end", run.process.wait(ends.PATIENCE) == 3, run.process.returncode)
         run.log.thread.join(ends.PATIENCE)
@@ -556,7 +556,7 @@ def troubles(count, program, folder):
             (shut, free, "line refused"),
             ("tcp:no-such-host.invalid:1", free, "name unknown"),
             ("unix:nowhere", free, "name unknown"),
-            # The door is opened first.
+            # The listener is opened first.
             (shut, here, "port in use"),
             (f"tcp:{here}", here, "port in use"),
         ]
@@ -573,4 +573,4 @@ def troubles(count, program, folder):
 
 
 if __name__ == "__main__":
-    frame.main(a_run, held, mute, fickle, commands, skipped, late, unheard, guests, troubles, second, closed)
+    frame.main(a_run, held, mute, fickle, commands, skipped, late, unheard, allowed, troubles, second, closed)

@@ -142,9 +142,9 @@ class Visitor(threading.Thread):
     For each connection it has the reports that came, as (station, number). `sure` are those that it knows to be acknowledged: the
     gateway has answered a test that was sent behind the acknowledgement."""
 
-    def __init__(self, door, stations, chance, *, commands=0.1, stays=0.97):
+    def __init__(self, listener, stations, chance, *, commands=0.1, stays=0.97):
         super().__init__(daemon=True)
-        self.door = door
+        self.listener = listener
         self.stations = stations
         self.chance = chance
         self.commands = commands
@@ -160,7 +160,7 @@ class Visitor(threading.Thread):
     def run(self):
         while not self.is_over:
             try:
-                stream = socket.create_connection(self.door, timeout=1)
+                stream = socket.create_connection(self.listener, timeout=1)
             except OSError:
                 time.sleep(0.01)
                 continue

@@ -102,8 +102,8 @@ ROWS = [
     ("check .", "", "cannot read .\n", 3),
     ("check --live no-line.toml", "ok\n", "", 0),
     ("check --live good.toml", "", "config: live.line\n", 1),
-    ("check --live no-door.toml", "", "config: live.listen\n", 1),
-    ("check no-door.toml", "ok\n", "", 0),
+    ("check --live no-listener.toml", "", "config: live.listen\n", 1),
+    ("check no-listener.toml", "ok\n", "", 0),
     ("check --live far.toml", "ok\n", FAR, 0),
     ("check far.toml", "ok\n", "", 0),
     ("check --explain good.toml", "ok\n", "", 0),
@@ -185,7 +185,7 @@ ROWS = [
     ("stations no-line.toml nowhere", "", "cannot read nowhere\n", 3),
     ("stations nowhere elsewhere", "", "cannot read nowhere\n", 3),
     ("run good.toml", "", "config: live.line\n", 1),
-    ("run no-door.toml", "", "config: live.listen\n", 1),
+    ("run no-listener.toml", "", "config: live.listen\n", 1),
     # Each flag of a live run, in front of its file and behind it.
     ("run --redial good.toml", "", "config: live.line\n", 1),
     ("run good.toml --redial", "", "config: live.line\n", 1),
@@ -283,7 +283,7 @@ FILES = {
     "one.script": "turns 1\n",
     "wrong.toml": CONFIG.replace("link = 1", "link = 3"),
     "far.toml": CONFIG + '[live]\nline = "tcp:192.0.2.7:4001"\nlisten = "127.0.0.1:2404"\n',
-    "no-door.toml": CONFIG + '[live]\nline = "unix:nowhere"\n',
+    "no-listener.toml": CONFIG + '[live]\nline = "unix:nowhere"\n',
     "good.site": 'allow = ["192.0.2.7", "::1"]\nstate = "kept"\nlog = true\n[line]\nname = "North ring"\n',
     "wrong.site": 'status = "nowhere"\ncolour = 1\n',
     "unknown.site": '[line]\ncolour = 1\n',
@@ -372,7 +372,7 @@ def pipes(count, program, folder):
 
 
 def statuses(count, program, folder):
-    """What a door answers is printed, and its judgement is the exit status."""
+    """What a listener answers is printed, and its judgement is the exit status."""
     head = b"HTTP/1.1 200 OK\r\nContent-Type: text/plain\r\nConnection: close\r\n\r\n"
     rows = (
         ("", {b"/status.txt": head + b"OK: 1 of 1\nx\n"}, "OK: 1 of 1\nx\n", "", 0),
@@ -385,19 +385,19 @@ def statuses(count, program, folder):
         ("", {b"/status.txt": b""}, "", None, 3),
     )
     for flag, answers, out, err, status in rows:
-        with socket.create_server(("127.0.0.1", 0)) as door:
-            place = f"127.0.0.1:{door.getsockname()[1]}"
+        with socket.create_server(("127.0.0.1", 0)) as listener:
+            place = f"127.0.0.1:{listener.getsockname()[1]}"
             run = subprocess.Popen([program, *f"status {flag}{place}".split()], stdout=subprocess.PIPE, stderr=subprocess.PIPE)
-            door.settimeout(SECONDS)
+            listener.settimeout(SECONDS)
             for _ in answers:
-                visitor, _ = door.accept()
+                visitor, _ = listener.accept()
                 with visitor:
                     asked = visitor.recv(4096).split(b" ")[1]
                     visitor.sendall(answers.get(asked, b""))
             told, fault = run.communicate(timeout=SECONDS)
             err = f"no answer from {place}\n" if err is None else err
             is_right = (text(told), text(fault), run.returncode) == (out, err, status)
-            count.judge(f"status {flag}at a door with {answers}", is_right, (told, fault, run.returncode))
+            count.judge(f"status {flag}at a listener with {answers}", is_right, (told, fault, run.returncode))
 
 
 def failing_outputs(count, program, folder):
@@ -511,8 +511,8 @@ def looks(count, program, folder):
 
 def free_place():
     """A port that was free a moment ago: settings name no port 0."""
-    with socket.create_server(("127.0.0.1", 0)) as door:
-        return "127.0.0.1:%d" % door.getsockname()[1]
+    with socket.create_server(("127.0.0.1", 0)) as listener:
+        return "127.0.0.1:%d" % listener.getsockname()[1]
 
 
 def live_runs(count, program, folder):
@@ -531,11 +531,11 @@ def live_runs(count, program, folder):
         )
         heard = b""
         try:
-            wire, _ = line.accept()
-            with wire:
-                wire.settimeout(SECONDS)
+            stream, _ = line.accept()
+            with stream:
+                stream.settimeout(SECONDS)
                 while len(heard) < 5:
-                    octets = wire.recv(64)
+                    octets = stream.recv(64)
                     if not octets:
                         break
                     heard += octets
@@ -549,7 +549,7 @@ def live_runs(count, program, folder):
     count.judge("a live run asks its line", heard[:5] == request, heard)
     is_right = run.returncode == 3 and out == b"" and err == b"device failed\n"
     count.judge("a live run ends with its line", is_right, (run.returncode, out, err))
-    # The line can't be reached, though the door could be had; and the door is another's.
+    # The line can't be reached, though the listener could be had; and the listener is another's.
     with open(os.path.join(folder, "far.toml"), "w") as file:
         file.write(f'{CONFIG}[live]\nline = "unix:nowhere"\nlisten = "{free_place()}"\n')
     done = ran([program, "run", "far.toml"], folder)
@@ -580,12 +580,12 @@ def redialled_runs(count, program, folder):
         )
         try:
             for turn in ("first", "second", "third"):
-                wire, _ = line.accept()
-                with wire:
-                    wire.settimeout(SECONDS)
+                stream, _ = line.accept()
+                with stream:
+                    stream.settimeout(SECONDS)
                     heard = b""
                     while len(heard) < 5:
-                        octets = wire.recv(64)
+                        octets = stream.recv(64)
                         if not octets:
                             break
                         heard += octets

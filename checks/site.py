@@ -3,9 +3,9 @@
 
     checks/site.py [--program FILE] [--only NAME]
 
-A run takes its log, its state, its status door and who may connect from the file alone. The names of the line and of a station stand at
+A run takes its log, its state, its status listener and who may connect from the file alone. The names of the line and of a station stand at
 the end of the lines of the log, on the status page, in the JSON, the table and the metrics; a station without a name has none there. The
-page tells the wall clock. What words say wins: another directory, another guest. A file that gives nothing changes nothing. With
+page tells the wall clock. What words say wins: another directory, another address. A file that gives nothing changes nothing. With
 --log-severity, or the key, each line begins with its severity as docs/TEXTS.md has it. All of it is on the loopback.
 
 Of each fault `check --site` and `run --site` tell the same line, before the settings are read, and `check --explain` says where it stands,
@@ -98,12 +98,12 @@ class Run:
     def __init__(self, program, folder, site, *words):
         self.is_silent = False
         self.server = socket.create_server(("127.0.0.1", 0))
-        self.door = ("127.0.0.1", ends.free_port())
+        self.listener = ("127.0.0.1", ends.free_port())
         self.lines = []
         config, named = os.path.join(folder, "gateway.toml"), os.path.join(folder, "site.toml")
         line = "tcp:{}:{}".format(*self.server.getsockname())
         with open(config, "w") as file:
-            file.write(f'{SETTINGS}[live]\nline = "{line}"\nlisten = "{self.door[0]}:{self.door[1]}"\n')
+            file.write(f'{SETTINGS}[live]\nline = "{line}"\nlisten = "{self.listener[0]}:{self.listener[1]}"\n')
         with open(named, "w") as file:
             file.write(site)
         self.process = subprocess.Popen(
@@ -149,18 +149,18 @@ class Run:
         self.server.close()
 
 
-def get(door, path):
-    with urllib.request.urlopen(f"http://{door}{path}", timeout=ends.PATIENCE) as answer:
+def get(listener, path):
+    with urllib.request.urlopen(f"http://{listener}{path}", timeout=ends.PATIENCE) as answer:
         return answer.read().decode()
 
 
-def let_in(run, address):
+def is_allowed(run, address):
     """Whether a control centre at this address of the loopback is let in: its STARTDT is confirmed. A run
     that has just begun may not listen yet."""
     end = time.monotonic() + ends.PATIENCE
     while True:
         try:
-            with socket.create_connection(run.door, timeout=ends.PATIENCE, source_address=(address, 0)) as centre:
+            with socket.create_connection(run.listener, timeout=ends.PATIENCE, source_address=(address, 0)) as centre:
                 centre.sendall(ends.START)
                 return centre.recv(6) == ends.STARTED
         except ConnectionRefusedError:
@@ -185,8 +185,8 @@ def named(count, program, folder):
         line = run.waits("listening at")
         count.judge("another line has no name", line and not line.endswith("]"), run.lines)
         count.judge("its state is kept", run.waits("state: begins anew") and os.path.exists(os.path.join(kept, "lock")), run.lines)
-        count.judge("its guest is let in", let_in(run, "127.0.0.2"), run.lines)
-        count.judge("another one isn't", not let_in(run, "127.0.0.1") and run.waits("sent away, the last at 127.0.0.1"), run.lines)
+        count.judge("its address is allowed", is_allowed(run, "127.0.0.2"), run.lines)
+        count.judge("another one isn't", not is_allowed(run, "127.0.0.1") and run.waits("sent away, the last at 127.0.0.1"), run.lines)
         end = time.monotonic() + 10
         while (told := json.loads(get(status, "/status.json")))["wall_ms"] is None and time.monotonic() < end:
             time.sleep(0.1)
@@ -216,18 +216,18 @@ def words_win(count, program, folder):
         count.judge("a flag of the words", up and up.endswith(" station 7 up"), run.lines)
         count.judge("the directory of the words", os.path.exists(os.path.join(here, "lock")), run.lines)
         count.judge("and no other", not os.path.exists(there), run.lines)
-        count.judge("guests of the words", let_in(run, "127.0.0.1") and let_in(run, "127.0.0.3"), run.lines)
-        count.judge("and no other", not let_in(run, "127.0.0.2"), run.lines)
+        count.judge("the addresses of the words", is_allowed(run, "127.0.0.1") and is_allowed(run, "127.0.0.3"), run.lines)
+        count.judge("and no other", not is_allowed(run, "127.0.0.2"), run.lines)
 
 
 def nothing_said(count, program, folder):
-    """An empty file changes nothing: no log, no state, and anyone comes in."""
+    """An empty file changes nothing: no log, no state, and anyone may connect."""
     with Run(program, folder, "") as run:
-        count.judge("anyone comes in", let_in(run, "127.0.0.1") and let_in(run, "127.0.0.4"), run.lines)
+        count.judge("anyone may connect", is_allowed(run, "127.0.0.1") and is_allowed(run, "127.0.0.4"), run.lines)
         time.sleep(0.5)
         count.judge("no log", run.lines == [] and run.process.poll() is None, run.lines)
     with Run(program, folder, "allow = []\nlog = true\n") as run:
-        count.judge("an empty list lets nobody in", run.waits("station 7 up") and not let_in(run, "127.0.0.1"), run.lines)
+        count.judge("an empty list allows nobody", run.waits("station 7 up") and not is_allowed(run, "127.0.0.1"), run.lines)
 
 
 def recorded(count, program, folder):
@@ -243,7 +243,7 @@ def severities(count, program, folder):
         with Run(program, folder, site, *words) as run:
             up = run.waits("station 7 up")
             count.judge("a station is up", up, run.lines)
-            let_in(run, "127.0.0.1")
+            is_allowed(run, "127.0.0.1")
             run.waits("connection cut")
             run.is_silent = True
             run.waits("station 7 doesn't answer")

@@ -17,7 +17,7 @@ seconds:
 - parted:     the system takes only a part of what the gateway writes to the control centre, now
               and then
 - redialled:  the line is cut again and again, if the program knows `run --redial`
-- crowded:    more connections than a door takes at once, and a process with too few descriptors
+- crowded:    more connections than a listener takes at once, and a process with too few descriptors
 
 No stall may cut the control centre's connection. No report may be missing or come twice. (What was
 sent on a connection and not acknowledged before its end comes again on the next one and counts
@@ -196,7 +196,7 @@ class Run:
         self.config.write(CONFIG.format(station.port, self.port))
         self.config.flush()
         station.start()
-        more = {"LD_PRELOAD": library, "DOOR": str(self.port)} if library else {}
+        more = {"LD_PRELOAD": library, "LISTENER": str(self.port)} if library else {}
         self.process = subprocess.Popen([program, "run", *words, self.config.name], stderr=subprocess.PIPE, env={**os.environ, **more})
 
     def stop(self, seconds):
@@ -335,7 +335,7 @@ static size_t part(int file, size_t count) {
     struct sockaddr_in here;
     socklen_t size = sizeof here;
     if (count < 2 || getsockname(file, (struct sockaddr *)&here, &size) || here.sin_family != AF_INET) return count;
-    if (ntohs(here.sin_port) != atoi(getenv("DOOR"))) return count;
+    if (ntohs(here.sin_port) != atoi(getenv("LISTENER"))) return count;
     // Of twenty-one calls three take a part: one by itself, whose rest is taken by the next, and two that follow each other.
     int turn = calls++ % 21;
     return turn == 5 || turn == 12 || turn == 13 ? count / 2 : count;

@@ -173,7 +173,7 @@ k = {k}
 w = 1
 {stations}[live]
 line = "{line}"
-listen = "{door[0]}:{door[1]}"
+listen = "{listener[0]}:{listener[1]}"
 """
 
 # Where no answer is lost, the time to answer is never up, however busy the machine is.
@@ -196,8 +196,8 @@ def until(holds, seconds=PATIENCE):
 class Gateway:
     """`telegate run --state` over settings, which is started, killed and started again."""
 
-    def __init__(self, program, folder, field, door, *, environment=None, flags=(), **settings):
-        self.program, self.folder, self.field, self.door = program, folder, field, door
+    def __init__(self, program, folder, field, listener, *, environment=None, flags=(), **settings):
+        self.program, self.folder, self.field, self.listener = program, folder, field, listener
         self.config = os.path.join(folder, "gateway.toml")
         self.state = os.path.join(folder, "state")
         self.environment, self.flags, self.process = environment, list(flags), None
@@ -209,7 +209,7 @@ class Gateway:
         listed = stations or [(address, address, "") for address in self.field.stations]
         tables = "".join(f"[[station]]\naddress = {a}\nca = {ca}\n{more}" for a, ca, more in listed)
         with open(self.config, "w") as file:
-            file.write(SETTINGS.format(**{**USUAL, **settings}, stations=tables, line=self.field.place(), door=self.door))
+            file.write(SETTINGS.format(**{**USUAL, **settings}, stations=tables, line=self.field.place(), listener=self.listener))
 
     def start(self, **more):
         words = [self.program, "run", "--redial", "--log", "--state", self.state, *self.flags, self.config]
@@ -293,11 +293,11 @@ class Lives:
         station_chance, visit_chance, self.kill_chance, self.report_chance = chances(seed)
         self.folder = folder
         self.field = Field([1, 2, 3], station_chance, 0.05)
-        door = ("127.0.0.1", ends.free_port())
+        listener = ("127.0.0.1", ends.free_port())
         # Here answers are lost, and each of them costs this time.
         settings = {"answer_ms": 100, **settings}
-        self.gateway = Gateway(program, folder, self.field, door, environment=shadowed(folder), **settings)
-        self.visitor = Visitor(door, [1, 2, 3], visit_chance, commands=commands)
+        self.gateway = Gateway(program, folder, self.field, listener, environment=shadowed(folder), **settings)
+        self.visitor = Visitor(listener, [1, 2, 3], visit_chance, commands=commands)
         self.count = 0
 
     def taken(self):
@@ -381,8 +381,8 @@ def ended_at_each_call(count, program, name, calls, seed, **settings):
 def quiet(program, folder, *, seed=1, loss=0, addresses=(1, 2), environment=None, flags=(), **settings):
     """A gateway over outstations that lose nothing, not started yet."""
     field = Field(list(addresses), random.Random(seed), loss)
-    door = ("127.0.0.1", ends.free_port())
-    return Gateway(program, folder, field, door, environment=environment, flags=flags, **settings)
+    listener = ("127.0.0.1", ends.free_port())
+    return Gateway(program, folder, field, listener, environment=environment, flags=flags, **settings)
 
 
 def queue_up(gateway, reports):
@@ -406,7 +406,7 @@ def drained(gateway, wanted=None):
     else all that the stations gave."""
     stations = gateway.field.stations
     wanted = wanted or {(address, number) for address, station in stations.items() for number in range(1, station.given + 1)}
-    visitor = Visitor(gateway.door, [], random.Random(1), commands=0, stays=1)
+    visitor = Visitor(gateway.listener, [], random.Random(1), commands=0, stays=1)
     until(lambda: wanted <= visitor.sure)
     time.sleep(0.2)
     visitor.is_over = True
@@ -596,7 +596,7 @@ def a_command_at_a_restart(count, program):
         gateway.waits("listening")
         queue_up(gateway, 2)
         gateway.field.mute_at_command = True
-        visitor = Visitor(gateway.door, [1], random.Random(1), commands=1, stays=1)
+        visitor = Visitor(gateway.listener, [1], random.Random(1), commands=1, stays=1)
         until(lambda: gateway.field.silent)
         visitor.commands = 0
         time.sleep(0.5)

@@ -31,7 +31,7 @@ ioa = 2
 answer_ms = {answer_ms}
 [live]
 line = "{line}"
-listen = "127.0.0.1:{door}"
+listen = "127.0.0.1:{listener}"
 [[station]]
 address = 1
 ca = 1
@@ -49,10 +49,10 @@ class Played:
     """`telegate stations` at a place, over a script."""
 
     def __init__(self, program, folder, place, script, answer_ms=200, more=SECOND):
-        self.place, self.door = place, ends.free_port()
+        self.place, self.listener = place, ends.free_port()
         self.config, named = os.path.join(folder, "config.toml"), os.path.join(folder, "one.script")
         with open(self.config, "w") as file:
-            file.write(SETTINGS.format(line=place, door=self.door, answer_ms=answer_ms) + more)
+            file.write(SETTINGS.format(line=place, listener=self.listener, answer_ms=answer_ms) + more)
         with open(named, "w") as file:
             file.write(script)
         self.process = subprocess.Popen(
@@ -235,7 +235,7 @@ def late_to_a_gateway(count, program, folder):
                     [program, "run", "--record", played.config], stdin=subprocess.DEVNULL, stdout=file, stderr=subprocess.PIPE
                 )
             try:
-                centre = connected(run, played.door)
+                centre = connected(run, played.listener)
                 centre.send(ends.START)
                 count.compare(f"answer_ms {answer_ms}: the report", heard(centre, 1)[:1], SENT[:1])
                 time.sleep(1)
@@ -264,7 +264,7 @@ def with_a_gateway(count, program, folder):
         played.met().close()
         run = subprocess.Popen([program, "run", played.config], stdin=subprocess.DEVNULL, stderr=subprocess.PIPE)
         try:
-            centre = connected(run, played.door)
+            centre = connected(run, played.listener)
             centre.send(ends.START)
             asdus = heard(centre, 2)
             count.compare("reports", sorted(asdus), sorted(SENT))

@@ -1,12 +1,12 @@
 #!/usr/bin/env python3
-"""Looks at the status door of `telegate run --status`, and judges each page, what visitors may do,
+"""Looks at the status listener of `telegate run --status`, and judges each page, what visitors may do,
 and what they cost.
 
-    checks/status.py [--program FILE] [--only NAME] [--door HOST:PORT]
+    checks/status.py [--program FILE] [--only NAME] [--listener HOST:PORT]
 
 - Outstations play behind a line while pages are fetched. Each page's numbers have to be those of
   what the stations did.
-- Then comes the door itself: any path, any method, garbage, octets one at a time, a request of 10
+- Then comes the listener itself: any path, any method, garbage, octets one at a time, a request of 10
   KB, a hundred connections at once, readers that read nothing, and readers that read slowly.
 - Settings of 32 stations fit a page.
 - Python reads the JSON and the HTML. Prometheus' own `promtool` reads the metrics. Headless
@@ -14,7 +14,7 @@ and what they cost.
   two are skipped if Debian's package isn't installed.
 - With a flood of visitors a station is polled at least 0.9 times as often as without.
 
-With --door the script judges only the door, of whatever listens there. All of it is on the
+With --listener the script judges only the listener, of whatever listens there. All of it is on the
 loopback.
 """
 import html.parser
@@ -67,17 +67,17 @@ def all_of(stream):
     return octets
 
 
-def ask(door, request, pause=0.0):
+def ask(listener, request, pause=0.0):
     """The answer to these octets, which go out at once, or one at a time with a pause."""
-    with socket.create_connection(door, timeout=ends.PATIENCE) as stream:
+    with socket.create_connection(listener, timeout=ends.PATIENCE) as stream:
         for piece in [request] if not pause else [request[i : i + 1] for i in range(len(request))]:
             stream.sendall(piece)
             time.sleep(pause)
         return Answer(all_of(stream))
 
 
-def get(door, path, method="GET", version="HTTP/1.1"):
-    return ask(door, f"{method} {path} {version}\r\nHost: {door[0]}\r\n\r\n".encode())
+def get(listener, path, method="GET", version="HTTP/1.1"):
+    return ask(listener, f"{method} {path} {version}\r\nHost: {listener[0]}\r\n\r\n".encode())
 
 
 class Page(html.parser.HTMLParser):
@@ -120,50 +120,50 @@ def metrics_of(text):
     return samples
 
 
-def pages(count, door):
+def pages(count, listener):
     """The four pages, as they are for whoever asks."""
     for path, kind in PATHS.items():
         for version in ("HTTP/1.0", "HTTP/1.1"):
-            answer = get(door, path, version=version)
+            answer = get(listener, path, version=version)
             name = f"GET {path} {version}"
             count.judge(name, answer.status == "HTTP/1.1 200 OK", answer.status)
             count.judge(f"{name}: type", answer.fields.get("Content-Type") == kind, answer.fields)
             count.judge(f"{name}: length", int(answer.fields.get("Content-Length", -1)) == len(answer.body), answer.fields)
             count.judge(f"{name}: close", answer.fields.get("Connection") == "close", answer.fields)
             count.judge(f"{name}: no-store", answer.fields.get("Cache-Control") == "no-store", answer.fields)
-        head = get(door, path, "HEAD")
+        head = get(listener, path, "HEAD")
         count.judge(f"HEAD {path}", head.code() == 200 and not head.body, head.octets)
         count.judge(f"HEAD {path}: length", abs(int(head.fields["Content-Length"]) - len(answer.body)) < 100, head.fields)
-        with_query = get(door, path + "?a=b&c")
+        with_query = get(listener, path + "?a=b&c")
         count.judge(f"{path} with a query", with_query.code() == 200, with_query.status)
-    stations = json.loads(get(door, "/status.json").body)["stations"]
-    page = Page(get(door, "/").body.decode())
+    stations = json.loads(get(listener, "/status.json").body)["stations"]
+    page = Page(get(listener, "/").body.decode())
     count.judge("HTML: each element is closed", not page.open and not page.odd, (page.open, page.odd))
     count.judge("HTML: no script, nothing from elsewhere", "script" not in page.tags and not page.links, (page.tags, page.links))
     names = [row[0] for row in page.rows if len(row) == 10][1:]
     count.judge("HTML: the names", names == [station["name"] for station in stations], names)
-    samples = metrics_of(get(door, "/metrics").body.decode())
+    samples = metrics_of(get(listener, "/metrics").body.decode())
     for station in stations:
         label = '{station="%d"}' % station["address"]
         right = samples.get("telegate_station_up" + label) == (station["standing"] == "up")
         count.judge(f"metrics: station {station['address']} up", right, samples)
-    table = get(door, "/status.txt").body.decode()
+    table = get(listener, "/status.txt").body.decode()
     count.judge("table: its first word", table.split(":")[0] in ("OK", "WARNING", "CRITICAL"), table[:80])
     rows = [line for line in table.splitlines() if re.match(r" *\d+ +\d+  ", line)]
     count.judge("table: a row a station", len(rows) == len(stations), table)
 
 
-def promtool(count, door):
+def promtool(count, listener):
     tool = shutil.which("promtool")
     if tool is None:
         print("skipped: promtool isn't there (Debian's package prometheus)")
         return
-    text = get(door, "/metrics").body
+    text = get(listener, "/metrics").body
     judged = subprocess.run([tool, "check", "metrics"], input=text, capture_output=True)
     count.judge("promtool", judged.returncode == 0 and not judged.stderr, (judged.returncode, judged.stderr.decode()))
 
 
-def chromium(count, door, folder):
+def chromium(count, listener, folder):
     program = shutil.which("chromium") or shutil.which("chromium-browser")
     if program is None:
         print("skipped: chromium isn't there (Debian's package chromium)")
@@ -175,19 +175,19 @@ def chromium(count, door, folder):
     ):
         file = os.path.join(folder, f"status-{name}.png")
         command = [program, "--headless", "--no-sandbox", "--disable-gpu", f"--user-data-dir={folder}/chromium", f"--window-size={size}", *flags]
-        shown = subprocess.run([*command, f"--screenshot={file}", f"http://{door[0]}:{door[1]}/"], capture_output=True, timeout=120)
+        shown = subprocess.run([*command, f"--screenshot={file}", f"http://{listener[0]}:{listener[1]}/"], capture_output=True, timeout=120)
         is_there = os.path.exists(file) and os.path.getsize(file) > 5000
         count.judge(f"Chromium, {name}", is_there, (shown.returncode, shown.stderr.decode()[-300:]))
         print(f"{name}: {file}")
 
 
-def refusals(count, door):
+def refusals(count, listener):
     """What is no look at a page."""
     for path in ("/status", "/status.json/", "//", "/../etc/passwd", "*", "/%2e"):
-        answer = get(door, path)
+        answer = get(listener, path)
         count.judge(f"GET {path}", answer.code() == 404, answer.status)
     for method in ("POST", "PUT", "DELETE", "OPTIONS", "TRACE", "get"):
-        answer = get(door, "/", method)
+        answer = get(listener, "/", method)
         count.judge(method, answer.code() == 405 and answer.fields.get("Allow") == "GET, HEAD", (answer.status, answer.fields))
     for name, octets in (
         ("an APDU", ends.START),
@@ -198,26 +198,26 @@ def refusals(count, door):
         ("HTTP/2", b"PRI * HTTP/2.0\r\n\r\nSM\r\n\r\n"),
         ("a name with a space", b"GET / HTTP/1.1\r\nHo st: a\r\n\r\n"),
     ):
-        answer = ask(door, octets)
+        answer = ask(listener, octets)
         count.judge(name, answer.code() == 400, answer.octets[:80])
     chance = random.Random(44)
     for _ in range(50):
         octets = bytes([0x80 + chance.randrange(128)]) + chance.randbytes(chance.randrange(1, 2000))
-        count.judge("garbage", ask(door, octets).code() == 400, octets)
+        count.judge("garbage", ask(listener, octets).code() == 400, octets)
     long = b"GET / HTTP/1.1\r\n" + b"X-Long: " + b"a" * 10_000 + b"\r\n\r\n"
-    count.judge("a request of 10 KB", ask(door, long).code() == 431, ask(door, long).status)
+    count.judge("a request of 10 KB", ask(listener, long).code() == 431, ask(listener, long).status)
     fits = b"GET / HTTP/1.1\r\nX-Long: " + b"a" * (8192 - 28) + b"\r\n\r\n"
-    count.judge("a request of 8,192 octets", len(fits) == 8192 and ask(door, fits).code() == 200, len(fits))
-    count.judge("one of 8,193 octets", ask(door, fits.replace(b"a", b"aa", 1)).code() == 431, "")
+    count.judge("a request of 8,192 octets", len(fits) == 8192 and ask(listener, fits).code() == 200, len(fits))
+    count.judge("one of 8,193 octets", ask(listener, fits.replace(b"a", b"aa", 1)).code() == 431, "")
     many = b"GET / HTTP/1.1\r\n" + b"".join(b"X-%d: a\r\n" % i for i in range(65)) + b"\r\n"
-    count.judge("65 header fields", ask(door, many).code() == 431, ask(door, many).status)
-    slow = ask(door, b"GET /status.txt HTTP/1.1\r\n\r\n", pause=0.01)
+    count.judge("65 header fields", ask(listener, many).code() == 431, ask(listener, many).status)
+    slow = ask(listener, b"GET /status.txt HTTP/1.1\r\n\r\n", pause=0.01)
     count.judge("an octet at a time", slow.code() == 200, slow.status)
 
 
-def visitors(count, door):
+def visitors(count, listener):
     """Slow readers, readers that read nothing, those who say nothing, and many at once."""
-    with socket.create_connection(door, timeout=ends.PATIENCE) as stream:
+    with socket.create_connection(listener, timeout=ends.PATIENCE) as stream:
         stream.setsockopt(socket.SOL_SOCKET, socket.SO_RCVBUF, 2048)
         stream.sendall(b"GET / HTTP/1.1\r\n\r\n")
         octets = b""
@@ -227,21 +227,21 @@ def visitors(count, door):
     slow = Answer(octets)
     count.judge("a slow reader", slow.code() == 200 and len(slow.body) == int(slow.fields["Content-Length"]), len(octets))
     began = time.monotonic()
-    with socket.create_connection(door, timeout=ends.PATIENCE) as mute:
+    with socket.create_connection(listener, timeout=ends.PATIENCE) as mute:
         count.judge("who says nothing is sent away", all_of(mute) == b"", "")
     passed = time.monotonic() - began
     count.judge("after two seconds", 1.5 < passed < 4, passed)
-    sitting = [socket.create_connection(door, timeout=ends.PATIENCE) for _ in range(4)]
+    sitting = [socket.create_connection(listener, timeout=ends.PATIENCE) for _ in range(4)]
     time.sleep(0.3)
     began = time.monotonic()
-    fifth = ask_or_none(door)
+    fifth = ask_or_none(listener)
     count.judge("a fifth is closed at once", not fifth and time.monotonic() - began < 1, fifth)
     time.sleep(2.5)
-    count.judge("the seats are free again", get(door, "/status.txt").code() == 200, "")
+    count.judge("the seats are free again", get(listener, "/status.txt").code() == 200, "")
     for stream in sitting:
         stream.close()
     answers = []
-    threads = [threading.Thread(target=lambda: answers.append(ask_or_none(door))) for _ in range(100)]
+    threads = [threading.Thread(target=lambda: answers.append(ask_or_none(listener))) for _ in range(100)]
     for thread in threads:
         thread.start()
     for thread in threads:
@@ -250,12 +250,12 @@ def visitors(count, door):
     count.judge("of a hundred at once some are served", len(whole) >= 4, len(whole))
     count.judge("and the others get nothing", all(not a or a in whole for a in answers), [a[:60] for a in answers if a and a not in whole])
     time.sleep(2.5)
-    count.judge("and it goes on", get(door, "/").code() == 200, "")
+    count.judge("and it goes on", get(listener, "/").code() == 200, "")
 
 
-def ask_or_none(door):
+def ask_or_none(listener):
     try:
-        with socket.create_connection(door, timeout=ends.PATIENCE) as stream:
+        with socket.create_connection(listener, timeout=ends.PATIENCE) as stream:
             stream.sendall(b"GET /status.json HTTP/1.1\r\n\r\n")
             return all_of(stream)
     except OSError:
@@ -295,7 +295,7 @@ class Run:
     """`telegate run --status` over stations."""
 
     def __init__(self, program, folder, stations, *flags, more=""):
-        self.door = ("127.0.0.1", ends.free_port())
+        self.listener = ("127.0.0.1", ends.free_port())
         self.status = ("127.0.0.1", ends.free_port())
         config = os.path.join(folder, "status.toml")
         with open(config, "w") as file:
@@ -303,7 +303,7 @@ class Run:
             for address in stations.stations:
                 file.write(f"[[station]]\naddress = {address}\nca = {address}\n")
             port = stations.server.getsockname()[1]
-            file.write(f'[live]\nline = "tcp:127.0.0.1:{port}"\nlisten = "127.0.0.1:{self.door[1]}"\n')
+            file.write(f'[live]\nline = "tcp:127.0.0.1:{port}"\nlisten = "127.0.0.1:{self.listener[1]}"\n')
         command = [program, "run", "--redial", "--status", f"127.0.0.1:{self.status[1]}", *flags, config]
         self.process = subprocess.Popen(command, stdin=subprocess.DEVNULL, stderr=subprocess.PIPE)
 
@@ -315,7 +315,7 @@ class Run:
                 return self
             except OSError:
                 time.sleep(0.05)
-        raise RuntimeError(f"the status door doesn't open: {self.process.communicate()[1].decode()}")
+        raise RuntimeError(f"the status listener doesn't open: {self.process.communicate()[1].decode()}")
 
     def __exit__(self, *_):
         self.process.kill()
@@ -348,7 +348,7 @@ def a_run(count, program, folder):
         up = run.waits(lambda s: standing(s, 1)["standing"] == "up" and standing(s, 2)["standing"] == "up")
         count.judge("stations 1 and 2 come up", up, run.json())
         count.judge("station 3 isn't up", standing(run.json(), 3)["standing"] != "up", run.json())
-        centre = socket.create_connection(run.door, timeout=ends.PATIENCE)
+        centre = socket.create_connection(run.listener, timeout=ends.PATIENCE)
         centre.sendall(ends.START)
         count.judge("STARTDT", centre.recv(6) == ends.STARTED)
         count.judge("the control centre is told", run.waits(lambda s: s["centre"]["peer"] == "127.0.0.1" and s["centre"]["started"]), run.json())
@@ -384,7 +384,7 @@ def client(count, run, word):
 
 
 def taken_port(count, program, folder):
-    """A run doesn't begin if another process has its status door."""
+    """A run doesn't begin if another process has its status listener."""
     with socket.create_server(("127.0.0.1", 0)) as other:
         config = os.path.join(folder, "taken.toml")
         with open(config, "w") as file:
@@ -406,13 +406,13 @@ def largest(count, program, folder):
         count.judge("the stations, in the order of the settings", addresses == list(range(1, 33)), addresses)
 
 
-def polls_in(stations, door, visitors):
+def polls_in(stations, listener, visitors):
     """How often the station is polled in five seconds, while so many visitors ask on and on."""
     is_over = threading.Event()
 
     def ask_on():
         while not is_over.is_set():
-            ask_or_none(door)
+            ask_or_none(listener)
 
     threads = [threading.Thread(target=ask_on, daemon=True) for _ in range(visitors)]
     for thread in threads:
@@ -444,21 +444,21 @@ def passage(count, program, folder):
         count.judge("polls with visitors", is_as_fast, rounds)
 
 
-def a_door(count, _program, _folder):
-    """The door of whatever listens at --door."""
-    host, port = count.options.door.rsplit(":", 1)
-    door = (host, int(port))
-    pages(count, door)
-    promtool(count, door)
-    refusals(count, door)
-    visitors(count, door)
-    chromium(count, door, tempfile.mkdtemp(prefix="telegate-status-"))
+def a_listener(count, _program, _folder):
+    """The listener of whatever listens at --listener."""
+    host, port = count.options.listener.rsplit(":", 1)
+    listener = (host, int(port))
+    pages(count, listener)
+    promtool(count, listener)
+    refusals(count, listener)
+    visitors(count, listener)
+    chromium(count, listener, tempfile.mkdtemp(prefix="telegate-status-"))
 
 
 if __name__ == "__main__":
-    is_elsewhere = any(word.startswith("--door") for word in sys.argv)
+    is_elsewhere = any(word.startswith("--listener") for word in sys.argv)
     frame.main(
-        *((a_door,) if is_elsewhere else (a_run, largest, taken_port, passage)),
+        *((a_listener,) if is_elsewhere else (a_run, largest, taken_port, passage)),
         needs_program=not is_elsewhere,
-        words={"--door": {"metavar": "HOST:PORT", "help": "judge the door of what listens there, and nothing else"}},
+        words={"--listener": {"metavar": "HOST:PORT", "help": "judge what listens there, and nothing else"}},
     )

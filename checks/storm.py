@@ -66,10 +66,10 @@ def serve(line, end, chance, heard):
         line.sendall(answer(request, chance))
 
 
-def visit(door, end, chance):
+def visit(listener, end, chance):
     """One connection of a control centre; answers how many octets it got."""
     got = 0
-    with socket.create_connection(door, timeout=2) as centre:
+    with socket.create_connection(listener, timeout=2) as centre:
         centre.settimeout(0.05)
         centre.sendall(ends.START)
         for _ in range(chance.randint(1, 60)):
@@ -103,7 +103,7 @@ def peers(count, program, _folder):
         while time.time() < end and process.poll() is None:
             try:
                 visits += 1
-                got += visit(run.door, end, chance)
+                got += visit(run.listener, end, chance)
             except OSError:
                 pass
         is_up = process.poll() is None

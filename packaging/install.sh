@@ -10,7 +10,7 @@
 #   PREFIX/share/man/man1/telegate.1      the man page, and shell completions
 #   PREFIX/lib/systemd/system/            telegate.service for one line, telegate@.service for several
 #   /etc/telegate/gateway.toml            settings to begin with
-#   /etc/telegate/site.toml               what belongs to this site: guests, names, the status port
+#   /etc/telegate/site.toml               what belongs to this site: who may connect, names, the status port
 #   /etc/telegate/telegate.env            more words of `telegate run`: that file's name
 #
 # What stands in /etc is never written over, so a second call is an upgrade: it leaves what an

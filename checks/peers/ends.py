@@ -103,8 +103,8 @@ class Outstation(threading.Thread):
 class Centre:
     """A control centre on one connection, which acknowledges each I frame."""
 
-    def __init__(self, door):
-        self.stream = connect(door)
+    def __init__(self, listener):
+        self.stream = connect(listener)
         self.received, self.sent, self.asdus = 0, 0, []
         self.stream.sendall(bytes.fromhex("680407000000"))
 
@@ -144,26 +144,26 @@ class Centre:
         self.stream.sendall(bytes([0x68, len(asdu) + 4]) + counts + asdu)
 
 
-def connect(door, seconds=10):
+def connect(listener, seconds=10):
     """A connection to the gateway, as soon as it listens."""
     end = time.time() + seconds
     while True:
         try:
-            return socket.create_connection(door, timeout=5)
+            return socket.create_connection(listener, timeout=5)
         except ConnectionRefusedError:
             if time.time() > end:
                 raise
             time.sleep(0.05)
 
 
-def free_door():
+def free_address():
     """A loopback address at which nobody listens now."""
     with socket.create_server(("127.0.0.1", 0)) as server:
         return server.getsockname()
 
 
-def start(program, line, door, more=""):
-    """The gateway, live, with one station, between this line and this door."""
+def start(program, line, listener, more=""):
+    """The gateway, live, with one station, between this line and this listener."""
     with tempfile.NamedTemporaryFile("w", suffix=".toml", delete=False) as config:
         config.write(f"""[line]
 link = 1
@@ -176,7 +176,7 @@ address = 1
 ca = 1
 [live]
 line = "{line}"
-listen = "{door[0]}:{door[1]}"
+listen = "{listener[0]}:{listener[1]}"
 """)
     return subprocess.Popen([program, "run", config.name], stderr=subprocess.DEVNULL)
 

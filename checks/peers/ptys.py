@@ -15,7 +15,7 @@ import sys
 import time
 import tty
 
-from ends import Centre, Outstation, all_reports, free_door, start, widened
+from ends import Centre, Outstation, all_reports, free_address, start, widened
 
 sys.path.append(os.path.dirname(os.path.dirname(os.path.abspath(__file__))))  # the frame stands one folder up
 import frame
@@ -45,10 +45,10 @@ def a_port(count, program, folder):
     reports = all_reports()
     station = Outstation(lambda: os.read(end, 1024), write, reports)
     station.start()
-    door = free_door()
-    gateway = start(program, f"unix:{socket_path}", door, "answer_ms = 600")
+    listener = free_address()
+    gateway = start(program, f"unix:{socket_path}", listener, "answer_ms = 600")
     try:
-        centre = Centre(door)
+        centre = Centre(listener)
         began = time.time()
         centre.hear(2)
         for kind in (45, 46, 47, 48, 49, 100):

@@ -12,7 +12,7 @@ import os
 import socket
 import sys
 
-from ends import Outstation, connect, free_door, on_socket, report, start
+from ends import Outstation, connect, free_address, on_socket, report, start
 
 sys.path.append(os.path.dirname(os.path.dirname(os.path.abspath(__file__))))  # the frame stands one folder up
 import frame
@@ -85,13 +85,13 @@ def a_centre(count, program, _folder):
     if iec104 is None:
         raise frame.Skipped("Scapy isn't installed (apt-get install python3-scapy)")
     with socket.create_server(("127.0.0.1", 0)) as server:
-        door = free_door()
-        gateway = start(program, "tcp:127.0.0.1:{}".format(server.getsockname()[1]), door)
+        listener = free_address()
+        gateway = start(program, "tcp:127.0.0.1:{}".format(server.getsockname()[1]), listener)
         try:
             _, read, write = on_socket(server)
             station = Outstation(read, write, [report(1, 1, 100), report(30, 2, 110)])
             station.start()
-            stream = connect(door)
+            stream = connect(listener)
             stream.settimeout(5)
             started, confirmed, reports = converse(stream)
         finally:

@@ -182,10 +182,10 @@ def crates():
     p.text(730, 243, "a contiguous run", "small")
     p.text(20, 435, "A live run has ports around the gateway, one around the other, and its state on the disk:", "small", "start")
     ports = [
-        (20, 210, "live", "`the_log_tells_what_passed`", "box"),
+        (20, 210, "live", "`the_log_has_what_passed`", "box"),
         (240, 280, "state", "`nothing_goes_out_before_it_is_on_disk`", "disk"),
         (530, 160, "segments", "`Segment::survives`", "disk"),
-        (700, 270, "runlog", "`what_is_gathered_is_told_or_counted`", "box"),
+        (700, 270, "runlog", "`what_is_gathered_is_logged_or_counted`", "box"),
     ]
     for x, width, title, words, kind in ports:
         p.box(x, 450, width, 50, title, words, kind)

@@ -17,7 +17,7 @@ import time
 ROOT = os.path.dirname(os.path.dirname(os.path.dirname(os.path.abspath(__file__))))
 HERE = os.path.join(ROOT, "examples/live")
 LINE = ("127.0.0.1", 24101)
-DOOR = ("127.0.0.1", 24104)
+LISTENER = ("127.0.0.1", 24104)
 COMMAND = bytes.fromhex("2D0106000100C8000001")  # C_SC_NA_1, activation, common address 1, object 200, on
 CONFIRMED = bytes.fromhex("2D0107000100C8000001")  # its activation confirmation
 DONE = bytes.fromhex("2D010A000100C8000001")  # its activation termination
@@ -46,7 +46,7 @@ class Centre:
     """A control centre on one connection."""
 
     def __init__(self):
-        self.stream = socket.create_connection(DOOR, timeout=5)
+        self.stream = socket.create_connection(LISTENER, timeout=5)
         self.received = 0
         self.sent = 0
         self.send(bytes.fromhex("680407000000"))

@@ -1,48 +1,50 @@
--- What the looks of a turn leave as it was: the log, the clock, and when the wall clock was told.
+-- What the looks of a turn leave as it was: the log, the clock, and when the wall clock was given.
 use Rattle.std.proofs.Common.{◌≡◌, ℕ, true, false, Bool, List, [], ◌∷◌, Option, Some, None, refl}
 use Rattle.std.proofs.Common.{◌∙◌}
 use Rattle.gateway.specs.Log.{Log}
 use Rattle.live.specs.Timing.{Moments, is_behind}
-use Rattle.live.specs.Ends.{Ends, Peer, Answers, taken_by, turn_by, sources_by, held_by, round}
+use Rattle.live.specs.Ends.{LiveEnds, Peer, Answers, taken_by, turn_by, sources_by, held_by, round}
 use Rattle.live.specs.Ends.{look, unless_found, next_round, looked_at, found_at, after}
-use Rattle.live.specs.Ends.{nothing_more, let_in}
-use Rattle.live.specs.declared.found.Found.{Found}
-use Rattle.live.specs.declared.found.Found.TheVariants as found
-use Rattle.live.specs.declared.source.Source.{Source}
-use Rattle.live.specs.declared.source.Source.TheVariants.{Door, Connection, Line}
-use Rattle.live.specs.declared.guests.Guests.{Guests}
+use Rattle.live.specs.Ends.{nothing_more, accepted}
+use Rattle.live.specs.declared.found.SourceEvent.{SourceEvent}
+use Rattle.live.specs.declared.found.SourceEvent.TheVariants as found
+use Rattle.live.specs.declared.source.EventSource.{EventSource}
+use Rattle.live.specs.declared.source.EventSource.TheVariants.{Listener, Connection, Line}
+use Rattle.live.specs.declared.allow_list.AllowList.{AllowList}
 use Rattle.live.specs.declared.walled.Walled.{Walled}
 
 -- a part of the ends that no look touches
-pub record Apart {A : Type 0} (part : Ends → A) : Type 0 where
-  pub looked : (s : Source) (t : ℕ) (a : Answers) (buf : List ℕ) (e : Ends)
+pub record Apart {A : Type 0} (part : LiveEnds → A) : Type 0 where
+  pub looked : (s : EventSource) (t : ℕ) (a : Answers) (buf : List ℕ) (e : LiveEnds)
       → part (looked_at s t a buf e) ≡ part e
-  pub moved : (s : Source) (e : Ends) → part (record e { first = s }) ≡ part e
-  pub ended : (e : Ends) (s : Source)
+  pub moved : (s : EventSource) (e : LiveEnds) → part (record e { first = s }) ≡ part e
+  pub ended : (e : LiveEnds) (s : EventSource)
       → part (record e { connection = None; held = []; first = s; is_cut_due = false })
       ≡ part e
-  pub given : (e : Ends) (s : Source) → part (record e { held = []; first = s }) ≡ part e
-  pub kept : (e : Ends) (held : List ℕ) → part (record e { held = held }) ≡ part e
+  pub given : (e : LiveEnds) (s : EventSource) → part (record e { held = []; first = s }) ≡ part e
+  pub kept : (e : LiveEnds) (held : List ℕ) → part (record e { held = held }) ≡ part e
 
 -- what goes on leaves it as it is
-IsSilent : {A : Type 0} → (Ends → A) → (Ends → Option Found × Ends) → Type 0
-IsSilent part others = (e : Ends) → part (others e).1 ≡ part e
+IsSilent : {A : Type 0} → (LiveEnds → A) → (LiveEnds → Option SourceEvent × LiveEnds) → Type 0
+IsSilent part others = (e : LiveEnds) → part (others e).1 ≡ part e
 
-next_same : {A : Type 0} (part : Ends → A) → Apart part → (s : Source) (f : Option Found) (e : Ends)
+next_same : {A : Type 0} (part : LiveEnds → A) → Apart part
+    → (s : EventSource) (f : Option SourceEvent) (e : LiveEnds)
     → part (next_round s f e) ≡ part e
 next_same part p s None e = refl
 next_same part p s (Some f) e = p.moved (after s) e
 
-unless_same : {A : Type 0} (part : Ends → A) (f : Option Found) (e : Ends) (others : Ends
-    → Option Found × Ends)
+unless_same : {A : Type 0} (part : LiveEnds → A) (f : Option SourceEvent) (e : LiveEnds)
+    (others : LiveEnds
+    → Option SourceEvent × LiveEnds)
     → IsSilent part others → part (unless_found f e others).1 ≡ part e
 unfolding IsSilent
 unless_same part None e others on = on e
 unless_same part (Some f) e others on = refl
 
-look_same : {A : Type 0} (part : Ends → A) → Apart part
-    → (s : Source) (t : ℕ) (a : Answers) (buf : List ℕ)
-    (others : Ends → Option Found × Ends) → IsSilent part others
+look_same : {A : Type 0} (part : LiveEnds → A) → Apart part
+    → (s : EventSource) (t : ℕ) (a : Answers) (buf : List ℕ)
+    (others : LiveEnds → Option SourceEvent × LiveEnds) → IsSilent part others
     → IsSilent part (λ e. look s t a buf e others)
 unfolding IsSilent
 look_same part p s t a buf others on e =
@@ -50,12 +52,12 @@ look_same part p s t a buf others on e =
     unless_same part f (next_round s f (looked_at s t a buf e)) others on
     ∙ (next_same part p s f (looked_at s t a buf e) ∙ p.looked s t a buf e)
 
-nothing_same : {A : Type 0} (part : Ends → A) → IsSilent part nothing_more
+nothing_same : {A : Type 0} (part : LiveEnds → A) → IsSilent part nothing_more
 unfolding IsSilent
 nothing_same part e = refl
 
-round_same : {A : Type 0} (part : Ends → A) → Apart part
-    → (t : ℕ) (a : Answers) (buf : List ℕ) (e : Ends)
+round_same : {A : Type 0} (part : LiveEnds → A) → Apart part
+    → (t : ℕ) (a : Answers) (buf : List ℕ) (e : LiveEnds)
     → part (round t a buf e).1 ≡ part e
 unfolding IsSilent
 round_same part p t a buf e =
@@ -66,28 +68,28 @@ round_same part p t a buf e =
     (λ x. look (after e.first) t a buf x (λ y. look (after (after e.first)) t a buf y nothing_more))
     second e
 
-held_same : {A : Type 0} (part : Ends → A) → Apart part
-    → (h : List ℕ) (t : ℕ) (a : Answers) (buf : List ℕ) (e : Ends)
+held_same : {A : Type 0} (part : LiveEnds → A) → Apart part
+    → (h : List ℕ) (t : ℕ) (a : Answers) (buf : List ℕ) (e : LiveEnds)
     → part (held_by h t a buf e).1 ≡ part e
 held_same part p [] t a buf e = round_same part p t a buf e
 held_same part p (octet ∷ octets) t a buf e = p.given e (after Connection)
 
-sources_same : {A : Type 0} (part : Ends → A) → Apart part
-    → (b : Bool) (t : ℕ) (a : Answers) (buf : List ℕ) (e : Ends)
+sources_same : {A : Type 0} (part : LiveEnds → A) → Apart part
+    → (b : Bool) (t : ℕ) (a : Answers) (buf : List ℕ) (e : LiveEnds)
     → part (sources_by b t a buf e).1 ≡ part e
 unfolding IsSilent
 sources_same part p true t a buf e = look_same part p Line t a buf nothing_more (nothing_same part)
     e
 sources_same part p false t a buf e = held_same part p e.held t a buf e
 
-pub turn_same : {A : Type 0} (part : Ends → A) → Apart part
-    → (d : Bool) (t : ℕ) (a : Answers) (buf : List ℕ) (e : Ends)
+pub turn_same : {A : Type 0} (part : LiveEnds → A) → Apart part
+    → (d : Bool) (t : ℕ) (a : Answers) (buf : List ℕ) (e : LiveEnds)
     → part (turn_by d t a buf e).1 ≡ part e
 turn_same part p true t a buf e = p.ended e (after Connection)
 turn_same part p false t a buf e = sources_same part p (is_behind e.timing t) t a buf e
 
-pub taken_same : {A : Type 0} (part : Ends → A) → Apart part
-    → (b : Bool) (buf : List ℕ) (f : Option Found) (e : Ends)
+pub taken_same : {A : Type 0} (part : LiveEnds → A) → Apart part
+    → (b : Bool) (buf : List ℕ) (f : Option SourceEvent) (e : LiveEnds)
     → part (taken_by b buf f e).1 ≡ part e
 taken_same part p false buf f e = refl
 taken_same part p true buf None e = refl
@@ -98,16 +100,16 @@ taken_same part p true buf (Some (found.Line len)) e = refl
 taken_same part p true buf (Some found.Fault) e = refl
 
 -- such parts
-abbrev pub log_of : Ends → Log
+abbrev pub log_of : LiveEnds → Log
 log_of e = e.log
 
-log_at_door : (v : Option Peer) (e : Ends) → (let_in v e).log ≡ e.log
-log_at_door None e = refl
-log_at_door (Some visitor) e = refl
+log_at_listener : (v : Option Peer) (e : LiveEnds) → (accepted v e).log ≡ e.log
+log_at_listener None e = refl
+log_at_listener (Some peer) e = refl
 
-log_looked : (s : Source) (t : ℕ) (a : Answers) (buf : List ℕ) (e : Ends)
+log_looked : (s : EventSource) (t : ℕ) (a : Answers) (buf : List ℕ) (e : LiveEnds)
     → log_of (looked_at s t a buf e) ≡ log_of e
-log_looked Door t a buf e = log_at_door a.visitor e
+log_looked Listener t a buf e = log_at_listener a.peer e
 log_looked Connection t a buf e = refl
 log_looked Line t a buf e = refl
 
@@ -120,16 +122,16 @@ log_apart = record {
   kept = λ e held. refl;
 }
 
-abbrev pub walled_of : Ends → Walled
+abbrev pub walled_of : LiveEnds → Walled
 walled_of e = e.walled
 
-walled_at_door : (v : Option Peer) (e : Ends) → (let_in v e).walled ≡ e.walled
-walled_at_door None e = refl
-walled_at_door (Some visitor) e = refl
+walled_at_listener : (v : Option Peer) (e : LiveEnds) → (accepted v e).walled ≡ e.walled
+walled_at_listener None e = refl
+walled_at_listener (Some peer) e = refl
 
-walled_looked : (s : Source) (t : ℕ) (a : Answers) (buf : List ℕ) (e : Ends)
+walled_looked : (s : EventSource) (t : ℕ) (a : Answers) (buf : List ℕ) (e : LiveEnds)
     → walled_of (looked_at s t a buf e) ≡ walled_of e
-walled_looked Door t a buf e = walled_at_door a.visitor e
+walled_looked Listener t a buf e = walled_at_listener a.peer e
 walled_looked Connection t a buf e = refl
 walled_looked Line t a buf e = refl
 
@@ -142,16 +144,16 @@ walled_apart = record {
   kept = λ e held. refl;
 }
 
-abbrev pub clock_of : Ends → Moments
+abbrev pub clock_of : LiveEnds → Moments
 clock_of e = e.clock
 
-clock_at_door : (v : Option Peer) (e : Ends) → (let_in v e).clock ≡ e.clock
-clock_at_door None e = refl
-clock_at_door (Some visitor) e = refl
+clock_at_listener : (v : Option Peer) (e : LiveEnds) → (accepted v e).clock ≡ e.clock
+clock_at_listener None e = refl
+clock_at_listener (Some peer) e = refl
 
-clock_looked : (s : Source) (t : ℕ) (a : Answers) (buf : List ℕ) (e : Ends)
+clock_looked : (s : EventSource) (t : ℕ) (a : Answers) (buf : List ℕ) (e : LiveEnds)
     → clock_of (looked_at s t a buf e) ≡ clock_of e
-clock_looked Door t a buf e = clock_at_door a.visitor e
+clock_looked Listener t a buf e = clock_at_listener a.peer e
 clock_looked Connection t a buf e = refl
 clock_looked Line t a buf e = refl
 
@@ -164,22 +166,22 @@ clock_apart = record {
   kept = λ e held. refl;
 }
 
-abbrev pub guests_of : Ends → Guests
-guests_of e = e.guests
+abbrev pub allow_list_of : LiveEnds → AllowList
+allow_list_of e = e.allow_list
 
-guests_at_door : (v : Option Peer) (e : Ends) → (let_in v e).guests ≡ e.guests
-guests_at_door None e = refl
-guests_at_door (Some visitor) e = refl
+allow_list_at_listener : (v : Option Peer) (e : LiveEnds) → (accepted v e).allow_list ≡ e.allow_list
+allow_list_at_listener None e = refl
+allow_list_at_listener (Some peer) e = refl
 
-guests_looked : (s : Source) (t : ℕ) (a : Answers) (buf : List ℕ) (e : Ends)
-    → guests_of (looked_at s t a buf e) ≡ guests_of e
-guests_looked Door t a buf e = guests_at_door a.visitor e
-guests_looked Connection t a buf e = refl
-guests_looked Line t a buf e = refl
+allow_list_looked : (s : EventSource) (t : ℕ) (a : Answers) (buf : List ℕ) (e : LiveEnds)
+    → allow_list_of (looked_at s t a buf e) ≡ allow_list_of e
+allow_list_looked Listener t a buf e = allow_list_at_listener a.peer e
+allow_list_looked Connection t a buf e = refl
+allow_list_looked Line t a buf e = refl
 
-pub guests_apart : Apart guests_of
-guests_apart = record {
-  looked = guests_looked;
+pub allow_list_apart : Apart allow_list_of
+allow_list_apart = record {
+  looked = allow_list_looked;
   moved = λ s e. refl;
   ended = λ e s. refl;
   given = λ e s. refl;

@@ -4,7 +4,8 @@ use Rattle.std.proofs.Common.{Result, Ok, Err, refl, sym, ap, subst, ◌∙◌, 
 use Rattle.std.specs.Prelude.{All}
 use Rattle.std.specs.Result.{is_ok, is_err}
 use Rattle.std.proofs.lemmas.List.Elements.{All-cons}
-use Rattle.live.specs.Streams.{Answer, Calls, Received, Waits, called, taken_of, DropsOnce, brings}
+use Rattle.live.specs.Streams.{ReadAnswer, Calls, Received, Waits, called, taken_of, DropsOnce}
+use Rattle.live.specs.Streams.{brings}
 use Rattle.live.specs.Streams.{brought, looked, Drains, DropsWaiting, Refused, Drained}
 use Rattle.live.specs.Streams.{ReceivesOnce}
 
@@ -38,18 +39,18 @@ is_some : (n : ℕ) (b : Bool) → (n == 0) ≡ b → (n ≡ 0 → ⊥) → not 
 is_some n true is some = absurd (some (grind (arith, is)))
 is_some n false is some = refl
 
-some_brings : (answer : Answer) (n : ℕ) → n ≡ taken_of answer.count → (n ≡ 0 → ⊥)
+some_brings : (answer : ReadAnswer) (n : ℕ) → n ≡ taken_of answer.count → (n ≡ 0 → ⊥)
     → brings answer ≡ true
 some_brings answer n means some =
     ap (λ k. not (k == 0)) (sym means) ∙ is_some n (n == 0) refl some
 
-none_brings : (answer : Answer) (n : ℕ) → n ≡ taken_of answer.count → n ≡ 0
+none_brings : (answer : ReadAnswer) (n : ℕ) → n ≡ taken_of answer.count → n ≡ 0
     → brings answer ≡ true → ⊥
 none_brings answer n means none some =
     let wrong : false ≡ true = ap (λ k. not (k == 0)) (sym none ∙ means) ∙ some in absurd (cc)
 
 -- one look more
-pub looks_more : (old mid new : Calls) (looks : List Answer) (n : ℕ)
+pub looks_more : (old mid new : Calls) (looks : List ReadAnswer) (n : ℕ)
     → mid ≡ looked looks old
     → All (λ a. brings a ≡ true) looks → (d : DropsOnce mid n new) → (n ≡ 0 → ⊥)
     → (new ≡ looked (d.answer ∷ looks) old) × All (λ a. brings a ≡ true) (d.answer ∷ looks)
@@ -59,13 +60,13 @@ looks_more old mid new looks n same all d some = (
 )
 
 -- and how many octets it brought
-pub brought_more : (looks : List Answer) (count n : ℕ) (mid new : Calls)
+pub brought_more : (looks : List ReadAnswer) (count n : ℕ) (mid new : Calls)
     → count ≡ brought looks
     → (d : DropsOnce mid n new) → count + n ≡ brought (d.answer ∷ looks)
 brought_more looks count n mid new so_far d = ap (λ k. count + k) d.means
     ∙ ap (λ k. k + taken_of d.answer.count) so_far
 
-pub drains_by : (old mid new : Calls) (looks : List Answer) (count n : ℕ)
+pub drains_by : (old mid new : Calls) (looks : List ReadAnswer) (count n : ℕ)
     → mid ≡ looked looks old
     → All (λ a. brings a ≡ true) looks → length looks ≤ 63 → count ≡ brought looks
     → (d : DropsOnce mid n new)
@@ -77,7 +78,7 @@ drains_by old mid new looks count n same all most so_far d last = record {
   asked = d.asked ∙ ap (λ c. called c (Received d.answer.octets d.answer.count)) same;
 }
 
-pub drains_bare : (old mid new : Calls) (looks : List Answer) (count n : ℕ)
+pub drains_bare : (old mid new : Calls) (looks : List ReadAnswer) (count n : ℕ)
     → mid ≡ looked looks old
     → All (λ a. brings a ≡ true) looks → length looks ≤ 63 → count ≡ brought looks
     → DropsOnce mid n new

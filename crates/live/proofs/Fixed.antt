@@ -6,21 +6,22 @@ use Rattle.gateway.specs.Log.{Log, Output, LineOut, TcpOut, Closed, GapOut}
 use Rattle.session.specs.declared.kinds.Close.{Close}
 use Rattle.session.specs.declared.kinds.Close.TheVariants as close
 use Rattle.live.specs.Timing.{is_behind}
-use Rattle.live.specs.Ends.{Ends, Peer, Answers, Turns, Puts, as_logged, fixed_of, looking}
-use Rattle.live.specs.Ends.{told_at, let_in, looked_at, written_open, closed_by, after_action}
+use Rattle.live.specs.Ends.{LiveEnds, Peer, Answers, Turns, PutsOut, as_logged, fixed_of, looking}
+use Rattle.live.specs.Ends.{clock_read_at, accepted, looked_at, written_open, closed_by}
+use Rattle.live.specs.Ends.{after_action}
 use Rattle.live.proofs.Apart.{Apart, taken_same}
 use Rattle.live.proofs.Rounds.{Aside, looks_kept}
-use Rattle.live.specs.declared.found.Found.{Found}
-use Rattle.live.specs.declared.source.Source.{Source}
-use Rattle.live.specs.declared.source.Source.TheVariants.{Door, Connection, Line}
+use Rattle.live.specs.declared.found.SourceEvent.{SourceEvent}
+use Rattle.live.specs.declared.source.EventSource.{EventSource}
+use Rattle.live.specs.declared.source.EventSource.TheVariants.{Listener, Connection, Line}
 
-fixed_at_door : (v : Option Peer) (e : Ends) → fixed_of (let_in v e) ≡ fixed_of e
-fixed_at_door None e = refl
-fixed_at_door (Some visitor) e = refl
+fixed_at_listener : (v : Option Peer) (e : LiveEnds) → fixed_of (accepted v e) ≡ fixed_of e
+fixed_at_listener None e = refl
+fixed_at_listener (Some peer) e = refl
 
-fixed_looked : (s : Source) (t : ℕ) (a : Answers) (buf : List ℕ) (e : Ends)
+fixed_looked : (s : EventSource) (t : ℕ) (a : Answers) (buf : List ℕ) (e : LiveEnds)
     → fixed_of (looked_at s t a buf e) ≡ fixed_of e
-fixed_looked Door t a buf e = fixed_at_door a.visitor e
+fixed_looked Listener t a buf e = fixed_at_listener a.peer e
 fixed_looked Connection t a buf e = refl
 fixed_looked Line t a buf e = refl
 
@@ -34,24 +35,25 @@ fixed_apart = record {
 }
 
 fixed_aside : Aside fixed_of
-fixed_aside = record { apart = fixed_apart; told = λ now e. refl }
+fixed_aside = record { apart = fixed_apart; read = λ now e. refl }
 
-turns_fixed : (old new : Ends) (event : Next) (buf : List ℕ) → Turns old event buf new
+turns_fixed : (old new : LiveEnds) (event : Next) (buf : List ℕ) → Turns old event buf new
     → fixed_of new ≡ fixed_of old
-turns_fixed old new event buf (inl t) = ap fixed_of t.told.ends
+turns_fixed old new event buf (inl t) = ap fixed_of t.given.ends
 turns_fixed old new event buf (inr t) =
-    ap (λ (p : Option Found × Ends). fixed_of p.1) t.told.ends
+    ap (λ (p : Option SourceEvent × LiveEnds). fixed_of p.1) t.given.ends
     ∙ (taken_same fixed_of fixed_apart (is_behind t.found.timing t.now) buf t.f t.found
-    ∙ looks_kept fixed_of fixed_aside t.first (looking (told_at t.first old)) t.now t.f buf t.found
+    ∙ looks_kept fixed_of fixed_aside t.first (looking (clock_read_at t.first old)) t.now t.f buf
+    t.found
     t.looks)
 
-written_fixed : (b : Bool) (octets : List ℕ) (taken : Bool) (p : Option Peer) (e : Ends)
+written_fixed : (b : Bool) (octets : List ℕ) (taken : Bool) (p : Option Peer) (e : LiveEnds)
     → fixed_of (written_open b octets taken p e) ≡ fixed_of e
 written_fixed true octets taken p e = refl
 written_fixed false octets taken None e = refl
 written_fixed false octets taken (Some peer) e = refl
 
-closed_fixed : (c : Close) (e : Ends) → fixed_of (closed_by c e) ≡ fixed_of e
+closed_fixed : (c : Close) (e : LiveEnds) → fixed_of (closed_by c e) ≡ fixed_of e
 closed_fixed close.Grammar e = refl
 closed_fixed close.SendNumber e = refl
 closed_fixed close.ReceiveNumber e = refl
@@ -60,7 +62,7 @@ closed_fixed close.Timeout e = refl
 closed_fixed close.OwnAnswers e = refl
 closed_fixed close.Replaced e = refl
 
-action_fixed : (moment : ℕ) (action : Output) (written : ℕ) (taken : Bool) (late : ℕ) (e : Ends)
+action_fixed : (moment : ℕ) (action : Output) (written : ℕ) (taken : Bool) (late : ℕ) (e : LiveEnds)
     → fixed_of (after_action moment action written taken late e) ≡ fixed_of e
 action_fixed moment (LineOut octets) written taken late e = refl
 action_fixed moment (TcpOut octets) written taken late e =
@@ -69,13 +71,13 @@ action_fixed moment (Closed cause) written taken late e = closed_fixed cause e
 action_fixed moment (GapOut station session) written taken late e = refl
 
 -- a turn, and an action, once they are logged
-pub next_fixed : (old mid new : Ends) (event : Next) (buf : List ℕ) (log : Log)
+pub next_fixed : (old mid new : LiveEnds) (event : Next) (buf : List ℕ) (log : Log)
     → Turns old event buf mid
     → new ≡ as_logged log mid → fixed_of new ≡ fixed_of old
 next_fixed old mid new event buf log t done = ap fixed_of done ∙ turns_fixed old mid event buf t
 
-pub put_fixed : (old mid new : Ends) (moment : ℕ) (action : Output) (log : Log)
-    → Puts old moment action mid
+pub put_fixed : (old mid new : LiveEnds) (moment : ℕ) (action : Output) (log : Log)
+    → PutsOut old moment action mid
     → new ≡ as_logged log mid → fixed_of new ≡ fixed_of old
 put_fixed old mid new moment action log p done =
     ap fixed_of done

@@ -6,97 +6,98 @@ use Rattle.gateway.specs.declared.ports.Next.TheVariants as next
 use Rattle.gateway.specs.Log.{Log, Output, LineOut, TcpOut, Closed, GapOut}
 use Rattle.session.specs.declared.kinds.Close.{Close}
 use Rattle.session.specs.declared.kinds.Close.TheVariants as close
-use Rattle.live.specs.Timing.{is_behind, heard_at, moment_at}
-use Rattle.live.specs.Wires.{Happening, History, WasQuiet, noted, Visits, visited}
-use Rattle.live.specs.Ends.{Ends, Peer, Answers, Turns, LogsTurn, LogsPut, as_logged, IsTurn}
+use Rattle.live.specs.Timing.{is_behind, line_looked_at, moment_at}
+use Rattle.live.specs.OctetStreams.{Happening, StreamHistory, WasQuiet, noted, Attempts, attempted}
+use Rattle.live.specs.Ends.{LiveEnds, Peer, Answers, Turns, LogsTurn, LogsPut, as_logged, IsTurn}
 use Rattle.live.specs.Ends.{QuietRounds, NoRound, OneRound, TurnsToEnds, event_at, taken_by}
-use Rattle.live.specs.Ends.{looking, told_at, turn_by, sources_by, held_by, round, look}
+use Rattle.live.specs.Ends.{looking, clock_read_at, turn_by, sources_by, held_by, round, look}
 use Rattle.live.specs.Ends.{nothing_more, after, written_open, closed_by, after_action}
 use Rattle.live.specs.InTurn.{IsMore, IsMoreAt, IsLookedAt, LooksBefore, BeginsBehind, IsFarBehind}
-use Rattle.live.proofs.Rounds.{quiet_hears}
-use Rattle.live.specs.declared.found.Found.{Found}
-use Rattle.live.specs.declared.found.Found.TheVariants as found
-use Rattle.live.specs.declared.source.Source.{Source}
-use Rattle.live.specs.declared.source.Source.TheVariants.{Door, Connection, Line}
+use Rattle.live.proofs.Rounds.{quiet_reads}
+use Rattle.live.specs.declared.found.SourceEvent.{SourceEvent}
+use Rattle.live.specs.declared.found.SourceEvent.TheVariants as found
+use Rattle.live.specs.declared.source.EventSource.{EventSource}
+use Rattle.live.specs.declared.source.EventSource.TheVariants.{Listener, Connection, Line}
 use Rattle.live.specs.declared.timing.Timing.{Timing}
-use Rattle.live.specs.declared.wires.Got.{Got}
-use Rattle.live.specs.declared.wires.Got.TheVariants.{Octets, Quiet, Gone}
+use Rattle.live.specs.declared.ends.Got.{Got}
+use Rattle.live.specs.declared.ends.Got.TheVariants.{Octets, Quiet, Gone}
 
 -- one more
 more_one : {A : Type 0} (before : List A) (x : A) → length before < length (x ∷ before)
 more_one before x = grind arith
 
-noted_more : (h : History) (x : Happening) → IsMore h (noted h x)
+noted_more : (h : StreamHistory) (x : Happening) → IsMore h (noted h x)
 noted_more None x = tt
 noted_more (Some before) x = more_one before x
 
-visited_more : (v : Visits) (here : Bool) → IsMore v (visited v here)
-visited_more None here = tt
-visited_more (Some before) here = more_one before here
+attempted_more : (v : Attempts) (here : Bool) → IsMore v (attempted v here)
+attempted_more None here = tt
+attempted_more (Some before) here = more_one before here
 
 -- what a round that began at `s` found, where the next begins, and what was looked at
-Looked : Source → Option Found → (old new : Ends) → Type 0
+Looked : EventSource → Option SourceEvent → (old new : LiveEnds) → Type 0
 Looked s None old new =
-    (new.first ≡ s) × IsLookedAt Door old new × IsLookedAt Connection old new
+    (new.first ≡ s) × IsLookedAt Listener old new × IsLookedAt Connection old new
     × IsLookedAt Line old new
     × (new.is_cut_due ≡ old.is_cut_due) × (new.held ≡ old.held)
 Looked s (Some found.Open) old new = (new.first ≡ Connection) × LooksBefore (next.Open 0) s old new
 Looked s (Some (found.Bytes len)) old new = (new.first ≡ Line)
     × LooksBefore (next.Bytes 0 len) s old new
 Looked s (Some found.Cut) old new = (new.first ≡ Line) × LooksBefore (next.Cut 0) s old new
-Looked s (Some (found.Line len)) old new = (new.first ≡ Door)
+Looked s (Some (found.Line len)) old new = (new.first ≡ Listener)
     × LooksBefore (next.Line 0 len) s old new
-Looked s (Some found.Fault) old new = (new.first ≡ Door) × LooksBefore next.Fault s old new
+Looked s (Some found.Fault) old new = (new.first ≡ Listener) × LooksBefore next.Fault s old new
 
-InRound : Source → Ends → Option Found × Ends → Type 0
+InRound : EventSource → LiveEnds → Option SourceEvent × LiveEnds → Type 0
 InRound s old p = Looked s p.0 old p.1
 
-abbrev round_from : Source → ℕ → Answers → (buf : List ℕ) → Ends → Option Found × Ends
+abbrev round_from : EventSource → ℕ → Answers → (buf : List ℕ) → LiveEnds → Option SourceEvent
+    × LiveEnds
 round_from s t a buf e =
     look s t a buf e
     (λ x. look (after s) t a buf x (λ y. look (after (after s)) t a buf y nothing_more))
 
 -- by what the sources answer
-abbrev ends_with : Ends → Source → Option Peer → Ends
+abbrev ends_with : LiveEnds → EventSource → Option Peer → LiveEnds
 ends_with e s k = record e { first = s; connection = k }
 
-by_answers : (s : Source) (v k : Option Peer) (c l : Got) (t : ℕ) (buf : List ℕ) (e : Ends)
+by_answers : (s : EventSource) (v k : Option Peer) (c l : Got) (t : ℕ) (buf : List ℕ) (e : LiveEnds)
     → InRound s (ends_with e s k)
-    (round_from s t (record { visitor = v; connection = c; line = l }) buf (ends_with e s k))
+    (round_from s t (record { peer = v; connection = c; line = l }) buf (ends_with e s k))
 unfolding InRound Looked
-by_answers Door (Some p) k c l t buf e = (refl, tt)
-by_answers Door None None c (Octets len) t buf e = (refl, (visited_more e.door false, tt))
-by_answers Door None None c Quiet t buf e =
-    (refl, visited_more e.door false, tt, noted_more e.line WasQuiet, refl, refl)
-by_answers Door None None c Gone t buf e = (refl, (visited_more e.door false, tt))
-by_answers Door None (Some p) (Octets n) l t buf e = (refl, visited_more e.door false)
-by_answers Door None (Some p) Gone l t buf e = (refl, visited_more e.door false)
-by_answers Door None (Some p) Quiet (Octets len) t buf e =
-    (refl, (visited_more e.door false, noted_more p.wire WasQuiet))
-by_answers Door None (Some p) Quiet Quiet t buf e = (
+by_answers Listener (Some p) k c l t buf e = (refl, tt)
+by_answers Listener None None c (Octets len) t buf e = (refl, (attempted_more e.listener false, tt))
+by_answers Listener None None c Quiet t buf e =
+    (refl, attempted_more e.listener false, tt, noted_more e.line WasQuiet, refl, refl)
+by_answers Listener None None c Gone t buf e = (refl, (attempted_more e.listener false, tt))
+by_answers Listener None (Some p) (Octets n) l t buf e = (refl, attempted_more e.listener false)
+by_answers Listener None (Some p) Gone l t buf e = (refl, attempted_more e.listener false)
+by_answers Listener None (Some p) Quiet (Octets len) t buf e =
+    (refl, (attempted_more e.listener false, noted_more p.stream WasQuiet))
+by_answers Listener None (Some p) Quiet Quiet t buf e = (
   refl,
-  visited_more e.door false,
-  noted_more p.wire WasQuiet,
+  attempted_more e.listener false,
+  noted_more p.stream WasQuiet,
   noted_more e.line WasQuiet,
   refl,
   refl,
 )
-by_answers Door None (Some p) Quiet Gone t buf e =
-    (refl, (visited_more e.door false, noted_more p.wire WasQuiet))
+by_answers Listener None (Some p) Quiet Gone t buf e =
+    (refl, (attempted_more e.listener false, noted_more p.stream WasQuiet))
 by_answers Connection v None c (Octets len) t buf e = (refl, tt)
 by_answers Connection v None c Gone t buf e = (refl, tt)
 by_answers Connection (Some q) None c Quiet t buf e = (refl, noted_more e.line WasQuiet)
 by_answers Connection None None c Quiet t buf e =
-    (refl, visited_more e.door false, tt, noted_more e.line WasQuiet, refl, refl)
+    (refl, attempted_more e.listener false, tt, noted_more e.line WasQuiet, refl, refl)
 by_answers Connection v (Some p) (Octets n) l t buf e = (refl, tt)
 by_answers Connection v (Some p) Gone l t buf e = (refl, tt)
-by_answers Connection v (Some p) Quiet (Octets len) t buf e = (refl, noted_more p.wire WasQuiet)
-by_answers Connection v (Some p) Quiet Gone t buf e = (refl, noted_more p.wire WasQuiet)
+by_answers Connection v (Some p) Quiet (Octets len) t buf e = (refl, noted_more p.stream WasQuiet)
+by_answers Connection v (Some p) Quiet Gone t buf e = (refl, noted_more p.stream WasQuiet)
 by_answers Connection (Some q) (Some p) Quiet Quiet t buf e = (refl, noted_more e.line WasQuiet)
 by_answers Connection None (Some p) Quiet Quiet t buf e = (
   refl,
-  visited_more e.door false,
-  noted_more p.wire WasQuiet,
+  attempted_more e.listener false,
+  noted_more p.stream WasQuiet,
   noted_more e.line WasQuiet,
   refl,
   refl,
@@ -105,33 +106,33 @@ by_answers Line v k c (Octets len) t buf e = (refl, tt)
 by_answers Line v k c Gone t buf e = (refl, tt)
 by_answers Line (Some q) k c Quiet t buf e = (refl, noted_more e.line WasQuiet)
 by_answers Line None None c Quiet t buf e =
-    (refl, visited_more e.door false, tt, noted_more e.line WasQuiet, refl, refl)
+    (refl, attempted_more e.listener false, tt, noted_more e.line WasQuiet, refl, refl)
 by_answers Line None (Some p) (Octets n) Quiet t buf e =
-    (refl, (noted_more e.line WasQuiet, visited_more e.door false))
+    (refl, (noted_more e.line WasQuiet, attempted_more e.listener false))
 by_answers Line None (Some p) Gone Quiet t buf e =
-    (refl, (noted_more e.line WasQuiet, visited_more e.door false))
+    (refl, (noted_more e.line WasQuiet, attempted_more e.listener false))
 by_answers Line None (Some p) Quiet Quiet t buf e = (
   refl,
-  visited_more e.door false,
-  noted_more p.wire WasQuiet,
+  attempted_more e.listener false,
+  noted_more p.stream WasQuiet,
   noted_more e.line WasQuiet,
   refl,
   refl,
 )
 
-in_round : (t : ℕ) (a : Answers) (buf : List ℕ) (e : Ends) → InRound e.first e (round t a buf e)
-in_round t a buf e = by_answers e.first a.visitor e.connection a.connection a.line t buf e
+in_round : (t : ℕ) (a : Answers) (buf : List ℕ) (e : LiveEnds) → InRound e.first e (round t a buf e)
+in_round t a buf e = by_answers e.first a.peer e.connection a.connection a.line t buf e
 
 -- where the next round begins, by what was found
-Begins : Option Found → Source → Type 0
+Begins : Option SourceEvent → EventSource → Type 0
 Begins None first = Unit {0}
 Begins (Some found.Open) first = first ≡ Connection
 Begins (Some (found.Bytes len)) first = first ≡ Line
 Begins (Some found.Cut) first = first ≡ Line
-Begins (Some (found.Line len)) first = first ≡ Door
-Begins (Some found.Fault) first = first ≡ Door
+Begins (Some (found.Line len)) first = first ≡ Listener
+Begins (Some found.Fault) first = first ≡ Listener
 
-begins_in : (s : Source) (f : Option Found) (old new : Ends) → Looked s f old new
+begins_in : (s : EventSource) (f : Option SourceEvent) (old new : LiveEnds) → Looked s f old new
     → Begins f new.first
 unfolding Looked Begins
 begins_in s None old new l = tt
@@ -141,32 +142,33 @@ begins_in s (Some found.Cut) old new l = l.0
 begins_in s (Some (found.Line len)) old new l = l.0
 begins_in s (Some found.Fault) old new l = l.0
 
-line_begins : (t : ℕ) (a : Answers) (l : Got) (buf : List ℕ) (e : Ends)
+line_begins : (t : ℕ) (a : Answers) (l : Got) (buf : List ℕ) (e : LiveEnds)
     → (let p = look Line t (record a { line = l }) buf e nothing_more in Begins p.0 p.1.first)
 unfolding Begins
 line_begins t a (Octets len) buf e = refl
 line_begins t a Quiet buf e = tt
 line_begins t a Gone buf e = refl
 
-held_begins : (held : List ℕ) (t : ℕ) (a : Answers) (buf : List ℕ) (e : Ends)
+held_begins : (held : List ℕ) (t : ℕ) (a : Answers) (buf : List ℕ) (e : LiveEnds)
     → (let p = held_by held t a buf e in Begins p.0 p.1.first)
 unfolding Begins InRound
 held_begins [] t a buf e =
     let p = round t a buf e in begins_in e.first p.0 e p.1 (in_round t a buf e)
 held_begins (octet ∷ octets) t a buf e = refl
 
-sources_begin : (b : Bool) (t : ℕ) (a : Answers) (buf : List ℕ) (e : Ends)
+sources_begin : (b : Bool) (t : ℕ) (a : Answers) (buf : List ℕ) (e : LiveEnds)
     → (let p = sources_by b t a buf e in Begins p.0 p.1.first)
 sources_begin true t a buf e = line_begins t a a.line buf e
 sources_begin false t a buf e = held_begins e.held t a buf e
 
-turn_begins : (d : Bool) (t : ℕ) (a : Answers) (buf : List ℕ) (e : Ends)
+turn_begins : (d : Bool) (t : ℕ) (a : Answers) (buf : List ℕ) (e : LiveEnds)
     → (let p = turn_by d t a buf e in Begins p.0 p.1.first)
 unfolding Begins
 turn_begins true t a buf e = refl
 turn_begins false t a buf e = sources_begin (is_behind e.timing t) t a buf e
 
-taken_begins : (b : Bool) (n : ℕ) (before : Source) (buf : List ℕ) (f : Option Found) (e : Ends)
+taken_begins : (b : Bool) (n : ℕ) (before : EventSource) (buf : List ℕ) (f : Option SourceEvent)
+    (e : LiveEnds)
     → Begins f e.first
     → BeginsBehind (event_at n (taken_by b buf f e).0) before (taken_by b buf f e).1.first
 unfolding Begins
@@ -183,37 +185,38 @@ taken_begins true n before buf (Some found.Cut) e h = h
 taken_begins true n before buf (Some (found.Line len)) e h = h
 taken_begins true n before buf (Some found.Fault) e h = h
 
-behind_by : (old new : Ends) (event : Next) (buf : List ℕ) → Turns old event buf new
+behind_by : (old new : LiveEnds) (event : Next) (buf : List ℕ) → Turns old event buf new
     → BeginsBehind event old.first new.first
 behind_by old new event buf (inl t) =
     let P : Next → Type 0 = λ e. BeginsBehind e old.first new.first in
-    subst P (sym t.told.told) (ap (λ (e : Ends). e.first) t.told.ends)
+    subst P (sym t.given.given) (ap (λ (e : LiveEnds). e.first) t.given.ends)
 behind_by old new event buf (inr t) =
     let l = t.looks in
     let n = moment_at new.timing t.now in
     let P : Next → Type 0 = λ e. BeginsBehind e old.first new.first in
-    let Q : Option Found × Ends → Type 0 = λ p. Begins p.0 p.1.first in
-    let R : Ends → Type 0 = λ e. Begins t.f e.first in
-    let S : Option Found × Ends → Type 0 = λ p. BeginsBehind (event_at n p.0) old.first p.1.first in
+    let Q : Option SourceEvent × LiveEnds → Type 0 = λ p. Begins p.0 p.1.first in
+    let R : LiveEnds → Type 0 = λ e. Begins t.f e.first in
+    let S : Option SourceEvent × LiveEnds → Type 0 = λ p. BeginsBehind (event_at n p.0) old.first
+    p.1.first in
     let last : Begins t.f l.found.first =
     subst Q (sym l.turn.turned) (turn_begins l.before.is_cut_due l.begun l.turn.answers buf
     l.before) in
     let looked_on : Begins t.f t.found.first = subst R (sym l.done) last in
-    subst P (sym t.told.told) (subst S (sym t.told.ends)
+    subst P (sym t.given.given) (subst S (sym t.given.ends)
     (taken_begins (is_behind t.found.timing t.now) n old.first buf t.f t.found looked_on))
 
-pub behind : (old new : Ends) (event : Next) (buf : List ℕ) → LogsTurn old event buf new
+pub behind : (old new : LiveEnds) (event : Next) (buf : List ℕ) → LogsTurn old event buf new
     → BeginsBehind event old.first new.first
 behind old new event buf l = behind_by old (as_logged old.log new) event buf l.turns
 
 -- an action leaves it
-written_first : (b : Bool) (octets : List ℕ) (taken : Bool) (p : Option Peer) (e : Ends)
+written_first : (b : Bool) (octets : List ℕ) (taken : Bool) (p : Option Peer) (e : LiveEnds)
     → (written_open b octets taken p e).first ≡ e.first
 written_first true octets taken p e = refl
 written_first false octets taken None e = refl
 written_first false octets taken (Some peer) e = refl
 
-closed_first : (c : Close) (e : Ends) → (closed_by c e).first ≡ e.first
+closed_first : (c : Close) (e : LiveEnds) → (closed_by c e).first ≡ e.first
 closed_first close.Grammar e = refl
 closed_first close.SendNumber e = refl
 closed_first close.ReceiveNumber e = refl
@@ -222,7 +225,7 @@ closed_first close.Timeout e = refl
 closed_first close.OwnAnswers e = refl
 closed_first close.Replaced e = refl
 
-action_first : (moment : ℕ) (action : Output) (written : ℕ) (taken : Bool) (late : ℕ) (e : Ends)
+action_first : (moment : ℕ) (action : Output) (written : ℕ) (taken : Bool) (late : ℕ) (e : LiveEnds)
     → (after_action moment action written taken late e).first ≡ e.first
 action_first moment (LineOut octets) written taken late e = refl
 action_first moment (TcpOut octets) written taken late e =
@@ -230,10 +233,11 @@ action_first moment (TcpOut octets) written taken late e =
 action_first moment (Closed cause) written taken late e = closed_first cause e
 action_first moment (GapOut station session) written taken late e = refl
 
-pub put_first : (old new : Ends) (moment : ℕ) (action : Output) → LogsPut old moment action new
+pub put_first : (old new : LiveEnds) (moment : ℕ) (action : Output) → LogsPut old moment action new
     → new.first ≡ old.first
 put_first old new moment action l =
-    ap (λ (e : Ends). e.first) l.puts.done ∙ action_first moment action l.puts.written l.puts.taken
+    ap (λ (e : LiveEnds). e.first) l.puts.done
+    ∙ action_first moment action l.puts.written l.puts.taken
     l.puts.late old
 
 -- at least as much has happened
@@ -245,7 +249,7 @@ IsLeast (Some before) (Some now) = length before ≤ length now
 IsLeastAt : (before now : Option Peer) → Type 0
 IsLeastAt None now = Unit {0}
 IsLeastAt (Some before) None = ⊥
-IsLeastAt (Some before) (Some now) = IsLeast before.wire now.wire
+IsLeastAt (Some before) (Some now) = IsLeast before.stream now.stream
 
 least_same : {A : Type 0} (a : Option (List A)) → IsLeast a a
 unfolding IsLeast
@@ -255,7 +259,7 @@ least_same (Some before) = omega arith
 least_same_at : (a : Option Peer) → IsLeastAt a a
 unfolding IsLeastAt
 least_same_at None = tt
-least_same_at (Some peer) = least_same peer.wire
+least_same_at (Some peer) = least_same peer.stream
 
 least_of : {A : Type 0} (a b : Option (List A)) → IsMore a b → IsLeast a b
 unfolding IsLeast
@@ -267,7 +271,7 @@ least_of_at : (a b : Option Peer) → IsMoreAt a b → IsLeastAt a b
 unfolding IsLeastAt
 least_of_at None b m = tt
 least_of_at (Some a) None m = m
-least_of_at (Some a) (Some b) m = least_of a.wire b.wire m
+least_of_at (Some a) (Some b) m = least_of a.stream b.stream m
 
 least_least : {A : Type 0} (a b c : Option (List A)) → IsLeast a b → IsLeast b c → IsLeast a c
 unfolding IsLeast
@@ -281,7 +285,7 @@ unfolding IsLeastAt
 least_least_at None b c l m = tt
 least_least_at (Some a) None c l m = absurd l
 least_least_at (Some a) (Some b) None l m = m
-least_least_at (Some a) (Some b) (Some c) l m = least_least a.wire b.wire c.wire l m
+least_least_at (Some a) (Some b) (Some c) l m = least_least a.stream b.stream c.stream l m
 
 least_more : {A : Type 0} (a b c : Option (List A)) → IsLeast a b → IsMore b c → IsMore a c
 unfolding IsLeast
@@ -295,25 +299,26 @@ unfolding IsLeastAt
 least_more_at None b c l m = tt
 least_more_at (Some a) None c l m = absurd l
 least_more_at (Some a) (Some b) None l m = m
-least_more_at (Some a) (Some b) (Some c) l m = least_more a.wire b.wire c.wire l m
+least_more_at (Some a) (Some b) (Some c) l m = least_more a.stream b.stream c.stream l m
 
 -- what rounds that found nothing leave
-record Stays (old new : Ends) : Type 0 where
-  door : IsLeast old.door new.door
+record Stays (old new : LiveEnds) : Type 0 where
+  listener : IsLeast old.listener new.listener
   connection : IsLeastAt old.connection new.connection
   line : IsLeast old.line new.line
   first : new.first ≡ old.first
   due : new.is_cut_due ≡ old.is_cut_due
   held : new.held ≡ old.held
 
-StaysIf : Option Found → (old new : Ends) → Type 0
+StaysIf : Option SourceEvent → (old new : LiveEnds) → Type 0
 StaysIf None old new = Stays old new
 StaysIf (Some f) old new = Unit {0}
 
-stays_round : (f : Option Found) (old new : Ends) → Looked old.first f old new → StaysIf f old new
+stays_round : (f : Option SourceEvent) (old new : LiveEnds) → Looked old.first f old new
+    → StaysIf f old new
 unfolding Looked StaysIf
 stays_round None old new l = record {
-  door = least_of old.door new.door l.1;
+  listener = least_of old.listener new.listener l.1;
   connection = least_of_at old.connection new.connection l.2;
   line = least_of old.line new.line l.3;
   first = l.0;
@@ -322,12 +327,12 @@ stays_round None old new l = record {
 }
 stays_round (Some f) old new l = tt
 
-line_stays : (t : ℕ) (a : Answers) (l : Got) (buf : List ℕ) (e : Ends)
+line_stays : (t : ℕ) (a : Answers) (l : Got) (buf : List ℕ) (e : LiveEnds)
     → (let p = look Line t (record a { line = l }) buf e nothing_more in StaysIf p.0 e p.1)
 unfolding StaysIf
 line_stays t a (Octets len) buf e = tt
 line_stays t a Quiet buf e = record {
-  door = least_same e.door;
+  listener = least_same e.listener;
   connection = least_same_at e.connection;
   line = least_of e.line (noted e.line WasQuiet) (noted_more e.line WasQuiet);
   first = refl;
@@ -336,32 +341,32 @@ line_stays t a Quiet buf e = record {
 }
 line_stays t a Gone buf e = tt
 
-held_stays : (held : List ℕ) (t : ℕ) (a : Answers) (buf : List ℕ) (e : Ends)
+held_stays : (held : List ℕ) (t : ℕ) (a : Answers) (buf : List ℕ) (e : LiveEnds)
     → (let p = held_by held t a buf e in StaysIf p.0 e p.1)
 unfolding StaysIf InRound
 held_stays [] t a buf e =
     let p = round t a buf e in stays_round p.0 e p.1 (in_round t a buf e)
 held_stays (octet ∷ octets) t a buf e = tt
 
-sources_stay : (b : Bool) (t : ℕ) (a : Answers) (buf : List ℕ) (e : Ends)
+sources_stay : (b : Bool) (t : ℕ) (a : Answers) (buf : List ℕ) (e : LiveEnds)
     → (let p = sources_by b t a buf e in StaysIf p.0 e p.1)
 sources_stay true t a buf e = line_stays t a a.line buf e
 sources_stay false t a buf e = held_stays e.held t a buf e
 
-turn_stays : (d : Bool) (t : ℕ) (a : Answers) (buf : List ℕ) (e : Ends)
+turn_stays : (d : Bool) (t : ℕ) (a : Answers) (buf : List ℕ) (e : LiveEnds)
     → (let p = turn_by d t a buf e in StaysIf p.0 e p.1)
 unfolding StaysIf
 turn_stays true t a buf e = tt
 turn_stays false t a buf e = sources_stay (is_behind e.timing t) t a buf e
 
-one_stays : (begun now : ℕ) (e n : Ends) (buf : List ℕ) → IsTurn begun e None buf n
-    → Stays e (told_at now n)
+one_stays : (begun now : ℕ) (e n : LiveEnds) (buf : List ℕ) → IsTurn begun e None buf n
+    → Stays e (clock_read_at now n)
 unfolding StaysIf
 one_stays begun now e n buf t =
-    let Q : Option Found × Ends → Type 0 = λ p. StaysIf p.0 e p.1 in
+    let Q : Option SourceEvent × LiveEnds → Type 0 = λ p. StaysIf p.0 e p.1 in
     let s : Stays e n = subst Q (sym t.turned) (turn_stays e.is_cut_due begun t.answers buf e) in
     record {
-      door = s.door;
+      listener = s.listener;
       connection = s.connection;
       line = s.line;
       first = s.first;
@@ -369,10 +374,10 @@ one_stays begun now e n buf t =
       held = s.held;
     }
 
-quiet_stays : (start : Ends) (first count begun : ℕ) (e : Ends)
+quiet_stays : (start : LiveEnds) (first count begun : ℕ) (e : LiveEnds)
     → QuietRounds start first count begun e → Stays start e
 quiet_stays start first _ _ _ NoRound = record {
-  door = least_same start.door;
+  listener = least_same start.listener;
   connection = least_same_at start.connection;
   line = least_same start.line;
   first = refl;
@@ -383,7 +388,7 @@ quiet_stays start first _ _ _ (OneRound count begun now before found buf q t und
     let s = quiet_stays start first count begun before q in
     let m = one_stays begun now before found buf t in
     record {
-      door = least_least start.door before.door found.door s.door m.door;
+      listener = least_least start.listener before.listener found.listener s.listener m.listener;
       connection = least_least_at start.connection before.connection found.connection s.connection
           m.connection;
       line = least_least start.line before.line found.line s.line m.line;
@@ -392,60 +397,63 @@ quiet_stays start first _ _ _ (OneRound count begun now before found buf q t und
       held = m.held ∙ s.held;
     }
 
--- and what they heard
-quiet_heard : (start : Ends) (first count begun : ℕ) (e : Ends)
+-- and when they looked at the line
+quiet_read : (start : LiveEnds) (first count begun : ℕ) (e : LiveEnds)
     → QuietRounds start first count begun e
-    → (heard : ℕ) × (e.timing ≡ heard_at heard start.timing)
-quiet_heard start first _ _ _ NoRound = (start.timing.heard, refl)
-quiet_heard start first _ _ _ (OneRound count begun now before found buf q t undue) =
-    let h = quiet_heard start first count begun before q in
-    (begun, quiet_hears begun before found buf t ∙ ap (heard_at begun) h.1)
+    → (looked : ℕ) × (e.timing ≡ line_looked_at looked start.timing)
+quiet_read start first _ _ _ NoRound = (start.timing.looked, refl)
+quiet_read start first _ _ _ (OneRound count begun now before found buf q t undue) =
+    let h = quiet_read start first count begun before q in
+    (begun, quiet_reads begun before found buf t ∙ ap (line_looked_at begun) h.1)
 
 -- the last round
-in_turn : (begun : ℕ) (e n : Ends) (f : Option Found) (buf : List ℕ) → IsTurn begun e f buf n
+in_turn : (begun : ℕ) (e n : LiveEnds) (f : Option SourceEvent) (buf : List ℕ)
+    → IsTurn begun e f buf n
     → e.is_cut_due ≡ false → is_behind e.timing begun ≡ false → e.held ≡ [] → Looked e.first f e n
 unfolding InRound
 in_turn begun e n f buf t due level none =
-    let Q : Option Found × Ends → Type 0 = λ p. InRound e.first e p in
+    let Q : Option SourceEvent × LiveEnds → Type 0 = λ p. InRound e.first e p in
     let plain : (f, n) ≡ round begun t.answers buf e =
     t.turned ∙ (ap (λ b. turn_by b begun t.answers buf e) due
     ∙ (ap (λ b. sources_by b begun t.answers buf e) level
     ∙ ap (λ h. held_by h begun t.answers buf e) none)) in
     subst Q (sym plain) (in_round begun t.answers buf e)
 
-compose : (n : ℕ) (s : Source) (f : Option Found) (old mid new : Ends) → Stays old mid
+compose : (n : ℕ) (s : EventSource) (f : Option SourceEvent) (old mid new : LiveEnds)
+    → Stays old mid
     → Looked s f mid new
     → LooksBefore (event_at n f) s old new
 unfolding Looked
 compose n s None old mid new k l = tt
-compose n Door (Some found.Open) old mid new k l = tt
+compose n Listener (Some found.Open) old mid new k l = tt
 compose n Connection (Some found.Open) old mid new k l =
     least_more old.line mid.line new.line k.line l.1
 compose n Line (Some found.Open) old mid new k l = least_more old.line mid.line new.line k.line l.1
-compose n Door (Some (found.Bytes len)) old mid new k l =
-    least_more old.door mid.door new.door k.door l.1
+compose n Listener (Some (found.Bytes len)) old mid new k l =
+    least_more old.listener mid.listener new.listener k.listener l.1
 compose n Connection (Some (found.Bytes len)) old mid new k l = tt
 compose n Line (Some (found.Bytes len)) old mid new k l = (
   least_more old.line mid.line new.line k.line l.1.0,
-  least_more old.door mid.door new.door
-      k.door l.1.1,
+  least_more old.listener mid.listener new.listener
+      k.listener l.1.1,
 )
-compose n Door (Some found.Cut) old mid new k l = least_more old.door mid.door new.door k.door l.1
+compose n Listener (Some found.Cut) old mid new k l =
+    least_more old.listener mid.listener new.listener k.listener l.1
 compose n Connection (Some found.Cut) old mid new k l = tt
 compose n Line (Some found.Cut) old mid new k l = (
   least_more old.line mid.line new.line k.line l.1.0,
-  least_more old.door mid.door new.door
-      k.door l.1.1,
+  least_more old.listener mid.listener new.listener
+      k.listener l.1.1,
 )
-compose n Door (Some (found.Line len)) old mid new k l = (
-  least_more old.door mid.door new.door k.door l.1.0,
+compose n Listener (Some (found.Line len)) old mid new k l = (
+  least_more old.listener mid.listener new.listener k.listener l.1.0,
   least_more_at old.connection mid.connection new.connection k.connection l.1.1,
 )
 compose n Connection (Some (found.Line len)) old mid new k l =
     least_more_at old.connection mid.connection new.connection k.connection l.1
 compose n Line (Some (found.Line len)) old mid new k l = tt
-compose n Door (Some found.Fault) old mid new k l = (
-  least_more old.door mid.door new.door k.door l.1.0,
+compose n Listener (Some found.Fault) old mid new k l = (
+  least_more old.listener mid.listener new.listener k.listener l.1.0,
   least_more_at old.connection mid.connection new.connection k.connection l.1.1,
 )
 compose n Connection (Some found.Fault) old mid new k l =
@@ -453,27 +461,28 @@ compose n Connection (Some found.Fault) old mid new k l =
 compose n Line (Some found.Fault) old mid new k l = tt
 
 -- the clock is no matter
-same_before : (n : ℕ) (s : Source) (f : Option Found) (old e : Ends) (now first : ℕ)
-    → LooksBefore (event_at n f) s (looking (told_at first old)) e
-    → LooksBefore (event_at n f) s old (told_at now e)
+same_before : (n : ℕ) (s : EventSource) (f : Option SourceEvent) (old e : LiveEnds) (now first : ℕ)
+    → LooksBefore (event_at n f) s (looking (clock_read_at first old)) e
+    → LooksBefore (event_at n f) s old (clock_read_at now e)
 same_before n s None old e now first h = tt
-same_before n Door (Some found.Open) old e now first h = h
+same_before n Listener (Some found.Open) old e now first h = h
 same_before n Connection (Some found.Open) old e now first h = h
 same_before n Line (Some found.Open) old e now first h = h
-same_before n Door (Some (found.Bytes len)) old e now first h = h
+same_before n Listener (Some (found.Bytes len)) old e now first h = h
 same_before n Connection (Some (found.Bytes len)) old e now first h = h
 same_before n Line (Some (found.Bytes len)) old e now first h = h
-same_before n Door (Some found.Cut) old e now first h = h
+same_before n Listener (Some found.Cut) old e now first h = h
 same_before n Connection (Some found.Cut) old e now first h = h
 same_before n Line (Some found.Cut) old e now first h = h
-same_before n Door (Some (found.Line len)) old e now first h = h
+same_before n Listener (Some (found.Line len)) old e now first h = h
 same_before n Connection (Some (found.Line len)) old e now first h = h
 same_before n Line (Some (found.Line len)) old e now first h = h
-same_before n Door (Some found.Fault) old e now first h = h
+same_before n Listener (Some found.Fault) old e now first h = h
 same_before n Connection (Some found.Fault) old e now first h = h
 same_before n Line (Some found.Fault) old e now first h = h
 
-taken_before : (b : Bool) (n : ℕ) (s : Source) (buf : List ℕ) (f : Option Found) (old e : Ends)
+taken_before : (b : Bool) (n : ℕ) (s : EventSource) (buf : List ℕ) (f : Option SourceEvent)
+    (old e : LiveEnds)
     → LooksBefore (event_at n f) s old e
     → LooksBefore (event_at n (taken_by b buf f e).0) s old (taken_by b buf f e).1
 taken_before false n s buf f old e h = h
@@ -484,75 +493,77 @@ taken_before true n s buf (Some found.Cut) old e h = h
 taken_before true n s buf (Some (found.Line len)) old e h = h
 taken_before true n s buf (Some found.Fault) old e h = h
 
-last_by : (old : Ends) (event : Next) (buf : List ℕ) (new : Ends)
+last_by : (old : LiveEnds) (event : Next) (buf : List ℕ) (new : LiveEnds)
     (t : TurnsToEnds old event buf new) (b : Bool)
     → old.is_cut_due ≡ false → old.held ≡ [] → is_behind t.looks.before.timing t.looks.begun ≡ b
     → LooksBefore event old.first old new ⊎ IsFarBehind old.timing
 last_by old event buf new t true due none is =
     let l = t.looks in
-    let h = quiet_heard (looking (told_at t.first old)) t.first l.count l.begun l.before l.quiet in
+    let h = quiet_read (looking (clock_read_at t.first old)) t.first l.count l.begun l.before
+    l.quiet in
     inr (record {
       begun = l.begun;
-      heard = h.0;
+      looked = h.0;
       behind = ap (λ (k : Timing). is_behind k l.begun) (sym h.1) ∙ is;
     })
 last_by old event buf new t false due none is =
     let l = t.looks in
-    let start = looking (told_at t.first old) in
+    let start = looking (clock_read_at t.first old) in
     let n = moment_at new.timing t.now in
     let k = quiet_stays start t.first l.count l.begun l.before l.quiet in
-    let S : Source → Type 0 = λ s. Looked s t.f l.before l.found in
+    let S : EventSource → Type 0 = λ s. Looked s t.f l.before l.found in
     let looked_so =
     subst S k.first (in_turn l.begun l.before l.found t.f buf l.turn (k.due ∙ due) is (k.held
     ∙ none)) in
     let last : LooksBefore (event_at n t.f) old.first start l.found =
     compose n old.first t.f start l.before l.found k looked_so in
     let P : Next → Type 0 = λ e. LooksBefore e old.first old new in
-    let R : Ends → Type 0 = λ e. LooksBefore (event_at n t.f) old.first old e in
-    let Q : Option Found × Ends → Type 0 = λ p. LooksBefore (event_at n p.0) old.first old p.1 in
-    inl (subst P (sym t.told.told) (subst Q (sym t.told.ends)
+    let R : LiveEnds → Type 0 = λ e. LooksBefore (event_at n t.f) old.first old e in
+    let Q : Option SourceEvent × LiveEnds → Type 0 = λ p. LooksBefore (event_at n p.0) old.first old
+    p.1 in
+    inl (subst P (sym t.given.given) (subst Q (sym t.given.ends)
     (taken_before (is_behind t.found.timing t.now) n old.first buf t.f old t.found
     (subst R (sym l.done) (same_before n old.first t.f old l.found t.now t.first last)))))
 
-before_by : (old new : Ends) (event : Next) (buf : List ℕ) → Turns old event buf new
+before_by : (old new : LiveEnds) (event : Next) (buf : List ℕ) → Turns old event buf new
     → old.is_cut_due ≡ false
     → old.held ≡ [] → LooksBefore event old.first old new ⊎ IsFarBehind old.timing
 before_by old new event buf (inl t) due none =
     let P : Next → Type 0 = λ e. LooksBefore e old.first old new in
-    inl (subst P (sym t.told.told) tt)
+    inl (subst P (sym t.given.given) tt)
 before_by old new event buf (inr t) due none =
     last_by old event buf new t (is_behind t.looks.before.timing t.looks.begun) due none refl
 
 -- the log is no matter
-logged_before : (event : Next) (s : Source) (log : Log) (old new : Ends)
+logged_before : (event : Next) (s : EventSource) (log : Log) (old new : LiveEnds)
     → LooksBefore event s old (as_logged log new)
     → LooksBefore event s old new
-logged_before (next.Open now) Door log old new h = h
+logged_before (next.Open now) Listener log old new h = h
 logged_before (next.Open now) Connection log old new h = h
 logged_before (next.Open now) Line log old new h = h
-logged_before (next.Bytes now len) Door log old new h = h
+logged_before (next.Bytes now len) Listener log old new h = h
 logged_before (next.Bytes now len) Connection log old new h = h
 logged_before (next.Bytes now len) Line log old new h = h
-logged_before (next.Cut now) Door log old new h = h
+logged_before (next.Cut now) Listener log old new h = h
 logged_before (next.Cut now) Connection log old new h = h
 logged_before (next.Cut now) Line log old new h = h
-logged_before (next.Line now len) Door log old new h = h
+logged_before (next.Line now len) Listener log old new h = h
 logged_before (next.Line now len) Connection log old new h = h
 logged_before (next.Line now len) Line log old new h = h
-logged_before next.Fault Door log old new h = h
+logged_before next.Fault Listener log old new h = h
 logged_before next.Fault Connection log old new h = h
 logged_before next.Fault Line log old new h = h
 logged_before (next.Tick now) s log old new h = tt
 logged_before (next.Wall now number) s log old new h = tt
 logged_before next.Done s log old new h = tt
 
-either_before : (event : Next) (log : Log) (old new : Ends)
+either_before : (event : Next) (log : Log) (old new : LiveEnds)
     → LooksBefore event old.first old (as_logged log new) ⊎ IsFarBehind old.timing
     → LooksBefore event old.first old new ⊎ IsFarBehind old.timing
 either_before event log old new (inl h) = inl (logged_before event old.first log old new h)
 either_before event log old new (inr h) = inr h
 
-pub in_turns : (old new : Ends) (event : Next) (buf : List ℕ) → LogsTurn old event buf new
+pub in_turns : (old new : LiveEnds) (event : Next) (buf : List ℕ) → LogsTurn old event buf new
     → old.is_cut_due ≡ false
     → old.held ≡ [] → LooksBefore event old.first old new ⊎ IsFarBehind old.timing
 in_turns old new event buf l due none =

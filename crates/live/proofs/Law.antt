@@ -3,23 +3,24 @@ use Rattle.std.proofs.Common.{◌≡◌, ℕ, ◌+◌, ◌-◌, ◌<◌, ◌≤�
 use Rattle.std.proofs.Common.{Some, None, refl, sym, ap, subst, arith, nat_lt, if◌then◌else◌, ◌∙◌}
 use Rattle.std.proofs.Common.{inl, inr}
 use Rattle.gateway.specs.declared.ports.Next.{Next}
-use Rattle.live.specs.Timing.{Moments, read_at, moment_at, moment_by, is_heard_out, goes_on}
+use Rattle.live.specs.Timing.{Moments, read_at, moment_at, moment_by, is_waited_out, goes_on}
 use Rattle.live.specs.Timing.{is_behind, eve}
-use Rattle.live.specs.Ends.{Ends, Peer, Answers, IsTurn, QuietRounds, NoRound, OneRound, LooksOn}
-use Rattle.live.specs.Ends.{Turns, LogsTurn, as_logged, looking, event_at, taken_by, told_at}
+use Rattle.live.specs.Ends.{LiveEnds, Peer, Answers, IsTurn, QuietRounds, NoRound, OneRound}
+use Rattle.live.specs.Ends.{LooksOn}
+use Rattle.live.specs.Ends.{Turns, LogsTurn, as_logged, looking, event_at, taken_by, clock_read_at}
 use Rattle.live.specs.Ends.{turn_by, sources_by, held_by, round, look, unless_found, next_round}
-use Rattle.live.specs.Ends.{looked_at, found_at, after, nothing_more, let_in}
+use Rattle.live.specs.Ends.{looked_at, found_at, after, nothing_more, accepted}
 use Rattle.live.proofs.Apart.{clock_of, clock_apart, taken_same}
-use Rattle.live.specs.declared.source.Source.{Source}
-use Rattle.live.specs.declared.source.Source.TheVariants.{Door, Connection, Line}
-use Rattle.live.specs.Law.{AtMoment, AtBytes, AtClock, IsHeardOut}
-use Rattle.live.specs.declared.found.Found.{Found}
-use Rattle.live.specs.declared.found.Found.TheVariants as found
+use Rattle.live.specs.declared.source.EventSource.{EventSource}
+use Rattle.live.specs.declared.source.EventSource.TheVariants.{Listener, Connection, Line}
+use Rattle.live.specs.Law.{AtMoment, AtBytes, AtClock, IsWaitedOut}
+use Rattle.live.specs.declared.found.SourceEvent.{SourceEvent}
+use Rattle.live.specs.declared.found.SourceEvent.TheVariants as found
 use Rattle.live.specs.declared.timing.Timing.{Timing}
-use Rattle.live.specs.declared.timing.Request.{Request}
+use Rattle.live.specs.declared.timing.WrittenRequest.{WrittenRequest}
 
 -- an event has the moment that it is given
-at_moment : (now : ℕ) (f : Option Found) (Holds : ℕ → Type 0) → Holds now
+at_moment : (now : ℕ) (f : Option SourceEvent) (Holds : ℕ → Type 0) → Holds now
     → AtMoment (event_at now f) Holds
 at_moment now None Holds h = h
 at_moment now (Some found.Open) Holds h = h
@@ -28,119 +29,122 @@ at_moment now (Some found.Cut) Holds h = h
 at_moment now (Some (found.Line len)) Holds h = h
 at_moment now (Some found.Fault) Holds h = tt
 
--- by whether the line is heard out, and whether the exchange goes on
-heard_by : (h g : Bool) (t : Timing) (r : Request) (now : ℕ) → is_heard_out t r ≡ h
+-- by whether the line is waited out, and whether the exchange goes on
+waited_by : (h g : Bool) (t : Timing) (r : WrittenRequest) (now : ℕ) → is_waited_out t r ≡ h
     → goes_on t r now ≡ g
     → 0 < t.answer_ms →
     r.moment + t.answer_ms ≤ (if h then now else (if g then now else eve t r)) → t.answer_ms
-    ≤ t.heard - r.written
-heard_by true g t r now heard on some late = grind (arith, heard)
-heard_by false true t r now heard on some late = grind (arith, on)
-heard_by false false t r now heard on some late = omega (arith, some, late)
+    ≤ t.looked - r.written
+waited_by true g t r now looked on some late = grind (arith, looked)
+waited_by false true t r now looked on some late = grind (arith, on)
+waited_by false false t r now looked on some late = omega (arith, some, late)
 
-by_request : (t : Timing) (q : Option Request) (r : Request) (now : ℕ) → q ≡ Some r
+by_request : (t : Timing) (q : Option WrittenRequest) (r : WrittenRequest) (now : ℕ) → q ≡ Some r
     → 0 < t.answer_ms
-    → r.moment + t.answer_ms ≤ moment_by t q now → t.answer_ms ≤ t.heard - r.written
-by_request t q r now asked some late = heard_by (is_heard_out t r) (goes_on t r now) t r now refl
+    → r.moment + t.answer_ms ≤ moment_by t q now → t.answer_ms ≤ t.looked - r.written
+by_request t q r now asked some late = waited_by (is_waited_out t r) (goes_on t r now) t r now refl
     refl some
-    (let P : Option Request → Type 0 = λ q. r.moment + t.answer_ms ≤ moment_by t q now in
+    (let P : Option WrittenRequest → Type 0 = λ q. r.moment + t.answer_ms ≤ moment_by t q now in
     subst P asked late)
 
-heard_out_by : (old new : Ends) (event : Next) (buf : List ℕ) (r : Request)
+waited_out_by : (old new : LiveEnds) (event : Next) (buf : List ℕ) (r : WrittenRequest)
     → Turns old event buf new
     → new.timing.request ≡ Some r
     → 0 < new.timing.answer_ms →
     AtMoment event (λ moment. r.moment + new.timing.answer_ms ≤ moment
-    → new.timing.answer_ms ≤ new.timing.heard - r.written)
-heard_out_by old new event buf r (inl t) asked some =
+    → new.timing.answer_ms ≤ new.timing.looked - r.written)
+waited_out_by old new event buf r (inl t) asked some =
     let Holds : ℕ → Type 0 = λ moment. r.moment + new.timing.answer_ms ≤ moment →
-    new.timing.answer_ms ≤ new.timing.heard - r.written in
+    new.timing.answer_ms ≤ new.timing.looked - r.written in
     let P : Next → Type 0 = λ e. AtMoment e Holds in
     let Q : Timing → Type 0 = λ k. Holds (moment_at k t.begun) in
-    let same : new.timing ≡ old.timing = ap (λ (e : Ends). e.timing) t.told.ends in
-    subst P (sym t.told.told)
+    let same : new.timing ≡ old.timing = ap (λ (e : LiveEnds). e.timing) t.given.ends in
+    subst P (sym t.given.given)
     (subst Q same (by_request new.timing new.timing.request r t.begun asked some))
-heard_out_by old new event buf r (inr t) asked some =
+waited_out_by old new event buf r (inr t) asked some =
     let Holds : ℕ → Type 0 = λ moment. r.moment + new.timing.answer_ms ≤ moment →
-    new.timing.answer_ms ≤ new.timing.heard - r.written in
+    new.timing.answer_ms ≤ new.timing.looked - r.written in
     let P : Next → Type 0 = λ e. AtMoment e Holds in
-    subst P (sym t.told.told) (at_moment (moment_at new.timing t.now) t.told.taken Holds
+    subst P (sym t.given.given) (at_moment (moment_at new.timing t.now) t.given.taken Holds
     (by_request new.timing new.timing.request r t.now asked some))
 
-pub heard_out : (old new : Ends) (event : Next) (buf : List ℕ) (r : Request)
+pub waited_out : (old new : LiveEnds) (event : Next) (buf : List ℕ) (r : WrittenRequest)
     → LogsTurn old event buf new
     → new.timing.request ≡ Some r → 0 < new.timing.answer_ms →
     AtMoment event (λ moment. r.moment + new.timing.answer_ms ≤ moment
-    → new.timing.answer_ms ≤ new.timing.heard - r.written)
-heard_out old new event buf r l = heard_out_by old (as_logged old.log new) event buf r l.turns
+    → new.timing.answer_ms ≤ new.timing.looked - r.written)
+waited_out old new event buf r l = waited_out_by old (as_logged old.log new) event buf r l.turns
 
--- the clock has told this last
-at_clock : (told : Moments) (now : ℕ) (Holds : ℕ → Type 0) → Holds now
-    → AtClock (read_at told now) Holds
+-- the clock has given this last
+at_clock : (given : Moments) (now : ℕ) (Holds : ℕ → Type 0) → Holds now
+    → AtClock (read_at given now) Holds
 at_clock None now Holds h = tt
 at_clock (Some before) now Holds h = h
 
--- the clock has told this
-clock_told : (now : ℕ) (b : Bool) (buf : List ℕ) (f : Option Found) (old found new : Ends)
-    (taken : Option Found)
-    → found ≡ told_at now old → (taken, new) ≡ taken_by b buf f found → new.clock
+-- the clock has given this
+clock_read : (now : ℕ) (b : Bool) (buf : List ℕ) (f : Option SourceEvent) (old found new : LiveEnds)
+    (taken : Option SourceEvent)
+    → found ≡ clock_read_at now old → (taken, new) ≡ taken_by b buf f found → new.clock
     ≡ read_at old.clock now
-clock_told now b buf f old found new taken done is =
-    ap (λ (p : Option Found × Ends). clock_of p.1) is
+clock_read now b buf f old found new taken done is =
+    ap (λ (p : Option SourceEvent × LiveEnds). clock_of p.1) is
     ∙ (taken_same clock_of clock_apart b buf f found ∙ ap clock_of done)
 
--- once the line was heard out, or before any request, the moment is the clock's
-out_by : (h : Bool) (t : Timing) (r : Request) (now : ℕ) → is_heard_out t r ≡ h → t.answer_ms
-    ≤ t.heard - r.written
+-- once the line was waited out, or before any request, the moment is the clock's
+out_by : (h : Bool) (t : Timing) (r : WrittenRequest) (now : ℕ) → is_waited_out t r ≡ h
+    → t.answer_ms
+    ≤ t.looked - r.written
     → (if h then now else (if goes_on t r now then now else eve t r)) ≡ now
-out_by true t r now heard long = refl
-out_by false t r now heard long = absurd (grind (arith, heard, long))
+out_by true t r now looked long = refl
+out_by false t r now looked long = absurd (grind (arith, looked, long))
 
-clocks_by : (t : Timing) (q : Option Request) (now : ℕ) → IsHeardOut t q → moment_by t q now ≡ now
+clocks_by : (t : Timing) (q : Option WrittenRequest) (now : ℕ) → IsWaitedOut t q → moment_by t q now
+    ≡ now
 clocks_by t None now out = refl
-clocks_by t (Some r) now out = out_by (is_heard_out t r) t r now refl out
+clocks_by t (Some r) now out = out_by (is_waited_out t r) t r now refl out
 
-clocks_of : (old new : Ends) (event : Next) (buf : List ℕ) → Turns old event buf new
-    → IsHeardOut new.timing new.timing.request
+clocks_of : (old new : LiveEnds) (event : Next) (buf : List ℕ) → Turns old event buf new
+    → IsWaitedOut new.timing new.timing.request
     → AtClock new.clock (λ now. AtMoment event (λ moment. moment ≡ now))
 clocks_of old new event buf (inl t) out =
     let P : Next → Type 0 = λ e. AtClock new.clock (λ now. AtMoment e (λ moment. moment ≡ now)) in
     let m = moment_at old.timing t.begun in
     let R : Moments → Type 0 = λ c. AtClock c (λ now. m ≡ now) in
-    let same : new.timing ≡ old.timing = ap (λ (e : Ends). e.timing) t.told.ends in
+    let same : new.timing ≡ old.timing = ap (λ (e : LiveEnds). e.timing) t.given.ends in
     let Q : Timing → Type 0 = λ k. moment_at k t.begun ≡ t.begun in
-    let told = ap (λ (e : Ends). e.clock) t.told.ends in
-    subst P (sym t.told.told) (subst R (sym told) (at_clock old.clock t.begun (λ now. m ≡ now)
+    let given = ap (λ (e : LiveEnds). e.clock) t.given.ends in
+    subst P (sym t.given.given) (subst R (sym given) (at_clock old.clock t.begun (λ now. m ≡ now)
     (subst Q same (clocks_by new.timing new.timing.request t.begun out))))
 clocks_of old new event buf (inr t) out =
     let m = moment_at new.timing t.now in
     let P : Next → Type 0 = λ e. AtClock new.clock (λ now. AtMoment e (λ moment. moment ≡ now)) in
     let R : Moments → Type 0 =
-    λ c. AtClock c (λ now. AtMoment (event_at m t.told.taken) (λ moment. moment ≡ now)) in
-    let told = clock_told t.now (is_behind t.found.timing t.now) buf t.f t.looks.found t.found new
-    t.told.taken
-    t.looks.done t.told.ends in
-    subst P (sym t.told.told) (subst R (sym told) (at_clock t.looks.found.clock t.now
-    (λ now. AtMoment (event_at m t.told.taken) (λ moment. moment ≡ now))
-    (at_moment m t.told.taken (λ moment. moment ≡ t.now)
+    λ c. AtClock c (λ now. AtMoment (event_at m t.given.taken) (λ moment. moment ≡ now)) in
+    let given = clock_read t.now (is_behind t.found.timing t.now) buf t.f t.looks.found t.found new
+    t.given.taken
+    t.looks.done t.given.ends in
+    subst P (sym t.given.given) (subst R (sym given) (at_clock t.looks.found.clock t.now
+    (λ now. AtMoment (event_at m t.given.taken) (λ moment. moment ≡ now))
+    (at_moment m t.given.taken (λ moment. moment ≡ t.now)
     (clocks_by new.timing new.timing.request t.now out))))
 
-pub clocks : (old new : Ends) (event : Next) (buf : List ℕ) → LogsTurn old event buf new
-    → IsHeardOut new.timing new.timing.request
+pub clocks : (old new : LiveEnds) (event : Next) (buf : List ℕ) → LogsTurn old event buf new
+    → IsWaitedOut new.timing new.timing.request
     → AtClock new.clock (λ now. AtMoment event (λ moment. moment ≡ now))
 clocks old new event buf l out = clocks_of old (as_logged old.log new) event buf l.turns out
 
 -- what a control centre sent is at most 50 ms behind the clock
-InTime : ℕ → Option Found × Ends → Type 0
+InTime : ℕ → Option SourceEvent × LiveEnds → Type 0
 InTime now p =
     AtClock p.1.clock (λ n. AtBytes (event_at (moment_at p.1.timing now) p.0) (λ m. n ≤ m + 50))
 
 level_bound : (now m : ℕ) → nat_lt 50 (now - m) ≡ false → now ≤ m + 50
 level_bound now m level = grind (arith, level)
 
-timely : (b : Bool) (buf : List ℕ) (f : Option Found) (e : Ends) (now : ℕ) → is_behind e.timing now
+timely : (b : Bool) (buf : List ℕ) (f : Option SourceEvent) (e : LiveEnds) (now : ℕ)
+    → is_behind e.timing now
     ≡ b
-    → InTime now (taken_by b buf f (told_at now e))
+    → InTime now (taken_by b buf f (clock_read_at now e))
 unfolding InTime
 timely true buf None e now behind = at_clock e.clock now (λ n. Unit {0}) tt
 timely true buf (Some found.Open) e now behind = at_clock e.clock now (λ n. Unit {0}) tt
@@ -157,24 +161,25 @@ timely false buf (Some found.Cut) e now behind = at_clock e.clock now (λ n. Uni
 timely false buf (Some (found.Line len)) e now behind = at_clock e.clock now (λ n. Unit {0}) tt
 timely false buf (Some found.Fault) e now behind = at_clock e.clock now (λ n. Unit {0}) tt
 
-in_time_by : (old new : Ends) (event : Next) (buf : List ℕ) → Turns old event buf new
+in_time_by : (old new : LiveEnds) (event : Next) (buf : List ℕ) → Turns old event buf new
     → AtClock new.clock (λ now. AtBytes event (λ moment. now ≤ moment + 50))
 unfolding InTime
 in_time_by old new event buf (inl t) =
     let P : Next → Type 0 =
     λ e. AtClock new.clock (λ now. AtBytes e (λ moment. now ≤ moment + 50)) in
     let R : Moments → Type 0 = λ c. AtClock c (λ now. Unit {0}) in
-    let told = ap (λ (e : Ends). e.clock) t.told.ends in
-    subst P (sym t.told.told) (subst R (sym told) (at_clock old.clock t.begun (λ n. Unit {0}) tt))
+    let given = ap (λ (e : LiveEnds). e.clock) t.given.ends in
+    subst P (sym t.given.given)
+    (subst R (sym given) (at_clock old.clock t.begun (λ n. Unit {0}) tt))
 in_time_by old new event buf (inr t) =
     let P : Next → Type 0 =
     λ e. AtClock new.clock (λ now. AtBytes e (λ moment. now ≤ moment + 50)) in
-    let Q : Option Found × Ends → Type 0 = λ p. InTime t.now p in
-    let R : Ends → Type 0 = λ e. InTime t.now (taken_by (is_behind e.timing t.now) buf t.f e) in
-    subst P (sym t.told.told) (subst Q (sym t.told.ends) (subst R (sym t.looks.done)
+    let Q : Option SourceEvent × LiveEnds → Type 0 = λ p. InTime t.now p in
+    let R : LiveEnds → Type 0 = λ e. InTime t.now (taken_by (is_behind e.timing t.now) buf t.f e) in
+    subst P (sym t.given.given) (subst Q (sym t.given.ends) (subst R (sym t.looks.done)
     (timely (is_behind t.looks.found.timing t.now) buf t.f t.looks.found t.now refl)))
 
-pub in_time : (old new : Ends) (event : Next) (buf : List ℕ) → LogsTurn old event buf new
+pub in_time : (old new : LiveEnds) (event : Next) (buf : List ℕ) → LogsTurn old event buf new
     → AtClock new.clock (λ now. AtBytes event (λ moment. now ≤ moment + 50))
 in_time old new event buf l = in_time_by old (as_logged old.log new) event buf l.turns
 
@@ -182,37 +187,39 @@ in_time old new event buf l = in_time_by old (as_logged old.log new) event buf l
 Keeps : Timing → Timing → Type 0
 Keeps a b = (b.request ≡ a.request) × (b.answer_ms ≡ a.answer_ms)
 
-let_in_keeps : (k : Timing) (v : Option Peer) (e : Ends) → Keeps k e.timing
-    → Keeps k (let_in v e).timing
-let_in_keeps k None e h = h
-let_in_keeps k (Some visitor) e h = h
+accepted_keeps : (k : Timing) (v : Option Peer) (e : LiveEnds) → Keeps k e.timing
+    → Keeps k (accepted v e).timing
+accepted_keeps k None e h = h
+accepted_keeps k (Some peer) e h = h
 
-looked_keeps : (k : Timing) (s : Source) (t : ℕ) (a : Answers) (buf : List ℕ) (e : Ends)
+looked_keeps : (k : Timing) (s : EventSource) (t : ℕ) (a : Answers) (buf : List ℕ) (e : LiveEnds)
     → Keeps k e.timing
     → Keeps k (looked_at s t a buf e).timing
 unfolding Keeps
-looked_keeps k Door t a buf e h = let_in_keeps k a.visitor e h
+looked_keeps k Listener t a buf e h = accepted_keeps k a.peer e h
 looked_keeps k Connection t a buf e h = h
 looked_keeps k Line t a buf e h = h
 
-next_keeps : (k : Timing) (s : Source) (f : Option Found) (e : Ends) → Keeps k e.timing
+next_keeps : (k : Timing) (s : EventSource) (f : Option SourceEvent) (e : LiveEnds)
+    → Keeps k e.timing
     → Keeps k (next_round s f e).timing
 next_keeps k s None e h = h
 next_keeps k s (Some f) e h = h
 
 -- what goes on from ends that keep them keeps them
-IsKeeping : Timing → (Ends → Option Found × Ends) → Type 0
-IsKeeping k others = (e : Ends) → Keeps k e.timing → Keeps k (others e).1.timing
+IsKeeping : Timing → (LiveEnds → Option SourceEvent × LiveEnds) → Type 0
+IsKeeping k others = (e : LiveEnds) → Keeps k e.timing → Keeps k (others e).1.timing
 
-unless_keeps : (k : Timing) (f : Option Found) (e : Ends) (others : Ends → Option Found × Ends)
+unless_keeps : (k : Timing) (f : Option SourceEvent) (e : LiveEnds) (others : LiveEnds
+    → Option SourceEvent × LiveEnds)
     → Keeps k e.timing
     → IsKeeping k others → Keeps k (unless_found f e others).1.timing
 unfolding IsKeeping
 unless_keeps k None e others h on = on e h
 unless_keeps k (Some f) e others h on = h
 
-look_keeps : (k : Timing) (s : Source) (t : ℕ) (a : Answers) (buf : List ℕ) (others : Ends
-    → Option Found × Ends)
+look_keeps : (k : Timing) (s : EventSource) (t : ℕ) (a : Answers) (buf : List ℕ) (others : LiveEnds
+    → Option SourceEvent × LiveEnds)
     → IsKeeping k others
     → IsKeeping k (λ e. look s t a buf e others)
 unfolding IsKeeping
@@ -225,7 +232,7 @@ nothing_keeps : (k : Timing) → IsKeeping k nothing_more
 unfolding IsKeeping
 nothing_keeps k e h = h
 
-round_keeps : (k : Timing) (t : ℕ) (a : Answers) (buf : List ℕ) (e : Ends) → Keeps k e.timing
+round_keeps : (k : Timing) (t : ℕ) (a : Answers) (buf : List ℕ) (e : LiveEnds) → Keeps k e.timing
     → Keeps k (round t a buf e).1.timing
 unfolding IsKeeping
 round_keeps k t a buf e h =
@@ -236,26 +243,26 @@ round_keeps k t a buf e h =
     (λ x. look (after e.first) t a buf x (λ y. look (after (after e.first)) t a buf y nothing_more))
     second e h
 
-held_keeps : (k : Timing) (held : List ℕ) (t : ℕ) (a : Answers) (buf : List ℕ) (e : Ends)
+held_keeps : (k : Timing) (held : List ℕ) (t : ℕ) (a : Answers) (buf : List ℕ) (e : LiveEnds)
     → Keeps k e.timing
     → Keeps k (held_by held t a buf e).1.timing
 held_keeps k [] t a buf e h = round_keeps k t a buf e h
 held_keeps k (octet ∷ octets) t a buf e h = h
 
-sources_keeps : (k : Timing) (b : Bool) (t : ℕ) (a : Answers) (buf : List ℕ) (e : Ends)
+sources_keeps : (k : Timing) (b : Bool) (t : ℕ) (a : Answers) (buf : List ℕ) (e : LiveEnds)
     → Keeps k e.timing
     → Keeps k (sources_by b t a buf e).1.timing
 unfolding IsKeeping
 sources_keeps k true t a buf e h = look_keeps k Line t a buf nothing_more (nothing_keeps k) e h
 sources_keeps k false t a buf e h = held_keeps k e.held t a buf e h
 
-turn_keeps : (k : Timing) (d : Bool) (t : ℕ) (a : Answers) (buf : List ℕ) (e : Ends)
+turn_keeps : (k : Timing) (d : Bool) (t : ℕ) (a : Answers) (buf : List ℕ) (e : LiveEnds)
     → Keeps k e.timing
     → Keeps k (turn_by d t a buf e).1.timing
 turn_keeps k true t a buf e h = h
 turn_keeps k false t a buf e h = sources_keeps k (is_behind e.timing t) t a buf e h
 
-taken_keeps : (k : Timing) (b : Bool) (buf : List ℕ) (f : Option Found) (e : Ends)
+taken_keeps : (k : Timing) (b : Bool) (buf : List ℕ) (f : Option SourceEvent) (e : LiveEnds)
     → Keeps k e.timing
     → Keeps k (taken_by b buf f e).1.timing
 taken_keeps k false buf f e h = h
@@ -266,42 +273,44 @@ taken_keeps k true buf (Some found.Cut) e h = h
 taken_keeps k true buf (Some (found.Line len)) e h = h
 taken_keeps k true buf (Some found.Fault) e h = h
 
-one_keeps : (k : Timing) (begun : ℕ) (e n : Ends) (f : Option Found) (buf : List ℕ)
+one_keeps : (k : Timing) (begun : ℕ) (e n : LiveEnds) (f : Option SourceEvent) (buf : List ℕ)
     → IsTurn begun e f buf n
     → Keeps k e.timing → Keeps k n.timing
 one_keeps k begun e n f buf t h =
-    let Q : Option Found × Ends → Type 0 = λ p. Keeps k p.1.timing in
+    let Q : Option SourceEvent × LiveEnds → Type 0 = λ p. Keeps k p.1.timing in
     subst Q (sym t.turned) (turn_keeps k e.is_cut_due begun t.answers buf e h)
 
-quiet_keeps : (k : Timing) (start : Ends) (first count begun : ℕ) (e : Ends)
+quiet_keeps : (k : Timing) (start : LiveEnds) (first count begun : ℕ) (e : LiveEnds)
     → QuietRounds start first count begun e
     → Keeps k start.timing → Keeps k e.timing
 quiet_keeps k start first _ _ _ NoRound h = h
 quiet_keeps k start first _ _ _ (OneRound count begun now before found buf q t undue) h =
     one_keeps k begun before found None buf t (quiet_keeps k start first count begun before q h)
 
-looks_keep : (k : Timing) (first : ℕ) (old : Ends) (now : ℕ) (f : Option Found) (buf : List ℕ)
-    (new : Ends)
+looks_keep : (k : Timing) (first : ℕ) (old : LiveEnds) (now : ℕ) (f : Option SourceEvent)
+    (buf : List ℕ)
+    (new : LiveEnds)
     → LooksOn first old now f buf new → Keeps k old.timing → Keeps k new.timing
 looks_keep k first old now f buf new l h =
-    let P : Ends → Type 0 = λ e. Keeps k e.timing in
+    let P : LiveEnds → Type 0 = λ e. Keeps k e.timing in
     subst P (sym l.done) (one_keeps k l.begun l.before l.found f buf l.turn
     (quiet_keeps k old first l.count l.begun l.before l.quiet h))
 
-kept_by : (old new : Ends) (event : Next) (buf : List ℕ) → Turns old event buf new
+kept_by : (old new : LiveEnds) (event : Next) (buf : List ℕ) → Turns old event buf new
     → (new.timing.request ≡ old.timing.request) × (new.timing.answer_ms ≡ old.timing.answer_ms)
 unfolding Keeps
 kept_by old new event buf (inl t) =
-    let same : new.timing ≡ old.timing = ap (λ (e : Ends). e.timing) t.told.ends in
+    let same : new.timing ≡ old.timing = ap (λ (e : LiveEnds). e.timing) t.given.ends in
     (ap (λ (k : Timing). k.request) same, ap (λ (k : Timing). k.answer_ms) same)
 kept_by old new event buf (inr t) =
-    let Q : Option Found × Ends → Type 0 = λ p. Keeps old.timing p.1.timing in
-    let found = looks_keep old.timing t.first (looking (told_at t.first old)) t.now t.f buf t.found
+    let Q : Option SourceEvent × LiveEnds → Type 0 = λ p. Keeps old.timing p.1.timing in
+    let found = looks_keep old.timing t.first (looking (clock_read_at t.first old)) t.now t.f buf
+    t.found
     t.looks (refl, refl)
     in
-    subst Q (sym t.told.ends) (taken_keeps old.timing (is_behind t.found.timing t.now) buf t.f
+    subst Q (sym t.given.ends) (taken_keeps old.timing (is_behind t.found.timing t.now) buf t.f
     t.found found)
 
-pub kept : (old new : Ends) (event : Next) (buf : List ℕ) → LogsTurn old event buf new
+pub kept : (old new : LiveEnds) (event : Next) (buf : List ℕ) → LogsTurn old event buf new
     → (new.timing.request ≡ old.timing.request) × (new.timing.answer_ms ≡ old.timing.answer_ms)
 kept old new event buf l = kept_by old (as_logged old.log new) event buf l.turns

@@ -8,7 +8,7 @@ pub mod Drops
 pub mod Lines
 pub mod Tries
 pub mod Law
-pub mod Strangers
+pub mod Allowed
 pub mod Octets
 pub mod Walls
 pub mod Ticks
@@ -16,5 +16,5 @@ pub mod InTurn
 pub mod Logs
 pub mod Fixed
 pub mod Passed
-pub mod Telling
+pub mod Noting
 pub mod Late

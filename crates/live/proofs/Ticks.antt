@@ -6,31 +6,33 @@ use Rattle.std.specs.Prelude.{All}
 use Rattle.std.proofs.lemmas.List.Elements.{All-cons, All-nil}
 use Rattle.gateway.specs.declared.ports.Next.{Next}
 use Rattle.live.specs.Timing.{Moments, read_at, moment_at, is_awaited, is_awaited_by, is_behind}
-use Rattle.live.specs.Timing.{heard_at}
+use Rattle.live.specs.Timing.{line_looked_at}
 use Rattle.live.specs.Walls.{is_wall, is_wall_due}
 use Rattle.live.specs.Law.{SomeRounds, AtRounds, first_of, IsTickDue, LongSince, TooLate, WallIsDue}
 use Rattle.live.specs.Law.{FarBehind, ManyRounds, IfTick}
-use Rattle.live.specs.Ends.{Ends, Turns, LogsTurn, as_logged, TurnsToWall, TurnsToEnds, QuietRounds}
+use Rattle.live.specs.Ends.{LiveEnds, Turns, LogsTurn, as_logged, TurnsToWall, TurnsToEnds}
+use Rattle.live.specs.Ends.{QuietRounds}
 use Rattle.live.specs.Ends.{NoRound, OneRound, is_tick_due, IsLast, event_at, taken_by, looking}
-use Rattle.live.specs.Ends.{told_at}
+use Rattle.live.specs.Ends.{clock_read_at}
 use Rattle.live.proofs.Apart.{clock_of, clock_apart, walled_of, walled_apart, taken_same}
-use Rattle.live.proofs.Rounds.{turn_kept, quiet_hears}
-use Rattle.live.specs.declared.found.Found.{Found}
-use Rattle.live.specs.declared.found.Found.TheVariants as found
+use Rattle.live.proofs.Rounds.{turn_kept, quiet_reads}
+use Rattle.live.specs.declared.found.SourceEvent.{SourceEvent}
+use Rattle.live.specs.declared.found.SourceEvent.TheVariants as found
 use Rattle.live.specs.declared.timing.Timing.{Timing}
 use Rattle.live.specs.declared.walled.Walled.{Walled}
-use Rattle.live.specs.declared.timing.Request.{Request}
+use Rattle.live.specs.declared.timing.WrittenRequest.{WrittenRequest}
 
 -- what the rounds that found nothing say of the moments at which they began
-record Begins (start : Ends) (first count begun : ℕ) (e : Ends) (before : List ℕ) : Type 0 where
+record Begins (start : LiveEnds) (first count begun : ℕ) (e : LiveEnds) (before : List ℕ) : Type
+    0 where
   quiet : List ℕ
-  told : e.clock ≡ Some (begun ∷ (quiet ++ before))
+  given : e.clock ≡ Some (begun ∷ (quiet ++ before))
   first_is : first_of begun quiet ≡ first
   brief : All (λ m. m < first + 100) (begun ∷ quiet)
   many : length quiet ≡ count
   asked : e.timing.request ≡ start.timing.request
   waits : e.timing.answer_ms ≡ start.timing.answer_ms
-  in_time : (r : Request) → start.timing.request ≡ Some r → is_awaited start.timing ≡ true
+  in_time : (r : WrittenRequest) → start.timing.request ≡ Some r → is_awaited start.timing ≡ true
       → All (λ m. m - r.written < start.timing.answer_ms) quiet
 
 -- what no tick being due says
@@ -47,21 +49,22 @@ not_late false false h c undue was = absurd (cc)
 brief_by : (first now : ℕ) → nat_le 100 (now - first) ≡ false → now < first + 100
 brief_by first now short = grind (arith, short)
 
-awaited_by : (t : Timing) (q : Option Request) (r : Request) → q ≡ Some r → is_awaited_by t q ≡ true
-    → t.heard - r.written < t.answer_ms
+awaited_by : (t : Timing) (q : Option WrittenRequest) (r : WrittenRequest) → q ≡ Some r
+    → is_awaited_by t q ≡ true
+    → t.looked - r.written < t.answer_ms
 awaited_by t q r asked was =
-    let P : Option Request → Type 0 = λ q. is_awaited_by t q ≡ true in
+    let P : Option WrittenRequest → Type 0 = λ q. is_awaited_by t q ≡ true in
     let on : is_awaited_by t (Some r) ≡ true = subst P asked was in
     grind (arith, on)
 
-begins : (start : Ends) (first count begun : ℕ) (e : Ends) (before : List ℕ)
+begins : (start : LiveEnds) (first count begun : ℕ) (e : LiveEnds) (before : List ℕ)
     → QuietRounds start first count begun e
     → start.clock ≡ Some (first ∷ before) → Begins start first count begun e before
-begins start first _ _ _ before NoRound told =
+begins start first _ _ _ before NoRound given =
     let short : first < first + 100 = omega arith in
     record {
       quiet = [];
-      told = told;
+      given = given;
       first_is = refl;
       brief = All-cons (λ m. m < first + 100) first [] short (All-nil (λ m. m < first + 100));
       many = refl;
@@ -69,31 +72,31 @@ begins start first _ _ _ before NoRound told =
       waits = refl;
       in_time = λ r is was. All-nil (λ m. m - r.written < start.timing.answer_ms);
     }
-begins start first _ _ _ before (OneRound count begun now earlier found buf q t undue) told =
-    let b = begins start first count begun earlier before q told in
-    let heard : found.timing ≡ heard_at begun earlier.timing =
-    quiet_hears begun earlier found buf t in
+begins start first _ _ _ before (OneRound count begun now earlier found buf q t undue) given =
+    let b = begins start first count begun earlier before q given in
+    let looked : found.timing ≡ line_looked_at begun earlier.timing =
+    quiet_reads begun earlier found buf t in
     let short =
     not_long (nat_le 100 (now - first)) (is_awaited start.timing && not (is_awaited found.timing))
     (is_wall_due found.walled now) undue in
     record {
       quiet = begun ∷ b.quiet;
-      told = ap (λ c. read_at c now) (turn_kept clock_of clock_apart begun earlier found None buf t
-          ∙ b.told);
+      given = ap (λ c. read_at c now) (turn_kept clock_of clock_apart begun earlier found None buf t
+          ∙ b.given);
       first_is = b.first_is;
       brief = All-cons (λ m. m < first + 100) now (begun ∷ b.quiet) (brief_by first now short)
           b.brief;
       many = grind (arith, b.many);
-      asked = ap (λ (k : Timing). k.request) heard ∙ b.asked;
-      waits = ap (λ (k : Timing). k.answer_ms) heard ∙ b.waits;
+      asked = ap (λ (k : Timing). k.request) looked ∙ b.asked;
+      waits = ap (λ (k : Timing). k.answer_ms) looked ∙ b.waits;
       in_time = λ r is was.
           let still = not_late (nat_le 100 (now - first)) (is_awaited start.timing)
           (is_awaited found.timing)
           (is_wall_due found.walled now) undue was in
           let P : Timing → Type 0 = λ k. is_awaited k ≡ true in
-          let k = heard_at begun earlier.timing in
+          let k = line_looked_at begun earlier.timing in
           let soon : begun - r.written < earlier.timing.answer_ms =
-          awaited_by k k.request r (b.asked ∙ is) (subst P heard still) in
+          awaited_by k k.request r (b.asked ∙ is) (subst P looked still) in
           let Q : ℕ → Type 0 = λ n. begun - r.written < n in
           All-cons (λ m. m - r.written < start.timing.answer_ms) begun b.quiet
           (subst Q b.waits soon)
@@ -101,12 +104,13 @@ begins start first _ _ _ before (OneRound count begun now earlier found buf q t 
     }
 
 -- the rounds of a turn
-abbrev BeginsOf : (old : Ends) (event : Next) (buf : List ℕ) (new : Ends)
+abbrev BeginsOf : (old : LiveEnds) (event : Next) (buf : List ℕ) (new : LiveEnds)
     → TurnsToEnds old event buf new → List ℕ → Type 0
 BeginsOf old event buf new t before =
-    Begins (looking (told_at t.first old)) t.first t.looks.count t.looks.begun t.looks.before before
+    Begins (looking (clock_read_at t.first old)) t.first t.looks.count t.looks.begun t.looks.before
+    before
 
-at_rounds_by : (old : Ends) (event : Next) (buf : List ℕ) (new : Ends)
+at_rounds_by : (old : LiveEnds) (event : Next) (buf : List ℕ) (new : LiveEnds)
     (t : TurnsToEnds old event buf new)
     (Holds : ℕ → List ℕ → ℕ → Type 0) (c : Moments) → old.clock ≡ c
     → ((before : List ℕ) → (b : BeginsOf old event buf new t before)
@@ -115,19 +119,27 @@ at_rounds_by : (old : Ends) (event : Next) (buf : List ℕ) (new : Ends)
 at_rounds_by old event buf new t Holds None is all = tt
 at_rounds_by old event buf new t Holds (Some before) is all =
     let l = t.looks in
-    let b = begins (looking (told_at t.first old)) t.first l.count l.begun l.before before l.quiet
+    let b = begins (looking (clock_read_at t.first old)) t.first l.count l.begun l.before before
+    l.quiet
     (ap (λ c. read_at c t.first) is) in
-    let told : new.clock ≡ Some (t.now ∷ (l.begun ∷ (b.quiet ++ before))) =
-    ap (λ (p : Option Found × Ends). clock_of p.1) t.told.ends
+    let given : new.clock ≡ Some (t.now ∷ (l.begun ∷ (b.quiet ++ before))) =
+    ap (λ (p : Option SourceEvent × LiveEnds). clock_of p.1) t.given.ends
     ∙ (taken_same clock_of clock_apart (is_behind t.found.timing t.now) buf t.f t.found
     ∙ (ap clock_of l.done ∙ ap (λ c. read_at c t.now)
-    (turn_kept clock_of clock_apart l.begun l.before l.found t.f buf l.turn ∙ b.told))) in
+    (turn_kept clock_of clock_apart l.begun l.before l.found t.f buf l.turn ∙ b.given))) in
     let P : Moments → Type 0 = λ c. AtRounds (Some before) c Holds in
     let rounds : SomeRounds before (t.now ∷ (l.begun ∷ (b.quiet ++ before))) Holds =
-    record { begun = l.begun; quiet = b.quiet; now = t.now; told = refl; holds = all before b } in
-    subst P (sym told) rounds
+    record {
+      begun = l.begun;
+      quiet = b.quiet;
+      now = t.now;
+      moments = refl;
+      holds =
+          all before b;
+    } in
+    subst P (sym given) rounds
 
-at_rounds : (old : Ends) (event : Next) (buf : List ℕ) (new : Ends)
+at_rounds : (old : LiveEnds) (event : Next) (buf : List ℕ) (new : LiveEnds)
     (t : TurnsToEnds old event buf new)
     (Holds : ℕ → List ℕ → ℕ → Type 0)
     → ((before : List ℕ) → (b : BeginsOf old event buf new t before)
@@ -135,12 +147,13 @@ at_rounds : (old : Ends) (event : Next) (buf : List ℕ) (new : Ends)
     → AtRounds old.clock new.clock Holds
 at_rounds old event buf new t Holds all = at_rounds_by old event buf new t Holds old.clock refl all
 
-wall_of : (old : Ends) (event : Next) (new : Ends) → TurnsToWall old event new → is_wall event
+wall_of : (old : LiveEnds) (event : Next) (new : LiveEnds) → TurnsToWall old event new
+    → is_wall event
     ≡ false → true ≡ false
-wall_of old event new t dark = sym (ap is_wall t.told.told) ∙ dark
+wall_of old event new t dark = sym (ap is_wall t.given.given) ∙ dark
 
 -- the looks of an event begin within 100 ms
-briefly_by : (old new : Ends) (event : Next) (buf : List ℕ) → Turns old event buf new
+briefly_by : (old new : LiveEnds) (event : Next) (buf : List ℕ) → Turns old event buf new
     → is_wall event ≡ false
     → AtRounds old.clock new.clock (λ begun quiet now. All (λ m. m < first_of begun quiet + 100)
     (begun ∷ quiet))
@@ -153,23 +166,25 @@ briefly_by old new event buf (inr t) dark =
     λ first. All (λ m. m < first + 100) (t.looks.begun ∷ b.quiet) in
     subst P (sym b.first_is) b.brief)
 
-pub briefly : (old new : Ends) (event : Next) (buf : List ℕ) → LogsTurn old event buf new
+pub briefly : (old new : LiveEnds) (event : Next) (buf : List ℕ) → LogsTurn old event buf new
     → is_wall event ≡ false
     → AtRounds old.clock new.clock (λ begun quiet now. All (λ m. m < first_of begun quiet + 100)
     (begun ∷ quiet))
 briefly old new event buf l dark = briefly_by old (as_logged old.log new) event buf l.turns dark
 
--- an exchange that is over is told
-awaited_at : (t : Timing) (q : Option Request) (r : Request) → q ≡ Some r → t.heard - r.written
+-- an exchange that is over gives an event
+awaited_at : (t : Timing) (q : Option WrittenRequest) (r : WrittenRequest) → q ≡ Some r
+    → t.looked - r.written
     < t.answer_ms
     → is_awaited_by t q ≡ true
 awaited_at t q r asked soon =
-    let P : Option Request → Type 0 = λ q. is_awaited_by t q ≡ true in
+    let P : Option WrittenRequest → Type 0 = λ q. is_awaited_by t q ≡ true in
     let on : is_awaited_by t (Some r) ≡ true = grind (arith, soon) in
     subst P (sym asked) on
 
-over_by : (old new : Ends) (event : Next) (buf : List ℕ) (r : Request) → Turns old event buf new
-    → is_wall event ≡ false → old.timing.request ≡ Some r → old.timing.heard - r.written
+over_by : (old new : LiveEnds) (event : Next) (buf : List ℕ) (r : WrittenRequest)
+    → Turns old event buf new
+    → is_wall event ≡ false → old.timing.request ≡ Some r → old.timing.looked - r.written
     < old.timing.answer_ms
     → AtRounds old.clock new.clock (λ begun quiet now. All (λ m. m - r.written
     < old.timing.answer_ms) quiet)
@@ -180,8 +195,9 @@ over_by old new event buf r (inr t) dark asked soon =
     (λ begun quiet now. All (λ m. m - r.written < old.timing.answer_ms) quiet)
     (λ before b. b.in_time r asked (awaited_at old.timing old.timing.request r asked soon))
 
-pub over : (old new : Ends) (event : Next) (buf : List ℕ) (r : Request) → LogsTurn old event buf new
-    → is_wall event ≡ false → old.timing.request ≡ Some r → old.timing.heard - r.written
+pub over : (old new : LiveEnds) (event : Next) (buf : List ℕ) (r : WrittenRequest)
+    → LogsTurn old event buf new
+    → is_wall event ≡ false → old.timing.request ≡ Some r → old.timing.looked - r.written
     < old.timing.answer_ms
     → AtRounds old.clock new.clock (λ begun quiet now. All (λ m. m - r.written
     < old.timing.answer_ms) quiet)
@@ -189,7 +205,7 @@ over old new event buf r l dark asked soon =
     over_by old (as_logged old.log new) event buf r l.turns dark asked soon
 
 -- why a tick is due
-taken_timing : (b : Bool) (buf : List ℕ) (f : Option Found) (e : Ends)
+taken_timing : (b : Bool) (buf : List ℕ) (f : Option SourceEvent) (e : LiveEnds)
     → (taken_by b buf f e).1.timing ≡ e.timing
 taken_timing false buf f e = refl
 taken_timing true buf None e = refl
@@ -211,7 +227,7 @@ due_by old new walled first now quiet false true false false long was still wall
 due_by old new walled first now quiet false true true false long was still wall due = absurd (cc)
 due_by old new walled first now quiet false false h false long was still wall due = absurd (cc)
 
-if_tick : (m : ℕ) (f : Option Found) (X : Type 0) → (f ≡ None → X) → IfTick (event_at m f) X
+if_tick : (m : ℕ) (f : Option SourceEvent) (X : Type 0) → (f ≡ None → X) → IfTick (event_at m f) X
 if_tick m None X h = h refl
 if_tick m (Some found.Open) X h = tt
 if_tick m (Some (found.Bytes len)) X h = tt
@@ -220,23 +236,23 @@ if_tick m (Some (found.Line len)) X h = tt
 if_tick m (Some found.Fault) X h = tt
 
 -- what the looks left, as it is behind the event
-looked_timing : (old : Ends) (event : Next) (buf : List ℕ) (new : Ends)
+looked_timing : (old : LiveEnds) (event : Next) (buf : List ℕ) (new : LiveEnds)
     → (t : TurnsToEnds old event buf new)
     → new.timing ≡ t.looks.found.timing
 looked_timing old event buf new t =
-    ap (λ (p : Option Found × Ends). p.1.timing) t.told.ends
+    ap (λ (p : Option SourceEvent × LiveEnds). p.1.timing) t.given.ends
     ∙ (taken_timing (is_behind t.found.timing t.now) buf t.f t.found
-    ∙ ap (λ (e : Ends). e.timing) t.looks.done)
+    ∙ ap (λ (e : LiveEnds). e.timing) t.looks.done)
 
-looked_walled : (old : Ends) (event : Next) (buf : List ℕ) (new : Ends)
+looked_walled : (old : LiveEnds) (event : Next) (buf : List ℕ) (new : LiveEnds)
     → (t : TurnsToEnds old event buf new)
     → new.walled ≡ t.looks.found.walled
 looked_walled old event buf new t =
-    ap (λ (p : Option Found × Ends). walled_of p.1) t.told.ends
+    ap (λ (p : Option SourceEvent × LiveEnds). walled_of p.1) t.given.ends
     ∙ (taken_same walled_of walled_apart (is_behind t.found.timing t.now) buf t.f t.found
     ∙ ap walled_of t.looks.done)
 
-last_by : (old : Ends) (event : Next) (buf : List ℕ) (new : Ends)
+last_by : (old : LiveEnds) (event : Next) (buf : List ℕ) (new : LiveEnds)
     (t : TurnsToEnds old event buf new) (quiet : List ℕ)
     → length quiet ≡ t.looks.count
     → (is_tick_due t.first (is_awaited old.timing) t.now t.looks.found ≡ true)
@@ -251,23 +267,24 @@ last_by old event buf new t quiet many (inl due) =
     (ap (λ (w : Walled). is_wall_due w t.now) (looked_walled old event buf new t)) due
 last_by old event buf new t quiet many (inr all) = ManyRounds (many ∙ all)
 
-cause_by : (old : Ends) (event : Next) (buf : List ℕ) (new : Ends)
+cause_by : (old : LiveEnds) (event : Next) (buf : List ℕ) (new : LiveEnds)
     (t : TurnsToEnds old event buf new) (quiet : List ℕ)
-    (behind : Bool) → length quiet ≡ t.looks.count → t.told.taken ≡ None
+    (behind : Bool) → length quiet ≡ t.looks.count → t.given.taken ≡ None
     → is_behind t.found.timing t.now ≡ behind
-    → (t.told.taken, new) ≡ taken_by behind buf t.f t.found
+    → (t.given.taken, new) ≡ taken_by behind buf t.f t.found
     → IsTickDue old.timing new.timing new.walled t.first quiet t.now
 cause_by old event buf new t quiet true many none is ends =
     FarBehind
-    (ap (λ (k : Timing). is_behind k t.now) (ap (λ (p : Option Found × Ends). p.1.timing) ends
+    (ap (λ (k : Timing). is_behind k t.now) (ap (λ (p : Option SourceEvent × LiveEnds). p.1.timing)
+    ends
     ∙ taken_timing true buf t.f t.found) ∙ is)
 cause_by old event buf new t quiet false many none is ends =
-    let nothing : t.f ≡ None = sym (ap (λ (p : Option Found × Ends). p.0) ends) ∙ none in
+    let nothing : t.f ≡ None = sym (ap (λ (p : Option SourceEvent × LiveEnds). p.0) ends) ∙ none in
     let due = is_tick_due t.first (is_awaited old.timing) t.now t.looks.found in
-    let P : Option Found → Type 0 = λ f. IsLast due t.looks.count f in
+    let P : Option SourceEvent → Type 0 = λ f. IsLast due t.looks.count f in
     last_by old event buf new t quiet many (subst P nothing t.looks.last)
 
-tick_by : (old new : Ends) (event : Next) (buf : List ℕ) → Turns old event buf new
+tick_by : (old new : LiveEnds) (event : Next) (buf : List ℕ) → Turns old event buf new
     → IfTick event
     (AtRounds old.clock new.clock (λ begun quiet now. IsTickDue old.timing new.timing new.walled
     (first_of begun quiet) quiet now))
@@ -276,21 +293,21 @@ tick_by old new event buf (inl t) =
     AtRounds old.clock new.clock (λ begun quiet now. IsTickDue old.timing new.timing new.walled
     (first_of begun quiet) quiet now) in
     let P : Next → Type 0 = λ e. IfTick e X in
-    subst P (sym t.told.told) tt
+    subst P (sym t.given.given) tt
 tick_by old new event buf (inr t) =
     let Holds : ℕ → List ℕ → ℕ → Type 0 = λ begun quiet now. IsTickDue old.timing new.timing
     new.walled (first_of begun quiet) quiet now in
     let P : Next → Type 0 = λ e. IfTick e (AtRounds old.clock new.clock Holds) in
-    subst P (sym t.told.told) (if_tick (moment_at new.timing t.now) t.told.taken
+    subst P (sym t.given.given) (if_tick (moment_at new.timing t.now) t.given.taken
     (AtRounds old.clock new.clock Holds)
     (λ none. at_rounds old event buf new t Holds
     (λ before b. let Q : ℕ → Type 0 = λ first. IsTickDue old.timing new.timing new.walled first
     b.quiet t.now in
     subst Q (sym b.first_is) (cause_by old event buf new t b.quiet (is_behind t.found.timing t.now)
     b.many none refl
-    t.told.ends))))
+    t.given.ends))))
 
-pub why : (old new : Ends) (event : Next) (buf : List ℕ) → LogsTurn old event buf new
+pub why : (old new : LiveEnds) (event : Next) (buf : List ℕ) → LogsTurn old event buf new
     → IfTick event (AtRounds old.clock new.clock
     (λ begun quiet now. IsTickDue old.timing new.timing new.walled (first_of begun quiet) quiet
     now))

@@ -1,53 +1,56 @@
--- A turn from its looks. Each source answers at its look; a turn is told by the answers of all
+-- A turn from its looks. Each source answers at its look; a turn is stated by the answers of all
 -- three.
 use Rattle.std.proofs.Common.{◌≡◌, ℕ, ◌+◌, arith, ◌==◌, ◌⊎◌, is_some, true, false, Bool, List, []}
 use Rattle.std.proofs.Common.{◌∷◌, length, take, Option, Some, None, IfSome, refl, sym, ap, subst}
 use Rattle.std.proofs.Common.{◌∙◌, inl, inr}
-use Rattle.live.specs.declared.guests.Guests.{Guests}
+use Rattle.live.specs.declared.allow_list.AllowList.{AllowList}
 use Rattle.live.specs.Timing.{is_behind, moment_at, is_awaited}
-use Rattle.live.specs.Ends.{Ends, Peer, IsGuest, let_in, Answers, after, found_at, looked_at}
+use Rattle.live.specs.Ends.{LiveEnds, Peer, IsAllowedPeer, accepted, Answers, after, found_at}
+use Rattle.live.specs.Ends.{looked_at}
 use Rattle.live.specs.Ends.{read_from, next_round, unless_found, look, nothing_more, round, turn}
-use Rattle.live.specs.Ends.{turn_by, held_by, sources_by, IsFront, taken_by, told_at, looking}
-use Rattle.live.specs.Ends.{IsTurn, IsTold, IsWallTold, QuietRounds, OneRound, LooksOn, is_tick_due}
+use Rattle.live.specs.Ends.{turn_by, held_by, sources_by, IsFront, taken_by, clock_read_at, looking}
+use Rattle.live.specs.Ends.{IsTurn, GivesEvent, GivesWall, QuietRounds, OneRound, LooksOn}
+use Rattle.live.specs.Ends.{is_tick_due}
 use Rattle.live.specs.Ends.{faults_in, Turns, TurnsToWall, TurnsToEnds, event_at}
 use Rattle.gateway.specs.declared.ports.Next.{Next}
-use Rattle.live.specs.Looks.{Looks, answers_for}
+use Rattle.live.specs.Looks.{LooksInRound, answers_for}
 use Rattle.live.specs.Walls.{is_wall_due}
-use Rattle.live.specs.declared.found.Found.{Found}
-use Rattle.live.specs.declared.found.Found.TheVariants.{Cut, Bytes}
-use Rattle.live.specs.declared.wires.Got.TheVariants.{Quiet}
-use Rattle.live.specs.declared.source.Source.{Source}
-use Rattle.live.specs.declared.source.Source.TheVariants.{Door, Connection, Line}
+use Rattle.live.specs.declared.found.SourceEvent.{SourceEvent}
+use Rattle.live.specs.declared.found.SourceEvent.TheVariants.{Cut, Bytes}
+use Rattle.live.specs.declared.ends.Got.TheVariants.{Quiet}
+use Rattle.live.specs.declared.source.EventSource.{EventSource}
+use Rattle.live.specs.declared.source.EventSource.TheVariants.{Listener, Connection, Line}
 
 -- the answers of the three sources of a round that begins here
-joined : Source → Answers → Answers → Answers → Answers
-joined Door a b c = record { visitor = a.visitor; connection = b.connection; line = c.line }
-joined Connection a b c = record { visitor = c.visitor; connection = a.connection; line = b.line }
-joined Line a b c = record { visitor = b.visitor; connection = c.connection; line = a.line }
+joined : EventSource → Answers → Answers → Answers → Answers
+joined Listener a b c = record { peer = a.peer; connection = b.connection; line = c.line }
+joined Connection a b c = record { peer = c.peer; connection = a.connection; line = b.line }
+joined Line a b c = record { peer = b.peer; connection = c.connection; line = a.line }
 
-visitor_of : (g : Guests) (s : Source) (a b c : Answers) → IfSome a.visitor (IsGuest g)
-    → IfSome b.visitor (IsGuest g)
-    → IfSome c.visitor (IsGuest g) → IfSome (joined s a b c).visitor (IsGuest g)
+joined_peer : (g : AllowList) (s : EventSource) (a b c : Answers) → IfSome a.peer (IsAllowedPeer g)
+    → IfSome b.peer (IsAllowedPeer g)
+    → IfSome c.peer (IsAllowedPeer g) → IfSome (joined s a b c).peer (IsAllowedPeer g)
 unfolding joined
-visitor_of g Door a b c x y z = x
-visitor_of g Connection a b c x y z = z
-visitor_of g Line a b c x y z = y
+joined_peer g Listener a b c x y z = x
+joined_peer g Connection a b c x y z = z
+joined_peer g Line a b c x y z = y
 
--- looks leave who may come in as it was
-let_in_same : (v : Option Peer) (e : Ends) → (let_in v e).guests ≡ e.guests
-let_in_same None e = refl
-let_in_same (Some peer) e = refl
+-- looks leave who may connect as it was
+accepted_same : (v : Option Peer) (e : LiveEnds) → (accepted v e).allow_list ≡ e.allow_list
+accepted_same None e = refl
+accepted_same (Some peer) e = refl
 
-looked_same : (s : Source) (t : ℕ) (a : Answers) (buf : List ℕ) (e : Ends)
-    → (looked_at s t a buf e).guests ≡ e.guests
-looked_same Door t a buf e = let_in_same a.visitor e
+looked_same : (s : EventSource) (t : ℕ) (a : Answers) (buf : List ℕ) (e : LiveEnds)
+    → (looked_at s t a buf e).allow_list ≡ e.allow_list
+looked_same Listener t a buf e = accepted_same a.peer e
 looked_same Connection t a buf e = refl
 looked_same Line t a buf e = refl
 
 -- so does a look that finds nothing
-same_guests : (s : Source) (t : ℕ) (old new : Ends) (buf : List ℕ) → Looks s t old None buf new
-    → new.guests ≡ old.guests
-same_guests s t old new buf l = ap (λ (e : Ends). e.guests) l.ends
+same_allow_list : (s : EventSource) (t : ℕ) (old new : LiveEnds) (buf : List ℕ)
+    → LooksInRound s t old None buf new
+    → new.allow_list ≡ old.allow_list
+same_allow_list s t old new buf l = ap (λ (e : LiveEnds). e.allow_list) l.ends
     ∙ looked_same s t (answers_for None new) buf old
 
 -- and what is in the buffer then is no matter
@@ -56,63 +59,67 @@ quiet_from : (c : Option Peer) (buf other : List ℕ) → read_from c Quiet buf
 quiet_from None buf other = refl
 quiet_from (Some peer) buf other = refl
 
-quiet_at : (s : Source) (t : ℕ) (old new : Ends) (buf other : List ℕ)
+quiet_at : (s : EventSource) (t : ℕ) (old new : LiveEnds) (buf other : List ℕ)
     → looked_at s t (answers_for None new) buf old ≡ looked_at s t (answers_for None new) other old
-quiet_at Door t old new buf other = refl
+quiet_at Listener t old new buf other = refl
 quiet_at Connection t old new buf other =
     ap (λ c. record old { connection = c }) (quiet_from old.connection buf other)
 quiet_at Line t old new buf other = refl
 
-quiet : (s : Source) (t : ℕ) (old new : Ends) (buf other : List ℕ) → Looks s t old None buf new
-    → Looks s t old None other new
+quiet : (s : EventSource) (t : ℕ) (old new : LiveEnds) (buf other : List ℕ)
+    → LooksInRound s t old None buf new
+    → LooksInRound s t old None other new
 quiet s t old new buf other l =
-    record { visitor = l.visitor; found = l.found; ends = l.ends ∙ quiet_at s t old new buf other }
+    record { peer = l.peer; found = l.found; ends = l.ends ∙ quiet_at s t old new buf other }
 
-found_1 : (s : Source) (a b c : Answers) (e : Ends) → found_at s (joined s a b c) e ≡ found_at s a e
+found_1 : (s : EventSource) (a b c : Answers) (e : LiveEnds) → found_at s (joined s a b c) e
+    ≡ found_at s a e
 unfolding joined
-found_1 Door a b c e = refl
+found_1 Listener a b c e = refl
 found_1 Connection a b c e = refl
 found_1 Line a b c e = refl
 
-ends_1 : (s : Source) (n : ℕ) (a b c : Answers) (buf : List ℕ) (e : Ends)
+ends_1 : (s : EventSource) (n : ℕ) (a b c : Answers) (buf : List ℕ) (e : LiveEnds)
     → looked_at s n (joined s a b c) buf e ≡ looked_at s n a buf e
 unfolding joined
-ends_1 Door n a b c buf e = refl
+ends_1 Listener n a b c buf e = refl
 ends_1 Connection n a b c buf e = refl
 ends_1 Line n a b c buf e = refl
 
-found_2 : (s : Source) (a b c : Answers) (e : Ends) → found_at (after s) (joined s a b c) e
+found_2 : (s : EventSource) (a b c : Answers) (e : LiveEnds) → found_at (after s) (joined s a b c) e
     ≡ found_at (after s) b e
 unfolding joined
-found_2 Door a b c e = refl
+found_2 Listener a b c e = refl
 found_2 Connection a b c e = refl
 found_2 Line a b c e = refl
 
-ends_2 : (s : Source) (n : ℕ) (a b c : Answers) (buf : List ℕ) (e : Ends)
+ends_2 : (s : EventSource) (n : ℕ) (a b c : Answers) (buf : List ℕ) (e : LiveEnds)
     → looked_at (after s) n (joined s a b c) buf e ≡ looked_at (after s) n b buf e
 unfolding joined
-ends_2 Door n a b c buf e = refl
+ends_2 Listener n a b c buf e = refl
 ends_2 Connection n a b c buf e = refl
 ends_2 Line n a b c buf e = refl
 
-found_3 : (s : Source) (a b c : Answers) (e : Ends) → found_at (after (after s)) (joined s a b c) e
+found_3 : (s : EventSource) (a b c : Answers) (e : LiveEnds)
+    → found_at (after (after s)) (joined s a b c) e
     ≡ found_at (after (after s)) c e
 unfolding joined
-found_3 Door a b c e = refl
+found_3 Listener a b c e = refl
 found_3 Connection a b c e = refl
 found_3 Line a b c e = refl
 
-ends_3 : (s : Source) (n : ℕ) (a b c : Answers) (buf : List ℕ) (e : Ends)
+ends_3 : (s : EventSource) (n : ℕ) (a b c : Answers) (buf : List ℕ) (e : LiveEnds)
     → looked_at (after (after s)) n (joined s a b c) buf e ≡ looked_at (after (after s)) n c buf e
 unfolding joined
-ends_3 Door n a b c buf e = refl
+ends_3 Listener n a b c buf e = refl
 ends_3 Connection n a b c buf e = refl
 ends_3 Line n a b c buf e = refl
 
 -- a look with these answers
-look_of : (s : Source) (t : ℕ) (a : Answers) (buf : List ℕ) (e n : Ends) (f : Option Found)
-    (others : Ends
-    → Option Found × Ends)
+look_of : (s : EventSource) (t : ℕ) (a : Answers) (buf : List ℕ) (e n : LiveEnds)
+    (f : Option SourceEvent)
+    (others : LiveEnds
+    → Option SourceEvent × LiveEnds)
     → f ≡ found_at s a e → n ≡ next_round s f (looked_at s t a buf e)
     → look s t a buf e others ≡ unless_found f n others
 look_of s t a buf e n f others found ends = rw (ends, ← found) refl
@@ -133,7 +140,7 @@ front_none a b h buf none =
     front_by a b h buf (subst P (sym none) refl)
 
 -- the cut that is due
-pub due_turn : (t : ℕ) (buf : List ℕ) (old new : Ends) → old.is_cut_due ≡ true
+pub due_turn : (t : ℕ) (buf : List ℕ) (old new : LiveEnds) → old.is_cut_due ≡ true
     → new ≡ record old {
       connection = None;
       held = [];
@@ -143,33 +150,36 @@ pub due_turn : (t : ℕ) (buf : List ℕ) (old new : Ends) → old.is_cut_due �
     }
     → IsTurn t old (Some Cut) buf new
 due_turn t buf old new due done = record {
-  answers = record { visitor = None; connection = Quiet; line = Quiet };
-  visitor = tt;
+  answers = record { peer = None; connection = Quiet; line = Quiet };
+  peer = tt;
   front = let P : Bool → Type 0 = λ d. IsFront d (is_behind old.timing t) old.held buf in
       subst P (sym due) tt;
   turned = rw (due, done) refl;
 }
 
-look_1 : (s : Source) (t : ℕ) (a b c : Answers) (buf : List ℕ) (e n : Ends) (f : Option Found)
-    (others : Ends
-    → Option Found × Ends)
+look_1 : (s : EventSource) (t : ℕ) (a b c : Answers) (buf : List ℕ) (e n : LiveEnds)
+    (f : Option SourceEvent)
+    (others : LiveEnds
+    → Option SourceEvent × LiveEnds)
     → f ≡ found_at s a e → n ≡ next_round s f (looked_at s t a buf e)
     → look s t (joined s a b c) buf e others ≡ unless_found f n others
 look_1 s t a b c buf e n f others found ends = look_of s t (joined s a b c) buf e n f others (found
     ∙ sym (found_1 s a b c e)) (ends ∙ ap (next_round s f) (sym (ends_1 s t a b c buf e)))
 
-look_2 : (s : Source) (t : ℕ) (a b c : Answers) (buf : List ℕ) (e n : Ends) (f : Option Found)
-    (others : Ends
-    → Option Found × Ends)
+look_2 : (s : EventSource) (t : ℕ) (a b c : Answers) (buf : List ℕ) (e n : LiveEnds)
+    (f : Option SourceEvent)
+    (others : LiveEnds
+    → Option SourceEvent × LiveEnds)
     → f ≡ found_at (after s) b e → n ≡ next_round (after s) f (looked_at (after s) t b buf e)
     → look (after s) t (joined s a b c) buf e others ≡ unless_found f n others
 look_2 s t a b c buf e n f others found ends = look_of (after s) t (joined s a b c) buf e n f others
     (found
     ∙ sym (found_2 s a b c e)) (ends ∙ ap (next_round (after s) f) (sym (ends_2 s t a b c buf e)))
 
-look_3 : (s : Source) (t : ℕ) (a b c : Answers) (buf : List ℕ) (e n : Ends) (f : Option Found)
-    (others : Ends
-    → Option Found × Ends)
+look_3 : (s : EventSource) (t : ℕ) (a b c : Answers) (buf : List ℕ) (e n : LiveEnds)
+    (f : Option SourceEvent)
+    (others : LiveEnds
+    → Option SourceEvent × LiveEnds)
     → f ≡ found_at (after (after s)) c e
     → n ≡ next_round (after (after s)) f (looked_at (after (after s)) t c buf e)
     → look (after (after s)) t (joined s a b c) buf e others ≡ unless_found f n others
@@ -179,7 +189,7 @@ look_3 s t a b c buf e n f others found ends = look_of (after (after s)) t (join
     ∙ ap (next_round (after (after s)) f) (sym (ends_3 s t a b c buf e)))
 
 -- no cut is due, no moment too far behind, and nothing is held
-plain : (t : ℕ) (answers : Answers) (buf : List ℕ) (old : Ends) → old.is_cut_due ≡ false
+plain : (t : ℕ) (answers : Answers) (buf : List ℕ) (old : LiveEnds) → old.is_cut_due ≡ false
     → is_behind old.timing t ≡ false → (length old.held == 0) ≡ true
     → turn t answers buf old ≡ round t answers buf old
 plain t answers buf old due level none = ap (λ b. turn_by b t answers buf old) due
@@ -187,39 +197,42 @@ plain t answers buf old due level none = ap (λ b. turn_by b t answers buf old) 
     ∙ ap (λ h. held_by h t answers buf old) (none_of old.held none))
 
 -- octets that are held
-held_some : (h : List ℕ) (t : ℕ) (a : Answers) (buf : List ℕ) (e : Ends) → (length h == 0) ≡ false
+held_some : (h : List ℕ) (t : ℕ) (a : Answers) (buf : List ℕ) (e : LiveEnds) → (length h == 0)
+    ≡ false
     → (Some (Bytes (length h)), record e { held = []; first = after Connection })
     ≡ held_by h t a buf e
 held_some [] t a buf e some = absurd (cc)
 held_some (x ∷ h) t a buf e some = refl
 
-pub held_turn : (t : ℕ) (buf : List ℕ) (old new : Ends) (f : Found) → old.is_cut_due ≡ false
+pub held_turn : (t : ℕ) (buf : List ℕ) (old new : LiveEnds) (f : SourceEvent) → old.is_cut_due
+    ≡ false
     → is_behind old.timing t ≡ false → (length old.held == 0) ≡ false → f ≡ Bytes (length old.held)
     → take (length old.held) buf ≡ old.held
     → new ≡ record old { held = []; first = after Connection }
     → IsTurn t old (Some f) buf new
 held_turn t buf old new f due level some is front done =
-    let a : Answers = record { visitor = None; connection = Quiet; line = Quiet } in
+    let a : Answers = record { peer = None; connection = Quiet; line = Quiet } in
     record {
       answers = a;
-      visitor = tt;
+      peer = tt;
       front = front_by old.is_cut_due (is_behind old.timing t) old.held buf front;
       turned = rw (is, done) (held_some old.held t a buf old some
           ∙ sym (ap (λ b. turn_by b t a buf old) due ∙ ap (λ b. sources_by b t a buf old) level));
     }
 
-last_look : (f : Option Found) (n : Ends) → unless_found f n nothing_more ≡ (f, n)
+last_look : (f : Option SourceEvent) (n : LiveEnds) → unless_found f n nothing_more ≡ (f, n)
 last_look None n = refl
 last_look (Some f) n = refl
 
 -- the line alone is looked at
-pub line_turn : (t : ℕ) (buf : List ℕ) (old new : Ends) (f : Option Found) → old.is_cut_due ≡ false
-    → is_behind old.timing t ≡ true → Looks Line t old f buf new → IsTurn t old f buf new
+pub line_turn : (t : ℕ) (buf : List ℕ) (old new : LiveEnds) (f : Option SourceEvent)
+    → old.is_cut_due ≡ false
+    → is_behind old.timing t ≡ true → LooksInRound Line t old f buf new → IsTurn t old f buf new
 line_turn t buf old new f due behind l =
     let a = answers_for f new in
     record {
       answers = a;
-      visitor = l.visitor;
+      peer = l.peer;
       front = let P : Bool → Type 0 = λ d. IsFront d (is_behind old.timing t) old.held buf in
           let Q : Bool → Type 0 = λ b. IsFront false b old.held buf in
           subst P (sym due) (subst Q (sym behind) tt);
@@ -228,15 +241,16 @@ line_turn t buf old new f due behind l =
     }
 
 -- the first look finds something
-pub first_turn : (t : ℕ) (buf : List ℕ) (old new : Ends) (f : Found) → old.is_cut_due ≡ false
+pub first_turn : (t : ℕ) (buf : List ℕ) (old new : LiveEnds) (f : SourceEvent) → old.is_cut_due
+    ≡ false
     → is_behind old.timing t ≡ false → (length old.held == 0) ≡ true
-    → Looks old.first t old (Some f) buf new
+    → LooksInRound old.first t old (Some f) buf new
     → IsTurn t old (Some f) buf new
 first_turn t buf old new f due level none l =
     let a = answers_for (Some f) new in
     record {
       answers = joined old.first a a a;
-      visitor = visitor_of old.guests old.first a a a l.visitor l.visitor l.visitor;
+      peer = joined_peer old.allow_list old.first a a a l.peer l.peer l.peer;
       front = front_none old.is_cut_due (is_behind old.timing t) old.held buf
           (none_of old.held none);
       turned = sym (plain t (joined old.first a a a) buf old due level none
@@ -244,20 +258,21 @@ first_turn t buf old new f due level none l =
     }
 
 -- the second look finds something
-pub second_turn : (t : ℕ) (before buf : List ℕ) (old mid new : Ends) (f : Found) → old.is_cut_due
+pub second_turn : (t : ℕ) (before buf : List ℕ) (old mid new : LiveEnds) (f : SourceEvent)
+    → old.is_cut_due
     ≡ false
     → is_behind old.timing t ≡ false → (length old.held == 0) ≡ true
-    → Looks old.first t old None before mid
-    → Looks (after old.first) t mid (Some f) buf new → IsTurn t old (Some f) buf new
+    → LooksInRound old.first t old None before mid
+    → LooksInRound (after old.first) t mid (Some f) buf new → IsTurn t old (Some f) buf new
 second_turn t before buf old mid new f due level none first m =
     let a = answers_for None mid in
     let b = answers_for (Some f) new in
     let l = quiet old.first t old mid before buf first in
-    let P : Guests → Type 0 = λ g. IfSome b.visitor (IsGuest g) in
-    let second = subst P (same_guests old.first t old mid buf l) m.visitor in
+    let P : AllowList → Type 0 = λ g. IfSome b.peer (IsAllowedPeer g) in
+    let second = subst P (same_allow_list old.first t old mid buf l) m.peer in
     record {
       answers = joined old.first a b b;
-      visitor = visitor_of old.guests old.first a b b l.visitor second second;
+      peer = joined_peer old.allow_list old.first a b b l.peer second second;
       front = front_none old.is_cut_due (is_behind old.timing t) old.held buf
           (none_of old.held none);
       turned = sym (plain t (joined old.first a b b) buf old due level none
@@ -265,11 +280,13 @@ second_turn t before buf old mid new f due level none first m =
           ∙ look_2 old.first t a b b buf mid new (Some f) _ m.found m.ends));
     }
 
--- the third look tells the turn
-pub third_turn : (t : ℕ) (before then buf : List ℕ) (old mid more new : Ends) (f : Option Found)
+-- the third look decides the turn
+pub third_turn : (t : ℕ) (before then buf : List ℕ) (old mid more new : LiveEnds)
+    (f : Option SourceEvent)
     → old.is_cut_due ≡ false → is_behind old.timing t ≡ false → (length old.held == 0) ≡ true
-    → Looks old.first t old None before mid → Looks (after old.first) t mid None then more
-    → Looks (after (after old.first)) t more f buf new
+    → LooksInRound old.first t old None before mid → LooksInRound (after old.first) t mid None
+    then more
+    → LooksInRound (after (after old.first)) t more f buf new
     → IsTurn t old f buf new
 third_turn t before then buf old mid more new f due level none first second n =
     let a = answers_for None mid in
@@ -277,14 +294,14 @@ third_turn t before then buf old mid more new f due level none first second n =
     let c = answers_for f new in
     let l = quiet old.first t old mid before buf first in
     let m = quiet (after old.first) t mid more then buf second in
-    let same = same_guests old.first t old mid buf l in
-    let P : Guests → Type 0 = λ g. IfSome b.visitor (IsGuest g) in
-    let Q : Guests → Type 0 = λ g. IfSome c.visitor (IsGuest g) in
-    let at_second = subst P same m.visitor in
-    let at_third = subst Q (same_guests (after old.first) t mid more buf m ∙ same) n.visitor in
+    let same = same_allow_list old.first t old mid buf l in
+    let P : AllowList → Type 0 = λ g. IfSome b.peer (IsAllowedPeer g) in
+    let Q : AllowList → Type 0 = λ g. IfSome c.peer (IsAllowedPeer g) in
+    let at_second = subst P same m.peer in
+    let at_third = subst Q (same_allow_list (after old.first) t mid more buf m ∙ same) n.peer in
     record {
       answers = joined old.first a b c;
-      visitor = visitor_of old.guests old.first a b c l.visitor at_second at_third;
+      peer = joined_peer old.allow_list old.first a b c l.peer at_second at_third;
       front = front_none old.is_cut_due (is_behind old.timing t) old.held buf
           (none_of old.held none);
       turned = sym (plain t (joined old.first a b c) buf old due level none
@@ -294,33 +311,33 @@ third_turn t before then buf old mid more new f due level none first second n =
     }
 
 -- octets that came too far behind the clock
-pub told_held : (now : ℕ) (old new : Ends) (len : ℕ) (event : Next) (buf : List ℕ)
+pub given_held : (now : ℕ) (old new : LiveEnds) (len : ℕ) (event : Next) (buf : List ℕ)
     → is_behind old.timing now ≡ true
     → new ≡ record old { held = take len buf } → event ≡ event_at (moment_at new.timing now) None
-    → IsTold now old (Some (Bytes len)) event buf new
-told_held now old new len event buf behind done told =
-    let nothing : Option Found = None in record {
+    → GivesEvent now old (Some (Bytes len)) event buf new
+given_held now old new len event buf behind done given =
+    let nothing : Option SourceEvent = None in record {
       taken = nothing;
       ends = ap (λ e. (nothing, e)) done
           ∙ sym (ap (λ b. taken_by b buf (Some (Bytes len)) old) behind);
-      told = told;
+      given = given;
     }
 
 -- octets that came in time
-pub told_level : (now : ℕ) (old : Ends) (f : Option Found) (event : Next) (buf : List ℕ)
+pub given_level : (now : ℕ) (old : LiveEnds) (f : Option SourceEvent) (event : Next) (buf : List ℕ)
     → is_behind old.timing now ≡ false → event ≡ event_at (moment_at old.timing now) f
-    → IsTold now old f event buf old
-told_level now old f event buf level told = record {
+    → GivesEvent now old f event buf old
+given_level now old f event buf level given = record {
   taken = f;
   ends = sym (ap (λ b. taken_by b buf f old) level);
-  told = told;
+  given = given;
 }
 
 -- rounds that found nothing, and the last one
-pub looked_found : (old before found new : Ends) (first count begun now : ℕ) (f : Found)
+pub looked_found : (old before found new : LiveEnds) (first count begun now : ℕ) (f : SourceEvent)
     (buf : List ℕ)
     → QuietRounds old first count begun before → IsTurn begun before (Some f) buf found
-    → new ≡ told_at now found
+    → new ≡ clock_read_at now found
     → LooksOn first old now (Some f) buf new
 looked_found old before found new first count begun now f buf quiet turn done = record {
   count = count;
@@ -333,10 +350,10 @@ looked_found old before found new first count begun now f buf quiet turn done = 
   done = done;
 }
 
-pub looked_long : (old before found new : Ends) (first count begun now : ℕ) (buf : List ℕ)
+pub looked_long : (old before found new : LiveEnds) (first count begun now : ℕ) (buf : List ℕ)
     → QuietRounds old first count begun before → IsTurn begun before None buf found
     → (is_tick_due first (is_awaited old.timing) now found ≡ true) ⊎ (count ≡ 200)
-    → new ≡ told_at now found
+    → new ≡ clock_read_at now found
     → LooksOn first old now None buf new
 looked_long old before found new first count begun now buf quiet turn last done = record {
   count = count;
@@ -349,11 +366,12 @@ looked_long old before found new first count begun now buf quiet turn last done 
   done = done;
 }
 
-pub looked_last : (old before found new : Ends) (first count begun now : ℕ) (f : Option Found)
+pub looked_last : (old before found new : LiveEnds) (first count begun now : ℕ)
+    (f : Option SourceEvent)
     (buf : List ℕ)
     → QuietRounds old first count begun before → IsTurn begun before f buf found
     → (is_tick_due first (is_awaited old.timing) now found ≡ true) ⊎ (count ≡ 200)
-    → new ≡ told_at now found
+    → new ≡ clock_read_at now found
     → LooksOn first old now f buf new
 looked_last old before found new first count begun now None buf quiet turn last done =
     looked_long old before found new first count begun now buf quiet turn last done
@@ -361,45 +379,47 @@ looked_last old before found new first count begun now (Some f) buf quiet turn l
     looked_found old before found new first count begun now f buf quiet turn done
 
 -- one more that found nothing
-quiet_more_by : (start before found : Ends) (first count begun now : ℕ) (f : Option Found)
+quiet_more_by : (start before found : LiveEnds) (first count begun now : ℕ) (f : Option SourceEvent)
     (buf : List ℕ)
     → QuietRounds start first count begun before → IsTurn begun before f buf found → is_some f
     ≡ false
     → is_tick_due first (is_awaited start.timing) now found ≡ false
-    → QuietRounds start first (count + 1) now (told_at now found)
+    → QuietRounds start first (count + 1) now (clock_read_at now found)
 quiet_more_by start before found first count begun now None buf quiet turn nothing undue =
     OneRound count begun now before found buf quiet turn undue
 quiet_more_by start before found first count begun now (Some f) buf quiet turn nothing undue =
     absurd (cc)
 
 -- a tick is due or not, by what the port has at hand
-due_of : (start found new : Ends) (first now : ℕ) (was is_due : Bool)
+due_of : (start found new : LiveEnds) (first now : ℕ) (was is_due : Bool)
     → was ≡ is_awaited start.timing
-    → new ≡ told_at now found → is_due ≡ is_tick_due first was now new
+    → new ≡ clock_read_at now found → is_due ≡ is_tick_due first was now new
     → is_tick_due first (is_awaited start.timing) now found ≡ is_due
 due_of start found new first now was is_due awaited done is =
-    sym (is ∙ (ap (λ (e : Ends). is_tick_due first was now e) done
+    sym (is ∙ (ap (λ (e : LiveEnds). is_tick_due first was now e) done
     ∙ ap (λ w. is_tick_due first w now found) awaited))
 
-pub quiet_more : (start before found new : Ends) (first count begun now : ℕ) (f : Option Found)
+pub quiet_more : (start before found new : LiveEnds) (first count begun now : ℕ)
+    (f : Option SourceEvent)
     (buf : List ℕ)
     (was is_due : Bool) → QuietRounds start first count begun before
     → IsTurn begun before f buf found
-    → is_some f ≡ false → was ≡ is_awaited start.timing → new ≡ told_at now found
+    → is_some f ≡ false → was ≡ is_awaited start.timing → new ≡ clock_read_at now found
     → is_due ≡ is_tick_due first was now new → is_due ≡ false
     → QuietRounds start first (count + 1) now new
 quiet_more start before found new first count begun now f buf was is_due quiet turn nothing awaited
     done is undue =
-    let P : Ends → Type 0 = λ e. QuietRounds start first (count + 1) now e in
+    let P : LiveEnds → Type 0 = λ e. QuietRounds start first (count + 1) now e in
     subst P (sym done) (quiet_more_by start before found first count begun now f buf quiet turn
     nothing
     (due_of start found new first now was is_due awaited done is ∙ undue))
 
-pub looked_due : (start before found new : Ends) (first count begun now : ℕ) (f : Option Found)
+pub looked_due : (start before found new : LiveEnds) (first count begun now : ℕ)
+    (f : Option SourceEvent)
     (buf : List ℕ)
     (was is_due : Bool) → QuietRounds start first count begun before
     → IsTurn begun before f buf found
-    → was ≡ is_awaited start.timing → new ≡ told_at now found
+    → was ≡ is_awaited start.timing → new ≡ clock_read_at now found
     → is_due ≡ is_tick_due first was now new → is_due ≡ true → LooksOn first start now f buf new
 looked_due start before found new first count begun now f buf was is_due quiet turn awaited done is
     due =
@@ -407,28 +427,31 @@ looked_due start before found new first count begun now f buf was is_due quiet t
     (inl (due_of start found new first now was is_due awaited done is ∙ due)) done
 
 -- something was found
-pub looked_some : (start before found new : Ends) (first count begun now : ℕ) (f : Option Found)
+pub looked_some : (start before found new : LiveEnds) (first count begun now : ℕ)
+    (f : Option SourceEvent)
     (buf : List ℕ)
     → QuietRounds start first count begun before → IsTurn begun before f buf found → is_some f
     ≡ true
-    → new ≡ told_at now found → LooksOn first start now f buf new
+    → new ≡ clock_read_at now found → LooksOn first start now f buf new
 looked_some start before found new first count begun now None buf quiet turn some done = absurd (cc)
 looked_some start before found new first count begun now (Some f) buf quiet turn some done =
     looked_found start before found new first count begun now f buf quiet turn done
 
 -- and where nothing was, nothing failed
-pub none_failed : (f : Option Found) (old new : ℕ) → is_some f ≡ false → new ≡ old + faults_in f
+pub none_failed : (f : Option SourceEvent) (old new : ℕ) → is_some f ≡ false
+    → new ≡ old + faults_in f
     → new ≡ old
 none_failed None old new nothing is = omega (arith, is)
 none_failed (Some f) old new nothing is = absurd (cc)
 
 -- a turn, with its event
-pub turned : (old found new : Ends) (first now : ℕ) (f : Option Found) (event : Next) (buf : List ℕ)
+pub turned : (old found new : LiveEnds) (first now : ℕ) (f : Option SourceEvent) (event : Next)
+    (buf : List ℕ)
     →
     is_wall_due old.walled first ≡ false
-    → LooksOn first (looking (told_at first old)) now f buf found →
-    IsTold now found f event buf new → Turns old event buf new
-turned old found new first now f event buf due looks told =
+    → LooksOn first (looking (clock_read_at first old)) now f buf found →
+    GivesEvent now found f event buf new → Turns old event buf new
+turned old found new first now f event buf due looks given =
     let t : TurnsToEnds old event buf new =
     record {
       first = first;
@@ -437,15 +460,15 @@ turned old found new first now f event buf due looks told =
       f = f;
       found = found;
       looks = looks;
-      told =
-          told;
+      given =
+          given;
     } in
     inr t
 
 -- the wall clock, which is due
-pub turned_to_wall : (old new : Ends) (begun : ℕ) (event : Next) (buf : List ℕ)
+pub turned_to_wall : (old new : LiveEnds) (begun : ℕ) (event : Next) (buf : List ℕ)
     → is_wall_due old.walled begun ≡ true →
-    IsWallTold begun (told_at begun old) event new → Turns old event buf new
-turned_to_wall old new begun event buf due told =
-    let t : TurnsToWall old event new = record { begun = begun; due = due; told = told } in
+    GivesWall begun (clock_read_at begun old) event new → Turns old event buf new
+turned_to_wall old new begun event buf due given =
+    let t : TurnsToWall old event new = record { begun = begun; due = due; given = given } in
     inl t

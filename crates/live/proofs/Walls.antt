@@ -1,4 +1,4 @@
--- The ends are looked at between two events that tell the wall clock.
+-- The ends are looked at between two events that give the wall clock.
 use Rattle.std.proofs.Common.{◌≡◌, ◌≢◌, ℕ, ◌+◌, ◌-◌, ◌<◌, nat_le, ◌&&◌, ◌||◌, not, Bool, true}
 use Rattle.std.proofs.Common.{false, List, Option, Some, None, IfSome, arith, refl, sym, ap, subst}
 use Rattle.std.proofs.Common.{◌∙◌, inl, inr}
@@ -8,14 +8,14 @@ use Rattle.live.specs.Walls.{is_wall, is_wall_due, is_due_since}
 use Rattle.live.specs.Law.{AtBegun}
 use Rattle.live.proofs.Apart.{walled_of, walled_apart, clock_of, clock_apart, taken_same}
 use Rattle.live.proofs.Rounds.{walled_aside, turn_kept, quiet_kept, looks_kept}
-use Rattle.live.specs.Ends.{Ends, QuietRounds, NoRound, OneRound, Turns, LogsTurn, as_logged}
-use Rattle.live.specs.Ends.{TurnsToWall, TurnsToEnds, event_at, looking, told_at}
-use Rattle.live.specs.declared.found.Found.{Found}
-use Rattle.live.specs.declared.found.Found.TheVariants as found
+use Rattle.live.specs.Ends.{LiveEnds, QuietRounds, NoRound, OneRound, Turns, LogsTurn, as_logged}
+use Rattle.live.specs.Ends.{TurnsToWall, TurnsToEnds, event_at, looking, clock_read_at}
+use Rattle.live.specs.declared.found.SourceEvent.{SourceEvent}
+use Rattle.live.specs.declared.found.SourceEvent.TheVariants as found
 use Rattle.live.specs.declared.walled.Walled.{Walled}
 
 -- what was found is no wall clock
-no_wall : (now : ℕ) (f : Option Found) → is_wall (event_at now f) ≡ false
+no_wall : (now : ℕ) (f : Option SourceEvent) → is_wall (event_at now f) ≡ false
 no_wall now None = refl
 no_wall now (Some found.Open) = refl
 no_wall now (Some (found.Bytes len)) = refl
@@ -23,50 +23,50 @@ no_wall now (Some found.Cut) = refl
 no_wall now (Some (found.Line len)) = refl
 no_wall now (Some found.Fault) = refl
 
-of_ends : (old new : Ends) (event : Next) (buf : List ℕ) → TurnsToEnds old event buf new
+of_ends : (old new : LiveEnds) (event : Next) (buf : List ℕ) → TurnsToEnds old event buf new
     → is_wall event ≡ false
-of_ends old new event buf t = ap is_wall t.told.told
-    ∙ no_wall (moment_at new.timing t.now) t.told.taken
+of_ends old new event buf t = ap is_wall t.given.given
+    ∙ no_wall (moment_at new.timing t.now) t.given.taken
 
--- once it was told it isn't due before the ends have been looked at
-undue : (a b c d : Ends) (first second : Next) → b.walled ≡ c.walled → TurnsToWall a first b
+-- once it was given it isn't due before the ends have been looked at
+undue : (a b c d : LiveEnds) (first second : Next) → b.walled ≡ c.walled → TurnsToWall a first b
     → TurnsToWall c second d
     → false ≡ true
 undue a b c d first second same t u =
-    let told = sym same ∙ ap (λ (e : Ends). e.walled) t.told.ends in
-    sym (ap (λ (w : Walled). is_wall_due w u.begun) told) ∙ u.due
+    let given = sym same ∙ ap (λ (e : LiveEnds). e.walled) t.given.ends in
+    sym (ap (λ (w : Walled). is_wall_due w u.begun) given) ∙ u.due
 
-apart_by : (a b c d : Ends) (first second : Next) (buf more : List ℕ) → b.walled ≡ c.walled
+apart_by : (a b c d : LiveEnds) (first second : Next) (buf more : List ℕ) → b.walled ≡ c.walled
     → Turns a first buf b
     → Turns c second more d → is_wall first ≡ true → is_wall second ≡ false
-apart_by a b c d first second buf more same (inr t) u told =
-    let no : false ≡ true = sym (of_ends a b first buf t) ∙ told in absurd (cc)
-apart_by a b c d first second buf more same (inl t) (inr u) told = of_ends c d second more u
-apart_by a b c d first second buf more same (inl t) (inl u) told =
+apart_by a b c d first second buf more same (inr t) u given =
+    let no : false ≡ true = sym (of_ends a b first buf t) ∙ given in absurd (cc)
+apart_by a b c d first second buf more same (inl t) (inr u) given = of_ends c d second more u
+apart_by a b c d first second buf more same (inl t) (inl u) given =
     let no : false ≡ true = undue a b c d first second same t u in absurd (cc)
 
-pub apart : (a b c : Ends) (first second : Next) (buf more : List ℕ) → LogsTurn a first buf b
+pub apart : (a b c : LiveEnds) (first second : Next) (buf more : List ℕ) → LogsTurn a first buf b
     → LogsTurn b second more c
     → is_wall first ≡ true → is_wall second ≡ false
 apart a b c first second buf more l m =
     apart_by a (as_logged a.log b) b (as_logged b.log c) first second buf more refl l.turns m.turns
 
 -- an event that isn't the wall clock comes of looks, before which it wasn't due
-since : (told : Option ℕ) (begun : ℕ) → is_due_since told true begun ≡ false
-    → IfSome told (λ t. begun < t + 1000)
+since : (given : Option ℕ) (begun : ℕ) → is_due_since given true begun ≡ false
+    → IfSome given (λ t. begun < t + 1000)
 since None begun undue = tt
 since (Some t) begun undue = grind (arith, undue)
 
-some_since : (told : Option ℕ) (begun : ℕ) → is_due_since told true begun ≡ false → told ≢ None
+some_since : (given : Option ℕ) (begun : ℕ) → is_due_since given true begun ≡ false → given ≢ None
 some_since None begun undue = λ none. absurd (cc)
 some_since (Some t) begun undue = λ none. absurd (cc)
 
-looked_walled : (old new : Ends) (event : Next) (buf : List ℕ) → TurnsToEnds old event buf new
+looked_walled : (old new : LiveEnds) (event : Next) (buf : List ℕ) → TurnsToEnds old event buf new
     → new.walled ≡ record old.walled { has_looked = true }
 looked_walled old new event buf t =
-    ap (λ (p : Option Found × Ends). walled_of p.1) t.told.ends
+    ap (λ (p : Option SourceEvent × LiveEnds). walled_of p.1) t.given.ends
     ∙ (taken_same walled_of walled_apart (is_behind t.found.timing t.now) buf t.f t.found
-    ∙ looks_kept walled_of walled_aside t.first (looking (told_at t.first old)) t.now t.f buf
+    ∙ looks_kept walled_of walled_aside t.first (looking (clock_read_at t.first old)) t.now t.f buf
     t.found t.looks)
 
 -- it isn't due either where the last round begins
@@ -75,7 +75,7 @@ due_last true b c undue = absurd (cc)
 due_last false true c undue = absurd (cc)
 due_last false false c undue = undue
 
-quiet_undue : (start : Ends) (first count begun : ℕ) (e : Ends)
+quiet_undue : (start : LiveEnds) (first count begun : ℕ) (e : LiveEnds)
     → QuietRounds start first count begun e
     → is_wall_due start.walled first ≡ false → is_wall_due start.walled begun ≡ false
 quiet_undue start first _ _ _ NoRound undue = undue
@@ -87,84 +87,87 @@ quiet_undue start first _ _ _ (OneRound count begun now before found buf q t und
     ∙ due_last (nat_le 100 (now - first)) (is_awaited start.timing && not (is_awaited found.timing))
     (is_wall_due found.walled now) undue
 
--- so behind one such event it is due by when it was told alone
-undue_since : (a b c d : Ends) (first second : Next) (buf more : List ℕ) → b.walled ≡ c.walled
+-- so behind one such event it is due by when it was given alone
+undue_since : (a b c d : LiveEnds) (first second : Next) (buf more : List ℕ) → b.walled ≡ c.walled
     → TurnsToEnds a first buf b → (u : TurnsToEnds c second more d)
-    → is_due_since b.walled.told true u.looks.begun ≡ false
+    → is_due_since b.walled.given true u.looks.begun ≡ false
 undue_since a b c d first second buf more same t u =
     let was = looked_walled a b first buf t in
     let looked : b.walled.has_looked ≡ true = ap (λ (w : Walled). w.has_looked) was in
-    let at_first : is_due_since b.walled.told true u.first ≡ false =
-    ap (λ h. is_due_since b.walled.told h u.first) (sym looked)
+    let at_first : is_due_since b.walled.given true u.first ≡ false =
+    ap (λ h. is_due_since b.walled.given h u.first) (sym looked)
     ∙ (ap (λ (w : Walled). is_wall_due w u.first) same ∙ u.due) in
-    let start = looking (told_at u.first c) in
-    let told = ap (λ (w : Walled). w.told) same in
-    ap (λ k. is_due_since k true u.looks.begun) told
+    let start = looking (clock_read_at u.first c) in
+    let given = ap (λ (w : Walled). w.given) same in
+    ap (λ k. is_due_since k true u.looks.begun) given
     ∙ quiet_undue start u.first u.looks.count u.looks.begun u.looks.before u.looks.quiet
-    (ap (λ k. is_due_since k true u.first) (sym told) ∙ at_first)
+    (ap (λ k. is_due_since k true u.first) (sym given) ∙ at_first)
 
-wall_of : (a b : Ends) (first : Next) (buf : List ℕ) → TurnsToWall a first b → is_wall first ≡ true
-wall_of a b first buf t = ap is_wall t.told.told
+wall_of : (a b : LiveEnds) (first : Next) (buf : List ℕ) → TurnsToWall a first b → is_wall first
+    ≡ true
+wall_of a b first buf t = ap is_wall t.given.given
 
-at_begun : (told : Moments) (begun now : ℕ) (Holds : ℕ → Type 0) → Holds begun
-    → AtBegun (read_at (read_at told begun) now) Holds
+at_begun : (given : Moments) (begun now : ℕ) (Holds : ℕ → Type 0) → Holds begun
+    → AtBegun (read_at (read_at given begun) now) Holds
 at_begun None begun now Holds h = tt
 at_begun (Some before) begun now Holds h = h
 
--- the clock told when the last round began before it told the moment of the event
-ToldAt : (begun : ℕ) → Moments → Type 0
-ToldAt begun told = (before : Moments) × (told ≡ read_at before begun)
+-- the clock gave when the last round began before it gave the moment of the event
+ReadAt : (begun : ℕ) → Moments → Type 0
+ReadAt begun given = (before : Moments) × (given ≡ read_at before begun)
 
-quiet_told : (start : Ends) (first count begun : ℕ) (e : Ends)
-    → QuietRounds start first count begun e → ToldAt first start.clock
-    → ToldAt begun e.clock
-unfolding ToldAt
-quiet_told start first _ _ _ NoRound told = told
-quiet_told start first _ _ _ (OneRound count begun now before found buf q t undue) told =
+quiet_read_at : (start : LiveEnds) (first count begun : ℕ) (e : LiveEnds)
+    → QuietRounds start first count begun e → ReadAt first start.clock
+    → ReadAt begun e.clock
+unfolding ReadAt
+quiet_read_at start first _ _ _ NoRound given = given
+quiet_read_at start first _ _ _ (OneRound count begun now before found buf q t undue) given =
     (found.clock, refl)
 
-begun_clock : (old new : Ends) (event : Next) (buf : List ℕ) (t : TurnsToEnds old event buf new)
+begun_clock : (old new : LiveEnds) (event : Next) (buf : List ℕ) (t : TurnsToEnds old event buf new)
     (Holds : ℕ → Type 0)
     → Holds t.looks.begun → AtBegun new.clock Holds
-unfolding ToldAt
+unfolding ReadAt
 begun_clock old new event buf t Holds h =
     let l = t.looks in
-    let start = looking (told_at t.first old) in
-    let begun = quiet_told start t.first l.count l.begun l.before l.quiet (old.clock, refl) in
-    let told : new.clock ≡ read_at (read_at begun.0 l.begun) t.now =
-    ap (λ (p : Option Found × Ends). clock_of p.1) t.told.ends
+    let start = looking (clock_read_at t.first old) in
+    let begun = quiet_read_at start t.first l.count l.begun l.before l.quiet (old.clock, refl) in
+    let given : new.clock ≡ read_at (read_at begun.0 l.begun) t.now =
+    ap (λ (p : Option SourceEvent × LiveEnds). clock_of p.1) t.given.ends
     ∙ (taken_same clock_of clock_apart (is_behind t.found.timing t.now) buf t.f t.found
     ∙ (ap clock_of l.done ∙ ap (λ c. read_at c t.now)
     (turn_kept clock_of clock_apart l.begun l.before l.found t.f buf l.turn ∙ begun.1))) in
     let P : Moments → Type 0 = λ c. AtBegun c Holds in
-    subst P (sym told) (at_begun begun.0 l.begun t.now Holds h)
+    subst P (sym given) (at_begun begun.0 l.begun t.now Holds h)
 
-second_by : (a b c d : Ends) (first second : Next) (buf more : List ℕ) → b.walled ≡ c.walled
+second_by : (a b c d : LiveEnds) (first second : Next) (buf more : List ℕ) → b.walled ≡ c.walled
     → Turns a first buf b
     → Turns c second more d → is_wall first ≡ false → is_wall second ≡ false
-    → AtBegun d.clock (λ begun. IfSome b.walled.told (λ t. begun < t + 1000))
-    × (b.walled.told ≢ None)
+    → AtBegun d.clock (λ begun. IfSome b.walled.given (λ t. begun < t + 1000))
+    × (b.walled.given ≢ None)
 second_by a b c d first second buf more same (inl t) u dark other =
     let wrong : false ≡ true = sym dark ∙ wall_of a b first buf t in absurd (cc)
 second_by a b c d first second buf more same (inr t) (inl u) dark other =
     let wrong : false ≡ true = sym other ∙ wall_of c d second more u in absurd (cc)
 second_by a b c d first second buf more same (inr t) (inr u) dark other =
     let undue = undue_since a b c d first second buf more same t u in
-    let Holds : ℕ → Type 0 = λ begun. IfSome b.walled.told (λ t. begun < t + 1000) in (
-      begun_clock c d second more u Holds (since b.walled.told u.looks.begun undue),
-      some_since b.walled.told u.looks.begun undue,
+    let Holds : ℕ → Type 0 = λ begun. IfSome b.walled.given (λ t. begun < t + 1000) in (
+      begun_clock c d second more u Holds (since b.walled.given u.looks.begun undue),
+      some_since b.walled.given u.looks.begun undue,
     )
 
-pub each_second : (a b c : Ends) (first second : Next) (buf more : List ℕ) → LogsTurn a first buf b
+pub each_second : (a b c : LiveEnds) (first second : Next) (buf more : List ℕ)
+    → LogsTurn a first buf b
     → LogsTurn b second more c → is_wall first ≡ false → is_wall second ≡ false
-    → AtBegun c.clock (λ begun. IfSome b.walled.told (λ t. begun < t + 1000))
+    → AtBegun c.clock (λ begun. IfSome b.walled.given (λ t. begun < t + 1000))
 each_second a b c first second buf more l m dark other =
     (second_by a (as_logged a.log b) b (as_logged b.log c) first second buf more refl l.turns
     m.turns dark other).0
 
-pub was_told : (a b c : Ends) (first second : Next) (buf more : List ℕ) → LogsTurn a first buf b
-    → LogsTurn b second more c → is_wall first ≡ false → is_wall second ≡ false → b.walled.told
+pub was_given : (a b c : LiveEnds) (first second : Next) (buf more : List ℕ)
+    → LogsTurn a first buf b
+    → LogsTurn b second more c → is_wall first ≡ false → is_wall second ≡ false → b.walled.given
     ≢ None
-was_told a b c first second buf more l m dark other =
+was_given a b c first second buf more l m dark other =
     (second_by a (as_logged a.log b) b (as_logged b.log c) first second buf more refl l.turns
     m.turns dark other).1

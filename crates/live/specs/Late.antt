@@ -2,18 +2,18 @@
 -- bits count (this gateway's own profile). A request goes out when the exchange before is over (IEC
 -- 60870-5-2, 5.1), so octets that wait then are no answer to it.
 use Rattle.std.specs.Prelude.{◌≡◌, ℕ, List, [], ◌∷◌, Option, Some, None, option_map}
-use Rattle.live.specs.Wires.{Happening, Dropped}
-use Rattle.live.specs.Ends.{Ends, more}
+use Rattle.live.specs.OctetStreams.{Happening, Dropped}
+use Rattle.live.specs.Ends.{LiveEnds, more}
 
 abbrev pub dropped_of : List Happening → ℕ
 dropped_of [] = 0
 dropped_of (Dropped count ∷ before) = more count (dropped_of before)
 dropped_of (happening ∷ before) = dropped_of before
 
--- so many are late, where the line tells how many it dropped
+-- so many are late, where the line notes how many it dropped
 abbrev pub IsLate : (late : ℕ) → (dropped : Option ℕ) → Type 0
 IsLate late None = Unit {0}
 IsLate late (Some count) = late ≡ count
 
-abbrev pub TellsLate : Ends → Type 0
-TellsLate ends = IsLate ends.late (option_map dropped_of ends.line)
+abbrev pub CountsLate : LiveEnds → Type 0
+CountsLate ends = IsLate ends.late (option_map dropped_of ends.line)

@@ -2,14 +2,14 @@
 use Rattle.std.specs.Prelude.{◌≡◌, ℕ, ◌+◌, ◌-◌, ◌≤◌, true, false, List, [], ◌∷◌, ◌++◌, length}
 use Rattle.std.specs.Prelude.{Option, Some, None, option_map}
 use Rattle.std.specs.declared.net.ip_addr.IpAddr.{IpAddr}
-use Rattle.live.specs.Ends.{Ends, Peer}
-use Rattle.live.specs.Guests.{LetsIn}
+use Rattle.live.specs.Ends.{LiveEnds, Peer}
+use Rattle.live.specs.AllowLists.{Allows}
 use Rattle.live.specs.Timing.{Moments, is_awaited, is_behind}
 use Rattle.live.specs.Walls.{is_wall_due}
 use Rattle.live.specs.declared.timing.Timing.{Timing}
 use Rattle.live.specs.declared.walled.Walled.{Walled}
-use Rattle.live.specs.declared.timing.Request.{Request}
-use Rattle.live.specs.declared.guests.Guests.{Guests}
+use Rattle.live.specs.declared.timing.WrittenRequest.{WrittenRequest}
+use Rattle.live.specs.declared.allow_list.AllowList.{AllowList}
 use Rattle.gateway.specs.declared.ports.Next.{Next}
 use Rattle.gateway.specs.declared.ports.Next.TheVariants as next
 
@@ -35,27 +35,27 @@ AtBytes (next.Wall now number) Holds = Unit {0}
 AtBytes next.Done Holds = Unit {0}
 AtBytes next.Fault Holds = Unit {0}
 
--- this holds of what the clock told last, where it tells that
+-- this holds of what the clock gave last, where it notes that
 abbrev pub AtClock : Moments → (ℕ → Type 0) → Type 0
 AtClock None Holds = Unit {0}
 AtClock (Some []) Holds = Unit {0}
 AtClock (Some (now ∷ before)) Holds = Holds now
 
 -- the line has been looked at for answer_ms since the latest request was written, if one was
-abbrev pub IsHeardOut : Timing → Option Request → Type 0
-IsHeardOut t None = Unit {0}
-IsHeardOut t (Some r) = t.answer_ms ≤ t.heard - r.written
+abbrev pub IsWaitedOut : Timing → Option WrittenRequest → Type 0
+IsWaitedOut t None = Unit {0}
+IsWaitedOut t (Some r) = t.answer_ms ≤ t.looked - r.written
 
--- this holds of what the clock told before it told the newest moment, where it tells that
+-- this holds of what the clock gave before it gave the newest moment, where it notes that
 abbrev pub AtBegun : Moments → (ℕ → Type 0) → Type 0
 AtBegun None Holds = Unit {0}
 AtBegun (Some (now ∷ (begun ∷ before))) Holds = Holds begun
 AtBegun _ Holds = Unit {0}
 
--- a connection is open, and it is one of a guest
-abbrev pub IsOfGuest : Guests → Option Peer → Type 0
-IsOfGuest guests None = ⊥
-IsOfGuest guests (Some peer) = LetsIn guests peer.address
+-- a connection is open, and its address is allowed
+abbrev pub IsOfAllowedPeer : AllowList → Option Peer → Type 0
+IsOfAllowedPeer allow_list None = ⊥
+IsOfAllowedPeer allow_list (Some peer) = Allows allow_list peer.address
 
 -- the connection of this address is still open, or none is
 abbrev pub IsSameOrNone : (before : Option IpAddr) → Option Peer → Type 0
@@ -63,13 +63,13 @@ IsSameOrNone before None = Unit {0}
 IsSameOrNone before (Some peer) = before ≡ Some peer.address
 
 -- who is at the other end of the connection
-abbrev pub peer_of : Ends → Option IpAddr
+abbrev pub peer_of : LiveEnds → Option IpAddr
 peer_of ends = option_map (λ (p : Peer). p.address) ends.connection
 
--- Where a connection is opened it is one of a guest; any other event leaves the one that was, or
+-- Where a connection is opened its address is allowed; any other event leaves the one that was, or
 -- none.
-abbrev pub KeepsOut : Ends → Next → Ends → Type 0
-KeepsOut old (next.Open now) new = IsOfGuest old.guests new.connection
+abbrev pub KeepsOut : LiveEnds → Next → LiveEnds → Type 0
+KeepsOut old (next.Open now) new = IsOfAllowedPeer old.allow_list new.connection
 KeepsOut old (next.Line now len) new = IsSameOrNone (peer_of old) new.connection
 KeepsOut old (next.Bytes now len) new = IsSameOrNone (peer_of old) new.connection
 KeepsOut old (next.Cut now) new = IsSameOrNone (peer_of old) new.connection
@@ -78,16 +78,16 @@ KeepsOut old (next.Wall now number) new = IsSameOrNone (peer_of old) new.connect
 KeepsOut old next.Done new = IsSameOrNone (peer_of old) new.connection
 KeepsOut old next.Fault new = IsSameOrNone (peer_of old) new.connection
 
--- The moments that the clock told for an event: `begun`, when the last round of looks began,
+-- The moments that the clock gave for an event: `begun`, when the last round of looks began,
 -- `quiet`, when each before it did, the newest first, and `now`, behind the last one.
 pub record SomeRounds (before after : List ℕ) (Holds : ℕ → List ℕ → ℕ → Type 0) : Type 0 where
   pub begun : ℕ
   pub quiet : List ℕ
   pub now : ℕ
-  pub told : after ≡ now ∷ (begun ∷ (quiet ++ before))
+  pub moments : after ≡ now ∷ (begun ∷ (quiet ++ before))
   pub holds : Holds begun quiet now
 
--- this holds of the moments that the clock told for an event, where it tells them
+-- this holds of the moments that the clock gave for an event, where it notes them
 abbrev pub AtRounds : (before after : Moments) → (ℕ → List ℕ → ℕ → Type 0) → Type 0
 AtRounds None after Holds = Unit {0}
 AtRounds (Some before) None Holds = ⊥
@@ -98,7 +98,7 @@ abbrev pub first_of : (begun : ℕ) → (quiet : List ℕ) → ℕ
 first_of begun [] = begun
 first_of begun (earlier ∷ quiet) = first_of earlier quiet
 
--- Why a tick is told: 100 ms have passed since the first round began; the answer that was awaited
+-- Why a tick is given: 100 ms have passed since the first round began; the answer that was awaited
 -- then comes too late; the wall clock is due; the event's moment is too far behind the clock for
 -- octets that came, which are held; or 200 rounds before the last one found nothing.
 pub data IsTickDue (old new : Timing) (walled : Walled) (first : ℕ) (quiet : List ℕ) (now : ℕ) :

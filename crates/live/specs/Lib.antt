@@ -1,5 +1,5 @@
-pub mod Guests
-pub mod Wires
+pub mod AllowLists
+pub mod OctetStreams
 pub mod Timing
 pub mod Walls
 pub mod Ends

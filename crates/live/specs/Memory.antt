@@ -1,9 +1,9 @@
 -- What has happened at ends in memory, which note it as entries of a log (profile).
 use Rattle.std.specs.Prelude.{ℕ, List, [], ◌∷◌, Bool, true, false, ◌==◌}
 use Rattle.gateway.specs.Log.{Log, Came, Went, LineIn, LineOut, Opened, CutOff, Ticked, WallIs}
-use Rattle.live.specs.Wires.{Happening, Gave, WasQuiet, WasGone, Dropped, Wrote}
+use Rattle.live.specs.OctetStreams.{Happening, Gave, WasQuiet, WasGone, Dropped, Wrote}
 
--- At a wire: octets came, or a look found nothing, or found it gone; so many that had come were
+-- At a stream: octets came, or a look found nothing, or found it gone; so many that had come were
 -- dropped; or octets were put on it, with the number 1 where it took them.
 abbrev pub happenings : Log → List Happening
 happenings [] = []
@@ -14,14 +14,14 @@ happenings (Came now (WallIs count) ∷ log) = Dropped count ∷ happenings log
 happenings (Went taken (LineOut octets) ∷ log) = Wrote octets (taken == 1) ∷ happenings log
 happenings (entry ∷ log) = happenings log
 
--- at a door: somebody was let in, or nobody
-abbrev pub entrances : Log → List Bool
-entrances [] = []
-entrances (Came now Opened ∷ log) = true ∷ entrances log
-entrances (Came now Ticked ∷ log) = false ∷ entrances log
-entrances (entry ∷ log) = entrances log
+-- at a listener: a connection was accepted, or none
+abbrev pub attempts_in : Log → List Bool
+attempts_in [] = []
+attempts_in (Came now Opened ∷ log) = true ∷ attempts_in log
+attempts_in (Came now Ticked ∷ log) = false ∷ attempts_in log
+attempts_in (entry ∷ log) = attempts_in log
 
--- at a clock: the moments that it told
+-- at a clock: the moments that it gave
 abbrev pub moments_in : Log → List ℕ
 moments_in [] = []
 moments_in (Came now Ticked ∷ log) = now ∷ moments_in log

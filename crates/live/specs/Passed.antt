@@ -1,10 +1,11 @@
--- What passed at the wires, as the log tells it (this gateway's own profile).
+-- What passed at the streams, as the log has it (this gateway's own profile).
 use Rattle.std.specs.Prelude.{◌≡◌, ℕ, ◌+◌, List, [], ◌∷◌, ◌++◌, Bool, true, false, Option, Some}
 use Rattle.std.specs.Prelude.{None, is_some}
 use Rattle.gateway.specs.Log.{Log, Came, Went, LineIn, LineOut, Opened, TcpIn, TcpOut, Output}
 use Rattle.gateway.specs.declared.ports.Next.{Next}
-use Rattle.live.specs.Wires.{Happening, Gave, WasQuiet, Dropped, Wrote, History, IsNew, Visits}
-use Rattle.live.specs.Ends.{Ends, Peer, LogsTurn, LogsPut}
+use Rattle.live.specs.OctetStreams.{Happening, Gave, WasQuiet, Dropped, Wrote, StreamHistory, IsNew}
+use Rattle.live.specs.OctetStreams.{Attempts}
+use Rattle.live.specs.Ends.{LiveEnds, Peer, LogsTurn, LogsPut}
 
 -- the octets that came from the line, in their order
 abbrev pub line_in : Log → List ℕ
@@ -38,19 +39,19 @@ opened_in [] = 0
 opened_in (Came now Opened ∷ log) = opened_in log + 1
 opened_in (entry ∷ log) = opened_in log
 
--- how often a door let somebody in
-abbrev pub let_in_at : List Bool → ℕ
-let_in_at [] = 0
-let_in_at (true ∷ before) = let_in_at before + 1
-let_in_at (false ∷ before) = let_in_at before
+-- how often a listener accepted a connection
+abbrev pub accepted_in : List Bool → ℕ
+accepted_in [] = 0
+accepted_in (true ∷ before) = accepted_in before + 1
+accepted_in (false ∷ before) = accepted_in before
 
--- the octets that a wire gave, in their order
+-- the octets that a stream gave, in their order
 abbrev pub given : List Happening → List ℕ
 given [] = []
 given (Gave octets ∷ before) = given before ++ octets
 given (happening ∷ before) = given before
 
--- what was handed to a wire, the newest first
+-- what was handed to a stream, the newest first
 abbrev pub handed : List Happening → List (List ℕ)
 handed [] = []
 handed (Wrote octets taken ∷ before) = octets ∷ handed before
@@ -63,69 +64,69 @@ taken_of (Wrote octets true ∷ before) = octets ∷ taken_of before
 taken_of (happening ∷ before) = taken_of before
 
 -- the line gave these octets, and these requests were handed to it
-abbrev pub TellsLine : List ℕ → List (List ℕ) → History → Type 0
-TellsLine came went None = Unit {0}
-TellsLine came went (Some happened) = (came ≡ given happened) × (went ≡ handed happened)
+abbrev pub LogsLine : List ℕ → List (List ℕ) → StreamHistory → Type 0
+LogsLine came went None = Unit {0}
+LogsLine came went (Some happened) = (came ≡ given happened) × (went ≡ handed happened)
 
--- While no cut is due these APDUs, and no others, were handed to the wire, which took each. Since a
--- write failed, so that a cut is due, the wire was handed the first of them alone, and took each of
--- these but the last, of which it may have taken a part; those that went out behind it were
+-- While no cut is due these APDUs, and no others, were handed to the stream, which took each. Since
+-- a write failed, so that a cut is due, the stream was handed the first of them alone, and took
+-- each of these but the last, of which it may have taken a part; those that went out behind it were
 -- dropped.
-abbrev pub TellsWritten : (is_cut_due : Bool) → (went handed taken : List (List ℕ)) → Type 0
-TellsWritten true went handed taken = (dropped : List (List ℕ)) × (lost : List ℕ)
+abbrev pub LogsWritten : (is_cut_due : Bool) → (went handed taken : List (List ℕ)) → Type 0
+LogsWritten true went handed taken = (dropped : List (List ℕ)) × (lost : List ℕ)
     × (went ≡ dropped ++ handed) × (handed ≡ lost ∷ taken)
-TellsWritten false went handed taken = (went ≡ handed) × (went ≡ taken)
+LogsWritten false went handed taken = (went ≡ handed) × (went ≡ taken)
 
--- the wire of a connection gave these octets, with those that are held, and took these APDUs
-abbrev pub TellsWire : (is_cut_due : Bool) → (held came : List ℕ) → List (List ℕ) → History
+-- the stream of a connection gave these octets, with those that are held, and took these APDUs
+abbrev pub LogsStream : (is_cut_due : Bool) → (held came : List ℕ) → List (List ℕ) → StreamHistory
     → Type 0
-TellsWire is_cut_due held came went None = Unit {0}
-TellsWire is_cut_due held came went (Some happened) =
+LogsStream is_cut_due held came went None = Unit {0}
+LogsStream is_cut_due held came went (Some happened) =
     (came ++ held ≡ given happened)
-    × TellsWritten is_cut_due went (handed happened) (taken_of happened)
+    × LogsWritten is_cut_due went (handed happened) (taken_of happened)
 
-abbrev pub TellsCentre : (is_cut_due : Bool) → (held came : List ℕ) → List (List ℕ) → Option Peer
+abbrev pub LogsCentre : (is_cut_due : Bool) → (held came : List ℕ) → List (List ℕ) → Option Peer
     → Type 0
-TellsCentre is_cut_due held came went None = Unit {0}
-TellsCentre is_cut_due held came went (Some peer) = TellsWire is_cut_due held came went peer.wire
+LogsCentre is_cut_due held came went None = Unit {0}
+LogsCentre is_cut_due held came went (Some peer) = LogsStream is_cut_due held came went peer.stream
 
--- each connection that was opened is one that the door let in
-abbrev pub TellsDoor : ℕ → Visits → Type 0
-TellsDoor count None = Unit {0}
-TellsDoor count (Some before) = count ≡ let_in_at before
+-- each connection that was opened is one that the listener accepted
+abbrev pub LogsListener : ℕ → Attempts → Type 0
+LogsListener count None = Unit {0}
+LogsListener count (Some before) = count ≡ accepted_in before
 
--- the log tells what passed at the line, at the open connection, and at the door
-abbrev pub TellsEnds : Log → Ends → Type 0
-TellsEnds log ends =
-    TellsLine (line_in log) (line_out log) ends.line
-    × TellsCentre ends.is_cut_due ends.held (centre_in log) (centre_out log) ends.connection
-    × TellsDoor (opened_in log) ends.door
+-- the log has what passed at the line, at the open connection, and at the listener
+abbrev pub LogsEnds : Log → LiveEnds → Type 0
+LogsEnds log ends =
+    LogsLine (line_in log) (line_out log) ends.line
+    × LogsCentre ends.is_cut_due ends.held (centre_in log) (centre_out log) ends.connection
+    × LogsListener (opened_in log) ends.listener
 
--- nobody has been at the door yet
-abbrev pub IsUnvisited : Visits → Type 0
-IsUnvisited None = Unit {0}
-IsUnvisited (Some before) = before ≡ []
+-- the listener hasn't been looked at yet
+abbrev pub HasNoAttempts : Attempts → Type 0
+HasNoAttempts None = Unit {0}
+HasNoAttempts (Some before) = before ≡ []
 
--- nothing has been logged, nothing has happened at the line and at the door, and no connection is
--- open
-pub record IsFresh (ends : Ends) : Type 0 where
+-- nothing has been logged, nothing has happened at the line and at the listener, and no connection
+-- is open
+pub record IsFreshRun (ends : LiveEnds) : Type 0 where
   pub log : ends.log ≡ []
   pub line : IsNew ends.line
-  pub door : IsUnvisited ends.door
+  pub listener : HasNoAttempts ends.listener
   pub connection : ends.connection ≡ None
 
 -- events and actions in any order
-pub data Run (start : Ends) : Ends → Type 0 where
-  Begun : Run start start
-  Told : (before now : Ends) → (event : Next) → (buf : List ℕ) → Run start before
-      → LogsTurn before event buf now → Run start now
-  Put : (before now : Ends) → (moment : ℕ) → (action : Output) → Run start before
-      → LogsPut before moment action now → Run start now
+pub data LiveRun (start : LiveEnds) : LiveEnds → Type 0 where
+  Begun : LiveRun start start
+  Turned : (before now : LiveEnds) → (event : Next) → (buf : List ℕ) → LiveRun start before
+      → LogsTurn before event buf now → LiveRun start now
+  Put : (before now : LiveEnds) → (moment : ℕ) → (action : Output) → LiveRun start before
+      → LogsPut before moment action now → LiveRun start now
 
--- The line, the door and the clock that told what happens at them tell it still.
-pub record TellsStill (start end : Ends) : Type 0 where
+-- The line, the listener and the clock that noted what happens at them note it still.
+pub record NotesStill (start end : LiveEnds) : Type 0 where
   pub line : is_some end.line ≡ is_some start.line
-  pub door : is_some end.door ≡ is_some start.door
+  pub listener : is_some end.listener ≡ is_some start.listener
   pub clock : is_some end.clock ≡ is_some start.clock
 
 -- two requests, three octets of the line in two pieces, and two connections, the second open

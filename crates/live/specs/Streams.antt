@@ -7,33 +7,33 @@ use Rattle.std.specs.declared.io.Error.{Error}
 use Rattle.std.specs.declared.io.ErrorKind.{ErrorKind}
 use Rattle.std.specs.declared.io.ErrorKind.TheVariants.{WouldBlock, TimedOut, Interrupted}
 use Rattle.std.specs.IoError.{error_kind}
-use Rattle.live.specs.declared.wires.Got.{Got}
-use Rattle.live.specs.declared.wires.Got.TheVariants.{Octets, Quiet, Gone}
+use Rattle.live.specs.declared.ends.Got.{Got}
+use Rattle.live.specs.declared.ends.Got.TheVariants.{Octets, Quiet, Gone}
 
 -- a call of a stream, and what the system answered: which octets came, and how many, or how many of
--- those that were handed to it were taken, from the front; or it was told to wait at calls, or not
+-- those that were handed to it were taken, from the front; or it was set to wait at calls, or not
 -- to, and whether that was done
-pub data Call : Type 0 where
-  Received : (octets : List ℕ) → (answer : Result ℕ Error) → Call
-  Sent : (octets : List ℕ) → (answer : Result ℕ Error) → Call
-  Waits : (is_waiting : Bool) → (is_set : Bool) → Call
+pub data SystemCall : Type 0 where
+  Received : (octets : List ℕ) → (answer : Result ℕ Error) → SystemCall
+  Sent : (octets : List ℕ) → (answer : Result ℕ Error) → SystemCall
+  Waits : (is_waiting : Bool) → (is_set : Bool) → SystemCall
 
--- the calls of a stream, the newest first, where it tells them
+-- the calls of a stream, the newest first, where it notes them
 abbrev pub Calls : Type 0
-Calls = Option (List Call)
+Calls = Option (List SystemCall)
 
-abbrev pub called : Calls → Call → Calls
+abbrev pub called : Calls → SystemCall → Calls
 called None call = None
 called (Some before) call = Some (call ∷ before)
 
--- A wait that ended without octets and an interruption are quiet; every other failure is the wire's
--- end.
+-- A wait that ended without octets and an interruption are quiet; every other failure is the
+-- stream's end.
 abbrev pub MeansFault : ErrorKind → Got → Type 0
 MeansFault kind (Octets len) = ⊥
 MeansFault kind Quiet = (kind ≡ WouldBlock) ⊎ ((kind ≡ TimedOut) ⊎ (kind ≡ Interrupted))
 MeansFault kind Gone = (kind ≢ WouldBlock) × (kind ≢ TimedOut) × (kind ≢ Interrupted)
 
--- octets are octets, and none at all are the wire's end
+-- octets are octets, and none at all are the stream's end
 abbrev pub MeansGot : Result ℕ Error → Got → Type 0
 MeansGot answer got =
     MatchResult answer (λ len. got ≡ (if len == 0 then Gone else Octets len))
@@ -45,7 +45,7 @@ taken_of (Ok count) = count
 taken_of (Err fault) = 0
 
 -- a call that put what came at the front of this buffer
-abbrev pub received : (buf : List ℕ) → Result ℕ Error → Call
+abbrev pub received : (buf : List ℕ) → Result ℕ Error → SystemCall
 received buf answer = Received (take (taken_of answer) buf) answer
 
 -- one call, and what its answer means
@@ -127,7 +127,7 @@ pub record WritesAll (old : Calls) (octets : List ℕ) (is_taken : Bool) (new : 
   pub means : is_taken ≡ takes_all answer (length octets)
 
 -- the octets that a stream took, in their order
-abbrev pub took : List Call → List ℕ
+abbrev pub took : List SystemCall → List ℕ
 took [] = []
 took (Received octets answer ∷ before) = took before
 took (Waits is_waiting is_set ∷ before) = took before
@@ -148,46 +148,46 @@ pub record WritesFront (old : Calls) (octets : List ℕ) (is_taken : Bool) (new 
   pub all : is_taken ≡ (count == length octets)
 
 -- what a look was answered: the octets that came, and how many, or why none did
-pub record Answer : Type 0 where
+pub record ReadAnswer : Type 0 where
   pub octets : List ℕ
   pub count : Result ℕ Error
 
 -- one call, and how many octets it brought
 pub record DropsOnce (old : Calls) (count : ℕ) (new : Calls) : Type 0 where
-  pub answer : Answer
+  pub answer : ReadAnswer
   pub asked : new ≡ called old (Received answer.octets answer.count)
   pub means : count ≡ taken_of answer.count
 
 -- a look brought octets
-abbrev pub brings : Answer → Bool
+abbrev pub brings : ReadAnswer → Bool
 brings answer = not (taken_of answer.count == 0)
 
 -- how many octets looks brought
-abbrev pub brought : List Answer → ℕ
+abbrev pub brought : List ReadAnswer → ℕ
 brought [] = 0
 brought (answer ∷ before) = brought before + taken_of answer.count
 
 -- looks that were answered so, the newest first
-abbrev pub looked : List Answer → Calls → Calls
+abbrev pub looked : List ReadAnswer → Calls → Calls
 looked [] calls = calls
 looked (answer ∷ before) calls =
     called (looked before calls) (Received answer.octets answer.count)
 
 -- They are at most 64, and each but the newest brought octets, which did so only if it is the 64th.
-abbrev pub IsDrained : List Answer → Type 0
+abbrev pub IsDrained : List ReadAnswer → Type 0
 IsDrained [] = ⊥
 IsDrained (answer ∷ before) =
     All (λ a. brings a ≡ true) before × (length before ≤ 63)
     × (brings answer ≡ true → length before ≡ 63)
 
 pub record Drains (old : Calls) (count : ℕ) (new : Calls) : Type 0 where
-  pub looks : List Answer
+  pub looks : List ReadAnswer
   pub drained : IsDrained looks
   pub counted : count ≡ brought looks
   pub asked : new ≡ looked looks old
 
 -- What has come, so many octets, is read, without a wait, until nothing comes or 64 times. A stream
--- that can't be told not to wait isn't read.
+-- that can't be set not to wait isn't read.
 pub data DropsWaiting (old : Calls) (count : ℕ) (new : Calls) : Type 0 where
   Refused : count ≡ 0 → new ≡ called old (Waits false false) → DropsWaiting old count new
   Drained : (mid : Calls) → (is_set : Bool) → Drains (called old (Waits false true)) count mid

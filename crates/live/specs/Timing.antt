@@ -5,9 +5,9 @@
 use Rattle.std.specs.Prelude.{ℕ, ◌+◌, ◌-◌, nat_le, nat_lt, Bool, false, not, List, ◌∷◌, Option}
 use Rattle.std.specs.Prelude.{Some, None, if◌then◌else◌}
 use Rattle.live.specs.declared.timing.Timing.{Timing}
-use Rattle.live.specs.declared.timing.Request.{Request}
+use Rattle.live.specs.declared.timing.WrittenRequest.{WrittenRequest}
 
--- the moments that a clock has told, the newest first, where it tells them
+-- the moments that a clock has given, the newest first, where it notes them
 abbrev pub Moments : Type 0
 Moments = Option (List ℕ)
 
@@ -16,31 +16,31 @@ read_at None now = None
 read_at (Some before) now = Some (now ∷ before)
 
 -- the line has been looked at for answer_ms since the request was written: a look began that late
-abbrev pub is_heard_out : Timing → Request → Bool
-is_heard_out t r = nat_le t.answer_ms (t.heard - r.written)
+abbrev pub is_waited_out : Timing → WrittenRequest → Bool
+is_waited_out t r = nat_le t.answer_ms (t.looked - r.written)
 
 -- an answer to the request, if one was written, may still come in its time
-abbrev pub is_awaited_by : Timing → Option Request → Bool
+abbrev pub is_awaited_by : Timing → Option WrittenRequest → Bool
 is_awaited_by t None = false
-is_awaited_by t (Some r) = not (is_heard_out t r)
+is_awaited_by t (Some r) = not (is_waited_out t r)
 
 abbrev pub is_awaited : Timing → Bool
 is_awaited t = is_awaited_by t t.request
 
 -- less than answer_ms have passed since the request's moment
-abbrev pub goes_on : Timing → Request → ℕ → Bool
+abbrev pub goes_on : Timing → WrittenRequest → ℕ → Bool
 goes_on t r now = nat_lt (now - r.moment) t.answer_ms
 
 -- the last moment at which its exchange goes on
-abbrev pub eve : Timing → Request → ℕ
+abbrev pub eve : Timing → WrittenRequest → ℕ
 eve t r = r.moment + (t.answer_ms - 1)
 
--- That of the clock, but while the line hasn't been heard out no later than the eve of the
+-- That of the clock, but while the line hasn't been waited out no later than the eve of the
 -- exchange's end.
-abbrev pub moment_by : Timing → Option Request → ℕ → ℕ
+abbrev pub moment_by : Timing → Option WrittenRequest → ℕ → ℕ
 moment_by t None now = now
 moment_by t (Some r) now =
-    if is_heard_out t r then now else (if goes_on t r now then now else eve t r)
+    if is_waited_out t r then now else (if goes_on t r now then now else eve t r)
 
 abbrev pub moment_at : Timing → ℕ → ℕ
 moment_at t now = moment_by t t.request now
@@ -50,8 +50,8 @@ abbrev pub is_behind : Timing → ℕ → Bool
 is_behind t now = nat_lt 50 (now - moment_at t now)
 
 -- a look at the line, which began then
-abbrev pub heard_at : ℕ → Timing → Timing
-heard_at begun t = record t { heard = begun }
+abbrev pub line_looked_at : ℕ → Timing → Timing
+line_looked_at begun t = record t { looked = begun }
 
 -- a request of this moment, written then
 abbrev pub asked_at : ℕ → ℕ → Timing → Timing

@@ -7,8 +7,8 @@ use gateway::Next;
 
 /// What a look at a source finds.
 #[derive(Clone, Copy, Debug, PartialEq, Eq)]
-pub(crate) enum Found {
-    /// Someone came through the door.
+pub(crate) enum SourceEvent {
+    /// A control centre connected.
     Open,
     /// So many octets came on the connection.
     Bytes(usize),
@@ -21,16 +21,16 @@ pub(crate) enum Found {
 }
 
 /// What was found, as an event of this moment; where nothing was, only time passed.
-pub(crate) fn event_at(now: u64, found: Option<Found>) -> Next
+pub(crate) fn event_at(now: u64, found: Option<SourceEvent>) -> Next
     ensures value { result ≡ event_at now found }
     ensures faults { faults_of result ≡ faults_in found }
 {
     match found {
         None => Next::Tick(now),
-        Some(Found::Open) => Next::Open(now),
-        Some(Found::Bytes(len)) => Next::Bytes(now, len),
-        Some(Found::Cut) => Next::Cut(now),
-        Some(Found::Line(len)) => Next::Line(now, len),
-        Some(Found::Fault) => Next::Fault,
+        Some(SourceEvent::Open) => Next::Open(now),
+        Some(SourceEvent::Bytes(len)) => Next::Bytes(now, len),
+        Some(SourceEvent::Cut) => Next::Cut(now),
+        Some(SourceEvent::Line(len)) => Next::Line(now, len),
+        Some(SourceEvent::Fault) => Next::Fault,
     }
 }

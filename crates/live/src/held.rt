@@ -1,16 +1,16 @@
-//! Octets that came and haven't been told yet.
+//! Octets that came and haven't been given yet.
 ghost use Rattle.std.specs.Prelude.{◌≡◌, ◌≤◌, [], length, take, ◌==◌};
 
 use arrayvec::ArrayVec;
 use std::marker::Model;
 
-/// Octets of the connection that came and haven't been told yet: at most 1,024.
+/// Octets of the connection that came and haven't been given yet: at most 1,024.
 #[derive(Debug, Drop)]
-pub(crate) struct Held {
+pub(crate) struct HeldOctets {
     octets: ArrayVec<u8, 1024>,
 }
 
-impl Model for Held {
+impl Model for HeldOctets {
     ghost use Rattle.std.specs.Prelude.{List, ℕ};
 
     ghost Value = { List ℕ };
@@ -18,12 +18,12 @@ impl Model for Held {
     ghost view = { λ h. h.octets.items };
 }
 
-impl Held {
+impl HeldOctets {
     /// No octets.
-    pub(crate) fn new() -> Held
+    pub(crate) fn new() -> HeldOctets
         ensures { result ≡ [] }
     {
-        Held {
+        HeldOctets {
             octets: ArrayVec::new(),
         }
     }

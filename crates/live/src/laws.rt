@@ -3,64 +3,64 @@
 ghost use Rattle.std.specs.Prelude.{◌⊎◌, ◌≡◌, ◌≢◌, All, IfSome, None, ◌+◌, ◌-◌, ◌<◌, ◌≤◌, ℕ, List};
 ghost use Rattle.std.specs.Prelude.{[], ◌∷◌, Some, true, false};
 ghost use Rattle.gateway.specs.declared.ports.Next.{Next};
-ghost use Rattle.live.specs.Ends.{Ends, LogsTurn, LogsPut};
-ghost use Rattle.live.specs.Law.{AtMoment, AtBytes, AtClock, AtBegun, IsHeardOut, KeepsOut};
+ghost use Rattle.live.specs.Ends.{LiveEnds, LogsTurn, LogsPut};
+ghost use Rattle.live.specs.Law.{AtMoment, AtBytes, AtClock, AtBegun, IsWaitedOut, KeepsOut};
 ghost use Rattle.live.specs.Law.{AtRounds, first_of, IsTickDue, IfTick};
 ghost use Rattle.gateway.specs.Log.{Closed, Output};
 ghost use Rattle.live.specs.InTurn.{BeginsBehind, LooksBefore, IsFarBehind};
 ghost use Rattle.session.specs.declared.kinds.Close.{Close};
 ghost use Rattle.session.specs.declared.kinds.Close.TheVariants.{Replaced};
-ghost use Rattle.live.specs.Passed.{IsFresh, Run, TellsEnds, TellsStill, line_in, line_out};
-ghost use Rattle.live.specs.Passed.{centre_in, centre_out, opened_in, let_in_at, given, handed};
+ghost use Rattle.live.specs.Passed.{IsFreshRun, LiveRun, LogsEnds, NotesStill, line_in, line_out};
+ghost use Rattle.live.specs.Passed.{centre_in, centre_out, opened_in, accepted_in, given, handed};
 ghost use Rattle.live.specs.Passed.{taken_of, example_log, example_line};
-ghost use Rattle.live.specs.Late.{dropped_of, TellsLate};
+ghost use Rattle.live.specs.Late.{dropped_of, CountsLate};
 ghost use Rattle.live.specs.Walls.{is_wall};
-ghost use Rattle.live.specs.Wires.{IsNew};
-ghost use Rattle.live.specs.declared.timing.Request.{Request};
+ghost use Rattle.live.specs.OctetStreams.{IsNew};
+ghost use Rattle.live.specs.declared.timing.WrittenRequest.{WrittenRequest};
 
 /// Where an event's moment lets an exchange end (`answer_ms` or more after its request's), a look
 /// at the line has begun `answer_ms` or more after that request was written: a stall of the gateway
 /// ends no exchange whose answer waits.
-#[tactic(auto, using(crate::proofs::Law::heard_out))]
-pub fn no_exchange_ends_unheard()
-    ensures { (old new : Ends) (event : Next) (buf : List ℕ) (r : Request) →
+#[tactic(auto, using(crate::proofs::Law::waited_out))]
+pub fn no_exchange_ends_unread()
+    ensures { (old new : LiveEnds) (event : Next) (buf : List ℕ) (r : WrittenRequest) →
         LogsTurn old event buf new → new.timing.request ≡ Some r → 0 < new.timing.answer_ms →
         AtMoment event (λ moment. r.moment + new.timing.answer_ms ≤ moment →
-        new.timing.answer_ms ≤ new.timing.heard - r.written) }
+        new.timing.answer_ms ≤ new.timing.looked - r.written) }
 {}
 
 /// Once the line has been looked at for `answer_ms` since the latest request was written, and
-/// before any request, an event bears the moment that the clock told last: so an exchange without
+/// before any request, an event bears the moment that the clock gave last: so an exchange without
 /// an answer ends.
-pub fn a_line_that_is_heard_out_holds_no_moment()
-    ensures { (old new : Ends) (event : Next) (buf : List ℕ) → LogsTurn old event buf new →
-        IsHeardOut new.timing new.timing.request →
+pub fn a_line_that_is_waited_out_holds_no_moment()
+    ensures { (old new : LiveEnds) (event : Next) (buf : List ℕ) → LogsTurn old event buf new →
+        IsWaitedOut new.timing new.timing.request →
         AtClock new.clock (λ now. AtMoment event (λ moment. moment ≡ now)) }
 {}
 
 /// The rounds of looks for an event begin less than 100 ms after the first of them: so between two
 /// events the ends aren't looked at for longer than that and one round more.
 pub fn looks_for_an_event_begin_within_100_ms()
-    ensures { (old new : Ends) (event : Next) (buf : List ℕ) → LogsTurn old event buf new →
+    ensures { (old new : LiveEnds) (event : Next) (buf : List ℕ) → LogsTurn old event buf new →
         is_wall event ≡ false → AtRounds old.clock new.clock (λ begun quiet now.
         All (λ moment. moment < first_of begun quiet + 100) (begun ∷ quiet)) }
 {}
 
-/// Once the time of an exchange is over an event is told at once: no round of looks begins
+/// Once the time of an exchange is over an event is given at once: no round of looks begins
 /// `answer_ms` or more after the latest request was written, but the last one before an event.
-pub fn an_exchange_that_is_over_is_told_at_once()
-    ensures { (old new : Ends) (event : Next) (buf : List ℕ) (r : Request) →
+pub fn an_exchange_that_is_over_gives_an_event_at_once()
+    ensures { (old new : LiveEnds) (event : Next) (buf : List ℕ) (r : WrittenRequest) →
         LogsTurn old event buf new → is_wall event ≡ false → old.timing.request ≡ Some r →
-        old.timing.heard - r.written < old.timing.answer_ms →
+        old.timing.looked - r.written < old.timing.answer_ms →
         AtRounds old.clock new.clock (λ begun quiet now.
         All (λ moment. moment - r.written < old.timing.answer_ms) quiet) }
 {}
 
-/// A tick is told only where 100 ms have passed since the first round of looks began, where the
+/// A tick is given only where 100 ms have passed since the first round of looks began, where the
 /// answer that was awaited then comes too late, where the wall clock is due, where the event's
 /// moment is more than 50 ms behind the clock, and where 200 rounds before found nothing.
 pub fn a_tick_has_a_reason()
-    ensures { (old new : Ends) (event : Next) (buf : List ℕ) → LogsTurn old event buf new →
+    ensures { (old new : LiveEnds) (event : Next) (buf : List ℕ) → LogsTurn old event buf new →
         IfTick event (AtRounds old.clock new.clock (λ begun quiet now.
         IsTickDue old.timing new.timing new.walled (first_of begun quiet) quiet now)) }
 {}
@@ -68,9 +68,9 @@ pub fn a_tick_has_a_reason()
 /// The next round of looks begins with the source after the one where the last event was found,
 /// whatever is put out in between.
 pub fn the_round_goes_on_behind_the_last_event()
-    ensures told { (old new : Ends) (event : Next) (buf : List ℕ) → LogsTurn old event buf new →
-        BeginsBehind event old.first new.first }
-    ensures put { (old new : Ends) (moment : ℕ) (action : Output) →
+    ensures given { (old new : LiveEnds) (event : Next) (buf : List ℕ) →
+        LogsTurn old event buf new → BeginsBehind event old.first new.first }
+    ensures put { (old new : LiveEnds) (moment : ℕ) (action : Output) →
         LogsPut old moment action new → new.first ≡ old.first }
 {}
 
@@ -78,81 +78,81 @@ pub fn the_round_goes_on_behind_the_last_event()
 /// looked at, up to the one where it was found. But where a cut is due, where octets are held, and
 /// where the event's moment is more than 50 ms behind the clock.
 pub fn no_source_hides_another()
-    ensures { (old new : Ends) (event : Next) (buf : List ℕ) → LogsTurn old event buf new →
+    ensures { (old new : LiveEnds) (event : Next) (buf : List ℕ) → LogsTurn old event buf new →
         old.is_cut_due ≡ false → old.held ≡ [] →
         LooksBefore event old.first old new ⊎ IsFarBehind old.timing }
 {}
 
 /// Behind a close no connection is open, but where another has replaced the one that was.
 pub fn a_close_shuts_the_connection()
-    ensures { (old new : Ends) (moment : ℕ) (cause : Close) →
+    ensures { (old new : LiveEnds) (moment : ℕ) (cause : Close) →
         LogsPut old moment (Closed cause) new → cause ≢ Replaced → new.connection ≡ None }
 {}
 
-/// Of two events that follow each other, neither of which tells the wall clock, the looks for the
-/// second begin less than a second after the wall clock was told: so it is told each second.
-pub fn the_wall_clock_is_told_each_second()
-    ensures second { (a b c : Ends) (first second : Next) (buf more : List ℕ) →
+/// Of two events that follow each other, neither of which is the wall clock, the looks for the
+/// second begin less than a second after the wall clock was given: so it is given each second.
+pub fn the_wall_clock_is_given_each_second()
+    ensures second { (a b c : LiveEnds) (first second : Next) (buf more : List ℕ) →
         LogsTurn a first buf b → LogsTurn b second more c → is_wall first ≡ false →
         is_wall second ≡ false →
-        AtBegun c.clock (λ begun. IfSome b.walled.told (λ told. begun < told + 1000)) }
-    ensures told { (a b c : Ends) (first second : Next) (buf more : List ℕ) →
+        AtBegun c.clock (λ begun. IfSome b.walled.given (λ given. begun < given + 1000)) }
+    ensures given { (a b c : LiveEnds) (first second : Next) (buf more : List ℕ) →
         LogsTurn a first buf b → LogsTurn b second more c → is_wall first ≡ false →
-        is_wall second ≡ false → b.walled.told ≢ None }
+        is_wall second ≡ false → b.walled.given ≢ None }
 {}
 
 /// An event that bears what a control centre sent bears a moment at most 50 ms before the one that
-/// the clock told last: no stall makes a selection longer than that.
+/// the clock gave last: no stall makes a selection longer than that.
 #[tactic(auto, using(crate::proofs::Law::in_time))]
-pub fn what_the_centre_sent_is_told_in_time()
-    ensures { (old new : Ends) (event : Next) (buf : List ℕ) → LogsTurn old event buf new →
+pub fn what_the_centre_sent_is_given_in_time()
+    ensures { (old new : LiveEnds) (event : Next) (buf : List ℕ) → LogsTurn old event buf new →
         AtClock new.clock (λ now. AtBytes event (λ moment. now ≤ moment + 50)) }
 {}
 
 /// Looks at the ends leave the latest request and `answer_ms` as they were.
 pub fn looks_ask_nothing()
-    ensures { (old new : Ends) (event : Next) (buf : List ℕ) → LogsTurn old event buf new →
+    ensures { (old new : LiveEnds) (event : Next) (buf : List ℕ) → LogsTurn old event buf new →
         (new.timing.request ≡ old.timing.request) × (new.timing.answer_ms ≡ old.timing.answer_ms) }
 {}
 
-/// Nobody but a guest comes in: an event that opens a connection opens one of a guest, and who is
-/// none leaves the open connection as it was.
-pub fn nobody_but_guests_comes_in()
-    ensures { (old new : Ends) (event : Next) (buf : List ℕ) → LogsTurn old event buf new →
+/// Only allowed addresses connect: an event that opens a connection opens one of an address on the
+/// allow list, and who is refused leaves the open connection as it was.
+pub fn only_allowed_addresses_connect()
+    ensures { (old new : LiveEnds) (event : Next) (buf : List ℕ) → LogsTurn old event buf new →
         KeepsOut old event new }
 {}
 
-/// Two events that follow each other never both tell the wall clock: whatever the gateway stalls,
+/// Two events that follow each other never both give the wall clock: whatever the gateway stalls,
 /// the ends are looked at in between.
 pub fn the_ends_are_looked_at_between_wall_moments()
-    ensures { (a b c : Ends) (first second : Next) (buf more : List ℕ) →
+    ensures { (a b c : LiveEnds) (first second : Next) (buf more : List ℕ) →
         LogsTurn a first buf b → LogsTurn b second more c → is_wall first ≡ true →
         is_wall second ≡ false }
 {}
 
-/// The log tells what passed at the wires. After any run in which nothing had been logged before,
-/// where the line and the connection tell what happens at them: the octets that came from the line,
-/// by the log, are those that its wire gave, and each request that went there was handed to it,
-/// whole and in that order; the octets that came on the open connection are those that its wire
+/// The log has what passed at the streams. After any run in which nothing had been logged before,
+/// where the line and the connection note what happens at them: the octets that came from the line,
+/// by the log, are those that its stream gave, and each request that went there was handed to it,
+/// whole and in that order; the octets that came on the open connection are those that its stream
 /// gave, and, while no cut is due, each APDU that went there was handed to it and taken. Since a
 /// write failed, so that a cut is due, each before it was taken, and none behind it was handed
-/// over: so the octets that the connection took are a beginning of those that the log tells. And
-/// where the door tells whom it let in, as many connections were opened.
-pub fn the_log_tells_what_passed()
-    ensures { (start end : Ends) → IsFresh start → Run start end → TellsEnds end.log end }
+/// over: so the octets that the connection took are a beginning of those that the log has. And
+/// where the listener notes what it accepted, as many connections were opened.
+pub fn the_log_has_what_passed()
+    ensures { (start end : LiveEnds) → IsFreshRun start → LiveRun start end → LogsEnds end.log end }
 {}
 
-/// A line, a door and a clock that tell what happens at them do so to the end of a run: so no law
-/// over what they tell is about nothing from then on.
-pub fn what_tells_goes_on_telling()
-    ensures { (start end : Ends) → Run start end → TellsStill start end }
+/// A line, a listener and a clock that note what happens at them do so to the end of a run: so no
+/// law over what they note is about nothing from then on.
+pub fn what_is_noted_is_noted_to_the_end()
+    ensures { (start end : LiveEnds) → LiveRun start end → NotesStill start end }
 {}
 
 /// The octets that are late are those that the line dropped before requests, in any run in which
-/// none were counted and nothing had happened at the line before, where the line tells that.
+/// none were counted and nothing had happened at the line before, where the line notes that.
 pub fn late_octets_are_those_that_were_dropped()
-    ensures { (start end : Ends) → start.late ≡ 0 → IsNew start.line → Run start end →
-        TellsLate end }
+    ensures { (start end : LiveEnds) → start.late ≡ 0 → IsNew start.line → LiveRun start end →
+        CountsLate end }
 {}
 
 /// What the words of these laws count, by worked examples: the octets and requests of a log, those
@@ -163,9 +163,9 @@ pub fn what_passed_by_example()
         × (line_out example_log ≡ (16 ∷ 4 ∷ []) ∷ (16 ∷ []) ∷ []) }
     ensures centre { (centre_in example_log ≡ 8 ∷ 9 ∷ [])
         × (centre_out example_log ≡ (104 ∷ []) ∷ []) × (opened_in example_log ≡ 2) }
-    ensures wire { (given example_line ≡ 1 ∷ 2 ∷ 3 ∷ [])
+    ensures stream { (given example_line ≡ 1 ∷ 2 ∷ 3 ∷ [])
         × (handed example_line ≡ (16 ∷ 4 ∷ []) ∷ (16 ∷ []) ∷ [])
         × (taken_of example_line ≡ (16 ∷ []) ∷ []) }
-    ensures door { let_in_at (true ∷ false ∷ true ∷ []) ≡ 2 }
+    ensures listener { accepted_in (true ∷ false ∷ true ∷ []) ≡ 2 }
     ensures dropped { dropped_of example_line ≡ 5 }
 {}

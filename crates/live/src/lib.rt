@@ -1,48 +1,48 @@
-//! The gateway's port over real ends: a line, a door that control centres come through, and a clock
-//! (this gateway's own profile).
+//! The gateway's port over real ends: a line, a listener at which control centres connect, and a
+//! clock (this gateway's own profile).
 //!
 //! [`Live`] looks at its ends in turn and gives what it finds as events; it puts requests on the
-//! line, and APDUs on the connection. Each end is behind a trait: [`Wire`] (octets both ways,
-//! without a long wait), [`Door`], [`Clock`]. Those on the system's sockets are [`LineSocket`],
-//! [`CentreListener`], [`CentreSocket`] and [`SystemClock`].
+//! line, and APDUs on the connection. Each end is behind a trait: [`OctetStream`] (octets both
+//! ways, without a long wait), [`Listener`], [`RunClock`]. Those on the system's sockets are
+//! [`LineSocket`], [`CentreListener`], [`CentreSocket`] and [`SystemClock`].
 //!
-//! Proved, for any ends that tell what happens at them: an event is the first thing found in rounds
+//! Proved, for any ends that note what happens at them: an event is the first thing found in rounds
 //! of looks, which begin after the source of the last event
 //! ([`the_round_goes_on_behind_the_last_event`]); each source of a round is looked at once, and
 //! none after the one that had something, so no source hides another ([`no_source_hides_another`]).
-//! Where nothing is found a tick is told: 100 ms after the first round began, at once where the
+//! Where nothing is found a tick is given: 100 ms after the first round began, at once where the
 //! time of an exchange is over, and where the wall clock is due
 //! ([`looks_for_an_event_begin_within_100_ms`],
-//! [`an_exchange_that_is_over_is_told_at_once`], [`a_tick_has_a_reason`]).
+//! [`an_exchange_that_is_over_gives_an_event_at_once`], [`a_tick_has_a_reason`]).
 //!
 //! A connection that is gone is a cut; after a write to the connection that failed the next event
 //! but the wall clock is a cut, no end is looked at before, and nothing more is written to it; a
-//! close ends the connection and that cut; who comes through the door takes the place of the
-//! connection, and stays when the gateway closes the one before ([`a_close_shuts_the_connection`]);
-//! a request that the line doesn't take is lost and no failure; the line's end alone is one.
+//! close ends the connection and that cut; who connects takes the place of the connection, and
+//! stays when the gateway closes the one before ([`a_close_shuts_the_connection`]); a request that
+//! the line doesn't take is lost and no failure; the line's end alone is one.
 //!
 //! And of time, whatever the gateway stalls: an event bears the clock's moment after the looks, but
 //! none that ends an exchange whose line hasn't been looked at for `answer_ms` since the request
-//! was written ([`no_exchange_ends_unheard`]), and once it has been, the clock's
-//! ([`a_line_that_is_heard_out_holds_no_moment`]); where that moment is more than 50 ms behind the
+//! was written ([`no_exchange_ends_unread`]), and once it has been, the clock's
+//! ([`a_line_that_is_waited_out_holds_no_moment`]); where that moment is more than 50 ms behind the
 //! clock, the line alone is looked at, and octets of a control centre that would bear such a moment
-//! are held ([`what_the_centre_sent_is_told_in_time`]).
+//! are held ([`what_the_centre_sent_is_given_in_time`]).
 //!
-//! The wall clock is told at the first call, and again where a second has passed since and the ends
-//! have been looked at in between ([`the_ends_are_looked_at_between_wall_moments`],
-//! [`the_wall_clock_is_told_each_second`]): as it stood at the moment that the event bears. A wall
-//! clock that is set is told as it then shows.
+//! The wall clock is given at the first call, and again where a second has passed since and the
+//! ends have been looked at in between ([`the_ends_are_looked_at_between_wall_moments`],
+//! [`the_wall_clock_is_given_each_second`]): as it stood at the moment that the event bears. A wall
+//! clock that is set is given as it then shows.
 //!
-//! It tells its log, and stores none of it: each event that it gave and each action that it put
-//! out. Where the ends tell what happens at them, the log's octets are those that the line and the
-//! open connection gave and were handed ([`the_log_tells_what_passed`]), to the end of a run
-//! ([`what_tells_goes_on_telling`]).
+//! It has a log, and stores none of it: each event that it gave and each action that it put out.
+//! Where the ends note what happens at them, the log's octets are those that the line and the open
+//! connection gave and were handed ([`the_log_has_what_passed`]), to the end of a run
+//! ([`what_is_noted_is_noted_to_the_end`]).
 //!
-//! [`Redialled`] is a wire that is reached again where it has gone: proved, for any dialler that
-//! tells its tries, is that it is quiet and takes nothing while it is away; that a try begins at
-//! once and then every second, after each wire that was reached and gave nothing at twice the
+//! [`Redialled`] is a stream that is reached again where it has gone: proved, for any dialler that
+//! notes its tries, is that it is quiet and takes nothing while it is away; that a try begins at
+//! once and then every second, after each stream that was reached and gave nothing at twice the
 //! distance, up to 30 s; that no try begins while one goes on, and a look waits for none; and that
-//! it begins as a new wire each time.
+//! it begins as a new stream each time.
 //!
 //! Before a request is written what has come from the line is dropped, since it is no answer to it,
 //! and how many octets that were is counted ([`late_octets_are_those_that_were_dropped`]).
@@ -54,10 +54,11 @@
 //! that is no matter of a proof.
 #![tactic(auto)]
 
+mod allow_list;
 #[cfg(test)]
 mod configured;
+mod ends;
 mod found;
-mod guests;
 mod held;
 mod laws;
 #[cfg(test)]
@@ -72,22 +73,24 @@ mod timed;
 mod timing;
 mod walled;
 mod watched;
-mod wires;
 
-pub use guests::Guests;
+pub use allow_list::AllowList;
+pub use ends::{
+    Accepted, CutCause, Got, Listener, OctetStream, Presence, Reached, RefusedPeers, RunClock,
+};
 pub use laws::{
-    a_close_shuts_the_connection, a_line_that_is_heard_out_holds_no_moment, a_tick_has_a_reason,
-    an_exchange_that_is_over_is_told_at_once, late_octets_are_those_that_were_dropped,
-    looks_ask_nothing, looks_for_an_event_begin_within_100_ms, no_exchange_ends_unheard,
-    no_source_hides_another, nobody_but_guests_comes_in,
-    the_ends_are_looked_at_between_wall_moments, the_log_tells_what_passed,
-    the_round_goes_on_behind_the_last_event, the_wall_clock_is_told_each_second,
-    what_passed_by_example, what_tells_goes_on_telling, what_the_centre_sent_is_told_in_time,
+    a_close_shuts_the_connection, a_line_that_is_waited_out_holds_no_moment, a_tick_has_a_reason,
+    an_exchange_that_is_over_gives_an_event_at_once, late_octets_are_those_that_were_dropped,
+    looks_ask_nothing, looks_for_an_event_begin_within_100_ms, no_exchange_ends_unread,
+    no_source_hides_another, only_allowed_addresses_connect,
+    the_ends_are_looked_at_between_wall_moments, the_log_has_what_passed,
+    the_round_goes_on_behind_the_last_event, the_wall_clock_is_given_each_second,
+    what_is_noted_is_noted_to_the_end, what_passed_by_example,
+    what_the_centre_sent_is_given_in_time,
 };
 pub use port::Live;
 pub use redial::{Dialled, Dialler, Redialled};
 pub use sockets::{
     CentreListener, CentreSocket, LineDialler, LineSocket, LocalSocket, SystemClock,
 };
-pub use watched::{Failure, Notice, Sight, Watched};
-pub use wires::{Clock, CutCause, Door, Got, Presence, Reached, SentAway, Visitor, Wire};
+pub use watched::{EndsSight, Failure, Notice, Watched};

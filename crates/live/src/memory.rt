@@ -1,19 +1,19 @@
-//! Ends in memory, which tell what happens at them, count what is asked of them and fail when they
-//! are told to.
+//! Ends in memory, which note what happens at them, count what is asked of them and fail when they
+//! are to.
 ghost use Rattle.std.specs.Prelude.{◌≡◌, List, [], ◌∷◌, Some, IfSome};
-ghost use Rattle.live.specs.Guests.{LetsIn};
-ghost use Rattle.live.specs.Wires.{FitsBuffer, looked, Dropped, Wrote};
-ghost use Rattle.live.specs.Memory.{happenings, entrances, moments_in, shown_in};
+ghost use Rattle.live.specs.AllowLists.{Allows};
+ghost use Rattle.live.specs.OctetStreams.{FitsBuffer, looked, Dropped, Wrote};
+ghost use Rattle.live.specs.Memory.{happenings, attempts_in, moments_in, shown_in};
 
-use crate::guests::Guests;
-use crate::wires::{Clock, Door, Got, SentAway, Visitor, Wire};
+use crate::allow_list::AllowList;
+use crate::ends::{Accepted, Got, Listener, OctetStream, RefusedPeers, RunClock};
 use gateway::{Action, History, Next};
 use std::net::{IpAddr, Ipv4Addr};
 
 /// What no octets of a buffer are noted with.
 const NO_OCTETS: [u8; 1024] = [0; 1024];
 
-/// What has happened at a wire, with a look that found this.
+/// What has happened at a stream, with a look that found this.
 fn with_look(log: &History, got: Got, buf: &[u8; 1024]) -> History
     ensures { happenings result.entries ≡ looked got buf.now ∷ happenings log.now.entries }
 {
@@ -24,14 +24,14 @@ fn with_look(log: &History, got: Got, buf: &[u8; 1024]) -> History
     }
 }
 
-/// What has happened at a wire, with so many octets that were dropped.
+/// What has happened at a stream, with so many octets that were dropped.
 fn with_drop(log: &History, count: u64) -> History
     ensures { happenings result.entries ≡ Dropped count ∷ happenings log.now.entries }
 {
     log.came(&Next::Wall(0, count), &NO_OCTETS)
 }
 
-/// What has happened at a wire, with octets that were put on it.
+/// What has happened at a stream, with octets that were put on it.
 fn with_write(log: &History, octets: &[u8], is_taken: bool) -> History
     ensures { happenings result.entries ≡ Wrote octets.now is_taken ∷ happenings log.now.entries }
 {
@@ -42,12 +42,12 @@ fn with_write(log: &History, octets: &[u8], is_taken: bool) -> History
     }
 }
 
-/// A wire. Its reads find nothing, or one octet each, and it takes what is written, but for one
+/// A stream. Its reads find nothing, or one octet each, and it takes what is written, but for one
 /// read and one write that fail.
 #[derive(Drop)]
-pub(crate) struct MemoryWire {
+pub(crate) struct MemoryStream {
     has_octets: bool,
-    /// Which read finds that the wire is gone, from 1; 0 for none.
+    /// Which read finds that the stream is gone, from 1; 0 for none.
     pub(crate) failing_read: u32,
     /// Which write isn't taken, from 1; 0 for none.
     pub(crate) failing_write: u32,
@@ -61,11 +61,11 @@ pub(crate) struct MemoryWire {
     log: History,
 }
 
-impl MemoryWire {
-    fn new(has_octets: bool) -> MemoryWire
+impl MemoryStream {
+    fn new(has_octets: bool) -> MemoryStream
         ensures { result.log.entries ≡ [] }
     {
-        MemoryWire {
+        MemoryStream {
             has_octets,
             failing_read: 0,
             failing_write: 0,
@@ -77,17 +77,17 @@ impl MemoryWire {
     }
 
     /// One whose reads find nothing.
-    pub(crate) fn quiet() -> MemoryWire
+    pub(crate) fn quiet() -> MemoryStream
         ensures { result.log.entries ≡ [] }
     {
-        MemoryWire::new(false)
+        MemoryStream::new(false)
     }
 
     /// One whose reads find one octet each.
-    pub(crate) fn busy() -> MemoryWire
+    pub(crate) fn busy() -> MemoryStream
         ensures { result.log.entries ≡ [] }
     {
-        MemoryWire::new(true)
+        MemoryStream::new(true)
     }
 
     /// What a look finds.
@@ -107,8 +107,8 @@ impl MemoryWire {
     }
 }
 
-impl Wire for MemoryWire {
-    ghost history = { λ wire. Some (happenings wire.log.entries) };
+impl OctetStream for MemoryStream {
+    ghost history = { λ stream. Some (happenings stream.log.entries) };
 
     fn read(&mut self, buf: &mut [u8; 1024]) -> Got {
         let got = self.look(buf);
@@ -129,9 +129,9 @@ impl Wire for MemoryWire {
     }
 }
 
-/// What has happened at a door, with a look at it.
-fn with_visit(log: &History, is_here: bool) -> History
-    ensures { entrances result.entries ≡ is_here ∷ entrances log.now.entries }
+/// What has happened at a listener, with a look at it.
+fn with_attempt(log: &History, is_here: bool) -> History
+    ensures { attempts_in result.entries ≡ is_here ∷ attempts_in log.now.entries }
 {
     if is_here {
         log.came(&Next::Open(0), &NO_OCTETS)
@@ -140,55 +140,55 @@ fn with_visit(log: &History, is_here: bool) -> History
     }
 }
 
-/// A door, with one visitor at the most.
+/// A listener, at which one control centre waits at the most.
 #[derive(Drop)]
-pub(crate) struct MemoryDoor {
-    pub(crate) visitor: Option<MemoryWire>,
-    /// Whether somebody was let in at each look.
+pub(crate) struct MemoryListener {
+    pub(crate) centre: Option<MemoryStream>,
+    /// Whether a connection was accepted at each look.
     log: History,
 }
 
-impl MemoryDoor {
-    /// One that this visitor waits at, or none.
-    pub(crate) fn new(visitor: Option<MemoryWire>) -> MemoryDoor
+impl MemoryListener {
+    /// One at which this control centre waits, or none.
+    pub(crate) fn new(centre: Option<MemoryStream>) -> MemoryListener
         ensures { result.log.entries ≡ [] }
     {
-        MemoryDoor {
-            visitor,
+        MemoryListener {
+            centre,
             log: History::new(),
         }
     }
 
-    /// The visitor, if one waits and is a guest. Nothing has happened at its wire yet.
-    fn let_in(&mut self, guests: &Guests) -> Option<Visitor<MemoryWire>>
-        ensures guest { IfSome result (λ visitor. LetsIn guests.now visitor.address) }
-        ensures fresh { IfSome result (λ visitor. visitor.wire.log.entries ≡ []) }
+    /// The control centre, if one waits and is allowed. Nothing has happened at its stream yet.
+    fn accept_allowed(&mut self, allow_list: &AllowList) -> Option<Accepted<MemoryStream>>
+        ensures allowed { IfSome result (λ accepted. Allows allow_list.now accepted.address) }
+        ensures fresh { IfSome result (λ accepted. accepted.stream.log.entries ≡ []) }
         ensures log { self.new.log ≡ self.old.log }
     {
-        let mut wire = self.visitor.take()?;
-        wire.log = History::new();
+        let mut stream = self.centre.take()?;
+        stream.log = History::new();
         let address = IpAddr::V4(Ipv4Addr::LOCALHOST);
-        if guests.lets_in(address) {
-            Some(Visitor { address, wire })
+        if allow_list.allows(address) {
+            Some(Accepted { address, stream })
         } else {
             None
         }
     }
 }
 
-impl Door for MemoryDoor {
-    type Wire = MemoryWire;
+impl Listener for MemoryListener {
+    type Stream = MemoryStream;
 
-    ghost visits = { λ door. Some (entrances door.log.entries) };
+    ghost attempts = { λ listener. Some (attempts_in listener.log.entries) };
 
-    fn accept(&mut self, guests: &Guests) -> Option<Visitor<MemoryWire>> {
-        let visitor = self.let_in(guests);
-        self.log = with_visit(&self.log, visitor.is_some());
-        visitor
+    fn accept(&mut self, allow_list: &AllowList) -> Option<Accepted<MemoryStream>> {
+        let accepted = self.accept_allowed(allow_list);
+        self.log = with_attempt(&self.log, accepted.is_some());
+        accepted
     }
 
-    fn sent_away(&self) -> SentAway {
-        SentAway {
+    fn refused(&self) -> RefusedPeers {
+        RefusedPeers {
             count: 0,
             last: None,
         }
@@ -202,7 +202,7 @@ pub(crate) const WALL_MS: u64 = 1_795_000_000_000;
 #[derive(Drop)]
 pub(crate) struct MemoryClock {
     now: u64,
-    /// What it told.
+    /// What it gave.
     log: History,
 }
 
@@ -218,7 +218,7 @@ impl MemoryClock {
     }
 }
 
-impl Clock for MemoryClock {
+impl RunClock for MemoryClock {
     ghost moments = { λ clock. Some (moments_in clock.log.entries) };
 
     ghost walls = { λ clock. Some (shown_in clock.log.entries) };

@@ -2,51 +2,54 @@
 ghost use Rattle.std.specs.Prelude.{◌≡◌, ◌≢◌, ℕ, ◌+◌, ◌<◌, ◌≤◌, true, false, List, [], ◌∷◌, ◌++◌};
 ghost use Rattle.std.specs.Prelude.{length, take, Some, None, IfSome, option_map};
 ghost use Rattle.gateway.specs.Ports.{FitsBuffer, faults_of, output_of, told_by};
-ghost use Rattle.live.specs.Ends.{Ends, Peer, after, told_at, IsTurn, IsTold, IsWallTold, Turns};
-ghost use Rattle.live.specs.Ends.{Puts, LogsTurn, LogsPut, as_logged, FitsFound, IsWritten};
+ghost use Rattle.live.specs.Ends.{LiveEnds, Peer, after, clock_read_at, IsTurn, GivesEvent};
+ghost use Rattle.live.specs.Ends.{GivesWall, Turns};
+ghost use Rattle.live.specs.Ends.{PutsOut, LogsTurn, LogsPut, as_logged, FitsFound, IsWritten};
 ghost use Rattle.live.specs.Ends.{LooksOn, failure_of, faults_in, is_tick_due};
 ghost use Rattle.live.specs.Timing.{is_behind, moment_at};
-ghost use Rattle.live.specs.Looks.{Looks, LooksAt};
-ghost use Rattle.live.specs.Walls.{untold};
+ghost use Rattle.live.specs.Looks.{LooksInRound, LooksAt};
+ghost use Rattle.live.specs.Walls.{never_given};
 ghost use Rattle.gateway.specs.Log.{tell, Went};
 ghost use Rattle.gateway.specs.declared.ports.Next.TheVariants.{Done};
 
-use crate::found::{Found, event_at};
-use crate::guests::Guests;
-use crate::held::Held;
-use crate::source::Source;
+use crate::allow_list::AllowList;
+use crate::ends::{
+    Accepted, CutCause, Got, Listener, OctetStream, Presence, Reached, RefusedPeers, RunClock,
+};
+use crate::found::{SourceEvent, event_at};
+use crate::held::HeldOctets;
+use crate::source::EventSource;
 use crate::timing::Timing;
 use crate::walled::Walled;
 use crate::watched::Failure;
-use crate::wires::{Clock, CutCause, Door, Got, Presence, Reached, SentAway, Visitor, Wire};
 use gateway::{Action, Config, History, Next, Port};
 use session::Close;
 use std::marker::Model;
 use std::net::IpAddr;
 
-/// How long after an event a tick is told, in ms, where nothing happens.
+/// How long after an event a tick is given, in ms, where nothing happens.
 // All timers but that of an answer, which has ticks of its own, are whole seconds; and each tick is
 // a line of the log that is kept on disk.
 const TICK_MS: u64 = 100;
 
 /// After so many rounds of looks that found nothing the next one is an event, whatever the clock
-/// tells.
+/// shows.
 // An end where it stands still: a round waits for 1 ms at the line.
 const QUIET_ROUNDS: u32 = 200;
 
-/// The port over a line, a door and a clock. It tells its log: each event that it gave and each
+/// The port over a line, a listener and a clock. It has a log: each event that it gave and each
 /// action that it put out, of which it stores none.
 #[derive(Drop)]
-pub struct Live<L: Wire, D: Door + Drop, C: Clock + Drop> {
-    line: L,
-    door: D,
+pub struct Live<S: OctetStream, L: Listener + Drop, C: RunClock + Drop> {
+    line: S,
+    listener: L,
     clock: C,
-    guests: Guests,
-    connection: Option<Visitor<D::Wire>>,
-    /// Octets of that connection that came and haven't been told.
-    held: Held,
+    allow_list: AllowList,
+    connection: Option<Accepted<L::Stream>>,
+    /// Octets of that connection that came and haven't been given.
+    held: HeldOctets,
     /// The source that is looked at first.
-    first: Source,
+    first: EventSource,
     /// A write to the connection failed, so that the next event is a cut.
     is_cut_due: bool,
     /// The run goes on after a restart.
@@ -58,25 +61,25 @@ pub struct Live<L: Wire, D: Door + Drop, C: Clock + Drop> {
     late_octets: u64,
     timing: Timing,
     walled: Walled,
-    /// What was told and put out, for proofs alone.
+    /// What was given and put out, for proofs alone.
     history: History,
 }
 
-impl<L: Wire, D: Door + Drop, C: Clock + Drop> Model for Live<L, D, C> {
+impl<S: OctetStream, L: Listener + Drop, C: RunClock + Drop> Model for Live<S, L, C> {
     ghost use Rattle.std.specs.Prelude.{option_map};
-    ghost use Rattle.live.specs.Ends.{Ends, Peer};
+    ghost use Rattle.live.specs.Ends.{LiveEnds, Peer};
 
-    ghost Value = { Ends };
+    ghost Value = { LiveEnds };
 
     ghost view = { λ a. record {
-      guests = a.guests;
-      line = L.history a.line;
+      allow_list = a.allow_list;
+      line = S.history a.line;
       connection = option_map (λ v. record {
         address = v.address;
-        wire = D.Wire.history v.wire;
+        stream = L.Stream.history v.stream;
       }) a.connection;
       held = a.held;
-      door = D.visits a.door;
+      listener = L.attempts a.listener;
       clock = C.moments a.clock;
       first = a.first;
       is_cut_due = a.is_cut_due;
@@ -90,62 +93,74 @@ impl<L: Wire, D: Door + Drop, C: Clock + Drop> Model for Live<L, D, C> {
     } };
 }
 
-impl<L: Wire, D: Door + Drop, C: Clock + Drop> Live<L, D, C> {
-    ghost use Rattle.live.specs.declared.source.Source.TheVariants as sources;
-    ghost use Rattle.live.specs.declared.found.Found.TheVariants as found;
+impl<S: OctetStream, L: Listener + Drop, C: RunClock + Drop> Live<S, L, C> {
+    ghost use Rattle.live.specs.declared.source.EventSource.TheVariants as sources;
+    ghost use Rattle.live.specs.declared.found.SourceEvent.TheVariants as found;
 
-    /// A port over these ends, with no connection yet. Nobody but these guests comes in. An answer
-    /// of the line is awaited as long as by a gateway with these settings.
-    pub fn new(line: L, door: D, clock: C, guests: Guests, config: &Config) -> Live<L, D, C>
+    /// A port over these ends, with no connection yet. Only addresses of this list may connect. An
+    /// answer of the line is awaited as long as by a gateway with these settings.
+    pub fn new(
+        line: S,
+        listener: L,
+        clock: C,
+        allow_list: AllowList,
+        config: &Config,
+    ) -> Live<S, L, C>
         ensures { result ≡ record {
-          guests = guests;
-          line = L.history line;
+          allow_list = allow_list;
+          line = S.history line;
           connection = None;
           held = [];
-          door = D.visits door;
+          listener = L.attempts listener;
           clock = C.moments clock;
-          first = sources.Door;
+          first = sources.Listener;
           is_cut_due = false;
           goes_on = false;
           failed = 0;
           late = 0;
-          timing = record { answer_ms = config.now.line.answer_ms; heard = 0; request = None };
+          timing = record { answer_ms = config.now.line.answer_ms; looked = 0; request = None };
           walls = C.walls clock;
-          walled = untold;
+          walled = never_given;
           log = [];
         } }
     {
-        Live::awaiting(line, door, clock, guests, config.line().answer_ms)
+        Live::awaiting(line, listener, clock, allow_list, config.line().answer_ms)
     }
 
     /// The same, where an answer is awaited for so long, in ms.
-    fn awaiting(line: L, door: D, clock: C, guests: Guests, answer_ms: u64) -> Live<L, D, C>
+    fn awaiting(
+        line: S,
+        listener: L,
+        clock: C,
+        allow_list: AllowList,
+        answer_ms: u64,
+    ) -> Live<S, L, C>
         ensures { result ≡ record {
-          guests = guests;
-          line = L.history line;
+          allow_list = allow_list;
+          line = S.history line;
           connection = None;
           held = [];
-          door = D.visits door;
+          listener = L.attempts listener;
           clock = C.moments clock;
-          first = sources.Door;
+          first = sources.Listener;
           is_cut_due = false;
           goes_on = false;
           failed = 0;
           late = 0;
-          timing = record { answer_ms = answer_ms; heard = 0; request = None };
+          timing = record { answer_ms = answer_ms; looked = 0; request = None };
           walls = C.walls clock;
-          walled = untold;
+          walled = never_given;
           log = [];
         } }
     {
         Live {
-            guests,
+            allow_list,
             line,
-            door,
+            listener,
             clock,
             connection: None,
-            held: Held::new(),
-            first: Source::Door,
+            held: HeldOctets::new(),
+            first: EventSource::Listener,
             is_cut_due: false,
             goes_on: false,
             why_cut: CutCause::Gone,
@@ -153,7 +168,7 @@ impl<L: Wire, D: Door + Drop, C: Clock + Drop> Live<L, D, C> {
             late_octets: 0,
             timing: Timing {
                 answer_ms,
-                heard: 0,
+                looked: 0,
                 request: None,
             },
             walled: Walled::new(),
@@ -163,7 +178,7 @@ impl<L: Wire, D: Door + Drop, C: Clock + Drop> Live<L, D, C> {
 
     /// The same port, of a run that goes on after a restart: the connection that was open then is
     /// cut, which is its first event but the wall clock.
-    pub fn cut_first(mut self) -> Live<L, D, C>
+    pub fn cut_first(mut self) -> Live<S, L, C>
         ensures { result ≡ record self { is_cut_due = true; goes_on = true } }
     {
         self.is_cut_due = true;
@@ -177,7 +192,7 @@ impl<L: Wire, D: Door + Drop, C: Clock + Drop> Live<L, D, C> {
         ensures { result ≡ option_map (λ (p : Peer). p.address) self.now.connection }
     {
         match &self.connection {
-            Some(visitor) => Some(visitor.address),
+            Some(connection) => Some(connection.address),
             None => None,
         }
     }
@@ -204,13 +219,13 @@ impl<L: Wire, D: Door + Drop, C: Clock + Drop> Live<L, D, C> {
         Some(Failure::Line)
     }
 
-    /// Who wasn't let in.
-    pub(crate) fn sent_away(&self) -> SentAway {
-        self.door.sent_away()
+    /// Who was refused.
+    pub(crate) fn refused(&self) -> RefusedPeers {
+        self.listener.refused()
     }
 
     fn read_clock(&mut self) -> u64
-        ensures { self.new ≡ told_at result self.old }
+        ensures { self.new ≡ clock_read_at result self.old }
     {
         self.clock.now_ms()
     }
@@ -219,7 +234,7 @@ impl<L: Wire, D: Door + Drop, C: Clock + Drop> Live<L, D, C> {
     /// first thing in one round over the sources, or, where the moment of an event would be too far
     /// behind the clock, on the line alone.
     #[tactic(auto, using(crate::proofs::Turns::due_turn, crate::proofs::Turns::line_turn, crate::proofs::Turns::held_turn, crate::proofs::Turns::first_turn, crate::proofs::Turns::second_turn, crate::proofs::Turns::third_turn))]
-    fn turn(&mut self, begun: u64, buf: &mut [u8; 1024]) -> Option<Found>
+    fn turn(&mut self, begun: u64, buf: &mut [u8; 1024]) -> Option<SourceEvent>
         requires { self.old.failed < u64.MAX }
         ensures fits { IfSome result FitsFound }
         ensures failed { self.new.failed ≡ self.old.failed + faults_in result }
@@ -229,11 +244,11 @@ impl<L: Wire, D: Door + Drop, C: Clock + Drop> Live<L, D, C> {
             self.is_cut_due = false;
             self.end_connection();
             // A cut is an event of the connection: the round goes on behind that.
-            self.first = Source::Connection.after();
-            return Some(Found::Cut);
+            self.first = EventSource::Connection.after();
+            return Some(SourceEvent::Cut);
         }
         if self.timing.is_behind(begun) {
-            return self.look(Source::Line, begun, buf);
+            return self.look(EventSource::Line, begun, buf);
         }
         if !self.held.is_empty() {
             return Some(self.take_held(buf));
@@ -259,7 +274,7 @@ impl<L: Wire, D: Door + Drop, C: Clock + Drop> Live<L, D, C> {
     }
 
     /// The octets that are held, as what was found on the connection.
-    fn take_held(&mut self, buf: &mut [u8; 1024]) -> Found
+    fn take_held(&mut self, buf: &mut [u8; 1024]) -> SourceEvent
         requires { 1 ≤ length self.old.held }
         ensures fits { FitsFound result }
         ensures value { result ≡ found.Bytes (length self.old.held) }
@@ -268,22 +283,22 @@ impl<L: Wire, D: Door + Drop, C: Clock + Drop> Live<L, D, C> {
     {
         let len = self.held.put(buf);
         self.held.clear();
-        self.first = Source::Connection.after();
-        Found::Bytes(len)
+        self.first = EventSource::Connection.after();
+        SourceEvent::Bytes(len)
     }
 
     /// Looks once at a source. Where something is found, the next round begins with the source
     /// after it.
-    fn look(&mut self, source: Source, begun: u64, buf: &mut [u8; 1024]) -> Option<Found>
+    fn look(&mut self, source: EventSource, begun: u64, buf: &mut [u8; 1024]) -> Option<SourceEvent>
         requires { self.old.failed < u64.MAX }
         ensures fits { IfSome result FitsFound }
         ensures failed { self.new.failed ≡ self.old.failed + faults_in result }
-        ensures looks { Looks source begun self.old result buf.new self.new }
+        ensures looks { LooksInRound source begun self.old result buf.new self.new }
     {
         let found = match source {
-            Source::Door => self.look_at_door(),
-            Source::Connection => self.look_at_connection(buf),
-            Source::Line => self.look_at_line(begun, buf),
+            EventSource::Listener => self.look_at_listener(),
+            EventSource::Connection => self.look_at_connection(buf),
+            EventSource::Line => self.look_at_line(begun, buf),
         };
         if found.is_some() {
             self.first = source.after();
@@ -291,73 +306,73 @@ impl<L: Wire, D: Door + Drop, C: Clock + Drop> Live<L, D, C> {
         found
     }
 
-    /// Who comes through the door takes the place of the connection, with its octets.
-    fn look_at_door(&mut self) -> Option<Found>
+    /// Who connects takes the place of the connection, with its octets.
+    fn look_at_listener(&mut self) -> Option<SourceEvent>
         ensures fits { IfSome result FitsFound }
         ensures failed { self.new.failed ≡ self.old.failed + faults_in result }
-        ensures looks { LooksAt sources.Door 0 self.old result [] self.new }
+        ensures looks { LooksAt sources.Listener 0 self.old result [] self.new }
     {
-        match self.door.accept(&self.guests) {
-            Some(visitor) => {
-                self.connection = Some(visitor);
+        match self.listener.accept(&self.allow_list) {
+            Some(accepted) => {
+                self.connection = Some(accepted);
                 self.held.clear();
-                Some(Found::Open)
+                Some(SourceEvent::Open)
             }
             None => None,
         }
     }
 
     #[tactic(auto, using(crate::proofs::Octets::octets_came, crate::proofs::Octets::nothing_came))]
-    fn look_at_connection(&mut self, buf: &mut [u8; 1024]) -> Option<Found>
+    fn look_at_connection(&mut self, buf: &mut [u8; 1024]) -> Option<SourceEvent>
         ensures fits { IfSome result FitsFound }
         ensures failed { self.new.failed ≡ self.old.failed + faults_in result }
         ensures looks { LooksAt sources.Connection 0 self.old result buf.new self.new }
     {
-        let Some(visitor) = self.connection.as_mut() else {
+        let Some(connection) = self.connection.as_mut() else {
             return None;
         };
-        match visitor.wire.read(buf) {
-            Got::Octets(len) => Some(Found::Bytes(len)),
+        match connection.stream.read(buf) {
+            Got::Octets(len) => Some(SourceEvent::Bytes(len)),
             Got::Quiet => None,
             Got::Gone => {
                 self.connection = None;
                 self.why_cut = CutCause::Gone;
-                Some(Found::Cut)
+                Some(SourceEvent::Cut)
             }
         }
     }
 
-    fn look_at_line(&mut self, begun: u64, buf: &mut [u8; 1024]) -> Option<Found>
+    fn look_at_line(&mut self, begun: u64, buf: &mut [u8; 1024]) -> Option<SourceEvent>
         requires { self.old.failed < u64.MAX }
         ensures fits { IfSome result FitsFound }
         ensures failed { self.new.failed ≡ self.old.failed + faults_in result }
         ensures looks { LooksAt sources.Line begun self.old result buf.new self.new }
     {
-        self.timing.hear(begun);
+        self.timing.look(begun);
         match self.line.read(buf) {
-            Got::Octets(len) => Some(Found::Line(len)),
+            Got::Octets(len) => Some(SourceEvent::Line(len)),
             Got::Quiet => None,
             Got::Gone => {
                 self.failures += 1;
-                Some(Found::Fault)
+                Some(SourceEvent::Fault)
             }
         }
     }
 
     /// What was found, as an event of the moment that is due now. Octets of the connection whose
     /// moment would be too far behind the clock are held, since an execute among them could come in
-    /// time by that moment alone: they are told once no moment is that far behind.
-    #[tactic(auto, using(crate::proofs::Turns::told_held, crate::proofs::Turns::told_level))]
-    fn tell(&mut self, now: u64, found: Option<Found>, buf: &[u8; 1024]) -> Next
+    /// time by that moment alone: they are given once no moment is that far behind.
+    #[tactic(auto, using(crate::proofs::Turns::given_held, crate::proofs::Turns::given_level))]
+    fn give(&mut self, now: u64, found: Option<SourceEvent>, buf: &[u8; 1024]) -> Next
         requires { IfSome found FitsFound }
         ensures fits { FitsBuffer result }
         ensures failed { faults_of result ≡ faults_in found }
         ensures same { self.new.failed ≡ self.old.failed }
-        ensures told { IsTold now self.old found result buf.now self.new }
+        ensures given { GivesEvent now self.old found result buf.now self.new }
     {
         let mut taken = found;
         if self.timing.is_behind(now) {
-            if let Some(Found::Bytes(len)) = found {
+            if let Some(SourceEvent::Bytes(len)) = found {
                 self.held.hold(&buf[..len]);
                 taken = None;
             }
@@ -366,14 +381,14 @@ impl<L: Wire, D: Door + Drop, C: Clock + Drop> Live<L, D, C> {
     }
 
     /// The wall clock, as it stood at the moment that is due now.
-    fn tell_wall(&mut self, now: u64) -> Next
+    fn give_wall(&mut self, now: u64) -> Next
         ensures fits { FitsBuffer result }
         ensures failed { faults_of result ≡ 0 }
         ensures same { self.new.failed ≡ self.old.failed }
-        ensures told { IsWallTold now self.old result self.new }
+        ensures given { GivesWall now self.old result self.new }
     {
         let shown = self.clock.wall_ms();
-        self.walled.tell(now);
+        self.walled.give(now);
         let moment = self.timing.moment(now);
         Next::Wall(moment, shown.saturating_sub(now.saturating_sub(moment)))
     }
@@ -386,8 +401,8 @@ impl<L: Wire, D: Door + Drop, C: Clock + Drop> Live<L, D, C> {
         if self.is_cut_due {
             return;
         }
-        if let Some(visitor) = self.connection.as_mut() {
-            self.is_cut_due = !visitor.wire.write(octets);
+        if let Some(connection) = self.connection.as_mut() {
+            self.is_cut_due = !connection.stream.write(octets);
             if self.is_cut_due {
                 self.why_cut = CutCause::NotTaken;
             }
@@ -404,19 +419,19 @@ impl<L: Wire, D: Door + Drop, C: Clock + Drop> Live<L, D, C> {
         ensures cause { self.new.failed ≡ self.old.failed + faults_of result }
         ensures turns { Turns self.old result buf.new self.new }
     {
-        // Before the looks: the line has been heard out only up to where a look begins.
+        // Before the looks: the line has been waited out only up to where a look begins.
         let first = self.read_clock();
         if self.walled.is_due(first) {
-            return self.tell_wall(first);
+            return self.give_wall(first);
         }
         self.walled.look();
         let (now, found) = self.look_on(first, buf);
-        self.tell(now, found, buf)
+        self.give(now, found, buf)
     }
 
     /// Rounds of looks, the first of which begins at this moment, until one finds something or a
     /// tick is due behind it. Answers when the last ended, and what it found.
-    fn look_on(&mut self, first: u64, buf: &mut [u8; 1024]) -> (u64, Option<Found>)
+    fn look_on(&mut self, first: u64, buf: &mut [u8; 1024]) -> (u64, Option<SourceEvent>)
         requires { self.old.failed < u64.MAX }
         ensures fits { IfSome result.1 FitsFound }
         ensures failed { self.new.failed ≡ self.old.failed + faults_in result.1 }
@@ -450,7 +465,7 @@ impl<L: Wire, D: Door + Drop, C: Clock + Drop> Live<L, D, C> {
     /// Puts an action out. What an end doesn't take is lost.
     #[tactic(auto, using(crate::proofs::Puts::put_line, crate::proofs::Puts::put_tcp, crate::proofs::Puts::put_close, crate::proofs::Puts::put_gap))]
     fn put_out(&mut self, now: u64, action: &Action<'_>)
-        ensures { Puts self.old now (output_of action.now) self.new }
+        ensures { PutsOut self.old now (output_of action.now) self.new }
     {
         match action {
             Action::Line(octets) => {
@@ -465,18 +480,18 @@ impl<L: Wire, D: Door + Drop, C: Clock + Drop> Live<L, D, C> {
                 self.timing.ask(now, self.clock.now_ms());
             }
             Action::Tcp(octets) => self.put_on_connection(*octets),
-            // Its wire went when another took its place.
+            // Its stream went when another took its place.
             Action::Close(Close::Replaced) => {}
             Action::Close(_) => {
                 self.end_connection();
                 self.is_cut_due = false;
             }
-            // Nobody at the ends is told of a gap.
+            // Nobody at the ends learns of a gap.
             Action::Gap { .. } => {}
         }
     }
 
-    /// The log gets what an event tells. Its octets are the front of the buffer.
+    /// The log gets what an event brings. Its octets are the front of the buffer.
     fn log_event(&mut self, event: &Next, buf: &[u8; 1024])
         ensures { self.new ≡ as_logged (told_by event.now buf.now ++ self.old.log) self.old }
     {
@@ -492,14 +507,14 @@ impl<L: Wire, D: Door + Drop, C: Clock + Drop> Live<L, D, C> {
     }
 }
 
-impl<L: Wire + Reached, D: Door + Drop, C: Clock + Drop> Live<L, D, C> {
+impl<S: OctetStream + Reached, L: Listener + Drop, C: RunClock + Drop> Live<S, L, C> {
     /// Whether the line is there.
     pub(crate) fn line_presence(&self) -> Presence {
         self.line.presence()
     }
 }
 
-impl<L: Wire, D: Door + Drop, C: Clock + Drop> Port for Live<L, D, C> {
+impl<S: OctetStream, L: Listener + Drop, C: RunClock + Drop> Port for Live<S, L, C> {
     ghost log = { λ ends. Some ends.log };
 
     ghost failed = { λ ends. ends.failed };
@@ -512,11 +527,11 @@ impl<L: Wire, D: Door + Drop, C: Clock + Drop> Port for Live<L, D, C> {
 
     ghost script = { λ ends. fixed_of ends };
 
-    /// Tells the wall clock where it is due. Else it looks at the ends round by round, until one
+    /// Gives the wall clock where it is due. Else it looks at the ends round by round, until one
     /// has something or a tick is due.
     fn next(&mut self, buf: &mut [u8; 1024]) -> Next
         requires { self.old.failed < u64.MAX }
-        ensures told { Some self.new.log ≡ tell (Some self.old.log) (told_by result buf.new) }
+        ensures logged { Some self.new.log ≡ tell (Some self.old.log) (told_by result buf.new) }
         ensures fits { FitsBuffer result }
         ensures done { result ≡ Done → false ≡ true }
         ensures cause { self.new.failed ≡ self.old.failed + faults_of result }
@@ -529,10 +544,10 @@ impl<L: Wire, D: Door + Drop, C: Clock + Drop> Port for Live<L, D, C> {
     }
 
     /// It never fails: what an end doesn't take is lost.
-    #[tactic(auto, using(crate::proofs::Logs::put_told, crate::proofs::Logs::put_logged, crate::proofs::Fixed::put_fixed))]
+    #[tactic(auto, using(crate::proofs::Logs::put_noted, crate::proofs::Logs::put_logged, crate::proofs::Fixed::put_fixed))]
     fn put(&mut self, now: u64, action: &Action<'_>) -> bool
         ensures done { result ≡ true }
-        ensures told { Some self.new.log
+        ensures logged { Some self.new.log
             ≡ tell (Some self.old.log) (Went now (output_of action.now) ∷ []) }
         ensures script { fixed_of self.new ≡ fixed_of self.old }
         ensures puts { LogsPut self.old now (output_of action.now) self.new }
@@ -548,8 +563,8 @@ impl<L: Wire, D: Door + Drop, C: Clock + Drop> Port for Live<L, D, C> {
 }
 
 #[cfg(test)]
+mod noted;
+#[cfg(test)]
 mod stalls;
 #[cfg(test)]
 mod tests;
-#[cfg(test)]
-mod told;

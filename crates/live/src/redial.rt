@@ -1,65 +1,65 @@
-//! A wire that comes back.
+//! A stream that comes back.
 ghost use Rattle.std.specs.Prelude.{◌≡◌, ◌≢◌, ℕ, List, None, false};
-ghost use Rattle.live.specs.Wires.{FitsBuffer};
-ghost use Rattle.live.specs.Redial.{IsRedialled, HasDropped, IsPut, IsTriedOn, IsAnswered};
-ghost use Rattle.live.specs.Redial.{dialled_map, is_due, grown, settled, told_at};
-ghost use Rattle.live.specs.declared.wires.Got.TheVariants.{Quiet, Gone};
-ghost use Rattle.live.specs.declared.wires.Presence.TheVariants.{Untried};
+ghost use Rattle.live.specs.OctetStreams.{FitsBuffer};
+ghost use Rattle.live.specs.Redial.{IsRedialled, HasDropped, IsPut, IsTriedOn, IsTryAnswered};
+ghost use Rattle.live.specs.Redial.{dialled_map, is_due, grown, settled, clock_read_at};
+ghost use Rattle.live.specs.declared.ends.Got.TheVariants.{Quiet, Gone};
+ghost use Rattle.live.specs.declared.ends.Presence.TheVariants.{Untried};
 
-use crate::wires::{Clock, Got, Presence, Reached, Wire};
+use crate::ends::{Got, OctetStream, Presence, Reached, RunClock};
 use std::marker::Model;
 
 /// How long after a try began the next one follows, in ms.
 const RETRY_MS: u64 = 1000;
 
-/// The same at the most, where wires are reached again and again and give nothing.
+/// The same at the most, where streams are reached again and again and give nothing.
 const LONGEST_RETRY_MS: u64 = 30_000;
 
-/// What has become of a try to reach a wire.
+/// What has become of a try to reach a stream.
 #[derive(Debug, Drop)]
 pub enum Dialled<W> {
-    /// This wire was reached.
+    /// This stream was reached.
     Reached(W),
     /// The try goes on.
     Pending,
     Failed,
 }
 
-/// Reaches a wire. One that tells its tries adds each that ended. Nothing has happened yet at a
-/// wire that it reaches.
+/// Reaches a stream. One that notes its tries adds each that ended. Nothing has happened yet at a
+/// stream that it reaches.
 pub trait Dialler {
-    ghost use Rattle.live.specs.Wires.{Visits, IsNew};
+    ghost use Rattle.live.specs.OctetStreams.{Attempts, IsNew};
     ghost use Rattle.live.specs.Redial.{ended, IfReached};
 
-    type Wire: Wire;
+    type Stream: OctetStream;
 
-    /// Whether each try that ended reached a wire, the newest first, where it tells that.
-    ghost tries: { Self → Visits };
+    /// Whether each try that ended reached a stream, the newest first, where it notes that.
+    ghost tries: { Self → Attempts };
 
-    /// Begins a try to reach a wire, and doesn't wait for it.
-    fn dial(&mut self) -> Dialled<Self::Wire>
-        ensures fresh { IfReached result (λ wire. IsNew (Self.Wire.history wire)) }
-        ensures told { tries self.new ≡ ended (tries self.old) result };
+    /// Begins a try to reach a stream, and doesn't wait for it.
+    fn dial(&mut self) -> Dialled<Self::Stream>
+        ensures fresh { IfReached result (λ stream. IsNew (Self.Stream.history stream)) }
+        ensures noted { tries self.new ≡ ended (tries self.old) result };
 
     /// What has become of the try that goes on, without a wait.
-    fn ask(&mut self) -> Dialled<Self::Wire>
-        ensures fresh { IfReached result (λ wire. IsNew (Self.Wire.history wire)) }
-        ensures told { tries self.new ≡ ended (tries self.old) result };
+    fn ask(&mut self) -> Dialled<Self::Stream>
+        ensures fresh { IfReached result (λ stream. IsNew (Self.Stream.history stream)) }
+        ensures noted { tries self.new ≡ ended (tries self.old) result };
 
-    /// Waits for as long as a look at a quiet wire does, so that who looks at a wire that is away
-    /// doesn't spin.
+    /// Waits for as long as a look at a quiet stream does, so that who looks at a stream that is
+    /// away doesn't spin.
     fn pause(&mut self)
         ensures { tries self.new ≡ tries self.old };
 }
 
-/// A wire that is reached again where it has gone: a try begins at once, then every second; after
-/// each wire that was reached and gave nothing at twice the distance, up to 30 s. While it is away
-/// it is quiet and takes nothing, and it begins with an empty stream each time.
+/// A stream that is reached again where it has gone: a try begins at once, then every second; after
+/// each stream that was reached and gave nothing at twice the distance, up to 30 s. While it is
+/// away it is quiet and takes nothing, and it begins with nothing in it each time.
 #[derive(Drop)]
-pub struct Redialled<D: Dialler + Drop, C: Clock + Drop> {
+pub struct Redialled<D: Dialler + Drop, C: RunClock + Drop> {
     dialler: D,
     clock: C,
-    wire: Option<D::Wire>,
+    stream: Option<D::Stream>,
     /// When the last try began, in ms.
     tried: Option<u64>,
     /// That try goes on.
@@ -69,7 +69,7 @@ pub struct Redialled<D: Dialler + Drop, C: Clock + Drop> {
     presence: Presence,
 }
 
-impl<D: Dialler + Drop, C: Clock + Drop> Model for Redialled<D, C> {
+impl<D: Dialler + Drop, C: RunClock + Drop> Model for Redialled<D, C> {
     ghost use Rattle.std.specs.Prelude.{option_map};
     ghost use Rattle.live.specs.Redial.{Redial};
 
@@ -78,7 +78,7 @@ impl<D: Dialler + Drop, C: Clock + Drop> Model for Redialled<D, C> {
     ghost view = { λ a. record {
       tries = D.tries a.dialler;
       clock = C.moments a.clock;
-      wire = option_map (λ wire. D.Wire.history wire) a.wire;
+      stream = option_map (λ stream. D.Stream.history stream) a.stream;
       tried = a.tried;
       is_trying = a.is_trying;
       wait = a.wait;
@@ -86,13 +86,13 @@ impl<D: Dialler + Drop, C: Clock + Drop> Model for Redialled<D, C> {
     } };
 }
 
-impl<D: Dialler + Drop, C: Clock + Drop> Redialled<D, C> {
+impl<D: Dialler + Drop, C: RunClock + Drop> Redialled<D, C> {
     /// One that is away. The first look tries to reach it.
     pub fn new(dialler: D, clock: C) -> Redialled<D, C>
         ensures { result ≡ record {
           tries = D.tries dialler;
           clock = C.moments clock;
-          wire = None;
+          stream = None;
           tried = None;
           is_trying = false;
           wait = 1000;
@@ -102,7 +102,7 @@ impl<D: Dialler + Drop, C: Clock + Drop> Redialled<D, C> {
         Redialled {
             dialler,
             clock,
-            wire: None,
+            stream: None,
             tried: None,
             is_trying: false,
             wait: RETRY_MS,
@@ -124,7 +124,7 @@ impl<D: Dialler + Drop, C: Clock + Drop> Redialled<D, C> {
     /// Looks at it while it is away.
     #[tactic(auto, using(crate::proofs::Tries::looked_away))]
     fn look_away(&mut self) -> Got
-        requires { self.old.wire ≡ None }
+        requires { self.old.stream ≡ None }
         ensures quiet { result ≡ Quiet }
         ensures redialled { (buf : List ℕ) → IsRedialled self.old result buf self.new }
     {
@@ -150,7 +150,7 @@ impl<D: Dialler + Drop, C: Clock + Drop> Redialled<D, C> {
 
     /// Asks what has become of the try that goes on.
     fn ask(&mut self)
-        ensures { IsAnswered self.old self.new }
+        ensures { IsTryAnswered self.old self.new }
     {
         let answer = self.dialler.ask();
         self.settle(answer);
@@ -158,13 +158,13 @@ impl<D: Dialler + Drop, C: Clock + Drop> Redialled<D, C> {
 
     /// Begins a try.
     fn dial(&mut self)
-        ensures { IsAnswered self.old self.new }
+        ensures { IsTryAnswered self.old self.new }
     {
         let answer = self.dialler.dial();
         self.settle(answer);
     }
 
-    /// Waits as long as a look at a quiet wire does.
+    /// Waits as long as a look at a quiet stream does.
     fn pause(&mut self)
         ensures { self.new ≡ self.old }
     {
@@ -172,18 +172,19 @@ impl<D: Dialler + Drop, C: Clock + Drop> Redialled<D, C> {
     }
 
     fn read_clock(&mut self) -> u64
-        ensures { self.new ≡ told_at result self.old }
+        ensures { self.new ≡ clock_read_at result self.old }
     {
         self.clock.now_ms()
     }
 
     /// What has become of a try.
-    fn settle(&mut self, answer: Dialled<D::Wire>)
-        ensures { self.new ≡ settled (dialled_map (λ wire. D.Wire.history wire) answer) self.old }
+    fn settle(&mut self, answer: Dialled<D::Stream>)
+        ensures { self.new
+            ≡ settled (dialled_map (λ stream. D.Stream.history stream) answer) self.old }
     {
         match answer {
-            Dialled::Reached(wire) => {
-                self.wire = Some(wire);
+            Dialled::Reached(stream) => {
+                self.stream = Some(stream);
                 self.is_trying = false;
                 self.wait = grown(self.wait);
                 self.presence = Presence::There;
@@ -197,14 +198,14 @@ impl<D: Dialler + Drop, C: Clock + Drop> Redialled<D, C> {
     }
 }
 
-/// How long after a try the next one begins, where its wire gives nothing.
+/// How long after a try the next one begins, where its stream gives nothing.
 fn grown(wait: u64) -> u64
     ensures { result ≡ grown wait }
 {
     wait.saturating_mul(2).min(LONGEST_RETRY_MS)
 }
 
-impl<D: Dialler + Drop, C: Clock + Drop> Reached for Redialled<D, C> {
+impl<D: Dialler + Drop, C: RunClock + Drop> Reached for Redialled<D, C> {
     fn presence(&self) -> Presence
         ensures { result ≡ self.now.presence }
     {
@@ -212,29 +213,29 @@ impl<D: Dialler + Drop, C: Clock + Drop> Reached for Redialled<D, C> {
     }
 }
 
-impl<D: Dialler + Drop, C: Clock + Drop> Wire for Redialled<D, C> {
-    ghost use Rattle.live.specs.Wires.{noted, looked, Dropped, Wrote};
+impl<D: Dialler + Drop, C: RunClock + Drop> OctetStream for Redialled<D, C> {
+    ghost use Rattle.live.specs.OctetStreams.{noted, looked, Dropped, Wrote};
 
     ghost history = { λ _. None };
 
     fn read(&mut self, buf: &mut [u8; 1024]) -> Got
         ensures fits { FitsBuffer result }
-        ensures told { None ≡ noted None (looked result buf.new) }
+        ensures noted { None ≡ noted None (looked result buf.new) }
         ensures stays { result ≢ Gone }
         ensures redialled { IsRedialled self.old result buf.new self.new }
     {
-        let Some(wire) = &mut self.wire else {
+        let Some(stream) = &mut self.stream else {
             return self.look_away();
         };
-        match wire.read(buf) {
+        match stream.read(buf) {
             Got::Octets(len) => {
                 self.wait = RETRY_MS;
-                self.presence = Presence::Heard;
+                self.presence = Presence::Receiving;
                 Got::Octets(len)
             }
             Got::Quiet => Got::Quiet,
             Got::Gone => {
-                self.wire = None;
+                self.stream = None;
                 self.presence = Presence::Away;
                 Got::Quiet
             }
@@ -242,22 +243,22 @@ impl<D: Dialler + Drop, C: Clock + Drop> Wire for Redialled<D, C> {
     }
 
     fn drop_waiting(&mut self) -> u64
-        ensures told { None ≡ noted None (Dropped result) }
+        ensures noted { None ≡ noted None (Dropped result) }
         ensures dropped { HasDropped self.old result self.new }
     {
-        match &mut self.wire {
+        match &mut self.stream {
             None => 0,
-            Some(wire) => wire.drop_waiting(),
+            Some(stream) => stream.drop_waiting(),
         }
     }
 
     fn write(&mut self, octets: &[u8]) -> bool
-        ensures told { None ≡ noted None (Wrote octets.now result) }
+        ensures noted { None ≡ noted None (Wrote octets.now result) }
         ensures put { IsPut self.old octets.now result self.new }
     {
-        match &mut self.wire {
+        match &mut self.stream {
             None => false,
-            Some(wire) => wire.write(octets),
+            Some(stream) => stream.write(octets),
         }
     }
 }

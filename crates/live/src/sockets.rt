@@ -1,16 +1,18 @@
 //! Ends on the system's sockets and clock.
 //!
 //! Only a look at the line waits, for some milliseconds, and again behind octets that don't end a
-//! frame; the door and a connection are asked without a wait. So a frame of the line is seen at
+//! frame; the listener and a connection are asked without a wait. So a frame of the line is seen at
 //! once, octets of a control centre after one look at a quiet line.
 ghost use Rattle.std.specs.Prelude.{◌≡◌, ◌≤◌, IfOk, None, false};
-ghost use Rattle.live.specs.Guests.{one_more_away};
+ghost use Rattle.live.specs.AllowLists.{one_more_refused};
 ghost use Rattle.live.specs.Clocks.{BeginsAt};
 
-use crate::guests::Guests;
+use crate::allow_list::AllowList;
+use crate::ends::{
+    Accepted, Got, Listener, OctetStream, Presence, Reached, RefusedPeers, RunClock,
+};
 use crate::redial::{Dialled, Dialler};
 use crate::stream::{drop_waiting, read_line, read_once, write_in_two, write_once};
-use crate::wires::{Clock, Door, Got, Presence, Reached, SentAway, Visitor, Wire};
 use std::io::{Eprint, ErrorKind};
 use std::net::{
     HostAddrs, IpAddr, Net, OpenListener, OpenStream, SocketAddr, TcpListener, TcpStream,
@@ -33,9 +35,9 @@ const WRITE_MS: u64 = 20;
 // A connect that is lost is sent again by the system after one second and after three.
 const REACH_MS: u64 = 5000;
 
-/// How many visitors are taken in at the most at one look at the door.
-// An end where somebody knocks without a pause; who is left comes in at the next look.
-const VISITORS: u32 = 256;
+/// How many connections are accepted at the most at one look at the listener.
+// An end where somebody connects without a pause; who is left is accepted at the next look.
+const MOST_ACCEPTED: u32 = 256;
 
 /// The line: a serial device server, by TCP or by a Unix socket.
 #[derive(Drop)]
@@ -80,7 +82,7 @@ impl LineSocket {
 
 /// Connects to the first address that answers, each in its time.
 fn connect<R: Net<Stream = TcpStream>>(rt: &R, place: &str) -> io::Result<TcpStream> {
-    // What is told of a name that has no address.
+    // What is answered for a name that has no address.
     let mut last = io::Error::from(ErrorKind::NotFound);
     for address in place.to_socket_addrs(rt)? {
         match TcpStream::connect_timeout(rt, &address, Duration::from_millis(REACH_MS)) {
@@ -91,7 +93,7 @@ fn connect<R: Net<Stream = TcpStream>>(rt: &R, place: &str) -> io::Result<TcpStr
     Err(last)
 }
 
-impl Wire for LineSocket {
+impl OctetStream for LineSocket {
     ghost history = { λ _. None };
 
     fn read(&mut self, buf: &mut [u8; 1024]) -> Got {
@@ -124,7 +126,7 @@ impl Reached for LineSocket {
 
 /// A connect that goes on.
 #[derive(Drop)]
-struct Knock {
+struct Connecting {
     stream: mio::net::TcpStream,
     /// When it began.
     since: Instant,
@@ -139,7 +141,7 @@ pub struct LineDialler<'a, R> {
     place: &'a str,
     /// The addresses of its host that are still to be tried.
     addresses: Option<HostAddrs>,
-    knock: Option<Knock>,
+    connecting: Option<Connecting>,
 }
 
 impl<'a, R: Net<Stream = TcpStream> + std::rt::Clock> LineDialler<'a, R> {
@@ -147,24 +149,24 @@ impl<'a, R: Net<Stream = TcpStream> + std::rt::Clock> LineDialler<'a, R> {
     pub fn new(rt: &'a R, place: &'a str) -> LineDialler<'a, R>
         ensures place { result.place.now ≡ place.entry.now }
         ensures untried { result.addresses ≡ None }
-        ensures idle { result.knock ≡ None }
+        ensures idle { result.connecting ≡ None }
     {
         LineDialler {
             rt,
             place,
             addresses: None,
-            knock: None,
+            connecting: None,
         }
     }
 
     /// Begins a connect to the next address that lets it.
-    fn knock_next(&mut self) -> Dialled<LineSocket> {
+    fn connect_next(&mut self) -> Dialled<LineSocket> {
         let Some(addresses) = &mut self.addresses else {
             return Dialled::Failed;
         };
         for address in addresses {
-            if let Ok(knock) = knock_at(self.rt, address) {
-                self.knock = Some(knock);
+            if let Ok(connecting) = connect_at(self.rt, address) {
+                self.connecting = Some(connecting);
                 return Dialled::Pending;
             }
         }
@@ -172,16 +174,16 @@ impl<'a, R: Net<Stream = TcpStream> + std::rt::Clock> LineDialler<'a, R> {
     }
 
     /// Its time is over.
-    fn is_over(&self, knock: &Knock) -> bool {
-        match knock.since.elapsed(self.rt) {
+    fn is_over(&self, connecting: &Connecting) -> bool {
+        match connecting.since.elapsed(self.rt) {
             Ok(passed) => passed > Duration::from_millis(REACH_MS),
             Err(_) => true,
         }
     }
 }
 
-fn knock_at<R: Net + std::rt::Clock>(rt: &R, address: SocketAddr) -> io::Result<Knock> {
-    Ok(Knock {
+fn connect_at<R: Net + std::rt::Clock>(rt: &R, address: SocketAddr) -> io::Result<Connecting> {
+    Ok(Connecting {
         stream: mio::net::TcpStream::connect(rt, address)?,
         since: Instant::now(rt)?,
     })
@@ -210,7 +212,7 @@ fn dialled(line: io::Result<LineSocket>) -> Dialled<LineSocket> {
 }
 
 impl<R: Net<Stream = TcpStream> + std::rt::Clock> Dialler for LineDialler<'_, R> {
-    type Wire = LineSocket;
+    type Stream = LineSocket;
 
     ghost tries = { λ _. None };
 
@@ -222,24 +224,24 @@ impl<R: Net<Stream = TcpStream> + std::rt::Clock> Dialler for LineDialler<'_, R>
             return Dialled::Failed;
         };
         self.addresses = place.to_socket_addrs(self.rt).ok();
-        self.knock_next()
+        self.connect_next()
     }
 
     fn ask(&mut self) -> Dialled<LineSocket> {
-        let Some(knock) = self.knock.take() else {
+        let Some(connecting) = self.connecting.take() else {
             return Dialled::Failed;
         };
-        // The system tells a failure once.
-        if matches!(knock.stream.take_error(), Ok(None)) {
-            if knock.stream.peer_addr().is_ok() {
-                return dialled(line_of(knock.stream));
+        // The system reports a failure once.
+        if matches!(connecting.stream.take_error(), Ok(None)) {
+            if connecting.stream.peer_addr().is_ok() {
+                return dialled(line_of(connecting.stream));
             }
-            if !self.is_over(&knock) {
-                self.knock = Some(knock);
+            if !self.is_over(&connecting) {
+                self.connecting = Some(connecting);
                 return Dialled::Pending;
             }
         }
-        self.knock_next()
+        self.connect_next()
     }
 
     fn pause(&mut self) {
@@ -263,14 +265,14 @@ impl CentreSocket {
     }
 }
 
-impl Wire for CentreSocket {
+impl OctetStream for CentreSocket {
     ghost history = { λ _. None };
 
     fn read(&mut self, buf: &mut [u8; 1024]) -> Got {
         read_once(&mut self.0, buf)
     }
 
-    /// A control centre's octets are all heard.
+    /// A control centre's octets are all received.
     fn drop_waiting(&mut self) -> u64 {
         0
     }
@@ -296,14 +298,14 @@ impl LocalSocket {
     }
 }
 
-impl Wire for LocalSocket {
+impl OctetStream for LocalSocket {
     ghost history = { λ _. None };
 
     fn read(&mut self, buf: &mut [u8; 1024]) -> Got {
         read_once(&mut self.0, buf)
     }
 
-    /// Its octets are all heard.
+    /// Its octets are all received.
     fn drop_waiting(&mut self) -> u64 {
         0
     }
@@ -313,15 +315,15 @@ impl Wire for LocalSocket {
     }
 }
 
-/// The door: a TCP listener that doesn't wait. All guests who wait come in, and the last of them
-/// stays; who is none is sent away.
+/// A TCP listener that doesn't wait. It accepts all who wait and are on the allow list, and the
+/// last of them stays; it refuses the others.
 #[derive(Drop)]
 pub struct CentreListener<'a, R> {
     rt: &'a R,
     listener: TcpListener,
-    /// That nobody can be let in was said, and nobody has come in since.
+    /// That no connection can be accepted was said, and none has been accepted since.
     is_shut: bool,
-    sent_away: SentAway,
+    refused: RefusedPeers,
 }
 
 impl<'a, R: Net<Listener = TcpListener, Stream = TcpStream> + Eprint> CentreListener<'a, R> {
@@ -331,9 +333,9 @@ impl<'a, R: Net<Listener = TcpListener, Stream = TcpStream> + Eprint> CentreList
     ///
     /// Those of the system.
     pub fn listen(rt: &'a R, address: &str) -> io::Result<CentreListener<'a, R>>
-        ensures open { IfOk result (λ door. door.is_shut ≡ false) }
-        ensures nobody { IfOk result (λ door.
-            door.sent_away ≡ record { count = 0; last = None }) }
+        ensures open { IfOk result (λ listener. listener.is_shut ≡ false) }
+        ensures nobody { IfOk result (λ listener.
+            listener.refused ≡ record { count = 0; last = None }) }
     {
         let listener = TcpListener::bind(rt, address)?;
         listener.set_nonblocking(true)?;
@@ -341,7 +343,7 @@ impl<'a, R: Net<Listener = TcpListener, Stream = TcpStream> + Eprint> CentreList
             rt,
             listener,
             is_shut: false,
-            sent_away: SentAway {
+            refused: RefusedPeers {
                 count: 0,
                 last: None,
             },
@@ -357,16 +359,16 @@ impl<'a, R: Net<Listener = TcpListener, Stream = TcpStream> + Eprint> CentreList
         self.listener.local_addr()
     }
 
-    /// Who has this address isn't let in.
-    fn note_away(&mut self, address: IpAddr)
+    /// Who has this address is refused.
+    fn note_refused(&mut self, address: IpAddr)
         ensures { self.new
-            ≡ record self.old { sent_away = one_more_away address self.old.sent_away } }
+            ≡ record self.old { refused = one_more_refused address self.old.refused } }
     {
-        self.sent_away.count = self.sent_away.count.saturating_add(1);
-        self.sent_away.last = Some(address);
+        self.refused.count = self.refused.count.saturating_add(1);
+        self.refused.last = Some(address);
     }
 
-    /// Says once that nobody can be let in, as with too few descriptors.
+    /// Says once that no connection can be accepted, as with too few descriptors.
     fn say_shut(&mut self, fault: &io::Error) {
         if !self.is_shut {
             let _ = eprintln!(self.rt; "connections can't be accepted: {fault}");
@@ -375,24 +377,25 @@ impl<'a, R: Net<Listener = TcpListener, Stream = TcpStream> + Eprint> CentreList
     }
 }
 
-impl<R: Net<Listener = TcpListener, Stream = TcpStream> + Eprint> Door for CentreListener<'_, R> {
-    type Wire = CentreSocket;
+impl<R: Net<Listener = TcpListener, Stream = TcpStream> + Eprint> Listener
+    for CentreListener<'_, R> {
+    type Stream = CentreSocket;
 
-    ghost visits = { λ _. None };
+    ghost attempts = { λ _. None };
 
     /// An IPv4 address that is written as an IPv6 one counts as that IPv4 address.
-    fn accept(&mut self, guests: &Guests) -> Option<Visitor<CentreSocket>> {
+    fn accept(&mut self, allow_list: &AllowList) -> Option<Accepted<CentreSocket>> {
         let mut newest = None;
-        'taking: for _ in 0..VISITORS {
+        'taking: for _ in 0..MOST_ACCEPTED {
             match self.listener.accept() {
                 Ok((stream, address)) => {
                     self.is_shut = false;
                     let address = address.ip().to_canonical();
-                    if guests.lets_in(address) {
+                    if allow_list.allows(address) {
                         // The newest: a control centre that comes again has left the ones before.
                         newest = Some((address, stream));
                     } else {
-                        self.note_away(address);
+                        self.note_refused(address);
                     }
                 }
                 Err(fault) => match fault.kind() {
@@ -407,19 +410,19 @@ impl<R: Net<Listener = TcpListener, Stream = TcpStream> + Eprint> Door for Centr
             }
         }
         let (address, stream) = newest?;
-        let wire = CentreSocket::new(stream).ok()?;
-        Some(Visitor { address, wire })
+        let stream = CentreSocket::new(stream).ok()?;
+        Some(Accepted { address, stream })
     }
 
-    fn sent_away(&self) -> SentAway
-        ensures { result ≡ self.now.sent_away }
+    fn refused(&self) -> RefusedPeers
+        ensures { result ≡ self.now.refused }
     {
-        self.sent_away
+        self.refused
     }
 }
 
 /// The system's clock that never goes back, from a first moment at its start. Where it can't be
-/// read the last moment is told again.
+/// read the last moment is given again.
 #[derive(Drop)]
 pub struct SystemClock<'a, R> {
     rt: &'a R,
@@ -458,7 +461,7 @@ impl<'a, R: std::rt::Clock> SystemClock<'a, R> {
     }
 }
 
-impl<R: std::rt::Clock> Clock for SystemClock<'_, R> {
+impl<R: std::rt::Clock> RunClock for SystemClock<'_, R> {
     ghost moments = { λ _. None };
 
     ghost walls = { λ _. None };

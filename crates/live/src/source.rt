@@ -4,21 +4,21 @@ ghost use Rattle.live.specs.Ends.{after};
 
 /// Where an event can come from.
 #[derive(Clone, Copy, Debug, PartialEq, Eq)]
-pub(crate) enum Source {
-    Door,
+pub(crate) enum EventSource {
+    Listener,
     Connection,
     Line,
 }
 
-impl Source {
+impl EventSource {
     /// The next one in the round.
-    pub(crate) fn after(self) -> Source
+    pub(crate) fn after(self) -> EventSource
         ensures { result ≡ after self }
     {
         match self {
-            Source::Door => Source::Connection,
-            Source::Connection => Source::Line,
-            Source::Line => Source::Door,
+            EventSource::Listener => EventSource::Connection,
+            EventSource::Connection => EventSource::Line,
+            EventSource::Line => EventSource::Listener,
         }
     }
 }

@@ -1,11 +1,11 @@
 //! One call to a stream of the system, and what its answer means.
 ghost use Rattle.std.specs.Prelude.{◌≡◌, ◌≤◌, length, take};
-ghost use Rattle.live.specs.Wires.{FitsBuffer};
+ghost use Rattle.live.specs.OctetStreams.{FitsBuffer};
 ghost use Rattle.live.specs.Streams.{ReadsOnce, WritesOnce, WritesAll, WritesFront};
 ghost use Rattle.live.specs.Streams.{DropsOnce, DropsWaiting, Drains, ReadsFrame, ReadsLine};
 ghost use Rattle.live.specs.Streams.{ReceivesOnce, ends_frame};
 
-use crate::wires::Got;
+use crate::ends::Got;
 use std::io;
 use std::io::{ErrorKind, Read, Write};
 use std::net::TcpStream;
@@ -25,31 +25,31 @@ const FRAME_END: u8 = 0x16;
 /// The single character.
 const SINGLE: u8 = 0xE5;
 
-/// Octets both ways, as the system has them. A stream that tells its calls adds the answer of each.
-pub(crate) trait Stream {
+/// Octets both ways, as the system has them. A stream that notes its calls adds the answer of each.
+pub(crate) trait SystemStream {
     ghost use Rattle.std.specs.Prelude.{◌≡◌, ◌≤◌, length, IfOk};
     ghost use Rattle.live.specs.Streams.{Calls, received, Sent, Waits, called};
     ghost use Rattle.std.specs.Result.{is_ok};
 
-    /// Its calls, with what the system answered, the newest first, where it tells them.
+    /// Its calls, with what the system answered, the newest first, where it notes them.
     ghost calls: { Self → Calls };
 
     /// Octets that came, at the front of the buffer; 0 at the stream's end.
     fn receive(&mut self, buf: &mut [u8]) -> io::Result<usize>
         ensures bound { IfOk result (λ len. len ≤ length buf.new) }
-        ensures told { calls self.new ≡ called (calls self.old) (received buf.new result) };
+        ensures noted { calls self.new ≡ called (calls self.old) (received buf.new result) };
 
     /// How many octets were taken, from the front.
     fn send(&mut self, octets: &[u8]) -> io::Result<usize>
         ensures bound { IfOk result (λ count. count ≤ length octets.now) }
-        ensures told { calls self.new ≡ called (calls self.old) (Sent octets.now result) };
+        ensures noted { calls self.new ≡ called (calls self.old) (Sent octets.now result) };
 
     /// Says whether its calls wait, each as long as its timeout says.
     fn set_waiting(&mut self, is_waiting: bool) -> io::Result<()>
         ensures { calls self.new ≡ called (calls self.old) (Waits is_waiting (is_ok result)) };
 }
 
-impl Stream for TcpStream {
+impl SystemStream for TcpStream {
     ghost use Rattle.std.specs.Prelude.{None};
 
     ghost calls = { λ _. None };
@@ -67,7 +67,7 @@ impl Stream for TcpStream {
     }
 }
 
-impl Stream for UnixStream {
+impl SystemStream for UnixStream {
     ghost use Rattle.std.specs.Prelude.{None};
 
     ghost calls = { λ _. None };
@@ -86,8 +86,8 @@ impl Stream for UnixStream {
 }
 
 /// Reads once: a timeout and an interruption are quiet, an end and every other failure are the
-/// wire's end.
-pub(crate) fn read_once<S: Stream>(stream: &mut S, buf: &mut [u8; 1024]) -> Got
+/// stream's end.
+pub(crate) fn read_once<S: SystemStream>(stream: &mut S, buf: &mut [u8; 1024]) -> Got
     ensures fits { FitsBuffer result }
     ensures reads { ReadsOnce (S.calls stream.old) result buf.new (S.calls stream.new) }
 {
@@ -105,7 +105,7 @@ pub(crate) fn read_once<S: Stream>(stream: &mut S, buf: &mut [u8; 1024]) -> Got
 /// each call brings some, 15 times at the most. Behind a whole frame it waits for nothing.
 // Where a device server gives an answer octet by octet each octet would else be an event, and a
 // line of the state on disk.
-pub(crate) fn read_line<S: Stream>(stream: &mut S, buf: &mut [u8; 1024]) -> Got
+pub(crate) fn read_line<S: SystemStream>(stream: &mut S, buf: &mut [u8; 1024]) -> Got
     ensures fits { FitsBuffer result }
     ensures reads { ReadsLine (S.calls stream.old) result buf.new (S.calls stream.new) }
 {
@@ -117,7 +117,7 @@ pub(crate) fn read_line<S: Stream>(stream: &mut S, buf: &mut [u8; 1024]) -> Got
 }
 
 /// Reads on behind so many octets, and answers how many there are then.
-fn read_on<S: Stream>(stream: &mut S, buf: &mut [u8; 1024], first: usize) -> usize
+fn read_on<S: SystemStream>(stream: &mut S, buf: &mut [u8; 1024], first: usize) -> usize
     requires some { 1 ≤ first }
     requires fits { first ≤ 1024 }
     ensures least { first ≤ result }
@@ -149,7 +149,7 @@ fn ends_frame(octets: &[u8]) -> bool
 }
 
 /// Reads once, and answers how many octets came.
-fn receive_once<S: Stream>(stream: &mut S, buf: &mut [u8]) -> usize
+fn receive_once<S: SystemStream>(stream: &mut S, buf: &mut [u8]) -> usize
     ensures bound { result ≤ length buf.new }
     ensures receives { ReceivesOnce (S.calls stream.old) (take result buf.new) result
         (S.calls stream.new) }
@@ -159,7 +159,7 @@ fn receive_once<S: Stream>(stream: &mut S, buf: &mut [u8]) -> usize
 
 /// Writes in one call, so that it waits no longer than the stream's timeout, and answers whether
 /// all octets were taken.
-pub(crate) fn write_once<S: Stream>(stream: &mut S, octets: &[u8]) -> bool
+pub(crate) fn write_once<S: SystemStream>(stream: &mut S, octets: &[u8]) -> bool
     ensures { WritesAll (S.calls stream.old) octets.now result (S.calls stream.new) }
 {
     match stream.send(octets) {
@@ -169,7 +169,7 @@ pub(crate) fn write_once<S: Stream>(stream: &mut S, octets: &[u8]) -> bool
 }
 
 /// Writes in one call, and answers how many octets were taken.
-pub(crate) fn write_some<S: Stream>(stream: &mut S, octets: &[u8]) -> usize
+pub(crate) fn write_some<S: SystemStream>(stream: &mut S, octets: &[u8]) -> usize
     ensures bound { result ≤ length octets.now }
     ensures writes { WritesOnce (S.calls stream.old) octets.now result (S.calls stream.new) }
 {
@@ -179,7 +179,7 @@ pub(crate) fn write_some<S: Stream>(stream: &mut S, octets: &[u8]) -> usize
 /// Writes what the stream takes without a wait, and then, within its timeout, what is left. Answers
 /// whether all octets were taken.
 #[tactic(auto, using(crate::proofs::Writes::written_whole, crate::proofs::Writes::written_part, crate::proofs::Writes::written_refused))]
-pub(crate) fn write_in_two<S: Stream>(stream: &mut S, octets: &[u8]) -> bool
+pub(crate) fn write_in_two<S: SystemStream>(stream: &mut S, octets: &[u8]) -> bool
     ensures { WritesFront (S.calls stream.old) octets.now result (S.calls stream.new) }
 {
     // Nearly every APDU goes out so, without two calls more.
@@ -191,14 +191,14 @@ pub(crate) fn write_in_two<S: Stream>(stream: &mut S, octets: &[u8]) -> bool
         return false;
     }
     let is_taken = write_once(stream, &octets[taken..]);
-    // A stream that refuses this has gone, as the next look at it tells.
+    // A stream that refuses this has gone, as the next look at it finds.
     let _ = stream.set_waiting(false);
     is_taken
 }
 
 /// Drops what has come and wasn't read, without a wait. Answers how many octets that was.
 #[tactic(auto, using(crate::proofs::Drops::refused, crate::proofs::Drops::drained))]
-pub(crate) fn drop_waiting<S: Stream>(stream: &mut S) -> u64
+pub(crate) fn drop_waiting<S: SystemStream>(stream: &mut S) -> u64
     ensures { DropsWaiting (S.calls stream.old) result (S.calls stream.new) }
 {
     if stream.set_waiting(false).is_err() {
@@ -206,13 +206,13 @@ pub(crate) fn drop_waiting<S: Stream>(stream: &mut S) -> u64
         return 0;
     }
     let count = drop_octets(stream);
-    // A stream that refuses this has gone, as the next look at it tells.
+    // A stream that refuses this has gone, as the next look at it finds.
     let _ = stream.set_waiting(true);
     count
 }
 
 /// Reads until nothing comes, and answers how many octets came.
-fn drop_octets<S: Stream>(stream: &mut S) -> u64
+fn drop_octets<S: SystemStream>(stream: &mut S) -> u64
     ensures { Drains (S.calls stream.old) result (S.calls stream.new) }
 {
     let mut count = 0;
@@ -227,7 +227,7 @@ fn drop_octets<S: Stream>(stream: &mut S) -> u64
 }
 
 /// Reads once, and answers how many octets came.
-fn drop_once<S: Stream>(stream: &mut S) -> u64
+fn drop_once<S: SystemStream>(stream: &mut S) -> u64
     ensures bound { result ≤ 1024 }
     ensures drops { DropsOnce (S.calls stream.old) result (S.calls stream.new) }
 {

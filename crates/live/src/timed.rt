@@ -1,9 +1,9 @@
 //! Ends in memory in a time of their own, in which the gateway stalls wherever a test wants it to.
 ghost use Rattle.std.specs.Prelude.{None, ◌≤◌};
 
-use crate::guests::Guests;
+use crate::allow_list::AllowList;
+use crate::ends::{Accepted, Got, Listener, OctetStream, RefusedPeers, RunClock};
 use crate::memory::WALL_MS;
-use crate::wires::{Clock, Door, Got, SentAway, Visitor, Wire};
 use std::cell::Cell;
 use std::net::{IpAddr, Ipv4Addr};
 
@@ -110,7 +110,7 @@ impl<'a> TimedLine<'a> {
     }
 }
 
-impl Wire for TimedLine<'_> {
+impl OctetStream for TimedLine<'_> {
     ghost history = { λ _. None };
 
     fn read(&mut self, buf: &mut [u8; 1024]) -> Got {
@@ -158,7 +158,7 @@ pub(crate) struct TimedCentre<'a> {
     has_started: bool,
 }
 
-impl Wire for TimedCentre<'_> {
+impl OctetStream for TimedCentre<'_> {
     ghost history = { λ _. None };
 
     fn read(&mut self, buf: &mut [u8; 1024]) -> Got {
@@ -181,52 +181,52 @@ impl Wire for TimedCentre<'_> {
     }
 }
 
-/// A door, where a control centre waits at first.
+/// A listener, at which a control centre waits at first.
 #[derive(Drop)]
-pub(crate) struct TimedDoor<'a> {
+pub(crate) struct TimedListener<'a> {
     time: &'a Time,
-    has_visitor: bool,
+    has_centre: bool,
 }
 
-impl<'a> TimedDoor<'a> {
-    pub(crate) fn new(time: &'a Time, has_visitor: bool) -> TimedDoor<'a> {
-        TimedDoor { time, has_visitor }
+impl<'a> TimedListener<'a> {
+    pub(crate) fn new(time: &'a Time, has_centre: bool) -> TimedListener<'a> {
+        TimedListener { time, has_centre }
     }
 }
 
-impl<'a> Door for TimedDoor<'a> {
-    type Wire = TimedCentre<'a>;
+impl<'a> Listener for TimedListener<'a> {
+    type Stream = TimedCentre<'a>;
 
-    ghost visits = { λ _. None };
+    ghost attempts = { λ _. None };
 
-    fn accept(&mut self, guests: &Guests) -> Option<Visitor<TimedCentre<'a>>> {
+    fn accept(&mut self, allow_list: &AllowList) -> Option<Accepted<TimedCentre<'a>>> {
         self.time.begin();
         let address = IpAddr::V4(Ipv4Addr::LOCALHOST);
-        if !self.has_visitor || !guests.lets_in(address) {
+        if !self.has_centre || !allow_list.allows(address) {
             return None;
         }
-        self.has_visitor = false;
-        let wire = TimedCentre {
+        self.has_centre = false;
+        let stream = TimedCentre {
             time: self.time,
             look_ms: 0,
             has_started: false,
         };
-        Some(Visitor { address, wire })
+        Some(Accepted { address, stream })
     }
 
-    fn sent_away(&self) -> SentAway {
-        SentAway {
+    fn refused(&self) -> RefusedPeers {
+        RefusedPeers {
             count: 0,
             last: None,
         }
     }
 }
 
-/// A clock that tells this time.
+/// A clock that gives this time.
 #[derive(Drop)]
 pub(crate) struct TimedClock<'a>(pub(crate) &'a Time);
 
-impl Clock for TimedClock<'_> {
+impl RunClock for TimedClock<'_> {
     ghost moments = { λ _. None };
 
     ghost walls = { λ _. None };

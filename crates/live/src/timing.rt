@@ -1,6 +1,7 @@
 //! What moment an event bears, so that a stall of the gateway is no late answer of the line.
 ghost use Rattle.std.specs.Prelude.{◌≡◌};
-ghost use Rattle.live.specs.Timing.{moment_at, is_behind, is_heard_out, is_awaited, heard_at};
+ghost use Rattle.live.specs.Timing.{moment_at, is_behind, is_waited_out, is_awaited};
+ghost use Rattle.live.specs.Timing.{line_looked_at};
 ghost use Rattle.live.specs.Timing.{asked_at};
 
 /// How far the moment of what a control centre sends may be behind the clock, in ms.
@@ -9,33 +10,33 @@ const LAG_MS: u64 = 50;
 
 /// A request that went out, in ms: the moment of its step, and the clock's once it was written.
 #[derive(Clone, Copy, Debug, PartialEq, Eq)]
-pub(crate) struct Request {
+pub(crate) struct WrittenRequest {
     pub(crate) moment: u64,
     pub(crate) written: u64,
 }
 
-/// What tells the moment of an event.
+/// What decides the moment of an event.
 #[derive(Clone, Copy, Debug, PartialEq, Eq)]
 pub(crate) struct Timing {
     /// How long an answer is awaited, in ms.
     pub(crate) answer_ms: u64,
     /// The clock's moment before the latest look at the line, in ms.
-    pub(crate) heard: u64,
+    pub(crate) looked: u64,
     /// The latest request.
-    pub(crate) request: Option<Request>,
+    pub(crate) request: Option<WrittenRequest>,
 }
 
 impl Timing {
-    /// The moment of an event that the clock tells now. It is the clock's, but as long as the line
-    /// hasn't been looked at for `answer_ms` after the latest request was written, it doesn't end
-    /// that request's exchange.
+    /// The moment that an event bears, where the clock shows `now`. It is the clock's, but as long
+    /// as the line hasn't been looked at for `answer_ms` after the latest request was written, it
+    /// doesn't end that request's exchange.
     pub(crate) fn moment(&self, now: u64) -> u64
         ensures { result ≡ moment_at self.now now }
     {
         let Some(request) = self.request else {
             return now;
         };
-        if self.is_heard_out(request) {
+        if self.is_waited_out(request) {
             return now;
         }
         if now.saturating_sub(request.moment) < self.answer_ms {
@@ -59,29 +60,29 @@ impl Timing {
         ensures { result ≡ is_awaited self.now }
     {
         match self.request {
-            Some(request) => !self.is_heard_out(request),
+            Some(request) => !self.is_waited_out(request),
             None => false,
         }
     }
 
     /// The line has been looked at for `answer_ms` since this request was written.
-    fn is_heard_out(&self, request: Request) -> bool
-        ensures { result ≡ is_heard_out self.now request }
+    fn is_waited_out(&self, request: WrittenRequest) -> bool
+        ensures { result ≡ is_waited_out self.now request }
     {
-        self.answer_ms <= self.heard.saturating_sub(request.written)
+        self.answer_ms <= self.looked.saturating_sub(request.written)
     }
 
     /// A look at the line begins.
-    pub(crate) fn hear(&mut self, begun: u64)
-        ensures { self.new ≡ heard_at begun self.old }
+    pub(crate) fn look(&mut self, begun: u64)
+        ensures { self.new ≡ line_looked_at begun self.old }
     {
-        self.heard = begun;
+        self.looked = begun;
     }
 
     /// A request of this moment has been written.
     pub(crate) fn ask(&mut self, moment: u64, written: u64)
         ensures { self.new ≡ asked_at moment written self.old }
     {
-        self.request = Some(Request { moment, written });
+        self.request = Some(WrittenRequest { moment, written });
     }
 }

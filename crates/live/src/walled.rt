@@ -1,46 +1,46 @@
-//! When the wall clock is told.
+//! When the wall clock is given.
 ghost use Rattle.std.specs.Prelude.{◌≡◌, true};
-ghost use Rattle.live.specs.Walls.{is_wall_due, untold, told_at_moment};
+ghost use Rattle.live.specs.Walls.{is_wall_due, never_given, given_at_moment};
 
-/// How long after the wall clock was told it is told again, in ms.
+/// How long after the wall clock was given it is given again, in ms.
 const APART_MS: u64 = 1000;
 
-/// When the wall clock was told last.
+/// When the wall clock was given last.
 #[derive(Clone, Copy, Debug, PartialEq, Eq)]
 pub(crate) struct Walled {
     /// The clock's moment then, in ms; none before the first time.
-    told: Option<u64>,
+    given: Option<u64>,
     /// The ends have been looked at since.
-    // Else a gateway that stalls for a second at each call would tell nothing but the wall clock.
+    // Else a gateway that stalls for a second at each call would give nothing but the wall clock.
     has_looked: bool,
 }
 
 impl Walled {
-    /// The wall clock hasn't been told yet.
+    /// The wall clock hasn't been given yet.
     pub(crate) fn new() -> Walled
-        ensures { result ≡ untold }
+        ensures { result ≡ never_given }
     {
         Walled {
-            told: None,
+            given: None,
             has_looked: false,
         }
     }
 
-    /// The wall clock is to be told at this moment of the clock.
+    /// The wall clock is to be given at this moment of the clock.
     pub(crate) fn is_due(&self, now: u64) -> bool
         ensures { result ≡ is_wall_due self.now now }
     {
-        match self.told {
+        match self.given {
             None => true,
-            Some(told) => self.has_looked && APART_MS <= now.saturating_sub(told),
+            Some(given) => self.has_looked && APART_MS <= now.saturating_sub(given),
         }
     }
 
-    /// It is told at this moment of the clock.
-    pub(crate) fn tell(&mut self, now: u64)
-        ensures { self.new ≡ told_at_moment now }
+    /// It is given at this moment of the clock.
+    pub(crate) fn give(&mut self, now: u64)
+        ensures { self.new ≡ given_at_moment now }
     {
-        self.told = Some(now);
+        self.given = Some(now);
         self.has_looked = false;
     }
 

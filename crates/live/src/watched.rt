@@ -3,22 +3,22 @@ ghost use Rattle.std.specs.Option.{is_some};
 ghost use Rattle.std.specs.Prelude.{◌≡◌, None, nat_lt, option_map};
 ghost use Rattle.live.specs.Ends.{Peer, failure_of};
 
+use crate::ends::{CutCause, Listener, OctetStream, Presence, Reached, RefusedPeers, RunClock};
 use crate::port::Live;
-use crate::wires::{Clock, CutCause, Door, Presence, Reached, SentAway, Wire};
 use gateway::{Gateway, Port};
 use std::net::IpAddr;
 
 /// What is seen of a port's ends.
 #[derive(Clone, Copy, Debug, PartialEq, Eq)]
-pub struct Sight {
+pub struct EndsSight {
     /// Whether the line is there.
     pub line: Presence,
     /// Whose connection is open.
     pub peer: Option<IpAddr>,
     /// Why the latest connection that was cut was cut.
     pub why_cut: CutCause,
-    /// Who wasn't let in.
-    pub sent_away: SentAway,
+    /// Who was refused.
+    pub refused: RefusedPeers,
     /// How many octets of the line were dropped before requests so far, at most `u64::MAX`: they
     /// came behind the time of the exchange before.
     pub late_octets: u64,
@@ -35,7 +35,7 @@ pub enum Failure {
     State,
 }
 
-/// What is told of the state on the disk.
+/// What is reported of the state on the disk.
 #[derive(Clone, Copy, Debug, PartialEq, Eq)]
 pub enum Notice {
     /// It isn't kept: what is polled now is lost if the gateway stops.
@@ -53,19 +53,19 @@ pub trait Watched: Port {
     ghost use Rattle.live.specs.declared.watched.Notice.{Notice};
 
     /// By a look at a gateway in this state it came from the one to the other, and had that to
-    /// tell.
+    /// report.
     ghost tends: { Self → State → Self → Option Notice → Type 0 } = { λ _ _ _ _. Unit {0} };
 
     /// What has failed, where its device has.
     ghost failure: { Self → Option Failure };
 
     /// Looks at its ends, and asks nothing of them.
-    fn sight(&self) -> Sight
+    fn sight(&self) -> EndsSight
         ensures failure { result.failure ≡ failure self.now }
         ensures failed { is_some result.failure ≡ nat_lt 0 (Self.failed self.now) };
 
     /// Looks at the gateway between two steps, when its state is that to which all events so far
-    /// have led. Answers what is to be told of the state on the disk, if anything.
+    /// have led. Answers what is to be reported of the state on the disk, if anything.
     fn tend(&mut self, gateway: &Gateway) -> Option<Notice>
         ensures tends { tends self.old gateway.now self.new result }
         ensures log { Self.log self.new ≡ Self.log self.old }
@@ -74,22 +74,22 @@ pub trait Watched: Port {
         ensures script { Self.script self.new ≡ Self.script self.old };
 }
 
-impl<L: Wire + Reached, D: Door + Drop, C: Clock + Drop> Watched for Live<L, D, C> {
+impl<S: OctetStream + Reached, L: Listener + Drop, C: RunClock + Drop> Watched for Live<S, L, C> {
     ghost tends = { λ old _ new notice. (new ≡ old) × (notice ≡ None) };
 
     ghost failure = { λ ends. failure_of ends.failed };
 
-    fn sight(&self) -> Sight
+    fn sight(&self) -> EndsSight
         ensures failure { result.failure ≡ failure_of self.now.failed }
         ensures failed { is_some result.failure ≡ nat_lt 0 self.now.failed }
         ensures peer { result.peer ≡ option_map (λ (p : Peer). p.address) self.now.connection }
         ensures late { result.late_octets ≡ self.now.late }
     {
-        Sight {
+        EndsSight {
             line: self.line_presence(),
             peer: self.peer(),
             why_cut: self.why_cut(),
-            sent_away: self.sent_away(),
+            refused: self.refused(),
             late_octets: self.late_octets(),
             failure: self.failure(),
         }

@@ -6,10 +6,10 @@ use Rattle.gateway.specs.Config.{Settings}
 use Rattle.gateway.specs.State.{State}
 use Rattle.live.specs.declared.watched.Notice.{Notice}
 use Rattle.lookout.specs.Shown.{AreKnown, keeping_after, text_or_none}
-use Rattle.lookout.specs.declared.lookout.Shown.{Shown}
-use Rattle.runlog.specs.Telling.{taken_in}
+use Rattle.lookout.specs.declared.lookout.ShownRun.{ShownRun}
+use Rattle.runlog.specs.Logging.{taken_in}
 use Rattle.runlog.specs.Watching.{Watching}
-use Rattle.runlog.specs.declared.names.Names.{Names}
+use Rattle.runlog.specs.declared.names.LogNames.{LogNames}
 use Rattle.status.specs.Hour as hour
 use Rattle.status.specs.declared.snapshot.Keeping.{Keeping}
 use Rattle.status.specs.declared.snapshot.Keeping.TheVariants.{Kept, Off}
@@ -28,7 +28,8 @@ keeping_by None before = before
 keeping_by (Some notice) before = keeping_after notice
 
 -- nothing of the run has been seen: the settings' stations and places are known, and their names
-pub record IsFresh (c : Settings) (names : Names) (keeps : Bool) (s : Shown) : Type 0 where
+pub record IsFreshLookout (c : Settings) (names : LogNames) (keeps : Bool) (s : ShownRun) : Type
+    0 where
   pub name : string_bytes s.name ≡ text_or_none (option_map (λ n. n.now) names.line)
   pub known : AreKnown names.stations.now c.stations s.known.items
   pub places : s.places ≡ c.line.queue
@@ -50,7 +51,7 @@ abbrev pub gone_after : Option ℕ → (was is : Bool) → (now since : ℕ) →
 gone_after began was is now since = if is_none began || (was && not is) then now else since
 
 -- a look at a run that was watched so, beside the name of who has connected
-abbrev pub noted : Watching → Option Notice → Shown → Shown
+abbrev pub noted : Watching → Option Notice → ShownRun → ShownRun
 noted w notice s = let is_open = is_some w.connection.opening in record s {
   began = Some (first_of s.began w.moment);
   keeping = keeping_by notice s.keeping;
@@ -60,7 +61,7 @@ noted w notice s = let is_open = is_some w.connection.opening in record s {
 }
 
 -- once a second the gateway's pieces are counted
-abbrev pub counted : State → (now : ℕ) → Shown → Shown
+abbrev pub counted : State → (now : ℕ) → ShownRun → ShownRun
 counted gateway now s =
     if is_over s.counted now 1000
     then record s {
@@ -71,7 +72,7 @@ counted gateway now s =
     else s
 
 -- and a look at which the visitors have a turn counts them, if that is due
-abbrev pub looked : (turned : Option ℕ) → State → Watching → Option Notice → Shown → Shown
+abbrev pub looked : (turned : Option ℕ) → State → Watching → Option Notice → ShownRun → ShownRun
 looked turned gateway w notice s =
     if is_over turned w.moment 20
     then counted gateway w.moment (noted w notice s)

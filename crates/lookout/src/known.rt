@@ -4,7 +4,7 @@ ghost use Rattle.lookout.specs.Shown.{AreKnown, text_or_none};
 ghost use Rattle.runlog.specs.Names.{name_in};
 
 use gateway::Station;
-use runlog::{Name, name_of};
+use runlog::{NamedStation, name_of};
 use std::alloc::{AllocError, Global};
 
 /// A station of the settings, with the name that the site gives it.
@@ -19,7 +19,7 @@ pub(crate) struct Known {
 pub(crate) fn known_of(
     alloc: Global,
     stations: &[Station],
-    names: &[Name<'_>],
+    names: &[NamedStation<'_>],
 ) -> Result<Vec<Known>, AllocError>
     ensures { IfOk result (λ known. AreKnown names.now stations.now known.items) }
 {
@@ -35,7 +35,7 @@ pub(crate) fn known_of(
 }
 
 /// The name of the station with this link address, or nothing.
-fn called<'a>(names: &[Name<'a>], address: u16) -> &'a str
+fn called<'a>(names: &[NamedStation<'a>], address: u16) -> &'a str
     ensures { result.now ≡ text_or_none (name_in address names.now) }
 {
     match name_of(names, address) {

@@ -1,4 +1,4 @@
-//! What of a live run is shown to who looks in at its status door.
+//! What of a live run is shown to who looks in at its status listener.
 //!
 //! A [`Lookout`] stands beside the gateway's loop and not in it: between two events it is lent the
 //! gateway and what the log's watch knows, fills in a `status::Snapshot`, and gives each visitor a
@@ -6,10 +6,9 @@
 //! of a run.
 //!
 //! Proved: a row has the numbers of the watch, the traffic and the settings that it is made of
-//! (`IsStation`), and a station the name that the site gives it (`AreKnown`); the line is shown as
-//! the watch has it; a notice tells how the state is kept. No
-//! clause says in which order the rows stand, or what is shown of centre and queue:
-//! `checks/status.py` judges that.
+//! (`IsStationRow`), and a station the name that the site gives it (`AreKnown`); the line is shown
+//! as the watch has it; a notice says how the state is kept. No clause says in which order the rows
+//! stand, or what is shown of centre and queue: `checks/status.py` judges that.
 #![tactic(auto)]
 
 mod known;

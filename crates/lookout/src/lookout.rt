@@ -1,14 +1,14 @@
 //! Who looks at a run.
 ghost use Rattle.std.specs.Prelude.{◌≡◌, false, IfOk, None};
 ghost use Rattle.lookout.specs.Looking as spec;
-ghost use Rattle.lookout.specs.Looking.{IsFresh, is_over};
+ghost use Rattle.lookout.specs.Looking.{IsFreshLookout, is_over};
 
 use crate::known::{Known, known_of};
-use crate::setting::{Chosen, chosen_of, settings_of};
+use crate::setting::{ChosenSetting, chosen_of, settings_of};
 use crate::shown::{centre_of, keeping_after, line_of, rows_of};
 use gateway::{Config, Gateway};
 use live::Notice;
-use runlog::{Names, Watch, taken_places};
+use runlog::{LogNames, Watch, taken_places};
 use status::{Hour, Keeping, Queue, Snapshot, StreamSource, Visitors};
 use std::alloc::{AllocError, Global};
 
@@ -22,12 +22,12 @@ const COUNT_MS: u64 = 1000;
 
 /// What is shown of a run beside what the gateway and the watch know.
 #[derive(Drop)]
-struct Shown {
+struct ShownRun {
     version: &'static str,
     /// What the line is called; empty where it has no name.
     name: String,
     known: Vec<Known>,
-    chosen: Vec<Chosen>,
+    chosen: Vec<ChosenSetting>,
     /// How many places the queue has.
     places: u64,
     /// When the run began, in ms; none before its first event.
@@ -46,17 +46,17 @@ struct Shown {
     was_open: bool,
 }
 
-/// Who looks at a run through this door.
+/// Who looks at a run through this listener.
 #[derive(Drop)]
 pub struct Lookout<D: StreamSource + Drop> {
     visitors: Visitors<D>,
-    shown: Shown,
+    shown: ShownRun,
     /// When the visitors had a turn last, in ms.
     turned: Option<u64>,
 }
 
 impl<D: StreamSource + Drop> Lookout<D> {
-    /// Who looks through this door at a run with these settings. All memory is taken here.
+    /// Who looks through this listener at a run with these settings. All memory is taken here.
     ///
     /// # Errors
     ///
@@ -64,19 +64,20 @@ impl<D: StreamSource + Drop> Lookout<D> {
     pub fn new(
         alloc: Global,
         config: &Config,
-        names: Names<'_>,
+        names: LogNames<'_>,
         version: &'static str,
         keeps_state: bool,
-        door: D,
+        listener: D,
     ) -> Result<Lookout<D>, AllocError>
-        ensures fresh { IfOk result (λ l. IsFresh config.now names.entry keeps_state l.shown) }
+        ensures fresh { IfOk result (λ l.
+            IsFreshLookout config.now names.entry keeps_state l.shown) }
         ensures version { IfOk result (λ l.
             l.shown.version.now ≡ version.entry.now) }
         ensures turned { IfOk result (λ l. l.turned ≡ None) }
     {
         Ok(Lookout {
-            visitors: Visitors::new(alloc, door)?,
-            shown: Shown::new(alloc, config, names, version, keeps_state)?,
+            visitors: Visitors::new(alloc, listener)?,
+            shown: ShownRun::new(alloc, config, names, version, keeps_state)?,
             turned: None,
         })
     }
@@ -132,18 +133,18 @@ fn is_over(since: Option<u64>, now: u64, ms: u64) -> bool
     }
 }
 
-impl Shown {
+impl ShownRun {
     fn new(
         alloc: Global,
         config: &Config,
-        names: Names<'_>,
+        names: LogNames<'_>,
         version: &'static str,
         keeps_state: bool,
-    ) -> Result<Shown, AllocError>
-        ensures fresh { IfOk result (λ s. IsFresh config.now names.entry keeps_state s) }
+    ) -> Result<ShownRun, AllocError>
+        ensures fresh { IfOk result (λ s. IsFreshLookout config.now names.entry keeps_state s) }
         ensures version { IfOk result (λ s. s.version.now ≡ version.entry.now) }
     {
-        Ok(Shown {
+        Ok(ShownRun {
             version,
             name: String::from_str(alloc, names.line.unwrap_or(""))?,
             known: known_of(alloc, config.stations(), names.stations)?,
@@ -161,7 +162,7 @@ impl Shown {
         })
     }
 
-    /// Notes what is told once: of the state on the disk, and of connections.
+    /// Notes what is said once: of the state on the disk, and of connections.
     fn note(&mut self, watch: &Watch, notice: Option<Notice>)
         ensures { self.new
             ≡ record (spec.noted watch.now notice self.old) { peer = self.new.peer } }
@@ -208,7 +209,7 @@ impl Shown {
 }
 
 /// Gives the visitors a turn at what is shown.
-fn turn<D: StreamSource + Drop>(visitors: &mut Visitors<D>, shown: &Shown, watch: &Watch) {
+fn turn<D: StreamSource + Drop>(visitors: &mut Visitors<D>, shown: &ShownRun, watch: &Watch) {
     let rows = rows_of(shown.known.as_slice(), watch);
     let settings = settings_of(shown.chosen.as_slice());
     let now = watch.moment();

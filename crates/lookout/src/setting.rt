@@ -10,13 +10,13 @@ const MOST_SETTINGS: usize = 16;
 
 /// A setting in force.
 #[derive(Debug, Drop)]
-pub(crate) struct Chosen {
+pub(crate) struct ChosenSetting {
     key: &'static str,
     value: String,
 }
 
-/// The settings in force that tell how line and connection behave.
-pub(crate) fn chosen_of(alloc: Global, config: &Config) -> Result<Vec<Chosen>, AllocError> {
+/// The settings in force that say how line and connection behave.
+pub(crate) fn chosen_of(alloc: Global, config: &Config) -> Result<Vec<ChosenSetting>, AllocError> {
     let line = config.line();
     let tcp = config.tcp();
     let silence = match line.silence {
@@ -26,7 +26,7 @@ pub(crate) fn chosen_of(alloc: Global, config: &Config) -> Result<Vec<Chosen>, A
     let mut chosen = Vec::new(alloc);
     chosen.push(number(alloc, "line.answer_ms", line.answer_ms)?)?;
     chosen.push(number(alloc, "line.retries", u64::from(line.retries))?)?;
-    chosen.push(Chosen {
+    chosen.push(ChosenSetting {
         key: "line.silence",
         value: String::from_str(alloc, silence)?,
     })?;
@@ -43,14 +43,14 @@ pub(crate) fn chosen_of(alloc: Global, config: &Config) -> Result<Vec<Chosen>, A
 }
 
 /// A setting that is a number.
-fn number(alloc: Global, key: &'static str, value: u64) -> Result<Chosen, AllocError> {
+fn number(alloc: Global, key: &'static str, value: u64) -> Result<ChosenSetting, AllocError> {
     let mut text = String::new(alloc);
     write!(text, "{value}")?;
-    Ok(Chosen { key, value: text })
+    Ok(ChosenSetting { key, value: text })
 }
 
 /// The settings as a page has them.
-pub(crate) fn settings_of(chosen: &[Chosen]) -> ArrayVec<Setting<'_>, MOST_SETTINGS> {
+pub(crate) fn settings_of(chosen: &[ChosenSetting]) -> ArrayVec<Setting<'_>, MOST_SETTINGS> {
     let mut settings = ArrayVec::new();
     for one in chosen {
         if settings.is_full() {

@@ -5,7 +5,7 @@ ghost use Rattle.lookout.specs.Shown as spec;
 use crate::known::Known;
 use arrayvec::ArrayVec;
 use live::{Notice, Presence};
-use runlog::{Standing as Told, StationWatch, Traffic, Watch};
+use runlog::{StationStanding, StationWatch, Traffic, Watch};
 use status::{CentreView, Keeping, LineView, LinkState, StationView};
 
 /// The most stations that a line has.
@@ -15,21 +15,21 @@ const MOST_STATIONS: usize = 32;
 pub(crate) type Rows<'a> = ArrayVec<StationView<'a>, MOST_STATIONS>;
 
 /// How a station stands, in the words of a page.
-fn standing_of(told: Told) -> LinkState
-    ensures { result ≡ spec.standing_of told }
+fn standing_of(standing: StationStanding) -> LinkState
+    ensures { result ≡ spec.standing_of standing }
 {
-    match told {
-        Told::NotAsked => LinkState::NotAsked,
-        Told::Asked => LinkState::Asked,
-        Told::Up => LinkState::Up,
-        Told::Silent => LinkState::Silent,
-        Told::Down => LinkState::Down,
+    match standing {
+        StationStanding::NotAsked => LinkState::NotAsked,
+        StationStanding::Asked => LinkState::Asked,
+        StationStanding::Up => LinkState::Up,
+        StationStanding::Silent => LinkState::Silent,
+        StationStanding::Down => LinkState::Down,
     }
 }
 
 /// A station's row.
 fn station_of<'a>(known: &'a Known, watch: &StationWatch, traffic: &Traffic) -> StationView<'a>
-    ensures { spec.IsStation known.entry.now watch.now traffic.now result }
+    ensures { spec.IsStationRow known.entry.now watch.now traffic.now result }
 {
     StationView {
         name: known.name.as_str(),
@@ -73,7 +73,7 @@ fn is_there(presence: Presence) -> bool
 {
     match presence {
         Presence::Untried | Presence::Away => false,
-        Presence::There | Presence::Heard => true,
+        Presence::There | Presence::Receiving => true,
     }
 }
 

@@ -8,7 +8,7 @@ ghost use Rattle.record.specs.Recording.{Hears, IsKept, Puts, log_of, told_first
 use crate::pen::Pen;
 use crate::sheet::Sheet;
 use gateway::{Action, Gateway, Next, Port};
-use live::{Notice, Sight, Watched};
+use live::{EndsSight, Notice, Watched};
 
 /// A port that passes each event and each action of another one on unchanged, and writes them down.
 /// Once the record is over they pass unwritten. Where the sheet tells what it took and what it
@@ -100,7 +100,7 @@ impl<P: Watched + Drop, W: Sheet + Drop> Watched for Recorder<P, W> {
 
     ghost failure = { λ r. P.failure r.port };
 
-    fn sight(&self) -> Sight {
+    fn sight(&self) -> EndsSight {
         self.port.sight()
     }
 

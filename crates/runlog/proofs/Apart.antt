@@ -155,9 +155,9 @@ small refusal.NoPlace h = none
 
 -- ---- the law
 
-pub told_apart : (a b : Refusal) → age_of a < 2 ^ 64 → age_of b < 2 ^ 64
+pub words_apart : (a b : Refusal) → age_of a < 2 ^ 64 → age_of b < 2 ^ 64
     → rule_words a ≡ rule_words b → in_seconds a ≡ in_seconds b
-told_apart a b young_a young_b same =
+words_apart a b young_a young_b same =
     let number : number_of a ≡ number_of b =
     sym (numbered a) ∙ ap number_in same ∙ numbered b in
     let backwards : reverse (decimal (seconds_of a)) ≡ reverse (decimal (seconds_of b)) =

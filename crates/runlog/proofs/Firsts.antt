@@ -1,4 +1,4 @@
--- The first station that has a line to be told.
+-- The first station that has a line to be logged.
 use Rattle.std.proofs.Common.{◌≡◌, ℕ, zero, suc, ◌<◌, List, [], ◌∷◌, Option, Some, None, length}
 use Rattle.std.proofs.Common.{get_or, set, take, drop, refl, ap, arith}
 use Rattle.runlog.specs.Traffic.{traffic_line, first_line, behind}

@@ -1,78 +1,82 @@
--- What is gathered is told, or counted.
+-- What is gathered is logged, or counted.
 use Rattle.std.proofs.Common.{◌≡◌, ℕ, ◌+◌, ◌-◌, ◌^◌, ◌<◌, Bool, true, false, List, [], ◌∷◌, Option}
 use Rattle.std.proofs.Common.{Some, None, min, refl, arith}
 use Rattle.std.specs.Prelude.{if◌then◌else◌}
-use Rattle.runlog.specs.Ends.{line_by as told_line}
-use Rattle.runlog.specs.Gathering.{Call, Add, Look, added, left_out, line_of, told_by, lines_in}
+use Rattle.runlog.specs.Ends.{line_by as logged_line}
+use Rattle.runlog.specs.Gathering.{GatheringCall, Add, Look, added, left_out, line_of, logged_by}
+use Rattle.runlog.specs.Gathering.{lines_in}
 use Rattle.runlog.specs.Gathering.{left_in, added_in, count_of, count_by, with_line}
-use Rattle.runlog.specs.Limits.{is_free, asked_by, AreSecondsApart, told_of}
+use Rattle.runlog.specs.Limits.{is_free, asked_by, AreSecondsApart, logged_of}
 use Rattle.runlog.specs.declared.gathered.Gathered.{Gathered}
 use Rattle.runlog.specs.declared.limit.Limit.{Limit}
 use Rattle.runlog.specs.declared.note.Note.{Note}
 use Rattle.runlog.proofs.Seconds.{second_after}
 
-Apart : List Call → Type 0
-Apart calls = (g : Gathered) → AreSecondsApart g.limit.told (lines_in g calls)
+Apart : List GatheringCall → Type 0
+Apart calls = (g : Gathered) → AreSecondsApart g.limit.logged (lines_in g calls)
 
-apart_added : (last : Option Note) (limit : Limit) (what : Note) (calls : List Call) → Apart calls
-    → AreSecondsApart limit.told (lines_in (added what (record { limit = limit; last = last }))
+apart_added : (last : Option Note) (limit : Limit) (what : Note) (calls : List GatheringCall)
+    → Apart calls
+    → AreSecondsApart limit.logged (lines_in (added what (record { limit = limit; last = last }))
     calls)
 unfolding Apart
 apart_added None limit what calls others = others (record { limit = limit; last = Some what })
 apart_added (Some before) limit what calls others =
     others (record { limit = left_out limit; last = Some what })
 
--- a line that is told, or not
-apart_looked : (b : Bool) (limit : Limit) (what : Note) (now : ℕ) (calls : List Call)
+-- a line that is logged, or not
+apart_looked : (b : Bool) (limit : Limit) (what : Note) (now : ℕ) (calls : List GatheringCall)
     → is_free limit now ≡ b
     → Apart calls
-    → AreSecondsApart limit.told
+    → AreSecondsApart limit.logged
     (with_line
-    (told_by (if b then ((asked_by b limit now).0, told_line what now (asked_by b limit now).1)
+    (logged_by (if b then ((asked_by b limit now).0, logged_line what now (asked_by b limit now).1)
     else (limit, None))
     (record { limit = limit; last = Some what })).1
     (lines_in
-    (told_by (if b then ((asked_by b limit now).0, told_line what now (asked_by b limit now).1)
+    (logged_by (if b then ((asked_by b limit now).0, logged_line what now (asked_by b limit now).1)
     else (limit, None))
     (record { limit = limit; last = Some what })).0 calls))
 unfolding Apart
 apart_looked true limit what now calls free others = (
-  second_after limit.told now free,
-  others (record { limit = record { told = Some now; left_out = 0 }; last = None }),
+  second_after limit.logged now free,
+  others (record { limit = record { logged = Some now; left_out = 0 }; last = None }),
 )
 apart_looked false limit what now calls free others =
     others (record { limit = limit; last = Some what })
 
-apart_line : (last : Option Note) (limit : Limit) (now : ℕ) (calls : List Call) → Apart calls
-    → AreSecondsApart limit.told (lines_in (record { limit = limit; last = last })
+apart_line : (last : Option Note) (limit : Limit) (now : ℕ) (calls : List GatheringCall)
+    → Apart calls
+    → AreSecondsApart limit.logged (lines_in (record { limit = limit; last = last })
     (Look now ∷ calls))
 unfolding Apart
 apart_line None limit now calls others = others (record { limit = limit; last = None })
 apart_line (Some what) limit now calls others =
     apart_looked (is_free limit now) limit what now calls refl others
 
-apart_all : (calls : List Call) → Apart calls
+apart_all : (calls : List GatheringCall) → Apart calls
 unfolding Apart
 apart_all [] g = tt
 apart_all (Add what ∷ calls) g = apart_added g.last g.limit what calls (apart_all calls)
 apart_all (Look now ∷ calls) g = apart_line g.last g.limit now calls (apart_all calls)
 
-pub apart : (calls : List Call) (g : Gathered) → AreSecondsApart g.limit.told (lines_in g calls)
+pub apart : (calls : List GatheringCall) (g : Gathered)
+    → AreSecondsApart g.limit.logged (lines_in g calls)
 unfolding Apart
 apart calls g = apart_all calls g
 
--- ---- each is told, or counted
+-- ---- each is logged, or counted
 
-Counted : List Call → Type 0
+Counted : List GatheringCall → Type 0
 Counted calls = (g : Gathered) → count_of g + added_in calls < 2 ^ 64
-    → told_of (lines_in g calls) + count_of (left_in g calls) ≡ count_of g + added_in calls
+    → logged_of (lines_in g calls) + count_of (left_in g calls) ≡ count_of g + added_in calls
 
 no_more_than : (n m : ℕ) → (n + 1) + (m + 1) < 2 ^ 64 → min (n + 1) (2 ^ 64 - 1) ≡ n + 1
 no_more_than n m small = grind (arith, small)
 
-counted_added : (last : Option Note) (limit : Limit) (what : Note) (calls : List Call)
+counted_added : (last : Option Note) (limit : Limit) (what : Note) (calls : List GatheringCall)
     → count_by last limit.left_out + (added_in calls + 1) < 2 ^ 64 → Counted calls
-    → told_of (lines_in (added what (record { limit = limit; last = last })) calls)
+    → logged_of (lines_in (added what (record { limit = limit; last = last })) calls)
     + count_of (left_in (added what (record { limit = limit; last = last })) calls)
     ≡ count_by last limit.left_out + (added_in calls + 1)
 unfolding Counted
@@ -85,35 +89,35 @@ counted_added (Some before) limit what calls small others =
     (omega (arith, small, more)) in
     omega (arith, rest, more)
 
-counted_looked : (b : Bool) (limit : Limit) (what : Note) (now : ℕ) (calls : List Call)
+counted_looked : (b : Bool) (limit : Limit) (what : Note) (now : ℕ) (calls : List GatheringCall)
     → is_free limit now ≡ b
     → (limit.left_out + 1) + added_in calls < 2 ^ 64 → Counted calls
-    → told_of
+    → logged_of
     (with_line
-    (told_by (if b then ((asked_by b limit now).0, told_line what now (asked_by b limit now).1)
+    (logged_by (if b then ((asked_by b limit now).0, logged_line what now (asked_by b limit now).1)
     else (limit, None))
     (record { limit = limit; last = Some what })).1
     (lines_in
-    (told_by (if b then ((asked_by b limit now).0, told_line what now (asked_by b limit now).1)
+    (logged_by (if b then ((asked_by b limit now).0, logged_line what now (asked_by b limit now).1)
     else (limit, None))
     (record { limit = limit; last = Some what })).0 calls))
     + count_of
     (left_in
-    (told_by (if b then ((asked_by b limit now).0, told_line what now (asked_by b limit now).1)
+    (logged_by (if b then ((asked_by b limit now).0, logged_line what now (asked_by b limit now).1)
     else (limit, None))
     (record { limit = limit; last = Some what })).0 calls)
     ≡ (limit.left_out + 1) + added_in calls
 unfolding Counted
 counted_looked true limit what now calls free small others =
-    let rest = others (record { limit = record { told = Some now; left_out = 0 }; last = None })
+    let rest = others (record { limit = record { logged = Some now; left_out = 0 }; last = None })
     (omega (arith, small)) in
     omega (arith, rest)
 counted_looked false limit what now calls free small others =
     others (record { limit = limit; last = Some what }) small
 
-counted_line : (last : Option Note) (limit : Limit) (now : ℕ) (calls : List Call)
+counted_line : (last : Option Note) (limit : Limit) (now : ℕ) (calls : List GatheringCall)
     → count_by last limit.left_out + added_in calls < 2 ^ 64 → Counted calls
-    → told_of (lines_in (record { limit = limit; last = last }) (Look now ∷ calls))
+    → logged_of (lines_in (record { limit = limit; last = last }) (Look now ∷ calls))
     + count_of (left_in (record { limit = limit; last = last }) (Look now ∷ calls))
     ≡ count_by last limit.left_out + added_in calls
 unfolding Counted
@@ -122,7 +126,7 @@ counted_line None limit now calls small others = others (record { limit = limit;
 counted_line (Some what) limit now calls small others =
     counted_looked (is_free limit now) limit what now calls refl small others
 
-counted_all : (calls : List Call) → Counted calls
+counted_all : (calls : List GatheringCall) → Counted calls
 unfolding Counted
 counted_all [] g small = omega arith
 counted_all (Add what ∷ calls) g small = counted_added g.last g.limit what calls small
@@ -130,27 +134,27 @@ counted_all (Add what ∷ calls) g small = counted_added g.last g.limit what cal
 counted_all (Look now ∷ calls) g small = counted_line g.last g.limit now calls small
     (counted_all calls)
 
-pub counted : (calls : List Call) (g : Gathered) → count_of g + added_in calls < 2 ^ 64
-    → told_of (lines_in g calls) + count_of (left_in g calls) ≡ count_of g + added_in calls
+pub counted : (calls : List GatheringCall) (g : Gathered) → count_of g + added_in calls < 2 ^ 64
+    → logged_of (lines_in g calls) + count_of (left_in g calls) ≡ count_of g + added_in calls
 unfolding Counted
 counted calls g small = counted_all calls g small
 
--- ---- the last that came is told once a second has passed
+-- ---- the last that came is logged once a second has passed
 
-told_by_last : (last : Option Note) (limit : Limit) (what : Note) (now : ℕ) → is_free limit now
+logged_by_last : (last : Option Note) (limit : Limit) (what : Note) (now : ℕ) → is_free limit now
     ≡ true
     → (line_of now (added what (record { limit = limit; last = last }))).1 ≡ Some (record {
       moment = now;
       note = what;
       left_out = (added what (record { limit = limit; last = last })).limit.left_out;
     })
-told_by_last None limit what now free = rw free refl
-told_by_last (Some before) limit what now free = rw free refl
+logged_by_last None limit what now free = rw free refl
+logged_by_last (Some before) limit what now free = rw free refl
 
-pub told : (g : Gathered) (what : Note) (now : ℕ) → is_free g.limit now ≡ true
+pub logged : (g : Gathered) (what : Note) (now : ℕ) → is_free g.limit now ≡ true
     → (line_of now (added what g)).1 ≡ Some (record {
       moment = now;
       note = what;
       left_out = (added what g).limit.left_out;
     })
-told g what now free = told_by_last g.last g.limit what now free
+logged g what now free = logged_by_last g.last g.limit what now free

@@ -1,4 +1,4 @@
--- A refusal is told as the first rule of its judgement that applies.
+-- A refusal is logged as the first rule of its judgement that applies.
 use Rattle.std.proofs.Common.{◌≡◌, ℕ, ◌-◌, ◌/◌, ◌%◌, ◌&&◌, ◌||◌, Bool, true, false, not, List, []}
 use Rattle.std.proofs.Common.{◌∷◌}
 use Rattle.std.proofs.Common.{◌++◌, slice_index, length, Option, Some, None, refl, sym, ap, ◌∙◌}
@@ -41,16 +41,16 @@ use Rattle.runlog.proofs.RulesRead.{named, single, stale, selection, place}
 
 -- ---- the words of a rule
 
-abbrev told : Option Refusal → Option (List ℕ)
-told rule = option_map rule_words rule
+abbrev worded : Option Refusal → Option (List ℕ)
+worded rule = option_map rule_words rule
 
-tag_told : (wall : Option ℕ) (v : Verdict) → rule_words (tag_rule wall v) ≡ age_words wall v
-tag_told None (verdict.Good instant) = refl
-tag_told None verdict.MarkedInvalid = refl
-tag_told None verdict.OutOfRange = refl
-tag_told None verdict.NoSuchDay = refl
-tag_told None verdict.WrongWeekday = refl
-tag_told (Some wall) (verdict.Good instant) = by (nat_le instant wall)
+tag_worded : (wall : Option ℕ) (v : Verdict) → rule_words (tag_rule wall v) ≡ age_words wall v
+tag_worded None (verdict.Good instant) = refl
+tag_worded None verdict.MarkedInvalid = refl
+tag_worded None verdict.OutOfRange = refl
+tag_worded None verdict.NoSuchDay = refl
+tag_worded None verdict.WrongWeekday = refl
+tag_worded (Some wall) (verdict.Good instant) = by (nat_le instant wall)
   where
     by : (b : Bool) → rule_words (if b then refusal.TagOld (wall - instant)
         else refusal.TagAhead (instant - wall))
@@ -58,10 +58,10 @@ tag_told (Some wall) (verdict.Good instant) = by (nat_le instant wall)
         else codes "time tag " ++ decimal ((instant - wall) / 1000) ++ codes " s in the future")
     by true = refl
     by false = refl
-tag_told (Some wall) verdict.MarkedInvalid = refl
-tag_told (Some wall) verdict.OutOfRange = refl
-tag_told (Some wall) verdict.NoSuchDay = refl
-tag_told (Some wall) verdict.WrongWeekday = refl
+tag_worded (Some wall) verdict.MarkedInvalid = refl
+tag_worded (Some wall) verdict.OutOfRange = refl
+tag_worded (Some wall) verdict.NoSuchDay = refl
+tag_worded (Some wall) verdict.WrongWeekday = refl
 
 -- the answer to a fault of its form has cause 7 or 9
 form_is : (wall : Option ℕ) (xs : List ℕ) → fault_rule (negative xs) wall xs ≡ form_rule wall xs
@@ -71,7 +71,7 @@ form_is wall xs = by (slice_index xs 2 % 64 == 6)
     by true = refl
     by false = refl
 
--- the words of what another list would tell, where one tells nothing
+-- the words that another list would give, where one gives none
 abbrev or_else : Option (List ℕ) → Option (List ℕ) → Option (List ℕ)
 or_else None other = other
 or_else (Some words) other = Some words
@@ -137,7 +137,7 @@ module _ (xs : List ℕ) (wall : Option ℕ) where
       by true true true e f =
           is ∙ ap (λ (b : Bool). Some (rule_at b (is_permitted (command_at xs)))) e
           ∙ ap (λ (b : Bool). Some (rule_at true b)) f
-          ∙ ap (λ (ws : List ℕ). Some ws) (tag_told wall (verdict_of (tag_of xs)))
+          ∙ ap (λ (ws : List ℕ). Some ws) (tag_worded wall (verdict_of (tag_of xs)))
       by true true false e f = refl
 
   -- whether its state is permitted counts only where it is one whole object
@@ -211,7 +211,7 @@ module _ (xs : List ℕ) (now : ℕ) (s : State) where
   of_kept = worded (not_selected xs now s) (codes "not selected")
       ∷ worded (no_place xs s) (codes "no place") ∷ []
 
-  kept : IsGood xs → told (admission_rule (command_at xs) now s) ≡ first_words of_kept
+  kept : IsGood xs → worded (admission_rule (command_at xs) now s) ≡ first_words of_kept
   kept g = at (lacks_selection (command_at xs) now s) (lacks_place (command_at xs) left)
       ∙ ap (λ (b : Bool). if b then Some (codes "not selected")
       else (if lacks_place (command_at xs) left then Some (codes "no place") else None))
@@ -223,7 +223,7 @@ module _ (xs : List ℕ) (now : ℕ) (s : State) where
       left = if ends_selection (command_at xs) then without_selection (command_at xs) s else s
 
       at : (a b : Bool)
-          → told (if a then Some refusal.NotSelected
+          → worded (if a then Some refusal.NotSelected
           else (if b then Some refusal.NoPlace else None))
           ≡ (if a then Some (codes "not selected")
           else (if b then Some (codes "no place") else None))
@@ -233,17 +233,17 @@ module _ (xs : List ℕ) (now : ℕ) (s : State) where
 
 -- ---- the law
 
-pub told_so : (xs : List ℕ) (now : ℕ) (wall : Option ℕ) (s : State)
-    → told (refusal_of xs now wall s) ≡ first_words (wordings xs now wall s)
+pub worded_so : (xs : List ℕ) (now : ℕ) (wall : Option ℕ) (s : State)
+    → worded (refusal_of xs now wall s) ≡ first_words (wordings xs now wall s)
 unfolding own
-told_so xs now wall s =
+worded_so xs now wall s =
     by (fault s.sizes s.stations s.max_age_ms wall xs) refl
     ∙ ap (λ (o : Option (List ℕ)). or_else o (first_words (of_kept xs now s)))
     (own_words xs wall s.sizes s.stations s.max_age_ms)
     ∙ sym (more (own xs wall s.sizes s.stations s.max_age_ms) (of_kept xs now s))
   where
     by : (f : Option ℕ) → fault s.sizes s.stations s.max_age_ms wall xs ≡ f
-        → told (rule_by f xs now wall s)
+        → worded (rule_by f xs now wall s)
         ≡ or_else (of_cause xs wall f) (first_words (of_kept xs now s))
     by (Some cause) e = refl
     by None e = kept xs now s (good s.sizes s.stations s.max_age_ms wall xs e)
@@ -261,9 +261,9 @@ text_so g s peer asdu o c why same seen first =
     ap (λ r. option_map words (rule_noted r peer o c).refused.last)
     (judged_by_another asdu g.moment (wall_now g) c.seen g.serial.commands s same seen)
     ∙ by (refusal_of asdu g.moment (wall_now g) s)
-    (told_so asdu g.moment (wall_now g) s ∙ first)
+    (worded_so asdu g.moment (wall_now g) s ∙ first)
   where
-    by : (r : Option Refusal) → told r ≡ Some why
+    by : (r : Option Refusal) → worded r ≡ Some why
         → option_map words
         (rule_noted (r, glance_of (judged asdu g.moment (wall_now g) s).1) peer o c).refused.last
         ≡ Some (order_words o ++ peer_words peer ++ codes " refused: " ++ why)

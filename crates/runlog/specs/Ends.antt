@@ -1,29 +1,29 @@
--- What is told of the line, of the door and of the connection (this gateway's own profile).
+-- What is logged of the line, of the listener and of the connection (this gateway's own profile).
 use Rattle.std.specs.Prelude.{ℕ, ◌-◌, nat_le, bytes_eq, Bool, true, false, List, [], ◌∷◌, Option}
 use Rattle.std.specs.Prelude.{Some, None, if◌then◌else◌}
 use Rattle.std.specs.declared.net.ip_addr.IpAddr.{IpAddr}
 use Rattle.std.specs.Bool.{beq}
 use Rattle.session.specs.declared.kinds.Close.{Close}
 use Rattle.session.specs.declared.kinds.Close.TheVariants as close
-use Rattle.live.specs.declared.wires.CutCause.{CutCause}
-use Rattle.live.specs.declared.wires.SentAway.{SentAway}
-use Rattle.live.specs.declared.wires.Presence.{Presence}
-use Rattle.live.specs.declared.wires.Presence.TheVariants as presence
-use Rattle.live.specs.declared.wires.Presence.TheVariants.{Untried, Away}
+use Rattle.live.specs.declared.ends.CutCause.{CutCause}
+use Rattle.live.specs.declared.ends.RefusedPeers.{RefusedPeers}
+use Rattle.live.specs.declared.ends.Presence.{Presence}
+use Rattle.live.specs.declared.ends.Presence.TheVariants as presence
+use Rattle.live.specs.declared.ends.Presence.TheVariants.{Untried, Away}
 use Rattle.runlog.specs.Limits.{asked, is_free, is_minute_after, one_more}
 use Rattle.runlog.specs.declared.limit.Limit.{Limit}
 use Rattle.runlog.specs.declared.note.LogLine.{LogLine}
 use Rattle.runlog.specs.declared.note.Note.{Note}
 use Rattle.runlog.specs.declared.note.Note.TheVariants as note
-use Rattle.runlog.specs.declared.ends.LineTold.{LineTold}
-use Rattle.runlog.specs.declared.ends.LineTold.TheVariants.{Nothing, NotThere, There, Lost}
+use Rattle.runlog.specs.declared.ends.LineLogged.{LineLogged}
+use Rattle.runlog.specs.declared.ends.LineLogged.TheVariants.{Nothing, NotThere, There, Lost}
 use Rattle.runlog.specs.declared.ends.LineWatch.{LineWatch}
-use Rattle.runlog.specs.declared.ends.DoorWatch.{DoorWatch}
+use Rattle.runlog.specs.declared.ends.ListenerWatch.{ListenerWatch}
 use Rattle.runlog.specs.declared.ends.ConnectionWatch.{ConnectionWatch}
-use Rattle.runlog.specs.declared.ends.Opening.{Opening}
+use Rattle.runlog.specs.declared.ends.OpenConnection.{OpenConnection}
 
 abbrev pub new_limit : Limit
-new_limit = record { told = None; left_out = 0 }
+new_limit = record { logged = None; left_out = 0 }
 
 abbrev pub line_by : Note → ℕ → Option ℕ → Option LogLine
 line_by what now None = None
@@ -33,7 +33,7 @@ line_by what now (Some left_out) = Some (record { moment = now; note = what; lef
 abbrev pub happened : Note → Limit → ℕ → Limit × Option LogLine
 happened what limit now = ((asked limit now).0, line_by what now (asked limit now).1)
 
--- something is in another state: a line, or it is told once a second has passed
+-- something is in another state: a line, or it is logged once a second has passed
 abbrev pub changed : Note → Limit → ℕ → Limit × Option LogLine
 changed what limit now = if is_free limit now then happened what limit now else (limit, None)
 
@@ -41,18 +41,18 @@ changed what limit now = if is_free limit now then happened what limit now else 
 
 abbrev pub new_line : LineWatch
 new_line = record {
-  told = Nothing;
+  logged = Nothing;
   there = new_limit;
   away = new_limit;
-  is_heard = false;
+  is_receiving = false;
   presence = Untried;
   since = 0;
 }
 
--- A line is told once it was tried, and that it isn't there again each minute. One that was lost is
--- there again once it has given octets, or is there for a minute.
-abbrev pub line_change : LineTold → Presence → (is_minute : Bool) → Option (LineTold × Note)
-line_change told Untried is_minute = None
+-- A line is logged once it was tried, and that it isn't there again each minute. One that was lost
+-- is there again once it has given octets, or is there for a minute.
+abbrev pub line_change : LineLogged → Presence → (is_minute : Bool) → Option (LineLogged × Note)
+line_change logged Untried is_minute = None
 line_change Nothing Away is_minute = Some (NotThere, note.LineNotThere)
 line_change NotThere Away true = Some (NotThere, note.LineNotThere)
 line_change NotThere Away false = None
@@ -60,79 +60,80 @@ line_change There Away is_minute = Some (Lost, note.LineLost)
 line_change Lost Away true = Some (Lost, note.LineNotThere)
 line_change Lost Away false = None
 line_change There presence is_minute = None
-line_change Lost presence.Heard is_minute = Some (There, note.LineReachedAgain)
+line_change Lost presence.Receiving is_minute = Some (There, note.LineReachedAgain)
 line_change Lost presence.There true = Some (There, note.LineReachedAgain)
 line_change Lost presence.There false = None
-line_change told presence is_minute = Some (There, note.LineReached)
+line_change logged presence is_minute = Some (There, note.LineReached)
 
--- it was told, or not yet
-abbrev pub line_told : LineTold → Option LogLine → LineWatch → LineWatch × Option LogLine
-line_told told None w = (w, None)
-line_told told (Some line) w = (record w { told = told }, Some line)
+-- it was logged, or not yet
+abbrev pub line_logged : LineLogged → Option LogLine → LineWatch → LineWatch × Option LogLine
+line_logged logged None w = (w, None)
+line_logged logged (Some line) w = (record w { logged = logged }, Some line)
 
 abbrev pub is_away : Presence → Bool
 is_away Away = true
 is_away presence = false
 
-abbrev pub line_tried : (is_away : Bool) → ℕ → LineTold → Note → LineWatch
+abbrev pub line_tried : (is_away : Bool) → ℕ → LineLogged → Note → LineWatch
     → LineWatch × Option LogLine
-line_tried true now told what w = line_told told (changed what w.away now).1
+line_tried true now logged what w = line_logged logged (changed what w.away now).1
     (record w { away = (changed what w.away now).0 })
-line_tried false now told what w = line_told told (changed what w.there now).1
+line_tried false now logged what w = line_logged logged (changed what w.there now).1
     (record w { there = (changed what w.there now).0 })
 
-abbrev pub line_changed : Option (LineTold × Note) → (is_away : Bool) → ℕ → LineWatch
+abbrev pub line_changed : Option (LineLogged × Note) → (is_away : Bool) → ℕ → LineWatch
     → LineWatch × Option LogLine
 line_changed None is_away now w = (w, None)
-line_changed (Some (told, what)) is_away now w = line_tried is_away now told what w
+line_changed (Some (logged, what)) is_away now w = line_tried is_away now logged what w
 
 -- A line that is there, and from which nothing has come, was away if octets had come before.
-abbrev pub seen_as : (was_heard : Bool) → Presence → Presence
+abbrev pub seen_as : (was_receiving : Bool) → Presence → Presence
 seen_as true presence.There = Away
-seen_as was_heard presence = presence
+seen_as was_receiving presence = presence
 
-abbrev pub is_heard : Presence → Bool
-is_heard presence.Heard = true
-is_heard presence = false
+abbrev pub is_receiving : Presence → Bool
+is_receiving presence.Receiving = true
+is_receiving presence = false
 
 abbrev pub is_there : Presence → Bool
 is_there presence.There = true
-is_there presence.Heard = true
+is_there presence.Receiving = true
 is_there presence = false
 
 -- how it is seen, and since when it is there or not
 abbrev pub presence_noted : Presence → ℕ → LineWatch → LineWatch
 presence_noted presence now w = record w {
-  is_heard = is_heard presence;
+  is_receiving = is_receiving presence;
   presence = presence;
   since = if beq (is_there presence) (is_there w.presence) then w.since else now;
 }
 
 abbrev pub line_seen_so : Presence → ℕ → LineWatch → LineWatch × Option LogLine
 line_seen_so presence now w =
-    line_changed (line_change w.told presence (is_minute_after w.away.told now)) (is_away presence)
+    line_changed (line_change w.logged presence (is_minute_after w.away.logged now))
+    (is_away presence)
     now (presence_noted presence now w)
 
 abbrev pub line_seen : Presence → ℕ → LineWatch → LineWatch × Option LogLine
-line_seen presence now w = line_seen_so (seen_as w.is_heard presence) now w
+line_seen presence now w = line_seen_so (seen_as w.is_receiving presence) now w
 
--- Those who aren't let in
+-- Those who are refused
 
-abbrev pub new_door : DoorWatch
-new_door = record { told = 0; limit = new_limit }
+abbrev pub new_listener : ListenerWatch
+new_listener = record { logged = 0; limit = new_limit }
 
-abbrev pub door_told : ℕ → Option LogLine → DoorWatch → DoorWatch × Option LogLine
-door_told count None w = (w, None)
-door_told count (Some line) w = (record w { told = count }, Some line)
+abbrev pub listener_logged : ℕ → Option LogLine → ListenerWatch → ListenerWatch × Option LogLine
+listener_logged count None w = (w, None)
+listener_logged count (Some line) w = (record w { logged = count }, Some line)
 
--- a line tells how many came since the one before
-abbrev pub door_tried : SentAway → ℕ → DoorWatch → DoorWatch × Option LogLine
-door_tried s now w =
-    let told = changed (note.SentAway (s.count - w.told) s.last) w.limit now in
-    door_told s.count told.1 (record w { limit = told.0 })
+-- a line says how many came since the one before
+abbrev pub listener_tried : RefusedPeers → ℕ → ListenerWatch → ListenerWatch × Option LogLine
+listener_tried s now w =
+    let logged = changed (note.RefusedPeers (s.count - w.logged) s.last) w.limit now in
+    listener_logged s.count logged.1 (record w { limit = logged.0 })
 
-abbrev pub door_seen : SentAway → ℕ → DoorWatch → DoorWatch × Option LogLine
-door_seen s now w = if nat_le s.count w.told then (w, None) else door_tried s now w
+abbrev pub listener_seen : RefusedPeers → ℕ → ListenerWatch → ListenerWatch × Option LogLine
+listener_seen s now w = if nat_le s.count w.logged then (w, None) else listener_tried s now w
 
 -- The connection
 
@@ -151,28 +152,28 @@ new_connection = record {
 abbrev pub connection_opened : Option IpAddr → ℕ → ConnectionWatch → ConnectionWatch
     × Option LogLine
 connection_opened peer now w =
-    let told = happened (note.Opened peer) w.opened now in (
+    let logged = happened (note.Opened peer) w.opened now in (
       record w {
         count = one_more w.count;
         peer = peer;
         opening = Some (record { since = now; is_started = false });
-        opened = told.0;
+        opened = logged.0;
       },
-      told.1,
+      logged.1,
     )
 
 abbrev pub connection_cut : CutCause → ℕ → ConnectionWatch → ConnectionWatch × Option LogLine
-connection_cut cause now w = let told = happened (note.Cut cause) w.cut now in
-    (record w { opening = None; cut = told.0 }, told.1)
+connection_cut cause now w = let logged = happened (note.Cut cause) w.cut now in
+    (record w { opening = None; cut = logged.0 }, logged.1)
 
 -- the one in whose place another comes is closed after that is opened
-abbrev pub open_after : Close → Option Opening → Option Opening
+abbrev pub open_after : Close → Option OpenConnection → Option OpenConnection
 open_after close.Replaced opening = opening
 open_after cause opening = None
 
 abbrev pub connection_closed : Close → ℕ → ConnectionWatch → ConnectionWatch × Option LogLine
-connection_closed cause now w = let told = happened (note.Closed cause) w.closed now in
-    (record w { opening = open_after cause w.opening; closed = told.0 }, told.1)
+connection_closed cause now w = let logged = happened (note.Closed cause) w.closed now in
+    (record w { opening = open_after cause w.opening; closed = logged.0 }, logged.1)
 
 -- STARTDT con and STOPDT con, as they go out (IEC 60870-5-104, 5.1)
 abbrev pub start_confirmed : List ℕ
@@ -181,7 +182,7 @@ start_confirmed = 104 ∷ 4 ∷ 11 ∷ 0 ∷ 0 ∷ 0 ∷ []
 abbrev pub stop_confirmed : List ℕ
 stop_confirmed = 104 ∷ 4 ∷ 35 ∷ 0 ∷ 0 ∷ 0 ∷ []
 
-abbrev pub started_so : (is_started : Bool) → Option Opening → Option Opening
+abbrev pub started_so : (is_started : Bool) → Option OpenConnection → Option OpenConnection
 started_so is_started None = None
 started_so is_started (Some opening) =
     Some (record { since = opening.since; is_started = is_started })
@@ -191,12 +192,12 @@ abbrev pub transfer_noted : (is_started : Bool) → ConnectionWatch → Connecti
 transfer_noted is_started w = record w { opening = started_so is_started w.opening }
 
 abbrev pub connection_started : ℕ → ConnectionWatch → ConnectionWatch × Option LogLine
-connection_started now w = let told = happened note.Started w.started now in
-    (record (transfer_noted true w) { started = told.0 }, told.1)
+connection_started now w = let logged = happened note.Started w.started now in
+    (record (transfer_noted true w) { started = logged.0 }, logged.1)
 
 abbrev pub connection_stopped : ℕ → ConnectionWatch → ConnectionWatch × Option LogLine
-connection_stopped now w = let told = happened note.Stopped w.stopped now in
-    (record (transfer_noted false w) { stopped = told.0 }, told.1)
+connection_stopped now w = let logged = happened note.Stopped w.stopped now in
+    (record (transfer_noted false w) { stopped = logged.0 }, logged.1)
 
 abbrev pub connection_sent : List ℕ → ℕ → ConnectionWatch → ConnectionWatch × Option LogLine
 connection_sent octets now w =

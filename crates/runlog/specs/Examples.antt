@@ -2,10 +2,10 @@
 use Rattle.std.specs.Prelude.{ℕ, List, [], ◌∷◌, ◌++◌, option_to_list, Some}
 use Rattle.ft12.specs.declared.frame.LinkSize.{LinkSize}
 use Rattle.gateway.specs.declared.counts.Counts.{Counts}
-use Rattle.live.specs.declared.wires.Presence.{Presence}
+use Rattle.live.specs.declared.ends.Presence.{Presence}
 use Rattle.runlog.specs.Ends.{line_seen}
-use Rattle.runlog.specs.Exchange.{Exchange, new_exchange}
-use Rattle.runlog.specs.Gathering.{Call, Add, Look, nothing, added, line_of}
+use Rattle.runlog.specs.Exchange.{RequestWatch, new_exchange}
+use Rattle.runlog.specs.Gathering.{GatheringCall, Add, Look, nothing, added, line_of}
 use Rattle.runlog.specs.Stations.{asked, asking_of, station_asked, standing_of}
 use Rattle.runlog.specs.Traffic.{new_traffic, suffered, traffic_line}
 use Rattle.runlog.specs.declared.fate.Mishap.{Mishap}
@@ -13,7 +13,7 @@ use Rattle.runlog.specs.declared.gathered.Gathered.{Gathered}
 use Rattle.runlog.specs.declared.order.Act.{Act}
 use Rattle.runlog.specs.declared.order.Value.{Value}
 use Rattle.runlog.specs.declared.order.Order.{Order}
-use Rattle.runlog.specs.declared.stations.Standing.{Standing}
+use Rattle.runlog.specs.declared.stations.StationStanding.{StationStanding}
 use Rattle.runlog.specs.declared.ends.LineWatch.{LineWatch}
 use Rattle.runlog.specs.declared.note.LogLine.{LogLine}
 use Rattle.runlog.specs.declared.note.Note.{Note}
@@ -40,17 +40,17 @@ order kind act ca object value =
     record { kind = kind; act = act; ca = ca; object = object; value = value }
 
 -- the lines of what is gathered
-abbrev pub lines_after : Gathered → List Call → List LogLine
+abbrev pub lines_after : Gathered → List GatheringCall → List LogLine
 lines_after g [] = []
 lines_after g (Add what ∷ calls) = lines_after (added what g) calls
 lines_after g (Look now ∷ calls) =
     option_to_list (line_of now g).1 ++ lines_after (line_of now g).0 calls
 
-abbrev pub lines_of_calls : List Call → List LogLine
+abbrev pub lines_of_calls : List GatheringCall → List LogLine
 lines_of_calls calls = lines_after nothing calls
 
 -- how a station stands after each request to it, and since when
-abbrev pub standings_of : LinkSize → List (ℕ × List ℕ) → StationWatch → List (Standing × ℕ)
+abbrev pub standings_of : LinkSize → List (ℕ × List ℕ) → StationWatch → List (StationStanding × ℕ)
 standings_of size [] w = []
 standings_of size (x ∷ xs) w =
     let v = (station_asked (asking_of x.1) x.0 w).0 in
@@ -60,8 +60,8 @@ standings_of size (x ∷ xs) w =
 abbrev pub lines_of_traffic : List (ℕ × Mishap) → Traffic → List LogLine
 lines_of_traffic [] t = []
 lines_of_traffic (x ∷ xs) t =
-    let told = traffic_line x.0 (suffered x.1 t) in
-    option_to_list told.1 ++ lines_of_traffic xs told.0
+    let logged = traffic_line x.0 (suffered x.1 t) in
+    option_to_list logged.1 ++ lines_of_traffic xs logged.0
 
 abbrev pub lines_of_mishaps : List (ℕ × Mishap) → (address : ℕ) → List LogLine
 lines_of_mishaps xs address = lines_of_traffic xs (new_traffic address)
@@ -71,7 +71,7 @@ abbrev pub two_stations : List Traffic
 two_stations = new_traffic 7 ∷ new_traffic 8 ∷ []
 
 -- the station at this place was asked last before the latest event
-abbrev pub asked_before : (place : ℕ) → Exchange
+abbrev pub asked_before : (place : ℕ) → RequestWatch
 asked_before place = record (new_exchange 150) { before = Some place }
 
 -- so many answers to commands were dropped, and so many exchanges were spoilt

@@ -1,4 +1,4 @@
--- The request that went out last, and what is heard in answer to it (IEC 60870-5-2, 5.1).
+-- The request that went out last, and what is received in answer to it (IEC 60870-5-2, 5.1).
 use Rattle.std.specs.Prelude.{ℕ, ◌+◌, ◌-◌, ◌==◌, ◌||◌, min, nat_le, Bool, false, not, List, []}
 use Rattle.std.specs.Prelude.{◌++◌, length, take, position, Option, Some, None, if◌then◌else◌}
 use Rattle.std.specs.List.{slice_range}
@@ -19,8 +19,8 @@ use Rattle.asdu.specs.declared.sizes.Sizes.{Sizes}
 use Rattle.runlog.specs.Orders.{octet}
 use Rattle.runlog.specs.Stations.{control_place}
 use Rattle.runlog.specs.Traffic.{reported, ended}
-use Rattle.runlog.specs.declared.exchange.Awaited.{Awaited}
-use Rattle.runlog.specs.declared.exchange.Awaited.TheVariants as awaited
+use Rattle.runlog.specs.declared.exchange.AwaitedAnswer.{AwaitedAnswer}
+use Rattle.runlog.specs.declared.exchange.AwaitedAnswer.TheVariants as awaited
 use Rattle.runlog.specs.declared.fate.CommandFate.TheVariants as fate
 use Rattle.runlog.specs.declared.traffic.Traffic.{Traffic}
 
@@ -28,16 +28,16 @@ use Rattle.runlog.specs.declared.traffic.Traffic.{Traffic}
 -- latest event; when it was asked; how long an answer is awaited, in ms; the place of the station
 -- that was asked before it, where that exchange had lasted so long; what is awaited of it; and the
 -- octets that came since
-pub record Exchange : Type 0 where
+pub record RequestWatch : Type 0 where
   pub place : Option ℕ
   pub before : Option ℕ
   pub since : ℕ
   pub answer_ms : ℕ
   pub overdue : Option ℕ
-  pub awaited : Awaited
+  pub awaited : AwaitedAnswer
   pub octets : List ℕ
 
-abbrev pub new_exchange : (answer_ms : ℕ) → Exchange
+abbrev pub new_exchange : (answer_ms : ℕ) → RequestWatch
 new_exchange answer_ms = record {
   place = None;
   before = None;
@@ -49,11 +49,11 @@ new_exchange answer_ms = record {
 }
 
 -- an event begins
-abbrev pub begun : Exchange → Exchange
+abbrev pub begun : RequestWatch → RequestWatch
 begun e = record e { before = e.place }
 
 -- by the control octet of a request: a poll for class 1 or 2, or user data that are confirmed
-abbrev pub awaited_by : (control : ℕ) → Awaited
+abbrev pub awaited_by : (control : ℕ) → AwaitedAnswer
 awaited_by control =
     if not (is_primary control) then awaited.Nothing
     else if function_code control == primary_code function.Class1
@@ -61,14 +61,14 @@ awaited_by control =
     else if function_code control == primary_code function.UserData then awaited.Command
     else awaited.Nothing
 
-abbrev pub awaited_of : List ℕ → Awaited
+abbrev pub awaited_of : List ℕ → AwaitedAnswer
 awaited_of request = awaited_by (octet request (control_place request))
 
 -- an exchange is over without an answer once it has lasted for answer_ms (5.1)
-abbrev pub is_over : (now : ℕ) → Exchange → Bool
+abbrev pub is_over : (now : ℕ) → RequestWatch → Bool
 is_over now e = nat_le e.answer_ms (now - e.since)
 
-abbrev pub asked : Option ℕ → Awaited → (now : ℕ) → Exchange → Exchange
+abbrev pub asked : Option ℕ → AwaitedAnswer → (now : ℕ) → RequestWatch → RequestWatch
 asked place what now e = record e {
   place = place;
   since = now;
@@ -91,31 +91,31 @@ user_data size request =
 -- ---- What comes
 
 -- as many octets as a frame has, while an answer is awaited
-abbrev pub received_by : Awaited → List ℕ → Exchange → Exchange
+abbrev pub received_by : AwaitedAnswer → List ℕ → RequestWatch → RequestWatch
 received_by awaited.Nothing octets e = e
 received_by what octets e = record e { octets = e.octets ++ take (261 - length e.octets) octets }
 
-abbrev pub received : List ℕ → Exchange → Exchange
+abbrev pub received : List ℕ → RequestWatch → RequestWatch
 received octets e = received_by e.awaited octets e
 
 -- the exchange is over
-abbrev pub over : Exchange → Exchange
+abbrev pub over : RequestWatch → RequestWatch
 over e = record e { awaited = awaited.Nothing }
 
-abbrev pub heard_by : (station : ℕ) → Asked → Front → Option (Option Answer)
-heard_by station request (front.Whole frame n) = Some (answer_of station request frame)
-heard_by station request front.More = None
-heard_by station request (front.Never place why) = Some None
+abbrev pub answered_by : (station : ℕ) → Asked → Front → Option (Option Answer)
+answered_by station request (front.Whole frame n) = Some (answer_of station request frame)
+answered_by station request front.More = None
+answered_by station request (front.Never place why) = Some None
 
--- What is heard of the station in answer: nothing yet; or an answer, or that none can come.
-abbrev pub answer_by : Awaited → LinkSize → (station : ℕ) → List ℕ → Option (Option Answer)
+-- What is received of the station in answer: nothing yet; or an answer, or that none can come.
+abbrev pub answer_by : AwaitedAnswer → LinkSize → (station : ℕ) → List ℕ → Option (Option Answer)
 answer_by awaited.Nothing size station octets = None
 answer_by awaited.Poll size station octets =
-    heard_by station (Counted false Class2) (front_of size octets)
+    answered_by station (Counted false Class2) (front_of size octets)
 answer_by awaited.Command size station octets =
-    heard_by station (Counted false (Command [])) (front_of size octets)
+    answered_by station (Counted false (Command [])) (front_of size octets)
 
-abbrev pub answer_in : LinkSize → (station : ℕ) → Exchange → Option (Option Answer)
+abbrev pub answer_in : LinkSize → (station : ℕ) → RequestWatch → Option (Option Answer)
 answer_in size station e = answer_by e.awaited size station e.octets
 
 -- user data, or that the link is busy

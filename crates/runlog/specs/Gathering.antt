@@ -1,5 +1,5 @@
 -- Lines none of which is left out silently: what came is gathered, and the next line of its kind
--- tells the last of it, and how many came before (this gateway's own profile).
+-- says the last of it, and how many came before (this gateway's own profile).
 use Rattle.std.specs.Prelude.{ℕ, ◌+◌, List, [], ◌∷◌, Option, Some, None, is_some, if◌then◌else◌}
 use Rattle.runlog.specs.Ends.{changed, new_limit}
 use Rattle.runlog.specs.Limits.{is_minute_after, one_more}
@@ -20,13 +20,13 @@ added what g = record {
   last = Some what;
 }
 
-abbrev pub told_by : Limit × Option LogLine → Gathered → Gathered × Option LogLine
-told_by (limit, None) g = (record g { limit = limit }, None)
-told_by (limit, Some line) g = (record { limit = limit; last = None }, Some line)
+abbrev pub logged_by : Limit × Option LogLine → Gathered → Gathered × Option LogLine
+logged_by (limit, None) g = (record g { limit = limit }, None)
+logged_by (limit, Some line) g = (record { limit = limit; last = None }, Some line)
 
 abbrev pub line_by : Option Note → ℕ → Gathered → Gathered × Option LogLine
 line_by None now g = (g, None)
-line_by (Some what) now g = told_by (changed what g.limit now) g
+line_by (Some what) now g = logged_by (changed what g.limit now) g
 
 -- the line of the last that came, where a second has passed since the one before
 abbrev pub line_of : ℕ → Gathered → Gathered × Option LogLine
@@ -34,37 +34,37 @@ line_of now g = line_by g.last now g
 
 -- and where a minute has passed
 abbrev pub minute_line_of : ℕ → Gathered → Gathered × Option LogLine
-minute_line_of now g = if is_minute_after g.limit.told now then line_of now g else (g, None)
+minute_line_of now g = if is_minute_after g.limit.logged now then line_of now g else (g, None)
 
 -- ---- The law: of any calls
 
-pub data Call : Type 0 where
-  Add : Note → Call
-  Look : (now : ℕ) → Call
+pub data GatheringCall : Type 0 where
+  Add : Note → GatheringCall
+  Look : (now : ℕ) → GatheringCall
 
--- the moments at which lines were told, and how many each says that were left out before it
+-- the moments at which lines were logged, and how many each says that were left out before it
 abbrev pub with_line : Option LogLine → List (ℕ × ℕ) → List (ℕ × ℕ)
-with_line None told = told
-with_line (Some line) told = (line.moment, line.left_out) ∷ told
+with_line None logged = logged
+with_line (Some line) logged = (line.moment, line.left_out) ∷ logged
 
-abbrev pub lines_in : Gathered → List Call → List (ℕ × ℕ)
+abbrev pub lines_in : Gathered → List GatheringCall → List (ℕ × ℕ)
 lines_in g [] = []
 lines_in g (Add what ∷ calls) = lines_in (added what g) calls
 lines_in g (Look now ∷ calls) =
     with_line (line_of now g).1 (lines_in (line_of now g).0 calls)
 
-abbrev pub left_in : Gathered → List Call → Gathered
+abbrev pub left_in : Gathered → List GatheringCall → Gathered
 left_in g [] = g
 left_in g (Add what ∷ calls) = left_in (added what g) calls
 left_in g (Look now ∷ calls) = left_in (line_of now g).0 calls
 
 -- how many came
-abbrev pub added_in : List Call → ℕ
+abbrev pub added_in : List GatheringCall → ℕ
 added_in [] = 0
 added_in (Add what ∷ calls) = added_in calls + 1
 added_in (Look now ∷ calls) = added_in calls
 
--- how many are gathered and not told
+-- how many are gathered and not logged
 abbrev pub count_by : Option Note → ℕ → ℕ
 count_by None left_out = left_out
 count_by (Some what) left_out = left_out + 1

@@ -1,4 +1,4 @@
--- What is told of the commands that come from the control centre (IEC 60870-5-104, 5, for the
+-- What is logged of the commands that come from the control centre (IEC 60870-5-104, 5, for the
 -- frames; the lines are this gateway's own profile).
 use Rattle.std.specs.Prelude.{ℕ, zero, suc, ◌+◌, ◌-◌, ◌%◌, ◌==◌, ◌&&◌, nat_le, Bool, true, false}
 use Rattle.std.specs.Prelude.{List, [], ◌++◌, length, take, drop, Option, Some, None, if◌then◌else◌}
@@ -77,7 +77,7 @@ asdu_by (Some o) s is_closed peer asdu c = order_noted s is_closed peer asdu o c
 abbrev pub asdu_noted : State → (is_closed : Bool) → Option IpAddr → List ℕ → Orders → Orders
 asdu_noted s is_closed peer asdu c = asdu_by (order_of tcp asdu) s is_closed peer asdu c
 
--- ---- APDUs, of which the second octet tells how many octets follow
+-- ---- APDUs, of which the second octet says how many octets follow
 
 abbrev pub apdu_len : List ℕ → ℕ
 apdu_len octets = octet octets 1 + 2
@@ -109,21 +109,21 @@ judged_by (orders, rest) s b = record {
   orders = record orders { seen = glance_of s.serial.commands };
 }
 
--- the commands of the step are told of, and what the next judgement looks at is seen
+-- the commands of the step are logged, and what the next judgement looks at is seen
 abbrev pub judged : State → Option IpAddr → Inbox → Inbox
 judged s peer b = judged_by (all_noted (length b.octets) s b.is_closed peer b.octets b.orders) s b
 
 abbrev pub refused_line : ℕ → Orders → Orders × Option LogLine
 refused_line now c =
-    let told = gathering.line_of now c.refused in (record c { refused = told.0 }, told.1)
+    let logged = gathering.line_of now c.refused in (record c { refused = logged.0 }, logged.1)
 
 abbrev pub unless_ordered : Gathered × Option LogLine → ℕ → Orders → Orders × Option LogLine
 unless_ordered (ordered, Some line) now c = (record c { ordered = ordered }, Some line)
 unless_ordered (ordered, None) now c = refused_line now (record c { ordered = ordered })
 
--- a line of the commands that came, if one is to be told
+-- a line of the commands that came, if one is to be logged
 abbrev pub orders_line : ℕ → Orders → Orders × Option LogLine
 orders_line now c = unless_ordered (gathering.line_of now c.ordered) now c
 
 abbrev pub line_of : ℕ → Inbox → Inbox × Option LogLine
-line_of now b = let told = orders_line now b.orders in (record b { orders = told.0 }, told.1)
+line_of now b = let logged = orders_line now b.orders in (record b { orders = logged.0 }, logged.1)

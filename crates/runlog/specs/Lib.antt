@@ -11,6 +11,6 @@ pub mod Stations
 pub mod Traffic
 pub mod Exchange
 pub mod Watching
-pub mod Telling
+pub mod Logging
 pub mod Examples
 pub mod Names

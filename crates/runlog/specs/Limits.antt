@@ -3,26 +3,26 @@ use Rattle.std.specs.Prelude.{ℕ, ◌+◌, ◌-◌, ◌^◌, ◌≤◌, min, na
 use Rattle.std.specs.Prelude.{Option, Some, None}
 use Rattle.runlog.specs.declared.limit.Limit.{Limit}
 
--- none was told yet, or the last one a second ago
+-- none was logged yet, or the last one a second ago
 abbrev pub is_free_after : Option ℕ → ℕ → Bool
 is_free_after None now = true
-is_free_after (Some told) now = nat_le 1000 (now - told)
+is_free_after (Some logged) now = nat_le 1000 (now - logged)
 
 abbrev pub is_free : Limit → ℕ → Bool
-is_free limit now = is_free_after limit.told now
+is_free limit now = is_free_after limit.logged now
 
--- a minute has passed since a line was told, if one was
+-- a minute has passed since a line was logged, if one was
 abbrev pub is_minute_after : Option ℕ → ℕ → Bool
 is_minute_after None now = true
-is_minute_after (Some told) now = nat_le 60000 (now - told)
+is_minute_after (Some logged) now = nat_le 60000 (now - logged)
 
 -- a number that stays at the greatest of its type
 abbrev pub one_more : ℕ → ℕ
 one_more n = min (n + 1) (2 ^ 64 - 1)
 
--- a line that is told says how many were left out before it
+-- a line that is logged says how many were left out before it
 abbrev pub asked_by : Bool → Limit → ℕ → Limit × Option ℕ
-asked_by true limit now = (record { told = Some now; left_out = 0 }, Some limit.left_out)
+asked_by true limit now = (record { logged = Some now; left_out = 0 }, Some limit.left_out)
 asked_by false limit now = (record limit { left_out = one_more limit.left_out }, None)
 
 abbrev pub asked : Limit → ℕ → Limit × Option ℕ
@@ -30,15 +30,15 @@ asked limit now = asked_by (is_free limit now) limit now
 
 -- The law: of any calls
 
--- the moments at which lines were told, and how many each says that were left out before it
-abbrev pub told_by : Option ℕ → ℕ → List (ℕ × ℕ) → List (ℕ × ℕ)
-told_by None now told = told
-told_by (Some left_out) now told = (now, left_out) ∷ told
+-- the moments at which lines were logged, and how many each says that were left out before it
+abbrev pub logged_by : Option ℕ → ℕ → List (ℕ × ℕ) → List (ℕ × ℕ)
+logged_by None now logged = logged
+logged_by (Some left_out) now logged = (now, left_out) ∷ logged
 
-abbrev pub told_in : Limit → List ℕ → List (ℕ × ℕ)
-told_in limit [] = []
-told_in limit (now ∷ moments) = told_by (asked limit now).1 now
-    (told_in (asked limit now).0 moments)
+abbrev pub logged_in : Limit → List ℕ → List (ℕ × ℕ)
+logged_in limit [] = []
+logged_in limit (now ∷ moments) = logged_by (asked limit now).1 now
+    (logged_in (asked limit now).0 moments)
 
 -- each line is a second after the one before
 abbrev pub IsSecondAfter : Option ℕ → ℕ → Type 0
@@ -51,9 +51,9 @@ AreSecondsApart before (line ∷ lines) = IsSecondAfter before line.0
     × AreSecondsApart (Some line.0) lines
 
 -- how many requests these lines speak of: each of itself, and of those left out before it
-abbrev pub told_of : List (ℕ × ℕ) → ℕ
-told_of [] = 0
-told_of (line ∷ lines) = (line.1 + 1) + told_of lines
+abbrev pub logged_of : List (ℕ × ℕ) → ℕ
+logged_of [] = 0
+logged_of (line ∷ lines) = (line.1 + 1) + logged_of lines
 
 -- how many were left out since the last line
 abbrev pub left_in : Limit → List ℕ → ℕ

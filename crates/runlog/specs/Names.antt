@@ -2,15 +2,15 @@
 use Rattle.std.specs.Prelude.{ℕ, ◌==◌, List, [], ◌++◌, Option, Some, None, codes, option_map}
 use Rattle.std.specs.List.{find}
 use Rattle.runlog.specs.Notes.{line_text}
-use Rattle.runlog.specs.declared.names.Name.{Name}
-use Rattle.runlog.specs.declared.names.Names.{Names}
+use Rattle.runlog.specs.declared.names.NamedStation.{NamedStation}
+use Rattle.runlog.specs.declared.names.LogNames.{LogNames}
 use Rattle.runlog.specs.declared.names.Subject.{Subject}
 use Rattle.runlog.specs.declared.names.Subject.TheVariants as subject
 use Rattle.runlog.specs.declared.note.LogLine.{LogLine}
 use Rattle.runlog.specs.declared.note.Note.{Note}
 use Rattle.runlog.specs.declared.note.Note.TheVariants as note
 
--- of what something is told
+-- what a line is about
 abbrev pub subject_of : Note → Subject
 subject_of note.LineReached = subject.Line
 subject_of note.LineReachedAgain = subject.Line
@@ -30,21 +30,21 @@ subject_of (note.Late address) = subject.Station address
 subject_of _ = subject.Other
 
 -- the name of the station with this link address, if it has one
-abbrev pub name_in : (link : ℕ) → List Name → Option (List ℕ)
+abbrev pub name_in : (link : ℕ) → List NamedStation → Option (List ℕ)
 name_in link stations = option_map (λ s. s.name.now) (find (λ s. s.link == link) stations)
 
-abbrev pub name_at : Names → Subject → Option (List ℕ)
+abbrev pub name_at : LogNames → Subject → Option (List ℕ)
 name_at names subject.Line = option_map (λ s. s.now) names.line
 name_at names (subject.Station link) = name_in link names.stations.now
 name_at names subject.Other = None
 
-abbrev pub name_for : Names → Note → Option (List ℕ)
+abbrev pub name_for : LogNames → Note → Option (List ℕ)
 name_for names note = name_at names (subject_of note)
 
 abbrev pub name_words : Option (List ℕ) → List ℕ
 name_words None = []
 name_words (Some name) = codes " [" ++ name ++ codes "]"
 
--- what stands behind the line's UTC time: the name of what it is told of is last
-abbrev pub named_text : Names → LogLine → List ℕ
+-- what stands behind the line's UTC time: the name of what it is about is last
+abbrev pub named_text : LogNames → LogLine → List ℕ
 named_text names l = line_text l ++ name_words (name_for names l.note)

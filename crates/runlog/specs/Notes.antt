@@ -5,15 +5,15 @@ use Rattle.std.specs.Net.Text.{ip_text, socket_text}
 use Rattle.std.specs.declared.net.ip_addr.IpAddr.{IpAddr}
 use Rattle.session.specs.declared.kinds.Close.{Close}
 use Rattle.session.specs.declared.kinds.Close.TheVariants as close
-use Rattle.live.specs.declared.wires.CutCause.{CutCause}
-use Rattle.live.specs.declared.wires.CutCause.TheVariants as cut
+use Rattle.live.specs.declared.ends.CutCause.{CutCause}
+use Rattle.live.specs.declared.ends.CutCause.TheVariants as cut
 use Rattle.live.specs.declared.watched.Notice.{Notice}
 use Rattle.live.specs.declared.watched.Notice.TheVariants as notices
 use Rattle.runlog.specs.OrderWords.{order_words, reason_words, fate_words, type_name}
 use Rattle.runlog.specs.declared.content.Skip.{Skip}
 use Rattle.runlog.specs.declared.content.Skip.TheVariants as skip
 use Rattle.runlog.specs.declared.note.LogLine.{LogLine}
-use Rattle.runlog.specs.declared.note.Tally.{Tally}
+use Rattle.runlog.specs.declared.note.RunCounts.{RunCounts}
 use Rattle.runlog.specs.declared.note.Trouble.{Trouble}
 use Rattle.runlog.specs.declared.note.Trouble.TheVariants as trouble
 use Rattle.runlog.specs.declared.note.Note.{Note}
@@ -54,7 +54,7 @@ notice_words notices.NotKept =
     codes "state isn't kept: what is polled now is lost if the gateway stops"
 notice_words notices.KeptAgain = codes "state is kept again"
 
-abbrev pub counts_words : Tally → List ℕ
+abbrev pub counts_words : RunCounts → List ℕ
 counts_words t =
     (codes "counts skipped " ++ decimal t.counts.skipped
     ++ codes " mirrors " ++ decimal t.counts.mirrors
@@ -66,8 +66,8 @@ abbrev pub last_words : Option IpAddr → List ℕ
 last_words None = []
 last_words (Some address) = codes ", the last at " ++ ip_text address
 
-abbrev pub sent_away_words : ℕ → Option IpAddr → List ℕ
-sent_away_words count last = (decimal count ++ codes " sent away") ++ last_words last
+abbrev pub refused_peers_words : ℕ → Option IpAddr → List ℕ
+refused_peers_words count last = (decimal count ++ codes " sent away") ++ last_words last
 
 -- why a report isn't passed on
 abbrev pub skip_words : Skip → List ℕ
@@ -102,7 +102,7 @@ words note.Started = codes "connection started"
 words note.Stopped = codes "connection stopped"
 words (note.Cut cause) = codes "connection cut: " ++ cut_words cause
 words (note.Closed cause) = codes "connection closed: " ++ close_words cause
-words (note.SentAway count last) = sent_away_words count last
+words (note.RefusedPeers count last) = refused_peers_words count last
 words (note.Asked address) = codes "station " ++ decimal address ++ codes " asked for its status"
 words (note.Up address) = codes "station " ++ decimal address ++ codes " up"
 words (note.Silent address) = codes "station " ++ decimal address ++ codes " doesn't answer"

@@ -1,4 +1,4 @@
--- What a line of the log tells of a command (IEC 60870-5-101, 7.2.6 and 7.3.2).
+-- What a line of the log says of a command (IEC 60870-5-101, 7.2.6 and 7.3.2).
 use Rattle.std.specs.Prelude.{ℕ, ◌+◌, ◌-◌, ◌*◌, ◌%◌, ◌==◌, ◌&&◌, ◌||◌, nat_le, nat_lt, Bool, List}
 use Rattle.std.specs.Prelude.{length, drop, slice_index, Option, Some, None, if◌then◌else◌}
 use Rattle.asdu.specs.Sizes.{header_len, ioa_len}

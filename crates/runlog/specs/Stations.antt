@@ -1,4 +1,4 @@
--- What is told of the stations, by the requests that go out to them (IEC 60870-5-2; the lines are
+-- What is logged of the stations, by the requests that go out to them (IEC 60870-5-2; the lines are
 -- this gateway's own profile).
 use Rattle.std.specs.Prelude.{ℕ, ◌+◌, ◌*◌, ◌==◌, nat_lt, Bool, true, false, not, List, [], ◌∷◌, map}
 use Rattle.std.specs.Prelude.{slice_get, Option, Some, None, is_none, is_some, if◌then◌else◌}
@@ -14,11 +14,11 @@ use Rattle.runlog.specs.declared.note.LogLine.{LogLine}
 use Rattle.runlog.specs.declared.note.Note.TheVariants as note
 use Rattle.runlog.specs.declared.stations.Asking.{Asking}
 use Rattle.runlog.specs.declared.stations.Asking.TheVariants.{Status, Counted, Other, Missed}
-use Rattle.runlog.specs.declared.stations.Standing.{Standing}
-use Rattle.runlog.specs.declared.stations.Standing.TheVariants as standing
-use Rattle.runlog.specs.declared.stations.StationTold.{StationTold}
-use Rattle.runlog.specs.declared.stations.StationTold.TheVariants.{Nothing, Asked, Up, Silent}
-use Rattle.runlog.specs.declared.stations.StationTold.TheVariants.{Down, Unheard}
+use Rattle.runlog.specs.declared.stations.StationStanding.{StationStanding}
+use Rattle.runlog.specs.declared.stations.StationStanding.TheVariants as standing
+use Rattle.runlog.specs.declared.stations.StationLogged.{StationLogged}
+use Rattle.runlog.specs.declared.stations.StationLogged.TheVariants.{Nothing, Asked, Up, Silent}
+use Rattle.runlog.specs.declared.stations.StationLogged.TheVariants.{Down, Unanswered}
 use Rattle.runlog.specs.declared.stations.StationWatch.{StationWatch}
 
 -- A request begins with 10, and its control octet follows, or with 68, two lengths and 68 (IEC
@@ -51,7 +51,7 @@ new_station tries address = record {
   was_up = false;
   since = 0;
   gaps = 0;
-  told = Nothing;
+  logged = Nothing;
   asked = new_limit;
   up = new_limit;
   silent = new_limit;
@@ -60,34 +60,34 @@ new_station tries address = record {
   gap = new_limit;
 }
 
-abbrev pub station_told : StationTold → Option LogLine → StationWatch → StationWatch
+abbrev pub station_logged : StationLogged → Option LogLine → StationWatch → StationWatch
     × Option LogLine
-station_told told None w = (w, None)
-station_told told (Some line) w = (record w { told = told }, Some line)
+station_logged logged None w = (w, None)
+station_logged logged (Some line) w = (record w { logged = logged }, Some line)
 
-abbrev pub told_asked : ℕ → StationWatch → StationWatch × Option LogLine
-told_asked now w = let told = changed (note.Asked w.address) w.asked now in
-    station_told Asked told.1 (record w { asked = told.0 })
+abbrev pub logged_asked : ℕ → StationWatch → StationWatch × Option LogLine
+logged_asked now w = let logged = changed (note.Asked w.address) w.asked now in
+    station_logged Asked logged.1 (record w { asked = logged.0 })
 
-abbrev pub told_up : ℕ → StationWatch → StationWatch × Option LogLine
-told_up now w = let told = changed (note.Up w.address) w.up now in
-    station_told Up told.1 (record w { up = told.0 })
+abbrev pub logged_up : ℕ → StationWatch → StationWatch × Option LogLine
+logged_up now w = let logged = changed (note.Up w.address) w.up now in
+    station_logged Up logged.1 (record w { up = logged.0 })
 
-abbrev pub told_down : ℕ → StationWatch → StationWatch × Option LogLine
-told_down now w = let told = changed (note.Down w.address) w.down now in
-    station_told Down told.1 (record w { down = told.0 })
+abbrev pub logged_down : ℕ → StationWatch → StationWatch × Option LogLine
+logged_down now w = let logged = changed (note.Down w.address) w.down now in
+    station_logged Down logged.1 (record w { down = logged.0 })
 
-abbrev pub told_silent : StationTold → ℕ → StationWatch → StationWatch × Option LogLine
-told_silent next now w = let told = changed (note.Silent w.address) w.silent now in
-    station_told next told.1 (record w { silent = told.0 })
+abbrev pub logged_silent : StationLogged → ℕ → StationWatch → StationWatch × Option LogLine
+logged_silent next now w = let logged = changed (note.Silent w.address) w.silent now in
+    station_logged next logged.1 (record w { silent = logged.0 })
 
-abbrev pub told_again : ℕ → StationWatch → StationWatch × Option LogLine
-told_again now w = let told = changed (note.Again w.address) w.again now in
-    station_told Up told.1 (record w { again = told.0 })
+abbrev pub logged_again : ℕ → StationWatch → StationWatch × Option LogLine
+logged_again now w = let logged = changed (note.Again w.address) w.again now in
+    station_logged Up logged.1 (record w { again = logged.0 })
 
-abbrev pub told_missed : ℕ → StationWatch → StationWatch × Option LogLine
-told_missed now w = let told = happened (note.Gap w.address) w.gap now in
-    (record w { gap = told.0 }, told.1)
+abbrev pub logged_missed : ℕ → StationWatch → StationWatch × Option LogLine
+logged_missed now w = let logged = happened (note.Gap w.address) w.gap now in
+    (record w { gap = logged.0 }, logged.1)
 
 -- this bit again
 abbrev pub is_again : Option Bool → Bool → Bool
@@ -119,14 +119,14 @@ abbrev pub is_unanswered : StationWatch → Bool
 is_unanswered w = nat_lt w.tries w.sent
 
 -- How a station stands. One whose status is asked is down where its link was reset before.
-abbrev pub standing_of : StationWatch → Standing
+abbrev pub standing_of : StationWatch → StationStanding
 standing_of w =
     if w.sent == 0 then standing.NotAsked
     else if is_unanswered w then standing.Silent
     else if is_some w.bit then standing.Up
     else if w.was_up then standing.Down else standing.Asked
 
-abbrev pub is_same : Standing → Standing → Bool
+abbrev pub is_same : StationStanding → StationStanding → Bool
 is_same standing.NotAsked standing.NotAsked = true
 is_same standing.Asked standing.Asked = true
 is_same standing.Up standing.Up = true
@@ -142,70 +142,70 @@ since_noted now old w =
 abbrev pub counted : Asking → ℕ → StationWatch → StationWatch
 counted asking now w = since_noted now w (counting asking w)
 
--- that it doesn't answer is told
-abbrev pub silent_by : (is_unanswered : Bool) → StationTold → ℕ → StationWatch
+-- that it doesn't answer is logged
+abbrev pub silent_by : (is_unanswered : Bool) → StationLogged → ℕ → StationWatch
     → StationWatch × Option LogLine
-silent_by true next now w = told_silent next now w
+silent_by true next now w = logged_silent next now w
 silent_by false next now w = (w, None)
 
--- and again a minute after it was told last
-abbrev pub still_silent : StationTold → ℕ → StationWatch → StationWatch × Option LogLine
-still_silent next now w = silent_by (is_minute_after w.silent.told now) next now w
+-- and again a minute after it was logged last
+abbrev pub still_silent : StationLogged → ℕ → StationWatch → StationWatch × Option LogLine
+still_silent next now w = silent_by (is_minute_after w.silent.logged now) next now w
 
-abbrev pub unheard_by : (is_unanswered : Bool) → ℕ → StationWatch → StationWatch × Option LogLine
-unheard_by true now w = still_silent Unheard now w
-unheard_by false now w = (w, None)
+abbrev pub unanswered_by : (is_unanswered : Bool) → ℕ → StationWatch → StationWatch × Option LogLine
+unanswered_by true now w = still_silent Unanswered now w
+unanswered_by false now w = (w, None)
 
 abbrev pub again_by : (is_unanswered : Bool) → ℕ → StationWatch → StationWatch × Option LogLine
 again_by true now w = still_silent Silent now w
-again_by false now w = told_again now w
+again_by false now w = logged_again now w
 
--- A station that is asked for its status is told once; one that gets counted requests is up, and
--- down once it is asked again. One that doesn't answer is told, be it up or not, again each minute,
--- and that it answers again.
-abbrev pub station_by : StationTold → Asking → ℕ → StationWatch → StationWatch × Option LogLine
-station_by Nothing Status now w = told_asked now w
-station_by Nothing (Counted bit) now w = told_up now w
-station_by Asked Status now w = silent_by (is_unanswered w) Unheard now w
-station_by Asked (Counted bit) now w = told_up now w
-station_by Down Status now w = silent_by (is_unanswered w) Unheard now w
-station_by Down (Counted bit) now w = told_up now w
-station_by Unheard Status now w = unheard_by (is_unanswered w) now w
-station_by Unheard (Counted bit) now w = told_up now w
+-- A station that is asked for its status is logged once; one that gets counted requests is up, and
+-- down once it is asked again. One that doesn't answer is logged, be it up or not, again each
+-- minute, and that it answers again.
+abbrev pub station_by : StationLogged → Asking → ℕ → StationWatch → StationWatch × Option LogLine
+station_by Nothing Status now w = logged_asked now w
+station_by Nothing (Counted bit) now w = logged_up now w
+station_by Asked Status now w = silent_by (is_unanswered w) Unanswered now w
+station_by Asked (Counted bit) now w = logged_up now w
+station_by Down Status now w = silent_by (is_unanswered w) Unanswered now w
+station_by Down (Counted bit) now w = logged_up now w
+station_by Unanswered Status now w = unanswered_by (is_unanswered w) now w
+station_by Unanswered (Counted bit) now w = logged_up now w
 station_by Up (Counted bit) now w = silent_by (is_unanswered w) Silent now w
 station_by Silent (Counted bit) now w = again_by (is_unanswered w) now w
-station_by Up Status now w = told_down now w
-station_by Silent Status now w = told_down now w
-station_by told Missed now w = told_missed now w
-station_by told asking now w = (w, None)
+station_by Up Status now w = logged_down now w
+station_by Silent Status now w = logged_down now w
+station_by logged Missed now w = logged_missed now w
+station_by logged asking now w = (w, None)
 
 abbrev pub station_asked : Asking → ℕ → StationWatch → StationWatch × Option LogLine
-station_asked asking now w = station_by w.told asking now (counted asking now w)
+station_asked asking now w = station_by w.logged asking now (counted asking now w)
 
 -- the station after a request to this link address, if it is its own
 abbrev pub after_request : ℕ → Asking → ℕ → StationWatch → StationWatch
 after_request address asking now w =
     if w.address == address then (station_asked asking now w).0 else w
 
--- what the station with this link address has to tell of it
+-- what the station with this link address has to log of it
 abbrev pub line_in : ℕ → Asking → ℕ → List StationWatch → Option LogLine
 line_in address asking now [] = None
 line_in address asking now (w ∷ ws) =
     if w.address == address then (station_asked asking now w).1 else line_in address asking now ws
 
--- this is asked of the station with this link address, or told of it
-abbrev pub told : ℕ → Asking → ℕ → List StationWatch → List StationWatch × Option LogLine
-told address asking now ws =
+-- this is asked of the station with this link address, or logged of it
+abbrev pub asking_logged : ℕ → Asking → ℕ → List StationWatch → List StationWatch × Option LogLine
+asking_logged address asking now ws =
     (map (after_request address asking now) ws, line_in address asking now ws)
 
 -- a request goes out to the station whose address it bears
 abbrev pub asked : LinkSize → List ℕ → ℕ → List StationWatch → List StationWatch × Option LogLine
-asked size octets now ws = told (address_of size octets) (asking_of octets) now ws
+asked size octets now ws = asking_logged (address_of size octets) (asking_of octets) now ws
 
 -- reports of the station at this place may be lost
 abbrev pub gap_at : Option StationWatch → ℕ → List StationWatch → List StationWatch × Option LogLine
 gap_at None now ws = (ws, None)
-gap_at (Some w) now ws = told w.address Missed now ws
+gap_at (Some w) now ws = asking_logged w.address Missed now ws
 
 abbrev pub gap : (place : ℕ) → ℕ → List StationWatch → List StationWatch × Option LogLine
 gap place now ws = gap_at (slice_get ws place) now ws

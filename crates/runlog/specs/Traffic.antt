@@ -1,4 +1,4 @@
--- What passes between the gateway and each station, as it is told (IEC 60870-5-101, 7.2; which
+-- What passes between the gateway and each station, as it is logged (IEC 60870-5-101, 7.2; which
 -- lines follow is this gateway's own profile).
 use Rattle.std.specs.Prelude.{ℕ, ◌%◌, ◌==◌, ◌||◌, nat_le, Bool, List, [], ◌∷◌, ◌++◌, map, Option}
 use Rattle.std.specs.Prelude.{Some, None, slice_index, if◌then◌else◌}
@@ -146,36 +146,38 @@ or_else (a, Some line) f = (a, Some line)
 or_else (a, None) f = f a
 
 abbrev pub sent_line : ℕ → Traffic → Traffic × Option LogLine
-sent_line now t = let told = line_of now t.sent in (record t { sent = told.0 }, told.1)
+sent_line now t = let logged = line_of now t.sent in (record t { sent = logged.0 }, logged.1)
 
 abbrev pub confirmed_line : ℕ → Traffic → Traffic × Option LogLine
 confirmed_line now t =
-    let told = line_of now t.confirmed in (record t { confirmed = told.0 }, told.1)
+    let logged = line_of now t.confirmed in (record t { confirmed = logged.0 }, logged.1)
 
 abbrev pub denied_line : ℕ → Traffic → Traffic × Option LogLine
-denied_line now t = let told = line_of now t.denied in (record t { denied = told.0 }, told.1)
+denied_line now t = let logged = line_of now t.denied in (record t { denied = logged.0 }, logged.1)
 
 abbrev pub terminated_line : ℕ → Traffic → Traffic × Option LogLine
 terminated_line now t =
-    let told = line_of now t.terminated in (record t { terminated = told.0 }, told.1)
+    let logged = line_of now t.terminated in (record t { terminated = logged.0 }, logged.1)
 
 abbrev pub failed_line : ℕ → Traffic → Traffic × Option LogLine
-failed_line now t = let told = line_of now t.failed in (record t { failed = told.0 }, told.1)
+failed_line now t = let logged = line_of now t.failed in (record t { failed = logged.0 }, logged.1)
 
 abbrev pub skips_line : ℕ → Traffic → Traffic × Option LogLine
-skips_line now t = let told = minute_line_of now t.skips in (record t { skips = told.0 }, told.1)
+skips_line now t = let logged = minute_line_of now t.skips in
+    (record t { skips = logged.0 }, logged.1)
 
 abbrev pub mirrors_line : ℕ → Traffic → Traffic × Option LogLine
 mirrors_line now t =
-    let told = minute_line_of now t.mirrors in (record t { mirrors = told.0 }, told.1)
+    let logged = minute_line_of now t.mirrors in (record t { mirrors = logged.0 }, logged.1)
 
 abbrev pub spoilt_line : ℕ → Traffic → Traffic × Option LogLine
-spoilt_line now t = let told = minute_line_of now t.spoilt in (record t { spoilt = told.0 }, told.1)
+spoilt_line now t = let logged = minute_line_of now t.spoilt in
+    (record t { spoilt = logged.0 }, logged.1)
 
 abbrev pub late_line : ℕ → Traffic → Traffic × Option LogLine
-late_line now t = let told = minute_line_of now t.late in (record t { late = told.0 }, told.1)
+late_line now t = let logged = minute_line_of now t.late in (record t { late = logged.0 }, logged.1)
 
--- the first of its kinds that are told once a minute that has a line to be told now
+-- the first of its kinds that are logged once a minute that has a line to be logged now
 abbrev pub minute_line : ℕ → Traffic → Traffic × Option LogLine
 minute_line now t =
     or_else (skips_line now t) (λ t. or_else (mirrors_line now t) (λ t. or_else (spoilt_line now t)
@@ -192,11 +194,11 @@ abbrev pub first_by : Traffic × Option LogLine → List Traffic → List Traffi
 first_by (t, Some line) ts rest = (t ∷ ts, Some line)
 first_by (t, None) ts rest = (t ∷ rest.0, rest.1)
 
--- the first station that has a line to be told now
+-- the first station that has a line to be logged now
 abbrev pub first_line : ℕ → List Traffic → List Traffic × Option LogLine
 first_line now [] = ([], None)
 first_line now (t ∷ ts) = first_by (traffic_line now t) ts (first_line now ts)
 
 -- what stands behind others
 abbrev pub behind : List Traffic → List Traffic × Option LogLine → List Traffic × Option LogLine
-behind front told = (front ++ told.0, told.1)
+behind front logged = (front ++ logged.0, logged.1)

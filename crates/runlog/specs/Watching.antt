@@ -14,23 +14,23 @@ use Rattle.gateway.specs.declared.ports.Next.TheVariants as next
 use Rattle.gateway.specs.declared.settings.Station.{Station}
 use Rattle.live.specs.declared.watched.Failure.{Failure}
 use Rattle.live.specs.declared.watched.Failure.TheVariants as failure
-use Rattle.live.specs.declared.watched.Sight.{Sight}
-use Rattle.live.specs.declared.wires.Presence.TheVariants.{Away}
-use Rattle.runlog.specs.Ends.{new_limit, changed, new_line, new_door, new_connection, line_seen}
-use Rattle.runlog.specs.Ends.{door_seen, connection_opened, connection_cut, connection_sent}
+use Rattle.live.specs.declared.watched.EndsSight.{EndsSight}
+use Rattle.live.specs.declared.ends.Presence.TheVariants.{Away}
+use Rattle.runlog.specs.Ends.{new_limit, changed, new_line, new_listener, new_connection, line_seen}
+use Rattle.runlog.specs.Ends.{listener_seen, connection_opened, connection_cut, connection_sent}
 use Rattle.runlog.specs.Ends.{connection_closed}
 use Rattle.runlog.specs.Inbox as inbox
 use Rattle.runlog.specs.Inbox.{Inbox, new_inbox}
 use Rattle.asdu.specs.declared.sizes.Sizes.{Sizes}
 use Rattle.link.specs.declared.answer.Answer.{Answer}
 use Rattle.runlog.specs.Exchange as exchange
-use Rattle.runlog.specs.Exchange.{Exchange, new_exchange, begun, over, awaited_of, place_of}
+use Rattle.runlog.specs.Exchange.{RequestWatch, new_exchange, begun, over, awaited_of, place_of}
 use Rattle.runlog.specs.Exchange.{user_data, answer_in, traffic_after}
 use Rattle.runlog.specs.Orders.{order_of}
 use Rattle.runlog.specs.Traffic as traffic
 use Rattle.runlog.specs.Traffic.{new_traffics, first_line}
-use Rattle.runlog.specs.declared.exchange.Awaited.{Awaited}
-use Rattle.runlog.specs.declared.exchange.Awaited.TheVariants as awaited
+use Rattle.runlog.specs.declared.exchange.AwaitedAnswer.{AwaitedAnswer}
+use Rattle.runlog.specs.declared.exchange.AwaitedAnswer.TheVariants as awaited
 use Rattle.runlog.specs.declared.fate.Mishap.{Mishap}
 use Rattle.runlog.specs.declared.fate.Mishap.TheVariants as mishap
 use Rattle.runlog.specs.declared.order.Order.{Order}
@@ -39,12 +39,12 @@ use Rattle.runlog.specs.declared.watch.WallShown.{WallShown}
 use Rattle.runlog.specs.Stations as stations
 use Rattle.runlog.specs.Stations.{new_station}
 use Rattle.runlog.specs.declared.ends.LineWatch.{LineWatch}
-use Rattle.runlog.specs.declared.ends.DoorWatch.{DoorWatch}
+use Rattle.runlog.specs.declared.ends.ListenerWatch.{ListenerWatch}
 use Rattle.runlog.specs.declared.ends.ConnectionWatch.{ConnectionWatch}
 use Rattle.runlog.specs.declared.note.LogLine.{LogLine}
 use Rattle.runlog.specs.declared.note.Note.{Note}
 use Rattle.runlog.specs.declared.note.Note.TheVariants as note
-use Rattle.runlog.specs.declared.note.Tally.{Tally}
+use Rattle.runlog.specs.declared.note.RunCounts.{RunCounts}
 use Rattle.runlog.specs.declared.note.Trouble.TheVariants.{StateUnusable}
 use Rattle.runlog.specs.declared.queue.QueueWatch.{QueueWatch}
 use Rattle.runlog.specs.declared.stations.StationWatch.{StationWatch}
@@ -57,15 +57,16 @@ new_queue = record { is_full = false; full = new_limit; free = new_limit }
 abbrev pub is_full : (taken places : ℕ) → Bool
 is_full taken places = nat_lt (places - taken) 3
 
-abbrev pub queue_told : (is_full : Bool) → Option LogLine → QueueWatch → QueueWatch × Option LogLine
-queue_told is_full None w = (w, None)
-queue_told is_full (Some line) w = (record w { is_full = is_full }, Some line)
+abbrev pub queue_logged : (is_full : Bool) → Option LogLine → QueueWatch → QueueWatch
+    × Option LogLine
+queue_logged is_full None w = (w, None)
+queue_logged is_full (Some line) w = (record w { is_full = is_full }, Some line)
 
 abbrev pub queue_by : (was is : Bool) → (now : ℕ) → QueueWatch → QueueWatch × Option LogLine
-queue_by false true now w = let told = changed note.QueueFull w.full now in
-    queue_told true told.1 (record w { full = told.0 })
-queue_by true false now w = let told = changed note.QueueFree w.free now in
-    queue_told false told.1 (record w { free = told.0 })
+queue_by false true now w = let logged = changed note.QueueFull w.full now in
+    queue_logged true logged.1 (record w { full = logged.0 })
+queue_by true false now w = let logged = changed note.QueueFree w.free now in
+    queue_logged false logged.1 (record w { free = logged.0 })
 queue_by true true now w = (w, None)
 queue_by false false now w = (w, None)
 
@@ -74,8 +75,8 @@ queue_seen taken places now w = queue_by w.is_full (is_full taken places) now w
 
 -- The whole
 
--- the moment of the latest event; when the queue was looked at and the counts were told last; how
--- long a link address is, and how many places the queue has; and what was told of each part
+-- the moment of the latest event; when the queue was looked at and the counts were logged last; how
+-- long a link address is, and how many places the queue has; and what was logged of each part
 pub record Watching : Type 0 where
   pub moment : ℕ
   pub looked : ℕ
@@ -83,13 +84,13 @@ pub record Watching : Type 0 where
   pub link : LinkSize
   pub places : ℕ
   pub line : LineWatch
-  pub door : DoorWatch
+  pub listener : ListenerWatch
   pub connection : ConnectionWatch
   pub queue : QueueWatch
   pub inbox : Inbox
   -- the sizes of the line's ASDUs
   pub sizes : Sizes
-  pub exchange : Exchange
+  pub exchange : RequestWatch
   -- what the gateway had counted when it was looked at last
   pub seen : Counts
   -- how many octets of the line were dropped before requests, as far as that was seen
@@ -112,7 +113,7 @@ new_watching c = record {
   link = c.line.link;
   places = c.line.queue;
   line = new_line;
-  door = new_door;
+  listener = new_listener;
   connection = new_connection;
   queue = new_queue;
   inbox = new_inbox;
@@ -127,24 +128,24 @@ new_watching c = record {
 }
 
 abbrev pub with_line : LineWatch × Option LogLine → Watching → Watching × Option LogLine
-with_line told w = (record w { line = told.0 }, told.1)
+with_line logged w = (record w { line = logged.0 }, logged.1)
 
-abbrev pub with_door : DoorWatch × Option LogLine → Watching → Watching × Option LogLine
-with_door told w = (record w { door = told.0 }, told.1)
+abbrev pub with_listener : ListenerWatch × Option LogLine → Watching → Watching × Option LogLine
+with_listener logged w = (record w { listener = logged.0 }, logged.1)
 
 abbrev pub with_connection : ConnectionWatch × Option LogLine → Watching → Watching × Option LogLine
-with_connection told w = (record w { connection = told.0 }, told.1)
+with_connection logged w = (record w { connection = logged.0 }, logged.1)
 
 abbrev pub with_stations : List StationWatch × Option LogLine → Watching → Watching × Option LogLine
-with_stations told w = (record w { stations = told.0 }, told.1)
+with_stations logged w = (record w { stations = logged.0 }, logged.1)
 
--- the door is seen, unless the line had something to tell: an event has one line at most
-abbrev pub unless_told : Sight → Watching × Option LogLine → Watching × Option LogLine
-unless_told s (w, Some line) = (w, Some line)
-unless_told s (w, None) = with_door (door_seen s.sent_away w.moment w.door) w
+-- the listener is seen, unless the line had something to log: an event has one line at most
+abbrev pub unless_logged : EndsSight → Watching × Option LogLine → Watching × Option LogLine
+unless_logged s (w, Some line) = (w, Some line)
+unless_logged s (w, None) = with_listener (listener_seen s.refused w.moment w.listener) w
 
-abbrev pub seen : Sight → Watching → Watching × Option LogLine
-seen s w = unless_told s (with_line (line_seen s.line w.moment w.line) w)
+abbrev pub seen : EndsSight → Watching → Watching × Option LogLine
+seen s w = unless_logged s (with_line (line_seen s.line w.moment w.line) w)
 
 -- an event begins
 abbrev pub at : ℕ → Watching → Watching
@@ -168,23 +169,23 @@ answered_by (Some answer) t place w = record w {
   traffic = slice_set w.traffic place (traffic_after answer w.sizes w.moment t);
 }
 
-abbrev pub station_heard_by : Option Traffic → (place : ℕ) → Watching → Watching
-station_heard_by None place w = w
-station_heard_by (Some t) place w =
+abbrev pub answer_noted_by : Option Traffic → (place : ℕ) → Watching → Watching
+answer_noted_by None place w = w
+answer_noted_by (Some t) place w =
     answered_by (answer_in w.link t.address w.exchange) t place w
 
 -- the station at this place may have answered
-abbrev pub station_heard : (place : ℕ) → Watching → Watching
-station_heard place w = station_heard_by (slice_get w.traffic place) place w
+abbrev pub answer_noted : (place : ℕ) → Watching → Watching
+answer_noted place w = answer_noted_by (slice_get w.traffic place) place w
 
-abbrev pub heard_at : Option ℕ → Watching → Watching
-heard_at None w = w
-heard_at (Some place) w = station_heard place w
+abbrev pub answer_noted_at : Option ℕ → Watching → Watching
+answer_noted_at None w = w
+answer_noted_at (Some place) w = answer_noted place w
 
 -- octets came from the line
-abbrev pub line_heard : List ℕ → Watching → Watching
-line_heard octets w =
-    heard_at w.exchange.place (record w { exchange = exchange.received octets w.exchange })
+abbrev pub line_received : List ℕ → Watching → Watching
+line_received octets w =
+    answer_noted_at w.exchange.place (record w { exchange = exchange.received octets w.exchange })
 
 abbrev pub is_repeat_by : Option StationWatch → List ℕ → Bool
 is_repeat_by None octets = false
@@ -206,11 +207,11 @@ sent_by (Some t) place octets w =
 abbrev pub command_sent : (place : ℕ) → List ℕ → Watching → Watching
 command_sent place octets w = sent_by (slice_get w.traffic place) place octets w
 
-abbrev pub sent_at : Option ℕ → Awaited → List ℕ → Watching → Watching
+abbrev pub sent_at : Option ℕ → AwaitedAnswer → List ℕ → Watching → Watching
 sent_at (Some place) awaited.Command octets w = command_sent place octets w
 sent_at place what octets w = w
 
-abbrev pub exchanged : Option ℕ → Awaited → List ℕ → (now : ℕ) → Watching → Watching
+abbrev pub exchanged : Option ℕ → AwaitedAnswer → List ℕ → (now : ℕ) → Watching → Watching
 exchanged place what octets now w =
     sent_at place what octets (record w { exchange = exchange.asked place what now w.exchange })
 
@@ -272,12 +273,12 @@ wall_of w = option_map (wall_at w.moment) w.wall
 
 -- An event, whose octets are the front of the buffer: a connection that is opened or cut; after any
 -- other the ends are seen.
-abbrev pub came : Next → List ℕ → Sight → Watching → Watching × Option LogLine
+abbrev pub came : Next → List ℕ → EndsSight → Watching → Watching × Option LogLine
 came (next.Open now) buf s w =
     with_connection (connection_opened s.peer now w.connection) (at_end now w)
 came (next.Cut now) buf s w =
     with_connection (connection_cut s.why_cut now w.connection) (at_end now w)
-came (next.Line now len) buf s w = seen s (line_heard (take len buf) (at now w))
+came (next.Line now len) buf s w = seen s (line_received (take len buf) (at now w))
 came (next.Bytes now len) buf s w = seen s (received (take len buf) (at now w))
 came (next.Tick now) buf s w = seen s (at now w)
 came (next.Wall now number) buf s w = seen s (walled now number (at now w))
@@ -285,8 +286,8 @@ came next.Fault buf s w = (w, None)
 came next.Done buf s w = (w, None)
 
 -- and what was late before it is noted first
-abbrev pub heard : Next → List ℕ → Sight → Watching → Watching × Option LogLine
-heard event buf s w = came event buf s (late_noted s.late_octets w)
+abbrev pub event_noted : Next → List ℕ → EndsSight → Watching → Watching × Option LogLine
+event_noted event buf s w = came event buf s (late_noted s.late_octets w)
 
 abbrev pub inbox_after : Close → Inbox → Inbox
 inbox_after close.Replaced b = b
@@ -305,12 +306,12 @@ put now (TcpOut octets) w = with_connection (connection_sent octets now w.connec
 put now (Closed cause) w = closed cause now w
 put now (GapOut station session) w = with_stations (stations.gap station now w.stations) w
 
--- Once a second the queue is looked at, and once a minute the counts are told.
+-- Once a second the queue is looked at, and once a minute the counts are logged.
 
 abbrev pub is_look_due : Watching → Bool
 is_look_due w = nat_le 1000 (w.moment - w.looked)
 
-abbrev pub tally : Counts → (taken : ℕ) → Watching → Tally
+abbrev pub tally : Counts → (taken : ℕ) → Watching → RunCounts
 tally counts taken w = record {
   counts = counts;
   taken = taken;
@@ -354,13 +355,13 @@ abbrev pub judged : State → Watching → Watching
 judged s w = counts_noted (counts_of s)
     (record w { inbox = inbox.judged s w.connection.peer w.inbox })
 
-abbrev pub traffic_told : Watching → Watching × Option LogLine
-traffic_told w =
-    let told = first_line w.moment w.traffic in (record w { traffic = told.0 }, told.1)
+abbrev pub traffic_logged : Watching → Watching × Option LogLine
+traffic_logged w =
+    let logged = first_line w.moment w.traffic in (record w { traffic = logged.0 }, logged.1)
 
 abbrev pub unless_inbox : Inbox × Option LogLine → Watching → Watching × Option LogLine
 unless_inbox (b, Some line) w = (record w { inbox = b }, Some line)
-unless_inbox (b, None) w = traffic_told (record w { inbox = b })
+unless_inbox (b, None) w = traffic_logged (record w { inbox = b })
 
 -- the next line of what was gathered, which is sought once a ms
 abbrev pub gathered : Watching → Watching × Option LogLine

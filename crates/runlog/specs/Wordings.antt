@@ -1,6 +1,6 @@
--- What a refused command is told as, rule by rule of its judgement (IEC 60870-5-101, 7.2.3, for the
--- causes 44 to 47; the words are this gateway's own profile). Nothing of the telling is borrowed
--- here: a law says that it tells the same.
+-- What a refused command is logged as, rule by rule of its judgement (IEC 60870-5-101, 7.2.3, for
+-- the causes 44 to 47; the words are this gateway's own profile). Nothing of the log's own words is
+-- borrowed here: a law says that they are the same.
 use Rattle.std.specs.Prelude.{ℕ, ◌-◌, ◌/◌, nat_le, List, [], ◌∷◌, ◌++◌, Option, Some, None, codes}
 use Rattle.std.specs.Prelude.{if◌then◌else◌}
 use Rattle.std.specs.Fmt.{decimal}
@@ -14,7 +14,7 @@ use Rattle.command.specs.State.{State}
 use Rattle.command.specs.declared.refusal.Refusal.{Refusal}
 use Rattle.command.specs.declared.refusal.Refusal.TheVariants as refusal
 
--- a rule, and what a command that it refuses is told as
+-- a rule, and what a command that it refuses is logged as
 pub record Wording : Type 0 where
   pub rule : Rule
   pub words : List ℕ

@@ -1,10 +1,10 @@
-//! What is told of the line, of the door and of the connection.
+//! What is logged of the line, of the listener and of the connection.
 ghost use Rattle.std.specs.Prelude.{◌≡◌};
 ghost use Rattle.runlog.specs.Ends as spec;
 
 use crate::limit::Limit;
 use crate::note::{LogLine, Note};
-use live::{CutCause, Presence, SentAway};
+use live::{CutCause, Presence, RefusedPeers};
 use session::Close;
 use std::net::IpAddr;
 
@@ -30,30 +30,30 @@ pub(crate) fn happened(note: Note, limit: &mut Limit, now: u64) -> Option<LogLin
 pub(crate) fn changed(note: Note, limit: &mut Limit, now: u64) -> Option<LogLine>
     ensures { (limit.new, result) ≡ spec.changed note limit.old now }
 {
-    // A change isn't left out. If it still holds, it is told when the second is over.
+    // A change isn't left out. If it still holds, it is logged when the second is over.
     if !limit.is_free(now) {
         return None;
     }
     happened(note, limit, now)
 }
 
-/// What was told of the line last.
+/// What was logged of the line last.
 #[derive(Clone, Copy, Debug, PartialEq, Eq)]
-pub(crate) enum LineTold {
+pub(crate) enum LineLogged {
     Nothing,
     NotThere,
     There,
     Lost,
 }
 
-/// What is told of the line.
+/// What is logged of the line.
 #[derive(Clone, Copy, Debug, PartialEq, Eq)]
 pub(crate) struct LineWatch {
-    told: LineTold,
+    logged: LineLogged,
     there: Limit,
     away: Limit,
     /// Octets had come from it when it was seen last.
-    is_heard: bool,
+    is_receiving: bool,
     /// How it was seen last, and since when it is there or not, in ms.
     presence: Presence,
     since: u64,
@@ -64,10 +64,10 @@ impl LineWatch {
         ensures { result ≡ spec.new_line }
     {
         LineWatch {
-            told: LineTold::Nothing,
+            logged: LineLogged::Nothing,
             there: Limit::new(),
             away: Limit::new(),
-            is_heard: false,
+            is_receiving: false,
             presence: Presence::Untried,
             since: 0,
         }
@@ -95,7 +95,7 @@ impl LineWatch {
             self.since = now;
         }
         self.presence = presence;
-        self.is_heard = matches!(presence, Presence::Heard);
+        self.is_receiving = matches!(presence, Presence::Receiving);
     }
 
     /// The line is seen so.
@@ -103,17 +103,17 @@ impl LineWatch {
         ensures { (self.new, result) ≡ spec.line_seen presence now self.old }
     {
         // It may go and come back between two events: then nothing has come from it any more.
-        let presence = seen_as(self.is_heard, presence);
+        let presence = seen_as(self.is_receiving, presence);
         self.note(presence, now);
         let is_minute = self.away.is_minute_after(now);
-        let (told, note) = line_change(self.told, presence, is_minute)?;
-        // A limit for each way: a line that is lost right behind its coming is told as lost.
+        let (logged, note) = line_change(self.logged, presence, is_minute)?;
+        // A limit for each way: a line that is lost right behind its coming is logged as lost.
         let line = if matches!(presence, Presence::Away) {
             changed(note, &mut self.away, now)?
         } else {
             changed(note, &mut self.there, now)?
         };
-        self.told = told;
+        self.logged = logged;
         Some(line)
     }
 }
@@ -123,86 +123,90 @@ fn is_there(presence: Presence) -> bool
     ensures { result ≡ spec.is_there presence }
 {
     match presence {
-        Presence::There | Presence::Heard => true,
+        Presence::There | Presence::Receiving => true,
         Presence::Untried | Presence::Away => false,
     }
 }
 
 /// A line that is there, and from which nothing has come, was away if octets had come before.
-fn seen_as(was_heard: bool, presence: Presence) -> Presence
-    ensures { result ≡ spec.seen_as was_heard presence }
+fn seen_as(was_receiving: bool, presence: Presence) -> Presence
+    ensures { result ≡ spec.seen_as was_receiving presence }
 {
-    match (was_heard, presence) {
+    match (was_receiving, presence) {
         (true, Presence::There) => Presence::Away,
         (_, presence) => presence,
     }
 }
 
-/// What is to be told next of a line of which this was told last, and, if it was, that it isn't
+/// What is to be logged next of a line of which this was logged last, and, if it was, that it isn't
 /// there, a minute ago or not.
-fn line_change(told: LineTold, presence: Presence, is_minute: bool) -> Option<(LineTold, Note)>
-    ensures { result ≡ spec.line_change told presence is_minute }
+fn line_change(
+    logged: LineLogged,
+    presence: Presence,
+    is_minute: bool,
+) -> Option<(LineLogged, Note)>
+    ensures { result ≡ spec.line_change logged presence is_minute }
 {
-    match (told, presence) {
+    match (logged, presence) {
         (_, Presence::Untried) => None,
-        (LineTold::Nothing, Presence::Away) => Some((LineTold::NotThere, Note::LineNotThere)),
-        (LineTold::There, Presence::Away) => Some((LineTold::Lost, Note::LineLost)),
-        (LineTold::NotThere, Presence::Away) | (LineTold::Lost, Presence::Away) => {
-            is_minute.then_some((told, Note::LineNotThere))
+        (LineLogged::Nothing, Presence::Away) => Some((LineLogged::NotThere, Note::LineNotThere)),
+        (LineLogged::There, Presence::Away) => Some((LineLogged::Lost, Note::LineLost)),
+        (LineLogged::NotThere, Presence::Away) | (LineLogged::Lost, Presence::Away) => {
+            is_minute.then_some((logged, Note::LineNotThere))
         }
-        (LineTold::There, _) => None,
+        (LineLogged::There, _) => None,
         // A server that accepts and closes is reached at each try, and nothing comes from it.
-        (LineTold::Lost, Presence::There) if !is_minute => None,
-        (LineTold::Lost, _) => Some((LineTold::There, Note::LineReachedAgain)),
-        (LineTold::Nothing, _) | (LineTold::NotThere, _) => {
-            Some((LineTold::There, Note::LineReached))
+        (LineLogged::Lost, Presence::There) if !is_minute => None,
+        (LineLogged::Lost, _) => Some((LineLogged::There, Note::LineReachedAgain)),
+        (LineLogged::Nothing, _) | (LineLogged::NotThere, _) => {
+            Some((LineLogged::There, Note::LineReached))
         }
     }
 }
 
-/// What is told of those who aren't let in.
+/// What is logged of those who are refused.
 #[derive(Clone, Copy, Debug, PartialEq, Eq)]
-pub(crate) struct DoorWatch {
-    /// Of how many it was told.
-    told: u64,
+pub(crate) struct ListenerWatch {
+    /// How many of them were logged.
+    logged: u64,
     limit: Limit,
 }
 
-impl DoorWatch {
-    pub(crate) fn new() -> DoorWatch
-        ensures { result ≡ spec.new_door }
+impl ListenerWatch {
+    pub(crate) fn new() -> ListenerWatch
+        ensures { result ≡ spec.new_listener }
     {
-        DoorWatch {
-            told: 0,
+        ListenerWatch {
+            logged: 0,
             limit: Limit::new(),
         }
     }
 
-    /// So many weren't let in.
-    pub(crate) fn see(&mut self, sent_away: SentAway, now: u64) -> Option<LogLine>
-        ensures { (self.new, result) ≡ spec.door_seen sent_away now self.old }
+    /// So many were refused.
+    pub(crate) fn see(&mut self, refused: RefusedPeers, now: u64) -> Option<LogLine>
+        ensures { (self.new, result) ≡ spec.listener_seen refused now self.old }
     {
         // The count only grows, so the difference is those who came since.
-        if sent_away.count <= self.told {
+        if refused.count <= self.logged {
             return None;
         }
-        let more = sent_away.count - self.told;
-        let line = changed(Note::SentAway(more, sent_away.last), &mut self.limit, now)?;
-        self.told = sent_away.count;
+        let more = refused.count - self.logged;
+        let line = changed(Note::RefusedPeers(more, refused.last), &mut self.limit, now)?;
+        self.logged = refused.count;
         Some(line)
     }
 }
 
 /// The connection that is open.
 #[derive(Clone, Copy, Debug, PartialEq, Eq)]
-pub struct Opening {
+pub struct OpenConnection {
     /// When it was opened, in ms.
     pub since: u64,
     /// STARTDT con has gone out on it, and no STOPDT con after that.
     pub is_started: bool,
 }
 
-/// What is told of the connection.
+/// What is logged of the connection.
 #[derive(Clone, Copy, Debug, PartialEq, Eq)]
 pub(crate) struct ConnectionWatch {
     /// How many were opened.
@@ -210,7 +214,7 @@ pub(crate) struct ConnectionWatch {
     /// The address of the latest one's other end, if that is known.
     peer: Option<IpAddr>,
     /// The one that is open.
-    opening: Option<Opening>,
+    opening: Option<OpenConnection>,
     opened: Limit,
     started: Limit,
     stopped: Limit,
@@ -249,7 +253,7 @@ impl ConnectionWatch {
     }
 
     /// The one that is open.
-    pub(crate) fn opening(&self) -> Option<Opening>
+    pub(crate) fn opening(&self) -> Option<OpenConnection>
         ensures { result ≡ self.now.opening }
     {
         self.opening
@@ -261,7 +265,7 @@ impl ConnectionWatch {
     {
         self.count = self.count.saturating_add(1);
         self.peer = peer;
-        self.opening = Some(Opening {
+        self.opening = Some(OpenConnection {
             since: now,
             is_started: false,
         });
@@ -295,8 +299,8 @@ impl ConnectionWatch {
     fn start(&mut self, is_started: bool)
         ensures { self.new ≡ spec.transfer_noted is_started self.old }
     {
-        if let Some(Opening { since, .. }) = self.opening {
-            self.opening = Some(Opening { since, is_started });
+        if let Some(OpenConnection { since, .. }) = self.opening {
+            self.opening = Some(OpenConnection { since, is_started });
         }
     }
 

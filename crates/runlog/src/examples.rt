@@ -1,11 +1,11 @@
-//! What is told, by worked examples: literal octets, moments and lines.
+//! What is logged, by worked examples: literal octets, moments and lines.
 ghost use Rattle.std.specs.Prelude.{◌≡◌, ◌∷◌, [], codes, true, false, Some, None};
 ghost use Rattle.ft12.specs.declared.frame.LinkSize.TheVariants.{One, Two};
 ghost use Rattle.gateway.specs.declared.counts.Counts.{Counts};
-ghost use Rattle.live.specs.declared.wires.CutCause.TheVariants as cut;
-ghost use Rattle.live.specs.declared.wires.Presence.TheVariants.{Untried, Away, There, Heard};
+ghost use Rattle.live.specs.declared.ends.CutCause.TheVariants as cut;
+ghost use Rattle.live.specs.declared.ends.Presence.TheVariants.{Untried, Away, There, Receiving};
 ghost use Rattle.session.specs.declared.kinds.Close.TheVariants as close;
-ghost use Rattle.runlog.specs.Ends.{new_line, new_door, new_connection, door_seen};
+ghost use Rattle.runlog.specs.Ends.{new_line, new_listener, new_connection, listener_seen};
 ghost use Rattle.runlog.specs.Ends.{connection_sent};
 ghost use Rattle.asdu.specs.Sizes.{tcp};
 ghost use Rattle.command.specs.declared.refusal.Refusal.TheVariants as refusal;
@@ -21,22 +21,22 @@ ghost use Rattle.runlog.specs.declared.fate.CommandFate.TheVariants as fate;
 ghost use Rattle.runlog.specs.declared.fate.Reason.TheVariants as reason;
 ghost use Rattle.runlog.specs.declared.order.Act.TheVariants as act;
 ghost use Rattle.runlog.specs.declared.order.Value.TheVariants as value;
-ghost use Rattle.runlog.specs.declared.stations.Standing.TheVariants as standing;
+ghost use Rattle.runlog.specs.declared.stations.StationStanding.TheVariants as standing;
 ghost use Rattle.runlog.specs.Notes.{line_text, words};
 ghost use Rattle.runlog.specs.Stations.{address_of, asking_of, new_station, asked, gap};
 ghost use Rattle.runlog.specs.Stations.{standing_of};
 ghost use Rattle.runlog.specs.Traffic.{first_line};
 ghost use Rattle.runlog.specs.Watching.{Watching, counted, counts_noted, is_full, is_look_due};
 ghost use Rattle.runlog.specs.Watching.{late_noted};
-ghost use Rattle.runlog.specs.declared.exchange.Awaited.TheVariants.{Poll};
+ghost use Rattle.runlog.specs.declared.exchange.AwaitedAnswer.TheVariants.{Poll};
 ghost use Rattle.runlog.specs.declared.fate.Mishap.TheVariants as mishap;
 ghost use Rattle.runlog.specs.declared.note.Note.TheVariants as note;
 ghost use Rattle.runlog.specs.declared.note.Trouble.TheVariants as trouble;
 ghost use Rattle.runlog.specs.declared.stations.Asking.TheVariants.{Status, Counted, Other};
 
-/// What is told of stations, by the octets of requests to them (IEC 60870-5-2, 5.1.2): whose they
+/// What is logged of stations, by the octets of requests to them (IEC 60870-5-2, 5.1.2): whose they
 /// are, what they ask for, the lines of a station that is asked, reset, polled, silent, polled
-/// again and asked once more, and those of one that never answered. Another station's requests tell
+/// again and asked once more, and those of one that never answered. Another station's requests say
 /// nothing of it.
 pub fn stations_by_example()
     ensures addresses { (address_of One (0x10 ∷ 0x49 ∷ 0x07 ∷ 0x50 ∷ 0x16 ∷ []) ≡ 7)
@@ -58,8 +58,8 @@ pub fn stations_by_example()
         (new_station 2 7 ∷ [])
         ≡ at 0 (note.Asked 7) ∷ at 2000 (note.Up 7) ∷ at 4000 (note.Silent 7)
         ∷ at 64000 (note.Silent 7) ∷ at 65000 (note.Again 7) ∷ at 66000 (note.Down 7) ∷ [] }
-    // One that never answered is told, and each minute; it may be up then.
-    ensures unheard { lines_of_requests One ((0, 0x10 ∷ 0x49 ∷ 0x07 ∷ [])
+    // One that never answered is logged, and each minute; it may be up then.
+    ensures unanswered { lines_of_requests One ((0, 0x10 ∷ 0x49 ∷ 0x07 ∷ [])
         ∷ (200, 0x10 ∷ 0x49 ∷ 0x07 ∷ []) ∷ (400, 0x10 ∷ 0x49 ∷ 0x07 ∷ [])
         ∷ (60399, 0x10 ∷ 0x49 ∷ 0x07 ∷ []) ∷ (60400, 0x10 ∷ 0x49 ∷ 0x07 ∷ [])
         ∷ (60600, 0x10 ∷ 0x40 ∷ 0x07 ∷ []) ∷ (60700, 0x10 ∷ 0x7B ∷ 0x07 ∷ []) ∷ [])
@@ -72,11 +72,11 @@ pub fn stations_by_example()
         × ((gap 2 5 (new_station 2 7 ∷ [])).1 ≡ None) }
 {}
 
-/// What is told of the line, of who is sent away, of the connection, of the queue and of the
+/// What is logged of the line, of who is refused, of the connection, of the queue and of the
 /// counts, and when.
 pub fn moments_by_example()
     ensures line { lines_of_looks
-        ((0, Untried) ∷ (100, Away) ∷ (500, Away) ∷ (1000, There) ∷ (2000, Away) ∷ (3000, Heard)
+        ((0, Untried) ∷ (100, Away) ∷ (500, Away) ∷ (1000, There) ∷ (2000, Away) ∷ (3000, Receiving)
         ∷ (3500, Away) ∷ (4000, Away) ∷ []) new_line
         ≡ at 100 note.LineNotThere ∷ at 1000 note.LineReached ∷ at 2000 note.LineLost
         ∷ at 3000 note.LineReachedAgain ∷ at 3500 note.LineLost ∷ [] }
@@ -86,14 +86,14 @@ pub fn moments_by_example()
         ∷ (60009, Away) ∷ (60010, Away) ∷ (120009, There) ∷ (120010, There) ∷ []) new_line
         ≡ at 0 note.LineReached ∷ at 10 note.LineLost ∷ at 60010 note.LineNotThere
         ∷ at 120010 note.LineReachedAgain ∷ [] }
-    ensures door { ((door_seen (record { count = 3; last = None }) 7 new_door).1
-        ≡ Some (at 7 (note.SentAway 3 None)))
-        × ((door_seen (record { count = 5; last = None }) 1007
-        (door_seen (record { count = 3; last = None }) 7 new_door).0).1
-        ≡ Some (at 1007 (note.SentAway 2 None)))
-        × ((door_seen (record { count = 5; last = None }) 1006
-        (door_seen (record { count = 3; last = None }) 7 new_door).0).1 ≡ None)
-        × ((door_seen (record { count = 0; last = None }) 7 new_door).1 ≡ None) }
+    ensures listener { ((listener_seen (record { count = 3; last = None }) 7 new_listener).1
+        ≡ Some (at 7 (note.RefusedPeers 3 None)))
+        × ((listener_seen (record { count = 5; last = None }) 1007
+        (listener_seen (record { count = 3; last = None }) 7 new_listener).0).1
+        ≡ Some (at 1007 (note.RefusedPeers 2 None)))
+        × ((listener_seen (record { count = 5; last = None }) 1006
+        (listener_seen (record { count = 3; last = None }) 7 new_listener).0).1 ≡ None)
+        × ((listener_seen (record { count = 0; last = None }) 7 new_listener).1 ≡ None) }
     // STARTDT con, STOPDT con and TESTFR act (IEC 60870-5-104, 5)
     ensures connection { ((connection_sent (0x68 ∷ 0x04 ∷ 0x0B ∷ 0x00 ∷ 0x00 ∷ 0x00 ∷ []) 5
         new_connection).1 ≡ Some (at 5 note.Started))
@@ -128,7 +128,7 @@ pub fn log_lines_by_example()
         × (words (note.Opened None) ≡ codes "connection opened")
         × (words note.Started ≡ codes "connection started")
         × (words note.Stopped ≡ codes "connection stopped")
-        × (words (note.SentAway 2 None) ≡ codes "2 sent away") }
+        × (words (note.RefusedPeers 2 None) ≡ codes "2 sent away") }
     ensures stations { (words (note.Asked 7) ≡ codes "station 7 asked for its status")
         × (words (note.Silent 7) ≡ codes "station 7 doesn't answer")
         × (words (note.Again 7) ≡ codes "station 7 answers again")
@@ -169,7 +169,7 @@ pub fn log_lines_by_example()
     })) ≡ codes "counts skipped 1 mirrors 2 lost 3 spoilt 4 taken 5 of 6 connections 7" }
 {}
 
-/// What lines tell of commands: by the octets of an ASDU (IEC 60870-5-101, 7.2.6 and 7.3.2), and in
+/// What lines say of commands: by the octets of an ASDU (IEC 60870-5-101, 7.2.6 and 7.3.2), and in
 /// words; what a station answers a command by its cause octet (7.2.3); and what is gathered within
 /// a second.
 pub fn commands_by_example()
@@ -229,11 +229,11 @@ pub fn standings_by_example()
     ensures unasked { standing_of (new_station 2 7) ≡ standing.NotAsked }
 {}
 
-/// What is told of octets that were dropped before a request: they came late from the station that
-/// was asked before it, where that exchange had lasted for as long as an answer is awaited, here
-/// 150 ms. What is told of the gateway's counts: it befell the station that was asked last before
-/// the event. And the lines of what befell a station: at once, and then once a minute for each
-/// kind, with how many came before.
+/// What is logged of octets that were dropped before a request: they came late from the station
+/// that was asked before it, where that exchange had lasted for as long as an answer is awaited,
+/// here 150 ms. What is logged of the gateway's counts: it befell the station that was asked last
+/// before the event. And the lines of what befell a station: at once, and then once a minute for
+/// each kind, with how many came before.
 pub fn late_answers_by_example()
     ensures late { (request_sent (Some 1) Poll 150 (request_sent (Some 0) Poll 0
         (new_exchange 150))).overdue ≡ Some 0 }
@@ -257,7 +257,7 @@ pub fn late_answers_by_example()
       exchange = asked_before 0;
       traffic = two_stations;
     })).traffic).1 ≡ Some (at 200 (note.MirrorDropped 7)) }
-    ensures told { lines_of_mishaps ((0, mishap.Late) ∷ (100, mishap.Late) ∷ (200, mishap.Spoilt)
+    ensures logged { lines_of_mishaps ((0, mishap.Late) ∷ (100, mishap.Late) ∷ (200, mishap.Spoilt)
         ∷ (300, mishap.MirrorDropped) ∷ (60000, mishap.Late) ∷ []) 7
         ≡ at 0 (note.Late 7) ∷ at 200 (note.Spoilt 7) ∷ at 300 (note.MirrorDropped 7)
         ∷ record { moment = 60000; note = note.Late 7; left_out = 1 } ∷ [] }

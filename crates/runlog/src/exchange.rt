@@ -1,4 +1,4 @@
-//! The request that went out last, and what is heard in answer to it.
+//! The request that went out last, and what is received in answer to it.
 ghost use Rattle.std.specs.Prelude.{◌≡◌};
 ghost use Rattle.ft12.specs.Fronts.{front_of};
 ghost use Rattle.runlog.specs.Exchange as spec;
@@ -13,8 +13,8 @@ use std::marker::Model;
 
 /// What is awaited of a station.
 #[derive(Clone, Copy, Debug, PartialEq, Eq)]
-pub(crate) enum Awaited {
-    /// Nothing that is told.
+pub(crate) enum AwaitedAnswer {
+    /// Nothing that is logged.
     Nothing,
     /// The answer to a poll.
     Poll,
@@ -24,7 +24,7 @@ pub(crate) enum Awaited {
 
 /// The request that went out last.
 #[derive(Drop)]
-pub(crate) struct Exchange {
+pub(crate) struct RequestWatch {
     /// The place of its station.
     place: Option<usize>,
     /// When it went out, in ms.
@@ -36,13 +36,13 @@ pub(crate) struct Exchange {
     /// The place of the station that was asked before that request, where that exchange had lasted
     /// so long.
     overdue: Option<usize>,
-    awaited: Awaited,
+    awaited: AwaitedAnswer,
     /// What came in answer: no frame has more octets.
     octets: ArrayVec<u8, 261>,
 }
 
-impl Model for Exchange {
-    ghost use Rattle.runlog.specs.Exchange.{Exchange as Seen};
+impl Model for RequestWatch {
+    ghost use Rattle.runlog.specs.Exchange.{RequestWatch as Seen};
 
     ghost Value = { Seen };
 
@@ -58,19 +58,19 @@ impl Model for Exchange {
 }
 
 /// What is awaited after a request.
-pub(crate) fn awaited_of(request: &[u8]) -> Awaited
+pub(crate) fn awaited_of(request: &[u8]) -> AwaitedAnswer
     ensures { result ≡ spec.awaited_of request.now }
 {
     match Control::from_octet(octet(request, control_place(request))) {
         Control::Primary {
             function: PrimaryFunction::Class1 | PrimaryFunction::Class2,
             ..
-        } => Awaited::Poll,
+        } => AwaitedAnswer::Poll,
         Control::Primary {
             function: PrimaryFunction::UserData,
             ..
-        } => Awaited::Command,
-        _ => Awaited::Nothing,
+        } => AwaitedAnswer::Command,
+        _ => AwaitedAnswer::Nothing,
     }
 }
 
@@ -96,13 +96,13 @@ pub(crate) fn user_data(size: LinkSize, request: &[u8]) -> &[u8]
 }
 
 /// What these octets say in answer to a request, once they are whole, or can't be an answer.
-fn heard<'a>(
+fn answered<'a>(
     size: LinkSize,
     station: u16,
     request: &Asked,
     octets: &'a [u8],
 ) -> Option<Option<Answer<'a>>>
-    ensures { result ≡ spec.heard_by station request.now (front_of size octets.now) }
+    ensures { result ≡ spec.answered_by station request.now (front_of size octets.now) }
 {
     front_is_computed();
     match front_ref(size, octets) {
@@ -112,18 +112,18 @@ fn heard<'a>(
     }
 }
 
-impl Exchange {
+impl RequestWatch {
     /// That of a line whose answers are awaited for so long, in ms, before the first request.
-    pub(crate) fn new(answer_ms: u64) -> Exchange
+    pub(crate) fn new(answer_ms: u64) -> RequestWatch
         ensures { result ≡ spec.new_exchange answer_ms }
     {
-        Exchange {
+        RequestWatch {
             place: None,
             before: None,
             since: 0,
             answer_ms,
             overdue: None,
-            awaited: Awaited::Nothing,
+            awaited: AwaitedAnswer::Nothing,
             octets: ArrayVec::new(),
         }
     }
@@ -165,7 +165,7 @@ impl Exchange {
     }
 
     /// A request goes out to the station at this place.
-    pub(crate) fn ask(&mut self, place: Option<usize>, awaited: Awaited, now: u64)
+    pub(crate) fn ask(&mut self, place: Option<usize>, awaited: AwaitedAnswer, now: u64)
         ensures { self.new ≡ spec.asked place awaited now self.old }
     {
         self.overdue = if self.is_over(now) { self.place } else { None };
@@ -179,7 +179,7 @@ impl Exchange {
     pub(crate) fn receive(&mut self, octets: &[u8])
         ensures { self.new ≡ spec.received octets.now self.old }
     {
-        if matches!(self.awaited, Awaited::Nothing) {
+        if matches!(self.awaited, AwaitedAnswer::Nothing) {
             return;
         }
         // No frame is longer: what finds no room isn't of the answer.
@@ -187,23 +187,25 @@ impl Exchange {
         let _ = self.octets.try_extend_from_slice(&octets[..count]);
     }
 
-    /// What the station has answered, once that is heard.
+    /// What the station has answered, once that is received.
     pub(crate) fn answer(&self, size: LinkSize, station: u16) -> Option<Option<Answer<'_>>>
         ensures { result ≡ spec.answer_in size station self.now }
     {
         let request = match self.awaited {
-            Awaited::Nothing => return None,
+            AwaitedAnswer::Nothing => return None,
             // Neither the bit nor the class changes which answers fit.
-            Awaited::Poll => Asked::Counted(false, Service::Class2),
-            Awaited::Command => { Asked::Counted(false, Service::Command(CommandOctets::new(&[]))) }
+            AwaitedAnswer::Poll => Asked::Counted(false, Service::Class2),
+            AwaitedAnswer::Command => {
+                Asked::Counted(false, Service::Command(CommandOctets::new(&[])))
+            }
         };
-        heard(size, station, &request, self.octets.as_slice())
+        answered(size, station, &request, self.octets.as_slice())
     }
 
     /// The exchange is over.
     pub(crate) fn end(&mut self)
         ensures { self.new ≡ spec.over self.old }
     {
-        self.awaited = Awaited::Nothing;
+        self.awaited = AwaitedAnswer::Nothing;
     }
 }

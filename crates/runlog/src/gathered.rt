@@ -6,7 +6,7 @@ use crate::ends::changed;
 use crate::limit::Limit;
 use crate::note::{LogLine, Note};
 
-/// What came of one kind and isn't told yet: the last of it, and how many came before that since
+/// What came of one kind and isn't logged yet: the last of it, and how many came before that since
 /// the last line of the kind.
 #[derive(Clone, Copy, Debug, PartialEq, Eq)]
 pub(crate) struct Gathered {
@@ -35,7 +35,7 @@ impl Gathered {
         self.last = Some(note);
     }
 
-    /// The line of the last that came, where one is to be told and may be told now.
+    /// The line of the last that came, where one is to be logged and may be logged now.
     pub(crate) fn line(&mut self, now: u64) -> Option<LogLine>
         ensures { (self.new, result) ≡ spec.line_of now self.old }
     {

@@ -1,4 +1,4 @@
-//! What is told of the commands that come from the control centre.
+//! What is logged of the commands that come from the control centre.
 ghost use Rattle.std.specs.Prelude.{◌≡◌, ◌≤◌, ◌<◌, ◌+◌, length, drop, List, ℕ};
 ghost use Rattle.runlog.specs.Inbox as spec;
 
@@ -13,7 +13,7 @@ use gateway::Gateway;
 use std::marker::Model;
 use std::net::IpAddr;
 
-/// The commands of the connection, as they are told.
+/// The commands of the connection, as they are logged.
 #[derive(Drop)]
 pub(crate) struct Orders {
     /// What the next judgement looks at.
@@ -111,7 +111,7 @@ impl Orders {
         done
     }
 
-    /// The line of the last command that came, where one is to be told and may be told now.
+    /// The line of the last command that came, where one is to be logged and may be logged now.
     fn line(&mut self, now: u64) -> Option<LogLine>
         ensures { (self.new, result) ≡ spec.orders_line now self.old }
     {
@@ -143,7 +143,7 @@ fn is_whole(octets: &[u8]) -> bool
     2 <= octets.len() && apdu_len(octets) <= octets.len()
 }
 
-/// What came on the connection, and what is told of the commands in it.
+/// What came on the connection, and what is logged of the commands in it.
 #[derive(Drop)]
 pub(crate) struct Inbox {
     /// What came in the latest step, behind what wasn't whole before: a piece has at most 1,024
@@ -213,7 +213,7 @@ impl Inbox {
         } else {
             self.leave(done);
         }
-        // For the next step: how commands were judged is told by what stood before it
+        // For the next step: how commands were judged is decided by what stood before it
         // (docs/DECISIONS.md, "The log judges no command").
         self.orders.glance = gateway.glance();
     }
@@ -231,7 +231,7 @@ impl Inbox {
         self.octets = rest;
     }
 
-    /// The line of the last command that came, where one is to be told and may be told now.
+    /// The line of the last command that came, where one is to be logged and may be logged now.
     pub(crate) fn line(&mut self, now: u64) -> Option<LogLine>
         ensures { (self.new, result) ≡ spec.line_of now self.old }
     {

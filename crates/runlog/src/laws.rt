@@ -1,6 +1,6 @@
-//! Laws of what is told, over any calls.
+//! Laws of what is logged, over any calls.
 ghost use Rattle.std.specs.Prelude.{◌≡◌, ℕ, ◌+◌, ◌^◌, ◌<◌, List, length};
-ghost use Rattle.runlog.specs.Limits.{AreSecondsApart, left_in, told_in, told_of};
+ghost use Rattle.runlog.specs.Limits.{AreSecondsApart, left_in, logged_in, logged_of};
 ghost use Rattle.std.specs.Prelude.{true, false, Option, Some, option_map, map, ◌++◌, codes};
 ghost use Rattle.std.specs.declared.net.ip_addr.IpAddr.{IpAddr};
 ghost use Rattle.command.specs.Refusals.{refusal_of, glance_of};
@@ -14,32 +14,33 @@ ghost use Rattle.runlog.specs.Notes.{words, peer_words};
 ghost use Rattle.runlog.specs.OrderWords.{rule_words, order_words};
 ghost use Rattle.runlog.specs.Wordings.{wordings, first_words, age_of, in_seconds};
 ghost use Rattle.runlog.specs.declared.order.Order.{Order};
-ghost use Rattle.runlog.specs.Gathering.{Call, added, line_of, lines_in};
+ghost use Rattle.runlog.specs.Gathering.{GatheringCall, added, line_of, lines_in};
 ghost use Rattle.runlog.specs.Gathering.{left_in as gathered_after, added_in, count_of};
 ghost use Rattle.runlog.specs.Limits.{is_free};
 ghost use Rattle.runlog.specs.declared.gathered.Gathered.{Gathered};
 ghost use Rattle.runlog.specs.declared.limit.Limit.{Limit};
 ghost use Rattle.runlog.specs.declared.note.Note.{Note};
 
-/// Of any requests for lines of one kind, those that are told are a second apart, and each that is
-/// left out is counted by the next one that is told, or still waits for that.
+/// Of any requests for lines of one kind, those that are logged are a second apart, and each that
+/// is left out is counted by the next one that is logged, or still waits for that.
 pub fn lines_of_a_kind_are_a_second_apart()
     ensures apart { (limit : Limit) (moments : List ℕ) →
-        AreSecondsApart limit.told (told_in limit moments) }
+        AreSecondsApart limit.logged (logged_in limit moments) }
     ensures counted { (limit : Limit) (moments : List ℕ) →
         limit.left_out + length moments < 2 ^ 64 →
-        told_of (told_in limit moments) + left_in limit moments ≡ limit.left_out + length moments }
+        logged_of (logged_in limit moments) + left_in limit moments
+        ≡ limit.left_out + length moments }
 {}
 
-/// Of what is gathered nothing is left out silently: each that came is told, or counted by the line
-/// of a later one, or is still to be told. Once a second has passed since the line before, the last
-/// that came is told.
-pub fn what_is_gathered_is_told_or_counted()
-    ensures apart { (g : Gathered) (calls : List Call) →
-        AreSecondsApart g.limit.told (lines_in g calls) }
-    ensures counted { (g : Gathered) (calls : List Call) →
+/// Of what is gathered nothing is left out silently: each that came is logged, or counted by the
+/// line of a later one, or is still to be logged. Once a second has passed since the line before,
+/// the last that came is logged.
+pub fn what_is_gathered_is_logged_or_counted()
+    ensures apart { (g : Gathered) (calls : List GatheringCall) →
+        AreSecondsApart g.limit.logged (lines_in g calls) }
+    ensures counted { (g : Gathered) (calls : List GatheringCall) →
         count_of g + added_in calls < 2 ^ 64 →
-        told_of (lines_in g calls) + count_of (gathered_after g calls)
+        logged_of (lines_in g calls) + count_of (gathered_after g calls)
         ≡ count_of g + added_in calls }
     ensures last { (g : Gathered) (what : Note) (now : ℕ) → is_free g.limit now ≡ true →
         (line_of now (added what g)).1 ≡ Some (record {
@@ -49,11 +50,11 @@ pub fn what_is_gathered_is_told_or_counted()
         }) }
 {}
 
-/// Each command that is refused is told by the rule of the judgement that refuses it: the first
+/// Each command that is refused is logged by the rule of the judgement that refuses it: the first
 /// that applies, and each rule has words of its own. So is the last of those that are gathered,
-/// whatever the step looked at before. No two rules have the same words, but that the age of a
-/// time tag is told in whole seconds.
-pub fn refusals_are_told_by_their_rules()
+/// whatever the step looked at before. No two rules have the same words, but that the age of a time
+/// tag is written in whole seconds.
+pub fn refusals_are_logged_by_their_rules()
     ensures rules { (xs : List ℕ) (now : ℕ) (wall : Option ℕ) (s : State) →
         map (λ w. w.rule) (wordings xs now wall s) ≡ rules_for xs now wall s }
     ensures words { (xs : List ℕ) (now : ℕ) (wall : Option ℕ) (s : State) →

@@ -1,24 +1,24 @@
-//! What a live run tells: a line for each thing that happens, at most one a second of each kind
+//! What a live run logs: a line for each thing that happens, at most one a second of each kind
 //! (this gateway's own profile).
 //!
-//! [`RunLog`] is a port around any port: it passes each event and each action on unchanged, so
-//! what is proved of a run over a port holds of a run over it, and tells of them to a [`Sink`].
+//! [`RunLog`] is a port around any port: it passes each event and each action on unchanged, so what
+//! is proved of a run over a port holds of a run over it, and logs them to a [`LogSink`].
 //! [`StandardError`] is the sink of a process.
 //!
 //! [`Watch`] is what is known of the run, for those who show it: each station's standing, what has
 //! passed between it and the gateway, the line, and the connection. It goes on where nothing is
-//! told, if that is wanted ([`Teller::watching`]).
+//! logged, if that is wanted ([`Logger::watching`]).
 //!
 //! Proved: the run log's log, script and failures are those of the port inside; which line follows
 //! from which event or action is one small function of what has passed, of what was seen of the
 //! port's ends ([`Watch`]), and of the gateway between two steps; an event, an action or a look has
 //! one line at most; lines of one kind are a second apart, and those left out are counted
 //! ([`lines_of_a_kind_are_a_second_apart`]); of commands, and of reports that are skipped, each is
-//! told, or counted by a later line ([`what_is_gathered_is_told_or_counted`]); by which rule a
+//! logged, or counted by a later line ([`what_is_gathered_is_logged_or_counted`]); by which rule a
 //! command is refused is the judgement's own (`command::Commands::refusal_at`), and each rule has
-//! its own words ([`refusals_are_told_by_their_rules`]); a sink that takes no line any more ends
-//! the telling, and nothing else; how severe each line is ([`Note::severity`]); the words of each
-//! line, and the name behind them ([`NamedLine`]). Of all this there are literal examples
+//! its own words ([`refusals_are_logged_by_their_rules`]); a sink that takes no line any more ends
+//! the log, and nothing else; how severe each line is ([`Note::severity`]); the words of each line,
+//! and the name behind them ([`NamedLine`]). Of all this there are literal examples
 //! ([`stations_by_example`], [`standings_by_example`], [`commands_by_example`],
 //! [`moments_by_example`], [`late_answers_by_example`], [`log_lines_by_example`]). That a line's
 //! UTC time is right, and what standard error does with it, is no matter of a proof.
@@ -33,6 +33,7 @@ mod gathered;
 mod inbox;
 mod laws;
 mod limit;
+mod logger;
 mod names;
 mod note;
 mod order;
@@ -42,28 +43,27 @@ mod queue;
 mod severity;
 mod sink;
 mod stations;
-mod teller;
 mod traffic;
 mod watch;
 
 pub use content::Skip;
-pub use ends::Opening;
+pub use ends::OpenConnection;
 pub use examples::{
     commands_by_example, late_answers_by_example, log_lines_by_example, moments_by_example,
     standings_by_example, stations_by_example,
 };
 pub use fate::{CommandFate, Reason};
 pub use laws::{
-    lines_of_a_kind_are_a_second_apart, refusals_are_told_by_their_rules,
-    what_is_gathered_is_told_or_counted,
+    lines_of_a_kind_are_a_second_apart, refusals_are_logged_by_their_rules,
+    what_is_gathered_is_logged_or_counted,
 };
-pub use names::{Name, NamedLine, Names, name_of};
-pub use note::{LogLine, Note, Tally, Trouble};
+pub use logger::{Logger, taken_places};
+pub use names::{LogNames, NamedLine, NamedStation, name_of};
+pub use note::{LogLine, Note, RunCounts, Trouble};
 pub use order::{Act, Order, Value};
 pub use port::RunLog;
 pub use severity::Severity;
-pub use sink::{Sink, StandardError};
-pub use stations::{Standing, StationWatch};
-pub use teller::{Teller, taken_places};
+pub use sink::{LogSink, StandardError};
+pub use stations::{StationStanding, StationWatch};
 pub use traffic::Traffic;
 pub use watch::Watch;

@@ -5,44 +5,44 @@ ghost use Rattle.runlog.specs.Limits.{asked, is_free, is_minute_after, one_more}
 /// How long after a line the next one of its kind may follow, in ms.
 const APART_MS: u64 = 1000;
 
-/// How long after a line of what lasts it is told again, in ms.
+/// How long after a line of what lasts it is logged again, in ms.
 const MINUTE_MS: u64 = 60_000;
 
-/// When a line of a kind was told last, in ms, and how many have been left out since.
+/// When a line of a kind was logged last, in ms, and how many have been left out since.
 #[derive(Clone, Copy, Debug, PartialEq, Eq)]
 pub struct Limit {
-    told: Option<u64>,
+    logged: Option<u64>,
     left_out: u64,
 }
 
 impl Limit {
-    /// That of a kind of which no line was told yet.
+    /// That of a kind of which no line was logged yet.
     pub fn new() -> Limit
-        ensures { result ≡ record { told = None; left_out = 0 } }
+        ensures { result ≡ record { logged = None; left_out = 0 } }
     {
         Limit {
-            told: None,
+            logged: None,
             left_out: 0,
         }
     }
 
-    /// A line may be told at this moment.
+    /// A line may be logged at this moment.
     pub fn is_free(&self, now: u64) -> bool
         ensures { result ≡ is_free self.now now }
     {
-        match self.told {
+        match self.logged {
             None => true,
-            Some(told) => APART_MS <= now.saturating_sub(told),
+            Some(logged) => APART_MS <= now.saturating_sub(logged),
         }
     }
 
-    /// A minute has passed since a line was told, if one was.
+    /// A minute has passed since a line was logged, if one was.
     pub fn is_minute_after(&self, now: u64) -> bool
-        ensures { result ≡ is_minute_after self.now.told now }
+        ensures { result ≡ is_minute_after self.now.logged now }
     {
-        match self.told {
+        match self.logged {
             None => true,
-            Some(told) => MINUTE_MS <= now.saturating_sub(told),
+            Some(logged) => MINUTE_MS <= now.saturating_sub(logged),
         }
     }
 
@@ -63,7 +63,7 @@ impl Limit {
             return None;
         }
         let left_out = self.left_out;
-        self.told = Some(now);
+        self.logged = Some(now);
         self.left_out = 0;
         Some(left_out)
     }

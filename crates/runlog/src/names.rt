@@ -9,19 +9,19 @@ use std::fmt;
 
 /// What a site calls the station with this link address: up to 40 characters.
 #[derive(Clone, Copy, Debug)]
-pub struct Name<'a> {
+pub struct NamedStation<'a> {
     pub link: u16,
     pub name: &'a str,
 }
 
 /// What a site calls its line, if it has a name, and its stations.
 #[derive(Clone, Copy, Debug)]
-pub struct Names<'a> {
+pub struct LogNames<'a> {
     pub line: Option<&'a str>,
-    pub stations: &'a [Name<'a>],
+    pub stations: &'a [NamedStation<'a>],
 }
 
-/// Of what something is told.
+/// What a line is about.
 #[derive(Clone, Copy, Debug, PartialEq, Eq)]
 pub(crate) enum Subject {
     Line,
@@ -30,7 +30,7 @@ pub(crate) enum Subject {
     Other,
 }
 
-/// Of what this is told.
+/// What this is about.
 pub(crate) fn subject_of(note: &Note) -> Subject
     ensures { result ≡ spec.subject_of note.now }
 {
@@ -52,7 +52,7 @@ pub(crate) fn subject_of(note: &Note) -> Subject
 }
 
 /// The name of the station with this link address, if it has one.
-pub fn name_of<'a>(stations: &[Name<'a>], link: u16) -> Option<&'a str>
+pub fn name_of<'a>(stations: &[NamedStation<'a>], link: u16) -> Option<&'a str>
     ensures { option_map (λ s. s.now) result ≡ spec.name_in link stations.now }
 {
     match stations.iter().find(|station| station.link == link) {
@@ -61,8 +61,8 @@ pub fn name_of<'a>(stations: &[Name<'a>], link: u16) -> Option<&'a str>
     }
 }
 
-impl<'a> Names<'a> {
-    /// The name of what this is told of, if it has one.
+impl<'a> LogNames<'a> {
+    /// The name of what this is about, if that has one.
     fn name_for(&self, note: &Note) -> Option<&'a str>
         ensures { option_map (λ s. s.now) result ≡ spec.name_for self.now note.now }
     {
@@ -74,11 +74,11 @@ impl<'a> Names<'a> {
     }
 }
 
-/// A line of the log, with the name of what it is told of behind it, if that has one.
+/// A line of the log, with the name of what it is about behind it, if that has one.
 #[derive(Clone, Copy, Debug)]
 pub struct NamedLine<'l, 'n> {
     pub line: &'l LogLine,
-    pub names: Names<'n>,
+    pub names: LogNames<'n>,
 }
 
 fn write_name<W: fmt::Write>(name: Option<&str>, f: &mut fmt::Formatter<W>) -> fmt::Result

@@ -1,9 +1,9 @@
-//! What the lines tell, and their words.
+//! What the lines say, and their words.
 ghost use Rattle.std.specs.Prelude.{◌≡◌, Some};
 ghost use Rattle.std.specs.Fmt.{WritesOnOk};
 ghost use Rattle.runlog.specs.Notes.{close_words, counts_words, cut_words, late_words};
 ghost use Rattle.runlog.specs.Notes.{left_out_words, line_text, notice_words, of_station};
-ghost use Rattle.runlog.specs.Notes.{peer_words, sent_away_words};
+ghost use Rattle.runlog.specs.Notes.{peer_words, refused_peers_words};
 ghost use Rattle.runlog.specs.Notes.{skip_words, skipped_words, trouble_words, words};
 
 use crate::content::Skip;
@@ -24,7 +24,7 @@ const SPOILT: &str = "answer spoilt: octets came, but no answer";
 
 /// What was counted since the run began.
 #[derive(Clone, Copy, Debug, PartialEq, Eq)]
-pub struct Tally {
+pub struct RunCounts {
     /// What the gateway counts.
     pub counts: Counts,
     /// How many places of the queue are taken.
@@ -58,7 +58,7 @@ pub enum Trouble {
     StatusUnusable,
 }
 
-/// What a line tells.
+/// What a line says.
 #[derive(Clone, Copy, Debug, PartialEq, Eq)]
 pub enum Note {
     LineReached,
@@ -78,8 +78,8 @@ pub enum Note {
     Cut(CutCause),
     /// The gateway closed the connection.
     Closed(Close),
-    /// How many were not let in since the last such line, and the last of them.
-    SentAway(u64, Option<IpAddr>),
+    /// How many were refused since the last such line, and the last of them.
+    RefusedPeers(u64, Option<IpAddr>),
     /// The station with this link address is asked for the status of its link (IEC 60870-5-2).
     Asked(u16),
     /// It gets requests that are counted, so its link was reset.
@@ -95,7 +95,7 @@ pub enum Note {
     /// Fewer places of the queue are free than a report may take, so nothing is polled.
     QueueFull,
     QueueFree,
-    Counts(Tally),
+    Counts(RunCounts),
     /// No state is kept yet where it is to be kept.
     StateBegins,
     /// The run goes on from the state that is kept, with so many pieces in its queue.
@@ -194,12 +194,12 @@ fn notice_words(notice: Notice) -> &'static str
     }
 }
 
-fn write_sent_away<W: fmt::Write>(
+fn write_refused_peers<W: fmt::Write>(
     count: u64,
     last: Option<IpAddr>,
     f: &mut fmt::Formatter<W>,
 ) -> fmt::Result
-    ensures { WritesOnOk W.write_str_gives f.old result (sent_away_words count last) f.new }
+    ensures { WritesOnOk W.write_str_gives f.old result (refused_peers_words count last) f.new }
 {
     write!(f, "{count} sent away")?;
     match last {
@@ -208,7 +208,7 @@ fn write_sent_away<W: fmt::Write>(
     }
 }
 
-fn write_counts<W: fmt::Write>(tally: &Tally, f: &mut fmt::Formatter<W>) -> fmt::Result
+fn write_counts<W: fmt::Write>(tally: &RunCounts, f: &mut fmt::Formatter<W>) -> fmt::Result
     ensures { WritesOnOk W.write_str_gives f.old result (counts_words tally.now) f.new }
 {
     let Counts {
@@ -217,7 +217,7 @@ fn write_counts<W: fmt::Write>(tally: &Tally, f: &mut fmt::Formatter<W>) -> fmt:
         lost,
         spoilt,
     } = tally.counts;
-    let Tally {
+    let RunCounts {
         taken,
         places,
         connections,
@@ -298,7 +298,7 @@ impl fmt::Display for Note {
                 let cause = close_words(*cause);
                 write!(f, "connection closed: {cause}")
             }
-            Note::SentAway(count, last) => write_sent_away(*count, *last, f),
+            Note::RefusedPeers(count, last) => write_refused_peers(*count, *last, f),
             Note::Asked(address) => write!(f, "station {address} asked for its status"),
             Note::Up(address) => write!(f, "station {address} up"),
             Note::Silent(address) => write!(f, "station {address} doesn't answer"),

@@ -1,4 +1,4 @@
-//! What a line tells of a command.
+//! What a line says of a command.
 ghost use Rattle.std.specs.Prelude.{◌≡◌, ◌+◌, ◌≤◌, ◌<◌, length};
 ghost use Rattle.asdu.specs.Sizes.{header_len, ioa_len};
 ghost use Rattle.runlog.specs.Orders as spec;
@@ -16,7 +16,7 @@ pub enum Act {
     Activate,
     /// The deactivation of one of these (cause 8, and 9 in its confirmation).
     Deactivate,
-    /// That can't be told of its type.
+    /// That its type doesn't say.
     Other,
 }
 
@@ -31,11 +31,11 @@ pub enum Value {
     Number(u16),
     /// A set point that is so far below 0.
     Below(u16),
-    /// That can't be told of its type.
+    /// That its type doesn't say.
     Unknown,
 }
 
-/// What a line tells of a command.
+/// What a line says of a command.
 #[derive(Clone, Copy, Debug, PartialEq, Eq)]
 pub struct Order {
     /// Its type octet.

@@ -1,4 +1,4 @@
-//! What is told of the queue.
+//! What is logged of the queue.
 ghost use Rattle.std.specs.Prelude.{◌≡◌};
 ghost use Rattle.runlog.specs.Watching as spec;
 
@@ -9,10 +9,10 @@ use crate::note::{LogLine, Note};
 /// The most places that a report takes: where fewer are free nothing is polled.
 const REPORT_PLACES: u64 = 3;
 
-/// What is told of the queue.
+/// What is logged of the queue.
 #[derive(Clone, Copy, Debug, PartialEq, Eq)]
 pub(crate) struct QueueWatch {
-    /// What was told last.
+    /// What was logged last.
     is_full: bool,
     full: Limit,
     free: Limit,

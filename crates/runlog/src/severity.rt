@@ -59,7 +59,7 @@ impl Note {
         match self {
             Note::LineLost | Note::LineNotThere | Note::Gap(_) | Note::QueueFull => Severity::Error,
             Note::StatePutAside | Note::Trouble(_) => Severity::Error,
-            Note::Cut(_) | Note::Closed(_) | Note::SentAway(_, _) => Severity::Warning,
+            Note::Cut(_) | Note::Closed(_) | Note::RefusedPeers(_, _) => Severity::Warning,
             Note::Silent(_) | Note::Down(_) | Note::StateStale => Severity::Warning,
             Note::Refused(_, _, _) | Note::Skipped(_, _, _) => Severity::Warning,
             Note::MirrorDropped(_) | Note::Spoilt(_) | Note::Late(_) => Severity::Warning,

@@ -1,21 +1,21 @@
 //! Where the lines go.
 ghost use Rattle.std.specs.Prelude.{◌≡◌, None, true, false};
 
-use crate::names::{NamedLine, Names};
+use crate::names::{LogNames, NamedLine};
 use crate::note::LogLine;
 use jiff::Timestamp;
 use std::io::Eprint;
 
-/// Where lines go. One that tells its lines adds each that it takes.
-pub trait Sink {
-    ghost use Rattle.runlog.specs.Telling.{Lines, kept};
+/// Where lines go. One that notes its lines adds each that it takes.
+pub trait LogSink {
+    ghost use Rattle.runlog.specs.Logging.{Lines, kept};
     ghost use Rattle.std.specs.Prelude.{◌≡◌};
 
-    /// The lines so far, the newest first, where it tells them.
+    /// The lines so far, the newest first, where it notes them.
     ghost lines: { Self → Lines };
 
     /// Takes a line. `false` says that it takes none any more.
-    fn tell(&mut self, line: &LogLine) -> bool
+    fn write(&mut self, line: &LogLine) -> bool
         ensures { lines self.new ≡ kept result line.now (lines self.old) };
 }
 
@@ -23,13 +23,13 @@ pub trait Sink {
 #[derive(Drop)]
 pub struct StandardError<'a, 'n, R> {
     rt: &'a R,
-    names: Names<'n>,
+    names: LogNames<'n>,
     has_severity: bool,
 }
 
 impl<'a, 'n, R> StandardError<'a, 'n, R> {
-    /// That of this process. Behind each line stands the name of what it is told of, if it has one.
-    pub fn new(rt: &'a R, names: Names<'n>) -> StandardError<'a, 'n, R>
+    /// That of this process. Behind each line stands the name of what it is about, if it has one.
+    pub fn new(rt: &'a R, names: LogNames<'n>) -> StandardError<'a, 'n, R>
         ensures names { result.names ≡ names.entry }
         ensures plain { result.has_severity ≡ false }
     {
@@ -65,10 +65,10 @@ impl<R: Eprint + std::rt::Clock> StandardError<'_, '_, R> {
     }
 }
 
-impl<R: Eprint + std::rt::Clock> Sink for StandardError<'_, '_, R> {
+impl<R: Eprint + std::rt::Clock> LogSink for StandardError<'_, '_, R> {
     ghost lines = { λ _. None };
 
-    fn tell(&mut self, line: &LogLine) -> bool {
+    fn write(&mut self, line: &LogLine) -> bool {
         if !self.write_severity(line) {
             return false;
         }

@@ -1,4 +1,4 @@
-//! What is told of the stations, by the requests that go out to them.
+//! What is logged of the stations, by the requests that go out to them.
 ghost use Rattle.std.specs.Prelude.{◌≡◌, ◌≤◌, map, if◌then◌else◌};
 ghost use Rattle.runlog.specs.Limits.{one_more};
 ghost use Rattle.runlog.specs.Stations as spec;
@@ -10,7 +10,7 @@ use crate::order::octet;
 use ft12::LinkSize;
 use link::{Control, PrimaryFunction};
 
-/// What is asked of a station, or told of it.
+/// What is asked of a station, or logged of it.
 #[derive(Clone, Copy, Debug, PartialEq, Eq)]
 pub(crate) enum Asking {
     /// The status of its link.
@@ -18,13 +18,13 @@ pub(crate) enum Asking {
     /// Something that is counted by the frame count bit: its link was reset before.
     Counted(bool),
     Other,
-    /// Nothing: it is told that reports of it may be lost.
+    /// Nothing: it is logged that reports of it may be lost.
     Missed,
 }
 
-/// What was told of a station last.
+/// What was logged of a station last.
 #[derive(Clone, Copy, Debug, PartialEq, Eq)]
-pub(crate) enum StationTold {
+pub(crate) enum StationLogged {
     Nothing,
     Asked,
     Up,
@@ -32,12 +32,12 @@ pub(crate) enum StationTold {
     Silent,
     Down,
     /// It is asked for its status, and doesn't answer.
-    Unheard,
+    Unanswered,
 }
 
 /// How a station stands, by the requests that have gone out to it.
 #[derive(Clone, Copy, Debug, PartialEq, Eq)]
-pub enum Standing {
+pub enum StationStanding {
     /// None has gone out yet.
     NotAsked,
     /// Its status is asked, and its link was never reset.
@@ -50,7 +50,7 @@ pub enum Standing {
     Down,
 }
 
-/// What is told of a station.
+/// What is logged of a station.
 #[derive(Clone, Copy, Debug, PartialEq, Eq)]
 pub struct StationWatch {
     /// Its link address.
@@ -67,7 +67,7 @@ pub struct StationWatch {
     since: u64,
     /// How often reports of it may have been lost.
     gaps: u64,
-    told: StationTold,
+    logged: StationLogged,
     asked: Limit,
     up: Limit,
     silent: Limit,
@@ -110,15 +110,15 @@ pub(crate) fn asking_of(octets: &[u8]) -> Asking
     }
 }
 
-fn is_same(before: Standing, after: Standing) -> bool
+fn is_same(before: StationStanding, after: StationStanding) -> bool
     ensures { result ≡ spec.is_same before after }
 {
     match (before, after) {
-        (Standing::NotAsked, Standing::NotAsked) => true,
-        (Standing::Asked, Standing::Asked) => true,
-        (Standing::Up, Standing::Up) => true,
-        (Standing::Silent, Standing::Silent) => true,
-        (Standing::Down, Standing::Down) => true,
+        (StationStanding::NotAsked, StationStanding::NotAsked) => true,
+        (StationStanding::Asked, StationStanding::Asked) => true,
+        (StationStanding::Up, StationStanding::Up) => true,
+        (StationStanding::Silent, StationStanding::Silent) => true,
+        (StationStanding::Down, StationStanding::Down) => true,
         _ => false,
     }
 }
@@ -136,7 +136,7 @@ impl StationWatch {
             was_up: false,
             since: 0,
             gaps: 0,
-            told: StationTold::Nothing,
+            logged: StationLogged::Nothing,
             asked: Limit::new(),
             up: Limit::new(),
             silent: Limit::new(),
@@ -154,19 +154,19 @@ impl StationWatch {
     }
 
     /// How it stands.
-    pub fn standing(&self) -> Standing
+    pub fn standing(&self) -> StationStanding
         ensures { result ≡ spec.standing_of self.now }
     {
         if self.sent == 0 {
-            Standing::NotAsked
+            StationStanding::NotAsked
         } else if self.is_unanswered() {
-            Standing::Silent
+            StationStanding::Silent
         } else if self.bit.is_some() {
-            Standing::Up
+            StationStanding::Up
         } else if self.was_up {
-            Standing::Down
+            StationStanding::Down
         } else {
-            Standing::Asked
+            StationStanding::Asked
         }
     }
 
@@ -185,7 +185,7 @@ impl StationWatch {
     }
 
     /// A request goes out to the station with this link address.
-    fn hear(&mut self, address: u16, asking: Asking, now: u64)
+    fn note_request(&mut self, address: u16, asking: Asking, now: u64)
         ensures { self.new ≡ spec.after_request address asking now self.old }
     {
         if self.address == address {
@@ -259,26 +259,27 @@ impl StationWatch {
     }
 
     /// That it doesn't answer, where it doesn't.
-    fn silence(&mut self, is_silent: bool, told: StationTold, now: u64) -> Option<LogLine>
-        ensures { (self.new, result) ≡ spec.silent_by is_silent told now self.old }
+    fn silence(&mut self, is_silent: bool, logged: StationLogged, now: u64) -> Option<LogLine>
+        ensures { (self.new, result) ≡ spec.silent_by is_silent logged now self.old }
     {
         if !is_silent {
             return None;
         }
         let line = changed(Note::Silent(self.address), &mut self.silent, now)?;
-        self.told = told;
+        self.logged = logged;
         Some(line)
     }
 
-    /// It was told that it doesn't answer, and its status is asked.
-    fn ask_unheard(&mut self, now: u64) -> Option<LogLine>
-        ensures { (self.new, result) ≡ spec.unheard_by (spec.is_unanswered self.old) now self.old }
+    /// It was logged that it doesn't answer, and its status is asked.
+    fn ask_unanswered(&mut self, now: u64) -> Option<LogLine>
+        ensures { (self.new, result)
+            ≡ spec.unanswered_by (spec.is_unanswered self.old) now self.old }
     {
         if !self.is_unanswered() {
             return None;
         }
         let is_minute = self.silent.is_minute_after(now);
-        self.silence(is_minute, StationTold::Unheard, now)
+        self.silence(is_minute, StationLogged::Unanswered, now)
     }
 
     /// It didn't answer any more, and a counted request goes out to it.
@@ -287,10 +288,10 @@ impl StationWatch {
     {
         if self.is_unanswered() {
             let is_minute = self.silent.is_minute_after(now);
-            return self.silence(is_minute, StationTold::Silent, now);
+            return self.silence(is_minute, StationLogged::Silent, now);
         }
         let line = changed(Note::Again(self.address), &mut self.again, now)?;
-        self.told = StationTold::Up;
+        self.logged = StationLogged::Up;
         Some(line)
     }
 
@@ -300,31 +301,31 @@ impl StationWatch {
     {
         self.count_at(asking, now);
         let address = self.address;
-        match (self.told, asking) {
-            (StationTold::Nothing, Asking::Status) => {
+        match (self.logged, asking) {
+            (StationLogged::Nothing, Asking::Status) => {
                 let line = changed(Note::Asked(address), &mut self.asked, now)?;
-                self.told = StationTold::Asked;
+                self.logged = StationLogged::Asked;
                 Some(line)
             }
-            (StationTold::Up, Asking::Status) | (StationTold::Silent, Asking::Status) => {
+            (StationLogged::Up, Asking::Status) | (StationLogged::Silent, Asking::Status) => {
                 let line = changed(Note::Down(address), &mut self.down, now)?;
-                self.told = StationTold::Down;
+                self.logged = StationLogged::Down;
                 Some(line)
             }
-            (StationTold::Asked, Asking::Status) | (StationTold::Down, Asking::Status) => {
-                self.silence(self.is_unanswered(), StationTold::Unheard, now)
+            (StationLogged::Asked, Asking::Status) | (StationLogged::Down, Asking::Status) => {
+                self.silence(self.is_unanswered(), StationLogged::Unanswered, now)
             }
-            (StationTold::Unheard, Asking::Status) => self.ask_unheard(now),
-            (StationTold::Up, Asking::Counted(_)) => {
-                self.silence(self.is_unanswered(), StationTold::Silent, now)
+            (StationLogged::Unanswered, Asking::Status) => self.ask_unanswered(now),
+            (StationLogged::Up, Asking::Counted(_)) => {
+                self.silence(self.is_unanswered(), StationLogged::Silent, now)
             }
-            (StationTold::Silent, Asking::Counted(_)) => self.ask_silent(now),
-            (StationTold::Nothing, Asking::Counted(_))
-            | (StationTold::Asked, Asking::Counted(_))
-            | (StationTold::Down, Asking::Counted(_))
-            | (StationTold::Unheard, Asking::Counted(_)) => {
+            (StationLogged::Silent, Asking::Counted(_)) => self.ask_silent(now),
+            (StationLogged::Nothing, Asking::Counted(_))
+            | (StationLogged::Asked, Asking::Counted(_))
+            | (StationLogged::Down, Asking::Counted(_))
+            | (StationLogged::Unanswered, Asking::Counted(_)) => {
                 let line = changed(Note::Up(address), &mut self.up, now)?;
-                self.told = StationTold::Up;
+                self.logged = StationLogged::Up;
                 Some(line)
             }
             (_, Asking::Missed) => happened(Note::Gap(address), &mut self.gap, now),
@@ -333,7 +334,7 @@ impl StationWatch {
     }
 }
 
-/// What a request to the station with this link address has to tell.
+/// What is logged of a request to the station with this link address.
 fn line_of(stations: &[StationWatch], address: u16, asking: Asking, now: u64) -> Option<LogLine>
     ensures { result ≡ spec.line_in address asking now stations.now }
 {
@@ -352,13 +353,18 @@ fn note_asked(stations: &mut [StationWatch], address: u16, asking: Asking, now: 
     ensures { stations.new ≡ map (spec.after_request address asking now) stations.old }
 {
     for station in stations.iter_mut() {
-        station.hear(address, asking, now);
+        station.note_request(address, asking, now);
     }
 }
 
-/// This is asked of the station with this link address, or told of it.
-fn tell(stations: &mut [StationWatch], address: u16, asking: Asking, now: u64) -> Option<LogLine>
-    ensures { (stations.new, result) ≡ spec.told address asking now stations.old }
+/// This is asked of the station with this link address, or logged of it.
+fn log_asking(
+    stations: &mut [StationWatch],
+    address: u16,
+    asking: Asking,
+    now: u64,
+) -> Option<LogLine>
+    ensures { (stations.new, result) ≡ spec.asking_logged address asking now stations.old }
 {
     let line = line_of(stations, address, asking, now);
     note_asked(stations, address, asking, now);
@@ -374,7 +380,7 @@ pub(crate) fn ask(
 ) -> Option<LogLine>
     ensures { (stations.new, result) ≡ spec.asked size octets.now now stations.old }
 {
-    tell(stations, address_of(size, octets), asking_of(octets), now)
+    log_asking(stations, address_of(size, octets), asking_of(octets), now)
 }
 
 /// Reports of the station at this place may be lost.
@@ -385,5 +391,5 @@ pub(crate) fn gap(stations: &mut [StationWatch], place: usize, now: u64) -> Opti
         return None;
     };
     let address = station.address;
-    tell(stations, address, Asking::Missed, now)
+    log_asking(stations, address, Asking::Missed, now)
 }

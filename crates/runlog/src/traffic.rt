@@ -1,4 +1,4 @@
-//! What passes between the gateway and a station, as it is told.
+//! What passes between the gateway and a station, as it is logged.
 ghost use Rattle.std.specs.Prelude.{◌≡◌};
 ghost use Rattle.runlog.specs.Exchange.{traffic_after};
 ghost use Rattle.runlog.specs.Orders.{octet as octet_of, order_of};
@@ -162,13 +162,13 @@ impl Traffic {
     }
 
     /// The station answered so, or not.
-    pub(crate) fn hear(&mut self, sizes: Sizes, now: u64, answer: Option<Answer<'_>>)
+    pub(crate) fn note_answer(&mut self, sizes: Sizes, now: u64, answer: Option<Answer<'_>>)
         ensures { self.new ≡ traffic_after answer.entry sizes now self.old }
     {
         match answer {
             Some(Answer::Report(asdu)) => self.report(sizes, now, asdu.octets()),
-            // What else an answer says is told by the station's ASDU, if at all
-            // (docs/DECISIONS.md, "What became of a command").
+            // What else an answer says shows in the station's ASDU, if at all (docs/DECISIONS.md,
+            // "What became of a command").
             Some(Answer::Busy) => self.end(CommandFate::Busy),
             _ => {}
         }
@@ -186,7 +186,7 @@ impl Traffic {
         }
     }
 
-    /// The line of the first of its kinds that has one to be told now.
+    /// The line of the first of its kinds that has one to be logged now.
     pub(crate) fn line(&mut self, now: u64) -> Option<LogLine>
         ensures { (self.new, result) ≡ spec.traffic_line now self.old }
     {
@@ -209,7 +209,7 @@ impl Traffic {
         self.minute_line(now)
     }
 
-    /// The same of the kinds that are told once a minute.
+    /// The same of the kinds that are logged once a minute.
     fn minute_line(&mut self, now: u64) -> Option<LogLine>
         ensures { (self.new, result) ≡ spec.minute_line now self.old }
     {
@@ -227,7 +227,7 @@ impl Traffic {
     }
 }
 
-/// The line of the first station that has one to be told now.
+/// The line of the first station that has one to be logged now.
 pub(crate) fn traffic_line(traffic: &mut [Traffic], now: u64) -> Option<LogLine>
     ensures { (traffic.new, result) ≡ spec.first_line now traffic.old }
 {

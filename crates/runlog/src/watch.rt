@@ -4,17 +4,17 @@ ghost use Rattle.gateway.specs.Ports.{FitsBuffer, output_of};
 ghost use Rattle.runlog.specs.Traffic.{new_traffics};
 ghost use Rattle.runlog.specs.Watching as spec;
 
-use crate::ends::{ConnectionWatch, DoorWatch, LineWatch, Opening};
-use crate::exchange::Exchange;
+use crate::ends::{ConnectionWatch, LineWatch, ListenerWatch, OpenConnection};
+use crate::exchange::RequestWatch;
 use crate::inbox::Inbox;
-use crate::note::{LogLine, Note, Tally, Trouble};
+use crate::note::{LogLine, Note, RunCounts, Trouble};
 use crate::queue::QueueWatch;
 use crate::stations::{StationWatch, gap};
 use crate::traffic::{Traffic, traffic_line};
 use asdu::Sizes;
 use ft12::LinkSize;
 use gateway::{Action, Config, Counts, Gateway, Next};
-use live::{Failure, Presence, Sight};
+use live::{EndsSight, Failure, Presence};
 use session::Close;
 use std::alloc::{AllocError, Global};
 use std::marker::Model;
@@ -23,7 +23,7 @@ use std::net::IpAddr;
 mod line;
 
 /// How long after a look at the queue the next one follows, in ms.
-// A look goes over all that is kept, and a line a second is told of it at the most.
+// A look goes over all that is kept, and a line a second is logged of it at the most.
 const LOOK_MS: u64 = 1000;
 
 /// How long after a line of counts the next one follows, in ms.
@@ -39,35 +39,35 @@ struct WallShown {
     shown: u64,
 }
 
-/// What has been told of a run, and what is needed to tell more.
+/// What has been logged of a run, and what is needed to log more.
 #[derive(Drop)]
 pub struct Watch {
     /// That of the latest event, in ms.
     moment: u64,
     /// When the queue was looked at last, in ms.
     looked: u64,
-    /// When the counts were told last, in ms.
+    /// When the counts were logged last, in ms.
     counted: u64,
     link: LinkSize,
     /// How many places the queue has.
     places: u64,
     line: LineWatch,
-    door: DoorWatch,
+    listener: ListenerWatch,
     connection: ConnectionWatch,
     queue: QueueWatch,
     inbox: Inbox,
     /// The sizes of the line's ASDUs.
     sizes: Sizes,
-    exchange: Exchange,
+    exchange: RequestWatch,
     /// What the gateway had counted when it was looked at last.
     seen: Counts,
     /// How many octets of the line were dropped before requests, as far as that was seen.
     late: u64,
     /// The moment at which a line was sought among what is gathered, in ms.
     sought: u64,
-    /// What the wall clock showed last; none before it was told.
+    /// What the wall clock showed last; none before it was given.
     wall: Option<WallShown>,
-    /// What is told of the stations by the requests to them, in the order of the settings.
+    /// What is logged of the stations by the requests to them, in the order of the settings.
     stations: Vec<StationWatch>,
     /// What passes between them and the gateway, in the same order.
     traffic: Vec<Traffic>,
@@ -85,7 +85,7 @@ impl Model for Watch {
       link = w.link;
       places = w.places;
       line = w.line;
-      door = w.door;
+      listener = w.listener;
       connection = w.connection;
       queue = w.queue;
       inbox = w.inbox;
@@ -100,7 +100,7 @@ impl Model for Watch {
     } };
 }
 
-/// What is told of the stations at first.
+/// What is logged of the stations at first.
 fn stations_of(alloc: Global, config: &Config, tries: u64) -> Result<Vec<StationWatch>, AllocError>
     ensures { IfOk result (λ stations.
         stations.items ≡ spec.new_stations tries config.now.stations) }
@@ -136,12 +136,12 @@ impl Watch {
             link: config.line().link,
             places: config.line().queue as u64,
             line: LineWatch::new(),
-            door: DoorWatch::new(),
+            listener: ListenerWatch::new(),
             connection: ConnectionWatch::new(),
             queue: QueueWatch::new(),
             inbox: Inbox::new(),
             sizes: config.line().sizes,
-            exchange: Exchange::new(config.line().answer_ms),
+            exchange: RequestWatch::new(config.line().answer_ms),
             seen: Counts {
                 skipped: 0,
                 mirrors: 0,
@@ -163,7 +163,7 @@ impl Watch {
         self.moment
     }
 
-    /// What the wall clock shows at that moment, in ms since 1970-01-01 UTC, once it was told.
+    /// What the wall clock shows at that moment, in ms since 1970-01-01 UTC, once it was given.
     pub fn wall(&self) -> Option<u64>
         ensures { result ≡ spec.wall_of self.now }
     {
@@ -207,7 +207,7 @@ impl Watch {
     }
 
     /// The connection that is open.
-    pub fn opening(&self) -> Option<Opening>
+    pub fn opening(&self) -> Option<OpenConnection>
         ensures { result ≡ self.now.connection.opening }
     {
         self.connection.opening()
@@ -229,9 +229,14 @@ impl Watch {
 
     /// An event came, whose octets are the front of the buffer, and after which the ends are seen
     /// so.
-    pub(crate) fn hear(&mut self, next: Next, buf: &[u8; 1024], sight: &Sight) -> Option<LogLine>
+    pub(crate) fn note_event(
+        &mut self,
+        next: Next,
+        buf: &[u8; 1024],
+        sight: &EndsSight,
+    ) -> Option<LogLine>
         requires { FitsBuffer next }
-        ensures { (self.new, result) ≡ spec.heard next buf.now sight.now self.old }
+        ensures { (self.new, result) ≡ spec.event_noted next buf.now sight.now self.old }
     {
         // First: they were dropped before this event, when the latest request went out.
         self.note_late(sight.late_octets);
@@ -239,7 +244,7 @@ impl Watch {
     }
 
     /// The same, once what was late before it is noted.
-    fn come(&mut self, next: Next, buf: &[u8; 1024], sight: &Sight) -> Option<LogLine>
+    fn come(&mut self, next: Next, buf: &[u8; 1024], sight: &EndsSight) -> Option<LogLine>
         requires { FitsBuffer next }
         ensures { (self.new, result) ≡ spec.came next buf.now sight.now self.old }
     {
@@ -262,7 +267,7 @@ impl Watch {
             }
             Next::Line(now, len) => {
                 self.begin(now);
-                self.hear_line(&buf[..len]);
+                self.receive_line(&buf[..len]);
                 self.see(sight)
             }
             Next::Tick(now) => {
@@ -298,13 +303,13 @@ impl Watch {
     }
 
     /// The ends are seen so.
-    fn see(&mut self, sight: &Sight) -> Option<LogLine>
+    fn see(&mut self, sight: &EndsSight) -> Option<LogLine>
         ensures { (self.new, result) ≡ spec.seen sight.now self.old }
     {
         let now = self.moment;
         match self.line.see(sight.line, now) {
             Some(line) => Some(line),
-            None => self.door.see(sight.sent_away, now),
+            None => self.listener.see(sight.refused, now),
         }
     }
 
@@ -340,7 +345,7 @@ impl Watch {
         self.note_counts(gateway.counts());
     }
 
-    /// The next line of what was gathered, if one may be told now. It is sought once a ms.
+    /// The next line of what was gathered, if one may be logged now. It is sought once a ms.
     pub(crate) fn gathered(&mut self) -> Option<LogLine>
         ensures { (self.new, result) ≡ spec.gathered self.old }
     {
@@ -363,11 +368,11 @@ impl Watch {
         LOOK_MS <= self.moment.saturating_sub(self.looked)
     }
 
-    /// What a line of counts tells now.
-    fn tally(&self, counts: Counts, taken: u64) -> Tally
+    /// What a line of counts says now.
+    fn tally(&self, counts: Counts, taken: u64) -> RunCounts
         ensures { result ≡ spec.tally counts taken self.now }
     {
-        Tally {
+        RunCounts {
             counts,
             taken,
             places: self.places,
@@ -386,7 +391,7 @@ impl Watch {
         }
     }
 
-    /// The counts are told each minute.
+    /// The counts are logged each minute.
     fn count(&mut self, counts: Counts, taken: u64) -> Option<LogLine>
         ensures { (self.new, result) ≡ spec.counted counts taken self.old }
     {

@@ -72,7 +72,7 @@ fn line_place<'a>(table: Option<&'a Table>) -> Result<&'a str, WrongKey>
     }
 }
 
-/// The place of the door.
+/// The place of the listener.
 fn listen_place<'a>(table: Option<&'a Table>) -> Result<&'a str, WrongKey>
     ensures { seen_by (λ text. text.now) result
         ≡ place_of is_address (codes "listen") (codes "live.listen") (members_in table.entry) }

@@ -2,7 +2,7 @@
 ghost use Rattle.std.specs.Prelude.{None};
 
 use gateway::{Next, Port};
-use live::{Clock, Door, Got, Guests, Live, SentAway, Visitor, Wire};
+use live::{Accepted, AllowList, Got, Listener, Live, OctetStream, RefusedPeers, RunClock};
 use settings::read_config;
 use std::net::{IpAddr, Ipv4Addr};
 use std::test::Fail;
@@ -18,23 +18,23 @@ address = 1
 ca = 1
 ";
 
-/// A wire on which one octet stands. It takes one write, and tells nothing.
+/// A stream on which one octet stands. It takes one write, and notes nothing.
 #[derive(Drop)]
 struct Stub {
     octet: Option<u8>,
     is_free: bool,
 }
 
-/// A wire on which this octet stands.
-fn wire_with(octet: u8) -> Stub {
+/// A stream on which this octet stands.
+fn stream_with(octet: u8) -> Stub {
     Stub {
         octet: Some(octet),
         is_free: true,
     }
 }
 
-impl Wire for Stub {
-    ghost history = { λ wire. None };
+impl OctetStream for Stub {
+    ghost history = { λ stream. None };
 
     fn read(&mut self, buf: &mut [u8; 1024]) -> Got {
         let Some(octet) = self.octet.take() else {
@@ -58,42 +58,42 @@ impl Wire for Stub {
     }
 }
 
-/// A door at which one visitor of this machine waits. It tells nothing.
+/// A listener at which one control centre of this machine waits. It notes nothing.
 #[derive(Drop)]
 struct Hall {
-    visitor: Option<Stub>,
+    centre: Option<Stub>,
 }
 
-impl Door for Hall {
-    type Wire = Stub;
+impl Listener for Hall {
+    type Stream = Stub;
 
-    ghost visits = { λ door. None };
+    ghost attempts = { λ listener. None };
 
-    fn accept(&mut self, guests: &Guests) -> Option<Visitor<Stub>> {
-        let wire = self.visitor.take()?;
+    fn accept(&mut self, allow_list: &AllowList) -> Option<Accepted<Stub>> {
+        let stream = self.centre.take()?;
         let address = IpAddr::V4(Ipv4Addr::LOCALHOST);
-        if guests.lets_in(address) {
-            Some(Visitor { address, wire })
+        if allow_list.allows(address) {
+            Some(Accepted { address, stream })
         } else {
             None
         }
     }
 
-    fn sent_away(&self) -> SentAway {
-        SentAway {
+    fn refused(&self) -> RefusedPeers {
+        RefusedPeers {
             count: 0,
             last: None,
         }
     }
 }
 
-/// A clock that goes on by 1 ms at each reading, and begins at 7. It tells nothing.
+/// A clock that goes on by 1 ms at each reading, and begins at 7. It notes nothing.
 #[derive(Drop)]
 struct Steps {
     now: u64,
 }
 
-impl Clock for Steps {
+impl RunClock for Steps {
     ghost moments = { λ clock. None };
 
     ghost walls = { λ clock. None };
@@ -112,42 +112,43 @@ impl Clock for Steps {
 fn ends_of_a_live_run(rt: HostRuntime) -> Result<(), Fail> {
     let config = read_config(rt.alloc(), CONFIG, false)?;
     let hall = Hall {
-        visitor: Some(wire_with(0x68)),
+        centre: Some(stream_with(0x68)),
     };
-    // The wall clock is told first. Then the door is looked at, then the connection, then the line.
+    // The wall clock is given first. Then the listener is looked at, then the connection, then the
+    // line.
     let mut port = Live::new(
-        wire_with(0xE5),
+        stream_with(0xE5),
         hall,
         Steps { now: 0 },
-        Guests::Anyone,
+        AllowList::Anyone,
         &config,
     );
     let mut buf = [0; 1024];
-    let are_told = matches!(port.next(&mut buf), Next::Wall(_, 1_709_210_096_789))
+    let are_given = matches!(port.next(&mut buf), Next::Wall(_, 1_709_210_096_789))
         && matches!(port.next(&mut buf), Next::Open(_))
         && matches!(port.next(&mut buf), Next::Bytes(_, 1))
         && buf[0] == 0x68
         && matches!(port.next(&mut buf), Next::Line(_, 1))
         && buf[0] == 0xE5;
-    assert!(rt; are_told);
+    assert!(rt; are_given);
     Ok(())
 }
 
 #[test]
 fn ends_one_by_one(rt: HostRuntime) {
     let mut buf = [0; 1024];
-    let mut wire = wire_with(0xE5);
-    assert_eq!(rt; wire.read(&mut buf), Got::Octets(1));
-    assert_eq!(rt; wire.read(&mut buf), Got::Quiet);
-    assert_eq!(rt; wire_with(0xE5).drop_waiting(), 1);
-    assert_eq!(rt; wire.drop_waiting(), 0);
-    assert!(rt; wire.write(&[0xE5]));
-    assert!(rt; !wire.write(&[0xE5]));
+    let mut stream = stream_with(0xE5);
+    assert_eq!(rt; stream.read(&mut buf), Got::Octets(1));
+    assert_eq!(rt; stream.read(&mut buf), Got::Quiet);
+    assert_eq!(rt; stream_with(0xE5).drop_waiting(), 1);
+    assert_eq!(rt; stream.drop_waiting(), 0);
+    assert!(rt; stream.write(&[0xE5]));
+    assert!(rt; !stream.write(&[0xE5]));
     let mut hall = Hall {
-        visitor: Some(wire_with(0x68)),
+        centre: Some(stream_with(0x68)),
     };
-    assert!(rt; hall.accept(&Guests::Anyone).is_some());
-    assert!(rt; hall.accept(&Guests::Anyone).is_none());
+    assert!(rt; hall.accept(&AllowList::Anyone).is_some());
+    assert!(rt; hall.accept(&AllowList::Anyone).is_none());
     let mut clock = Steps { now: 6 };
     assert_eq!(rt; clock.now_ms(), 7);
     assert_eq!(rt; clock.wall_ms(), 1_709_210_096_789);

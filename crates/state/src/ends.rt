@@ -2,7 +2,7 @@
 
 use crate::loss::Loss;
 use gateway::{Action, Gateway, Next};
-use live::Sight;
+use live::EndsSight;
 
 /// A port and a store, with one history of what is done at both.
 pub trait Ends {
@@ -63,7 +63,7 @@ pub trait Ends {
     ghost failure: { Self → Option Failure };
 
     /// Looks at the port's ends, and asks nothing of them.
-    fn sight(&self) -> Sight
+    fn sight(&self) -> EndsSight
         ensures failure { result.failure ≡ failure self.now }
         ensures failed { is_some result.failure ≡ nat_lt 0 (failed self.now) };
 

@@ -16,7 +16,7 @@ use crate::keeping::{is_stopped, keep, settle};
 use crate::renewal::Patience;
 use crate::standing::Standing;
 use gateway::{Action, Gateway, Next, Port};
-use live::{Failure, Notice, Sight, Watched};
+use live::{EndsSight, Failure, Notice, Watched};
 use std::marker::Model;
 
 /// A port that passes each event and each action of another one on unchanged. The line of each
@@ -224,7 +224,7 @@ impl<E: Ends + Drop> Watched for Keeper<E> {
     ghost failure = { λ k. failure_of k.stops (E.failure k.ends) };
 
     /// A port that isn't asked any more hasn't failed: the store has.
-    fn sight(&self) -> Sight
+    fn sight(&self) -> EndsSight
         ensures failure { result.failure ≡ failure_of self.now.stops (E.failure self.now.ends) }
         ensures failed { is_some result.failure
             ≡ nat_lt 0 (E.failed self.now.ends + self.now.stops) }
@@ -233,7 +233,7 @@ impl<E: Ends + Drop> Watched for Keeper<E> {
         if self.stops == 0 {
             return sight;
         }
-        Sight {
+        EndsSight {
             failure: Some(Failure::State),
             ..sight
         }

@@ -9,7 +9,7 @@ use crate::renewal::is_renewal_due;
 use crate::store::Store;
 use crate::trail::{Done, Trail};
 use gateway::{Action, Gateway, Next};
-use live::{Sight, Watched};
+use live::{EndsSight, Watched};
 use std::alloc::Global;
 use std::marker::Model;
 use traces::append_event;
@@ -113,7 +113,7 @@ impl<P: Watched + Drop, S: Store + Drop> Ends for Pair<P, S> {
         self.port.failures()
     }
 
-    fn sight(&self) -> Sight {
+    fn sight(&self) -> EndsSight {
         self.port.sight()
     }
 

@@ -1,7 +1,7 @@
 -- What is told of a state that was kept, where a run begins with it or would (profile).
 use Rattle.std.specs.Prelude.{Bool, true, false, Option, Some, None}
 use Rattle.gateway.specs.State.{State}
-use Rattle.runlog.specs.Telling.{taken_in}
+use Rattle.runlog.specs.Logging.{taken_in}
 use Rattle.runlog.specs.declared.note.Note.{Note}
 use Rattle.runlog.specs.declared.note.Note.TheVariants as note
 use Rattle.state.specs.declared.start.Beginning.{Beginning}

@@ -4,21 +4,24 @@ use Rattle.std.proofs.Common.{Option, Some, None}
 use Rattle.std.proofs.Common.{ap, refl, sym, subst, inl, inr, ◌∙◌}
 use Rattle.std.specs.Prelude.{◌⊎◌, if◌then◌else◌, slice_get, unwrap_or}
 use Rattle.std.proofs.lemmas.Bool.{leb-true}
-use Rattle.live.specs.Wires.{History}
+use Rattle.live.specs.OctetStreams.{StreamHistory}
 use Rattle.sim.specs.Losses.{or_else}
 use Rattle.sim.specs.declared.directive.Class.{Class}
 use Rattle.sim.specs.declared.directive.Class.TheVariants.{One}
-use Rattle.live.specs.declared.wires.Got.{Got}
-use Rattle.live.specs.declared.wires.Got.TheVariants.{Octets, Quiet, Gone}
-use Rattle.stations.specs.Exchanges.{Exchange, Exchanged, IsAnswered, Standing, latest_delay}
+use Rattle.live.specs.declared.ends.Got.{Got}
+use Rattle.live.specs.declared.ends.Got.TheVariants.{Octets, Quiet, Gone}
+use Rattle.stations.specs.Exchanges.{RequestExchange, Exchanged, IsRequestAnswered}
+use Rattle.stations.specs.Exchanges.{OutstationsState, latest_delay}
 use Rattle.stations.specs.Late.{LateAnswer, has_passed, late_after, late_behind, late_now}
-use Rattle.stations.specs.Places.{IsAnsweredAt, IsHeardAt, Looks, OutstationServer, after_visit}
+use Rattle.stations.specs.Places.{IsAnsweredAt, IsReceivedAt, LooksOnce, OutstationServer}
+use Rattle.stations.specs.Places.{after_accept}
 use Rattle.stations.specs.Replying.{GivesReply, RepliesBy, RepliesEach, RepliesFrom}
 use Rattle.stations.specs.Replying.{RepliesTo, command_at, manner_of}
-use Rattle.stations.specs.Stages.{IsRound, RoundsAt, Stage, TellsSince, WasHeld, passed_since}
-use Rattle.stations.specs.Telling.{GivesDue, IsReported, TellsEach, due_in}
-use Rattle.stations.specs.declared.cue.Due.{Due}
-use Rattle.stations.specs.declared.outstations.replying.Progress.{Progress}
+use Rattle.stations.specs.TimedServers.{IsRound, RoundsAt, TimedServer, ReportsSince, WasHeld}
+use Rattle.stations.specs.TimedServers.{passed_since}
+use Rattle.stations.specs.Reporting.{GivesDue, IsReported, LinesReport, due_in}
+use Rattle.stations.specs.declared.cue.DueReport.{DueReport}
+use Rattle.stations.specs.declared.outstations.replying.ReplyProgress.{ReplyProgress}
 
 -- what waits is an answer that waited before, or one to a request of just now, or nothing
 IsFresh : Option LateAnswer → Type 0
@@ -45,119 +48,128 @@ stays_so : (a b c d : Option LateAnswer) → a ≡ b → d ≡ c → Stays a c �
 stays_so a b c d e f s = subst (λ (x : Option LateAnswer). Stays b x) (sym f)
     (subst (λ (x : Option LateAnswer). Stays x c) e s)
 
-exchanged_stays : (old new : Standing) (xs : List Exchange) → Exchanged old xs new →
+exchanged_stays : (old new : OutstationsState) (xs : List RequestExchange) → Exchanged old xs new →
     Stays old.late new.late
 unfolding Stays
-exchanged_stays old new [] h = inl (ap (λ (s : Standing). s.late) h)
+exchanged_stays old new [] h = inl (ap (λ (s : OutstationsState). s.late) h)
 exchanged_stays old new (x ∷ xs) h =
-    let a : IsAnswered old x.request x.answer h.0 = h.1 in
+    let a : IsRequestAnswered old x.request x.answer h.0 = h.1 in
     stays_on old.late h.0.late new.late
-    (stays_so a.heard.late old.late
-    (late_behind (latest_delay a.heard) a.back a.heard.late) h.0.late
-    (ap (λ (s : Standing). s.late) a.comes.new_is) (ap (λ (s : Standing). s.late) a.new_is)
-    (behind_stays (latest_delay a.heard) a.back a.heard.late))
+    (stays_so a.received.late old.late
+    (late_behind (latest_delay a.received) a.back a.received.late) h.0.late
+    (ap (λ (s : OutstationsState). s.late) a.comes.new_is)
+    (ap (λ (s : OutstationsState). s.late) a.new_is)
+    (behind_stays (latest_delay a.received) a.back a.received.late))
     (exchanged_stays h.0 new xs h.2)
 
-answered_stays : (before : History) (old new : OutstationServer) (got : Got) (buf : List ℕ) →
+answered_stays : (before : StreamHistory) (old new : OutstationServer) (got : Got) (buf : List ℕ) →
     IsAnsweredAt before old got buf new → Stays old.standing.late new.standing.late
 unfolding Stays
 answered_stays before old new (Octets len) buf h =
     stays_so old.standing.late old.standing.late h.2.mid.late new.standing.late refl
-    (ap (λ (s : Standing). s.late) h.2.new_is)
+    (ap (λ (s : OutstationsState). s.late) h.2.new_is)
     (exchanged_stays old.standing h.2.mid h.2.exchanges h.2.answered)
 answered_stays before old new Quiet buf h = inl (ap (λ (p : OutstationServer). p.standing.late) h)
 answered_stays before old new Gone buf h = inl (ap (λ (p : OutstationServer). p.standing.late) h)
 
-heard_stays : (wire : Option History) (old new : OutstationServer) → IsHeardAt wire old new →
+received_stays : (stream : Option StreamHistory) (old new : OutstationServer)
+    → IsReceivedAt stream old new →
     Stays old.standing.late new.standing.late
 unfolding Stays
-heard_stays None old new h = inl (ap (λ (p : OutstationServer). p.standing.late) h)
-heard_stays (Some before) old new h = answered_stays before old new h.0 h.1 h.2
+received_stays None old new h = inl (ap (λ (p : OutstationServer). p.standing.late) h)
+received_stays (Some before) old new h = answered_stays before old new h.0 h.1 h.2
 
-visited_stays : (p : OutstationServer) (visitor : Option History) →
-    Stays p.standing.late (after_visit p visitor).standing.late
+accepted_stays : (p : OutstationServer) (accepted : Option StreamHistory) →
+    Stays p.standing.late (after_accept p accepted).standing.late
 unfolding Stays IsFresh
-visited_stays p None = inl refl
-visited_stays p (Some wire) = inr tt
+accepted_stays p None = inl refl
+accepted_stays p (Some stream) = inr tt
 
-looked_stays : (old new : OutstationServer) → Looks old new
+looked_stays : (old new : OutstationServer) → LooksOnce old new
     → Stays old.standing.late new.standing.late
 looked_stays old new l =
-    stays_on old.standing.late (after_visit old l.visitor).standing.late new.standing.late
-    (visited_stays old l.visitor)
-    (heard_stays (after_visit old l.visitor).wire (after_visit old l.visitor) new l.heard)
+    stays_on old.standing.late (after_accept old l.accepted).standing.late new.standing.late
+    (accepted_stays old l.accepted)
+    (received_stays (after_accept old l.accepted).stream (after_accept old l.accepted) new
+    l.received)
 
 -- ---- Reports change nothing of it
 
-reported_keeps : (i : ℕ) (class : Class) (report : List ℕ) (old : Standing) (is_taken : Bool)
-    (new : Standing) → IsReported i class report old is_taken new → new.late ≡ old.late
-reported_keeps i class report old true new r = ap (λ (s : Standing). s.late) r.new_is
-reported_keeps i class report old false new r = ap (λ (s : Standing). s.late) r.new_is
+reported_keeps : (i : ℕ) (class : Class) (report : List ℕ) (old : OutstationsState)
+    (is_taken : Bool)
+    (new : OutstationsState) → IsReported i class report old is_taken new → new.late ≡ old.late
+reported_keeps i class report old true new r = ap (λ (s : OutstationsState). s.late) r.new_is
+reported_keeps i class report old false new r = ap (λ (s : OutstationsState). s.late) r.new_is
 
-due_keeps : (passed i : ℕ) (due : Option Due) (old new : Standing) →
+due_keeps : (passed i : ℕ) (due : Option DueReport) (old new : OutstationsState) →
     GivesDue passed i due old new → new.late ≡ old.late
-due_keeps passed i None old new h = ap (λ (s : Standing). s.late) h
+due_keeps passed i None old new h = ap (λ (s : OutstationsState). s.late) h
 due_keeps passed i (Some d) old new (true, mid, r, e) =
-    ap (λ (s : Standing). s.late) e ∙ reported_keeps d.station d.class d.report old true mid r
+    ap (λ (s : OutstationsState). s.late) e
+    ∙ reported_keeps d.station d.class d.report old true mid r
 due_keeps passed i (Some d) old new (false, mid, r, e) =
-    ap (λ (s : Standing). s.late) e ∙ reported_keeps d.station d.class d.report old false mid r
+    ap (λ (s : OutstationsState). s.late) e
+    ∙ reported_keeps d.station d.class d.report old false mid r
 
-told_keeps : (passed n : ℕ) (old new : Standing) → TellsEach passed n old new →
+reported_keeps : (passed n : ℕ) (old new : OutstationsState) → LinesReport passed n old new →
     new.late ≡ old.late
-told_keeps passed zero old new h = ap (λ (s : Standing). s.late) h
-told_keeps passed (suc n) old new h =
-    due_keeps passed n (due_in passed n h.0.cues) h.0 new h.2 ∙ told_keeps passed n old h.0 h.1
+reported_keeps passed zero old new h = ap (λ (s : OutstationsState). s.late) h
+reported_keeps passed (suc n) old new h =
+    due_keeps passed n (due_in passed n h.0.cues) h.0 new h.2 ∙ reported_keeps passed n old h.0 h.1
 
 since_keeps : (now : ℕ) (start : Option ℕ) (old new : OutstationServer)
-    → TellsSince now start old new →
+    → ReportsSince now start old new →
     new.standing.late ≡ old.standing.late
 since_keeps now None old new h = ap (λ (p : OutstationServer). p.standing.late) h
 since_keeps now (Some start) old new h =
-    told_keeps (passed_since start now) (length old.standing.cues) old.standing new.standing h.told
+    reported_keeps (passed_since start now) (length old.standing.cues) old.standing new.standing
+    h.reported
 
-gives_keeps : (i : ℕ) (reply : Option (List ℕ)) (old new : Standing) →
+gives_keeps : (i : ℕ) (reply : Option (List ℕ)) (old new : OutstationsState) →
     GivesReply i reply old new → new.late ≡ old.late
-gives_keeps i None old new h = ap (λ (s : Standing). s.late) h
+gives_keeps i None old new h = ap (λ (s : OutstationsState). s.late) h
 gives_keeps i (Some reply) old new (true, mid, r, e) =
-    ap (λ (s : Standing). s.late) e ∙ reported_keeps i One reply old true mid r
+    ap (λ (s : OutstationsState). s.late) e ∙ reported_keeps i One reply old true mid r
 gives_keeps i (Some reply) old new (false, mid, r, e) =
-    ap (λ (s : Standing). s.late) e ∙ reported_keeps i One reply old false mid r
+    ap (λ (s : OutstationsState). s.late) e ∙ reported_keeps i One reply old false mid r
 
 replies_to_keeps : (i : ℕ) (refuses is_confirmed : Bool) (command : Option (List ℕ))
-    (old new : Standing) → RepliesTo i refuses is_confirmed command old new → new.late ≡ old.late
-replies_to_keeps i refuses is_confirmed None old new h = ap (λ (s : Standing). s.late) h
+    (old new : OutstationsState) → RepliesTo i refuses is_confirmed command old new → new.late
+    ≡ old.late
+replies_to_keeps i refuses is_confirmed None old new h = ap (λ (s : OutstationsState). s.late) h
 replies_to_keeps i refuses is_confirmed (Some command) old new h =
     gives_keeps i h.0 old new h.2
 
-replies_from_keeps : (i : ℕ) (refuses : Bool) (p : Option Progress) (old new : Standing) →
+replies_from_keeps : (i : ℕ) (refuses : Bool) (p : Option ReplyProgress)
+    (old new : OutstationsState) →
     RepliesFrom i refuses p old new → new.late ≡ old.late
-replies_from_keeps i refuses None old new h = ap (λ (s : Standing). s.late) h
+replies_from_keeps i refuses None old new h = ap (λ (s : OutstationsState). s.late) h
 replies_from_keeps i refuses (Some p) old new h =
     replies_to_keeps i refuses p.is_confirmed (command_at i p.commands old.stations) old new h
 
-replies_by_keeps : (i : ℕ) (refuses : Option Bool) (old new : Standing) →
+replies_by_keeps : (i : ℕ) (refuses : Option Bool) (old new : OutstationsState) →
     RepliesBy i refuses old new → new.late ≡ old.late
-replies_by_keeps i None old new h = ap (λ (s : Standing). s.late) h
+replies_by_keeps i None old new h = ap (λ (s : OutstationsState). s.late) h
 replies_by_keeps i (Some refuses) old new h =
     replies_from_keeps i refuses (slice_get old.progress i) old new h
 
-replies_keep : (n : ℕ) (old new : Standing) → RepliesEach n old new → new.late ≡ old.late
-replies_keep zero old new h = ap (λ (s : Standing). s.late) h
+replies_keep : (n : ℕ) (old new : OutstationsState) → RepliesEach n old new → new.late ≡ old.late
+replies_keep zero old new h = ap (λ (s : OutstationsState). s.late) h
 replies_keep (suc n) old new h =
     replies_by_keeps n (manner_of n h.0.cues) h.0 new h.2 ∙ replies_keep n old h.0 h.1
 
 -- ---- Rounds
 
-round_late : (now : ℕ) (old new : Stage) (r : IsRound now old new) →
+round_late : (now : ℕ) (old new : TimedServer) (r : IsRound now old new) →
     new.place.standing.late ≡ late_after now r.looked.standing.late
 round_late now old new r =
-    replies_keep (length r.told.standing.stations) r.told.standing new.place.standing
+    replies_keep (length r.reported.standing.stations) r.reported.standing new.place.standing
     r.replies.replied
-    ∙ (since_keeps now new.start r.sent r.told r.tells
+    ∙ (since_keeps now new.start r.sent r.reported r.reports
     ∙ ap (λ (p : OutstationServer). p.standing.late) r.gives.new_is)
 
 -- what waits was held in one of these rounds
-HeldSo : (moments : List ℕ) → (old new : Stage) → RoundsAt moments old new → Option LateAnswer
+HeldSo : (moments : List ℕ) → (old new : TimedServer) → RoundsAt moments old new → Option LateAnswer
     → Type 0
 HeldSo moments old new rounds None = Unit {0}
 HeldSo moments old new rounds (Some late) =
@@ -168,7 +180,8 @@ none_passed : (now ms : ℕ) (since : Option ℕ) → since ≡ None → has_pas
 none_passed now ms since e = ap (λ (o : Option ℕ). has_passed now ms o) e
 
 -- one round more
-held_behind : (now : ℕ) (moments : List ℕ) (old mid new : Stage) (before : RoundsAt moments old mid)
+held_behind : (now : ℕ) (moments : List ℕ) (old mid new : TimedServer)
+    (before : RoundsAt moments old mid)
     (round : IsRound now mid new) →
     HeldSo moments old mid before mid.place.standing.late → (late : Option LateAnswer) →
     round.looked.standing.late ≡ late → Stays mid.place.standing.late late →
@@ -198,13 +211,13 @@ held_behind now moments old mid new before round held (Some late) is (inr fresh)
       inl (refl, is ∙ ap (λ (o : Option ℕ). Some (record late { since = o })) fresh),
     )
 
-held_over : (moments : List ℕ) (old new : Stage) (rounds : RoundsAt moments old new) →
+held_over : (moments : List ℕ) (old new : TimedServer) (rounds : RoundsAt moments old new) →
     old.place.standing.late ≡ None →
     HeldSo moments old new rounds new.place.standing.late
 unfolding HeldSo
 held_over [] old new rounds none =
     subst (λ (o : Option LateAnswer). HeldSo [] old new rounds o)
-    (sym (ap (λ (s : Stage). s.place.standing.late) rounds ∙ none)) tt
+    (sym (ap (λ (s : TimedServer). s.place.standing.late) rounds ∙ none)) tt
 held_over (now ∷ moments) old new (mid, before, round) none =
     subst (λ (o : Option LateAnswer). HeldSo (now ∷ moments) old new (mid, before, round) o)
     (sym (round_late now mid new round))
@@ -212,7 +225,8 @@ held_over (now ∷ moments) old new (mid, before, round) none =
     round.looked.standing.late refl (looked_stays mid.place round.looked round.looks))
 
 -- what goes out late was held, for so long
-sent_was_held : (now : ℕ) (moments : List ℕ) (old mid : Stage) (before : RoundsAt moments old mid)
+sent_was_held : (now : ℕ) (moments : List ℕ) (old mid : TimedServer)
+    (before : RoundsAt moments old mid)
     (octets : List ℕ) → HeldSo moments old mid before mid.place.standing.late →
     (late : Option LateAnswer) → Stays mid.place.standing.late late →
     late_now now late ≡ Some octets →
@@ -244,7 +258,7 @@ sent_was_held now moments old mid before octets held (Some late) (inr fresh) e =
     (none_passed now late.ms late.since fresh) e in
     absurd (let no : ⊥ = cc in no)
 
-pub went_out_when_due : (moments : List ℕ) (now : ℕ) (old mid new : Stage) (octets : List ℕ)
+pub went_out_when_due : (moments : List ℕ) (now : ℕ) (old mid new : TimedServer) (octets : List ℕ)
     (rounds : RoundsAt moments old mid) (round : IsRound now mid new) →
     old.place.standing.late ≡ None →
     late_now now round.looked.standing.late ≡ Some octets →

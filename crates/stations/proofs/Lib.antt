@@ -2,7 +2,7 @@ pub mod Commenting
 pub mod CueLines
 pub mod CueReading
 pub mod Delays
-pub mod Hearings
+pub mod Receiving
 pub mod Holding
 pub mod Placing
 pub mod Rounds
@@ -10,5 +10,5 @@ pub mod BothReadings
 pub mod Replying
 pub mod Requesting
 pub mod Sizes
-pub mod Telling
+pub mod Reporting
 pub mod Timing

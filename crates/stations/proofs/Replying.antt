@@ -11,18 +11,18 @@ use Rattle.asdu.specs.Asdu.{AsduValue}
 use Rattle.link.specs.Requests.{FitsFrame}
 use Rattle.link.specs.Secondary.{Secondary}
 use Rattle.sim.specs.declared.directive.Class.TheVariants.{One}
-use Rattle.stations.specs.Exchanges.{Standing}
+use Rattle.stations.specs.Exchanges.{OutstationsState}
 use Rattle.stations.specs.Progress.{next_step}
 use Rattle.stations.specs.Replies.{IsReply, cause_of_reply, confirmation_of, is_command}
 use Rattle.stations.specs.Replies.{termination_of}
 use Rattle.stations.specs.Replying.{GivesReply, IsAllReplied, IsNext, IsNextTo, Replies}
 use Rattle.stations.specs.Replying.{RepliesBy, RepliesEach, RepliesFrom, RepliesTo, accepted_by}
 use Rattle.stations.specs.Replying.{advanced, command_at, manner_in, manner_of}
-use Rattle.stations.specs.Telling.{IsReported, changed_at}
+use Rattle.stations.specs.Reporting.{IsReported, changed_at}
 use Rattle.stations.specs.declared.cue.Cue.{Cue}
-use Rattle.stations.specs.declared.outstations.replying.Next.TheVariants.{Nothing}
-use Rattle.stations.specs.declared.outstations.replying.Progress.{Progress}
-use Rattle.stations.proofs.Telling.{set_changed}
+use Rattle.stations.specs.declared.outstations.replying.NextReply.TheVariants.{Nothing}
+use Rattle.stations.specs.declared.outstations.replying.ReplyProgress.{ReplyProgress}
+use Rattle.stations.proofs.Reporting.{set_changed}
 
 -- the cause of the reply to an ASDU that was read
 pub cause_read : (refuses is_confirmed : Bool) (w v : AsduValue) (r : Option ℕ) → w ≡ v →
@@ -56,13 +56,13 @@ manner_end station cues i le = rw (drop_all i cues le)
 -- ---- What is next
 
 -- the commands of a station that is here
-command_of : (s : Standing) (i k : ℕ) (one : Secondary) → i < length s.stations →
+command_of : (s : OutstationsState) (i k : ℕ) (one : Secondary) → i < length s.stations →
     one ≡ get_or s.stations i one → command_at i k s.stations ≡ slice_get one.accepted k
 command_of s i k one lt at =
     ap (λ (x : Option Secondary). accepted_by x k)
     (slice_get_read s.stations (length s.stations) i one refl lt at)
 
-next_to : (s : Standing) (i : ℕ) (refuses : Bool) (p : Progress) (one : Secondary)
+next_to : (s : OutstationsState) (i : ℕ) (refuses : Bool) (p : ReplyProgress) (one : Secondary)
     (accepted : List (List ℕ)) (command : List ℕ) (reply : Option (List ℕ)) →
     i < length s.progress → p ≡ get_or s.progress i p → i < length s.stations →
     one ≡ get_or s.stations i one → accepted ≡ one.accepted →
@@ -73,11 +73,12 @@ next_to s i refuses p one accepted command reply here is lt at same found replie
     let there : command_at i p.commands s.stations ≡ Some command =
     command_of s i p.commands one lt at
     ∙ (ap (λ (l : List (List ℕ)). slice_get l p.commands) (sym same) ∙ found) in
-    subst (λ (o : Option Progress). IsNextTo s refuses o i reply)
+    subst (λ (o : Option ReplyProgress). IsNextTo s refuses o i reply)
     (sym (slice_get_read s.progress (length s.progress) i p refl here is))
     (command, there, replies)
 
-pub next_now : (view now : Standing) → view ≡ now → (i : ℕ) (refuses : Bool) (p : Progress)
+pub next_now : (view now : OutstationsState) → view ≡ now
+    → (i : ℕ) (refuses : Bool) (p : ReplyProgress)
     (one : Secondary) (accepted : List (List ℕ)) (command : List ℕ) (reply : Option (List ℕ)) →
     i < length view.progress → p ≡ get_or view.progress i p → i < length view.stations →
     one ≡ get_or view.stations i one → accepted ≡ one.accepted →
@@ -85,12 +86,12 @@ pub next_now : (view now : Standing) → view ≡ now → (i : ℕ) (refuses : B
     IsReply view.size view.sizes refuses p.is_confirmed command reply →
     IsNextTo now refuses (slice_get now.progress i) i reply
 next_now view now e i refuses p one accepted command reply here is lt at same found replies =
-    subst (λ (s : Standing). IsNextTo s refuses (slice_get s.progress i) i reply) e
+    subst (λ (s : OutstationsState). IsNextTo s refuses (slice_get s.progress i) i reply) e
     (next_to view i refuses p one accepted command reply here is lt at same found replies)
 
-pub fits_now : (view now : Standing) → view ≡ now → (reply : List ℕ) →
+pub fits_now : (view now : OutstationsState) → view ≡ now → (reply : List ℕ) →
     FitsFrame view.size reply → FitsFrame now.size reply
-fits_now view now e reply fits = subst (λ (s : Standing). FitsFrame s.size reply) e fits
+fits_now view now e reply fits = subst (λ (s : OutstationsState). FitsFrame s.size reply) e fits
 
 -- an accepted command, of vectors
 pub command_read : {A : Type 0} → (octets : A → List ℕ) (commands : List A) (k : ℕ) (x : A) →
@@ -103,46 +104,47 @@ command_read octets commands k x lt at =
 
 -- ---- One reply
 
-pub advanced_past : (view now : Standing) → view ≡ now → (i : ℕ) → length view.progress ≤ i →
+pub advanced_past : (view now : OutstationsState) → view ≡ now → (i : ℕ) → length view.progress ≤ i
+    →
     now ≡ advanced i now
 advanced_past view now e i le =
-    ap (λ (l : List Progress). record now { progress = l })
+    ap (λ (l : List ReplyProgress). record now { progress = l })
     (sym (unchanged now.progress i
-    (subst (λ (s : Standing). length s.progress ≤ i) e le)))
+    (subst (λ (s : OutstationsState). length s.progress ≤ i) e le)))
   where
-    unchanged : (ps : List Progress) (i : ℕ) → length ps ≤ i → changed_at i next_step ps ≡ ps
+    unchanged : (ps : List ReplyProgress) (i : ℕ) → length ps ≤ i → changed_at i next_step ps ≡ ps
     unchanged [] i le = refl
     unchanged (p ∷ ps) zero le = absurd (omega arith)
     unchanged (p ∷ ps) (suc i) le =
-        ap (λ (l : List Progress). p ∷ l) (unchanged ps i (omega arith))
+        ap (λ (l : List ReplyProgress). p ∷ l) (unchanged ps i (omega arith))
 
-pub advanced_here : (view now : Standing) → view ≡ now → (i : ℕ) (p q : Progress) →
+pub advanced_here : (view now : OutstationsState) → view ≡ now → (i : ℕ) (p q : ReplyProgress) →
     i < length view.progress → p ≡ get_or view.progress i p → q ≡ next_step p →
     record view { progress = slice_set view.progress i q } ≡ advanced i now
 advanced_here view now e i p q lt at f =
-    ap (λ (l : List Progress). record view { progress = l })
+    ap (λ (l : List ReplyProgress). record view { progress = l })
     (set_changed view.progress i next_step p q lt at f)
-    ∙ ap (λ (s : Standing). advanced i s) e
+    ∙ ap (λ (s : OutstationsState). advanced i s) e
 
-by_manner : (i : ℕ) (old new : Standing) (refuses : Bool) (m : Option Bool) →
+by_manner : (i : ℕ) (old new : OutstationsState) (refuses : Bool) (m : Option Bool) →
     Some refuses ≡ m → RepliesBy i (Some refuses) old new → RepliesBy i m old new
 by_manner i old new refuses m e h = subst (λ (o : Option Bool). RepliesBy i o old new) e h
 
-pub not_replied : (i : ℕ) (old : Standing) → None ≡ manner_of i old.cues → Replies i old old
+pub not_replied : (i : ℕ) (old : OutstationsState) → None ≡ manner_of i old.cues → Replies i old old
 not_replied i old e = subst (λ (o : Option Bool). RepliesBy i o old old) e refl
 
-pub all_replied : (i : ℕ) (old : Standing) (refuses : Bool) →
+pub all_replied : (i : ℕ) (old : OutstationsState) (refuses : Bool) →
     Some refuses ≡ manner_of i old.cues → IsNext old i refuses Nothing → Replies i old old
 all_replied i old refuses m is =
     by_manner i old old refuses (manner_of i old.cues) m (go (slice_get old.progress i) is)
   where
-    go : (o : Option Progress) → IsAllReplied old o i → RepliesFrom i refuses o old old
+    go : (o : Option ReplyProgress) → IsAllReplied old o i → RepliesFrom i refuses o old old
     go None none = refl
     go (Some p) none =
         subst (λ (c : Option (List ℕ)). RepliesTo i refuses p.is_confirmed c old old) (sym none)
         refl
 
-replied_to : (i : ℕ) (old new : Standing) (refuses : Bool) (o : Option Progress)
+replied_to : (i : ℕ) (old new : OutstationsState) (refuses : Bool) (o : Option ReplyProgress)
     (reply : Option (List ℕ)) → IsNextTo old refuses o i reply → GivesReply i reply old new →
     RepliesFrom i refuses o old new
 replied_to i old new refuses None reply next gives = absurd next
@@ -150,7 +152,7 @@ replied_to i old new refuses (Some p) reply next gives =
     subst (λ (c : Option (List ℕ)). RepliesTo i refuses p.is_confirmed c old new) (sym next.1)
     (reply, next.2, gives)
 
-pub replied : (i : ℕ) (old new : Standing) (refuses : Bool) (reply : Option (List ℕ)) →
+pub replied : (i : ℕ) (old new : OutstationsState) (refuses : Bool) (reply : Option (List ℕ)) →
     Some refuses ≡ manner_of i old.cues →
     IsNextTo old refuses (slice_get old.progress i) i reply → GivesReply i reply old new →
     Replies i old new
@@ -158,25 +160,28 @@ replied i old new refuses reply m next gives =
     by_manner i old new refuses (manner_of i old.cues) m
     (replied_to i old new refuses (slice_get old.progress i) reply next gives)
 
-pub replies_more : (n : ℕ) (old mid new : Standing) → RepliesEach n old mid → Replies n mid new →
+pub replies_more : (n : ℕ) (old mid new : OutstationsState) → RepliesEach n old mid
+    → Replies n mid new →
     RepliesEach (n + 1) old new
 replies_more n old mid new h r = rw add-one (mid, h, r)
 
 -- a reply was taken as a report, or wasn't
-pub gives_taken : (i : ℕ) (old mid new : Standing) (reply octets : List ℕ) → octets ≡ reply →
+pub gives_taken : (i : ℕ) (old mid new : OutstationsState) (reply octets : List ℕ) → octets ≡ reply
+    →
     IsReported i One octets old true mid → new ≡ advanced i mid →
     GivesReply i (Some reply) old new
 gives_taken i old mid new reply octets e taken n =
     (true, mid, subst (λ (l : List ℕ). IsReported i One l old true mid) e taken, n)
 
-pub gives_waiting : (i : ℕ) (old mid : Standing) (reply octets : List ℕ) → octets ≡ reply →
+pub gives_waiting : (i : ℕ) (old mid : OutstationsState) (reply octets : List ℕ) → octets ≡ reply →
     IsReported i One octets old false mid → GivesReply i (Some reply) old mid
 gives_waiting i old mid reply octets e waits =
     (false, mid, subst (λ (l : List ℕ). IsReported i One l old false mid) e waits, refl)
 
-pub manner_is : (view now : Standing) → view ≡ now → (i : ℕ) (cues : List Cue) (refuses : Bool) →
+pub manner_is : (view now : OutstationsState) → view ≡ now
+    → (i : ℕ) (cues : List Cue) (refuses : Bool) →
     Some refuses ≡ manner_of i cues → cues ≡ view.cues → Some refuses ≡ manner_of i now.cues
 manner_is view now e i cues refuses m same =
     m
     ∙ (ap (λ (l : List Cue). manner_of i l) same
-    ∙ ap (λ (s : Standing). manner_of i s.cues) e)
+    ∙ ap (λ (s : OutstationsState). manner_of i s.cues) e)

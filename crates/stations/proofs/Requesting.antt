@@ -10,9 +10,9 @@ use Rattle.link.specs.Requests.{reading_of}
 use Rattle.link.specs.declared.request.Reading.{Reading}
 use Rattle.link.specs.declared.request.Reading.TheVariants.{Foreign}
 use Rattle.link.specs.Secondary.{Secondary, HearsOctets, IsReadingHeard}
-use Rattle.stations.specs.Exchanges.{Brings, Exchange, requests_joined}
+use Rattle.stations.specs.Exchanges.{Brings, RequestExchange, requests_joined}
 
-pub brought_joined : (size : LinkSize) (so_far octets : List ℕ) (xs : List Exchange)
+pub brought_joined : (size : LinkSize) (so_far octets : List ℕ) (xs : List RequestExchange)
     (last left : List ℕ) → Brings size so_far octets xs last left →
     so_far ++ octets ≡ requests_joined size xs ++ (last ++ left)
 brought_joined size so_far octets [] last left h =
@@ -32,19 +32,19 @@ abbrev pub SpellingsCancel : Type 0
 SpellingsCancel = (size : LinkSize) (f g : Frame) (x y : List ℕ) →
     spelling size f ++ x ≡ spelling size g ++ y → (f ≡ g) × (x ≡ y)
 
-foreign_heard : (old new : Secondary) (reading : Reading) (answer : Option Frame) →
+foreign_received : (old new : Secondary) (reading : Reading) (answer : Option Frame) →
     reading ≡ Foreign → IsReadingHeard old reading answer new → (answer ≡ None) × (new ≡ old)
-foreign_heard old new reading answer e h =
+foreign_received old new reading answer e h =
     let same : IsReadingHeard old Foreign answer new =
     subst (λ (r : Reading). IsReadingHeard old r answer new) e h in
     (same.1, same.2)
 
-pub foreign_unheard : SpellingsCancel → (old new : Secondary) (frame : Frame)
+pub foreign_unread : SpellingsCancel → (old new : Secondary) (frame : Frame)
     (answer : Option Frame) → reading_of old.address frame ≡ Foreign →
     HearsOctets old (spelling old.size frame) answer new → (answer ≡ None) × (new ≡ old)
-foreign_unheard cancel old new frame answer e (inl h) =
+foreign_unread cancel old new frame answer e (inl h) =
     let same : frame ≡ h.0 =
     (cancel old.size frame h.0 [] [] (ap (λ (l : List ℕ). l ++ []) h.1.spelled)).0 in
-    foreign_heard old new (reading_of old.address h.0) answer
+    foreign_received old new (reading_of old.address h.0) answer
     (subst (λ (f : Frame). reading_of old.address f ≡ Foreign) same e) h.2
-foreign_unheard cancel old new frame answer e (inr h) = (h.1, h.2)
+foreign_unread cancel old new frame answer e (inr h) = (h.1, h.2)

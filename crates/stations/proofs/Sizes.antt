@@ -26,19 +26,22 @@ pub begun_sizes : (size : LinkSize) (index : ℕ) (ds : List Directive) (ss : Li
 begun_sizes size index ds [] = tt
 begun_sizes size index ds (s ∷ ss) = (refl, begun_sizes size (index + 1) ds ss)
 
-size_heard : KeepsSize → (octets : List ℕ) (s t : Secondary) (answer : Option Frame) →
+size_received : KeepsSize → (octets : List ℕ) (s t : Secondary) (answer : Option Frame) →
     HearsOctets s octets answer t → t.size ≡ s.size
-size_heard kept octets s t answer (inl h) =
+size_received kept octets s t answer (inl h) =
     ap (λ (u : Secondary). u.size) h.2.2 ∙ kept s (Hear h.2.0 (Some h.0) ∷ [])
-size_heard kept octets s t answer (inr h) = ap (λ (u : Secondary). u.size) h.2
+size_received kept octets s t answer (inr h) = ap (λ (u : Secondary). u.size) h.2
 
-sizes_heard : KeepsSize → (size : LinkSize) (octets : List ℕ) (ss ts : List Secondary)
+sizes_received : KeepsSize → (size : LinkSize) (octets : List ℕ) (ss ts : List Secondary)
     (answer : Option Frame) → HeardByAll octets ss answer ts → HaveSize size ss → HaveSize size ts
-sizes_heard kept size octets [] [] answer h all = tt
-sizes_heard kept size octets [] (t ∷ ts) answer h all = absurd h
-sizes_heard kept size octets (s ∷ ss) [] answer h all = absurd h
-sizes_heard kept size octets (s ∷ ss) (t ∷ ts) answer h all =
-    (size_heard kept octets s t h.0 h.2 ∙ all.0, sizes_heard kept size octets ss ts h.1 h.3 all.1)
+sizes_received kept size octets [] [] answer h all = tt
+sizes_received kept size octets [] (t ∷ ts) answer h all = absurd h
+sizes_received kept size octets (s ∷ ss) [] answer h all = absurd h
+sizes_received kept size octets (s ∷ ss) (t ∷ ts) answer h all = (
+  size_received kept octets s t h.0 h.2 ∙ all.0,
+  sizes_received kept size octets ss ts h.1 h.3
+      all.1,
+)
 
 pub sizes_out : KeepsSize → (size : LinkSize) (fate : RequestFate) (octets : List ℕ)
     (ss ts : List Secondary) (answer : Option Frame) → IsPutOut fate octets ss answer ts →
@@ -46,27 +49,27 @@ pub sizes_out : KeepsSize → (size : LinkSize) (fate : RequestFate) (octets : L
 sizes_out kept size Unheard octets ss ts answer h all =
     subst (λ (us : List Secondary). HaveSize size us) (sym h.1) all
 sizes_out kept size AnswerLost octets ss ts answer h all =
-    sizes_heard kept size octets ss ts answer h all
+    sizes_received kept size octets ss ts answer h all
 sizes_out kept size (AnswerSpoilt place) octets ss ts answer h all =
-    sizes_heard kept size octets ss ts answer h all
+    sizes_received kept size octets ss ts answer h all
 sizes_out kept size Answered octets ss ts answer h all =
-    sizes_heard kept size octets ss ts answer h all
+    sizes_received kept size octets ss ts answer h all
 
-length_heard : (octets : List ℕ) (ss ts : List Secondary) (answer : Option Frame) →
+length_received : (octets : List ℕ) (ss ts : List Secondary) (answer : Option Frame) →
     HeardByAll octets ss answer ts → length ts ≡ length ss
-length_heard octets [] [] answer h = refl
-length_heard octets [] (t ∷ ts) answer h = absurd h
-length_heard octets (s ∷ ss) [] answer h = absurd h
-length_heard octets (s ∷ ss) (t ∷ ts) answer h =
-    omega (arith, length_heard octets ss ts h.1 h.3)
+length_received octets [] [] answer h = refl
+length_received octets [] (t ∷ ts) answer h = absurd h
+length_received octets (s ∷ ss) [] answer h = absurd h
+length_received octets (s ∷ ss) (t ∷ ts) answer h =
+    omega (arith, length_received octets ss ts h.1 h.3)
 
 pub length_out : (fate : RequestFate) (octets : List ℕ) (ss ts : List Secondary)
     (answer : Option Frame) →
     IsPutOut fate octets ss answer ts → length ts ≡ length ss
 length_out Unheard octets ss ts answer h = ap length h.1
-length_out AnswerLost octets ss ts answer h = length_heard octets ss ts answer h
-length_out (AnswerSpoilt place) octets ss ts answer h = length_heard octets ss ts answer h
-length_out Answered octets ss ts answer h = length_heard octets ss ts answer h
+length_out AnswerLost octets ss ts answer h = length_received octets ss ts answer h
+length_out (AnswerSpoilt place) octets ss ts answer h = length_received octets ss ts answer h
+length_out Answered octets ss ts answer h = length_received octets ss ts answer h
 
 -- the stations as they are written back
 pub written_back : (xs ws : List Secondary) (len : ℕ) → length ws ≡ len →

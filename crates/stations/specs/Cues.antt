@@ -1,4 +1,4 @@
--- When a line's report is due (profile). Moments are told in ms behind the start.
+-- When a line's report is due (profile). Moments are given in ms behind the start.
 use Rattle.std.specs.Prelude.{◌≡◌, ℕ, ◌+◌, ◌-◌, ◌/◌, ◌%◌, ◌<◌, ◌≤◌, nat_le, ◌&&◌, Bool, false}
 use Rattle.std.specs.Prelude.{if◌then◌else◌, List}
 use Rattle.std.specs.Prelude.{[], ◌∷◌, Option, Some, None, IfSome}
@@ -6,7 +6,7 @@ use Rattle.ft12.specs.declared.frame.LinkSize.{LinkSize}
 use Rattle.link.specs.Requests.{FitsFrame}
 use Rattle.stations.specs.declared.cue.Cue.{Cue}
 use Rattle.stations.specs.declared.cue.Cue.TheVariants.{Timed}
-use Rattle.stations.specs.declared.cue.Due.{Due}
+use Rattle.stations.specs.declared.cue.DueReport.{DueReport}
 use Rattle.stations.specs.declared.cue.Timer.{Timer}
 
 -- it is due at this moment
@@ -20,7 +20,7 @@ next_due passed None = None
 next_due passed (Some ms) = Some (passed - passed % ms + ms)
 
 -- the report that a line has due at this moment
-abbrev pub report_due : (passed : ℕ) → Cue → Option Due
+abbrev pub report_due : (passed : ℕ) → Cue → Option DueReport
 report_due passed (Timed t) =
     if is_due passed t.due
     then Some (record { station = t.station; class = t.class; report = t.report })

@@ -12,9 +12,9 @@ use Rattle.ft12.specs.declared.frame.LinkSize.{LinkSize}
 use Rattle.ft12.specs.declared.frame.Why.{Why}
 use Rattle.gateway.specs.Config.{Settings}
 use Rattle.link.specs.Secondary.{Secondary}
-use Rattle.live.specs.Wires.{History, Wrote, noted}
-use Rattle.stations.specs.declared.outstations.Heard.{Heard}
-use Rattle.stations.specs.declared.outstations.Heard.TheVariants.{Answered, NotTaken, Rest}
+use Rattle.live.specs.OctetStreams.{StreamHistory, Wrote, noted}
+use Rattle.stations.specs.declared.outstations.ReceivedFront.{ReceivedFront}
+use Rattle.stations.specs.declared.outstations.ReceivedFront.TheVariants.{Answered, NotTaken, Rest}
 use Rattle.sim.specs.Lives.{IsPutOut, arriving, begun_from}
 use Rattle.sim.specs.Losses.{fate_of}
 use Rattle.sim.specs.Texts.{reports_for}
@@ -22,7 +22,7 @@ use Rattle.sim.specs.declared.directive.Directive.{Directive}
 use Rattle.stations.specs.Late.{LateAnswer, at_once, delay_of, late_behind}
 use Rattle.stations.specs.Progress.{none_replied}
 use Rattle.stations.specs.declared.cue.Cue.{Cue}
-use Rattle.stations.specs.declared.outstations.replying.Progress.{Progress}
+use Rattle.stations.specs.declared.outstations.replying.ReplyProgress.{ReplyProgress}
 use Rattle.stations.specs.declared.scenario.Scenario.{Scenario}
 
 -- The outstations of a line: the size of link addresses and the sizes of ASDUs, what the script
@@ -30,14 +30,14 @@ use Rattle.stations.specs.declared.scenario.Scenario.{Scenario}
 -- how far its replies are, how many requests came, as far as 64 bits count, the answer that goes
 -- out
 -- late, if one waits, and the octets that came since the last frame.
-pub record Standing : Type 0 where
+pub record OutstationsState : Type 0 where
   pub size : LinkSize
   pub sizes : Sizes
   pub directives : List Directive
   pub cues : List Cue
   pub stations : List Secondary
   pub had : List ℕ
-  pub progress : List Progress
+  pub progress : List ReplyProgress
   pub requests : ℕ
   pub late : Option LateAnswer
   pub so_far : List ℕ
@@ -48,7 +48,7 @@ first_counts zero ds = []
 first_counts (suc n) ds = first_counts n ds ++ count_by (reports_for n) ds ∷ []
 
 -- before the first request: each was never reset, and has the reports that the script gives it
-abbrev pub first_standing : Settings → Scenario → Standing
+abbrev pub first_standing : Settings → Scenario → OutstationsState
 first_standing c s = record {
   size = c.line.link;
   sizes = c.line.sizes;
@@ -63,64 +63,67 @@ first_standing c s = record {
 }
 
 -- the number of the next request
-abbrev pub next_number : Standing → ℕ
+abbrev pub next_number : OutstationsState → ℕ
 next_number s = min (s.requests + 1) (2 ^ 64 - 1)
 
--- A request is put out to the stations as the script says of its number, of which each hears it or
--- none does; what comes back is what the script leaves of the answer.
-pub record ComesBack (old : Standing) (request : Frame) (back : Option (List ℕ))
-    (new : Standing) : Type 0 where
+-- A request is put out to the stations as the script says of its number, of which each receives it
+-- or none does; what comes back is what the script leaves of the answer.
+pub record ComesBack (old : OutstationsState) (request : Frame) (back : Option (List ℕ))
+    (new : OutstationsState) : Type 0 where
   pub reply : Option Frame
   pub stations : List Secondary
-  pub heard : IsPutOut (fate_of old.directives (next_number old)) (spelling old.size request)
+  pub received : IsPutOut (fate_of old.directives (next_number old)) (spelling old.size request)
       old.stations reply stations
   pub answered : back ≡ arriving old.size (fate_of old.directives (next_number old)) reply
   pub new_is : new ≡ record old { stations = stations; requests = next_number old }
 
 -- how late the script has the answer to the latest request go out
-abbrev pub latest_delay : Standing → Option ℕ
+abbrev pub latest_delay : OutstationsState → Option ℕ
 latest_delay s = delay_of s.requests s.cues
 
 -- What comes back to a request is the answer at once, unless a line of the script delays it: then
 -- it
 -- waits.
-pub record IsAnswered (old : Standing) (request : Frame) (answer : Option (List ℕ))
-    (new : Standing) : Type 0 where
+pub record IsRequestAnswered (old : OutstationsState) (request : Frame) (answer : Option (List ℕ))
+    (new : OutstationsState) : Type 0 where
   pub back : Option (List ℕ)
-  pub heard : Standing
-  pub comes : ComesBack old request back heard
-  pub answered : answer ≡ at_once (latest_delay heard) back
-  pub new_is : new ≡ record heard { late = late_behind (latest_delay heard) back heard.late }
+  pub received : OutstationsState
+  pub comes : ComesBack old request back received
+  pub answered : answer ≡ at_once (latest_delay received) back
+  pub new_is : new
+      ≡ record received { late = late_behind (latest_delay received) back received.late }
 
--- a request, what was written for it, and whether the wire took that
-pub record Exchange : Type 0 where
+-- a request, what was written for it, and whether the stream took that
+pub record RequestExchange : Type 0 where
   pub request : Frame
   pub answer : Option (List ℕ)
   pub is_taken : Bool
 
--- the wire took what was written, or nothing was
-abbrev pub took : Exchange → Bool
+-- the stream took what was written, or nothing was
+abbrev pub took : RequestExchange → Bool
 took x = is_none x.answer || x.is_taken
 
 -- requests, one after another
-abbrev pub Exchanged : (old : Standing) → List Exchange → (new : Standing) → Type 0
+abbrev pub Exchanged : (old : OutstationsState) → List RequestExchange → (new : OutstationsState)
+    → Type 0
 Exchanged old [] new = new ≡ old
 Exchanged old (x ∷ xs) new =
-    (mid : Standing) × IsAnswered old x.request x.answer mid × Exchanged mid xs new
+    (mid : OutstationsState) × IsRequestAnswered old x.request x.answer mid × Exchanged mid xs new
 
 -- an answer is written in one piece, and nothing where there is none
-abbrev pub answer_written : History → Option (List ℕ) → (is_taken : Bool) → History
+abbrev pub answer_written : StreamHistory → Option (List ℕ) → (is_taken : Bool) → StreamHistory
 answer_written before None is_taken = before
 answer_written before (Some octets) is_taken = noted before (Wrote octets is_taken)
 
-abbrev pub written : History → List Exchange → History
+abbrev pub written : StreamHistory → List RequestExchange → StreamHistory
 written before [] = before
 written before (x ∷ xs) = written (answer_written before x.answer x.is_taken) xs
 
 -- Octets come behind those that came since the last frame. These are the requests of the whole
 -- frames at their front, one after another (IEC 60870-5-1, 6.2.4.2); behind the last one these are
 -- its octets so far, and these are left.
-abbrev pub Brings : LinkSize → (so_far octets : List ℕ) → List Exchange → (last left : List ℕ)
+abbrev pub Brings : LinkSize → (so_far octets : List ℕ) → List RequestExchange
+    → (last left : List ℕ)
     → Type 0
 Brings size so_far octets [] last left = (last ≡ so_far) × (left ≡ octets)
 Brings size so_far octets (x ∷ xs) last left =
@@ -128,57 +131,59 @@ Brings size so_far octets (x ∷ xs) last left =
     × Brings size [] (drop n octets) xs last left
 
 -- the octets of requests, one after another
-abbrev pub requests_joined : LinkSize → List Exchange → List ℕ
-requests_joined size xs = flat_map (λ (x : Exchange). spelling size x.request) xs
+abbrev pub requests_joined : LinkSize → List RequestExchange → List ℕ
+requests_joined size xs = flat_map (λ (x : RequestExchange). spelling size x.request) xs
 
 -- What is kept of octets that are left behind those so far, and aren't a whole frame: where none
 -- are left those so far, else the beginning of a frame, or nothing where they begin none.
-pub data IsKept (size : LinkSize) (last left : List ℕ) : (kept : List ℕ) → Type 0 where
-  NoneLeft : left ≡ [] → IsKept size last left last
-  Begun : IsFront size (last ++ left) More → IsKept size last left (last ++ left)
+pub data IsKeptRest (size : LinkSize) (last left : List ℕ) : (kept : List ℕ) → Type 0 where
+  NoneLeft : left ≡ [] → IsKeptRest size last left last
+  Begun : IsFront size (last ++ left) More → IsKeptRest size last left (last ++ left)
   Spoilt : (place : ℕ) (why : Why) → IsFront size (last ++ left) (Never place why)
-      → IsKept size last left []
+      → IsKeptRest size last left []
 
--- What is heard at the front of octets that came: a whole frame, which ends behind so many of them,
--- and is answered; or else all are kept, or dropped.
-pub record IsFrameHeard (old : Standing) (octets : List ℕ) (before after : History) (n : ℕ)
-    (is_taken : Bool) (new : Standing) : Type 0 where
-  pub exchange : Exchange
-  pub mid : Standing
+-- What is received at the front of octets that came: a whole frame, which ends behind so many of
+-- them, and is answered; or else all are kept, or dropped.
+pub record IsFrameReceived (old : OutstationsState) (octets : List ℕ) (before after : StreamHistory)
+    (n : ℕ)
+    (is_taken : Bool) (new : OutstationsState) : Type 0 where
+  pub exchange : RequestExchange
+  pub mid : OutstationsState
   pub front : IsFront old.size (old.so_far ++ octets)
       (Whole exchange.request (length old.so_far + n))
-  pub answered : IsAnswered old exchange.request exchange.answer mid
+  pub answered : IsRequestAnswered old exchange.request exchange.answer mid
   pub wrote : after ≡ answer_written before exchange.answer exchange.is_taken
   pub taken : is_taken ≡ took exchange
   pub new_is : new ≡ record mid { so_far = [] }
 
-pub record IsRestKept (old : Standing) (octets : List ℕ) (before after : History)
-    (new : Standing) : Type 0 where
+pub record IsRestKept (old : OutstationsState) (octets : List ℕ) (before after : StreamHistory)
+    (new : OutstationsState) : Type 0 where
   pub kept : List ℕ
-  pub is_kept : IsKept old.size old.so_far octets kept
+  pub is_kept : IsKeptRest old.size old.so_far octets kept
   pub nothing_wrote : after ≡ before
   pub new_is : new ≡ record old { so_far = kept }
 
-abbrev pub IsHeard : (old : Standing) → (octets : List ℕ) → (before after : History) → Heard
-    → (new : Standing) → Type 0
-IsHeard old octets before after (Answered n) new =
-    IsFrameHeard old octets before after n true new × (n ≤ length octets) × (1 ≤ n)
-IsHeard old octets before after NotTaken new =
-    (n : ℕ) × IsFrameHeard old octets before after n false new
-IsHeard old octets before after Rest new = IsRestKept old octets before after new
+abbrev pub IsFrontReceived : (old : OutstationsState) → (octets : List ℕ)
+    → (before after : StreamHistory) → ReceivedFront
+    → (new : OutstationsState) → Type 0
+IsFrontReceived old octets before after (Answered n) new =
+    IsFrameReceived old octets before after n true new × (n ≤ length octets) × (1 ≤ n)
+IsFrontReceived old octets before after NotTaken new =
+    (n : ℕ) × IsFrameReceived old octets before after n false new
+IsFrontReceived old octets before after Rest new = IsRestKept old octets before after new
 
 -- Octets came: the stations answered each whole frame among them, and each answer was written,
--- once, in their order, up to the first that the wire didn't take. Where it took all, what is kept
--- begins the next frame.
-pub record HasHeard (old : Standing) (octets : List ℕ) (before after : History)
-    (is_taken : Bool) (new : Standing) : Type 0 where
-  pub exchanges : List Exchange
+-- once, in their order, up to the first that the stream didn't take. Where it took all, what is
+-- kept begins the next frame.
+pub record HasReceived (old : OutstationsState) (octets : List ℕ) (before after : StreamHistory)
+    (is_taken : Bool) (new : OutstationsState) : Type 0 where
+  pub exchanges : List RequestExchange
   pub last : List ℕ
   pub left : List ℕ
-  pub mid : Standing
+  pub mid : OutstationsState
   pub brought : Brings old.size old.so_far octets exchanges last left
   pub answered : Exchanged old exchanges mid
   pub wrote : after ≡ written before exchanges
   pub taken : is_taken ≡ list_all took exchanges
-  pub whole : is_taken ≡ true → IsKept old.size last left new.so_far
+  pub whole : is_taken ≡ true → IsKeptRest old.size last left new.so_far
   pub new_is : new ≡ record mid { so_far = new.so_far }

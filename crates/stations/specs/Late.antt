@@ -6,7 +6,7 @@ use Rattle.stations.specs.declared.cue.Cue.{Cue}
 use Rattle.stations.specs.declared.cue.Cue.TheVariants.{Delayed}
 
 -- An answer that goes out so many ms behind its request, and the moment of the round in which the
--- request was heard, once that is known.
+-- request was received, once that is known.
 pub record LateAnswer : Type 0 where
   pub octets : List ℕ
   pub ms : ℕ
@@ -44,7 +44,7 @@ abbrev pub late_now : (now : ℕ) → Option LateAnswer → Option (List ℕ)
 late_now now None = None
 late_now now (Some late) = if has_passed now late.ms late.since then Some late.octets else None
 
--- what waits behind that round: if the request was heard in it, from its moment on
+-- what waits behind that round: if the request was received in it, from its moment on
 abbrev pub late_after : (now : ℕ) → Option LateAnswer → Option LateAnswer
 late_after now None = None
 late_after now (Some late) =

@@ -7,5 +7,5 @@ pub mod Progress
 pub mod Replies
 pub mod Replying
 pub mod Scenarios
-pub mod Stages
-pub mod Telling
+pub mod TimedServers
+pub mod Reporting

@@ -5,15 +5,16 @@ use Rattle.link.specs.Requests.{FitsFrame}
 use Rattle.link.specs.Secondary.{Secondary}
 use Rattle.sim.specs.Losses.{or_else}
 use Rattle.sim.specs.declared.directive.Class.TheVariants.{One}
-use Rattle.stations.specs.Exchanges.{Standing}
+use Rattle.stations.specs.Exchanges.{OutstationsState}
 use Rattle.stations.specs.Progress.{next_step}
 use Rattle.stations.specs.Replies.{IsReply}
-use Rattle.stations.specs.Telling.{IsReported, changed_at}
+use Rattle.stations.specs.Reporting.{IsReported, changed_at}
 use Rattle.stations.specs.declared.cue.Cue.{Cue}
 use Rattle.stations.specs.declared.cue.Cue.TheVariants.{Confirm, Refuse}
-use Rattle.stations.specs.declared.outstations.replying.Next.{Next}
-use Rattle.stations.specs.declared.outstations.replying.Next.TheVariants.{Nothing, NoReply, Reply}
-use Rattle.stations.specs.declared.outstations.replying.Progress.{Progress}
+use Rattle.stations.specs.declared.outstations.replying.NextReply.{NextReply}
+use Rattle.stations.specs.declared.outstations.replying.NextReply.TheVariants.{Nothing, NoReply}
+use Rattle.stations.specs.declared.outstations.replying.NextReply.TheVariants.{Reply}
+use Rattle.stations.specs.declared.outstations.replying.ReplyProgress.{ReplyProgress}
 
 -- how the first line that speaks of it has a station reply to commands: whether it refuses them
 abbrev pub manner_in : (station : ℕ) → Cue → Option Bool
@@ -25,7 +26,7 @@ abbrev pub manner_of : (station : ℕ) → List Cue → Option Bool
 manner_of station [] = None
 manner_of station (cue ∷ cues) = or_else (manner_in station cue) (manner_of station cues)
 
-abbrev pub advanced : (station : ℕ) → Standing → Standing
+abbrev pub advanced : (station : ℕ) → OutstationsState → OutstationsState
 advanced i s = record s { progress = changed_at i next_step s.progress }
 
 -- the command with this number, from 0, that a station accepted
@@ -39,50 +40,52 @@ command_at i k ss = accepted_by (slice_get ss i) k
 -- A station that refuses commands, or confirms them, gives its next reply as a report of class 1.
 -- As long as it takes no report the reply waits. To a command without such a reply it is one
 -- further at once.
-abbrev pub GivesReply : (station : ℕ) → (reply : Option (List ℕ)) → (old new : Standing) → Type 0
+abbrev pub GivesReply : (station : ℕ) → (reply : Option (List ℕ)) → (old new : OutstationsState)
+    → Type 0
 GivesReply i None old new = new ≡ advanced i old
 GivesReply i (Some reply) old new =
-    (is_taken : Bool) × (mid : Standing) × IsReported i One reply old is_taken mid
+    (is_taken : Bool) × (mid : OutstationsState) × IsReported i One reply old is_taken mid
     × (new ≡ (if is_taken then advanced i mid else mid))
 
 abbrev pub RepliesTo : (station : ℕ) → (refuses is_confirmed : Bool) → (command : Option (List ℕ))
-    → (old new : Standing) → Type 0
+    → (old new : OutstationsState) → Type 0
 RepliesTo i refuses is_confirmed None old new = new ≡ old
 RepliesTo i refuses is_confirmed (Some command) old new =
     (reply : Option (List ℕ)) × IsReply old.size old.sizes refuses is_confirmed command reply
     × GivesReply i reply old new
 
-abbrev pub RepliesFrom : (station : ℕ) → (refuses : Bool) → Option Progress
-    → (old new : Standing) → Type 0
+abbrev pub RepliesFrom : (station : ℕ) → (refuses : Bool) → Option ReplyProgress
+    → (old new : OutstationsState) → Type 0
 RepliesFrom i refuses None old new = new ≡ old
 RepliesFrom i refuses (Some p) old new =
     RepliesTo i refuses p.is_confirmed (command_at i p.commands old.stations) old new
 
-abbrev pub RepliesBy : (station : ℕ) → (refuses : Option Bool) → (old new : Standing) → Type 0
+abbrev pub RepliesBy : (station : ℕ) → (refuses : Option Bool) → (old new : OutstationsState)
+    → Type 0
 RepliesBy i None old new = new ≡ old
 RepliesBy i (Some refuses) old new = RepliesFrom i refuses (slice_get old.progress i) old new
 
-abbrev pub Replies : (station : ℕ) → (old new : Standing) → Type 0
+abbrev pub Replies : (station : ℕ) → (old new : OutstationsState) → Type 0
 Replies i old new = RepliesBy i (manner_of i old.cues) old new
 
 -- so many stations, one after another
-abbrev pub RepliesEach : (stations : ℕ) → (old new : Standing) → Type 0
+abbrev pub RepliesEach : (stations : ℕ) → (old new : OutstationsState) → Type 0
 RepliesEach zero old new = new ≡ old
-RepliesEach (suc n) old new = (mid : Standing) × RepliesEach n old mid × Replies n mid new
+RepliesEach (suc n) old new = (mid : OutstationsState) × RepliesEach n old mid × Replies n mid new
 
 -- What is next: nothing, since all is replied to; or there is a command, and this is the reply.
-abbrev pub IsNextTo : Standing → (refuses : Bool) → Option Progress → (station : ℕ)
+abbrev pub IsNextTo : OutstationsState → (refuses : Bool) → Option ReplyProgress → (station : ℕ)
     → (reply : Option (List ℕ)) → Type 0
 IsNextTo s refuses None i reply = ⊥
 IsNextTo s refuses (Some p) i reply =
     (command : List ℕ) × (command_at i p.commands s.stations ≡ Some command)
     × IsReply s.size s.sizes refuses p.is_confirmed command reply
 
-abbrev pub IsAllReplied : Standing → Option Progress → (station : ℕ) → Type 0
+abbrev pub IsAllReplied : OutstationsState → Option ReplyProgress → (station : ℕ) → Type 0
 IsAllReplied s None i = Unit {0}
 IsAllReplied s (Some p) i = command_at i p.commands s.stations ≡ None
 
-abbrev pub IsNext : Standing → (station : ℕ) → (refuses : Bool) → Next → Type 0
+abbrev pub IsNext : OutstationsState → (station : ℕ) → (refuses : Bool) → NextReply → Type 0
 IsNext s i refuses Nothing = IsAllReplied s (slice_get s.progress i) i
 IsNext s i refuses NoReply = IsNextTo s refuses (slice_get s.progress i) i None
 IsNext s i refuses (Reply reply) =

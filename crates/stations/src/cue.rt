@@ -8,7 +8,7 @@ use sim::Class;
 /// The longest time that passes in a play, in ms: what passes later counts as this.
 pub(crate) const LAST_MS: u64 = 999_999_999_999_999;
 
-/// A report that a station has at its moments, which are told in ms behind the start.
+/// A report that a station has at its moments, which are given in ms behind the start.
 #[derive(Drop)]
 pub struct Timer {
     /// The station's index, from 0.
@@ -38,7 +38,7 @@ pub enum Cue {
 
 /// A report that is due.
 #[derive(Drop)]
-pub(crate) struct Due {
+pub(crate) struct DueReport {
     pub(crate) station: usize,
     pub(crate) class: Class,
     pub(crate) report: Asdu,
@@ -68,11 +68,11 @@ impl Cue {
     ghost use Rattle.stations.specs.Cues.{IsTimely};
 
     /// The report that is due, so many ms behind the start.
-    pub(crate) fn due(&self, passed: u64) -> Option<Due>
+    pub(crate) fn due(&self, passed: u64) -> Option<DueReport>
         ensures { result ≡ report_due passed self.now }
     {
         match self {
-            Cue::Timed(timer) if is_due(passed, timer.due) => Some(Due {
+            Cue::Timed(timer) if is_due(passed, timer.due) => Some(DueReport {
                 station: timer.station,
                 class: timer.class,
                 report: timer.report.copied(),

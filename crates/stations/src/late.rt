@@ -13,7 +13,7 @@ pub(crate) struct Late {
     octets: ArrayVec<u8, 261>,
     /// So many ms behind its request.
     ms: u64,
-    /// The moment of the round in which the request was heard, in ms, once that is known.
+    /// The moment of the round in which the request was received, in ms, once that is known.
     since: Option<u64>,
 }
 

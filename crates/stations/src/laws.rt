@@ -8,11 +8,12 @@ ghost use Rattle.link.specs.Requests.{reading_of};
 ghost use Rattle.link.specs.declared.request.Reading.TheVariants.{Foreign};
 ghost use Rattle.link.specs.Secondary.{Secondary, HearsOctets};
 ghost use Rattle.stations.specs.Cues.{AreInPeriods, IsOneFrom, given_moments};
-ghost use Rattle.stations.specs.Exchanges.{Brings, ComesBack, Exchange, IsAnswered, Standing};
+ghost use Rattle.stations.specs.Exchanges.{Brings, ComesBack, RequestExchange, IsRequestAnswered};
+ghost use Rattle.stations.specs.Exchanges.{OutstationsState};
 ghost use Rattle.stations.specs.Exchanges.{next_number, requests_joined};
 ghost use Rattle.stations.specs.Late.{delay_of, late_behind, late_now};
 ghost use Rattle.stations.specs.Places.{LooksOn};
-ghost use Rattle.stations.specs.Stages.{IsRound, RoundsAt, Stage, WasHeld};
+ghost use Rattle.stations.specs.TimedServers.{IsRound, RoundsAt, TimedServer, WasHeld};
 ghost use Rattle.stations.specs.declared.cue.Timer.{Timer};
 
 use ft12::spellings_cancel;
@@ -20,14 +21,14 @@ use ft12::spellings_cancel;
 /// The requests that are answered are what came over the line, and nothing else: the octets that
 /// came are those of the requests, one after another, and what is left behind the last.
 pub fn requests_are_what_came()
-    ensures { (size : LinkSize) (so_far octets : List ℕ) (exchanges : List Exchange)
+    ensures { (size : LinkSize) (so_far octets : List ℕ) (exchanges : List RequestExchange)
         (last left : List ℕ) → Brings size so_far octets exchanges last left →
         so_far ++ octets ≡ requests_joined size exchanges ++ (last ++ left) }
 {}
 
-/// A station hears the requests with its own address alone: a frame that isn't one to it changes
+/// A station takes the requests with its own address alone: a frame that isn't one to it changes
 /// nothing at it, and it doesn't answer.
-pub fn stations_hear_their_own_requests()
+pub fn stations_take_their_own_requests_alone()
     ensures { (old new : Secondary) (frame : Frame) (answer : Option Frame) →
         reading_of old.address frame ≡ Foreign →
         HearsOctets old (spelling old.size frame) answer new →
@@ -52,17 +53,18 @@ pub fn reports_come_at_their_moments()
 /// what came back waits as it is. Octets go out late in a round only if they were the answer to a
 /// request of an earlier round, which a line delays. So many ms have passed since that round, and
 /// hadn't at any round between. This holds for all rounds behind a beginning, whatever the clock
-/// tells, and whoever comes and goes.
+/// gives, and whoever comes and goes.
 pub fn late_answers_go_out_when_due()
-    ensures others { (old new : Standing) (request : Frame) (answer : Option (List ℕ)) →
-        delay_of (next_number old) old.cues ≡ None → IsAnswered old request answer new →
+    ensures others { (old new : OutstationsState) (request : Frame) (answer : Option (List ℕ)) →
+        delay_of (next_number old) old.cues ≡ None → IsRequestAnswered old request answer new →
         ComesBack old request answer new }
-    ensures held { (old new : Standing) (request : Frame) (answer : Option (List ℕ)) (ms : ℕ) →
-        delay_of (next_number old) old.cues ≡ Some ms → IsAnswered old request answer new →
-        (answer ≡ None) × (back : Option (List ℕ)) × (heard : Standing)
-        × ComesBack old request back heard
-        × (new ≡ record heard { late = late_behind (Some ms) back heard.late }) }
-    ensures late { (moments : List ℕ) (now : ℕ) (old mid new : Stage) (octets : List ℕ)
+    ensures held { (old new : OutstationsState) (request : Frame) (answer : Option (List ℕ))
+        (ms : ℕ) →
+        delay_of (next_number old) old.cues ≡ Some ms → IsRequestAnswered old request answer new →
+        (answer ≡ None) × (back : Option (List ℕ)) × (received : OutstationsState)
+        × ComesBack old request back received
+        × (new ≡ record received { late = late_behind (Some ms) back received.late }) }
+    ensures late { (moments : List ℕ) (now : ℕ) (old mid new : TimedServer) (octets : List ℕ)
         (rounds : RoundsAt moments old mid) (round : IsRound now mid new) →
         old.place.standing.late ≡ None →
         late_now now round.looked.standing.late ≡ Some octets →
@@ -71,9 +73,9 @@ pub fn late_answers_go_out_when_due()
 {}
 
 /// Where a script has no lines for the outstations alone, rounds are looks at the ends, and nothing
-/// else, whatever the clock tells.
+/// else, whatever the clock gives.
 pub fn without_lines_of_their_own_all_stays()
-    ensures { (moments : List ℕ) (old new : Stage) → old.place.standing.cues ≡ [] →
+    ensures { (moments : List ℕ) (old new : TimedServer) → old.place.standing.cues ≡ [] →
         old.place.standing.late ≡ None → RoundsAt moments old new →
         LooksOn (length moments) old.place new.place }
 {}

@@ -5,26 +5,26 @@
 
 mod cue;
 mod cue_line;
-mod doors;
 mod late;
 mod laws;
+mod listeners;
 mod outstations;
 mod place;
 mod playing;
 mod reading;
 mod replies;
 mod scenario;
-mod stage;
+mod timed_server;
 
 pub use cue::{Cue, Timer};
-pub use doors::{LineGuest, LineListener};
 pub use laws::{
     late_answers_go_out_when_due, reports_come_at_their_moments, requests_are_what_came,
-    stations_hear_their_own_requests, without_lines_of_their_own_all_stays,
+    stations_take_their_own_requests_alone, without_lines_of_their_own_all_stays,
 };
+pub use listeners::{GatewaySocket, LineListener};
 pub use outstations::Outstations;
 pub use place::OutstationServer;
 pub use playing::{play, serve};
 pub use reading::read_scenario;
 pub use scenario::Scenario;
-pub use stage::Stage;
+pub use timed_server::TimedServer;

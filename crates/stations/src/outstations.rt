@@ -6,15 +6,16 @@ ghost use Rattle.std.specs.Option.{is_none};
 ghost use Rattle.ft12.specs.Spelling.{Fits};
 ghost use Rattle.sim.specs.Texts.{reports_for};
 ghost use Rattle.stations.specs.Scenarios.{FitsScenario};
-ghost use Rattle.stations.specs.Exchanges.{ComesBack, HasHeard, IsAnswered, IsHeard};
+ghost use Rattle.stations.specs.Exchanges.{ComesBack, HasReceived, IsRequestAnswered};
+ghost use Rattle.stations.specs.Exchanges.{IsFrontReceived};
 ghost use Rattle.stations.specs.Exchanges.{answer_written, first_counts, first_standing};
 ghost use Rattle.stations.specs.Exchanges.{latest_delay};
 ghost use Rattle.stations.specs.Late.{at_once, late_after, late_behind, late_now};
 
 mod replying;
-mod telling;
+mod reporting;
 
-use self::replying::{Progress, none_replied};
+use self::replying::{ReplyProgress, none_replied};
 use crate::cue::Cue;
 use crate::late::{Late, delay_of};
 use crate::scenario::Scenario;
@@ -23,12 +24,12 @@ use asdu::Sizes;
 use ft12::{Assembler, Frame, LinkSize, encode};
 use gateway::Config;
 use link::{NoMemory, Station, station_is_an_outstation};
-use live::Wire;
+use live::OctetStream;
 use sim::{Directive, Script, arriving, begin, put_out};
 use std::alloc::Global;
 use std::marker::Model;
 
-/// The outstations of a line, with the reports that a script gives them. They hear requests, of
+/// The outstations of a line, with the reports that a script gives them. They receive requests, of
 /// which the script loses some, and some of whose answers it loses or spoils.
 #[derive(Drop)]
 pub struct Outstations {
@@ -42,7 +43,7 @@ pub struct Outstations {
     /// How many reports each station had, with those that it gave.
     had: Vec<u64>,
     /// How far each station's replies to commands are.
-    progress: Vec<Progress>,
+    progress: Vec<ReplyProgress>,
     /// How many requests came.
     requests: u64,
     /// The answer that goes out late, if one waits.
@@ -53,10 +54,10 @@ pub struct Outstations {
 
 /// What the front of octets that came was.
 #[derive(Clone, Copy)]
-enum Heard {
+enum ReceivedFront {
     /// A frame that ends behind so many of them, which was answered.
     Answered(usize),
-    /// A frame whose answer the wire didn't take.
+    /// A frame whose answer the stream didn't take.
     NotTaken,
     /// No whole frame.
     Rest,
@@ -66,9 +67,9 @@ impl Model for Outstations {
     ghost use Rattle.std.specs.Prelude.{◌≡◌, [], Some, unwrap_or};
     ghost use Rattle.std.specs.List.{AllByRecursion};
     ghost use Rattle.stations.specs.Cues.{FitsLine};
-    ghost use Rattle.stations.specs.Exchanges.{Standing};
+    ghost use Rattle.stations.specs.Exchanges.{OutstationsState};
 
-    ghost Value = { Standing };
+    ghost Value = { OutstationsState };
 
     ghost view = { λ o. record {
       size = o.size;
@@ -151,8 +152,8 @@ impl Outstations {
         })
     }
 
-    /// The stations hear a request, unless the script loses it. What comes back is what the script
-    /// leaves of the answer.
+    /// The stations receive a request, unless the script loses it. What comes back is what the
+    /// script leaves of the answer.
     fn ask(&mut self, request: &Frame) -> Option<ArrayVec<u8, 261>>
         requires { Fits self.old.size request.now }
         ensures { ComesBack self.old request.now (option_map (λ v. v.items) result) self.new }
@@ -183,67 +184,69 @@ impl Outstations {
         None
     }
 
-    /// The stations hear a request. What comes back is the answer at once, unless the script delays
-    /// it.
+    /// The stations receive a request. What comes back is the answer at once, unless the script
+    /// delays it.
     fn answer(&mut self, request: &Frame) -> Option<ArrayVec<u8, 261>>
         requires { Fits self.old.size request.now }
-        ensures { IsAnswered self.old request.now (option_map (λ v. v.items) result) self.new }
+        ensures { IsRequestAnswered self.old request.now (option_map (λ v. v.items) result)
+            self.new }
     {
         let back = self.ask(request);
         self.hold(back)
     }
 
-    /// The stations answer a request, and the wire is given what goes out at once. `false` says
+    /// The stations answer a request, and the stream is given what goes out at once. `false` says
     /// that it didn't take that.
-    fn reply<W: Wire>(&mut self, request: &Frame, wire: &mut W) -> bool
+    fn reply<S: OctetStream>(&mut self, request: &Frame, stream: &mut S) -> bool
         requires { Fits self.old.size request.now }
-        ensures { (answer : Option (List ℕ)) × IsAnswered self.old request.now answer self.new
-            × (W.history wire.new ≡ answer_written (W.history wire.old) answer result)
+        ensures { (answer : Option (List ℕ))
+            × IsRequestAnswered self.old request.now answer self.new
+            × (S.history stream.new ≡ answer_written (S.history stream.old) answer result)
             × (result ≡ (is_none answer || result)) }
     {
         match self.answer(request) {
-            Some(octets) => wire.write(octets.as_slice()),
+            Some(octets) => stream.write(octets.as_slice()),
             None => true,
         }
     }
 
-    /// Hears the front of octets that came, up to the end of a frame.
-    fn hear_front<W: Wire>(&mut self, octets: &[u8], wire: &mut W) -> Heard
+    /// Receives the front of octets that came, up to the end of a frame.
+    fn receive_front<S: OctetStream>(&mut self, octets: &[u8], stream: &mut S) -> ReceivedFront
         requires { 1 ≤ length octets.now }
-        ensures { IsHeard self.old octets.now (W.history wire.old) (W.history wire.new) result
-            self.new }
+        ensures { IsFrontReceived self.old octets.now (S.history stream.old) (S.history stream.new)
+            result self.new }
     {
-        let (taken, heard) = self.line.feed(octets);
-        match heard {
+        let (taken, received) = self.line.feed(octets);
+        match received {
             ft12::Heard::Frame(request) => {
-                if self.reply(&request, wire) {
-                    Heard::Answered(taken)
+                if self.reply(&request, stream) {
+                    ReceivedFront::Answered(taken)
                 } else {
-                    Heard::NotTaken
+                    ReceivedFront::NotTaken
                 }
             }
-            ft12::Heard::More => Heard::Rest,
+            ft12::Heard::More => ReceivedFront::Rest,
             ft12::Heard::Never(..) | ft12::Heard::Deaf => {
                 self.line.clear();
-                Heard::Rest
+                ReceivedFront::Rest
             }
         }
     }
 
     /// Octets came over the line, in any piece. The stations answer each whole frame among them,
     /// and each answer that the script doesn't delay is written at once. Octets that begin no frame
-    /// are dropped, with those behind them in the piece. `false` says that the wire didn't take an
-    /// answer; what is behind that request isn't heard.
-    pub fn hear<W: Wire>(&mut self, octets: &[u8], wire: &mut W) -> bool
-        ensures { HasHeard self.old octets.now (W.history wire.old) (W.history wire.new) result
-            self.new }
+    /// are dropped, with those behind them in the piece. `false` says that the stream didn't take
+    /// an answer; what is behind that request isn't read.
+    pub fn receive<S: OctetStream>(&mut self, octets: &[u8], stream: &mut S) -> bool
+        ensures { HasReceived self.old octets.now (S.history stream.old) (S.history stream.new)
+            result self.new }
     {
         let mut left = octets;
         'frames: while !left.is_empty() {
-            match self.hear_front(left, wire) {
-                Heard::Answered(taken) => left = &left[taken..],
-                Heard::NotTaken => return false,
-                Heard::Rest => return true,
+            match self.receive_front(left, stream) {
+                ReceivedFront::Answered(taken) => left = &left[taken..],
+                ReceivedFront::NotTaken => return false,
+                ReceivedFront::Rest => return true,
             }
         }
         true
@@ -258,8 +261,8 @@ impl Outstations {
         self.late = None;
     }
 
-    /// The answer that goes out late in a round at this moment, in ms. One whose request was heard
-    /// in this round waits from the moment on.
+    /// The answer that goes out late in a round at this moment, in ms. One whose request was
+    /// received in this round waits from the moment on.
     pub(crate) fn take_late(&mut self, now: u64) -> Option<ArrayVec<u8, 261>>
         ensures octets { option_map (λ v. v.items) result ≡ late_now now self.old.late }
         ensures late { self.new ≡ record self.old { late = late_after now self.old.late } }

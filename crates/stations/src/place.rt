@@ -1,23 +1,23 @@
-//! The outstations behind a door.
+//! The outstations behind a listener.
 ghost use Rattle.std.specs.Prelude.{◌≡◌, ◌≤◌, [], None, Option, is_some};
-ghost use Rattle.live.specs.Wires.{History};
-ghost use Rattle.stations.specs.Places.{GivesLate, IsGiven, IsHeardAt, IsVisitor, Looks};
-ghost use Rattle.stations.specs.Places.{RepliesAll, TellsAll, after_visit};
+ghost use Rattle.live.specs.OctetStreams.{StreamHistory};
+ghost use Rattle.stations.specs.Places.{GivesLate, IsGiven, IsReceivedAt, IsNewStream, LooksOnce};
+ghost use Rattle.stations.specs.Places.{RepliesAll, AllLinesReport, after_accept};
 
 use crate::outstations::Outstations;
-use live::{Door, Got, Guests, Visitor, Wire};
+use live::{Accepted, AllowList, Got, Listener, OctetStream};
 use std::marker::Model;
 
-/// The outstations behind a door, through which a gateway comes as to a serial device server.
+/// The outstations behind a listener, to which a gateway connects as to a serial device server.
 #[derive(Drop)]
-pub struct OutstationServer<D: Door + Drop> {
+pub struct OutstationServer<L: Listener + Drop> {
     outstations: Outstations,
-    door: D,
-    guests: Guests,
-    connection: Option<Visitor<D::Wire>>,
+    listener: L,
+    allow_list: AllowList,
+    connection: Option<Accepted<L::Stream>>,
 }
 
-impl<D: Door + Drop> Model for OutstationServer<D> {
+impl<L: Listener + Drop> Model for OutstationServer<L> {
     ghost use Rattle.std.specs.Prelude.{option_map};
     ghost use Rattle.stations.specs.Places.{OutstationServer as AsPlace};
 
@@ -25,37 +25,41 @@ impl<D: Door + Drop> Model for OutstationServer<D> {
 
     ghost view = { λ p. record {
       standing = p.outstations;
-      wire = option_map (λ v. D.Wire.history v.wire) p.connection;
-      door = D.visits p.door;
+      stream = option_map (λ v. L.Stream.history v.stream) p.connection;
+      listener = L.attempts p.listener;
     } };
 }
 
-impl<D: Door + Drop> OutstationServer<D> {
-    /// These outstations behind this door, with no gateway yet. Whoever comes is let in.
-    pub fn new(outstations: Outstations, door: D) -> OutstationServer<D>
-        ensures { result ≡ record { standing = outstations; wire = None; door = D.visits door } }
+impl<L: Listener + Drop> OutstationServer<L> {
+    /// These outstations behind this listener, with no gateway yet. Whoever connects is accepted.
+    pub fn new(outstations: Outstations, listener: L) -> OutstationServer<L>
+        ensures { result ≡ record {
+          standing = outstations;
+          stream = None;
+          listener = L.attempts listener;
+        } }
     {
         OutstationServer {
             outstations,
-            door,
-            guests: Guests::Anyone,
+            listener,
+            allow_list: AllowList::Anyone,
             connection: None,
         }
     }
 
-    /// Looks at each end once, without a long wait. Who comes through the door takes the place of
-    /// the gateway that was there; what came from it is answered. A gateway that is gone, or
-    /// doesn't take an answer, is let go.
+    /// Looks at each end once, without a long wait. Who connects takes the place of the gateway
+    /// that was there; what came from it is answered. A gateway that is gone, or doesn't take an
+    /// answer, is let go.
     pub fn look(&mut self)
-        ensures { Looks self.old self.new }
+        ensures { LooksOnce self.old self.new }
     {
-        self.let_in();
-        self.hear();
+        self.accept();
+        self.receive();
     }
 
     /// Whether a gateway is there.
     pub(crate) fn is_met(&self) -> bool
-        ensures { result ≡ is_some self.now.wire }
+        ensures { result ≡ is_some self.now.stream }
     {
         self.connection.is_some()
     }
@@ -72,24 +76,24 @@ impl<D: Door + Drop> OutstationServer<D> {
 
     /// Gives the gateway these octets, if one is there.
     fn give(&mut self, octets: &[u8])
-        ensures given { IsGiven octets.now self.old.wire self.new.wire }
-        ensures new { self.new ≡ record self.old { wire = self.new.wire } }
+        ensures given { IsGiven octets.now self.old.stream self.new.stream }
+        ensures new { self.new ≡ record self.old { stream = self.new.stream } }
     {
-        let Some(mut visitor) = self.connection.take() else {
+        let Some(mut accepted) = self.connection.take() else {
             return;
         };
-        if visitor.wire.write(octets) {
-            self.connection = Some(visitor);
+        if accepted.stream.write(octets) {
+            self.connection = Some(accepted);
         }
     }
 
     /// Each line of the script gives its station the report that it has due, so many ms behind the
     /// start.
-    pub(crate) fn tell_all(&mut self, passed: u64)
+    pub(crate) fn give_reports(&mut self, passed: u64)
         requires { passed ≤ 999999999999999 }
-        ensures { TellsAll passed self.old self.new }
+        ensures { AllLinesReport passed self.old self.new }
     {
-        self.outstations.tell_all(passed);
+        self.outstations.give_reports(passed);
     }
 
     /// Each station gives its next reply to the commands that it accepted.
@@ -99,32 +103,32 @@ impl<D: Door + Drop> OutstationServer<D> {
         self.outstations.reply_all();
     }
 
-    /// Looks at the door.
-    fn let_in(&mut self)
-        ensures { (visitor : Option History) × IsVisitor visitor
-            × (self.new ≡ after_visit self.old visitor) }
+    /// Looks at the listener.
+    fn accept(&mut self)
+        ensures { (accepted : Option StreamHistory) × IsNewStream accepted
+            × (self.new ≡ after_accept self.old accepted) }
     {
-        if let Some(visitor) = self.door.accept(&self.guests) {
+        if let Some(accepted) = self.listener.accept(&self.allow_list) {
             self.outstations.begin();
-            self.connection = Some(visitor);
+            self.connection = Some(accepted);
         }
     }
 
-    /// Looks at the wire of the gateway.
-    fn hear(&mut self)
-        ensures { IsHeardAt self.old.wire self.old self.new }
+    /// Looks at the stream of the gateway.
+    fn receive(&mut self)
+        ensures { IsReceivedAt self.old.stream self.old self.new }
     {
-        let Some(mut visitor) = self.connection.take() else {
+        let Some(mut accepted) = self.connection.take() else {
             return;
         };
         let mut buf = [0; 1024];
-        match visitor.wire.read(&mut buf) {
+        match accepted.stream.read(&mut buf) {
             Got::Octets(len) => {
-                if self.outstations.hear(&buf[..len], &mut visitor.wire) {
-                    self.connection = Some(visitor);
+                if self.outstations.receive(&buf[..len], &mut accepted.stream) {
+                    self.connection = Some(accepted);
                 }
             }
-            Got::Quiet => self.connection = Some(visitor),
+            Got::Quiet => self.connection = Some(accepted),
             Got::Gone => {}
         }
     }

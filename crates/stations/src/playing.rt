@@ -1,15 +1,15 @@
 //! The outstations, played on.
 ghost use Rattle.std.specs.Prelude.{IfOk};
 ghost use Rattle.stations.specs.Scenarios.{FitsScenario};
-ghost use Rattle.stations.specs.Stages.{PlaysOn, first_stage};
+ghost use Rattle.stations.specs.TimedServers.{PlaysOn, first_server};
 
 use crate::outstations::Outstations;
 use crate::place::OutstationServer;
 use crate::scenario::Scenario;
-use crate::stage::Stage;
+use crate::timed_server::TimedServer;
 use gateway::Config;
 use link::NoMemory;
-use live::{Clock, Door};
+use live::{Listener, RunClock};
 use std::alloc::Global;
 use std::thread;
 use std::time::Duration;
@@ -17,40 +17,40 @@ use std::time::Duration;
 /// How long it is from one look to the next, in ms. Far below the time that an answer may take.
 const LOOK_MS: u64 = 1;
 
-/// Does so many rounds, each at the moment that the clock tells then, with a pause behind each.
+/// Does so many rounds, each at the moment that the clock gives then, with a pause behind each.
 #[tactic(auto, using(crate::proofs::Rounds::plays_more))]
-pub fn play<R: std::rt::Clock, C: Clock, D: Door + Drop>(
+pub fn play<R: std::rt::Clock, C: RunClock, L: Listener + Drop>(
     rt: &R,
     clock: &mut C,
-    stage: &mut Stage<D>,
+    server: &mut TimedServer<L>,
     rounds: u64,
 )
-    ensures { PlaysOn rounds (C.moments clock.old) (C.moments clock.new) stage.old stage.new }
+    ensures { PlaysOn rounds (C.moments clock.old) (C.moments clock.new) server.old server.new }
 {
     for _ in 0..rounds {
         let now = clock.now_ms();
-        stage.round(now);
+        server.round(now);
         thread::sleep(rt, Duration::from_millis(LOOK_MS));
     }
 }
 
-/// Plays the outstations of a text behind a door, so many rounds. An `Err` is want of memory; then
-/// nobody was let in.
-pub fn serve<R: std::rt::Clock, C: Clock, D: Door + Drop>(
+/// Plays the outstations of a text behind a listener, so many rounds. An `Err` is want of memory;
+/// then nobody was accepted.
+pub fn serve<R: std::rt::Clock, C: RunClock, L: Listener + Drop>(
     rt: &R,
     alloc: Global,
     config: &Config,
     scenario: Scenario,
     clock: &mut C,
-    door: D,
+    listener: L,
     rounds: u64,
-) -> Result<Stage<D>, NoMemory>
+) -> Result<TimedServer<L>, NoMemory>
     requires { FitsScenario config.now scenario }
     ensures { IfOk result (PlaysOn rounds (C.moments clock.old) (C.moments clock.new)
-        (first_stage config.now scenario (D.visits door))) }
+        (first_server config.now scenario (L.attempts listener))) }
 {
     let outstations = Outstations::new(alloc, config, scenario)?;
-    let mut stage = Stage::new(OutstationServer::new(outstations, door));
-    play(rt, clock, &mut stage, rounds);
-    Ok(stage)
+    let mut server = TimedServer::new(OutstationServer::new(outstations, listener));
+    play(rt, clock, &mut server, rounds);
+    Ok(server)
 }

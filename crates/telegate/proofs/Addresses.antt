@@ -7,7 +7,7 @@ use Rattle.std.specs.Borrow.{Bor}
 use Rattle.std.specs.List.{Contains}
 use Rattle.std.specs.declared.net.ip_addr.IpAddr.{IpAddr}
 use Rattle.clap.specs.Words.{Text}
-use Rattle.telegate.specs.Guests.{AreAddresses, IsGuestsFault, Writes, WritesNone}
+use Rattle.telegate.specs.AllowLists.{AreAddresses, IsAllowListFault, Writes, WritesNone}
 use Rattle.telegate.specs.declared.fault.Fault.TheVariants.{Address}
 
 -- one more word, with its address
@@ -57,8 +57,8 @@ module _ {A : Type 0} (text : A → Text) where
   pub refused : (given : Option (Bor (List A))) (words : Bor (List A)) (i : ℕ) (d : A)
       → given ≡ Some words → i < length words.now →
       WritesNone (text (get_or words.now i d))
-      → IsGuestsFault (option_map (λ ws. map text ws.now) given) Address
+      → IsAllowListFault (option_map (λ ws. map text ws.now) given) Address
   refused given words i d is within none =
       let P : Option (Bor (List A))
-      → Type 0 = λ g. IsGuestsFault (option_map (λ ws. map text ws.now) g) Address in
+      → Type 0 = λ g. IsAllowListFault (option_map (λ ws. map text ws.now) g) Address in
       subst P (sym is) (text (get_or words.now i d), (among words.now i d within, none))

@@ -27,14 +27,14 @@ told_nothing None missed new = refl
 told_nothing (Some text) None new = refl
 told_nothing (Some text) (Some log) new = rw (new.0, new.1)
 
--- so its record tells an empty log, or none
+-- so its record has an empty log, or none
 pub new_tells_nothing : (r : Recording) → IsNew r.taken r.missed → r.held ≡ []
     → told_first (log_of r) (Some []) ≡ Some []
 new_tells_nothing r new none =
     ap (λ held. told_first (told_behind (added r.taken held) r.missed) (Some [])) none
     ∙ told_nothing r.taken r.missed new
 
--- and all that was told is what passed before
+-- and all that passed is what passed before
 pub told_before : (before : Log) (pen : Recording) (told : Option Log)
     → told_first (log_of pen) (Some []) ≡ Some []
     → told ≡ Some [] → all_told before pen told ≡ Some before

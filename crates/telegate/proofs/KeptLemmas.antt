@@ -1,6 +1,6 @@
 -- The faults with which a live run doesn't begin.
 use Rattle.std.proofs.Common.{◌≡◌, Bool, true, false, refl, sym, subst}
-use Rattle.runlog.specs.Telling.{Book}
+use Rattle.runlog.specs.Logging.{Book}
 use Rattle.telegate.specs.Kept.{IsEndFault, IsKeptFault}
 use Rattle.telegate.specs.Told.{IsUnkept, fault_of}
 use Rattle.telegate.specs.declared.fault.Fault.{Fault}

@@ -4,7 +4,7 @@ use Rattle.std.proofs.Common.{append_assoc}
 use Rattle.gateway.specs.Log.{Log, tell}
 use Rattle.telegate.specs.Lives.{behind}
 
--- where the port inside was told it, so was the whole
+-- where the port inside logged it, so did the whole
 pub told_behind : (before : Log) (old new : Option Log) (news : Log) → new ≡ tell old news
     → behind before new ≡ tell (behind before old) news
 told_behind before None new news is = rw is

@@ -1,4 +1,4 @@
--- Lines of a pipe, told one after another.
+-- Lines of a pipe, shown one after another.
 use Rattle.std.proofs.Common.{◌≡◌, ◌⊎◌, inl, inr, ℕ, Bool, true, false, List, [], ◌∷◌, ◌++◌, Option}
 use Rattle.std.proofs.Common.{None, refl, sym, subst, ap, ◌∙◌, append_assoc}
 use Rattle.std.proofs.lemmas.List.{append-nil}
@@ -76,7 +76,7 @@ module _ (piped : Piped) (words : Bool) where
         judged = judged;
       }
 
-  -- the first lines of some were told, and these are left
+  -- the first lines of some were shown, and these are left
   pub record LinesTo (all left : List (List ℕ)) (text : List ℕ) (o : Outcome) : Type 0 where
     pub done : List (List ℕ)
     pub split : all ≡ done ++ left
@@ -104,7 +104,7 @@ module _ (piped : Piped) (words : Bool) where
   lines_end all text o h = subst (λ (ls : List (List ℕ)). AreLinesTold piped words ls text o)
       (sym (h.split ∙ append-nil h.done)) h.told
 
-  -- so much of a text was read and told
+  -- so much of a text was read and shown
   pub record PipesTo (known coming : Option (List ℕ)) (o : Outcome)
       (old new : Option (List ℕ)) : Type 0 where
     pub before : List ℕ

@@ -4,7 +4,7 @@ use Rattle.std.specs.Borrow.{Bor}
 use Rattle.clap.specs.Words.{Text}
 use Rattle.gateway.specs.Config.{Settings}
 use Rattle.gateway.specs.Log.{Log}
-use Rattle.live.specs.Ends.{Ends}
+use Rattle.live.specs.Ends.{LiveEnds}
 use Rattle.record.specs.Recording.{Recording}
 use Rattle.state.specs.declared.beginning.Origin.{Origin}
 use Rattle.telegate.specs.Kept.{HasLivedFrom}
@@ -13,18 +13,18 @@ use Rattle.telegate.specs.Ran.{HasLivedAs}
 use Rattle.telegate.specs.declared.host.Wishes.{Wishes}
 
 pub lived_anew : {E : Type 0} (begins : Origin → Type 0) (settings : Settings) (wishes : Wishes)
-    (port : Ends)
+    (port : LiveEnds)
     (pen : Recording) (ended : Result (Unit {0}) E) → wishes.state ≡ None
-    → HasLived settings wishes.guests false [] port pen ended
+    → HasLived settings wishes.allow_list false [] port pen ended
     → HasLivedAs begins settings wishes ended
 lived_anew begins settings wishes port pen ended none lived =
     rw none (record { port = port; pen = pen; lived = lived })
 
 pub lived_kept : {E : Type 0} (begins : Origin → Type 0) (settings : Settings) (wishes : Wishes)
     (directory : Bor Text)
-    (before : Log) (port : Ends) (pen : Recording) (ended : Result (Unit {0}) E) → wishes.state
+    (before : Log) (port : LiveEnds) (pen : Recording) (ended : Result (Unit {0}) E) → wishes.state
     ≡ Some directory
-    → HasLivedFrom begins settings wishes.guests before port pen ended
+    → HasLivedFrom begins settings wishes.allow_list before port pen ended
     → HasLivedAs begins settings wishes ended
 lived_kept begins settings wishes directory before port pen ended named lived =
     rw named (record { before = before; port = port; pen = pen; lived = lived })

@@ -20,7 +20,7 @@ use Rattle.telegate.proofs.PartLemmas.{rest_begins, rest_last, rest_more}
 
 -- Whether a text is a record
 
--- whether a line among these tells an action
+-- whether a line among these is that of an action
 abbrev pub tell_actions : List (List ℕ) → Bool
 tell_actions lines = list_any tells_action lines
 
@@ -36,7 +36,7 @@ some_here line lines left is some =
     ap tell_actions is ∙ list_any-append tells_action (line ∷ []) lines
     ∙ ap (λ (b : Bool). (b || false) || tell_actions lines) some
 
--- a text was read so far, and no line of it tells one
+-- a text was read so far, and no line of it is one's
 pub record SeeksTo (known coming : Option (List ℕ)) : Type 0 where
   pub before : List ℕ
   pub rest : IsRest known before coming
@@ -81,7 +81,7 @@ module _ (known coming : Option (List ℕ)) (h : SeeksTo known coming) (block : 
     is = sym (h.none lines ∙ none);
   }
 
-  -- or a line of it tells one
+  -- or a line of it is one's
   pub seeks_found : tell_actions (lines_of lines) ≡ true → IsFoundIn known true
   seeks_found some = by block.is_over refl
     where

@@ -1,4 +1,4 @@
--- What is told of a directory that has this.
+-- What is answered of a directory that has this.
 use Rattle.std.proofs.Common.{ℕ, List, Option}
 use Rattle.std.specs.Prelude.{Result, Ok, Err}
 use Rattle.state_files.specs.declared.looking.Stood.{Stood}

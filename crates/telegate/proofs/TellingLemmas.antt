@@ -1,4 +1,4 @@
--- Runs over parts of a text that are told in words.
+-- Runs over parts of a text that are printed in words.
 use Rattle.std.proofs.Common.{◌≡◌, ℕ, Bool, true, false, List, [], ◌∷◌, ◌++◌, Option, refl, sym}
 use Rattle.std.proofs.Common.{subst, ap, ◌∙◌, append_assoc}
 use Rattle.std.proofs.lemmas.List.{append-nil}
@@ -16,7 +16,7 @@ use Rattle.telegate.specs.Telling.{HasWritten}
 use Rattle.telegate.proofs.PartLemmas.{RunsTo, part_start, runs_begin}
 use Rattle.telegate.proofs.Poured.{appends_none}
 
--- nothing is told of nothing
+-- nothing is written of nothing
 pub no_words : (style : Style) → IsLadder style [] []
 no_words style = record { mind = first_remembered style.sizes.link; told = (refl, refl) }
 
@@ -72,7 +72,7 @@ tells_begin style r known coming began s scribe old all fresh new = record {
 module _ (style : Style) (s : Standing) (text : List ℕ) (began : State) (start port : Progress)
     (fresh : start ≡ part_start s text) (course : port.part ≡ start.part)
     (whole : events_of port.log ++ coming_in port ≡ script_of port.part) where
-  -- a part was left, of whose first entries so much was told
+  -- a part was left, of whose first entries so much was written
   pub telling_stopped : (first news : Log) (words : List ℕ) (old new : Option (List ℕ))
       → port.log ≡ news ++ first
       → StaysFaithful began start.log first → IsLadder style first words → IsBegun old new words

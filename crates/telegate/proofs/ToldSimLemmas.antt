@@ -1,4 +1,4 @@
--- Runs over a simulated line that are told in words: what their ends say.
+-- Runs over a simulated line that are printed in words: what their ends say.
 use Rattle.std.proofs.Common.{◌≡◌, ◌≤◌, ℕ, ◌++◌, subst, Bool, List, [], Option, Some, inr, refl}
 use Rattle.std.specs.Prelude.{Result, Ok, Err}
 use Rattle.gateway.specs.Config.{Settings}
@@ -36,7 +36,7 @@ module _ (c : Settings) (ds : List Directive) (is_coloured : Bool) (s : Simulate
     ≡ plan_of c ds)
     (stands : Stands s.plan s.log s.stations s.standing)
     (faithful : IsFaithful (setup_of c) s.log) where
-  -- a run that stopped, of whose first entries so much was told
+  -- a run that stopped, of whose first entries so much was written
   pub words_stopped : (first news : Log) (words : List ℕ) (old new : Option (List ℕ))
       → s.log ≡ news ++ first
       → IsLadder (style_of c is_coloured) first words → IsBegun old new words

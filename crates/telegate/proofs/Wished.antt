@@ -5,11 +5,11 @@ use Rattle.std.specs.Prelude.{codes, map, string_bytes, String, Vec}
 use Rattle.std.specs.Borrow.{Bor}
 use Rattle.std.specs.declared.alloc.Global.{Global}
 use Rattle.clap.specs.Words.{Text}
-use Rattle.live.specs.declared.guests.Guests.{Guests}
+use Rattle.live.specs.declared.allow_list.AllowList.{AllowList}
 use Rattle.sitefile.specs.Site.{IsSiteOf, SiteNames, site_of, texts_in}
 use Rattle.sitefile.specs.declared.fault.SiteFault.TheVariants as why
-use Rattle.telegate.specs.Guests.{AreGuests, IsGuestsFault}
-use Rattle.telegate.specs.Wishes.{AreNoSiteGuests, AreWishes, IsFirstSiteFault, IsGoodSite}
+use Rattle.telegate.specs.AllowLists.{IsAllowListOf, IsAllowListFault}
+use Rattle.telegate.specs.Wishes.{IsNoSiteAllowList, AreWishes, IsFirstSiteFault, IsGoodSite}
 use Rattle.telegate.specs.Wishes.{IsWishFault, Said, nothing_said, said_in, said_of}
 use Rattle.sitefile.specs.declared.site.Site.{Site as SiteFile}
 use Rattle.telegate.specs.declared.fault.Fault.{Fault}
@@ -18,37 +18,39 @@ use Rattle.telegate.specs.declared.host.Wishes.{Wishes}
 
 -- a text of the site's file that writes no address is a fault of its key
 pub no_address : (texts : Option (List Text)) (path : Bor Text) → path.now ≡ codes "allow"
-    → IsGuestsFault texts Address → AreNoSiteGuests texts (Site (why.Key path))
+    → IsAllowListFault texts Address → IsNoSiteAllowList texts (Site (why.Key path))
 no_address texts path is none = (is, none)
 
 -- any other fault is want of memory
-pub no_memory : (texts : Option (List Text)) (fault : Fault) → IsGuestsFault texts fault
+pub no_memory : (texts : Option (List Text)) (fault : Fault) → IsAllowListFault texts fault
     → (fault ≡ Address → ⊥)
-    → AreNoSiteGuests texts fault
+    → IsNoSiteAllowList texts fault
 no_memory texts Address fault other = absurd (other refl)
 no_memory texts NoMemory fault other = tt
 no_memory texts _ fault other = absurd fault
 
 -- who is named by the texts of the site's file
-pub are_guests : (allow : Option (Vec (String Global) Global))
+pub is_allow_list : (allow : Option (Vec (String Global) Global))
     (addresses : Vec (String Global) Global)
-    (texts : Bor (List (String Global))) (guests : Guests) → allow ≡ Some addresses → texts.now
+    (texts : Bor (List (String Global))) (allow_list : AllowList) → allow ≡ Some addresses
+    → texts.now
     ≡ addresses.items
-    → AreGuests (Some (map string_bytes texts.now)) guests
-    → AreGuests (option_map texts_in allow) guests
-are_guests allow addresses texts guests named same are =
-    rw named (subst (λ (ts : List (String Global)). AreGuests (Some (map string_bytes ts)) guests)
+    → IsAllowListOf (Some (map string_bytes texts.now)) allow_list
+    → IsAllowListOf (option_map texts_in allow) allow_list
+is_allow_list allow addresses texts allow_list named same are =
+    rw named
+    (subst (λ (ts : List (String Global)). IsAllowListOf (Some (map string_bytes ts)) allow_list)
     same are)
 
 -- why these name nobody
 pub why_not : (allow : Option (Vec (String Global) Global)) (addresses : Vec (String Global) Global)
     (texts : Bor (List (String Global))) (fault : Fault) → allow ≡ Some addresses
     → texts.now ≡ addresses.items
-    → IsGuestsFault (Some (map string_bytes texts.now)) fault
-    → IsGuestsFault (option_map texts_in allow) fault
+    → IsAllowListFault (Some (map string_bytes texts.now)) fault
+    → IsAllowListFault (option_map texts_in allow) fault
 why_not allow addresses texts fault named same none =
     rw named
-    (subst (λ (ts : List (String Global)). IsGuestsFault (Some (map string_bytes ts)) fault) same
+    (subst (λ (ts : List (String Global)). IsAllowListFault (Some (map string_bytes ts)) fault) same
     none)
 
 -- what a site's file says can be, where the words that say nothing are met beside it
@@ -63,7 +65,12 @@ can_be words octets site names wishes none is are =
     record {
       site = site;
       is = is;
-      can = record { is_named = met.is_named; guests = wishes.guests; are = met.guests };
+      can = record {
+        is_named = met.is_named;
+        allow_list = wishes.allow_list;
+        are =
+            met.allow_list;
+      };
     }
 
 -- or it can't

@@ -53,7 +53,7 @@ IsOctetsFault hex _ = ⊥
 abbrev pub IsReadOctets : List ℕ → Result (Vec ℕ Global) Fault → Type 0
 IsReadOctets hex result = MatchResult result (λ v. octets_of hex ≡ Some v.items) (IsOctetsFault hex)
 
--- that is told, with a status that tells a fault in the octets
+-- that is answered, with a status that stands for a fault in the octets
 pub record IsLineAnswer (words : Bool) (sizes hex : List ℕ) (answer : Answer) : Type 0 where
   pub line_sizes : LineSizes
   pub octets : List ℕ

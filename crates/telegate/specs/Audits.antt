@@ -30,7 +30,8 @@ abbrev pub IsMemory : Fault → Type 0
 IsMemory NoMemory = Unit {0}
 IsMemory _ = ⊥
 
--- a text whose octets may be these was audited by settings of these octets, and the verdict told
+-- a text whose octets may be these was audited by settings of these octets, and the verdict
+-- answered
 pub record IsAuditAnswer (config : List ℕ) (has : List ℕ → Type 0) (answer : Answer) : Type 0 where
   pub settings : Settings
   pub text : List ℕ

@@ -41,14 +41,14 @@ pub record HasExplained (Explain : List ℕ → Type 0) (old new : Option (List 
   pub explained : Explain lines
   pub printed : (Appends old new lines × (exit ≡ 1)) ⊎ (IsBegun old new lines × (exit ≡ 3))
 
--- what is told of a file with a fault, where an explanation is asked for or not
+-- what is answered of a file with a fault, where an explanation is asked for or not
 abbrev pub IsFileRefused : (explain : Bool) → (Explain : List ℕ → Type 0)
     → (old new : Option (List ℕ)) → (exit : ℕ) → Type 0
 IsFileRefused true Explain old new exit =
     HasExplained Explain old new exit ⊎ (Keeps old new × (exit ≡ 4))
 IsFileRefused false Explain old new exit = Keeps old new × (exit ≡ 1)
 
--- what is told of a fault in these octets
+-- what is answered of a fault in these octets
 abbrev pub IsRefusalTold : (explain : Bool) → List ℕ → Fault → (old new : Option (List ℕ))
     → (exit : ℕ) → Type 0
 IsRefusalTold explain text (Config why) old new exit =

@@ -19,11 +19,11 @@ use Rattle.telegate.specs.declared.command_line.Request.TheVariants.{Stations}
 abbrev pub named_by : List Text → Option (Text × List Row)
 named_by words = subcommand_of program (codes "telegate" ∷ words)
 
--- the exit statuses of what may be told of them in place of a command, if anything is
+-- the exit statuses of what may be written of them in place of a command, if anything is
 abbrev pub statuses_of : List Text → List ℕ
 statuses_of words = map status_of_kind (fault_of program (codes "telegate" ∷ words))
 
--- whatever is told of them, they end with this status
+-- whatever is written of them, they end with this status
 abbrev pub end_with : (status : ℕ) → List Text → Bool
 end_with status words =
     not (length (statuses_of words) == 0) && list_all (λ s. s == status) (statuses_of words)

@@ -20,7 +20,7 @@ abbrev pub IsReadConfig : List ℕ → Result Settings Fault → Type 0
 IsReadConfig config result =
     MatchResult result (λ c. IsReadOfText config (Ok c)) (IsConfigFault config)
 
--- it is told that settings are good
+-- it is written that settings are good
 pub record TellsGood (answer : Answer) : Type 0 where
   pub text : answer.text.items ≡ codes "ok" ++ 10 ∷ []
   pub status : answer.status ≡ 0
@@ -34,8 +34,8 @@ abbrev pub IsGood : Result Answer Fault → Type 0
 IsGood result = MatchResult result TellsGood IsMemory
 
 -- A command's answer was appended to the output, and the exit status is the answer's; or the output
--- failed, and a beginning of it was. A fault (which may be want of memory) was told before anything
--- was printed.
+-- failed, and a beginning of it was. A fault (which may be want of memory) was written before
+-- anything was printed.
 abbrev pub IsGiven : Result Answer Fault → (old new : Option (List ℕ)) → (exit : ℕ) → Type 0
 IsGiven (Ok answer) old new exit =
     (Appends old new (answer.text.items) × (exit ≡ answer.status))

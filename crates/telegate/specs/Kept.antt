@@ -5,8 +5,8 @@ use Rattle.gateway.specs.Agrees.{Follows, Rests}
 use Rattle.gateway.specs.Config.{Settings}
 use Rattle.gateway.specs.Log.{Log}
 use Rattle.gateway.specs.Setups.{setup_of}
-use Rattle.live.specs.Ends.{Ends}
-use Rattle.live.specs.declared.guests.Guests.{Guests}
+use Rattle.live.specs.Ends.{LiveEnds}
+use Rattle.live.specs.declared.allow_list.AllowList.{AllowList}
 use Rattle.record.specs.Recording.{Recording}
 use Rattle.state.specs.declared.beginning.Origin.{Origin}
 use Rattle.telegate.specs.Living.{HasLived, IsPortOf}
@@ -31,21 +31,21 @@ IsKeptFault StateInUse = Unit {0}
 IsKeptFault StateUnusable = Unit {0}
 IsKeptFault fault = IsEndFault fault
 
--- A run with this beginning is over. The port is that of these settings and guests, and began with
--- the cut where it goes on. Where the gateway began with the state that the lives before lead to,
--- all lives together keep every promise of a gateway with these settings.
-pub record HasLivedOn {E : Type 0} (settings : Settings) (guests : Guests) (origin : Origin)
-    (before : Log) (port : Ends) (pen : Recording) (ended : Result (Unit {0}) E) : Type 0 where
+-- A run with this beginning is over. The port is that of these settings and this allow list, and
+-- began with the cut where it goes on. Where the gateway began with the state that the lives before
+-- lead to, all lives together keep every promise of a gateway with these settings.
+pub record HasLivedOn {E : Type 0} (settings : Settings) (allow_list : AllowList) (origin : Origin)
+    (before : Log) (port : LiveEnds) (pen : Recording) (ended : Result (Unit {0}) E) : Type 0 where
   pub behind : before ≡ origin.before.entries
-  pub port_is : IsPortOf settings guests (is_some origin.moment) port
+  pub port_is : IsPortOf settings allow_list (is_some origin.moment) port
   pub lived : Follows (setup_of settings) origin.gateway (Some before) →
       Rests (setup_of settings) (Some before) →
-      HasLived settings guests (is_some origin.moment) before port pen ended
+      HasLived settings allow_list (is_some origin.moment) before port pen ended
 
 -- A run whose state is kept is over. It began so, and went on from there.
 pub record HasLivedFrom {E : Type 0} (begins : Origin → Type 0) (settings : Settings)
-    (guests : Guests) (before : Log) (port : Ends) (pen : Recording)
+    (allow_list : AllowList) (before : Log) (port : LiveEnds) (pen : Recording)
     (ended : Result (Unit {0}) E) : Type 0 where
   pub origin : Origin
   pub begun : begins origin
-  pub on : HasLivedOn settings guests origin before port pen ended
+  pub on : HasLivedOn settings allow_list origin before port pen ended

@@ -8,7 +8,7 @@ pub mod Running
 pub mod CommandLine
 pub mod Shell
 pub mod Stood
-pub mod Guests
+pub mod AllowLists
 pub mod Audits
 pub mod Examples
 pub mod Source

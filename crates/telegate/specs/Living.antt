@@ -3,17 +3,17 @@ use Rattle.std.specs.Prelude.{◌≡◌, Bool, false, OnOk, Some, Result}
 use Rattle.gateway.specs.Config.{Settings}
 use Rattle.gateway.specs.Log.{Log}
 use Rattle.gateway.specs.Setups.{setup_of}
-use Rattle.live.specs.Ends.{Ends, fixed_of}
-use Rattle.live.specs.declared.guests.Guests.{Guests}
+use Rattle.live.specs.Ends.{LiveEnds, fixed_of}
+use Rattle.live.specs.declared.allow_list.AllowList.{AllowList}
 use Rattle.record.specs.Recording.{Recording}
 use Rattle.telegate.specs.Lives.{all_told}
 use Rattle.telegate.specs.Running.{HasEnded, HasRunFaithfully, IsRecorded}
 
--- The port is that of a run with these settings and these guests; where it goes on after a restart
--- it began with the cut of the connection of then.
-abbrev pub IsPortOf : Settings → Guests → (goes_on : Bool) → Ends → Type 0
-IsPortOf settings guests goes_on port = fixed_of port ≡ record {
-  guests = guests;
+-- The port is that of a run with these settings and this allow list; where it goes on after a
+-- restart it began with the cut of the connection of then.
+abbrev pub IsPortOf : Settings → AllowList → (goes_on : Bool) → LiveEnds → Type 0
+IsPortOf settings allow_list goes_on port = fixed_of port ≡ record {
+  allow_list = allow_list;
   answer_ms = settings.line.answer_ms;
   goes_on = goes_on;
 }
@@ -21,9 +21,9 @@ IsPortOf settings guests goes_on port = fixed_of port ≡ record {
 -- A live run is over. What passed at its port, behind the lives before, keeps every promise of a
 -- gateway with these settings, and so does what is written of it. A port between real ends has
 -- always another event, so it ended well only once all turns that can be counted were used up.
-pub record HasLived {E : Type 0} (settings : Settings) (guests : Guests) (goes_on : Bool)
-    (before : Log) (port : Ends) (pen : Recording) (ended : Result (Unit {0}) E) : Type 0 where
-  pub port_is : IsPortOf settings guests goes_on port
+pub record HasLived {E : Type 0} (settings : Settings) (allow_list : AllowList) (goes_on : Bool)
+    (before : Log) (port : LiveEnds) (pen : Recording) (ended : Result (Unit {0}) E) : Type 0 where
+  pub port_is : IsPortOf settings allow_list goes_on port
   pub over : OnOk ended (HasEnded false (Some before) (all_told before pen (Some port.log)))
   pub faithful : HasRunFaithfully (setup_of settings) (all_told before pen (Some port.log)) ended
   pub recorded : IsRecorded (setup_of settings) before pen ended

@@ -107,8 +107,8 @@ pub record IsPartRun (s : Standing) (text : List ℕ) (began ended : State) (aft
   pub started : after.started ≡ true
   pub clear : IsClear after
 
--- A run stopped in a part, and a beginning of its text was printed. (How a log is told in a text,
--- the first argument says, here and below.)
+-- A run stopped in a part, and a beginning of its text was printed. (How a log is written as a
+-- text, the first argument says, here and below.)
 pub record IsPartStopped (Tells : Log → List ℕ → Type 0) (s : Standing) (text : List ℕ)
     (began : State) (old new : Option (List ℕ)) : Type 0 where
   pub log : Log

@@ -30,7 +30,7 @@ abbrev pub IsLineTold : Piped → (words : Bool) → Option (List ℕ) → (text
 IsLineTold piped words None text outcome = (text ≡ []) × (outcome ≡ Faulty)
 IsLineTold piped words (Some octets) text outcome = AreFrames piped words octets text outcome
 
--- what is told of a line, if it is octets
+-- what is shown of a line, if it is octets
 abbrev pub IsToldAs : Piped → (words : Bool) → Option (List ℕ) → Option Shown → Type 0
 IsToldAs piped words octets None = octets ≡ None
 IsToldAs piped words octets (Some shown) =

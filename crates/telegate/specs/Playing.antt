@@ -2,28 +2,28 @@
 use Rattle.std.specs.Prelude.{◌≡◌, ◌⊎◌, ℕ, List, Result, Ok, Err}
 use Rattle.gateway.specs.Config.{Settings}
 use Rattle.live.specs.Timing.{Moments}
-use Rattle.live.specs.Wires.{Visits}
+use Rattle.live.specs.OctetStreams.{Attempts}
 use Rattle.settings.specs.Settings.{IsLiveReadOfText}
 use Rattle.settings.specs.declared.live.LiveSettings.{LiveSettings}
 use Rattle.stations.specs.Scenarios.{IsScenarioOf}
-use Rattle.stations.specs.Stages.{PlaysOn, Stage, first_stage}
+use Rattle.stations.specs.TimedServers.{PlaysOn, TimedServer, first_server}
 use Rattle.stations.specs.declared.scenario.Scenario.{Scenario}
 use Rattle.telegate.specs.declared.fault.Fault.{Fault}
 use Rattle.telegate.specs.declared.fault.Fault.TheVariants.{Config, Script, Device, NoMemory}
 use Rattle.traces.specs.declared.reading.TextFault.TheVariants.{Line as WrongLine}
 
--- The outstations of a text stood behind a door, and played as many rounds as 64 bits count, one
--- after another, at the moments that a clock told.
+-- The outstations of a text stood behind a listener, and played as many rounds as 64 bits count,
+-- one after another, at the moments that a clock gave.
 pub record HavePlayed (settings : Settings) (scenario : Scenario) : Type 0 where
-  pub door : Visits
+  pub listener : Attempts
   pub before : Moments
   pub after : Moments
   pub rounds : ℕ
   pub many : rounds ≡ 18446744073709551615
-  pub ended : Stage
-  pub played : PlaysOn rounds before after (first_stage settings scenario door) ended
+  pub ended : TimedServer
+  pub played : PlaysOn rounds before after (first_server settings scenario listener) ended
 
--- or the door or the clock can't be had, or memory was refused
+-- or the listener or the clock can't be had, or memory was refused
 abbrev pub ArePlayed : Settings → Scenario → Result (Unit {0}) Fault → Type 0
 ArePlayed settings scenario (Ok done) = HavePlayed settings scenario
 ArePlayed settings scenario (Err Device) = Unit {0}

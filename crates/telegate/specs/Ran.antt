@@ -2,8 +2,8 @@
 use Rattle.std.specs.Prelude.{◌≡◌, ◌⊎◌, ℕ, List, [], false, MatchOption, Result, Ok, Err}
 use Rattle.gateway.specs.Config.{Settings}
 use Rattle.gateway.specs.Log.{Log}
-use Rattle.live.specs.Ends.{Ends}
-use Rattle.live.specs.declared.guests.Guests.{Guests}
+use Rattle.live.specs.Ends.{LiveEnds}
+use Rattle.live.specs.declared.allow_list.AllowList.{AllowList}
 use Rattle.record.specs.Recording.{Recording}
 use Rattle.settings.specs.Settings.{IsLiveReadOfText}
 use Rattle.settings.specs.declared.live.LiveSettings.{LiveSettings}
@@ -17,26 +17,26 @@ use Rattle.telegate.specs.declared.host.Wishes.{Wishes}
 use Rattle.telegate.specs.declared.running.DeviceFailed.{DeviceFailed}
 
 -- a run without a state is over: it began anew
-pub record HasLivedAnew {E : Type 0} (settings : Settings) (guests : Guests)
+pub record HasLivedAnew {E : Type 0} (settings : Settings) (allow_list : AllowList)
     (ended : Result (Unit {0}) E) : Type 0 where
-  pub port : Ends
+  pub port : LiveEnds
   pub pen : Recording
-  pub lived : HasLived settings guests false [] port pen ended
+  pub lived : HasLived settings allow_list false [] port pen ended
 
 -- a run whose state is kept is over: it began so, and went on from there
 pub record HasLivedKept {E : Type 0} (begins : Origin → Type 0) (settings : Settings)
-    (guests : Guests) (ended : Result (Unit {0}) E) : Type 0 where
+    (allow_list : AllowList) (ended : Result (Unit {0}) E) : Type 0 where
   pub before : Log
-  pub port : Ends
+  pub port : LiveEnds
   pub pen : Recording
-  pub lived : HasLivedFrom begins settings guests before port pen ended
+  pub lived : HasLivedFrom begins settings allow_list before port pen ended
 
 -- a run with these settings is over, as it was wished
 abbrev pub HasLivedAs : {E : Type 0} → (begins : Origin → Type 0) → Settings → Wishes
     → Result (Unit {0}) E → Type 0
 HasLivedAs begins settings wishes ended =
-    MatchOption wishes.state (HasLivedAnew settings wishes.guests ended)
-    (λ _. HasLivedKept begins settings wishes.guests ended)
+    MatchOption wishes.state (HasLivedAnew settings wishes.allow_list ended)
+    (λ _. HasLivedKept begins settings wishes.allow_list ended)
 
 -- what is answered of a run that has ended so: a device that failed is a fault
 abbrev pub answer_to : Result (Unit {0}) DeviceFailed → Result (Unit {0}) Fault

@@ -8,7 +8,7 @@ use Rattle.traces.specs.Trace.{is_skipped, lines_of}
 use Rattle.telegate.specs.declared.manner.Manner.{Manner}
 use Rattle.telegate.specs.declared.manner.Manner.TheVariants.{Lines, Words}
 
--- a line tells an action, and is no comment: a trace has none
+-- a line is that of an action, and is no comment: a trace has none
 abbrev pub tells_action : List ℕ → Bool
 tells_action line = not (is_skipped line) && is_action line
 
@@ -31,9 +31,8 @@ behind_tick true events = events
 abbrev pub script_read : (as_record : Bool) → (text : List ℕ) → List LogEntry
 script_read as_record text = behind_tick as_record (events_in (lines_read as_record text))
 
--- Where the lines of actions are printed, a text is a trace. In words a record is told too, and
--- this
--- says whether a text whose octets may be these is one.
+-- Where the lines of actions are printed, a text is a trace. In words a record is printed too, and
+-- this says whether a text whose octets may be these is one.
 abbrev pub IsFound : Manner → (has : List ℕ → Type 0) → Bool → Type 0
 IsFound Lines has found = found ≡ false
 IsFound (Words is_coloured) has found =

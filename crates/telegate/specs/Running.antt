@@ -32,7 +32,7 @@ HasRun before after result = MatchResult result (λ _. after ≡ before) (λ _. 
 abbrev pub HasEnded : Bool → (before after : Option Log) → Type 0
 HasEnded ended before after = (ended ≡ true) ⊎ MoreEvents 18446744073709551615 before after
 
--- What a log of the run shows, where it is told, keeps every promise of such a gateway; and where
+-- What a log of the run shows, where it is known, keeps every promise of such a gateway; and where
 -- the device didn't fail, nothing that may be sent is left.
 abbrev pub IsRunTold : Setup → Option Log → Type 0
 IsRunTold p told = IfSome told (IsFaithful p)
@@ -51,7 +51,7 @@ pub record IsRecordOf {A E : Type 0} (p : Setup) (before : Log) (is_over : Bool)
   pub whole : is_over ≡ false → missed ≡ []
   pub faithful : HasRunFaithfully p (Some ((missed ++ log) ++ before)) result
 
--- where the text, and what passed unwritten, are told
+-- where the text, and what passed unwritten, are known
 abbrev pub IsTextOf : {A E : Type 0} → Setup → (before : Log) → (is_over : Bool)
     → (text : Option (List ℕ)) → (missed : Option Log) → Result A E → Type 0
 IsTextOf p before is_over None missed result = Unit {0}

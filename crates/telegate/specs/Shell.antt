@@ -127,7 +127,7 @@ pub record HasGoodSite (has : Text → List ℕ → Type 0) (site : Text) : Type
   pub read : has site octets
   pub good : IsGoodSite octets
 
--- it is refused by its first fault, which is told
+-- it is refused by its first fault, which is written
 pub record HasRefusedSite (has : Text → List ℕ → Type 0) (site : Text) (explain : Bool)
     (old new : Option (List ℕ)) (exit : ℕ) : Type 0 where
   pub octets : List ℕ
@@ -194,8 +194,8 @@ IsGivenIn has None given = given ≡ None
 IsGivenIn has (Some name) given =
     (octets : List ℕ) × has name octets × (given ≡ Some octets)
 
--- what stands in the directory of this name was told, beside these settings; or it can't be read,
--- and nothing was printed
+-- what stands in the directory of this name was answered, beside these settings; or it can't be
+-- read, and nothing was printed
 abbrev pub ShowsDirectory : (lacks : Text → Type 0) → (stands : Text → Stood → Type 0)
     → (directory : Text) → (given : Option (List ℕ)) → (old new : Option (List ℕ)) → (exit : ℕ)
     → Type 0
@@ -277,7 +277,7 @@ RunsAsSaid has lacks ran config words exit =
 abbrev pub input : Text
 input = codes "-"
 
--- a frame is shown, or those of standard input are told where its name stands for octets
+-- a frame is shown, or those of standard input are shown where its name stands for octets
 pub record IsShownOrPiped (hex : Text) (IsShown IsPiped : Type 0) : Type 0 where
   pub piped : hex ≡ input → IsPiped
   pub shown : (hex ≡ input → ⊥) → IsShown
@@ -340,7 +340,7 @@ status_of_kind kind.DisplayHelp = 0
 status_of_kind kind.DisplayVersion = 0
 status_of_kind _ = 2
 
--- what the words gave in place of a command was told, or couldn't be written, 3
+-- what the words gave in place of a command was written, or couldn't be written, 3
 abbrev pub IsTold : ErrorKind → (exit : ℕ) → Type 0
 IsTold kind exit = (exit ≡ status_of_kind kind) ⊎ (exit ≡ 3)
 

@@ -1,4 +1,4 @@
--- What is told of a directory in which a state is kept (this gateway's own profile).
+-- What is answered of a directory in which a state is kept (this gateway's own profile).
 use Rattle.std.specs.Prelude.{◌≡◌, ℕ, Bool, List, Option, Result, Vec, MatchResult, option_map}
 use Rattle.std.specs.declared.alloc.Global.{Global}
 use Rattle.sqlite_disk.specs.Memory.{memory_bytes}
@@ -23,13 +23,13 @@ status_of_sight beginnings.PutAside = 1
 status_of_sight beginnings.LinksReset = 0
 status_of_sight beginnings.GoesOn = 0
 
--- this was found, and told beside these settings
+-- this was found, and answered beside these settings
 pub record TellsState (is_held is_stale : Bool) (given : Option (List ℕ)) (sight : Sight)
     (answer : Answer) : Type 0 where
   pub told : IsStateText is_held is_stale given sight answer.text.items
   pub status : answer.status ≡ status_of_sight sight.beginning
 
--- what a start would find in two files was found, and told beside these settings
+-- what a start would find in two files was found, and answered beside these settings
 pub record TellsSight (stood : Stood) (given : Option (List ℕ)) (answer : Answer) : Type 0 where
   pub sight : Sight
   pub found : IsSight stood.before.entries stood.is_stale (memory_bytes stood.files.log)
@@ -48,7 +48,7 @@ IsLookFault Unread = Unit {0}
 IsLookFault NoMemory = Unit {0}
 IsLookFault _ = ⊥
 
--- it was told, or a read has failed, or memory was refused
+-- it was answered, or a read has failed, or memory was refused
 abbrev pub IsStateShown : (stands : Stood → Type 0) → (given : Option (List ℕ))
     → Result Answer Fault → Type 0
 IsStateShown stands given result = MatchResult result (HasToldState stands given) IsLookFault

@@ -1,4 +1,4 @@
--- A run that is told in words, between two parts of its text.
+-- A run that is printed in words, between two parts of its text.
 use Rattle.std.specs.Prelude.{◌≡◌, true}
 use Rattle.gateway.specs.Log.{Log}
 use Rattle.ladder.specs.Scribing.{Scribing}

@@ -1,9 +1,9 @@
--- What is told before a run begins (profile).
+-- What is logged before a run begins (profile).
 use Rattle.std.specs.Prelude.{◌≡◌, ℕ, Bool, true, false, Option, Some, None}
 use Rattle.std.specs.declared.net.socket_addr.SocketAddr.{SocketAddr}
 use Rattle.gateway.specs.Log.{GapOut}
 use Rattle.gateway.specs.State.{State}
-use Rattle.runlog.specs.Telling.{Book, Notes, Puts}
+use Rattle.runlog.specs.Logging.{Book, LogsNote, LogsAction}
 use Rattle.runlog.specs.declared.note.Note.{Note}
 use Rattle.runlog.specs.declared.note.Note.TheVariants as note
 use Rattle.runlog.specs.declared.note.Trouble.TheVariants as trouble
@@ -14,10 +14,10 @@ use Rattle.telegate.specs.declared.fault.Fault.TheVariants.{Device, NoMemory, St
 use Rattle.telegate.specs.declared.fault.Fault.TheVariants.{StateUnusable}
 use Rattle.telegate.specs.declared.site.Refusal.{Refusal}
 
--- a note is told, if there is one
+-- a note is logged, if there is one
 abbrev pub NotesIf : Option Note → (old new : Book) → Type 0
 NotesIf None old new = new ≡ old
-NotesIf (Some note) old new = Notes old note new
+NotesIf (Some note) old new = LogsNote old note new
 
 abbrev pub note_of_address : Option SocketAddr → Option Note
 note_of_address None = None
@@ -32,9 +32,9 @@ note_if_on (Some moment) gateway = Some (note_of_queue gateway)
 abbrev pub TellsGap : (moment : Option ℕ) → Option (ℕ × ℕ) → (old new : Book) → Type 0
 TellsGap None gap old new = new ≡ old
 TellsGap (Some moment) None old new = new ≡ old
-TellsGap (Some moment) (Some gap) old new = Puts old moment (GapOut gap.0 gap.1) new
+TellsGap (Some moment) (Some gap) old new = LogsAction old moment (GapOut gap.0 gap.1) new
 
--- how a run begins is told, in this order, and nothing else
+-- how a run begins is logged, in this order, and nothing else
 pub record TellsBeginning (o : Origin) (old new : Book) : Type 0 where
   pub begun : Book
   pub begins : NotesIf (note_of o.beginning) old begun
@@ -44,10 +44,10 @@ pub record TellsBeginning (o : Origin) (old new : Book) : Type 0 where
   pub goes_on : NotesIf (note_if_on o.moment o.gateway) moved noted
   pub gap : TellsGap o.moment o.gap noted new
 
--- The state can't be had, which is told, unless memory is refused.
+-- The state can't be had, which is logged, unless memory is refused.
 abbrev pub IsUnkept : Fault → (old new : Book) → Type 0
-IsUnkept StateInUse old new = Notes old (note.Trouble trouble.StateInUse) new
-IsUnkept StateUnusable old new = Notes old (note.Trouble trouble.StateUnusable) new
+IsUnkept StateInUse old new = LogsNote old (note.Trouble trouble.StateInUse) new
+IsUnkept StateUnusable old new = LogsNote old (note.Trouble trouble.StateUnusable) new
 IsUnkept NoMemory old new = new ≡ old
 IsUnkept _ old new = ⊥
 
@@ -56,8 +56,8 @@ abbrev pub fault_of : (is_memory : Bool) → Fault
 fault_of true = NoMemory
 fault_of false = Device
 
--- an end can't be had, which is told, and the run doesn't begin
+-- an end can't be had, which is logged, and the run doesn't begin
 pub record IsRefused (fault : Fault) (old new : Book) : Type 0 where
   pub refusal : Refusal
-  pub told : Notes old (note.Trouble refusal.trouble) new
+  pub told : LogsNote old (note.Trouble refusal.trouble) new
   pub is : fault ≡ fault_of refusal.is_memory

@@ -4,14 +4,14 @@ use Rattle.std.specs.Prelude.{◌≡◌, ◌⊎◌, ℕ, Bool, true, false, not,
 use Rattle.std.specs.Prelude.{Option, Some, None, MatchOption, Result, codes}
 use Rattle.std.specs.Option.{option_or}
 use Rattle.clap.specs.Words.{Text}
-use Rattle.live.specs.declared.guests.Guests.{Guests}
+use Rattle.live.specs.declared.allow_list.AllowList.{AllowList}
 use Rattle.sitefile.specs.Site.{IsFaultOfText, IsSiteOf, SiteNames, SiteValues, empty_site}
 use Rattle.sitefile.specs.Site.{names_of, site_of}
 use Rattle.sitefile.specs.declared.fault.SiteFault.TheVariants as why
 use Rattle.sitefile.specs.declared.site.Site.{Site as SiteFile}
 use Rattle.telegate.specs.CommandLine.{text_of, texts_of}
 use Rattle.telegate.specs.Faults.{status_of, status_of_end}
-use Rattle.telegate.specs.Guests.{AreGuests, IsGuestsFault, WritesNone}
+use Rattle.telegate.specs.AllowLists.{IsAllowListOf, IsAllowListFault, WritesNone}
 use Rattle.telegate.specs.declared.fault.Fault.{Fault}
 use Rattle.telegate.specs.declared.fault.Fault.TheVariants.{NoMemory, NoState, Site}
 use Rattle.telegate.specs.declared.host.Wishes.{Wishes}
@@ -94,7 +94,7 @@ pub record AreWishes (said : Said) (names : SiteNames) (wishes : Wishes) : Type 
   pub keeps : text_of wishes.state ≡ said.state
   pub bears : wishes.bears_loss ≡ not said.or_stop
   pub is_named : lacks_state said.state said.or_stop ≡ false
-  pub guests : AreGuests said.allow wishes.guests
+  pub allow_list : IsAllowListOf said.allow wishes.allow_list
   pub shows : text_of wishes.status ≡ said.status
   pub called : names_of wishes.names.now ≡ names
 
@@ -111,22 +111,22 @@ IsStateFault true fault = fault ≡ NoState
 IsStateFault false fault = IsKeyFault (codes "state_or_stop") fault
 
 -- one of the texts of the site's file is no address
-abbrev pub AreNoSiteGuests : Option (List Text) → Fault → Type 0
-AreNoSiteGuests texts NoMemory = Unit {0}
-AreNoSiteGuests texts fault = IsKeyFault (codes "allow") fault
+abbrev pub IsNoSiteAllowList : Option (List Text) → Fault → Type 0
+IsNoSiteAllowList texts NoMemory = Unit {0}
+IsNoSiteAllowList texts fault = IsKeyFault (codes "allow") fault
     × MatchOption texts ⊥ (λ ts. (text : Text) × (Contains ts text × WritesNone text))
 
 -- one of the words is none, or, where they name nobody, one of the texts of the site's file
-abbrev pub AreNoGuests : (words site : Option (List Text)) → Fault → Type 0
-AreNoGuests None site fault = AreNoSiteGuests site fault
-AreNoGuests (Some words) site fault = IsGuestsFault (Some words) fault
+abbrev pub IsNoAllowList : (words site : Option (List Text)) → Fault → Type 0
+IsNoAllowList None site fault = IsNoSiteAllowList site fault
+IsNoAllowList (Some words) site fault = IsAllowListFault (Some words) fault
 
--- what is said can't be: a state isn't named, or, where it is, guests aren't addresses
+-- what is said can't be: a state isn't named, or, where it is, the allow list has no addresses
 abbrev pub IsWishFault : (words site : Said) → Fault → Type 0
 IsWishFault words site fault =
     let said = said_of words site in
     (IsStateFault words.or_stop fault × (lacks_state said.state said.or_stop ≡ true))
-    ⊎ (AreNoGuests words.allow site.allow fault × (lacks_state said.state said.or_stop ≡ false))
+    ⊎ (IsNoAllowList words.allow site.allow fault × (lacks_state said.state said.or_stop ≡ false))
 
 -- The file of a site
 
@@ -160,8 +160,8 @@ pub record HasWrongSite (has : Text → List ℕ → Type 0) (site : Option Text
 -- kept, and the texts of `allow` are addresses.
 pub record CanBe (said : Said) : Type 0 where
   pub is_named : lacks_state said.state said.or_stop ≡ false
-  pub guests : Guests
-  pub are : AreGuests said.allow guests
+  pub allow_list : AllowList
+  pub are : IsAllowListOf said.allow allow_list
 
 -- the octets are a site's file without a fault
 pub record IsGoodSite (octets : List ℕ) : Type 0 where

@@ -16,7 +16,7 @@ const TABLE: &[u8] = b"GET /status.txt HTTP/1.0\r\n\r\n";
 /// A request for the page that programs read.
 const JSON: &[u8] = b"GET /status.json HTTP/1.0\r\n\r\n";
 
-/// Asks a live run at its door for looking how it stands, prints the table, or the page that
+/// Asks a live run at its status listener how it stands, prints the table, or the page that
 /// programs read, and answers the exit status that a monitor understands (Nagios): 0 ok, 1 warning,
 /// 2 critical, by the first word of the table; 3 where nothing is known, since nobody answers, or
 /// not as this gateway does, or the output failed; 4 where memory was refused.
@@ -79,7 +79,7 @@ fn ask<H: Host, E: Write>(host: &H, place: &str, request: &[u8], err: &mut E) ->
     }
 }
 
-/// Tells that nobody answers as a live run does.
+/// Writes that nobody answers as a live run does.
 fn tell_unknown<E: Write>(place: &str, err: &mut E) -> u8
     ensures { result ≡ 3 }
 {

@@ -20,13 +20,13 @@ use std::io::Write;
 pub struct Checking {
     /// As for a live run, which needs the keys of `live`.
     pub live: bool,
-    /// What is wrong is told, and where.
+    /// What is wrong is shown, and where.
     pub explain: bool,
 }
 
 /// Judges a file of settings, and answers the exit status: `ok` is printed, or the first fault is
-/// told, with what is wrong and where behind it on `out`, if that is asked for. As for a live run
-/// it is told too where the line is on another machine.
+/// written, with what is wrong and where behind it on `out`, if that is asked for. As for a live
+/// run it is written too where the line is on another machine.
 pub(crate) fn check<W: Write, E: Write>(
     alloc: Global,
     config: &[u8],
@@ -66,7 +66,7 @@ fn judge(alloc: Global, config: &[u8], live: bool) -> Result<bool, Fault>
     }
 }
 
-/// Tells that the line is on another machine, and what that means.
+/// Writes that the line is on another machine, and what that means.
 fn warn<E: Write>(err: &mut E) {
     let _ = writeln!(
         err,
@@ -75,8 +75,8 @@ fn warn<E: Write>(err: &mut E) {
     );
 }
 
-/// Tells why the file of these octets is refused, and prints what is wrong in it and where, if that
-/// is asked for. Answers the exit status.
+/// Writes why the file of these octets is refused, and prints what is wrong in it and where, if
+/// that is asked for. Answers the exit status.
 pub(crate) fn refuse<W: Write, E: Write>(
     alloc: Global,
     text: &[u8],
@@ -98,7 +98,7 @@ pub(crate) fn refuse<W: Write, E: Write>(
     }
 }
 
-/// Tells a fault, and prints the lines that explain it, if there was memory for them. Answers the
+/// Writes a fault, and prints the lines that explain it, if there was memory for them. Answers the
 /// exit status.
 fn give_lines<W: Write, E: Write>(
     lines: &Result<Vec<u8>, AllocError>,

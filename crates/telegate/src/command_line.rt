@@ -14,27 +14,27 @@ use std::alloc::{AllocError, Global};
 /// What the words ask for.
 #[derive(Clone, Copy, Debug, PartialEq, Eq)]
 pub(crate) enum Request<'m, 'a> {
-    /// The sizes of addresses, octets or `-`, and whether a frame is told in one line of words.
+    /// The sizes of addresses, octets or `-`, and whether a frame is shown in one line of words.
     Show101 {
         sizes: &'a str,
         hex: &'a str,
         words: bool,
     },
-    /// Octets or `-`, and whether a frame is told in one line of words.
+    /// Octets or `-`, and whether a frame is shown in one line of words.
     Show104 {
         hex: &'a str,
         words: bool,
     },
     /// The name of a file, that of the file of the site, if one is judged too, whether it is judged
-    /// as for a live run, and whether it is told what is wrong and where.
+    /// as for a live run, and whether it is shown what is wrong and where.
     Check {
         config: &'a str,
         site: Option<&'a str>,
         live: bool,
         explain: bool,
     },
-    /// The names of two files, which lines the run ends with, and whether it is told in words, and
-    /// in colours.
+    /// The names of two files, which lines the run ends with, and whether it is printed in words,
+    /// and in colours.
     Replay {
         config: &'a str,
         trace: &'a str,
@@ -43,7 +43,7 @@ pub(crate) enum Request<'m, 'a> {
         words: bool,
         color: bool,
     },
-    /// The names of two files, and whether the run is told in words, and in colours.
+    /// The names of two files, and whether the run is printed in words, and in colours.
     Sim {
         config: &'a str,
         script: &'a str,

@@ -38,7 +38,7 @@ pub(crate) enum Fault {
     /// This line of the script is wrong.
     #[error("script: line {0}")]
     Script(u64),
-    /// This line of the record tells neither an event nor an action.
+    /// This line of the record is neither that of an event nor that of an action.
     #[error("record: line {0}")]
     Record(u64),
     /// The sizes of a line's addresses are no such four digits.

@@ -17,8 +17,8 @@ use crate::running::DeviceFailed;
 use crate::site::Process;
 use crate::source::Source;
 use gateway::Config;
-use live::{Guests, SystemClock};
-use runlog::{Name, Names};
+use live::{AllowList, SystemClock};
+use runlog::{LogNames, NamedStation};
 use settings::LiveSettings;
 use sitefile::Names as SiteNames;
 use sqlite_disk::Disk;
@@ -51,7 +51,7 @@ pub(crate) enum Unread {
 pub(crate) struct Wishes<'a> {
     /// A line that isn't there, or ends, is reached again.
     pub(crate) redial: bool,
-    /// What happens is told on standard error.
+    /// What happens is logged on standard error.
     pub(crate) log: bool,
     /// Each line of that begins with how severe it is.
     pub(crate) log_severity: bool,
@@ -62,7 +62,7 @@ pub(crate) struct Wishes<'a> {
     /// Where the state can't be kept any more the run goes on without it.
     pub(crate) bears_loss: bool,
     /// Who may connect.
-    pub(crate) guests: Guests,
+    pub(crate) allow_list: AllowList,
     /// Where the run can be looked at, as HOST:PORT, if it can.
     pub(crate) status: Option<&'a str>,
     /// What the line and the stations are called.
@@ -267,7 +267,7 @@ fn play_at(
         return Err(Fault::Device);
     };
     match LineListener::listen(rt, place) {
-        Ok(door) => play_behind(rt, rt.alloc(), settings, scenario, &mut clock, door),
+        Ok(listener) => play_behind(rt, rt.alloc(), settings, scenario, &mut clock, listener),
         Err(fault) if fault.kind() == io::ErrorKind::OutOfMemory => Err(Fault::NoMemory),
         Err(_) => Err(Fault::Device),
     }
@@ -283,11 +283,11 @@ fn answer_to(ended: Result<(), DeviceFailed>) -> Result<(), Fault>
     }
 }
 
-/// A process with these settings, names and form of what it tells.
+/// A process with these settings, names and form of its log.
 fn process_of<'a>(
     rt: &'a HostRuntime,
     places: &'a LiveSettings,
-    names: Names<'a>,
+    names: LogNames<'a>,
     has_severity: bool,
 ) -> Process<'a> {
     Process {
@@ -299,19 +299,19 @@ fn process_of<'a>(
 }
 
 /// What the line and these stations are called.
-fn named_by<'a>(names: &'a SiteNames, stations: &'a [Name<'a>]) -> Names<'a> {
+fn named_by<'a>(names: &'a SiteNames, stations: &'a [NamedStation<'a>]) -> LogNames<'a> {
     let line = match &names.line {
         Some(line) => Some(line.as_str()),
         None => None,
     };
-    Names { line, stations }
+    LogNames { line, stations }
 }
 
-/// What stations are called, for who tells and who shows it.
-fn names_of<'a>(alloc: Global, names: &'a SiteNames) -> Result<Vec<Name<'a>>, AllocError> {
+/// What stations are called, for the log and for who looks.
+fn names_of<'a>(alloc: Global, names: &'a SiteNames) -> Result<Vec<NamedStation<'a>>, AllocError> {
     let mut called = Vec::new(alloc);
     for station in &names.stations {
-        called.push(Name {
+        called.push(NamedStation {
             link: station.link,
             name: station.name.as_str(),
         })?;

@@ -1,4 +1,4 @@
-//! One request to a door of the system.
+//! One request to a listener of the system.
 
 use std::alloc::Global;
 use std::io;
@@ -7,7 +7,7 @@ use std::net::{Net, TcpStream, ToSocketAddrs};
 use std::time::Duration;
 
 /// How long each step waits for the other side, in ms.
-// A door answers between two events of its run, and gives a visitor two seconds.
+// A listener answers between two events of its run, and gives a visitor two seconds.
 const WAIT_MS: u64 = 3000;
 
 /// How many octets of an answer are read at the most.

@@ -6,10 +6,10 @@ use crate::manner::Manner;
 #[derive(Clone, Copy, Debug, PartialEq, Eq)]
 pub enum Job<'a> {
     /// The frame at the front of octets of the line: the sizes of its addresses, the octets in
-    /// hexadecimal, and whether it is told in one line of words.
+    /// hexadecimal, and whether it is shown in one line of words.
     Show101(&'a str, &'a str, bool),
-    /// The APDU at the front of octets of the connection, in hexadecimal, and whether it is told in
-    /// one line of words.
+    /// The APDU at the front of octets of the connection, in hexadecimal, and whether it is shown
+    /// in one line of words.
     Show104(&'a str, bool),
     /// A run of the gateway over simulated stations and a simulated control centre: the settings,
     /// the script, and how it is printed.

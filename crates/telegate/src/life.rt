@@ -6,7 +6,7 @@ ghost use Rattle.gateway.specs.declared.ports.Next.TheVariants.{Done};
 ghost use Rattle.telegate.specs.Lives.{behind, fixture};
 
 use gateway::{Action, Gateway, History, Next, Port};
-use live::{Notice, Sight, Watched};
+use live::{EndsSight, Notice, Watched};
 
 /// A port that passes each event and each action of another one on unchanged. Its log is that of
 /// the port inside, behind what passed in the lives in which the gateway came to be as it is.
@@ -88,7 +88,7 @@ impl<P: Watched + Drop> Watched for Life<P> {
 
     ghost failure = { λ l. P.failure l.port };
 
-    fn sight(&self) -> Sight {
+    fn sight(&self) -> EndsSight {
         self.port.sight()
     }
 

@@ -20,10 +20,10 @@ use crate::host::Wishes;
 use crate::running::{DeviceFailed, Lived, Scribes, live};
 use crate::site::{Refusal, Site};
 use gateway::{Action, Config, Gateway, History};
-use live::{Door, Guests, Live, Wire};
+use live::{AllowList, Listener, Live, OctetStream};
 use lookout::Lookout;
 use record::{Pen, Sheet};
-use runlog::{Note, Sink, Teller, Trouble, Watch};
+use runlog::{LogSink, Logger, Note, Trouble, Watch};
 use settings::{ConfigFault, LiveSettings, read_live_config};
 use state::{Begun, DiskStore, FolderFault, Keeper, Origin, Pair, ToldGap, begin};
 use state_words::{note_of, note_of_queue, note_of_settings};
@@ -41,8 +41,8 @@ pub(crate) fn read_live(alloc: Global, config: &[u8]) -> Result<(Config, LiveSet
     }
 }
 
-/// Who tells of a run, if it is to be told, writes it down, if it is to be recorded, and shows it,
-/// if it is to be shown.
+/// What logs a run, if it is to be logged, records it, if it is to be recorded, and shows it, if it
+/// is to be shown.
 #[tactic(auto, using(crate::proofs::KeptLemmas::memory_is_end))]
 fn scribes_of<T: Site>(
     site: &T,
@@ -54,36 +54,36 @@ fn scribes_of<T: Site>(
     ensures fault { IfErr result IsEndFault }
 {
     let watch = Watch::new(site.alloc(), config)?;
-    let mut teller = Teller::new(watch, site.sink(), wishes.log);
-    let lookout = lookout_of(site, config, wishes, &mut teller)?;
+    let mut logger = Logger::new(watch, site.sink(), wishes.log);
+    let lookout = lookout_of(site, config, wishes, &mut logger)?;
     if lookout.is_some() {
-        teller = teller.watching();
+        logger = logger.watching();
     }
     Ok(Scribes {
-        teller,
+        logger,
         pen: pen_of(site, wishes.record),
         lookout,
     })
 }
 
-/// Who looks at a run, if there is to be a door for it.
+/// Who looks at a run, if there is to be a listener for it.
 fn lookout_of<T: Site>(
     site: &T,
     config: &Config,
     wishes: &Wishes<'_>,
-    teller: &mut Teller<T::Sink>,
+    logger: &mut Logger<T::Sink>,
 ) -> Result<Option<Lookout<T::Glass>>, Fault>
     ensures fault { IfErr result IsEndFault }
 {
     let Some(place) = wishes.status else {
         return Ok(None);
     };
-    let door = match site.status_door(place) {
-        Ok(door) => door,
-        Err(refusal) => return Err(refused(refusal, teller)),
+    let listener = match site.status_listener(place) {
+        Ok(listener) => listener,
+        Err(refusal) => return Err(refused(refusal, logger)),
     };
     let keeps = wishes.state.is_some();
-    let lookout = Lookout::new(site.alloc(), config, site.names(), VERSION, keeps, door)?;
+    let lookout = Lookout::new(site.alloc(), config, site.names(), VERSION, keeps, listener)?;
     Ok(Some(lookout))
 }
 
@@ -101,52 +101,56 @@ fn pen_of<T: Site>(site: &T, record: bool) -> Pen<T::Sheet>
 
 /// The ends of a live run.
 #[derive(Drop)]
-struct Ends<L: Wire, D: Door + Drop, C: live::Clock + Drop> {
-    line: L,
-    door: D,
+struct RunEnds<S: OctetStream, L: Listener + Drop, C: live::RunClock + Drop> {
+    line: S,
+    listener: L,
     clock: C,
 }
 
-/// The ends, opened in this order: the door, the line, and the clock, which begins at this moment,
-/// in ms. A second process that is started by mistake ends at the door, and leaves the line of the
-/// first alone.
+/// The ends, opened in this order: the listener, the line, and the clock, which begins at this
+/// moment, in ms. A second process that is started by mistake ends at the listener, and leaves the
+/// line of the first alone.
 fn opened<T: Site>(
     site: &T,
     redial: bool,
     moment: u64,
-    teller: &mut Teller<T::Sink>,
-) -> Result<Ends<T::Line, T::Door, T::Clock>, Fault>
+    logger: &mut Logger<T::Sink>,
+) -> Result<RunEnds<T::Line, T::Listener, T::Clock>, Fault>
     ensures clock { IfOk result (λ ends. T.begins_at ends.clock moment) }
     ensures fault { IfErr result IsEndFault }
 {
-    let door = door_of(site, teller)?;
+    let listener = listener_of(site, logger)?;
     let line = match site.line(redial) {
         Ok(line) => line,
-        Err(refusal) => return Err(refused(refusal, teller)),
+        Err(refusal) => return Err(refused(refusal, logger)),
     };
     match site.clock(moment) {
-        Ok(clock) => Ok(Ends { line, door, clock }),
-        Err(refusal) => Err(refused(refusal, teller)),
+        Ok(clock) => Ok(RunEnds {
+            line,
+            listener,
+            clock,
+        }),
+        Err(refusal) => Err(refused(refusal, logger)),
     }
 }
 
-/// The door, opened. Its address is told, if that is known.
-fn door_of<T: Site>(site: &T, teller: &mut Teller<T::Sink>) -> Result<T::Door, Fault>
+/// The listener, opened. Its address is logged, if that is known.
+fn listener_of<T: Site>(site: &T, logger: &mut Logger<T::Sink>) -> Result<T::Listener, Fault>
     ensures told { IfOk result (λ _. (address : Option SocketAddr)
-        × NotesIf (note_of_address address) teller.old teller.new) }
-    ensures refused { IfErr result (λ fault. IsRefused fault teller.old teller.new) }
+        × NotesIf (note_of_address address) logger.old logger.new) }
+    ensures refused { IfErr result (λ fault. IsRefused fault logger.old logger.new) }
     ensures fault { IfErr result IsEndFault }
 {
-    match site.door() {
-        Ok((door, address)) => {
-            tell(note_of_address(address), teller);
-            Ok(door)
+    match site.listener() {
+        Ok((listener, address)) => {
+            tell(note_of_address(address), logger);
+            Ok(listener)
         }
-        Err(refusal) => Err(refused(refusal, teller)),
+        Err(refusal) => Err(refused(refusal, logger)),
     }
 }
 
-/// What tells where it is listened, if that is known.
+/// What is logged of where it listens, if that is known.
 fn note_of_address(address: Option<SocketAddr>) -> Option<Note>
     ensures { result ≡ note_of_address address }
 {
@@ -156,39 +160,39 @@ fn note_of_address(address: Option<SocketAddr>) -> Option<Note>
     }
 }
 
-/// Tells this, if there is anything to tell.
-fn tell<S: Sink + Drop>(note: Option<Note>, teller: &mut Teller<S>)
-    ensures { NotesIf note teller.old teller.new }
+/// Logs this, if there is anything to log.
+fn tell<S: LogSink + Drop>(note: Option<Note>, logger: &mut Logger<S>)
+    ensures { NotesIf note logger.old logger.new }
 {
     if let Some(note) = note {
-        teller.note(note);
+        logger.note(note);
     }
 }
 
-/// An end can't be had, which is told.
+/// An end can't be had, which is logged.
 #[tactic(auto, using(crate::proofs::KeptLemmas::refused_is_end))]
-fn refused<S: Sink + Drop>(refusal: Refusal, teller: &mut Teller<S>) -> Fault
-    ensures refused { IsRefused result teller.old teller.new }
+fn refused<S: LogSink + Drop>(refusal: Refusal, logger: &mut Logger<S>) -> Fault
+    ensures refused { IsRefused result logger.old logger.new }
     ensures fault { IsEndFault result }
 {
-    teller.note(Note::Trouble(refusal.trouble));
+    logger.note(Note::Trouble(refusal.trouble));
     Fault::from(refusal)
 }
 
 /// The port of a run between these ends. In one that goes on after a restart the connection of then
 /// is cut first.
-fn port_between<L: Wire, D: Door + Drop, C: live::Clock + Drop>(
+fn port_between<S: OctetStream, L: Listener + Drop, C: live::RunClock + Drop>(
     config: &Config,
-    ends: Ends<L, D, C>,
-    guests: Guests,
+    ends: RunEnds<S, L, C>,
+    allow_list: AllowList,
     goes_on: bool,
-) -> Live<L, D, C>
-    ensures port { IsPortOf config.now guests goes_on result }
+) -> Live<S, L, C>
+    ensures port { IsPortOf config.now allow_list goes_on result }
     ensures cut { result.is_cut_due ≡ goes_on }
     ensures log { result.log ≡ [] }
     ensures failed { result.failed ≡ 0 }
 {
-    let port = Live::new(ends.line, ends.door, ends.clock, guests, config);
+    let port = Live::new(ends.line, ends.listener, ends.clock, allow_list, config);
     if goes_on { port.cut_first() } else { port }
 }
 
@@ -219,15 +223,15 @@ fn run_anew<T: Site>(
     site: &T,
     config: &Config,
     wishes: Wishes<'_>,
-) -> Result<Lived<Live<T::Line, T::Door, T::Clock>, T::Sheet, T::Sink>, Fault>
-    ensures lived { IfOk result (λ lived. HasLived config.now wishes.entry.guests false []
+) -> Result<Lived<Live<T::Line, T::Listener, T::Clock>, T::Sheet, T::Sink>, Fault>
+    ensures lived { IfOk result (λ lived. HasLived config.now wishes.entry.allow_list false []
         lived.run_log.port.port.port lived.run_log.port.port.pen lived.ended) }
     ensures fault { IfErr result IsEndFault }
 {
     let gateway = Gateway::new(site.alloc(), config)?;
     let mut scribes = scribes_of(site, config, &wishes)?;
-    let ends = opened(site, wishes.redial, 0, &mut scribes.teller)?;
-    Ok(run_new(site, config, gateway, ends, wishes.guests, scribes))
+    let ends = opened(site, wishes.redial, 0, &mut scribes.logger)?;
+    Ok(run_new(site, config, gateway, ends, wishes.allow_list, scribes))
 }
 
 /// Runs a new gateway between these ends, whose clock begins at 0.
@@ -235,24 +239,24 @@ fn run_new<T: Site>(
     _site: &T,
     config: &Config,
     gateway: Gateway,
-    ends: Ends<T::Line, T::Door, T::Clock>,
-    guests: Guests,
+    ends: RunEnds<T::Line, T::Listener, T::Clock>,
+    allow_list: AllowList,
     scribes: Scribes<T::Sink, T::Sheet, T::Glass>,
-) -> Lived<Live<T::Line, T::Door, T::Clock>, T::Sheet, T::Sink>
+) -> Lived<Live<T::Line, T::Listener, T::Clock>, T::Sheet, T::Sink>
     requires new { told_first (log_of scribes.pen) (Some []) ≡ Some [] }
     requires begins { Follows (setup_of config.now) gateway (Some []) }
     requires clock { T.begins_at ends.clock 0 }
-    ensures { HasLived config.now guests false [] result.run_log.port.port.port
+    ensures { HasLived config.now allow_list false [] result.run_log.port.port.port
         result.run_log.port.port.pen result.ended }
 {
-    let port = port_between(config, ends, guests, false);
+    let port = port_between(config, ends, allow_list, false);
     live(gateway, port, History::new(), scribes)
 }
 
 /// A port between the ends of a site, whose events are kept in a directory of it.
 type Kept<T> = Keeper<
     Pair<
-        Live<<T as Site>::Line, <T as Site>::Door, <T as Site>::Clock>,
+        Live<<T as Site>::Line, <T as Site>::Listener, <T as Site>::Clock>,
         DiskStore<<T as Site>::Folder>,
     >,
 >;
@@ -269,14 +273,14 @@ fn run_kept<T: Site>(
     // It went on from what the directory had.
     ensures lived { IfOk result (λ lived. HasLivedFrom
         (BeginsIn T.Folder.File.Disk config.now text.now T.Folder.lineage) config.now
-        wishes.entry.guests lived.run_log.port.before.entries
+        wishes.entry.allow_list lived.run_log.port.before.entries
         lived.run_log.port.port.port.ends.port lived.run_log.port.port.pen lived.ended) }
     ensures fault { IfErr result IsKeptFault }
 {
     let mut scribes = scribes_of(site, config, &wishes)?;
-    let begun = begun_in(site, config, text, directory, &mut scribes.teller)?;
+    let begun = begun_in(site, config, text, directory, &mut scribes.logger)?;
     let moment = first_moment(begun.origin.moment);
-    let ends = opened(site, wishes.redial, moment, &mut scribes.teller)?;
+    let ends = opened(site, wishes.redial, moment, &mut scribes.logger)?;
     Ok(run_from(site, config, begun, ends, wishes, scribes))
 }
 
@@ -293,13 +297,13 @@ fn run_from<T: Site>(
     site: &T,
     config: &Config,
     begun: Begun<T::Folder>,
-    ends: Ends<T::Line, T::Door, T::Clock>,
+    ends: RunEnds<T::Line, T::Listener, T::Clock>,
     wishes: Wishes<'_>,
     scribes: Scribes<T::Sink, T::Sheet, T::Glass>,
 ) -> Lived<Kept<T>, T::Sheet, T::Sink>
     requires new { told_first (log_of scribes.pen) (Some []) ≡ Some [] }
     requires clock { T.begins_at ends.clock (first_moment begun.origin.moment) }
-    ensures { HasLivedOn config.now wishes.entry.guests begun.origin
+    ensures { HasLivedOn config.now wishes.entry.allow_list begun.origin
         result.run_log.port.before.entries result.run_log.port.port.port.ends.port
         result.run_log.port.port.pen result.ended }
 {
@@ -310,7 +314,7 @@ fn run_from<T: Site>(
         before,
         ..
     } = origin;
-    let port = port_between(config, ends, wishes.guests, moment.is_some());
+    let port = port_between(config, ends, wishes.allow_list, moment.is_some());
     let keeper = Keeper::new(
         Pair::new(site.alloc(), port, store),
         &gateway,
@@ -319,49 +323,49 @@ fn run_from<T: Site>(
     live(gateway, keeper, before, scribes)
 }
 
-/// What this directory has, or a new state, which is told.
+/// What this directory has, or a new state, which is logged.
 #[tactic(auto, using(crate::proofs::KeptLemmas::memory_is_unkept))]
 fn begun_in<T: Site>(
     site: &T,
     config: &Config,
     text: &[u8],
     directory: &str,
-    teller: &mut Teller<T::Sink>,
+    logger: &mut Logger<T::Sink>,
 ) -> Result<Begun<T::Folder>, Fault>
     ensures begun { IfOk result (λ b. IsBegun config.now text.now T.Folder.lineage
         (T.Folder.mark b.store.folder) b.store.opened b.origin) }
     ensures settings { IfOk result (λ b. b.store.settings.items ≡ text.now) }
-    ensures told { IfOk result (λ b. TellsBeginning b.origin teller.old teller.new) }
-    ensures unkept { IfErr result (λ fault. IsUnkept fault teller.old teller.new) }
+    ensures told { IfOk result (λ b. TellsBeginning b.origin logger.old logger.new) }
+    ensures unkept { IfErr result (λ fault. IsUnkept fault logger.old logger.new) }
 {
     let folder = site.folder(directory)?;
     match begin(site.alloc(), config, text, folder) {
         Ok(begun) => {
-            tell_beginning(&begun.origin, teller);
+            tell_beginning(&begun.origin, logger);
             Ok(begun)
         }
-        Err(fault) => Err(unkept(fault, teller)),
+        Err(fault) => Err(unkept(fault, logger)),
     }
 }
 
-/// The state can't be had, which is told.
-fn unkept<S: Sink + Drop>(fault: FolderFault, teller: &mut Teller<S>) -> Fault
-    ensures { IsUnkept result teller.old teller.new }
+/// The state can't be had, which is logged.
+fn unkept<S: LogSink + Drop>(fault: FolderFault, logger: &mut Logger<S>) -> Fault
+    ensures { IsUnkept result logger.old logger.new }
 {
     match fault {
         FolderFault::InUse => {
-            teller.note(Note::Trouble(Trouble::StateInUse));
+            logger.note(Note::Trouble(Trouble::StateInUse));
             Fault::StateInUse
         }
         FolderFault::Foreign | FolderFault::Device => {
-            teller.note(Note::Trouble(Trouble::StateUnusable));
+            logger.note(Note::Trouble(Trouble::StateUnusable));
             Fault::StateUnusable
         }
         FolderFault::NoMemory => Fault::NoMemory,
     }
 }
 
-/// What tells with how many pieces a run goes on, if it does.
+/// What is logged of the pieces with which a run goes on, if it does.
 fn note_if_on(moment: Option<u64>, gateway: &Gateway) -> Option<Note>
     ensures { result ≡ note_if_on moment gateway.now }
 {
@@ -371,9 +375,9 @@ fn note_if_on(moment: Option<u64>, gateway: &Gateway) -> Option<Note>
     }
 }
 
-/// Tells the gap that may not have been seen, at the moment at which the run goes on, in ms.
-fn tell_gap<S: Sink + Drop>(moment: Option<u64>, gap: Option<ToldGap>, teller: &mut Teller<S>)
-    ensures { TellsGap moment gap teller.old teller.new }
+/// Logs the gap that may not have been seen, at the moment at which the run goes on, in ms.
+fn tell_gap<S: LogSink + Drop>(moment: Option<u64>, gap: Option<ToldGap>, logger: &mut Logger<S>)
+    ensures { TellsGap moment gap logger.old logger.new }
 {
     let Some(moment) = moment else {
         return;
@@ -381,15 +385,15 @@ fn tell_gap<S: Sink + Drop>(moment: Option<u64>, gap: Option<ToldGap>, teller: &
     let Some((station, session)) = gap else {
         return;
     };
-    teller.put(moment, &Action::Gap { station, session });
+    logger.put(moment, &Action::Gap { station, session });
 }
 
-/// Tells how a run begins, and the gap that may not have been seen.
-fn tell_beginning<S: Sink + Drop>(origin: &Origin, teller: &mut Teller<S>)
-    ensures { TellsBeginning origin.now teller.old teller.new }
+/// Logs how a run begins, and the gap that may not have been seen.
+fn tell_beginning<S: LogSink + Drop>(origin: &Origin, logger: &mut Logger<S>)
+    ensures { TellsBeginning origin.now logger.old logger.new }
 {
-    tell(note_of(origin.beginning), teller);
-    tell(note_of_settings(origin.is_moved), teller);
-    tell(note_if_on(origin.moment, &origin.gateway), teller);
-    tell_gap(origin.moment, origin.gap, teller);
+    tell(note_of(origin.beginning), logger);
+    tell(note_of_settings(origin.is_moved), logger);
+    tell(note_if_on(origin.moment, &origin.gateway), logger);
+    tell_gap(origin.moment, origin.gap, logger);
 }

@@ -9,17 +9,18 @@
 //! stood, a file that can't be read ends it with 3 before anything is printed, `check` judges the
 //! file of a site, if one is named, before it reads the settings, `run` ends as the host's live run
 //! ended, and words that ask for nothing end with 2, or 0 where they ask for help or the version.
-//! Proved of `perform` and `replay`: what each appends to a writer that tells its octets is the
+//! Proved of `perform` and `replay`: what each appends to a writer that notes its octets is the
 //! text of the command's answer and nothing else, nothing where a text is refused, and a beginning
 //! of the answer's text where the writer failed, or of a run's lines where memory was refused while
 //! they were printed; the exit status is that of the answer or of the first fault. A run that is
-//! told in words (`--words`) is the same run, and what is printed are the words of its log; frames
-//! that come by a pipe are told line by line; and `status` prints what a live run answers, and ends
-//! as its table says. Literal words, with what they ask for or how they end, are worked examples
-//! (`words_by_example`). What the system's files, terminals and sockets do, and the lines of
-//! faults, are tested.
+//! printed in words (`--words`) is the same run, and what is printed are the words of its log;
+//! frames that come by a pipe are shown line by line; and `status` prints what a live run answers,
+//! and ends as its table says. Literal words, with what they ask for or how they end, are worked
+//! examples (`words_by_example`). What the system's files, terminals and sockets do, and the lines
+//! of faults, are tested.
 #![tactic(auto)]
 
+mod allow_list;
 mod answer;
 mod asking;
 mod auditing;
@@ -29,7 +30,6 @@ mod closing;
 mod command_line;
 mod examples;
 mod fault;
-mod guests;
 mod help;
 mod host;
 mod inquiry;
@@ -68,7 +68,7 @@ use std::{env, io};
 fn main(rt: HostRuntime) -> ExitCode {
     let mut out = rt.stdout();
     let mut err = rt.stderr();
-    // Lines that pass on a terminal tell by their moments how far a run has come.
+    // Lines that pass on a terminal say by their moments how far a run has come.
     let is_watched = err.is_terminal() && !out.is_terminal();
     let has_colours = shows_colours(out.is_terminal(), &env::var(&rt, "NO_COLOR"));
     let system = System {

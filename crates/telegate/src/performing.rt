@@ -19,7 +19,7 @@ use std::io::{ErrorKind, Write};
 /// status: 0 done, 1 a bad frame or a file with wrong content, 3 where the output can't be written
 /// (what was written is then a beginning of the answer's text), 4 where memory was refused. A run
 /// over a script prints while it goes on, so that after 4 a beginning of its lines may have been
-/// written, and where it is watched it tells `err` how far it has come; the others print when all
+/// written, and where it is watched it says on `err` how far it has come; the others print when all
 /// is there.
 pub fn perform<W: Write, E: Write>(
     alloc: Global,
@@ -42,7 +42,7 @@ pub fn perform<W: Write, E: Write>(
     }
 }
 
-/// Prints an answer, or tells a fault, and answers the exit status.
+/// Prints an answer, or writes a fault, and answers the exit status.
 pub(crate) fn give<W: Write, E: Write>(
     answer: &Result<Answer, Fault>,
     out: &mut W,

@@ -29,9 +29,9 @@ pub(crate) enum Piped {
     Connection,
 }
 
-/// Tells the frames of a text, which is read line by line: octets in hexadecimal, with a frame or
-/// several a line. Each is told as it is alone, in one line of words or with a fact a line. A line
-/// that is no octets is told with its number to `err`, and the others go on. Answers whether all
+/// Shows the frames of a text, which is read line by line: octets in hexadecimal, with a frame or
+/// several a line. Each is shown as it is alone, in one line of words or with a fact a line. A line
+/// that is no octets is written with its number to `err`, and the others go on. Answers whether all
 /// was as it should be.
 pub(crate) fn pipe<S: Source, W: Write, E: Write>(
     alloc: Global,
@@ -121,8 +121,8 @@ fn tell_lines<E: Write>(
     Err(Fault::NoMemory)
 }
 
-/// Appends what is told of a line with this number, or tells that it is no octets. Answers whether
-/// all was as it should be so far.
+/// Appends what is shown of a line with this number, or writes that it is no octets. Answers
+/// whether all was as it should be so far.
 #[tactic(auto, using(crate::proofs::PipeLemmas::none_added))]
 fn push_told<E: Write>(
     lines: &mut String,

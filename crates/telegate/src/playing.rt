@@ -7,7 +7,7 @@ ghost use Rattle.telegate.specs.declared.fault.Fault.TheVariants.{NoMemory};
 
 use crate::fault::Fault;
 use gateway::Config;
-use live::{Clock, Door};
+use live::{Listener, RunClock};
 use sim::TextFault;
 use stations::{Scenario, read_scenario, serve};
 use std::alloc::Global;
@@ -24,19 +24,19 @@ pub(crate) fn scenario_of(alloc: Global, config: &Config, text: &[u8]) -> Result
     }
 }
 
-/// Plays the outstations of a text behind a door, as long as rounds can be counted.
-pub(crate) fn play_behind<R: std::rt::Clock, C: Clock, D: Door + Drop>(
+/// Plays the outstations of a text behind a listener, as long as rounds can be counted.
+pub(crate) fn play_behind<R: std::rt::Clock, C: RunClock, L: Listener + Drop>(
     rt: &R,
     alloc: Global,
     config: &Config,
     scenario: Scenario,
     clock: &mut C,
-    door: D,
+    listener: L,
 ) -> Result<(), Fault>
     requires { FitsScenario config.now scenario }
     ensures { ArePlayed config.now scenario result }
 {
-    let Ok(_ended) = serve(rt, alloc, config, scenario, clock, door, u64::MAX) else {
+    let Ok(_ended) = serve(rt, alloc, config, scenario, clock, listener, u64::MAX) else {
         return Err(Fault::NoMemory);
     };
     Ok(())

@@ -15,14 +15,14 @@ use traces::{Blocks, Pause, cut, is_skipped};
 
 const LINE_FEED: u8 = b'\n';
 
-/// Whether a line tells an action, and is no comment.
+/// Whether a line is that of an action, and is no comment.
 fn tells_action(line: &[u8]) -> bool
     ensures { result ≡ tells_action line.now }
 {
     !is_skipped(line) && is_action(line)
 }
 
-/// Whether one of these lines tells an action.
+/// Whether one of these lines is that of an action.
 fn tell_actions(lines: &[u8]) -> Result<bool, AllocError>
     ensures { IfOk result (λ found. found ≡ list_any tells_action (lines_of lines.now)) }
 {
@@ -41,8 +41,8 @@ fn tell_actions(lines: &[u8]) -> Result<bool, AllocError>
     Err(AllocError)
 }
 
-/// Whether a text is a record: a line of it tells an action. It is read as far as the first block
-/// that has one.
+/// Whether a text is a record: a line of it is that of an action. It is read as far as the first
+/// block that has one.
 pub(crate) fn is_record<R: Read + Drop>(alloc: Global, text: R) -> Result<bool, Fault>
     ensures found { IfOk result (IsFoundIn (R.remaining text)) }
     ensures fault { IfErr result IsWant }
@@ -63,7 +63,7 @@ pub(crate) fn is_record<R: Read + Drop>(alloc: Global, text: R) -> Result<bool, 
     Err(Fault::NoMemory)
 }
 
-/// Appends lines, with an empty one in the place of each that tells no event.
+/// Appends lines, with an empty one in the place of each that is no event's.
 fn put_events(lines: &[u8], part: &mut Vec<u8>) -> Result<(), AllocError>
     requires { part.old.items ≡ [] }
     ensures { OnOk result (lines_of part.new.items ≡ event_lines (lines_of lines.now)) }

@@ -29,7 +29,7 @@ use std::alloc::Global;
 use std::io::{Read, Write};
 use traces::{BlockFault, Blocks, Pause, TextFault, judge};
 
-/// So many octets of a trace pass before it is told how far a run has come: 2^25, a quarter of a
+/// So many octets of a trace pass before it is said how far a run has come: 2^25, a quarter of a
 /// second.
 const STRIDE: u64 = 33_554_432;
 
@@ -40,7 +40,7 @@ pub(crate) struct Asked<'a> {
     pub(crate) config: &'a [u8],
     pub(crate) manner: Manner,
     pub(crate) closing: Closing,
-    /// Whether it is to be told on standard error how far a long run has come.
+    /// Whether it is to be said on standard error how far a long run has come.
     pub(crate) is_watched: bool,
 }
 
@@ -56,9 +56,9 @@ struct Course {
 /// Runs the gateway over the events of a trace, and prints a line for each action as it is made, or
 /// one in words for each event and each action, and then the closing lines. The settings are judged
 /// before the trace, and the whole trace before the run, so that nothing is printed where either is
-/// wrong. The trace is read twice, block by block. Where it is watched, a long run tells on
-/// standard error how far it has come; one in words doesn't. In words a record is told too (a text
-/// of which a line tells an action): its events are run, and the lines of its actions are passed
+/// wrong. The trace is read twice, block by block. Where it is watched, a long run says on standard
+/// error how far it has come; one in words doesn't. In words a record is printed too (a text of
+/// which a line is that of an action): its events are run, and the lines of its actions are passed
 /// over.
 pub(crate) fn replay<S: Source, W: Write, E: Write>(
     alloc: Global,
@@ -165,7 +165,7 @@ fn with_lines(size: u64, lines: &[u8]) -> u64 {
 }
 
 /// Runs the gateway over a trace that was judged. An output that fails is written to no more, and
-/// told at the end.
+/// said at the end.
 fn run<R: Read + Drop, W: Write, E: Write>(
     alloc: Global,
     config: &Config,
@@ -187,7 +187,7 @@ fn run<R: Read + Drop, W: Write, E: Write>(
     close(alloc, &gateway, course.closing, is_whole, out)
 }
 
-/// Whether it is told how far a run has come.
+/// Whether it is said how far a run has come.
 fn is_told(course: &Course) -> bool
     ensures unwatched { course.now.is_watched ≡ false → result ≡ false }
     ensures some { result ≡ true → 0 < course.now.size }
@@ -282,12 +282,12 @@ pub(crate) fn fault_in(lines: &[u8]) -> Fault
     }
 }
 
-/// Tells after each stride how far a run has come, where that is to be told.
+/// Says after each stride how far a run has come, where that is wanted.
 fn tell_between<E: Write>(course: &Course, before: u64, size: u64, err: &mut E)
     ensures { course.now.is_watched ≡ false → err.new ≡ err.old }
 {
     if is_told(course) && before / STRIDE < size / STRIDE {
-        // A text that has grown since it was judged isn't told beyond its end.
+        // A text that has grown since it was judged isn't counted beyond its end.
         let _ = tell_percent(size.min(course.size), course.size, err);
     }
 }

@@ -9,7 +9,7 @@ pub(crate) struct RunWords<'m, 'a> {
     pub(crate) site: Option<&'a str>,
     /// A line that ends is reached again.
     pub(crate) redial: bool,
-    /// It is told what happens.
+    /// What happens is logged.
     pub(crate) log: bool,
     /// Each line of that begins with how severe it is.
     pub(crate) log_severity: bool,

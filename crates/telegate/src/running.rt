@@ -10,25 +10,25 @@ use gateway::{End, Gateway, History, drive_on};
 use live::Watched;
 use lookout::Lookout;
 use record::{Pen, Recorder, Sheet};
-use runlog::{RunLog, Sink, Teller};
+use runlog::{LogSink, Logger, RunLog};
 use status::StreamSource;
 
 /// A run has stopped: its line has ended, or its state can't be kept where that isn't borne.
 #[derive(Clone, Copy, Debug, PartialEq, Eq)]
 pub(crate) struct DeviceFailed;
 
-/// What is told of a run: what happens, its record, and how it stands, to who looks.
+/// What comes of a run beside its work: the log, the record, and how it stands, for who looks.
 #[derive(Drop)]
-pub(crate) struct Scribes<S: Sink + Drop, W: Sheet + Drop, D: StreamSource + Drop> {
-    pub(crate) teller: Teller<S>,
+pub(crate) struct Scribes<S: LogSink + Drop, W: Sheet + Drop, D: StreamSource + Drop> {
+    pub(crate) logger: Logger<S>,
     pub(crate) pen: Pen<W>,
-    /// None where there is no door to look through.
+    /// None where there is no listener for who looks.
     pub(crate) lookout: Option<Lookout<D>>,
 }
 
-/// A run over a port that is over: the port, with what was told, and how it ended.
+/// A run over a port that is over: the port, with what was logged, and how it ended.
 #[derive(Drop)]
-pub(crate) struct Lived<P: Watched + Drop, W: Sheet + Drop, S: Sink + Drop> {
+pub(crate) struct Lived<P: Watched + Drop, W: Sheet + Drop, S: LogSink + Drop> {
     pub(crate) run_log: RunLog<Life<Recorder<P, W>>, S>,
     pub(crate) ended: Result<(), DeviceFailed>,
 }
@@ -37,7 +37,7 @@ pub(crate) struct Lived<P: Watched + Drop, W: Sheet + Drop, S: Sink + Drop> {
 /// can be counted are used up. Between two events the run_log, and the port, may look at the
 /// gateway, and so may visitors. To these it is lent: whoever looks, every promise stays.
 #[tactic(auto, using(crate::proofs::Turning::no_events_yet))]
-fn serve<P: Watched + Drop, S: Sink + Drop, D: StreamSource + Drop>(
+fn serve<P: Watched + Drop, S: LogSink + Drop, D: StreamSource + Drop>(
     mut gateway: Gateway,
     run_log: &mut RunLog<P, S>,
     mut lookout: Option<Lookout<D>>,
@@ -59,7 +59,7 @@ fn serve<P: Watched + Drop, S: Sink + Drop, D: StreamSource + Drop>(
             End::Turns => {
                 let notice = run_log.look(&gateway);
                 if let Some(lookout) = &mut lookout {
-                    lookout.look(&gateway, run_log.teller().watch(), notice);
+                    lookout.look(&gateway, run_log.logger().watch(), notice);
                 }
             }
             End::Finished => {
@@ -76,7 +76,7 @@ fn serve<P: Watched + Drop, S: Sink + Drop, D: StreamSource + Drop>(
 }
 
 /// Runs the gateway over a port, behind the lives in which it came to be as it is.
-pub(crate) fn live<P: Watched + Drop, W: Sheet + Drop, S: Sink + Drop, D: StreamSource + Drop>(
+pub(crate) fn live<P: Watched + Drop, W: Sheet + Drop, S: LogSink + Drop, D: StreamSource + Drop>(
     gateway: Gateway,
     port: P,
     before: History,
@@ -104,7 +104,7 @@ pub(crate) fn live<P: Watched + Drop, W: Sheet + Drop, S: Sink + Drop, D: Stream
         IsRecorded p before.entries result.run_log.port.port.pen result.ended }
 {
     let recorder = Recorder::new(port, scribes.pen);
-    let mut run_log = RunLog::new(Life::new(recorder, before), scribes.teller);
+    let mut run_log = RunLog::new(Life::new(recorder, before), scribes.logger);
     let ended = serve(gateway, &mut run_log, scribes.lookout);
     let _is_over = run_log.port().port().is_over();
     Lived { run_log, ended }

@@ -233,7 +233,7 @@ fn check_file<H: Host, W: Write, E: Write>(
     }
 }
 
-/// Tells the frames of a line that come on standard input, and answers the exit status.
+/// Shows the frames of a line that come on standard input, and answers the exit status.
 fn pipe_line<H: Host, W: Write, E: Write>(
     alloc: Global,
     host: &H,
@@ -251,7 +251,7 @@ fn pipe_line<H: Host, W: Write, E: Write>(
     }
 }
 
-/// Tells the frames that come on standard input, and answers the exit status.
+/// Shows the frames that come on standard input, and answers the exit status.
 fn pipe_frames<H: Host, W: Write, E: Write>(
     alloc: Global,
     host: &H,
@@ -381,8 +381,8 @@ fn show_state<H: Host, W: Write, E: Write>(
     }
 }
 
-/// The octets of a file, if one is named, or the exit status where it can't be read, which is told
-/// then.
+/// The octets of a file, if one is named, or the exit status where it can't be read, which is
+/// written then.
 fn read_given<H: Host, E: Write>(
     host: &H,
     name: Option<&str>,
@@ -467,7 +467,7 @@ fn run_wished<H: Host, E: Write>(
 }
 
 /// What belongs to a site: what the file of this name says, or nothing where none is named. Or the
-/// exit status, where it can't be read or is refused, which is told then.
+/// exit status, where it can't be read or is refused, which is written then.
 fn site_of<H: Host, E: Write>(
     alloc: Global,
     host: &H,
@@ -550,7 +550,7 @@ fn read_files<H: Host, E: Write>(
     }
 }
 
-/// The octets of a file, or the exit status where it can't be read, which is told then.
+/// The octets of a file, or the exit status where it can't be read, which is written then.
 fn read_file<H: Host, E: Write>(host: &H, name: &str, err: &mut E) -> Result<Vec<u8>, u8>
     ensures read { IfOk result (λ octets. H.has host.now name.now octets.items) }
     ensures unread { IfErr result (IsNotRead (H.has host.now) (H.lacks host.now) (name.now ∷ [])) }

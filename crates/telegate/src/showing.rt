@@ -45,7 +45,7 @@ fn read_octets(alloc: Global, hex: &str) -> Result<Vec<u8>, Fault>
     }
 }
 
-/// The lines, and the exit status that tells a fault in the octets.
+/// The lines, and the exit status that stands for a fault in the octets.
 fn answer_of(shown: Shown) -> Answer
     ensures text { result.text.items ≡ string_bytes shown.lines }
     ensures status { result.status ≡ status_by shown.outcome }

@@ -20,7 +20,7 @@ use std::io::Write;
 /// words for each event and each action, and then one for each station, one for each connection,
 /// and one for each station whose link had more than one session. The settings are judged before
 /// the script, and the whole script before the run, so that nothing is printed where either is
-/// wrong. Where it is watched, a long run tells on standard error how far it has come; one in words
+/// wrong. Where it is watched, a long run says on standard error how far it has come; one in words
 /// doesn't.
 pub(crate) fn simulate<W: Write, E: Write>(
     alloc: Global,
@@ -69,7 +69,7 @@ fn run<W: Write, E: Write>(
     }
 }
 
-/// What the program tells of a run's fault.
+/// The program's fault for a run's fault.
 fn told(run: Result<(), SimFault>) -> Result<(), Fault>
     ensures { (c : Settings) (ds : List Directive) (old new : Option (List ℕ)) →
         IsSimulation c ds old new run → IsSimulationOf Lines c ds old new result }

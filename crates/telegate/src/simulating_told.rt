@@ -1,4 +1,4 @@
-//! Runs over simulated stations that are told in words.
+//! Runs over simulated stations that are printed in words.
 ghost use Rattle.std.specs.Prelude.{◌≡◌, ℕ, Bool, List, Option};
 ghost use Rattle.gateway.specs.Config.{AreDistinct, Settings};
 ghost use Rattle.gateway.specs.Setups.{setup_of};

@@ -4,11 +4,11 @@ ghost use Rattle.telegate.specs.Told.{fault_of};
 
 use crate::fault::Fault;
 use live::{
-    CentreListener, Door, Got, LineDialler, LineSocket, Presence, Reached, Redialled, SystemClock,
-    Wire,
+    CentreListener, Got, LineDialler, LineSocket, Listener, OctetStream, Presence, Reached,
+    Redialled, SystemClock,
 };
 use record::{Sheet, StandardOutput};
-use runlog::{Names, Sink, StandardError, Trouble};
+use runlog::{LogNames, LogSink, StandardError, Trouble};
 use settings::LiveSettings;
 use state::Folder;
 use state_files::Directory;
@@ -39,23 +39,23 @@ impl From<Refusal> for Fault {
     }
 }
 
-/// Where a live run finds its ends, and where what is told of it goes.
+/// Where a live run finds its ends, and where its log and its record go.
 pub(crate) trait Site {
     ghost use Rattle.telegate.specs.Sites.{IsNew};
 
-    type Line: Wire + Reached;
+    type Line: OctetStream + Reached;
 
-    type Door: Door + Drop;
+    type Listener: Listener + Drop;
 
-    type Clock: live::Clock + Drop;
+    type Clock: live::RunClock + Drop;
 
     type Folder: Folder + Drop;
 
-    type Sink: Sink + Drop;
+    type Sink: LogSink + Drop;
 
     type Sheet: Sheet + Drop;
 
-    /// Where visitors come in who look at a run.
+    /// Where visitors connect who look at a run.
     type Glass: status::StreamSource + Drop;
 
     // This clock begins at this moment, in ms.
@@ -67,17 +67,17 @@ pub(crate) trait Site {
     fn sink(&self) -> Self::Sink;
 
     /// What the line and the stations are called.
-    fn names(&self) -> Names<'_>;
+    fn names(&self) -> LogNames<'_>;
 
     /// What the record is written on: nothing stands there yet.
     fn sheet(&self) -> Self::Sheet
         ensures { IsNew (Self.Sheet.taken result) (Self.Sheet.missed result) };
 
-    /// The door, open, and its address, if that is known.
-    fn door(&self) -> Result<(Self::Door, Option<SocketAddr>), Refusal>;
+    /// The listener, open, and its address, if that is known.
+    fn listener(&self) -> Result<(Self::Listener, Option<SocketAddr>), Refusal>;
 
-    /// The door of visitors at this place, open.
-    fn status_door(&self, place: &str) -> Result<Self::Glass, Refusal>;
+    /// The listener for visitors at this place, open.
+    fn status_listener(&self, place: &str) -> Result<Self::Glass, Refusal>;
 
     /// The line: one that is there, or one that is reached again where it ends.
     fn line(&self, redial: bool) -> Result<Self::Line, Refusal>;
@@ -96,7 +96,7 @@ pub(crate) struct Process<'r> {
     pub(crate) rt: &'r HostRuntime,
     pub(crate) places: &'r LiveSettings,
     /// What the line and the stations are called.
-    pub(crate) names: Names<'r>,
+    pub(crate) names: LogNames<'r>,
     /// Each line of the log begins with how severe it is.
     pub(crate) has_severity: bool,
 }
@@ -110,7 +110,7 @@ pub(crate) enum ProcessLine<'r, R: Net<Stream = TcpStream> + Clock> {
     Again(Redialled<LineDialler<'r, R>, SystemClock<'r, R>>),
 }
 
-impl<R: Net<Stream = TcpStream> + Clock> Wire for ProcessLine<'_, R> {
+impl<R: Net<Stream = TcpStream> + Clock> OctetStream for ProcessLine<'_, R> {
     ghost use Rattle.std.specs.Prelude.{None};
 
     ghost history = { λ _. None };
@@ -149,7 +149,7 @@ impl<R: Net<Stream = TcpStream> + Clock> Reached for ProcessLine<'_, R> {
 impl<'r> Site for Process<'r> {
     type Line = ProcessLine<'r, HostRuntime>;
 
-    type Door = CentreListener<'r, HostRuntime>;
+    type Listener = CentreListener<'r, HostRuntime>;
 
     type Clock = SystemClock<'r, HostRuntime>;
 
@@ -178,7 +178,7 @@ impl<'r> Site for Process<'r> {
         }
     }
 
-    fn names(&self) -> Names<'_> {
+    fn names(&self) -> LogNames<'_> {
         self.names
     }
 
@@ -186,19 +186,19 @@ impl<'r> Site for Process<'r> {
         StandardOutput::new(self.rt)
     }
 
-    fn door(&self) -> Result<(CentreListener<'r, HostRuntime>, Option<SocketAddr>), Refusal> {
+    fn listener(&self) -> Result<(CentreListener<'r, HostRuntime>, Option<SocketAddr>), Refusal> {
         match CentreListener::listen(self.rt, self.places.listen.as_str()) {
-            Ok(door) => {
-                let address = door.address().ok();
-                Ok((door, address))
+            Ok(listener) => {
+                let address = listener.address().ok();
+                Ok((listener, address))
             }
             Err(fault) => Err(refusal_by(port_trouble(&fault), &fault)),
         }
     }
 
-    fn status_door(&self, place: &str) -> Result<VisitorListener, Refusal> {
+    fn status_listener(&self, place: &str) -> Result<VisitorListener, Refusal> {
         match VisitorListener::listen(self.rt, place) {
-            Ok(door) => Ok(door),
+            Ok(listener) => Ok(listener),
             Err(fault) => Err(refusal_by(Trouble::StatusUnusable, &fault)),
         }
     }

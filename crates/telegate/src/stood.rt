@@ -70,7 +70,7 @@ fn status_of(beginning: Beginning) -> u8
     }
 }
 
-/// Why nothing is told.
+/// Why nothing is answered.
 fn fault_of(fault: StateFault) -> Fault
     ensures { IsLookFault result }
 {

@@ -1,4 +1,4 @@
-//! Runs over a trace that are told in words.
+//! Runs over a trace that are printed in words.
 ghost use Rattle.std.specs.Prelude.{◌≡◌, ◌⊎◌, [], ℕ, List, Option, IfOk, IfErr, OnErr};
 ghost use Rattle.telegate.specs.Answers.{IsEndOf};
 ghost use Rattle.telegate.specs.Parts.{IsClear, IsPartRun, IsPartStopped, IsWant, RunsOver};
@@ -21,7 +21,7 @@ use std::io::{Read, Write};
 use traces::{Blocks, Pause};
 
 /// Runs the gateway over a trace or a record that was judged, and prints its events and actions in
-/// words. An output that fails is written to no more, and told at the end.
+/// words. An output that fails is written to no more, and said at the end.
 pub(crate) fn run_told<R: Read + Drop, W: Write>(
     alloc: Global,
     config: &Config,

@@ -3,16 +3,16 @@ ghost use Rattle.std.specs.Prelude.{◌≡◌, IfErr, IfOk, MatchResult, option_
 ghost use Rattle.std.specs.Option.{option_or};
 ghost use Rattle.sitefile.specs.Site.{IsSiteOf, names_of, site_of, texts_in};
 ghost use Rattle.telegate.specs.CommandLine.{text_of, texts_of};
-ghost use Rattle.telegate.specs.Wishes.{AreNoGuests, AreNoSiteGuests, AreWishes, IsGoodSite};
+ghost use Rattle.telegate.specs.Wishes.{IsNoAllowList, IsNoSiteAllowList, AreWishes, IsGoodSite};
 ghost use Rattle.telegate.specs.Wishes.{IsFirstSiteFault, IsSiteFault};
 ghost use Rattle.telegate.specs.Wishes.{IsStateFault, IsWishFault, said_by, said_in, said_of};
-ghost use Rattle.telegate.specs.Guests.{AreGuests};
+ghost use Rattle.telegate.specs.AllowLists.{IsAllowListOf};
 
+use crate::allow_list::allow_list_of;
 use crate::fault::Fault;
-use crate::guests::guests_of;
 use crate::host::Wishes;
 use crate::run_words::RunWords;
-use live::Guests;
+use live::AllowList;
 use sitefile::{Site, SiteFault, read_site};
 use std::alloc::Global;
 
@@ -54,34 +54,34 @@ fn said<'a>(word: Option<&'a str>, key: &'a Option<String>) -> Option<&'a str>
 }
 
 /// Who may connect by the file of a site: whom it names, or anyone where it names none.
-fn guests_in(alloc: Global, allow: &Option<Vec<String>>) -> Result<Guests, Fault>
-    ensures guests { IfOk result (AreGuests (option_map texts_in allow.now)) }
-    ensures fault { IfErr result (AreNoSiteGuests (option_map texts_in allow.now)) }
+fn allow_list_in(alloc: Global, allow: &Option<Vec<String>>) -> Result<AllowList, Fault>
+    ensures allow_list { IfOk result (IsAllowListOf (option_map texts_in allow.now)) }
+    ensures fault { IfErr result (IsNoSiteAllowList (option_map texts_in allow.now)) }
 {
     let Some(addresses) = allow else {
-        return Ok(Guests::Anyone);
+        return Ok(AllowList::Anyone);
     };
-    match guests_of(alloc, Some(addresses.as_slice())) {
-        Ok(guests) => Ok(guests),
+    match allow_list_of(alloc, Some(addresses.as_slice())) {
+        Ok(allow_list) => Ok(allow_list),
         Err(Fault::Address) => Err(Fault::Site(SiteFault::Key("allow"))),
         Err(fault) => Err(fault),
     }
 }
 
 /// Who may connect: by the words, or by the file of the site where these say nothing of it.
-fn guests_said(
+fn allow_list_said(
     alloc: Global,
     words: Option<&[&str]>,
     site: &Option<Vec<String>>,
-) -> Result<Guests, Fault>
-    ensures guests { IfOk result (AreGuests (option_or (texts_of words.entry)
+) -> Result<AllowList, Fault>
+    ensures allow_list { IfOk result (IsAllowListOf (option_or (texts_of words.entry)
         (option_map texts_in site.now))) }
-    ensures fault { IfErr result (AreNoGuests (texts_of words.entry)
+    ensures fault { IfErr result (IsNoAllowList (texts_of words.entry)
         (option_map texts_in site.now)) }
 {
     match words {
-        Some(words) => guests_of(alloc, Some(words)),
-        None => guests_in(alloc, site),
+        Some(words) => allow_list_of(alloc, Some(words)),
+        None => allow_list_in(alloc, site),
     }
 }
 
@@ -112,15 +112,15 @@ pub(crate) fn wishes_of<'a>(
     if state_or_stop && state.is_none() {
         return Err(state_fault(words.state_or_stop));
     }
-    match guests_said(alloc, words.allow, &site.places.allow) {
-        Ok(guests) => Ok(Wishes {
+    match allow_list_said(alloc, words.allow, &site.places.allow) {
+        Ok(allow_list) => Ok(Wishes {
             redial: words.redial || site.flags.redial,
             log: words.log || site.flags.log,
             log_severity: words.log_severity || site.flags.log_severity,
             record: words.record || site.flags.record,
             state,
             bears_loss: !state_or_stop,
-            guests,
+            allow_list,
             status: said(words.status, &site.places.status),
             names: &site.names,
         }),

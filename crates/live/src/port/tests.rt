@@ -1,23 +1,24 @@
 //! The port over ends in memory, rule by rule.
 use super::Live;
-use crate::guests::Guests;
-use crate::memory::{MemoryClock, MemoryDoor, MemoryWire};
+use crate::allow_list::AllowList;
+use crate::memory::{MemoryClock, MemoryListener, MemoryStream};
 use gateway::{Action, Next, Port};
 use session::Close;
 
-type Ends = Live<MemoryWire, MemoryDoor, MemoryClock>;
+type MemoryPort = Live<MemoryStream, MemoryListener, MemoryClock>;
 
-/// A wire: whether its reads find octets, which read finds that it is gone, and which write it
+/// A stream: whether its reads find octets, which read finds that it is gone, and which write it
 /// doesn't take, each from 1, or 0 for none.
-type Ways = (bool, u32, u32);
+type StreamWays = (bool, u32, u32);
 
-const QUIET: Ways = (false, 0, 0);
+const QUIET: StreamWays = (false, 0, 0);
 
-const BUSY: Ways = (true, 0, 0);
+const BUSY: StreamWays = (true, 0, 0);
 
-/// A call, and what it is to answer. Events are told by the letters of traces, and F for a failure.
+/// A call, and what it is to answer. Events are written as the letters of traces, and F for a
+/// failure.
 #[derive(Clone, Copy)]
-enum Step {
+enum PortCall {
     /// The next event, its moment, and how many octets it has.
     Gives(char, u64, usize),
     /// The same at any moment.
@@ -27,9 +28,9 @@ enum Step {
     /// A request is put on the line.
     Asks,
     Closes(Close),
-    /// Another visitor comes to the door.
-    Comes(Ways),
-    /// The visitor is still at the door.
+    /// Another control centre connects.
+    Comes(StreamWays),
+    /// That control centre still waits to be accepted.
     Waits,
     /// How often the line was read, and written to.
     Line(u32, u32),
@@ -38,27 +39,33 @@ enum Step {
     Failures(u64),
 }
 
-fn wire(ways: Ways) -> MemoryWire {
+fn stream(ways: StreamWays) -> MemoryStream {
     let (is_busy, failing_read, failing_write) = ways;
-    let mut wire = if is_busy {
-        MemoryWire::busy()
+    let mut stream = if is_busy {
+        MemoryStream::busy()
     } else {
-        MemoryWire::quiet()
+        MemoryStream::quiet()
     };
-    wire.failing_read = failing_read;
-    wire.failing_write = failing_write;
-    wire
+    stream.failing_read = failing_read;
+    stream.failing_write = failing_write;
+    stream
 }
 
-/// Ends of which the wall clock has just been told.
-fn ends(line: Ways, visitor: Option<Ways>) -> Ends {
-    let visitor = match visitor {
-        Some(ways) => Some(wire(ways)),
+/// A port that has just given the wall clock.
+fn ends(line: StreamWays, centre: Option<StreamWays>) -> MemoryPort {
+    let centre = match centre {
+        Some(ways) => Some(stream(ways)),
         None => None,
     };
-    let door = MemoryDoor::new(visitor);
-    let mut port = Live::awaiting(wire(line), door, MemoryClock::new(), Guests::Anyone, 1000);
-    port.walled.tell(0);
+    let listener = MemoryListener::new(centre);
+    let mut port = Live::awaiting(
+        stream(line),
+        listener,
+        MemoryClock::new(),
+        AllowList::Anyone,
+        1000,
+    );
+    port.walled.give(0);
     port
 }
 
@@ -77,35 +84,35 @@ fn shown(next: Next) -> (char, u64, usize) {
 }
 
 /// Makes the call, and says whether the answer was the one. A port that failed too often is wrong.
-fn is_right(port: &mut Ends, step: Step) -> bool {
+fn is_right(port: &mut MemoryPort, step: PortCall) -> bool {
     if port.failures() >= 9 {
         return false;
     }
     match step {
-        Step::Gives(letter, now, len) => shown(port.next(&mut [0; 1024])) == (letter, now, len),
-        Step::Finds(letter, len) => {
+        PortCall::Gives(letter, now, len) => shown(port.next(&mut [0; 1024])) == (letter, now, len),
+        PortCall::Finds(letter, len) => {
             let (found, _, octets) = shown(port.next(&mut [0; 1024]));
             (found, octets) == (letter, len)
         }
-        Step::Sends => port.put(0, &Action::Tcp(&[0x68, 4, 1, 0, 0, 0])),
-        Step::Asks => port.put(0, &Action::Line(&[0x10])),
-        Step::Closes(cause) => port.put(2, &Action::Close(cause)),
-        Step::Comes(ways) => {
-            port.door.visitor = Some(wire(ways));
+        PortCall::Sends => port.put(0, &Action::Tcp(&[0x68, 4, 1, 0, 0, 0])),
+        PortCall::Asks => port.put(0, &Action::Line(&[0x10])),
+        PortCall::Closes(cause) => port.put(2, &Action::Close(cause)),
+        PortCall::Comes(ways) => {
+            port.listener.centre = Some(stream(ways));
             true
         }
-        Step::Waits => port.door.visitor.is_some(),
-        Step::Line(reads, writes) => (port.line.reads, port.line.writes) == (reads, writes),
-        Step::Connection(writes) => match &port.connection {
-            Some(visitor) => Some(visitor.wire.writes) == writes,
+        PortCall::Waits => port.listener.centre.is_some(),
+        PortCall::Line(reads, writes) => (port.line.reads, port.line.writes) == (reads, writes),
+        PortCall::Connection(writes) => match &port.connection {
+            Some(centre) => Some(centre.stream.writes) == writes,
             None => writes.is_none(),
         },
-        Step::Failures(count) => port.failures() == count,
+        PortCall::Failures(count) => port.failures() == count,
     }
 }
 
 /// How many of the calls, in their order, answer what they are to.
-fn count_of_answers(port: &mut Ends, steps: &[Step]) -> usize {
+fn count_of_answers(port: &mut MemoryPort, steps: &[PortCall]) -> usize {
     let mut count: usize = 0;
     for step in steps {
         if !is_right(port, *step) {
@@ -116,20 +123,20 @@ fn count_of_answers(port: &mut Ends, steps: &[Step]) -> usize {
     count
 }
 
-/// What happens at a port over this line, where this visitor comes.
-const PORTS: [(&str, Ways, Option<Ways>, &[Step]); 9] = [
+/// What happens at a port over this line, where this control centre connects.
+const PORTS: [(&str, StreamWays, Option<StreamWays>, &[PortCall]); 9] = [
     (
         "the sources have their turns",
         BUSY,
         Some(BUSY),
         &[
-            Step::Gives('O', 2, 0),
-            Step::Gives('R', 4, 1),
-            Step::Gives('S', 6, 1),
-            Step::Gives('R', 8, 1),
-            Step::Comes(BUSY),
-            Step::Gives('S', 10, 1),
-            Step::Gives('O', 12, 0),
+            PortCall::Gives('O', 2, 0),
+            PortCall::Gives('R', 4, 1),
+            PortCall::Gives('S', 6, 1),
+            PortCall::Gives('R', 8, 1),
+            PortCall::Comes(BUSY),
+            PortCall::Gives('S', 10, 1),
+            PortCall::Gives('O', 12, 0),
         ],
     ),
     (
@@ -138,9 +145,9 @@ const PORTS: [(&str, Ways, Option<Ways>, &[Step]); 9] = [
         None,
         &[
             // Each round of looks takes 1 ms, and a tick comes 100 ms after the first began.
-            Step::Gives('T', 101, 0),
-            Step::Gives('T', 202, 0),
-            Step::Line(200, 0),
+            PortCall::Gives('T', 101, 0),
+            PortCall::Gives('T', 202, 0),
+            PortCall::Line(200, 0),
         ],
     ),
     (
@@ -148,10 +155,10 @@ const PORTS: [(&str, Ways, Option<Ways>, &[Step]); 9] = [
         QUIET,
         Some((false, 1, 0)),
         &[
-            Step::Gives('O', 2, 0),
-            Step::Gives('C', 4, 0),
-            Step::Gives('T', 105, 0),
-            Step::Failures(0),
+            PortCall::Gives('O', 2, 0),
+            PortCall::Gives('C', 4, 0),
+            PortCall::Gives('T', 105, 0),
+            PortCall::Failures(0),
         ],
     ),
     (
@@ -159,20 +166,20 @@ const PORTS: [(&str, Ways, Option<Ways>, &[Step]); 9] = [
         BUSY,
         Some((true, 0, 1)),
         &[
-            Step::Gives('O', 2, 0),
-            Step::Gives('R', 4, 1),
-            Step::Gives('S', 6, 1),
-            Step::Comes(QUIET),
-            Step::Sends,
+            PortCall::Gives('O', 2, 0),
+            PortCall::Gives('R', 4, 1),
+            PortCall::Gives('S', 6, 1),
+            PortCall::Comes(QUIET),
+            PortCall::Sends,
             // What is put until the cut is dropped.
-            Step::Sends,
-            Step::Connection(Some(1)),
-            Step::Gives('C', 8, 0),
-            Step::Line(1, 0),
-            Step::Waits,
+            PortCall::Sends,
+            PortCall::Connection(Some(1)),
+            PortCall::Gives('C', 8, 0),
+            PortCall::Line(1, 0),
+            PortCall::Waits,
             // It was an event of the connection: the line is next.
-            Step::Gives('S', 10, 1),
-            Step::Gives('O', 12, 0),
+            PortCall::Gives('S', 10, 1),
+            PortCall::Gives('O', 12, 0),
         ],
     ),
     (
@@ -180,11 +187,11 @@ const PORTS: [(&str, Ways, Option<Ways>, &[Step]); 9] = [
         QUIET,
         Some((false, 0, 1)),
         &[
-            Step::Gives('O', 2, 0),
-            Step::Sends,
-            Step::Closes(Close::Timeout),
-            Step::Connection(None),
-            Step::Gives('T', 103, 0),
+            PortCall::Gives('O', 2, 0),
+            PortCall::Sends,
+            PortCall::Closes(Close::Timeout),
+            PortCall::Connection(None),
+            PortCall::Gives('T', 103, 0),
         ],
     ),
     (
@@ -192,54 +199,64 @@ const PORTS: [(&str, Ways, Option<Ways>, &[Step]); 9] = [
         QUIET,
         Some(QUIET),
         &[
-            Step::Gives('O', 2, 0),
-            Step::Sends,
-            Step::Comes(BUSY),
-            Step::Gives('O', 4, 0),
+            PortCall::Gives('O', 2, 0),
+            PortCall::Sends,
+            PortCall::Comes(BUSY),
+            PortCall::Gives('O', 4, 0),
             // The gateway closes the old one, and the new one stays.
-            Step::Closes(Close::Replaced),
-            Step::Connection(Some(0)),
-            Step::Gives('R', 6, 1),
+            PortCall::Closes(Close::Replaced),
+            PortCall::Connection(Some(0)),
+            PortCall::Gives('R', 6, 1),
         ],
     ),
     (
         "without a connection an APDU is dropped",
         QUIET,
         None,
-        &[Step::Sends, Step::Gives('T', 101, 0)],
+        &[PortCall::Sends, PortCall::Gives('T', 101, 0)],
     ),
     (
         "a request that the line does not take is lost",
         (false, 0, 1),
         None,
         &[
-            Step::Asks,
-            Step::Failures(0),
-            Step::Asks,
-            Step::Line(0, 2),
-            Step::Gives('T', 103, 0),
+            PortCall::Asks,
+            PortCall::Failures(0),
+            PortCall::Asks,
+            PortCall::Line(0, 2),
+            PortCall::Gives('T', 103, 0),
         ],
     ),
     (
         "the end of the line alone is a failure",
         (false, 2, 0),
         None,
-        &[Step::Gives('F', 0, 0), Step::Line(2, 0), Step::Failures(1)],
+        &[
+            PortCall::Gives('F', 0, 0),
+            PortCall::Line(2, 0),
+            PortCall::Failures(1),
+        ],
     ),
 ];
 
 #[test]
 fn calls_answer_in_their_order(rt: HostRuntime) {
-    for (name, line, visitor, steps) in PORTS {
-        let mut port = ends(line, visitor);
+    for (name, line, centre, steps) in PORTS {
+        let mut port = ends(line, centre);
         assert_eq!(rt; count_of_answers(&mut port, steps), steps.len(), "{name}");
     }
 }
 
 /// Whether these calls, one time less than n, and then those answer what they are to.
-fn fails_at(n: u32, line: Ways, visitor: Option<Ways>, each: &[Step], last: &[Step]) -> bool {
-    let mut port = ends(line, visitor);
-    if visitor.is_some() && !is_right(&mut port, Step::Gives('O', 2, 0)) {
+fn fails_at(
+    n: u32,
+    line: StreamWays,
+    centre: Option<StreamWays>,
+    each: &[PortCall],
+    last: &[PortCall],
+) -> bool {
+    let mut port = ends(line, centre);
+    if centre.is_some() && !is_right(&mut port, PortCall::Gives('O', 2, 0)) {
         return false;
     }
     for _ in 1..n {
@@ -252,24 +269,32 @@ fn fails_at(n: u32, line: Ways, visitor: Option<Ways>, each: &[Step], last: &[St
 
 /// The calls around a read of the connection that fails, around a write to it, around a read of the
 /// line, and around a write to it.
-const READ: [Step; 1] = [Step::Finds('R', 1)];
+const READ: [PortCall; 1] = [PortCall::Finds('R', 1)];
 
-const CUT_AT_READ: [Step; 3] = [Step::Finds('C', 0), Step::Finds('T', 0), Step::Failures(0)];
-
-const WRITE: [Step; 2] = [Step::Sends, Step::Finds('S', 1)];
-
-const CUT_AT_WRITE: [Step; 4] = [
-    Step::Sends,
-    Step::Finds('C', 0),
-    Step::Finds('S', 1),
-    Step::Failures(0),
+const CUT_AT_READ: [PortCall; 3] = [
+    PortCall::Finds('C', 0),
+    PortCall::Finds('T', 0),
+    PortCall::Failures(0),
 ];
 
-const LINE_READ: [Step; 1] = [Step::Finds('S', 1)];
+const WRITE: [PortCall; 2] = [PortCall::Sends, PortCall::Finds('S', 1)];
 
-const FAULT: [Step; 2] = [Step::Finds('F', 0), Step::Failures(1)];
+const CUT_AT_WRITE: [PortCall; 4] = [
+    PortCall::Sends,
+    PortCall::Finds('C', 0),
+    PortCall::Finds('S', 1),
+    PortCall::Failures(0),
+];
 
-const LINE_WRITE: [Step; 3] = [Step::Failures(0), Step::Asks, Step::Finds('T', 0)];
+const LINE_READ: [PortCall; 1] = [PortCall::Finds('S', 1)];
+
+const FAULT: [PortCall; 2] = [PortCall::Finds('F', 0), PortCall::Failures(1)];
+
+const LINE_WRITE: [PortCall; 3] = [
+    PortCall::Failures(0),
+    PortCall::Asks,
+    PortCall::Finds('T', 0),
+];
 
 #[test]
 fn each_read_and_write_can_fail(rt: HostRuntime) {
@@ -286,15 +311,15 @@ fn each_read_and_write_can_fail(rt: HostRuntime) {
 
 #[test]
 fn each_request_can_be_lost(rt: HostRuntime) {
-    // A tick takes 100 looks; within a second, behind which the wall clock is told.
+    // A tick takes 100 looks; within a second, behind which the wall clock is given.
     for n in 1..=9 {
         // A request that isn't taken is no failure.
         let lost = [
-            Step::Failures(0),
-            Step::Asks,
-            Step::Finds('T', 0),
-            Step::Line(100 * n, n),
-            Step::Failures(0),
+            PortCall::Failures(0),
+            PortCall::Asks,
+            PortCall::Finds('T', 0),
+            PortCall::Line(100 * n, n),
+            PortCall::Failures(0),
         ];
         let write = (false, 0, n);
         assert!(rt; fails_at(n, write, None, &LINE_WRITE, &lost), "{n}");

@@ -1,11 +1,11 @@
-//! A wire in memory that goes and comes back.
+//! A stream in memory that goes and comes back.
 use super::{Dialled, Dialler, Redialled};
-use crate::memory::MemoryWire;
+use crate::ends::{Got, OctetStream, Presence, Reached};
+use crate::memory::MemoryStream;
 use crate::timed::{Time, TimedClock};
-use crate::wires::{Got, Presence, Reached, Wire};
 use std::process::Abort;
 
-/// Reaches a wire, but for the tries that fail first, each once it was asked so often.
+/// Reaches a stream, but for the tries that fail first, each once it was asked so often.
 #[derive(Drop)]
 struct MemoryDialler<'a> {
     time: &'a Time,
@@ -14,7 +14,7 @@ struct MemoryDialler<'a> {
     /// How often it is asked of a try before that ends.
     asks: u32,
     asked: u32,
-    /// Which read of a wire finds that it is gone.
+    /// Which read of a stream finds that it is gone.
     failing_read: u32,
 }
 
@@ -34,17 +34,17 @@ impl<'a> MemoryDialler<'a> {
 impl<'a> Dialler for MemoryDialler<'a> {
     ghost use Rattle.std.specs.Prelude.{None};
 
-    type Wire = MemoryWire;
+    type Stream = MemoryStream;
 
     ghost tries = { λ _. None };
 
-    fn dial(&mut self) -> Dialled<MemoryWire> {
+    fn dial(&mut self) -> Dialled<MemoryStream> {
         self.tries = self.tries.saturating_add(1);
         self.asked = 0;
         self.ask()
     }
 
-    fn ask(&mut self) -> Dialled<MemoryWire> {
+    fn ask(&mut self) -> Dialled<MemoryStream> {
         if self.asked < self.asks {
             self.asked = self.asked.saturating_add(1);
             return Dialled::Pending;
@@ -52,9 +52,9 @@ impl<'a> Dialler for MemoryDialler<'a> {
         if self.tries <= self.failing_tries {
             return Dialled::Failed;
         }
-        let mut wire = MemoryWire::busy();
-        wire.failing_read = self.failing_read;
-        Dialled::Reached(wire)
+        let mut stream = MemoryStream::busy();
+        stream.failing_read = self.failing_read;
+        Dialled::Reached(stream)
     }
 
     fn pause(&mut self) {
@@ -62,77 +62,77 @@ impl<'a> Dialler for MemoryDialler<'a> {
     }
 }
 
-type Wires<'a> = Redialled<MemoryDialler<'a>, TimedClock<'a>>;
+type TestStream<'a> = Redialled<MemoryDialler<'a>, TimedClock<'a>>;
 
-fn look(wire: &mut Wires<'_>) -> Got {
-    wire.read(&mut [0; 1024])
+fn look(stream: &mut TestStream<'_>) -> Got {
+    stream.read(&mut [0; 1024])
 }
 
-/// Looks at this wire up to this moment find nothing, and so many tries have been made then.
-fn is_away(rt: &impl Abort, wire: &mut Wires<'_>, time: &Time, until: u64, tries: u32) {
+/// Looks at this stream up to this moment find nothing, and so many tries have been made then.
+fn is_away(rt: &impl Abort, stream: &mut TestStream<'_>, time: &Time, until: u64, tries: u32) {
     for _ in 0..2000 {
         if until <= time.now() {
             break;
         }
-        assert_eq!(rt; look(wire), Got::Quiet);
-        assert!(rt; !wire.write(&[0xE5]));
+        assert_eq!(rt; look(stream), Got::Quiet);
+        assert!(rt; !stream.write(&[0xE5]));
     }
-    assert_eq!(rt; wire.dialler.tries, tries);
+    assert_eq!(rt; stream.dialler.tries, tries);
 }
 
 #[test]
 fn it_is_tried_at_once_and_then_every_second(rt: HostRuntime) {
     let time = Time::new(0, 0);
     let dialler = MemoryDialler::new(&time, 2, 0, 2);
-    let mut wire = Redialled::new(dialler, TimedClock(&time));
-    assert_eq!(rt; wire.presence(), Presence::Untried);
-    is_away(&rt, &mut wire, &time, 1000, 1);
-    assert_eq!(rt; wire.presence(), Presence::Away);
-    is_away(&rt, &mut wire, &time, 2000, 2);
+    let mut stream = Redialled::new(dialler, TimedClock(&time));
+    assert_eq!(rt; stream.presence(), Presence::Untried);
+    is_away(&rt, &mut stream, &time, 1000, 1);
+    assert_eq!(rt; stream.presence(), Presence::Away);
+    is_away(&rt, &mut stream, &time, 2000, 2);
     // The third try reaches it.
-    assert_eq!(rt; look(&mut wire), Got::Quiet);
-    assert_eq!(rt; wire.presence(), Presence::There);
-    assert!(rt; wire.write(&[0xE5]));
-    assert_eq!(rt; look(&mut wire), Got::Octets(1));
-    assert_eq!(rt; wire.presence(), Presence::Heard);
+    assert_eq!(rt; look(&mut stream), Got::Quiet);
+    assert_eq!(rt; stream.presence(), Presence::There);
+    assert!(rt; stream.write(&[0xE5]));
+    assert_eq!(rt; look(&mut stream), Got::Octets(1));
+    assert_eq!(rt; stream.presence(), Presence::Receiving);
     // It goes, and is tried again a second after the try before.
     time.pass(300);
-    assert_eq!(rt; look(&mut wire), Got::Quiet);
-    assert_eq!(rt; wire.presence(), Presence::Away);
-    is_away(&rt, &mut wire, &time, 3000, 3);
-    assert_eq!(rt; look(&mut wire), Got::Quiet);
-    assert_eq!(rt; wire.dialler.tries, 4);
-    assert_eq!(rt; look(&mut wire), Got::Octets(1));
+    assert_eq!(rt; look(&mut stream), Got::Quiet);
+    assert_eq!(rt; stream.presence(), Presence::Away);
+    is_away(&rt, &mut stream, &time, 3000, 3);
+    assert_eq!(rt; look(&mut stream), Got::Quiet);
+    assert_eq!(rt; stream.dialler.tries, 4);
+    assert_eq!(rt; look(&mut stream), Got::Octets(1));
     // Where that is long ago it is tried at once.
     time.pass(9000);
-    assert_eq!(rt; look(&mut wire), Got::Quiet);
-    assert_eq!(rt; look(&mut wire), Got::Quiet);
-    assert_eq!(rt; wire.dialler.tries, 5);
-    assert_eq!(rt; look(&mut wire), Got::Octets(1));
+    assert_eq!(rt; look(&mut stream), Got::Quiet);
+    assert_eq!(rt; look(&mut stream), Got::Quiet);
+    assert_eq!(rt; stream.dialler.tries, 5);
+    assert_eq!(rt; look(&mut stream), Got::Octets(1));
 }
 
 /// A server that accepts and closes is tried at twice the distance each time.
 #[test]
 fn a_line_that_gives_nothing_is_tried_more_rarely(rt: HostRuntime) {
     let time = Time::new(0, 0);
-    let mut wire = Redialled::new(MemoryDialler::new(&time, 0, 0, 1), TimedClock(&time));
-    assert_eq!(rt; look(&mut wire), Got::Quiet);
+    let mut stream = Redialled::new(MemoryDialler::new(&time, 0, 0, 1), TimedClock(&time));
+    assert_eq!(rt; look(&mut stream), Got::Quiet);
     let mut begun = time.now();
     for wait in [2000, 4000, 8000, 16_000, 30_000, 30_000] {
-        let tries = wire.dialler.tries;
-        assert_eq!(rt; look(&mut wire), Got::Quiet);
+        let tries = stream.dialler.tries;
+        assert_eq!(rt; look(&mut stream), Got::Quiet);
         time.pass(
             begun
                 .saturating_add(wait)
                 .saturating_sub(2)
                 .saturating_sub(time.now()),
         );
-        assert_eq!(rt; look(&mut wire), Got::Quiet);
-        assert_eq!(rt; wire.dialler.tries, tries);
+        assert_eq!(rt; look(&mut stream), Got::Quiet);
+        assert_eq!(rt; stream.dialler.tries, tries);
         time.pass(1);
         begun = time.now();
-        assert_eq!(rt; look(&mut wire), Got::Quiet);
-        assert_eq!(rt; wire.dialler.tries, tries.saturating_add(1));
+        assert_eq!(rt; look(&mut stream), Got::Quiet);
+        assert_eq!(rt; stream.dialler.tries, tries.saturating_add(1));
     }
 }
 
@@ -140,10 +140,10 @@ fn a_line_that_gives_nothing_is_tried_more_rarely(rt: HostRuntime) {
 #[test]
 fn a_try_goes_on_between_the_looks(rt: HostRuntime) {
     let time = Time::new(0, 0);
-    let mut wire = Redialled::new(MemoryDialler::new(&time, 0, 3000, 2), TimedClock(&time));
-    is_away(&rt, &mut wire, &time, 1500, 1);
-    assert_eq!(rt; wire.presence(), Presence::Untried);
-    is_away(&rt, &mut wire, &time, 3000, 1);
-    assert_eq!(rt; look(&mut wire), Got::Quiet);
-    assert_eq!(rt; look(&mut wire), Got::Octets(1));
+    let mut stream = Redialled::new(MemoryDialler::new(&time, 0, 3000, 2), TimedClock(&time));
+    is_away(&rt, &mut stream, &time, 1500, 1);
+    assert_eq!(rt; stream.presence(), Presence::Untried);
+    is_away(&rt, &mut stream, &time, 3000, 1);
+    assert_eq!(rt; look(&mut stream), Got::Quiet);
+    assert_eq!(rt; look(&mut stream), Got::Octets(1));
 }

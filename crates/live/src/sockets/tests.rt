@@ -1,9 +1,9 @@
 //! The ends on sockets of this host, their other ends served in this process. What a whole gateway
 //! does between them is shown by checks/passage.py, over the built program.
 use super::{CentreListener, LineDialler, LineSocket, SystemClock};
-use crate::guests::Guests;
+use crate::allow_list::AllowList;
+use crate::ends::{Got, Listener, OctetStream, RefusedPeers};
 use crate::redial::Redialled;
-use crate::wires::{Door, Got, SentAway, Wire};
 use std::io::{Read, Write};
 use std::net::{IpAddr, Ipv4Addr, Net, OpenStream, SocketAddr, TcpListener, TcpStream};
 use std::os::unix::net::UnixStream;
@@ -12,12 +12,12 @@ use std::test::Fail;
 use std::time::{Duration, Instant};
 
 /// These octets come next at the other end of a stream.
-fn hears(rt: &impl Abort, stream: &mut TcpStream, octets: &[u8]) -> Result<(), Fail> {
-    let mut heard = [0u8; 32];
+fn receives(rt: &impl Abort, stream: &mut TcpStream, octets: &[u8]) -> Result<(), Fail> {
+    let mut received = [0u8; 32];
     assert!(rt; octets.len() <= 32);
-    let heard = &mut heard[..octets.len()];
-    stream.read_exact(heard)?;
-    assert_eq!(rt; &*heard, octets);
+    let received = &mut received[..octets.len()];
+    stream.read_exact(received)?;
+    assert_eq!(rt; &*received, octets);
     Ok(())
 }
 
@@ -54,17 +54,17 @@ fn a_quiet_line_does_not_hold_who_looks(rt: HostRuntime) -> Result<(), Fail> {
 }
 
 #[test]
-fn who_is_no_guest_is_sent_away(rt: HostRuntime) -> Result<(), Fail> {
-    let mut door = CentreListener::listen(&rt, "127.0.0.1:0")?;
-    let address = door.address()?;
+fn an_address_that_is_not_allowed_is_refused(rt: HostRuntime) -> Result<(), Fail> {
+    let mut listener = CentreListener::listen(&rt, "127.0.0.1:0")?;
+    let address = listener.address()?;
     let here = address.ip();
     let elsewhere = IpAddr::V4(Ipv4Addr::new(127, 0, 0, 2));
     let mut stranger = started(&rt, address)?;
-    let guests = Guests::Only(vec![in rt.alloc(); elsewhere]?);
-    assert!(rt; door.accept(&guests).is_none());
+    let allow_list = AllowList::Only(vec![in rt.alloc(); elsewhere]?);
+    assert!(rt; listener.accept(&allow_list).is_none());
     assert_eq!(rt;
-        door.sent_away(),
-        SentAway {
+        listener.refused(),
+        RefusedPeers {
             count: 1,
             last: Some(here)
         }
@@ -73,36 +73,39 @@ fn who_is_no_guest_is_sent_away(rt: HostRuntime) -> Result<(), Fail> {
         matches!(stranger.read(&mut [0; 1]), Ok(0) | Err(_)),
         "the connection is shut"
     );
-    let _guest = started(&rt, address)?;
-    let guests = Guests::Only(vec![in rt.alloc(); elsewhere, here]?);
-    let visitor = door.accept(&guests).ok_or("a visitor")?;
-    assert_eq!(rt; visitor.address, here);
-    assert_eq!(rt; door.sent_away().count, 1);
+    let _allowed = started(&rt, address)?;
+    let allow_list = AllowList::Only(vec![in rt.alloc(); elsewhere, here]?);
+    let accepted = listener.accept(&allow_list).ok_or("a connection")?;
+    assert_eq!(rt; accepted.address, here);
+    assert_eq!(rt; listener.refused().count, 1);
     Ok(())
 }
 
 #[test]
 fn of_all_who_wait_the_last_one_stays(rt: HostRuntime) -> Result<(), Fail> {
-    let mut door = CentreListener::listen(&rt, "127.0.0.1:0")?;
-    assert!(rt; door.accept(&Guests::Anyone).is_none());
-    let address = door.address()?;
+    let mut listener = CentreListener::listen(&rt, "127.0.0.1:0")?;
+    assert!(rt; listener.accept(&AllowList::Anyone).is_none());
+    let address = listener.address()?;
     let mut first = started(&rt, address)?;
     let mut last = started(&rt, address)?;
-    let mut wire = door.accept(&Guests::Anyone).ok_or("a visitor")?.wire;
-    assert!(rt; door.accept(&Guests::Anyone).is_none());
+    let mut stream = listener
+        .accept(&AllowList::Anyone)
+        .ok_or("a connection")?
+        .stream;
+    assert!(rt; listener.accept(&AllowList::Anyone).is_none());
     assert!(rt;
         matches!(first.read(&mut [0; 1]), Ok(0) | Err(_)),
         "the first is shut"
     );
-    assert!(rt; wire.write(&[0x68, 4, 0x0B, 0, 0, 0]));
-    hears(&rt, &mut last, &[0x68, 4, 0x0B, 0, 0, 0])?;
+    assert!(rt; stream.write(&[0x68, 4, 0x0B, 0, 0, 0]));
+    receives(&rt, &mut last, &[0x68, 4, 0x0B, 0, 0, 0])?;
 
     // A control centre that never reads takes no more at some time, and then it isn't waited for
     // long.
     let start = Instant::now(&rt)?;
     let mut is_taken = true;
     for _ in 0..1_000_000 {
-        if !wire.write(&[0; 255]) {
+        if !stream.write(&[0; 255]) {
             is_taken = false;
             break;
         }

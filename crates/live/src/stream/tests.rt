@@ -1,19 +1,19 @@
 //! Looks at a line whose octets come in pieces.
 ghost use Rattle.std.specs.Prelude.{None, ◌≤◌, length};
 
-use super::{Stream, read_line};
-use crate::wires::Got;
+use super::{SystemStream, read_line};
+use crate::ends::Got;
 use std::io;
 use std::io::ErrorKind;
 
 /// A stream that gives these octets, so many a call, and is quiet where they have all come.
 #[derive(Drop)]
-struct Pieces<'a> {
+struct PiecewiseStream<'a> {
     octets: &'a [u8],
     size: usize,
 }
 
-impl Stream for Pieces<'_> {
+impl SystemStream for PiecewiseStream<'_> {
     ghost calls = { λ _. None };
 
     fn receive(&mut self, buf: &mut [u8]) -> io::Result<usize> {
@@ -37,7 +37,7 @@ impl Stream for Pieces<'_> {
 
 /// What the first look and the second one find, where these octets come so many a call.
 fn found(octets: &[u8], size: usize) -> (Got, Got) {
-    let mut stream = Pieces { octets, size };
+    let mut stream = PiecewiseStream { octets, size };
     let mut buf = [0; 1024];
     let first = read_line(&mut stream, &mut buf);
     (first, read_line(&mut stream, &mut buf))
@@ -51,7 +51,7 @@ fn an_answer_octet_by_octet_is_one_look(rt: HostRuntime) {
     for size in [1, 2, 8, 14] {
         assert_eq!(rt; found(&REPORT, size), (Got::Octets(14), Got::Quiet));
     }
-    // What doesn't end as a frame is told where no more comes.
+    // What doesn't end as a frame is given where no more comes.
     assert_eq!(rt; found(&REPORT[..5], 2), (Got::Octets(5), Got::Quiet));
     // No frame is waited behind.
     assert_eq!(rt;
@@ -65,7 +65,7 @@ fn an_answer_octet_by_octet_is_one_look(rt: HostRuntime) {
 
 #[test]
 fn octets_stand_in_their_order(rt: HostRuntime) {
-    let mut stream = Pieces {
+    let mut stream = PiecewiseStream {
         octets: &REPORT,
         size: 3,
     };

@@ -3,7 +3,7 @@ ghost use Rattle.std.specs.Prelude.{◌≡◌};
 ghost use Rattle.runlog.specs.Watching as spec;
 
 use super::Watch;
-use crate::exchange::{Awaited, awaited_of, place_of, user_data};
+use crate::exchange::{AwaitedAnswer, awaited_of, place_of, user_data};
 use crate::fate::Mishap;
 use crate::note::LogLine;
 use crate::order::Order;
@@ -12,25 +12,25 @@ use gateway::Counts;
 
 impl Watch {
     /// Octets came from the line.
-    pub(super) fn hear_line(&mut self, octets: &[u8])
-        ensures { self.new ≡ spec.line_heard octets.now self.old }
+    pub(super) fn receive_line(&mut self, octets: &[u8])
+        ensures { self.new ≡ spec.line_received octets.now self.old }
     {
         self.exchange.receive(octets);
         if let Some(place) = self.exchange.place() {
-            self.hear_station(place);
+            self.note_answer(place);
         }
     }
 
     /// The station at this place may have answered.
-    fn hear_station(&mut self, place: usize)
-        ensures { self.new ≡ spec.station_heard place self.old }
+    fn note_answer(&mut self, place: usize)
+        ensures { self.new ≡ spec.answer_noted place self.old }
     {
         if place >= self.traffic.len() {
             return;
         }
         let traffic = &mut self.traffic[place];
         if let Some(answer) = self.exchange.answer(self.link, traffic.address()) {
-            traffic.hear(self.sizes, self.moment, answer);
+            traffic.note_answer(self.sizes, self.moment, answer);
             // The front decides: what comes behind it is no answer.
             self.exchange.end();
         }
@@ -44,7 +44,7 @@ impl Watch {
         let awaited = awaited_of(octets);
         self.exchange.ask(place, awaited, now);
         // Before the stations count the request: a repeat shows by the bit of the one before.
-        if let (Some(place), Awaited::Command) = (place, awaited) {
+        if let (Some(place), AwaitedAnswer::Command) = (place, awaited) {
             self.send(place, octets);
         }
         ask(&mut self.stations, self.link, octets, now)

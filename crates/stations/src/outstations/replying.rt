@@ -14,14 +14,14 @@ use std::alloc::Global;
 /// How far a station's replies are: all were given to so many commands, and to the next one the
 /// confirmation, or none.
 #[derive(Clone, Copy, Debug, PartialEq, Eq)]
-pub(crate) struct Progress {
+pub(crate) struct ReplyProgress {
     commands: usize,
     is_confirmed: bool,
 }
 
 /// What is next among the replies of a station.
 #[derive(Drop)]
-enum Next {
+enum NextReply {
     /// All is replied.
     Nothing,
     /// The command has no such reply.
@@ -31,12 +31,12 @@ enum Next {
 }
 
 /// How far the replies of so many stations are from the start.
-pub(super) fn none_replied(alloc: Global, stations: usize) -> Result<Vec<Progress>, NoMemory>
+pub(super) fn none_replied(alloc: Global, stations: usize) -> Result<Vec<ReplyProgress>, NoMemory>
     ensures { IfOk result (λ all. all.items ≡ none_replied stations) }
 {
     let mut all = Vec::new(alloc);
     for _ in 0..stations {
-        let first = Progress {
+        let first = ReplyProgress {
             commands: 0,
             is_confirmed: false,
         };
@@ -70,7 +70,7 @@ fn manner_of(station: usize, cues: &[Cue]) -> Option<bool>
     None
 }
 
-impl Progress {
+impl ReplyProgress {
     /// One reply further.
     fn step(&mut self)
         ensures { self.new ≡ next_step self.old }
@@ -84,24 +84,24 @@ impl Progress {
 
 impl Outstations {
     /// What is next among the replies of a station, which refuses commands or confirms them.
-    fn next(&self, station: usize, refuses: bool) -> Next
+    fn next(&self, station: usize, refuses: bool) -> NextReply
         ensures { IsNext self.now station refuses result }
     {
         if station >= self.progress.len() || station >= self.stations.len() {
-            return Next::Nothing;
+            return NextReply::Nothing;
         }
-        let Progress {
+        let ReplyProgress {
             commands,
             is_confirmed,
         } = self.progress[station];
         let accepted = self.stations[station].accepted();
         if commands >= accepted.len() {
-            return Next::Nothing;
+            return NextReply::Nothing;
         }
         let command = accepted[commands].as_slice();
         match reply_to(self.size, self.sizes, refuses, is_confirmed, command) {
-            Some(reply) => Next::Reply(reply),
-            None => Next::NoReply,
+            Some(reply) => NextReply::Reply(reply),
+            None => NextReply::NoReply,
         }
     }
 
@@ -123,9 +123,9 @@ impl Outstations {
             return;
         };
         match self.next(station, refuses) {
-            Next::Nothing => {}
-            Next::NoReply => self.advance(station),
-            Next::Reply(reply) => {
+            NextReply::Nothing => {}
+            NextReply::NoReply => self.advance(station),
+            NextReply::Reply(reply) => {
                 if self.report(station, Class::One, reply.octets()) {
                     self.advance(station);
                 }

@@ -7,8 +7,8 @@ returns-clause-line c = refl
 pub returns-clause-flicker : goal.returns-clause-flicker
 returns-clause-flicker c = refl
 
-pub returns-clause-door : goal.returns-clause-door
-returns-clause-door c = (refl, refl, refl, refl)
+pub returns-clause-listener : goal.returns-clause-listener
+returns-clause-listener c = (refl, refl, refl, refl)
 
 pub returns-clause-connection : goal.returns-clause-connection
 returns-clause-connection c = (refl, refl, refl)

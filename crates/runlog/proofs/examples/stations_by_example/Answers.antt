@@ -10,8 +10,8 @@ returns-clause-askings c = (refl, refl, refl, refl, refl, refl)
 pub returns-clause-life : goal.returns-clause-life
 returns-clause-life c = refl
 
-pub returns-clause-unheard : goal.returns-clause-unheard
-returns-clause-unheard c = refl
+pub returns-clause-unanswered : goal.returns-clause-unanswered
+returns-clause-unanswered c = refl
 
 pub returns-clause-others : goal.returns-clause-others
 returns-clause-others c = (refl, refl, refl)

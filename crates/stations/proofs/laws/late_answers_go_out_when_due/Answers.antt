@@ -1,4 +1,4 @@
-use Rattle.stations.proofs.Hearings.{goes_at_once, goes_late}
+use Rattle.stations.proofs.Receiving.{goes_at_once, goes_late}
 use Rattle.stations.proofs.Holding.{went_out_when_due}
 use Rattle.stations.proofs.laws.late_answers_go_out_when_due.Goals as goal
 

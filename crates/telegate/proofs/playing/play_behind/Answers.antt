@@ -3,7 +3,7 @@ use Rattle.telegate.proofs.playing.play_behind.Goals as goal
 
 pub returns : goal.returns
 returns g c = record {
-  door = g.D.Door.visits c.args.door;
+  listener = g.L.Listener.attempts c.args.listener;
   before = g.C.Clock.moments c.args.clock.now;
   after = g.C.Clock.moments c.serve.new.clock;
   rounds = 18446744073709551615;

@@ -1,5 +1,5 @@
--- So much of the text was read, no line of which tells an action, and the last block is still to
--- come.
+-- So much of the text was read, no line of which is that of an action, and the last block is still
+-- to come.
 use Rattle.std.proofs.Common.{◌≡◌, false}
 use Rattle.telegate.proofs.RecordLemmas.{SeeksTo}
 use Rattle.telegate.proofs.recorded.is_record.Given as goal

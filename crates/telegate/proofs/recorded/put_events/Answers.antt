@@ -14,7 +14,8 @@ returns-in_default c =
     c.extend_from_slice.new.self.items c.putting.invariant
     (c.in_ok-extend_from_slice.ensures.items
     ∙ ap (λ (xs : List ℕ). c.putting.part.items ++ xs) c.event_line.ensures)
-    (c.cut.ensures ∙ ap (λ o. c.cut.result.0.now ∷ parts_after 10 (option_copied o)) c.in_default.is)
+    (c.cut.ensures ∙ ap (λ o. c.cut.result.0.now ∷ parts_after 10 (option_copied o))
+    c.in_default.is)
 
 pub putting-preserved : goal.putting-preserved
 putting-preserved c =

@@ -30,6 +30,7 @@ returns c =
           c.part_of.ensures.other (ap option_copied w.in_default.is)
           (ap (λ v. v.items) w.part-is ∙ c.clear.ensures.items)
     ] in
-    subst (λ (xs : List ℕ). IsPartRead c.args.as_record lines last xs) (sym c.as_slice.ensures.value)
+    subst (λ (xs : List ℕ). IsPartRead c.args.as_record lines last xs)
+    (sym c.as_slice.ensures.value)
     (subst (λ (b : Bool). IsPartRead b lines last c.match-part_of.part.items)
     (sym c.if-not-as_record.false) read)

@@ -1,4 +1,4 @@
--- No line that was passed tells an action.
+-- No line that was passed is that of an action.
 use Rattle.std.proofs.Common.{◌≡◌}
 use Rattle.traces.specs.Trace.{lines_of}
 use Rattle.telegate.proofs.RecordLemmas.{tell_actions}

@@ -16,7 +16,8 @@ returns-in_err-size-in-Lines-clause-answer g c =
     let known = g.S.Text.Read.remaining c.in_ok-text.text in
     subst (λ (m : Manner). IsReplayed config m has closing old old
     c.from_residual-in_err-size-in-Lines.result) (sym c.in-Lines.is)
-    (as_err (IsReplayed config Lines has closing old old) c.from_residual-in_err-size-in-Lines.result
+    (as_err (IsReplayed config Lines has closing old old)
+    c.from_residual-in_err-size-in-Lines.result
     c.in_err-size-in-Lines.field-0.0
     c.from_residual-in_err-size-in-Lines.ensures.1
     (misjudged config Lines false has closing c.in_ok-config.config known old
@@ -40,7 +41,8 @@ returns-in-Lines-clause-answer g c =
     c.in_ok-text-in-Lines.ensures.text
     c.run.result c.run.ensures.answer)
 
-pub returns-in_err-judge_text-in-Words-clause-answer : goal.returns-in_err-judge_text-in-Words-clause-answer
+pub returns-in_err-judge_text-in-Words-clause-answer :
+    goal.returns-in_err-judge_text-in-Words-clause-answer
 returns-in_err-judge_text-in-Words-clause-answer g c =
     let config = c.args.asked.now.config.now in
     let has = g.S.Source.has c.args.trace.now in

@@ -1,4 +1,4 @@
--- So much of the text was read and told, and the last block is still to come.
+-- So much of the text was read and printed, and the last block is still to come.
 use Rattle.std.proofs.Common.{◌≡◌, false}
 use Rattle.telegate.proofs.TellingLemmas.{TellsTo}
 use Rattle.telegate.proofs.telling.tell_parts.Given as goal

@@ -3,4 +3,4 @@ use Rattle.live.proofs.redial.Redialled.ask.Goals as goal
 
 pub returns : goal.returns
 returns g c = answered_from _ c.ask-answer.result _ _ _ _ c.self.view_is c.ask-answer.ensures.fresh
-    c.ask-answer.ensures.told c.settle.ensures
+    c.ask-answer.ensures.noted c.settle.ensures

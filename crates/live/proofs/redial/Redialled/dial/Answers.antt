@@ -4,4 +4,4 @@ use Rattle.live.proofs.redial.Redialled.dial.Goals as goal
 pub returns : goal.returns
 returns g c = answered_from _ c.dial-answer.result _ _ _ _ c.self.view_is
     c.dial-answer.ensures.fresh
-    c.dial-answer.ensures.told c.settle.ensures
+    c.dial-answer.ensures.noted c.settle.ensures

@@ -5,8 +5,8 @@ use Rattle.link.specs.Secondary.{Secondary}
 use Rattle.sim.specs.Lives.{IsPutOut, arriving}
 use Rattle.sim.specs.Losses.{fate_of}
 use Rattle.sim.specs.declared.directive.RequestFate.{RequestFate}
-use Rattle.stations.specs.Exchanges.{Standing, next_number}
-use Rattle.stations.proofs.Hearings.{comes_back_so}
+use Rattle.stations.specs.Exchanges.{OutstationsState, next_number}
+use Rattle.stations.proofs.Receiving.{comes_back_so}
 use Rattle.stations.proofs.Sizes.{HaveSize, length_out, sizes_out, written_back}
 use Rattle.stations.proofs.outstations.Outstations.ask.Goals as goal
 
@@ -41,7 +41,7 @@ pub returns : goal.returns
 returns c =
     let before : List Secondary = c.self.inside.stations.items in
     let after : List Secondary = c.put_out-reply.new.stations in
-    let view : Standing = record {
+    let view : OutstationsState = record {
       size = c.self.inside.size;
       sizes = c.self.inside.sizes;
       directives = c.self.inside.script;
@@ -68,7 +68,8 @@ returns c =
     comes_back_so view _ c.self.view_is _ _ _ (record {
       reply = c.put_out-reply.result;
       stations = after;
-      heard = subst (λ (f : RequestFate). IsPutOut f (spelling view.size c.args.request.now) before
+      received =
+          subst (λ (f : RequestFate). IsPutOut f (spelling view.size c.args.request.now) before
           c.put_out-reply.result after) fate
           (subst (λ (o : List ℕ). IsPutOut c.fate-fate.result o before c.put_out-reply.result after)
           octets out);

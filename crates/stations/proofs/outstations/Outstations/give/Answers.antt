@@ -1,4 +1,4 @@
-use Rattle.stations.proofs.Telling.{station_given}
+use Rattle.stations.proofs.Reporting.{station_given}
 use Rattle.stations.proofs.outstations.Outstations.give.Goals as goal
 
 pub returns : goal.returns

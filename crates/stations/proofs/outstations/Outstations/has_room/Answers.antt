@@ -1,21 +1,21 @@
 use Rattle.std.proofs.Common.{◌-◌, get_or, ap, sym, ◌∙◌, arith}
 use Rattle.std.specs.Prelude.{nat_lt}
-use Rattle.stations.specs.Exchanges.{Standing}
-use Rattle.stations.specs.Telling.{has_room}
-use Rattle.stations.proofs.Telling.{no_room_here, no_room_known, room_here}
+use Rattle.stations.specs.Exchanges.{OutstationsState}
+use Rattle.stations.specs.Reporting.{has_room}
+use Rattle.stations.proofs.Reporting.{no_room_here, no_room_known, room_here}
 use Rattle.stations.proofs.outstations.Outstations.has_room.Goals as goal
 
 pub returns-then-station-len-clause-value : goal.returns-then-station-len-clause-value
 returns-then-station-len-clause-value c =
     sym (no_room_known c.args.station c.self.inside.had.items c.self.inside.stations.items
     (omega (arith, c.if-station-len.true, c.len.ensures, c.self.inside.had.ok.0)))
-    ∙ ap (λ (s : Standing). has_room c.args.station s.had s.stations) c.self.view_is
+    ∙ ap (λ (s : OutstationsState). has_room c.args.station s.had s.stations) c.self.view_is
 
 pub returns-then-station-len-2-clause-value : goal.returns-then-station-len-2-clause-value
 returns-then-station-len-2-clause-value c =
     sym (no_room_here c.args.station c.self.inside.had.items c.self.inside.stations.items
     (omega (arith, c.if-station-len-2.true, c.len-2.ensures, c.self.inside.stations.ok.0)))
-    ∙ ap (λ (s : Standing). has_room c.args.station s.had s.stations) c.self.view_is
+    ∙ ap (λ (s : OutstationsState). has_room c.args.station s.had s.stations) c.self.view_is
 
 pub returns-clause-value : goal.returns-clause-value
 returns-clause-value c =
@@ -32,4 +32,4 @@ returns-clause-value c =
       c.len-2.ensures,
       c.self.inside.stations.ok.0,
     )) c.index-2.ensures)
-    ∙ ap (λ (s : Standing). has_room c.args.station s.had s.stations) c.self.view_is)
+    ∙ ap (λ (s : OutstationsState). has_room c.args.station s.had s.stations) c.self.view_is)

@@ -3,7 +3,7 @@ use Rattle.gateway.specs.declared.settings.LineSettings.{LineSettings}
 use Rattle.link.specs.Secondary.{Secondary}
 use Rattle.std.specs.List.{AllByRecursion}
 use Rattle.stations.specs.Cues.{FitsLine}
-use Rattle.stations.proofs.Hearings.{listens}
+use Rattle.stations.proofs.Receiving.{listens}
 use Rattle.stations.proofs.Sizes.{HaveSize, begun_sizes}
 use Rattle.stations.proofs.outstations.Outstations.new.Goals as goal
 

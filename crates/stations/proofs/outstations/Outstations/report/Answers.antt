@@ -1,5 +1,5 @@
 use Rattle.std.proofs.Common.{sym}
-use Rattle.stations.proofs.Telling.{report_counted}
+use Rattle.stations.proofs.Reporting.{report_counted}
 use Rattle.stations.proofs.outstations.Outstations.report.Goals as goal
 
 pub returns : goal.returns

@@ -1,5 +1,0 @@
-use Rattle.live.proofs.Passed.{passed}
-use Rattle.live.proofs.laws.the_log_tells_what_passed.Goals as goal
-
-pub returns : goal.returns
-returns c = passed

@@ -1,0 +1,8 @@
+use Rattle.live.proofs.Walls.{each_second, was_given}
+use Rattle.live.proofs.laws.the_wall_clock_is_given_each_second.Goals as goal
+
+pub returns-clause-second : goal.returns-clause-second
+returns-clause-second c = each_second
+
+pub returns-clause-given : goal.returns-clause-given
+returns-clause-given c = was_given

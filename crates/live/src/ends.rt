@@ -1,0 +1,130 @@
+//! The ends of a live run.
+ghost use Rattle.std.specs.Prelude.{◌≡◌, List, Bool, Option, IfSome};
+
+use crate::allow_list::AllowList;
+use std::net::IpAddr;
+
+/// What one look at a stream finds.
+#[derive(Clone, Copy, Debug, PartialEq, Eq)]
+pub enum Got {
+    /// So many octets, at the front of the buffer: 1 to 1,024.
+    Octets(usize),
+    /// Nothing yet.
+    Quiet,
+    /// The stream is at its end, or broken.
+    Gone,
+}
+
+/// Octets both ways. A stream that notes what happens at it adds each call, with the octets that it
+/// gave or was handed; dropping it shuts it.
+pub trait OctetStream: Drop {
+    ghost use Rattle.live.specs.OctetStreams.{StreamHistory, FitsBuffer, looked, Dropped, Wrote};
+    ghost use Rattle.live.specs.OctetStreams.{noted};
+
+    /// What has happened at it, the newest first, where it notes that.
+    ghost history: { Self → StreamHistory };
+
+    /// Looks once, without a long wait. Octets are put at the front of the buffer.
+    fn read(&mut self, buf: &mut [u8; 1024]) -> Got
+        ensures fits { FitsBuffer result }
+        ensures noted { history self.new ≡ noted (history self.old) (looked result buf.new) };
+
+    /// Drops what has come and wasn't read, without a wait. Answers how many octets that was.
+    fn drop_waiting(&mut self) -> u64
+        ensures noted { history self.new ≡ noted (history self.old) (Dropped result) };
+
+    /// Puts octets on it. `false` says that it didn't take them all.
+    fn write(&mut self, octets: &[u8]) -> bool
+        ensures noted { history self.new ≡ noted (history self.old) (Wrote octets.now result) };
+}
+
+/// Why a connection is cut.
+#[derive(Clone, Copy, Debug, PartialEq, Eq)]
+pub enum CutCause {
+    /// Its stream is at its end, or broken.
+    Gone,
+    /// It didn't take what was written to it.
+    NotTaken,
+    /// The run goes on after a restart, which it didn't outlive.
+    Restarted,
+}
+
+/// Whether a stream is there.
+#[derive(Clone, Copy, Debug, PartialEq, Eq)]
+pub enum Presence {
+    /// It isn't known yet: no try to reach it has ended.
+    Untried,
+    Away,
+    /// It is there, and nothing has come from it yet.
+    There,
+    /// It is there, and octets have come from it.
+    Receiving,
+}
+
+/// A stream that may be away.
+pub trait Reached {
+    /// Whether it is there.
+    fn presence(&self) -> Presence;
+}
+
+/// Who was accepted.
+#[derive(Drop)]
+pub struct Accepted<S: OctetStream> {
+    /// The address of the other end.
+    pub address: IpAddr,
+    /// What octets go over.
+    pub stream: S,
+}
+
+/// Where connections come from.
+pub trait Listener {
+    ghost use Rattle.live.specs.OctetStreams.{Attempts, IsNew, attempted};
+    ghost use Rattle.live.specs.AllowLists.{Allows};
+    ghost use Rattle.std.specs.Option.{is_some};
+
+    type Stream: OctetStream;
+
+    /// Whether a connection was accepted at each look, the newest first, where it notes that.
+    ghost attempts: { Self → Attempts };
+
+    /// Looks once for a new connection, without a wait, and accepts only addresses of this list:
+    /// any other is refused at once. Nothing has happened at the stream yet.
+    fn accept(&mut self, allow_list: &AllowList) -> Option<Accepted<Self::Stream>>
+        ensures allowed { IfSome result (λ accepted. Allows allow_list.now accepted.address) }
+        ensures fresh { IfSome result (λ accepted. IsNew (Self.Stream.history accepted.stream)) }
+        ensures noted { attempts self.new ≡ attempted (attempts self.old) (is_some result) };
+
+    /// How many were refused so far, and the address of the last of them.
+    fn refused(&self) -> RefusedPeers;
+}
+
+/// Those whom a listener refused.
+#[derive(Clone, Copy, Debug, PartialEq, Eq)]
+pub struct RefusedPeers {
+    /// How many they are.
+    pub count: u64,
+    /// The address of the last one.
+    pub last: Option<IpAddr>,
+}
+
+/// A clock that begins anywhere and never goes back, and the wall clock beside it, which people
+/// set. One that notes what it gave adds each moment, and each number that the wall clock showed.
+pub trait RunClock {
+    ghost use Rattle.live.specs.Timing.{Moments, read_at};
+
+    /// The moments that it gave, the newest first, where it notes them.
+    ghost moments: { Self → Moments };
+
+    /// What the wall clock showed, the newest first, where it notes that.
+    ghost walls: { Self → Moments };
+
+    /// The moment, in milliseconds.
+    fn now_ms(&mut self) -> u64
+        ensures noted { moments self.new ≡ read_at (moments self.old) result }
+        ensures others { walls self.new ≡ walls self.old };
+
+    /// What the wall clock shows, in milliseconds since 1970-01-01 UTC. It may go back.
+    fn wall_ms(&mut self) -> u64
+        ensures noted { walls self.new ≡ read_at (walls self.old) result }
+        ensures others { moments self.new ≡ moments self.old };
+}

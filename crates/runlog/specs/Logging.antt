@@ -1,0 +1,135 @@
+-- The lines of a run, and what they are a function of (this gateway's own profile).
+use Rattle.std.specs.Prelude.{◌≡◌, ℕ, ◌-◌, ◌^◌, min, not, ◌&&◌, Bool, true, false, List, ◌∷◌}
+use Rattle.std.specs.Prelude.{length, Option, Some, None, if◌then◌else◌}
+use Rattle.events.specs.Queue.{kept as pieces_kept}
+use Rattle.gateway.specs.Log.{Output}
+use Rattle.gateway.specs.State.{State, counts_of}
+use Rattle.gateway.specs.declared.ports.Next.{Next}
+use Rattle.live.specs.declared.watched.Failure.{Failure}
+use Rattle.live.specs.declared.watched.Notice.{Notice}
+use Rattle.live.specs.declared.watched.EndsSight.{EndsSight}
+use Rattle.runlog.specs.Watching.{Watching, event_noted, put, is_look_due, looked_at, judged}
+use Rattle.runlog.specs.Watching.{unless_line, line_of, sum_line, failed}
+use Rattle.runlog.specs.declared.note.LogLine.{LogLine}
+use Rattle.runlog.specs.declared.note.Note.{Note}
+use Rattle.runlog.specs.declared.note.Note.TheVariants as note
+
+-- the lines so far, the newest first, where they are noted
+abbrev pub Lines : Type 0
+Lines = Option (List LogLine)
+
+-- One more, where it is taken. A sink that notes nothing goes on noting nothing.
+abbrev pub kept : (taken : Bool) → LogLine → Lines → Lines
+kept false line lines = lines
+kept true line None = None
+kept true line (Some before) = Some (line ∷ before)
+
+-- what was logged, where to, whether that took no line any more, which ends the log, and whether
+-- the run is watched all the same
+pub record Book : Type 0 where
+  pub watching : Watching
+  pub lines : Lines
+  pub is_over : Bool
+  pub is_watching : Bool
+
+-- a line is logged, taken or not, where the log isn't over
+abbrev pub logged : Option LogLine → (taken : Bool) → Book → Book
+logged None taken b = b
+logged (Some line) taken b =
+    if b.is_over then b
+    else record b { lines = kept taken line b.lines; is_over = not taken }
+
+abbrev pub after : Watching × Option LogLine → (taken : Bool) → Book → Book
+after w taken b = logged w.1 taken (record b { watching = w.0 })
+
+-- nothing is done any more once the log is over, where the run isn't watched
+abbrev pub unless_over : Book → Book → Book
+unless_over old new = if old.is_over && not old.is_watching then old else new
+
+-- an event came, whose octets are the front of the buffer, and the ends were seen so
+pub record LogsEventSeeing (sight : EndsSight) (old : Book) (event : Next) (buf : List ℕ)
+    (new : Book) :
+    Type 0 where
+  pub taken : Bool
+  pub done : new ≡ unless_over old (after (event_noted event buf sight old.watching) taken old)
+
+-- an event came, and the ends were seen in some way
+pub record LogsEvent (old : Book) (event : Next) (buf : List ℕ) (new : Book) : Type 0 where
+  pub sight : EndsSight
+  pub logs : LogsEventSeeing sight old event buf new
+
+-- an action went out
+pub record LogsAction (old : Book) (now : ℕ) (action : Output) (new : Book) : Type 0 where
+  pub taken : Bool
+  pub done : new ≡ unless_over old (after (put now action old.watching) taken old)
+
+-- an action was put out, or the port failed: then nothing went out, and nothing is logged
+abbrev pub PutsGone : (has_gone : Bool) → Book → (now : ℕ) → Output → Book → Type 0
+PutsGone true old now action new = LogsAction old now action new
+PutsGone false old now action new = new ≡ old
+
+-- a number as it is logged: past the greatest of its type it stays there
+abbrev pub counted : ℕ → ℕ
+counted n = min n (2 ^ 64 - 1)
+
+abbrev pub taken_in : State → ℕ
+taken_in gateway = counted (length (pieces_kept gateway.centre.queue))
+
+-- the queue and the counts were looked at, if that was due
+abbrev pub looked_if_due : State → Watching → Watching × Option LogLine
+looked_if_due s w =
+    if is_look_due w then looked_at (counts_of s) (taken_in s) w else (w, None)
+
+-- Between two steps: what became of the commands of the latest one; and a line of the queue or the
+-- counts, or else of what was gathered.
+abbrev pub looked : State → Watching → Watching × Option LogLine
+looked s w = unless_line (looked_if_due s (judged s w))
+
+pub record LogsLook (old : Book) (gateway : State) (new : Book) : Type 0 where
+  pub taken : Bool
+  pub done : new ≡ unless_over old (after (looked gateway old.watching) taken old)
+
+-- what has failed is logged, if anything
+pub record Fails (old : Book) (failure : Option Failure) (new : Book) : Type 0 where
+  pub taken : Bool
+  pub done : new ≡ unless_over old (after (failed failure old.watching) taken old)
+
+-- the counts are logged once more
+pub record Sums (old : Book) (gateway : State) (new : Book) : Type 0 where
+  pub taken : Bool
+  pub done : new ≡ unless_over old
+      (logged (Some (sum_line (counts_of gateway) (taken_in gateway) old.watching)) taken old)
+
+-- the run is over: what has failed is logged, if anything, and then the counts
+pub record Closes (old : Book) (failure : Option Failure) (gateway : State) (new : Book) :
+    Type 0 where
+  pub between : Book
+  pub fails : Fails old failure between
+  pub sums : Sums between gateway new
+
+pub record IsLogged (line : Option LogLine) (old new : Book) : Type 0 where
+  pub taken : Bool
+  pub done : new ≡ logged line taken old
+
+-- something is logged that no event says
+pub record LogsNote (old : Book) (note : Note) (new : Book) : Type 0 where
+  pub taken : Bool
+  pub done : new ≡ unless_over old (logged (Some (line_of note old.watching)) taken old)
+
+-- the line of what there is to log of the state on the disk
+abbrev pub line_of_notice : Option Notice → Watching → Option LogLine
+line_of_notice None w = None
+line_of_notice (Some notice) w = Some (line_of (note.State notice) w)
+
+-- between two steps this of the state on the disk was logged
+pub record LogsNotice (notice : Option Notice) (old new : Book) : Type 0 where
+  pub taken : Bool
+  pub done : new ≡ unless_over old (logged (line_of_notice notice old.watching) taken old)
+
+-- between two steps: this was logged of the state on the disk, if anything, and then the gateway
+-- was looked at
+pub record Tends (notice : Option Notice) (old : Book) (gateway : State) (new : Book) : Type 0
+  where
+    pub between : Book
+    pub logs : LogsNotice notice old between
+    pub looks : LogsLook between gateway new

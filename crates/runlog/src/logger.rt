@@ -1,0 +1,208 @@
+//! Lines of the log.
+ghost use Rattle.std.specs.Prelude.{◌≡◌, ◌&&◌, false, true, length, not};
+ghost use Rattle.events.specs.Queue.{kept};
+ghost use Rattle.gateway.specs.Ports.{FitsBuffer, output_of};
+ghost use Rattle.runlog.specs.Logging.{counted, looked_if_due, LogsEventSeeing, LogsAction};
+ghost use Rattle.runlog.specs.Logging.{LogsLook, Closes};
+ghost use Rattle.runlog.specs.Logging.{LogsNote, Fails, Sums, LogsNotice, IsLogged};
+
+use crate::note::{LogLine, Note};
+use crate::sink::LogSink;
+use crate::watch::Watch;
+use gateway::{Action, Gateway, Next};
+use live::{EndsSight, Failure, Notice};
+use std::marker::Model;
+
+/// Logs the lines of a run to a sink, until that takes none any more.
+#[derive(Drop)]
+pub struct Logger<S: LogSink + Drop> {
+    watch: Watch,
+    sink: S,
+    is_over: bool,
+    is_watching: bool,
+}
+
+impl<S: LogSink + Drop> Model for Logger<S> {
+    ghost use Rattle.runlog.specs.Logging.{Book};
+
+    ghost Value = { Book };
+
+    ghost view = { λ t. record {
+      watching = t.watch;
+      lines = S.lines t.sink;
+      is_over = t.is_over;
+      is_watching = t.is_watching;
+    } };
+}
+
+/// How many pieces the gateway keeps.
+pub fn taken_places(gateway: &Gateway) -> u64
+    ensures { result ≡ counted (length (kept gateway.now.centre.queue)) }
+{
+    let mut taken = 0u64;
+    for piece in gateway.kept() {
+        let _ = piece;
+        taken = taken.saturating_add(1);
+    }
+    taken
+}
+
+impl<S: LogSink + Drop> Logger<S> {
+    /// One that logs to this sink from the first event on, or, where nothing is to be logged,
+    /// never.
+    pub fn new(watch: Watch, sink: S, is_logging: bool) -> Logger<S>
+        ensures { result ≡ record {
+          watching = watch;
+          lines = S.lines sink;
+          is_over = not is_logging;
+          is_watching = false;
+        } }
+    {
+        Logger {
+            watch,
+            sink,
+            is_over: !is_logging,
+            is_watching: false,
+        }
+    }
+
+    /// The same, where the run is watched even if nothing is logged.
+    pub fn watching(self) -> Logger<S>
+        ensures { result ≡ record self { is_watching = true } }
+    {
+        Logger {
+            watch: self.watch,
+            sink: self.sink,
+            is_over: self.is_over,
+            is_watching: true,
+        }
+    }
+
+    /// What is known of the run: how it was watched so far.
+    pub fn watch(&self) -> &Watch
+        ensures { result.now ≡ self.now.watching }
+    {
+        &self.watch
+    }
+
+    /// Nothing is logged any more, and the run isn't watched.
+    fn is_idle(&self) -> bool
+        ensures { result ≡ (self.now.is_over && not self.now.is_watching) }
+    {
+        self.is_over && !self.is_watching
+    }
+
+    /// Logs something that no event says, at the moment of the latest event.
+    pub fn note(&mut self, note: Note)
+        ensures { LogsNote self.old note self.new }
+    {
+        if self.is_idle() {
+            return;
+        }
+        let line = self.watch.line(note);
+        self.log(Some(line));
+    }
+
+    fn log(&mut self, line: Option<LogLine>)
+        ensures { IsLogged line self.old self.new }
+    {
+        if self.is_over {
+            return;
+        }
+        if let Some(line) = line {
+            // A sink that takes no line ends the log and not the run (docs/DECISIONS.md, "`run
+            // --log` is a port around the port").
+            self.is_over = !self.sink.write(&line);
+        }
+    }
+
+    /// An event came, whose octets are the front of the buffer, and the ends are seen so.
+    pub(crate) fn note_event(&mut self, event: Next, buf: &[u8; 1024], sight: &EndsSight)
+        requires { FitsBuffer event }
+        ensures { LogsEventSeeing sight.now self.old event buf.now self.new }
+    {
+        if self.is_idle() {
+            return;
+        }
+        let line = self.watch.note_event(event, buf, sight);
+        self.log(line);
+    }
+
+    /// An action goes out.
+    pub fn put(&mut self, now: u64, action: &Action<'_>)
+        ensures { LogsAction self.old now (output_of action.now) self.new }
+    {
+        if self.is_idle() {
+            return;
+        }
+        let line = self.watch.put(now, action);
+        self.log(line);
+    }
+
+    /// This is to be logged of the state on the disk, if anything.
+    pub(crate) fn tend(&mut self, notice: Option<Notice>)
+        ensures { LogsNotice notice self.old self.new }
+    {
+        if let Some(notice) = notice {
+            self.note(Note::State(notice));
+        }
+    }
+
+    /// Looks at the gateway between two steps.
+    pub(crate) fn look(&mut self, gateway: &Gateway)
+        ensures { LogsLook self.old gateway.now self.new }
+    {
+        if self.is_idle() {
+            return;
+        }
+        self.watch.judge(gateway);
+        let line = self.look_if_due(gateway);
+        let line = match line {
+            Some(line) => Some(line),
+            None => self.watch.gathered(),
+        };
+        self.log(line);
+    }
+
+    /// Looks at the queue and the counts, if that is due.
+    fn look_if_due(&mut self, gateway: &Gateway) -> Option<LogLine>
+        ensures watching { (self.new.watching, result)
+            ≡ looked_if_due gateway.now self.old.watching }
+        ensures rest { self.new ≡ record self.old { watching = self.new.watching } }
+    {
+        if !self.watch.is_look_due() {
+            return None;
+        }
+        self.watch.look(gateway.counts(), taken_places(gateway))
+    }
+
+    /// The run is over: logs what has failed, if anything, and then the counts.
+    pub(crate) fn close(&mut self, failure: Option<Failure>, gateway: &Gateway)
+        ensures { Closes self.old failure gateway.now self.new }
+    {
+        self.fail(failure);
+        self.sum(gateway);
+    }
+
+    /// The device has failed, if it has.
+    fn fail(&mut self, failure: Option<Failure>)
+        ensures { Fails self.old failure self.new }
+    {
+        if self.is_idle() {
+            return;
+        }
+        let line = self.watch.fail(failure);
+        self.log(line);
+    }
+
+    /// Logs the counts.
+    fn sum(&mut self, gateway: &Gateway)
+        ensures { Sums self.old gateway.now self.new }
+    {
+        if self.is_idle() {
+            return;
+        }
+        let line = self.watch.sum(gateway.counts(), taken_places(gateway));
+        self.log(Some(line));
+    }
+}
