@@ -19,7 +19,7 @@ use traces::{Page, print_action, print_event, printed_lines_read_back};
 #[derive(Drop)]
 pub struct Pen<W: Sheet + Drop> {
     alloc: Global,
-    pub(crate) sheet: W,
+    sheet: W,
     /// The lines that the sheet hasn't been given yet.
     held: Page,
     is_over: bool,

@@ -109,6 +109,3 @@ impl<P: Watched + Drop, W: Sheet + Drop> Watched for Recorder<P, W> {
         self.port.tend(gateway)
     }
 }
-
-#[cfg(test)]
-mod tests;
