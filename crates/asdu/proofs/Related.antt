@@ -1,5 +1,6 @@
 -- What octets are read as, against the ASDU that they are.
-use Rattle.std.proofs.Common.{◌≡◌, ℕ, ◌≤◌, Bool, true, false, List, [], length, Option, Some, None}
+use Rattle.std.proofs.Common.{◌≡◌, ℕ, ◌+◌, ◌*◌, ◌^◌, ◌≤◌, Bool, true, false, List, [], length}
+use Rattle.std.proofs.Common.{Option, Some, None}
 use Rattle.std.proofs.Common.{refl, sym, ap, ◌∙◌, arith}
 use Rattle.std.specs.Prelude.{slice_index, is_none}
 use Rattle.std.specs.Int.{div_ceil}
@@ -10,8 +11,9 @@ use Rattle.elements.specs.Octets.{AreOctets}
 use Rattle.elements.proofs.TypeCodes.{type_of-code}
 use Rattle.asdu.specs.declared.sizes.Sizes.{Sizes}
 use Rattle.asdu.specs.declared.unit.Asdu.{Asdu}
-use Rattle.asdu.specs.Asdu.{AsduValue, IsAsdu, IsNoAsdu, spelled}
-use Rattle.asdu.specs.Fields.{number_at, is_sequence, value_at}
+use Rattle.asdu.specs.Sizes.{header_len, ioa_len}
+use Rattle.asdu.specs.Asdu.{AsduValue, IsAsdu, IsNoAsdu, content_len, spelled}
+use Rattle.asdu.specs.Fields.{number_at, is_sequence, first_address, value_at}
 use Rattle.asdu.specs.Refusals.{refusal, is_read}
 use Rattle.asdu.specs.InformationObjects.{object_in, value_objects, objects_of, monitor_objects_of}
 use Rattle.asdu.specs.InformationObjects.{is_passed_on, only_if}
@@ -82,6 +84,27 @@ one_asdu s u v xs h k =
     let kind = same_kind u.kind v.kind (type_of (slice_index xs 0)) (type_of-IsAsdu s u xs h)
     (type_of-IsAsdu s v xs k) in
     sym (value_at-IsAsdu s u xs h) ∙ ap (λ t. value_at s t xs) kind ∙ value_at-IsAsdu s v xs k
+
+-- ---- Octets that nothing speaks against
+
+pub read-apart : (s : Sizes) (t : TypeId) (xs : List ℕ) → type_of (slice_index xs 0) ≡ Some t
+    → is_sequence xs ≡ false → 1 ≤ number_at xs
+    → length xs ≡ header_len s + number_at xs * (ioa_len s.ioa + content_len t)
+    → is_read s xs ≡ true
+read-apart s t xs named apart some whole =
+    ap (λ r. is_none r)
+    (refusal-none s t xs named (record { some = some; whole = rw apart whole; last = λ e. cc }))
+
+pub read-together : (s : Sizes) (t : TypeId) (xs : List ℕ) → type_of (slice_index xs 0) ≡ Some t
+    → is_sequence xs ≡ true → 1 ≤ number_at xs
+    → length xs ≡ header_len s + ioa_len s.ioa + number_at xs * content_len t
+    → first_address s xs + number_at xs ≤ 256 ^ ioa_len s.ioa → is_read s xs ≡ true
+read-together s t xs named together some whole last =
+    ap (λ r. is_none r) (refusal-none s t xs named (record {
+      some = some;
+      whole = rw together (omega (arith, whole));
+      last = λ e. last;
+    }))
 
 -- ---- Octets that are none
 

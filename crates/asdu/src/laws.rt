@@ -1,16 +1,18 @@
 //! Laws of the relation between an ASDU and its octets, for callers to lean on. Each is called for
 //! its contract.
-ghost use Rattle.std.specs.Prelude.{◌≡◌, ◌≤◌, ◌%◌, ◌⊎◌, ℕ, Bool, List, [], length, true, false};
-ghost use Rattle.elements.specs.Types.{row};
+ghost use Rattle.std.specs.Prelude.{◌≡◌, ◌≤◌, ◌+◌, ◌*◌, ◌%◌, ◌^◌, ◌⊎◌, ℕ, Bool, List, []};
+ghost use Rattle.std.specs.Prelude.{length, slice_index, true, false, Some};
+ghost use Rattle.elements.specs.Types.{row, type_of};
 ghost use Rattle.std.specs.Int.{div_ceil};
 ghost use Rattle.std.specs.List.{AllByRecursion, flat_map};
 ghost use Rattle.elements.specs.Octets.{AreOctets};
 ghost use Rattle.asdu.specs.declared.sizes.Sizes.{Sizes};
-ghost use Rattle.asdu.specs.Asdu.{AsduValue, IsAsdu, IsNoAsdu};
+ghost use Rattle.asdu.specs.Asdu.{AsduValue, IsAsdu, IsNoAsdu, content_len};
+ghost use Rattle.asdu.specs.Fields.{first_address, is_sequence, number_at};
 ghost use Rattle.asdu.specs.Refusals.{is_read};
 ghost use Rattle.asdu.specs.InformationObjects.{value_objects, objects_of, monitor_objects_of};
 ghost use Rattle.asdu.specs.InformationObjects.{is_passed_on, only_if};
-ghost use Rattle.asdu.specs.Sizes.{tcp};
+ghost use Rattle.asdu.specs.Sizes.{header_len, ioa_len, tcp};
 ghost use Rattle.asdu.specs.Translation.{parts, piece_size, report_pieces, AllButLast, IsLargest};
 ghost use Rattle.asdu.specs.Translation.{IsPiece};
 ghost use Rattle.elements.specs.declared.types.TypeId.{TypeId};
@@ -40,6 +42,19 @@ pub fn objects_are_those_of_the_asdu()
         is_read s xs ≡ false }
     ensures nothing { (s : Sizes) (xs : List ℕ) → is_read s xs ≡ false →
         (objects_of s xs ≡ []) × (monitor_objects_of s xs ≡ []) × (parts s xs ≡ 0) }
+{}
+
+/// Octets of each type that is carried are read, with SQ 0 and with SQ 1 alike. Nothing is asked
+/// but an object, the length that type, SQ and number give, and with SQ 1 a last address that fits.
+pub fn each_type_is_read_with_either_sq()
+    ensures apart { (s : Sizes) (t : TypeId) (xs : List ℕ) → type_of (slice_index xs 0) ≡ Some t →
+        is_sequence xs ≡ false → 1 ≤ number_at xs →
+        length xs ≡ header_len s + number_at xs * (ioa_len s.ioa + content_len t) →
+        is_read s xs ≡ true }
+    ensures together { (s : Sizes) (t : TypeId) (xs : List ℕ) →
+        type_of (slice_index xs 0) ≡ Some t → is_sequence xs ≡ true → 1 ≤ number_at xs →
+        length xs ≡ header_len s + ioa_len s.ioa + number_at xs * content_len t →
+        first_address s xs + number_at xs ≤ 256 ^ ioa_len s.ioa → is_read s xs ≡ true }
 {}
 
 /// Each report of a monitor type is passed on with all its objects, whatever its cause, except for

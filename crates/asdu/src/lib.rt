@@ -29,9 +29,9 @@ mod writing;
 pub use examples::resized_asdus_by_example;
 pub use header::Head;
 pub use laws::{
-    monitor_reports_are_passed_on, objects_are_those_of_the_asdu, one_asdu_one_spelling,
-    pieces_are_as_large_as_can_be, pieces_carry_the_report, tagged_types_are_thirteen_above,
-    worked_examples_hold,
+    each_type_is_read_with_either_sq, monitor_reports_are_passed_on, objects_are_those_of_the_asdu,
+    one_asdu_one_spelling, pieces_are_as_large_as_can_be, pieces_carry_the_report,
+    tagged_types_are_thirteen_above, worked_examples_hold,
 };
 pub use objects::{Object, Objects};
 pub use reading::{head, read};

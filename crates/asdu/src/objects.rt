@@ -12,6 +12,8 @@ use crate::IoaSize;
 use elements::TypeId;
 
 /// An information object, borrowed from its ASDU (IEC 60870-5-101, 7.2.5 and 7.2.6).
+// A caller can ask one for the value that it shows (docs/DECISIONS.md, "Objects with named
+// fields").
 #[derive(Clone, Copy, Debug, PartialEq, Eq)]
 pub struct Object<'a> {
     /// The type of its ASDU.

@@ -73,6 +73,7 @@ fn check(sizes: Sizes, octets: &[u8]) -> Result<Asdu<'_>, Refused>
     if number == 0 {
         return Err(Refused(3));
     }
+    // With every type: nothing is lost by it (docs/DECISIONS.md, "SQ 1 with every type").
     let sequence = head.vsq >= 0x80;
     if octets.len() != sizes.header() + body_octets(kind, sizes.ioa, sequence, number) {
         return Err(Refused(4));

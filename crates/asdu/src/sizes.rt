@@ -7,6 +7,7 @@ ghost use Rattle.asdu.specs.Sizes.{cause_len, ca_len, ioa_len, header_len};
 use byteorder::{ByteOrder, LittleEndian};
 
 /// The octets of the cause of transmission.
+// No other number can be a size (docs/DECISIONS.md, "Sizes are enums").
 #[derive(Clone, Copy, Debug, PartialEq, Eq)]
 pub enum CauseSize {
     One,

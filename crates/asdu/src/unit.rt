@@ -9,6 +9,8 @@ use crate::{Head, Objects, Sizes, head};
 use elements::TypeId;
 
 /// An ASDU that was read, borrowed from its octets (IEC 60870-5-101, 7.1).
+// A caller can't make a wrong one, since only octets that were read have the ghost facts
+// (docs/DECISIONS.md, "Public fields of `Asdu`").
 #[derive(Clone, Copy, Debug, PartialEq, Eq)]
 pub struct Asdu<'a> {
     /// The sizes in which it was read.

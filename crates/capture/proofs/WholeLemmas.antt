@@ -8,15 +8,16 @@ use Rattle.std.specs.Io.KnownBytes.{Appends}
 use Rattle.std.specs.Option.{is_some}
 use Rattle.std.specs.Prelude.{IfErr, IfSome, OnErr, OnOk, Result, Ok, Err}
 use Rattle.std.specs.Result.{IsErrAnd}
-use Rattle.audit.specs.Record.{whole_lines}
-use Rattle.audit.proofs.BlockLemmas.{AreOf}
-use Rattle.audit.proofs.LineLemmas.{whole_joined}
-use Rattle.blocks.specs.Reading.{AreCutOff, Gives, IsGiven, Reading}
+use Rattle.record.specs.Lines.{whole_lines}
+use Rattle.record.proofs.BlockLemmas.{AreOf}
+use Rattle.record.proofs.LineLemmas.{whole_joined}
+use Rattle.traces.specs.Blocks.{Gives, IsGiven, Reading}
 use Rattle.ft12.specs.declared.frame.LinkSize.{LinkSize}
 use Rattle.gateway.specs.Log.{LogEntry}
 use Rattle.pages.specs.Pouring.{IsBegun}
 use Rattle.pages.proofs.Poured.{appends_more, begun_behind, begun_longer}
 use Rattle.traces.specs.Fields.{parts_after}
+use Rattle.traces.proofs.BlockLemmas.{gives_last, gives_on, gives_some, more_behind}
 use Rattle.traces.specs.Trace.{is_skipped, lines_of}
 use Rattle.capture.specs.Blocks.{file_header}
 use Rattle.capture.specs.Captures.{Captured, after_line, after_lines, begun, blocks_for, blocks_of}
@@ -225,25 +226,6 @@ module _ (first : ℕ) (old new : Captured) (lines : List (List ℕ)) (empty pag
       begun = subst (λ (xs : List ℕ). IsBegun before after xs) ending_is wrote;
     }
 
--- ---- What is still to come
-
-gives_on : (coming later : Option (List ℕ)) (block t : List ℕ)
-    → IfSome coming (λ text. AreCutOff text block false later)
-    → Gives later t → Gives coming (block ++ 10 ∷ t)
-gives_on None later block t cut is = tt
-gives_on (Some text) None block t cut is = absurd cut
-gives_on (Some text) (Some rest) block t cut is = cut ∙ ap (λ xs. block ++ 10 ∷ xs) is
-
-gives_last : (coming later : Option (List ℕ)) (block : List ℕ)
-    → IfSome coming (λ text. AreCutOff text block true later)
-    → Gives coming block
-gives_last None later block cut = tt
-gives_last (Some text) later block cut = cut
-
-gives_some : (known : Option (List ℕ)) → (t : List ℕ) × Gives known t
-gives_some None = ([], tt)
-gives_some (Some text) = (text, refl)
-
 -- ---- A record
 
 -- So much of a record was read, and the packets of its lines were written.
@@ -295,11 +277,6 @@ pub unbegun : (size : LinkSize) (known old : Option (List ℕ)) → IsPartly siz
 unbegun size known old = header_cut size known file_header old old refl
     ([], (file_header, refl), appends_none old)
 
-joined : (before block t : List ℕ) → (before ++ (block ++ 10 ∷ [])) ++ t
-    ≡ before ++ (block ++ 10 ∷ t)
-joined before block t = append_assoc before (block ++ 10 ∷ []) t
-    ∙ ap (λ xs. before ++ xs) (append_assoc block (10 ∷ []) t)
-
 -- the lines of a text behind a line feed
 kept_joined : (a b : List ℕ) → kept_lines (a ++ 10 ∷ b) ≡ map kept_line (lines_of a) ++ kept_lines b
 kept_joined a b = ap (map kept_line) (whole_joined a b)
@@ -343,14 +320,6 @@ module _ (size : LinkSize) (known coming : Option (List ℕ)) (c : Captured) (n 
     ours : List (List ℕ)
     ours = map kept_line (parts_after 10 part)
 
-    cut_as : (over : Bool) → block.is_over ≡ over
-        → IfSome coming (λ text. AreCutOff text octets over block.coming)
-    cut_as over is =
-        subst (λ (o : Bool). IfSome coming (λ text. AreCutOff text octets o block.coming)) is
-        (subst
-        (λ (ls : List ℕ). IfSome coming (λ text. AreCutOff text ls block.is_over block.coming))
-        (sym same) cut)
-
     kept_on : block.is_over ≡ false → (t : List ℕ)
         → kept_lines (so.before ++ (octets ++ 10 ∷ t))
         ≡ (so.lines ++ map kept_line (parts_after 10 part)) ++ kept_lines t
@@ -378,7 +347,7 @@ module _ (size : LinkSize) (known coming : Option (List ℕ)) (c : Captured) (n 
           (
             [],
             (
-              so.rest octets (gives_last coming block.coming octets (cut_as true over)),
+              so.rest octets (gives_last block octets coming same cut over),
               kept_last over
                   ∙ sym (append-nil (so.lines ++ map kept_line (parts_after 10 part))),
             ),
@@ -391,7 +360,7 @@ module _ (size : LinkSize) (known coming : Option (List ℕ)) (c : Captured) (n 
                 kept_lines some.0,
                 (
                   so.rest (octets ++ 10 ∷ some.0)
-                      (gives_on coming block.coming octets some.0 (cut_as false goes) some.1),
+                      (gives_on block octets coming same cut goes some.0 some.1),
                   kept_on goes some.0,
                 ),
               ),
@@ -406,11 +375,11 @@ module _ (size : LinkSize) (known coming : Option (List ℕ)) (c : Captured) (n 
         let front = blocks_of_lines (begun size) so.lines in
         record {
           before = so.before ++ (octets ++ 10 ∷ []);
-          rest = λ t is. subst (Gives known) (sym (joined so.before octets t))
+          rest = λ t is. subst (Gives known) (sym (more_behind so.before octets t))
               (so.rest (octets ++ 10 ∷ t)
-              (gives_on coming block.coming octets t (cut_as false goes) is));
+              (gives_on block octets coming same cut goes t is));
           lines = so.lines ++ more;
-          are = λ t. ap kept_lines (joined so.before octets t) ∙ kept_on goes t;
+          are = λ t. ap kept_lines (more_behind so.before octets t) ∙ kept_on goes t;
           right = right_more so.lines more so.right w.right;
           is = w.new_is ∙ (ap (λ (e : Captured). after_lines e more) so.is
               ∙ sym (after_more (begun size) so.lines more));
@@ -497,7 +466,7 @@ module _ (size : LinkSize) (known coming : Option (List ℕ)) (c : Captured) (n 
         w.written all) in
         record {
           text = so.before ++ octets;
-          is = so.rest octets (gives_last coming block.coming octets (cut_as true over));
+          is = so.rest octets (gives_last block octets coming same cut over);
           right = ap are_lines (kept_last over) ∙ right_more so.lines more so.right w.right;
           written = subst (λ (xs : List ℕ). Appends old new xs)
               (file_joined more

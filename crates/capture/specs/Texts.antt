@@ -3,7 +3,7 @@ use Rattle.std.specs.Prelude.{◌≡◌, ℕ, ◌+◌, Bool, true, false, if◌t
 use Rattle.std.specs.Prelude.{map, length, Option, Result, MatchResult}
 use Rattle.std.specs.List.{filter_map, flat_map, list_all}
 use Rattle.std.specs.Io.KnownBytes.{Appends}
-use Rattle.audit.specs.Record.{is_cut, whole_lines}
+use Rattle.record.specs.Lines.{is_cut, whole_lines}
 use Rattle.ft12.specs.declared.frame.LinkSize.{LinkSize}
 use Rattle.gateway.specs.Log.{LogEntry}
 use Rattle.pages.specs.Pouring.{IsBegun}

@@ -7,7 +7,7 @@ ghost use Rattle.capture.specs.Recorded.{is_line};
 ghost use Rattle.capture.specs.Texts.{ArePassed, kept_line};
 
 use crate::capturing::Capture;
-use audit::is_cut;
+use record::is_cut;
 use std::alloc::AllocError;
 use traces::{Page, cut};
 

@@ -2,7 +2,7 @@
 ghost use Rattle.std.specs.Prelude.{◌≡◌, [], false, map, IfErr, IfOk, IfSome, OnErr, OnOk};
 ghost use Rattle.std.specs.Io.KnownBytes.{Appends};
 ghost use Rattle.std.specs.Option.{option_copied};
-ghost use Rattle.blocks.specs.Reading.{Gives, IsGiven};
+ghost use Rattle.traces.specs.Blocks.{Gives, IsGiven};
 ghost use Rattle.pages.specs.Pouring.{IsBegun};
 ghost use Rattle.traces.specs.Fields.{parts_after};
 ghost use Rattle.capture.specs.Captures.{blocks_of, last_packets};
@@ -12,14 +12,13 @@ ghost use Rattle.capture.specs.declared.whole.CaptureFault.TheVariants.{Unwritte
 
 use crate::capturing::Capture;
 use crate::passing::{Passed, put_lines};
-use audit::part_of;
-use blocks::{BlockFault, Blocks};
 use ft12::LinkSize;
 use pages::print;
+use record::part_of;
 use std::alloc::{AllocError, Global};
 use std::io::{Read, Write};
 use thiserror::Error;
-use traces::Page;
+use traces::{BlockFault, Blocks, Page};
 
 /// Why there is no capture of a whole record.
 #[derive(Clone, Copy, Debug, PartialEq, Eq, Error)]

@@ -208,6 +208,8 @@ impl Selection {
     {
         // A con before the acceptance answers an older select, and one past `select_ms` is too
         // late (docs/DECISIONS.md, "An answer to an older select").
+        // Also where it is live already: then its time begins anew (docs/DECISIONS.md, "A second positive
+        // confirmation").
         if self.is_named(target, element)
             && self.is_accepted()
             && now.saturating_sub(self.came) < select_ms

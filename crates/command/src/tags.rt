@@ -72,6 +72,8 @@ fn tag_of(octets: &[u8]) -> Option<Cp56>
 fn is_recent(most: u64, wall: Option<u64>, verdict: Verdict) -> bool
     ensures { result ≡ is_near most wall verdict }
 {
+    // Here alone, and not before the line takes it (docs/DECISIONS.md, "The age of a tag is judged
+    // once").
     match (wall, verdict) {
         (Some(wall), Verdict::Good(instant)) => {
             wall.saturating_sub(instant) <= most && instant.saturating_sub(wall) <= most

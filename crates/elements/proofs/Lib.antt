@@ -2,3 +2,4 @@ pub mod TimeTagChecks
 pub mod TypeCodes
 pub mod Moments
 mod StandardTables
+mod NameTables

@@ -1,15 +1,14 @@
 -- The tag of each moment is good.
-use Rattle.std.specs.Prelude.{◌==◌, ◌||◌, ◌&&◌, nat_le, nat_lt, if◌then◌else◌}
-use Rattle.std.proofs.Common.{◌≡◌, ◌⊎◌, ℕ, ◌+◌, ◌*◌, ◌/◌, ◌%◌, ◌<◌, ◌≤◌, not, Bool, true, false}
-use Rattle.std.proofs.Common.{List, [], ◌∷◌, refl, sym, ap, subst, ◌∙◌, inl, inr, arith}
+use Rattle.std.specs.Prelude.{◌==◌, ◌&&◌, nat_le, nat_lt, if◌then◌else◌}
+use Rattle.std.proofs.Common.{◌≡◌, ◌⊎◌, ℕ, ◌+◌, ◌*◌, ◌/◌, ◌%◌, ◌≤◌, not, Bool, true, false}
+use Rattle.std.proofs.Common.{List, refl, sym, ap, ◌∙◌, inl, inr, arith}
 use Rattle.std.proofs.lemmas.Bool.{eq-eqb}
-use Rattle.jiff_core.specs.Calendar.{days_in_month, weekday_number}
+use Rattle.jiff_core.specs.Calendar.{weekday_number}
 use Rattle.elements.specs.declared.tag.Fields.{Fields}
 use Rattle.std.specs.Prelude.{slice_index}
-use Rattle.elements.specs.declared.tag.Verdict.{Verdict}
 use Rattle.elements.specs.declared.tag.Verdict.TheVariants.{Good, MarkedInvalid, OutOfRange}
 use Rattle.elements.specs.declared.tag.Verdict.TheVariants.{NoSuchDay, WrongWeekday}
-use Rattle.elements.specs.TimeTag.{fields_of, is_out_of_range, year_of, day_exists, day_number}
+use Rattle.elements.specs.TimeTag.{fields_of, is_out_of_range, day_exists}
 use Rattle.elements.specs.TimeTag.{is_weekday_wrong, instant_of, verdict_of_fields, verdict_of}
 use Rattle.elements.specs.Moments.{Moment, days, Exists, tag_of, instant}
 

@@ -48,7 +48,8 @@ first_passes : {X : Type 0} (p : X → Bool) (x y : X) (rest : Option X) (b : Bo
 first_passes p x y rest true here later h = cc
 first_passes p x y rest false here later h = later h
 
-find-passes : {X : Type 0} (p : X → Bool) (xs : List X) (y : X) → find p xs ≡ Some y → p y ≡ true
+pub find-passes : {X : Type 0} (p : X → Bool) (xs : List X) (y : X) → find p xs ≡ Some y
+    → p y ≡ true
 find-passes p [] y h = cc
 find-passes p (x ∷ xs) y h = first_passes p x y (find p xs) (p x) refl (find-passes p xs y) h
 

@@ -1,7 +1,9 @@
--- What the standard's own tables say of the types (IEC 60870-5-101, 7.2.1 and 7.3), and elements
--- and time tags worked by hand (7.2.6).
-use Rattle.std.specs.Prelude.{◌≡◌, ℕ, zero, suc, ℤ, pos, ◌-ℤ◌, Bool, false, ◌&&◌, ◌||◌, ◌==◌}
-use Rattle.std.specs.Prelude.{nat_le, List, [], ◌∷◌, Option, Some, None, filter, map}
+-- What the standard's own tables say of the types and their names (IEC 60870-5-101, 7.2.1 and 7.3),
+-- and elements and time tags worked by hand (7.2.6).
+use Rattle.std.specs.Prelude.{◌≡◌, ℕ, zero, suc, ℤ, pos, ◌-ℤ◌, ◌%◌, Bool, true, false, ◌&&◌, ◌||◌}
+use Rattle.std.specs.Prelude.{◌==◌, nat_le, nat_lt, if◌then◌else◌, List, [], ◌∷◌, ◌++◌, codes}
+use Rattle.std.specs.Prelude.{Option, Some, None, is_some, filter, map, slice_range}
+use Rattle.elements.specs.Names.{cause_name, type_name}
 use Rattle.elements.specs.Layouts.{short, word, long}
 use Rattle.elements.specs.Types.{row, type_of, value_shown}
 use Rattle.elements.specs.TimeTag.{verdict_of}
@@ -74,6 +76,57 @@ pub record TypesAreTheStandards : Type 0 where
   pub of_three_octets : octets_of_size 3 ≡ 9 ∷ 11 ∷ 34 ∷ 35 ∷ 48 ∷ 49 ∷ 61 ∷ 62 ∷ []
   -- BSI and R32-IEEE STD 754 with QDS, and BCR (7.2.6.5, 8, 9 and 13)
   pub of_five_octets : octets_of_size 5 ≡ 7 ∷ 13 ∷ 15 ∷ 33 ∷ 36 ∷ 37 ∷ []
+
+-- ---- Names
+
+-- Which numbers name a type (7.2.1; of 60870-5-104, 8: 58 to 64, 107 and 127), and which a cause
+-- (7.2.3).
+abbrev pub is_defined_type : ℕ → Bool
+is_defined_type n =
+    (nat_le 1 n && nat_le n 21) || (nat_le 30 n && nat_le n 40) || (nat_le 45 n && nat_le n 51)
+    || (nat_le 58 n && nat_le n 64) || n == 70 || (nat_le 100 n && nat_le n 107)
+    || (nat_le 110 n && nat_le n 113) || (nat_le 120 n && nat_le n 127)
+
+abbrev pub is_defined_cause : ℕ → Bool
+is_defined_cause n =
+    (nat_le 1 n && nat_le n 13) || (nat_le 20 n && nat_le n 41) || (nat_le 44 n && nat_le n 47)
+
+-- How the name of a type begins: monitored information, commands, parameters and files, each in a
+-- range of its own (7.2.1.1).
+abbrev pub range_letter : ℕ → List ℕ
+range_letter n =
+    if is_monitor_type n then codes "M"
+    else (if nat_lt n 110 then codes "C" else (if nat_lt n 120 then codes "P" else codes "F"))
+
+-- Whether a tag stands behind each object: CP24Time2a in types 2, 4 .. 16 and 17 to 19, CP56Time2a
+-- in those of process information, in the test command and in a file's directory.
+abbrev pub has_any_tag : ℕ → Bool
+has_any_tag n =
+    (nat_le n 19 && (n % 2 == 0 || nat_le 17 n)) || is_type_with_tag n || n == 107 || n == 126
+
+abbrev pub tag_letter : ℕ → List ℕ
+tag_letter n = if has_any_tag n then codes "T" else codes "N"
+
+-- The name of a type is such a label: the range, two letters for the information, T or N for with
+-- or without a tag, a letter for the form, and 1.
+abbrev pub label_of : ℕ → List ℕ → List ℕ
+label_of n name =
+    range_letter n ++ codes "_" ++ slice_range name 2 4 ++ codes "_" ++ tag_letter n
+    ++ slice_range name 6 7 ++ codes "_1"
+
+pub record NamesAreTheStandards : Type 0 where
+  -- each type that this gateway carries has a name
+  pub carried : (n : ℕ) (t : TypeId) → type_of n ≡ Some t → is_some (type_name n) ≡ true
+  pub types : filter (λ n. is_some (type_name n)) (down_from 255 [])
+      ≡ filter is_defined_type (down_from 255 [])
+  pub causes : filter (λ n. is_some (cause_name n)) (down_from 255 [])
+      ≡ filter is_defined_cause (down_from 255 [])
+  pub labels : (n : ℕ) (name : List ℕ) → type_name n ≡ Some name → name ≡ label_of n name
+  -- no two types have one name, and no two causes
+  pub types_apart : (m n : ℕ) (name : List ℕ) →
+      type_name m ≡ Some name → type_name n ≡ Some name → m ≡ n
+  pub causes_apart : (m n : ℕ) (name : List ℕ) →
+      cause_name m ≡ Some name → cause_name n ≡ Some name → m ≡ n
 
 -- ---- Elements
 

@@ -3,14 +3,21 @@ ghost use Rattle.std.specs.Prelude.{◌≡◌, ◌≤◌, ℕ, List, slice_index
 ghost use Rattle.std.specs.List.{AllByRecursion};
 ghost use Rattle.elements.specs.declared.tag.Verdict.TheVariants.{Good};
 ghost use Rattle.elements.specs.Moments.{Moment, Exists, tag_of, instant};
-ghost use Rattle.elements.specs.Standard.{TypesAreTheStandards, LayoutExamples, IsShownSo};
-ghost use Rattle.elements.specs.Standard.{IsJudgedSo, value_examples, tag_examples};
+ghost use Rattle.elements.specs.Standard.{TypesAreTheStandards, NamesAreTheStandards};
+ghost use Rattle.elements.specs.Standard.{LayoutExamples, IsShownSo, IsJudgedSo};
+ghost use Rattle.elements.specs.Standard.{value_examples, tag_examples};
 ghost use Rattle.elements.specs.TimeTag.{verdict_of};
 
 /// The table of types is that of IEC 60870-5-101, 7.2.1 and 7.3: which octet names which type,
 /// which go in monitor direction, which have a time tag, and how many octets their elements have.
 pub fn types_are_the_standards()
     ensures { TypesAreTheStandards }
+{}
+
+/// The names are those of IEC 60870-5-101, 7.2.1 and 7.2.3, and of IEC 60870-5-104, 8: which
+/// numbers have one, how a type's name is made up, and that no two numbers have the same.
+pub fn names_are_the_standards()
+    ensures { NamesAreTheStandards }
 {}
 
 /// Elements and time tags worked by hand from 7.2.6: their octets, the values that they show, and

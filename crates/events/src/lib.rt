@@ -107,6 +107,7 @@ impl Events {
         requires asdus { AreAsdus pieces.items }
         ensures { self.new ≡ pushed (octets_of pieces.items) self.old }
     {
+        // I frames have no shorter ASDU (docs/DECISIONS.md, "Pieces of 9 octets at least").
         for piece in pieces {
             self.keep(piece);
         }

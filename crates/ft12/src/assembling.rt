@@ -15,6 +15,7 @@ use std::alloc::AllocError;
 use std::marker::Model;
 
 /// What an assembler hears in a piece.
+// The frame is in it, as `apci` has none in its own (docs/DECISIONS.md, "What `Heard` has in it").
 #[derive(Debug, PartialEq, Eq, Drop)]
 pub enum Heard {
     /// A whole frame.

@@ -70,12 +70,15 @@ pub trait Port {
     ghost failed: { Self → ℕ };
 
     /// No event comes any more.
+    // Without it no clause could say that a run ends where nothing comes (docs/DECISIONS.md, "When a
+    // run is finished").
     ghost ended: { Self → Bool };
 
     /// What is fixed from the start: where it is a list of events, those of a whole run, the oldest
     /// first.
     ghost Fixed: { Type 0 } = { List LogEntry };
 
+    // Each port chooses what that is (docs/DECISIONS.md, "A port's `script`").
     ghost script: { Self → Fixed };
 
     /// The next event. Its octets, at most 1,024, are put at the front of the buffer.

@@ -397,7 +397,7 @@ impl Gateway {
     {
         line_keeps_the_procedures();
         match event {
-            Event::Line(octets) => self.end_line(octets, fits, port),
+            Event::Line(_) => self.end_line(fits, port),
             Event::Open => self.begin(port),
             Event::Bytes(octets) => self.take_bytes(octets, port),
             Event::Cut => {
@@ -413,11 +413,11 @@ impl Gateway {
     }
 
     /// Closes the connection where the line brought an own answer that found no place.
-    fn end_line<P: Port>(&mut self, octets: &[u8], fits: bool, port: &mut P) -> bool
+    fn end_line<P: Port>(&mut self, fits: bool, port: &mut P) -> bool
         requires { P.failed port.old < u64.MAX }
-        ensures kept { (p : Setup) (s : State) (now : ℕ) →
-            Begins s now (LineIn octets.now) fits self.old →
-            IfSome (P.log port.old) (HasCome p s now (LineIn octets.now)) →
+        ensures kept { (p : Setup) (s : State) (now : ℕ) (octets : List ℕ) →
+            Begins s now (LineIn octets) fits self.old →
+            IfSome (P.log port.old) (HasCome p s now (LineIn octets)) →
             Leaves result p self.new (P.log port.new) [] Idle }
         ensures puts { Puts P.log P.script P.failed port.old port.new (faults_unless result) }
     {

@@ -25,7 +25,6 @@ pub mod Tidings
 pub mod Examples
 pub mod LineLaws
 pub mod Restored
-pub mod Outcomes
 pub mod Precedence
 pub mod Tables
 pub mod Bursts

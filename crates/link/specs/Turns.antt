@@ -1,10 +1,10 @@
 -- Turns: the stations are served in the order of the settings, each for a turn (this gateway's own
 -- profile; the requests that a turn has are those of IEC 60870-5-2's unbalanced transmission
 -- procedures).
-use Rattle.std.specs.Prelude.{ℕ, zero, suc, ◌&&◌, ◌||◌, nat_lt, Bool, true, false, not, List}
-use Rattle.std.specs.Prelude.{length, slice_index_or, Option, Some, None, if◌then◌else◌}
+use Rattle.std.specs.Prelude.{◌≡◌, ℕ, zero, suc, ◌&&◌, ◌||◌, nat_lt, Bool, true, false, not, List}
+use Rattle.std.specs.Prelude.{length, slice_index_or, is_some, Option, Some, None, if◌then◌else◌}
 use Rattle.link.specs.Answers.{Service, Class1, Class2, Command, Asked, Status, Reset, Counted}
-use Rattle.link.specs.Procedure.{Link, Down, Available, Next, Held}
+use Rattle.link.specs.Procedure.{Link, Down, Available, Next, Held, is_held}
 pub use Rattle.link.specs.declared.turn.StationState.{StationState}
 pub use Rattle.link.specs.declared.session.SessionState.{SessionState}
 pub use Rattle.link.specs.declared.turn.Phase.{Phase}
@@ -113,7 +113,7 @@ first_after burst may_poll stations (suc many) place =
     (place_after (length stations) place)
     (first_after burst may_poll stations many (place_after (length stations) place))
 
--- the request for an offered command, and for a held service (no wish is for one that isn't there)
+-- the request for an offered command, and for a held service
 abbrev pub offer_request : (fcb : Bool) → Option (List ℕ) → Asked
 offer_request fcb (Some asdu) = Counted fcb (Command asdu)
 offer_request fcb None = Status
@@ -121,6 +121,12 @@ offer_request fcb None = Status
 abbrev pub held_request : Link → Asked
 held_request (Held fcb service missed) = Counted fcb service
 held_request link = Status
+
+-- a wish for an offered command is that of a station that has one, and so with a held service
+abbrev pub IsPossible : StationState → Wish → Type 0
+IsPossible s (SendOffered fcb) = is_some s.offered ≡ true
+IsPossible s (SendHeld phase) = is_held s.link ≡ true
+IsPossible s wish = Unit {0}
 
 -- what a wish of a station stands for
 abbrev pub wished : StationState → Wish → Wanted

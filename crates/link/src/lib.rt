@@ -111,7 +111,7 @@ pub use laws::{
 };
 pub use master::Master;
 pub use no_memory::NoMemory;
-pub use outcome::{Outcome, OwnedOutcome, ReportRef};
+pub use outcome::{Outcome, ReportRef};
 pub use procedure::Link;
 pub use request::{Reading, Request, RequestKind, read_request};
 pub use seat::Seat;

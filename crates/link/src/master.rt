@@ -3,7 +3,7 @@ ghost use Rattle.std.specs.Prelude.{◌≡◌, ◌<◌, ◌≤◌, ◌+◌, List
 ghost use Rattle.std.specs.Prelude.{slice_index, ◌++◌, true, false, None, Some, IfSome, IfNone};
 ghost use Rattle.std.specs.Prelude.{IfOk, is_some, option_map, if◌then◌else◌};
 ghost use Rattle.link.specs.Counts.{saturated};
-ghost use Rattle.link.specs.Turns.{Over, station_at, wished, picked};
+ghost use Rattle.link.specs.Turns.{IsPossible, Over, station_at, wished, picked};
 ghost use Rattle.ft12.specs.Borrowed.{owned, FitsMemory};
 ghost use Rattle.ft12.specs.Fronts.{front_of};
 ghost use Rattle.link.specs.Requests.{IsUserData, FitsAddress, FitsAsked};
@@ -14,7 +14,6 @@ ghost use Rattle.link.specs.Primary.{station_unanswered, unanswered, miss_outcom
 ghost use Rattle.link.specs.Primary.{due_outcome, is_sending_command, may_offer, offered_to};
 ghost use Rattle.link.specs.Primary.{without_offer, withdrawn};
 ghost use Rattle.link.specs.Leave.{is_polling};
-ghost use Rattle.link.specs.Outcomes.{lent};
 ghost use Rattle.link.specs.declared.outcome.Outcome.TheVariants as outcome;
 ghost use Rattle.link.specs.Holding.{outstanding_of, IsFittingChoice, frame_after, so_far_after};
 ghost use Rattle.link.specs.Holding.{is_at_front, noted, completed, gathered, MayEnd, MayComplete};
@@ -28,7 +27,7 @@ use crate::asdu::CommandOctets;
 use crate::awaited::Awaited;
 use crate::control::{shows_acd, shows_dfc};
 use crate::no_memory::NoMemory;
-use crate::outcome::{Outcome, OwnedOutcome, told};
+use crate::outcome::{Outcome, told};
 use crate::procedure::Link;
 use crate::request::Request;
 use crate::service::{Asked, Service};
@@ -313,6 +312,8 @@ impl Master {
     fn choose(&self, may_poll: bool) -> Option<Pick>
         ensures chosen { option_map (picked self.now.stations) result ≡ choice self.now may_poll }
         ensures fits { IsFittingChoice self.now (option_map (picked self.now.stations) result) }
+        ensures possible { IfSome result (λ pick.
+            IsPossible (station_at self.now.stations pick.station) pick.wish) }
     {
         let station = nth_station(&self.stations, self.turn);
         match station.wish(self.settings.burst, may_poll, self.again, self.phase) {
@@ -389,10 +390,11 @@ impl Master {
 
     /// As `begin`, for any wish.
     fn begin_other(&mut self, now: u64, station: usize, wish: Wish) -> Request
-        requires { IsFittingChoice self.old (Some (record {
+        requires fits { IsFittingChoice self.old (Some (record {
           station = station;
           wanted = wished (station_at self.old.stations station) wish;
         })) }
+        requires possible { IsPossible (station_at self.old.stations station) wish }
         ensures state { self.new ≡ after_choice self.old now (Some (record {
           station = station;
           wanted = wished (station_at self.old.stations station) wish;
@@ -450,27 +452,34 @@ impl Master {
 
     /// Hears octets of the line, in any pieces, and says what came of the exchange: its answer is
     /// the frame at the front of its octets. Those that come while no request is outstanding, and
-    /// those after an answer or after what can't be one, are dropped. A report is copied; who wants
-    /// it lent calls the parts of this one: `hear_whole`, `gather_inner`, `gather` and `hear`, in
-    /// this order.
-    pub fn octets(&mut self, octets: &[u8]) -> OwnedOutcome
+    /// those after an answer or after what can't be one, are dropped. A report is lent: from the
+    /// octets, where the whole answer stands there, and else from `room`, in which an answer is put
+    /// that came in pieces.
+    pub fn octets<'a>(&mut self, octets: &'a [u8], room: &'a mut Option<Frame>) -> Outcome<'a>
         ensures state { self.new ≡ received (front_of self.old.settings.size) self.old octets.now }
-        ensures outcome { lent result
+        ensures outcome { result
             ≡ received_outcome (front_of self.old.settings.size) self.old octets.now }
     {
+        // Most answers come whole. A frame has a place only where it ends in these octets: to make
+        // one for each octet costs more than all else (docs/DECISIONS.md, "A place for an answer").
         if let Some(outcome) = self.hear_whole(octets) {
-            return outcome.to_owned_outcome();
+            return outcome;
         }
-        match self.gather(octets) {
-            Some(frame) => self.hear(frame.lent()).to_owned_outcome(),
-            None => OwnedOutcome::None,
+        let inner = self.gather_inner(octets);
+        if inner == octets.len() {
+            return Outcome::None;
+        }
+        *room = self.gather(&octets[inner..]);
+        match room {
+            Some(frame) => self.hear(frame.lent()),
+            None => Outcome::None,
         }
     }
 
-    /// A part of `octets`. Hears octets of the line with a whole frame at their front, where a
-    /// request is outstanding and these are the first octets that come: that is its answer. Else
-    /// nothing is heard, and nothing changes.
-    pub fn hear_whole<'a>(&mut self, octets: &'a [u8]) -> Option<Outcome<'a>>
+    /// Hears octets of the line with a whole frame at their front, where a request is outstanding
+    /// and these are the first octets that come: that is its answer. Else nothing is heard, and
+    /// nothing changes.
+    fn hear_whole<'a>(&mut self, octets: &'a [u8]) -> Option<Outcome<'a>>
         ensures whole { IfSome result (λ outcome.
             (self.new ≡ received (front_of self.old.settings.size) self.old octets.now)
             × (outcome
@@ -497,11 +506,10 @@ impl Master {
         }
     }
 
-    /// A part of `octets`. Gathers octets of the line up to one that may be the last of the answer,
-    /// and says how many: all where none may. The others are to be gathered as well
-    /// ([`Master::gather`]), and then what is heard is what all of them say. It makes no place for
-    /// a frame, so it is the first call for octets that aren't a whole answer.
-    pub fn gather_inner(&mut self, octets: &[u8]) -> usize
+    /// Gathers octets of the line up to one that may be the last of the answer, and says how many:
+    /// all where none may. The others are to be gathered as well, and then what is heard is what
+    /// all of them say. It makes no place for a frame.
+    fn gather_inner(&mut self, octets: &[u8]) -> usize
         ensures within { result ≤ length octets.now }
         ensures all { result ≡ length octets.now → (self.new
             ≡ received (front_of self.old.settings.size) self.old octets.now)
@@ -524,12 +532,11 @@ impl Master {
         }
     }
 
-    /// A part of `octets`. Gathers octets of the line, in any pieces, up to the frame that is the
-    /// answer: the one at the front of the octets of the exchange. Those that come while no request
-    /// is outstanding, and those after an answer or after what can't be one, are dropped. The frame
-    /// is to be heard ([`Master::hear`]).
+    /// Gathers octets of the line, in any pieces, up to the frame that is the answer: the one at
+    /// the front of the octets of the exchange. Those that come while no request is outstanding,
+    /// and those after an answer or after what can't be one, are dropped. The frame is to be heard.
     #[inline(never)]
-    pub fn gather(&mut self, octets: &[u8]) -> Option<Frame>
+    fn gather(&mut self, octets: &[u8]) -> Option<Frame>
         ensures frame { result ≡ completed (front_of self.old.settings.size) self.old octets.now }
         ensures whole { IfSome result (λ frame. (heard_from self.new self.new.outstanding frame
             ≡ received (front_of self.old.settings.size) self.old octets.now)
@@ -547,10 +554,10 @@ impl Master {
         }
     }
 
-    /// A part of `octets`. Hears the frame that is the answer to the outstanding request, and says
-    /// what came of the exchange. Asks for at most 253 octets of data.
+    /// Hears the frame that is the answer to the outstanding request, and says what came of the
+    /// exchange. Asks for at most 253 octets of data.
     #[inline(always)]
-    pub fn hear<'a>(&mut self, frame: FrameRef<'a>) -> Outcome<'a>
+    fn hear<'a>(&mut self, frame: FrameRef<'a>) -> Outcome<'a>
         requires { FitsMemory frame }
         ensures state { self.new ≡ heard_from self.old self.old.outstanding (owned frame.entry) }
         ensures outcome { result ≡ heard_outcome self.old self.old.outstanding (owned frame.entry) }

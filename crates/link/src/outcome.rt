@@ -1,12 +1,10 @@
 //! What the caller of a primary station is told of an exchange.
 ghost use Rattle.std.specs.Prelude.{◌≡◌, ◌≤◌, length};
-ghost use Rattle.link.specs.Outcomes.{lent};
 ghost use Rattle.link.specs.Primary.{outcome_by, with_gap};
 
 use crate::answer::Answer;
 use crate::asdu::AsduRef;
 use crate::service::Asked;
-use arrayvec::ArrayVec;
 use std::marker::Model;
 
 /// The octets of a report where its frame has them: at most 253.
@@ -49,6 +47,7 @@ impl<'a> ReportRef<'a> {
 }
 
 /// What came of an exchange. Stations are named by their index.
+// Its report isn't copied (docs/DECISIONS.md, "`Outcome` lends its report").
 #[derive(Drop)]
 pub enum Outcome<'a> {
     /// Nothing that the caller has to know.
@@ -70,51 +69,6 @@ pub enum Outcome<'a> {
     /// The station is down: it answered that the service isn't functioning or not implemented, or
     /// it stayed silent.
     Down(usize),
-}
-
-/// What came of an exchange, with a report of its own. As [`Outcome`].
-#[derive(Debug, PartialEq, Eq, Drop)]
-pub enum OwnedOutcome {
-    /// Nothing that the caller has to know.
-    None,
-    /// The link to the station was reset: it is up. No report is lost.
-    Started(usize),
-    /// The link to the station was reset: it is up. The session with this number ended with a poll
-    /// that wasn't answered by data or that there are none: its last report may be lost.
-    StartedGap(usize, u64),
-    /// A poll was answered with these data.
-    Report(usize, ArrayVec<u8, 253>),
-    /// A poll was answered that there are no data.
-    Empty(usize),
-    /// A command was confirmed.
-    Accepted(usize),
-    /// A command wasn't taken: the link is busy.
-    Busy(usize),
-    /// The station is down: it answered that the service isn't functioning or not implemented, or
-    /// it stayed silent.
-    Down(usize),
-}
-
-impl Outcome<'_> {
-    /// The same outcome with a report of its own, which it copies.
-    pub fn to_owned_outcome(&self) -> OwnedOutcome
-        ensures { lent result ≡ self.now }
-    {
-        match self {
-            Outcome::None => OwnedOutcome::None,
-            Outcome::Started(station) => OwnedOutcome::Started(*station),
-            Outcome::StartedGap(station, session) => {
-                OwnedOutcome::StartedGap(*station, *session)
-            }
-            Outcome::Report(station, report) => {
-                OwnedOutcome::Report(*station, ArrayVec::try_from(report.octets()).unwrap())
-            }
-            Outcome::Empty(station) => OwnedOutcome::Empty(*station),
-            Outcome::Accepted(station) => OwnedOutcome::Accepted(*station),
-            Outcome::Busy(station) => OwnedOutcome::Busy(*station),
-            Outcome::Down(station) => OwnedOutcome::Down(*station),
-        }
-    }
 }
 
 /// What an answer to the request is told as, where the station's session has this gap.

@@ -1,7 +1,9 @@
 //! Turns: what is sent next, and to which station.
-ghost use Rattle.std.specs.Prelude.{◌≡◌, ◌<◌, List, length, option_map, IfSome};
+ghost use Rattle.std.specs.Prelude.{◌≡◌, ◌<◌, List, length, option_map, IfSome, is_some, true};
+ghost use Rattle.link.specs.Procedure.{is_held};
 ghost use Rattle.link.specs.Turns.{is_poll, wanted_poll, polls_from, commands_from, next_of};
 ghost use Rattle.link.specs.Turns.{wanted, wished, offer_request, held_request, picked, station_at};
+ghost use Rattle.link.specs.Turns.{IsPossible};
 ghost use Rattle.link.specs.Turns.{place_after, first_after};
 
 use crate::asdu::CommandOctets;
@@ -87,8 +89,9 @@ pub(crate) fn poll_service(service: &Service) -> bool
 
 impl StationState {
     fn poll_wish(&self, burst: u8, fcb: bool, phase: Phase) -> Option<Wish>
-        ensures { option_map (wished self.now) result
+        ensures wish { option_map (wished self.now) result
             ≡ wanted_poll burst fcb self.now.acd phase }
+        ensures possible { IfSome result (λ wish. IsPossible self.now wish) }
     {
         match phase {
             // As ACD is now, behind the command (docs/DECISIONS.md, "ACD when the polls begin").
@@ -104,8 +107,9 @@ impl StationState {
     }
 
     fn polls_wish(&self, burst: u8, may_poll: bool, fcb: bool, phase: Phase) -> Option<Wish>
-        ensures { option_map (wished self.now) result
+        ensures wish { option_map (wished self.now) result
             ≡ polls_from burst may_poll fcb self.now phase }
+        ensures possible { IfSome result (λ wish. IsPossible self.now wish) }
     {
         // A report that finds no room would be lost, since the station has given it.
         if may_poll {
@@ -116,8 +120,9 @@ impl StationState {
     }
 
     fn commands_wish(&self, burst: u8, may_poll: bool, fcb: bool) -> Option<Wish>
-        ensures { option_map (wished self.now) result
+        ensures wish { option_map (wished self.now) result
             ≡ commands_from burst may_poll fcb self.now self.now.offered }
+        ensures possible { IfSome result (λ wish. IsPossible self.now wish) }
     {
         match &self.offered {
             // DFC asks for no more user data. A poll brings the station none.
@@ -127,8 +132,9 @@ impl StationState {
     }
 
     fn next_wish(&self, burst: u8, may_poll: bool, fcb: bool, phase: Phase) -> Option<Wish>
-        ensures { option_map (wished self.now) result
+        ensures wish { option_map (wished self.now) result
             ≡ next_of burst may_poll fcb self.now phase }
+        ensures possible { IfSome result (λ wish. IsPossible self.now wish) }
     {
         match phase {
             Phase::Starting | Phase::Commanding => self.commands_wish(burst, may_poll, fcb),
@@ -141,8 +147,9 @@ impl StationState {
 
     /// What the station's turn has next.
     pub(crate) fn wish(&self, burst: u8, may_poll: bool, again: bool, phase: Phase) -> Option<Wish>
-        ensures { option_map (wished self.now) result
+        ensures wish { option_map (wished self.now) result
             ≡ wanted burst may_poll again self.now phase }
+        ensures possible { IfSome result (λ wish. IsPossible self.now wish) }
     {
         match (&self.link, phase) {
             (Link::Down, Phase::Starting) => Some(Wish::AskStatus),
@@ -163,28 +170,29 @@ impl StationState {
 
     /// The request for the offered command.
     fn offered_request(&self, fcb: bool) -> Asked
+        requires { is_some self.now.offered ≡ true }
         ensures { result ≡ offer_request fcb self.now.offered }
     {
-        match &self.offered {
-            Some(command) => Asked::Counted(fcb, Service::Command(command.copied())),
-            // Never: only a station with an offered command has this wish.
-            None => Asked::Status,
-        }
+        let Some(command) = &self.offered else {
+            unreachable!();
+        };
+        Asked::Counted(fcb, Service::Command(command.copied()))
     }
 
     /// The request for the held service.
     fn held_request(&self) -> Asked
+        requires { is_held self.now.link ≡ true }
         ensures { result ≡ held_request self.now.link }
     {
-        match &self.link {
-            Link::Held(fcb, service, _) => Asked::Counted(*fcb, service.copied()),
-            // Never: only a link that holds a service has this wish.
-            _ => Asked::Status,
-        }
+        let Link::Held(fcb, service, _) = &self.link else {
+            unreachable!();
+        };
+        Asked::Counted(*fcb, service.copied())
     }
 
     /// The request that a wish stands for, and the phase that follows.
     pub(crate) fn wanted(&self, wish: Wish) -> Wanted
+        requires { IsPossible self.now wish }
         ensures { result ≡ wished self.now wish }
     {
         match wish {
@@ -248,6 +256,8 @@ pub(crate) fn first_wanted(
     ensures first { option_map (picked stations.now) result
         ≡ first_after burst may_poll stations.now (length stations.now) turn }
     ensures in_range { IfSome result (λ pick. pick.station < length stations.now) }
+    ensures possible { IfSome result (λ pick.
+        IsPossible (station_at stations.now pick.station) pick.wish) }
 {
     let mut place = turn;
     // All of them, and last the one that was served last: it may be the only one with a request.

@@ -58,6 +58,7 @@ pub fn drive_printed<P: Paged, W: Write, E: Write>(
     // Where nobody looks on, nothing is told.
     ensures unwatched { is_watched ≡ false → err.new ≡ err.old }
 {
+    // `replay` and `sim` share it (docs/DECISIONS.md, "The driver that prints").
     let is_told = is_watched && turns > STRIDE;
     let mut is_whole = was_whole;
     let mut done = 0;

@@ -1,3 +1,8 @@
 pub mod Text
-pub mod Passing
+pub mod Hearing
 pub mod Recorded
+pub mod LineLemmas
+pub mod PassingLemmas
+pub mod CompareLemmas
+pub mod RunLemmas
+pub mod BlockLemmas

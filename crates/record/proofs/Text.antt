@@ -11,8 +11,7 @@ use Rattle.traces.specs.Printed.{IsPrintable, entries_in, line_of_entry, lines_o
 use Rattle.traces.specs.Progress.{all_told}
 use Rattle.record.specs.Law.{grows_by}
 use Rattle.record.specs.Recording.{Recording, IsKept, Gives, Hears, Notes, added, text_of, log_of}
-use Rattle.record.specs.Recording.{told_behind, told_first, unless_over, passed, given, held_by}
-use Rattle.record.specs.Recording.{held_or_over}
+use Rattle.record.specs.Recording.{told_behind, unless_over, passed, given, held_by, held_or_over}
 use Rattle.record.specs.Written.{log_in, IsText, IsWritten, AreLines}
 
 -- two texts behind one another
@@ -212,11 +211,3 @@ gives_log old new g same =
 pub on_success : {T E : Type 0} (r : Result T E) (P : Type 0) → is_err r ≡ false → OnOk r P → P
 on_success (Ok v) P good h = h
 on_success (Err e) P good h = cc
-
--- A port
-
--- what is told first, with these news
-pub told_on : (a b c d : Option Log) (news : Log) → c ≡ tell a news → d ≡ tell b news
-    → told_first c d ≡ tell (told_first a b) news
-told_on None b c d news one other = rw (one, other) refl
-told_on (Some log) b c d news one other = rw one refl

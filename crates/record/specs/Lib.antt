@@ -2,3 +2,8 @@ pub mod Written
 pub mod Recording
 pub mod Law
 pub mod Examples
+pub mod Lines
+pub mod Passing
+pub mod Comparing
+pub mod Rerunning
+pub mod Audit

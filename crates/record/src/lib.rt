@@ -11,15 +11,20 @@
 //! line, while events and actions pass as before. The recorder's log is what this text tells, line
 //! by line, and behind it what the sheet was told that it missed: so what is proved of a run's log
 //! is proved of its record. Where the sheet doesn't tell them the log is that of the port inside.
+//!
+//! [`audit_text`] compares a recorded run with the run over its events.
 #![tactic(auto)]
 
+mod audit;
 mod examples;
 mod laws;
-mod lines;
 mod pen;
 mod recorder;
 mod sheet;
 
+pub use audit::examples::record_lines_by_example;
+pub use audit::passing::{event_line, is_action, is_cut, part_of};
+pub use audit::{RecordFault, Verdict, audit_text};
 pub use examples::{records_by_example, texts_are_read_by_example};
 pub use laws::a_record_is_the_text_of_what_passed;
 pub use pen::Pen;

@@ -4,23 +4,22 @@ ghost use Rattle.std.specs.List.{AllByRecursion};
 ghost use Rattle.gateway.specs.Log.{Went, tell};
 ghost use Rattle.gateway.specs.Ports.{FitsBuffer, output_of, told_by};
 ghost use Rattle.record.specs.Recording.{Gives, IsKept, Notes, added, held_or_over, log_of};
-ghost use Rattle.record.specs.Written.{AreLines, IsWritten};
+ghost use Rattle.record.specs.Written.{IsWritten};
 ghost use Rattle.traces.specs.Actions.{line_of};
 ghost use Rattle.traces.specs.Printed.{IsPrintable, lines_of_log};
 
-use crate::lines::event_line;
 use crate::sheet::Sheet;
 use gateway::{Action, Next};
 use std::alloc::Global;
 use std::marker::Model;
-use traces::{Page, print_action, printed_lines_read_back};
+use traces::{Page, print_action, print_event, printed_lines_read_back};
 
 /// Writes lines down, and gives them to its sheet, until that takes none any more. What it has
 /// written is always the lines of a log.
 #[derive(Drop)]
 pub struct Pen<W: Sheet + Drop> {
     alloc: Global,
-    pub(crate) sheet: W,
+    sheet: W,
     /// The lines that the sheet hasn't been given yet.
     held: Page,
     is_over: bool,
@@ -115,19 +114,6 @@ impl<W: Sheet + Drop> Pen<W> {
         self.is_over = true;
     }
 
-    /// Holds lines. Where there is no memory for them the record is over.
-    fn hold(&mut self, lines: &str) -> bool
-        requires { AreLines lines.now }
-        ensures { self.new ≡ held_or_over result lines.now self.old }
-    {
-        printed_lines_read_back();
-        if self.held.put(lines.as_bytes()).is_err() {
-            self.end();
-            return false;
-        }
-        true
-    }
-
     /// Holds the line of an event. Where there is no memory for it the record is over.
     fn hold_event(&mut self, next: Next, buf: &[u8; 1024]) -> bool
         requires { FitsBuffer next }
@@ -135,13 +121,12 @@ impl<W: Sheet + Drop> Pen<W> {
             ≡ held_or_over result (lines_of_log (told_by next buf.now)) self.old }
         ensures printable { result ≡ true → AllByRecursion IsPrintable (told_by next buf.now) }
     {
-        match event_line(self.alloc, next, buf) {
-            Ok(line) => self.hold(line.as_str()),
-            Err(_) => {
-                self.end();
-                false
-            }
+        printed_lines_read_back();
+        if print_event(self.alloc, &mut self.held, next, buf).is_err() {
+            self.end();
+            return false;
         }
+        true
     }
 
     /// Holds the line of an action. Where there is no memory for it the record is over.

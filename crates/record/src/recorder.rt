@@ -52,7 +52,7 @@ impl<P: Port + Drop, W: Sheet + Drop> Port for Recorder<P, W> {
 
     /// The line of the event is given to the sheet, with those of the step before, and only then is
     /// the event passed on: whoever reads the record knows each event that an action came from.
-    #[tactic(auto, using(crate::proofs::Passing::hears))]
+    #[tactic(auto, using(crate::proofs::Hearing::hears))]
     fn next(&mut self, buf: &mut [u8; 1024]) -> Next
         requires { P.failed self.old.port < u64.MAX }
         ensures told { told_first (log_of self.new.pen) (P.log self.new.port)
@@ -109,6 +109,3 @@ impl<P: Watched + Drop, W: Sheet + Drop> Watched for Recorder<P, W> {
         self.port.tend(gateway)
     }
 }
-
-#[cfg(test)]
-mod tests;

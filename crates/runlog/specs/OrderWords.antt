@@ -2,9 +2,9 @@
 -- names of types are those of IEC 60870-5-101, 7.2.1).
 use Rattle.std.specs.Prelude.{ℕ, ◌/◌, List, [], ◌++◌, Option, Some, None, codes}
 use Rattle.std.specs.Fmt.{decimal}
+use Rattle.std.specs.Option.{option_and}
+use Rattle.elements.specs.Names as standard
 use Rattle.elements.specs.Types.{type_of}
-use Rattle.elements.specs.declared.types.TypeId.{TypeId}
-use Rattle.elements.specs.declared.types.TypeId.TheVariants as type_id
 use Rattle.command.specs.declared.refusal.Refusal.{Refusal}
 use Rattle.command.specs.declared.refusal.Refusal.TheVariants as refusal
 use Rattle.runlog.specs.declared.order.Act.{Act}
@@ -17,51 +17,25 @@ use Rattle.runlog.specs.declared.fate.Reason.TheVariants as reason
 use Rattle.runlog.specs.declared.fate.CommandFate.{CommandFate}
 use Rattle.runlog.specs.declared.fate.CommandFate.TheVariants as fate
 
-abbrev pub name_of : TypeId → List ℕ
-name_of type_id.MSpNa1 = codes "M_SP_NA_1"
-name_of type_id.MDpNa1 = codes "M_DP_NA_1"
-name_of type_id.MStNa1 = codes "M_ST_NA_1"
-name_of type_id.MBoNa1 = codes "M_BO_NA_1"
-name_of type_id.MMeNa1 = codes "M_ME_NA_1"
-name_of type_id.MMeNb1 = codes "M_ME_NB_1"
-name_of type_id.MMeNc1 = codes "M_ME_NC_1"
-name_of type_id.MItNa1 = codes "M_IT_NA_1"
-name_of type_id.MSpTb1 = codes "M_SP_TB_1"
-name_of type_id.MDpTb1 = codes "M_DP_TB_1"
-name_of type_id.MStTb1 = codes "M_ST_TB_1"
-name_of type_id.MBoTb1 = codes "M_BO_TB_1"
-name_of type_id.MMeTd1 = codes "M_ME_TD_1"
-name_of type_id.MMeTe1 = codes "M_ME_TE_1"
-name_of type_id.MMeTf1 = codes "M_ME_TF_1"
-name_of type_id.MItTb1 = codes "M_IT_TB_1"
-name_of type_id.MEiNa1 = codes "M_EI_NA_1"
-name_of type_id.CScNa1 = codes "C_SC_NA_1"
-name_of type_id.CDcNa1 = codes "C_DC_NA_1"
-name_of type_id.CRcNa1 = codes "C_RC_NA_1"
-name_of type_id.CSeNa1 = codes "C_SE_NA_1"
-name_of type_id.CSeNb1 = codes "C_SE_NB_1"
-name_of type_id.CIcNa1 = codes "C_IC_NA_1"
-name_of type_id.CScTa1 = codes "C_SC_TA_1"
-name_of type_id.CDcTa1 = codes "C_DC_TA_1"
-name_of type_id.CRcTa1 = codes "C_RC_TA_1"
-name_of type_id.CSeTa1 = codes "C_SE_TA_1"
-name_of type_id.CSeTb1 = codes "C_SE_TB_1"
+-- the standard's name of the type that an octet names, if this gateway carries the type
+abbrev pub name_of : ℕ → Option (List ℕ)
+name_of octet = option_and (type_of octet) (standard.type_name octet)
 
--- the name of the type, where it is known, or else its number
-abbrev pub type_words_by : Option TypeId → ℕ → List ℕ
-type_words_by (Some kind) octet = name_of kind
+-- the name of the type, or else its number
+abbrev pub type_words_by : Option (List ℕ) → ℕ → List ℕ
+type_words_by (Some name) octet = name
 type_words_by None octet = codes "type " ++ decimal octet
 
 abbrev pub type_words : ℕ → List ℕ
-type_words octet = type_words_by (type_of octet) octet
+type_words octet = type_words_by (name_of octet) octet
 
--- the name of the type, where it is known, behind a blank
-abbrev pub type_name_by : Option TypeId → List ℕ
-type_name_by (Some kind) = codes " " ++ name_of kind
+-- the name of the type behind a blank, or else nothing
+abbrev pub type_name_by : Option (List ℕ) → List ℕ
+type_name_by (Some name) = codes " " ++ name
 type_name_by None = []
 
 abbrev pub type_name : ℕ → List ℕ
-type_name octet = type_name_by (type_of octet)
+type_name octet = type_name_by (name_of octet)
 
 abbrev pub act_words : Act → List ℕ
 act_words act.Select = codes " select"

@@ -1,56 +1,28 @@
 //! The words for commands.
 ghost use Rattle.std.specs.Prelude.{◌≡◌};
 ghost use Rattle.std.specs.Fmt.{WritesOnOk};
+ghost use Rattle.std.specs.Option.{option_copied};
 ghost use Rattle.runlog.specs.OrderWords as spec;
 
 use crate::fate::{CommandFate, Reason};
 use crate::order::{Act, Order, Value};
 use command::Refusal;
-use elements::{TypeId, kind};
+use elements::{kind, type_name};
 use std::fmt;
 
-/// The standard's name of a type.
-fn name_of(kind: TypeId) -> &'static str
-    ensures { result.now ≡ spec.name_of kind }
+/// The standard's name of the type that an octet names, if this gateway carries the type.
+fn name_of(octet: u8) -> Option<&'static str>
+    ensures { option_copied result ≡ spec.name_of octet }
 {
-    match kind {
-        TypeId::MSpNa1 => "M_SP_NA_1",
-        TypeId::MDpNa1 => "M_DP_NA_1",
-        TypeId::MStNa1 => "M_ST_NA_1",
-        TypeId::MBoNa1 => "M_BO_NA_1",
-        TypeId::MMeNa1 => "M_ME_NA_1",
-        TypeId::MMeNb1 => "M_ME_NB_1",
-        TypeId::MMeNc1 => "M_ME_NC_1",
-        TypeId::MItNa1 => "M_IT_NA_1",
-        TypeId::MSpTb1 => "M_SP_TB_1",
-        TypeId::MDpTb1 => "M_DP_TB_1",
-        TypeId::MStTb1 => "M_ST_TB_1",
-        TypeId::MBoTb1 => "M_BO_TB_1",
-        TypeId::MMeTd1 => "M_ME_TD_1",
-        TypeId::MMeTe1 => "M_ME_TE_1",
-        TypeId::MMeTf1 => "M_ME_TF_1",
-        TypeId::MItTb1 => "M_IT_TB_1",
-        TypeId::MEiNa1 => "M_EI_NA_1",
-        TypeId::CScNa1 => "C_SC_NA_1",
-        TypeId::CDcNa1 => "C_DC_NA_1",
-        TypeId::CRcNa1 => "C_RC_NA_1",
-        TypeId::CSeNa1 => "C_SE_NA_1",
-        TypeId::CSeNb1 => "C_SE_NB_1",
-        TypeId::CIcNa1 => "C_IC_NA_1",
-        TypeId::CScTa1 => "C_SC_TA_1",
-        TypeId::CDcTa1 => "C_DC_TA_1",
-        TypeId::CRcTa1 => "C_RC_TA_1",
-        TypeId::CSeTa1 => "C_SE_TA_1",
-        TypeId::CSeTb1 => "C_SE_TB_1",
-    }
+    kind(octet).and(type_name(octet))
 }
 
 /// Writes the name of the type that an octet names, or its number.
 pub(crate) fn write_type<W: fmt::Write>(octet: u8, f: &mut fmt::Formatter<W>) -> fmt::Result
     ensures { WritesOnOk W.write_str_gives f.old result (spec.type_words octet) f.new }
 {
-    match kind(octet) {
-        Some(kind) => f.write_str(name_of(kind)),
+    match name_of(octet) {
+        Some(name) => f.write_str(name),
         None => write!(f, "type {octet}"),
     }
 }
@@ -59,11 +31,8 @@ pub(crate) fn write_type<W: fmt::Write>(octet: u8, f: &mut fmt::Formatter<W>) ->
 pub(crate) fn write_type_name<W: fmt::Write>(octet: u8, f: &mut fmt::Formatter<W>) -> fmt::Result
     ensures { WritesOnOk W.write_str_gives f.old result (spec.type_name octet) f.new }
 {
-    match kind(octet) {
-        Some(kind) => {
-            let name = name_of(kind);
-            write!(f, " {name}")
-        }
+    match name_of(octet) {
+        Some(name) => write!(f, " {name}"),
         None => Ok(()),
     }
 }

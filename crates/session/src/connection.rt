@@ -255,6 +255,7 @@ impl Session {
         ensures outcome { result ≡ outcome_of self.old (owned apdu.entry) }
         ensures session { self.new ≡ taken (owned apdu.entry) now self.old }
     {
+        // Of any session: the machine is total (docs/DECISIONS.md, "`take` requires nothing").
         let outcome = self.judge(apdu);
         // Whatever it says, a frame came: t3 starts anew.
         self.last_frame = now;
@@ -338,6 +339,7 @@ impl Session {
                 self.reply = Some(Uf::StartCon);
             }
             // Its con waits until no sent I frame is unacknowledged (IEC 60870-5-104, 5.3).
+            // A second one changes nothing (docs/DECISIONS.md, "STOPDT act while one is pending").
             Uf::StopAct => self.turn_to(Transfer::Stopping),
             // One place for a reply is enough: the caller takes each before the next frame.
             Uf::TestAct => self.reply = Some(Uf::TestCon),
@@ -424,6 +426,7 @@ impl Session {
         ensures due { (option_map apdu_of result, self.new) ≡ confirmed self.old }
         ensures fits { IfSome result (λ frame. Fits (apdu_of frame)) }
     {
+        // The gateway calls this one (docs/DECISIONS.md, "Short answers of the session").
         if !self.is_open() {
             return None;
         }

@@ -54,6 +54,7 @@ pub fn given<'a>(table: Option<&'a Table>, key: &str) -> Option<&'a Value>
 fn whole_number(value: &Value) -> Option<u32>
     ensures { result ≡ number_of (as_integer (view value.now)) }
 {
+    // `1.0` is none (docs/DECISIONS.md, "Whole numbers").
     match value.as_integer() {
         Some(n) => u32::try_from(n).ok(),
         None => None,

@@ -6,7 +6,6 @@ pub mod Numbered
 pub mod Lives
 pub mod Tallies
 pub mod Connections
-pub mod Pages
 pub mod Calls
 pub mod Dues
 pub mod Played

@@ -53,7 +53,6 @@ mod laws;
 mod line;
 mod numbered;
 mod paged;
-mod printout;
 mod reading;
 mod script;
 mod sim;

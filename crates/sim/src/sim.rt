@@ -19,7 +19,6 @@ use crate::connections::Connections;
 use crate::directive::Directive;
 use crate::due::Due;
 use crate::hearing::{arriving, put_out};
-use crate::printout::Printout;
 use crate::script::Script;
 use crate::tallies::Tallies;
 use crate::tally::StationTally;
@@ -29,6 +28,7 @@ use link::{NoMemory, Station, station_is_an_outstation};
 use session::Close;
 use std::alloc::{AllocError, Global};
 use std::marker::Model;
+use traces::Printout;
 
 /// A line whose stations and control centre do as a script says, as the port of a gateway. The
 /// lines of actions stand on a page, until they are taken off it; its log is stored nowhere.

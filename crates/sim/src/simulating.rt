@@ -57,6 +57,7 @@ pub fn simulate_watched<W: Write, E: Write>(
     requires { FitsSettings config.now script.now }
     ensures { IsSimulation config.now script.now (W.contents out.old) (W.contents out.new) result }
 {
+    // One run with one contract (docs/DECISIONS.md, "`simulate_watched`").
     run(alloc, config, script, true, out, err)
 }
 

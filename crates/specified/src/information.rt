@@ -1,5 +1,5 @@
 //! Elements and time tags: the crate `elements` (IEC 60870-5-101, 7.2.2 and 7.2.6).
-use elements::{Cp56, Element, Nva, TypeId, Verdict, judge, kind};
+use elements::{Cp56, Element, Nva, TypeId, Verdict, cause_name, judge, kind, type_name};
 
 /// Thursday 2024-02-29 12:34:56.789.
 const THURSDAY: [u8; 7] = [0xD5, 0xDD, 0x22, 0x0C, 0x9D, 0x02, 0x18];
@@ -27,4 +27,6 @@ fn elements_and_tags(rt: HostRuntime) {
     let mut no_day = THURSDAY;
     no_day[6] = 0x17;
     assert_eq!(rt; judge(&Cp56(no_day)), Verdict::NoSuchDay);
+    assert_eq!(rt; type_name(103), Some("C_CS_NA_1"));
+    assert_eq!(rt; cause_name(44), Some("unknown type"));
 }

@@ -3,7 +3,7 @@ ghost use Rattle.std.specs.Prelude.{◌≡◌, ◌<◌, length};
 ghost use Rattle.ft12.specs.declared.frame.LinkSize.TheVariants.{One};
 
 use ft12::{Frame, LinkSize};
-use link::{LinkSettings, Master, NoMemory, Outcome, OwnedOutcome, Request, Station};
+use link::{LinkSettings, Master, NoMemory, Outcome, Request, Station};
 use std::process::Abort;
 
 /// One-octet addresses, no repeats; a service that isn't answered is held.
@@ -47,9 +47,9 @@ fn starts_the_second(rt: &impl Abort, master: &mut Master) {
     assert!(rt; sends(master.next(0, true), &STATUS));
     assert!(rt; matches!(master.due(200), Outcome::None));
     assert!(rt; sends(master.next(200, true), &[0x10, 0x49, 0x02, 0x4B, 0x16]));
-    assert!(rt; master.octets(&[0x10, 0x0B, 0x02, 0x0D, 0x16]) == OwnedOutcome::None);
+    assert!(rt; matches!(master.octets(&[0x10, 0x0B, 0x02, 0x0D, 0x16], &mut None), Outcome::None));
     assert!(rt; sends(master.next(201, true), &[0x10, 0x40, 0x02, 0x42, 0x16]));
-    assert!(rt; master.octets(&[0xE5]) == OwnedOutcome::Started(1));
+    assert!(rt; matches!(master.octets(&[0xE5], &mut None), Outcome::Started(1)));
     assert!(rt; sends(master.next(202, true), &STATUS));
 }
 
@@ -59,9 +59,9 @@ fn sends_a_command(rt: &impl Abort, master: &mut Master)
     requires size { master.old.settings.size ≡ One }
 {
     let _ = master.next(0, true);
-    let _ = master.octets(&[0x10, 0x0B, 0x01, 0x0C, 0x16]);
+    let _ = master.octets(&[0x10, 0x0B, 0x01, 0x0C, 0x16], &mut None);
     let _ = master.next(10, true);
-    assert!(rt; master.octets(&[0xE5]) == OwnedOutcome::Started(0));
+    assert!(rt; matches!(master.octets(&[0xE5], &mut None), Outcome::Started(0)));
     assert!(rt; sends(master.next(20, true), &POLL));
     assert!(rt; matches!(master.due(219), Outcome::None));
     // One command of a station at a time; what never went out is taken back.
@@ -72,10 +72,10 @@ fn sends_a_command(rt: &impl Abort, master: &mut Master)
     master.withdraw();
     assert!(rt; 0 < master.count());
     assert!(rt; master.offer(0, &EXECUTE));
-    assert!(rt; master.octets(&[0xE5]) == OwnedOutcome::Empty(0));
+    assert!(rt; matches!(master.octets(&[0xE5], &mut None), Outcome::Empty(0)));
     assert!(rt; sends(master.next(40, true), &COMMAND));
     // An exchange that had octets and no answer is spoilt.
-    assert!(rt; master.octets(&[0x00]) == OwnedOutcome::None);
+    assert!(rt; matches!(master.octets(&[0x00], &mut None), Outcome::None));
     assert!(rt; matches!(master.due(240), Outcome::None));
     assert_eq!(rt; master.spoilt(), 1);
 }

@@ -1,9 +1,9 @@
 -- The answer to an audit.
 use Rattle.std.specs.Prelude.{ℕ, List, Option, Result, Ok, Err, MatchResult}
-use Rattle.audit.specs.Audit.{IsAudit, IsAuditFault, OfGiven}
-use Rattle.audit.specs.declared.audit.RecordFault.{RecordFault}
-use Rattle.audit.specs.declared.audit.RecordFault.TheVariants as faults
-use Rattle.audit.specs.declared.audit.Verdict.{Verdict}
+use Rattle.record.specs.Audit.{IsAudit, IsAuditFault, OfGiven}
+use Rattle.record.specs.declared.audit.RecordFault.{RecordFault}
+use Rattle.record.specs.declared.audit.RecordFault.TheVariants as faults
+use Rattle.record.specs.declared.audit.Verdict.{Verdict}
 use Rattle.gateway.specs.Config.{Settings}
 use Rattle.settings.specs.Settings.{IsReadOfText}
 use Rattle.telegate.specs.Audits.{IsToldOf, IsMemory, IsAuditedBy, fault_of_lem}

@@ -6,7 +6,7 @@ use Rattle.std.proofs.lemmas.List.{append-nil, length-append}
 use Rattle.std.specs.Option.{is_none}
 use Rattle.std.specs.Prelude.{IfSome}
 use Rattle.std.specs.Io.KnownBytes.{Keeps}
-use Rattle.blocks.specs.Reading.{AreCutOff, IsGiven, Reading}
+use Rattle.traces.specs.Blocks.{AreCutOff, IsGiven, Reading}
 use Rattle.gateway.specs.Agrees.{Follows}
 use Rattle.gateway.specs.Log.{Log, LogEntry, events_of}
 use Rattle.gateway.specs.Reports.{Setup}
@@ -34,9 +34,9 @@ use Rattle.telegate.proofs.Kept.{keeps_same}
 use Rattle.telegate.proofs.Poured.{appends_none, poured_begun}
 use Rattle.traces.proofs.JoinedLemmas.{events_joined, lines_joined, wrong_behind, wrong_before}
 use Rattle.traces.proofs.JoinedLemmas.{none_wrong_from}
-use Rattle.audit.specs.Record.{event_lines, whole_lines}
-use Rattle.audit.proofs.LineLemmas.{whole_joined}
-use Rattle.audit.proofs.RunLemmas.{lines_behind}
+use Rattle.record.specs.Lines.{event_lines, whole_lines}
+use Rattle.record.proofs.LineLemmas.{whole_joined}
+use Rattle.record.proofs.RunLemmas.{lines_behind}
 use Rattle.telegate.proofs.TextLemmas.{few_events}
 
 -- What is left

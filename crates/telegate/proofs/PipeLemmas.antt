@@ -4,7 +4,7 @@ use Rattle.std.proofs.Common.{None, refl, sym, subst, ap, ◌∙◌, append_asso
 use Rattle.std.proofs.lemmas.List.{append-nil}
 use Rattle.std.specs.Prelude.{IfSome, Result, Ok, Err}
 use Rattle.std.specs.Io.KnownBytes.{Appends, Keeps}
-use Rattle.blocks.specs.Reading.{AreCutOff, IsGiven, Reading}
+use Rattle.traces.specs.Blocks.{AreCutOff, IsGiven, Reading}
 use Rattle.show.specs.declared.outcome.Outcome.{Outcome}
 use Rattle.show.specs.declared.outcome.Shown.{Shown}
 use Rattle.show.specs.declared.outcome.Outcome.TheVariants.{Good, Faulty}

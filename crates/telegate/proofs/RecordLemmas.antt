@@ -6,10 +6,10 @@ use Rattle.std.proofs.lemmas.List.{append-nil}
 use Rattle.std.proofs.lemmas.List.Folds.{list_any-append}
 use Rattle.std.specs.List.{list_any}
 use Rattle.std.specs.Prelude.{IfSome}
-use Rattle.audit.specs.Passing.{IsOneLine}
-use Rattle.audit.specs.Record.{event_line, event_lines, is_action, is_cut, whole_lines}
-use Rattle.audit.proofs.LineLemmas.{one_line}
-use Rattle.blocks.specs.Reading.{AreCutOff, IsGiven, Reading}
+use Rattle.record.specs.Passing.{IsOneLine}
+use Rattle.record.specs.Lines.{event_line, event_lines, is_action, is_cut, whole_lines}
+use Rattle.record.proofs.LineLemmas.{one_line}
+use Rattle.traces.specs.Blocks.{AreCutOff, IsGiven, Reading}
 use Rattle.traces.specs.Fields.{parts_after}
 use Rattle.traces.specs.Trace.{lines_of}
 use Rattle.traces.proofs.JoinedLemmas.{lines_joined}

@@ -1,11 +1,11 @@
 -- What the audit of a recorded run answers (this gateway's own profile).
 use Rattle.std.specs.Prelude.{◌≡◌, ℕ, codes, List, [], ◌∷◌, ◌++◌, Result, Ok, Err, MatchResult}
 use Rattle.std.specs.Fmt.{decimal}
-use Rattle.audit.specs.Audit.{IsAudit, IsWrongLine}
-use Rattle.audit.specs.declared.audit.RecordFault.{RecordFault}
-use Rattle.audit.specs.declared.audit.RecordFault.TheVariants as faults
-use Rattle.audit.specs.declared.audit.Verdict.{Verdict}
-use Rattle.audit.specs.declared.audit.Verdict.TheVariants.{Same, Differs}
+use Rattle.record.specs.Audit.{IsAudit, IsWrongLine}
+use Rattle.record.specs.declared.audit.RecordFault.{RecordFault}
+use Rattle.record.specs.declared.audit.RecordFault.TheVariants as faults
+use Rattle.record.specs.declared.audit.Verdict.{Verdict}
+use Rattle.record.specs.declared.audit.Verdict.TheVariants.{Same, Differs}
 use Rattle.gateway.specs.Config.{Settings}
 use Rattle.settings.specs.Settings.{IsReadOfText}
 use Rattle.telegate.specs.declared.answer.Answer.{Answer}

@@ -1,7 +1,7 @@
 -- How a text is read: as a trace, or as a record of a run (this gateway's own profile).
 use Rattle.std.specs.Prelude.{◌≡◌, ℕ, Bool, true, false, not, ◌&&◌, List, ◌∷◌}
 use Rattle.std.specs.List.{list_any}
-use Rattle.audit.specs.Record.{event_lines, is_action, whole_lines}
+use Rattle.record.specs.Lines.{event_lines, is_action, whole_lines}
 use Rattle.gateway.specs.Log.{Came, LogEntry, Ticked}
 use Rattle.traces.specs.Progress.{events_in}
 use Rattle.traces.specs.Trace.{is_skipped, lines_of}

@@ -1,2 +1,2 @@
--- What a text is, as far as a reader of it notes.
-pub use Rattle.blocks.specs.Reading.{Gives}
+-- What a text is, as far as a reader of it tells.
+pub use Rattle.traces.specs.Blocks.{Gives}

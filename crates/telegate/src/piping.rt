@@ -13,12 +13,11 @@ use crate::fault::{BAD_CONTENT, DONE, Fault};
 use crate::performing::{print, tell};
 use crate::replay::{advance, open};
 use crate::source::Source;
-use blocks::Blocks;
 use show::{LineSizes, Outcome, Shown};
 use std::alloc::{AllocError, Global};
 use std::io;
 use std::io::{Read, Write};
-use traces::cut;
+use traces::{Blocks, cut};
 use words::{both, read_line_of_octets, tell_apdus, tell_line_frames};
 
 /// What frames come by a pipe.

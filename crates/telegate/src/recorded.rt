@@ -1,18 +1,17 @@
 //! A text that is a record in the place of a trace: its events are run.
 ghost use Rattle.std.specs.List.{list_any};
 ghost use Rattle.std.specs.Prelude.{◌≡◌, [], false, IfErr, IfOk, OnOk};
-ghost use Rattle.audit.specs.Record.{event_lines};
+ghost use Rattle.record.specs.Lines.{event_lines};
 ghost use Rattle.traces.specs.Trace.{lines_of};
 ghost use Rattle.telegate.specs.Parts.{IsFoundIn, IsPartRead, IsWant};
 ghost use Rattle.telegate.specs.Records.{tells_action};
 
 use crate::fault::Fault;
 use crate::replay::advance;
-use audit::{event_line, is_action, part_of};
-use blocks::Blocks;
+use record::{event_line, is_action, part_of};
 use std::alloc::{AllocError, Global};
 use std::io::Read;
-use traces::{Pause, cut, is_skipped};
+use traces::{Blocks, Pause, cut, is_skipped};
 
 const LINE_FEED: u8 = b'\n';
 

@@ -1,7 +1,7 @@
 //! The command that runs the gateway over a trace.
 ghost use Rattle.std.specs.Prelude.{◌≡◌, ◌⊎◌, ◌+◌, ◌<◌, ℕ, List, Option, false, true, length, IfOk};
 ghost use Rattle.std.specs.Prelude.{IfErr, IfSome, OnOk, OnErr};
-ghost use Rattle.blocks.specs.Reading.{IsGiven};
+ghost use Rattle.traces.specs.Blocks.{IsGiven};
 ghost use Rattle.traces.specs.Actions.{lines_of_actions};
 ghost use Rattle.traces.specs.Progress.{AreRight};
 ghost use Rattle.traces.specs.Trace.{lines_of};
@@ -23,12 +23,11 @@ use crate::printed::{blank_if, drive_printed, print_closing, tell_percent};
 use crate::recorded::{is_record, read_part};
 use crate::source::Source;
 use crate::telling::run_told;
-use blocks::{BlockFault, Blocks};
 use delivery::nothing_is_lost;
 use gateway::{Config, End, Gateway, steps_keep_their_order};
 use std::alloc::Global;
 use std::io::{Read, Write};
-use traces::{Pause, TextFault, judge};
+use traces::{BlockFault, Blocks, Pause, TextFault, judge};
 
 /// So many octets of a trace pass before it is said how far a run has come: 2^25, a quarter of a
 /// second.

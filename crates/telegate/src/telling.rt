@@ -13,13 +13,12 @@ use crate::fault::Fault;
 use crate::manner::style_of;
 use crate::recorded::{pause_before, read_part};
 use crate::replay::{advance, close, fault_in, turns_of};
-use blocks::Blocks;
 use delivery::nothing_is_lost;
 use gateway::{Config, End, Gateway, steps_keep_their_order};
 use ladder::{Ladder, Scribe, Style, drive_told};
 use std::alloc::Global;
 use std::io::{Read, Write};
-use traces::Pause;
+use traces::{Blocks, Pause};
 
 /// Runs the gateway over a trace or a record that was judged, and prints its events and actions in
 /// words. An output that fails is written to no more, and said at the end.

@@ -6,7 +6,7 @@ use Rattle.std.specs.Prelude.{position, nat_lt, IfSome}
 use Rattle.std.specs.List.{slice_split, position_from, position_or_len}
 use Rattle.std.proofs.lemmas.Iterator.Adapters.{position_from-zero}
 use Rattle.std.proofs.lemmas.List.{length-take-le, take-append-drop}
-use Rattle.std.proofs.lemmas.Bool.{ltb-true, lt-ltb}
+use Rattle.std.proofs.lemmas.Bool.{ltb-true, lt-ltb, false_from_ne_true}
 use Rattle.std.proofs.lemmas.List.Sums.{fails_before_first, position_or_len_is}
 use Rattle.std.proofs.lemmas.List.Splits.{slice_split_first, slice_split_none}
 use Rattle.memchr.specs.Find.{IsFirstByte}
@@ -52,17 +52,12 @@ cut_nowhere text separator none = by_case (nat_lt n (length text)) refl none
         beyond a b e = grind arith
 
 -- the octet that a search finds is at the first position
-
-fails : (b : Bool) → (b ≡ true → ⊥) → b ≡ false
-fails true h = absurd (h refl)
-fails false h = refl
-
 pub found_first : (test : ℕ → Bool) (text : List ℕ) (r : Option ℕ) → IsFirstByte test text r
     → r ≡ position test text
 found_first test text None h =
     let n : position_or_len test text ≡ length text =
     position_or_len_is test text (length text) 0 (omega arith)
-    (λ k lt. fails _ (h k (omega arith) lt))
+    (λ k lt. false_from_ne_true _ (h k (omega arith) lt))
     (λ lt. absurd (omega (arith, lt))) in
     let off : nat_lt (position_or_len test text) (length text) ≡ false = grind (arith, n) in
     sym (ap (λ b. cond b (Some (position_or_len test text)) None) off)
@@ -71,7 +66,7 @@ found_first test text (Some i) h =
     let high = before.high in
     let n : position_or_len test text ≡ i =
     position_or_len_is test text i 0 (omega arith)
-    (λ k lt. fails _ (before.before k (omega arith) lt)) (λ lt. h.1) in
+    (λ k lt. false_from_ne_true _ (before.before k (omega arith) lt)) (λ lt. h.1) in
     let on : nat_lt (position_or_len test text) (length text) ≡ true =
     lt-ltb (position_or_len test text) (length text) (omega (arith, n)) in
     sym (ap (λ b. cond b (Some (position_or_len test text)) None) on ∙ ap Some n)

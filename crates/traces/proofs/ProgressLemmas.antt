@@ -11,12 +11,11 @@ use Rattle.gateway.specs.declared.entries.Entry.{Entry}
 use Rattle.gateway.specs.declared.entries.Entry.TheVariants.{Line, Open, Bytes, Cut, Tick, Wall}
 use Rattle.gateway.specs.declared.ports.Next.{Next}
 use Rattle.gateway.specs.declared.ports.Next.TheVariants as answers
-use Rattle.traces.specs.Actions.{line_of, lines_of_actions}
 use Rattle.traces.specs.Event.{Event, event_of, event_in}
 use Rattle.traces.specs.Fields.{parts_after}
 use Rattle.traces.specs.FirstLines.{first_line, later_lines}
 use Rattle.traces.specs.Progress.{came, events_in, script_in, IsRight, Progress, Standing}
-use Rattle.traces.specs.Progress.{IsStanding, events_left, events_of_part, coming_in, IsProgress}
+use Rattle.traces.specs.Progress.{events_left, events_of_part, coming_in, IsProgress}
 use Rattle.traces.specs.Progress.{tells_event}
 use Rattle.traces.specs.Trace.{lines_of, is_skipped, told, first_wrong}
 use Rattle.traces.proofs.FirstLineLemmas.{lines_first}
@@ -82,7 +81,7 @@ judged_next n m left rest text is later counted =
 -- The port
 
 -- a part begins
-pub begun : (text : List ℕ) (s : Standing) (earlier : Log) → earlier ≡ s.log → IsStanding s
+pub begun : (text : List ℕ) (s : Standing) (earlier : Log) → earlier ≡ s.log
     → IsProgress (record {
       part = record { text = text; is_first = not s.started; earlier = earlier };
       left = Some text;
@@ -92,9 +91,8 @@ pub begun : (text : List ℕ) (s : Standing) (earlier : Log) → earlier ≡ s.l
       page = s.page;
       failed = s.failed;
     })
-begun text s earlier same holds = record {
+begun text s earlier same = record {
   whole = by s.started;
-  lines = holds.lines;
   right = none_wrong 1 (lines_of text);
   first = λ fresh. refl;
 }
@@ -106,13 +104,9 @@ begun text s earlier same holds = record {
 
 -- an action was printed
 pub went : (p : Progress) (page : List ℕ) (now : ℕ) (action : Output) → IsProgress p
-    → page ≡ p.page ++ line_of now action →
-    IsProgress (record p { log = Went now action ∷ p.log; page = page })
-went p page now action holds printed = record {
+    → IsProgress (record p { log = Went now action ∷ p.log; page = page })
+went p page now action holds = record {
   whole = holds.whole;
-  lines = ap (λ xs. lines_of_actions p.poured ++ xs) printed
-      ∙ sym (append_assoc (lines_of_actions p.poured) p.page (line_of now action))
-      ∙ ap (λ xs. xs ++ line_of now action) holds.lines;
   right = holds.right;
   first = holds.first;
 }
@@ -127,7 +121,6 @@ event_came p left started now event holds begun told right = record {
       append_assoc (events_of p.log) (Came now event ∷ []) (events_left started p.part.text left)
       ∙ ap (λ es. events_of p.log ++ Came now event ∷ es) same
       ∙ ap (λ es. events_of p.log ++ es) told ∙ holds.whole;
-  lines = holds.lines;
   right = right;
   first = λ fresh. absurd (not_fresh started begun fresh);
 }

@@ -6,5 +6,7 @@ pub mod Moments
 pub mod Traced
 pub mod Printed
 pub mod Spelling
+pub mod Printout
 pub mod Progress
 pub mod FirstLines
+pub mod Blocks

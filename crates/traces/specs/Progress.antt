@@ -9,7 +9,6 @@ use Rattle.gateway.specs.Log.{events_of}
 use Rattle.gateway.specs.Ports.{told_by, FitsBuffer}
 use Rattle.gateway.specs.declared.ports.Next.{Next}
 use Rattle.gateway.specs.declared.ports.Next.TheVariants as answers
-use Rattle.traces.specs.Actions.{lines_of_actions}
 use Rattle.traces.specs.Event.{Event, line, opening, received, cut, tick, wall}
 use Rattle.traces.specs.Fields.{parts_after}
 use Rattle.traces.specs.Trace.{lines_of, told, is_wrong, first_wrong}
@@ -73,6 +72,16 @@ pub record Standing : Type 0 where
   pub page : List ℕ
   pub failed : ℕ
 
+-- before the first part, where the tick at moment 0 is still to come, or isn't to be given
+abbrev pub first_standing : (started : Bool) → Standing
+first_standing started = record {
+  started = started;
+  log = [];
+  poured = [];
+  page = [];
+  failed = 0;
+}
+
 abbrev pub all_told : Option (List LogEntry) → List LogEntry
 all_told None = []
 all_told (Some entries) = entries
@@ -89,23 +98,13 @@ coming_in p = events_left p.started p.part.text p.left
 abbrev pub is_through : Progress → Bool
 is_through p = p.started && is_none p.left
 
--- the page has the lines of the log that weren't taken off it
-abbrev pub IsOnPage : (log poured : Log) → (page : List ℕ) → Type 0
-IsOnPage log poured page = lines_of_actions poured ++ page ≡ lines_of_actions log
-
 -- What always holds of a port over a part: the events that came and those that are still to come
--- are those of the run up to the part's end, and the page has the lines of the log that weren't
--- taken off it.
+-- are those of the run up to the part's end.
 pub record IsProgress (p : Progress) : Type 0 where
   pub whole : events_of p.log ++ coming_in p ≡ script_of p.part
-  pub lines : IsOnPage p.log p.poured p.page
   pub right : AllByRecursion IsRight (parts_after 10 p.left)
       → first_wrong 1 (lines_of p.part.text) ≡ None
   pub first : p.started ≡ false → p.left ≡ Some p.part.text
-
--- and between two parts
-pub record IsStanding (s : Standing) : Type 0 where
-  pub lines : IsOnPage s.log s.poured s.page
 
 -- whether an answer tells an event
 abbrev pub tells_event : Next → Bool

@@ -21,6 +21,17 @@ pub record Traced : Type 0 where
   pub left : List Entry
   pub written : Option (List ℕ)
 
+-- before the first entry, where the tick at moment 0 is still to come, or isn't to be given
+abbrev pub first_traced : (started : Bool) → List Entry → (written : Option (List ℕ)) → Traced
+first_traced started entries written = record {
+  log = [];
+  failed = 0;
+  health = Good;
+  started = started;
+  left = entries;
+  written = written;
+}
+
 abbrev pub is_none_left : List Entry → Bool
 is_none_left [] = true
 is_none_left (entry ∷ entries) = false

@@ -6,7 +6,7 @@
 //! `Trace` is the gateway's port over entries: it gives a tick at moment 0 and then these, stores
 //! the log of the run, and writes the line of each action (`append_line`) to a writer. `TextPort`
 //! is the port over the text itself, or over one part of it after another (`Pause`): it stores no
-//! log, and prints the actions on a page, their `Moment` spelled once for all actions of a step
+//! log, and prints the actions (`Printout`), their `Moment` spelled once for all actions of a step
 //! (`print_action_at`). `judge` tells the first wrong line of a part. What the gateway does with
 //! the events, and with moments that go back, is its own matter. Proved: the entries are the events
 //! that the lines tell, in their order, and no line is wrong; a line that is refused is the first
@@ -17,9 +17,13 @@
 //! nothing else; and each line that is printed, of an event or an action, reads back as that very
 //! entry ([`printed_lines_read_back`], [`printed_lines_by_example`]). What lines of a trace tell
 //! has literal examples too ([`trace_lines_by_example`]).
+//!
+//! `Blocks` reads a text on, block by block, each of whole lines: the blocks are the text, and one
+//! line feed parts two of them.
 #![tactic(auto)]
 
 mod actions;
+mod blocks;
 mod decimal;
 mod event;
 mod examples;
@@ -32,12 +36,14 @@ mod octets;
 mod page;
 mod port;
 mod printing;
+mod printout;
 mod reading;
 mod readings;
 mod recorded;
 mod text_port;
 
 pub use actions::{append_line, print_action, print_action_at};
+pub use blocks::{BlockFault, Blocks};
 pub use decimal::decimal as read_decimal;
 pub use examples::printed_lines_by_example;
 pub use judging::judge;
@@ -47,6 +53,7 @@ pub use moments::Moment;
 pub use octets::{hex_digits, read_octets};
 pub use page::Page;
 pub use port::{Beginning, Trace};
+pub use printout::Printout;
 pub use reading::{TextFault, read_trace};
 pub use readings::trace_lines_by_example;
 pub use recorded::{append_event, print_event};

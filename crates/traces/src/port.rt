@@ -76,7 +76,8 @@ impl<W: Write, B: Beginning> Model for Trace<W, B> {
 }
 
 impl<W: Write, B: Beginning> Trace<W, B> {
-    ghost use Rattle.traces.specs.Traced.{Traced, Takes, HasLines, is_refused, refused};
+    ghost use Rattle.traces.specs.Traced.{Traced, Takes, HasLines, first_traced, is_refused};
+    ghost use Rattle.traces.specs.Traced.{refused};
     ghost use Rattle.std.specs.Io.KnownBytes.{Keeps};
     ghost use Rattle.traces.specs.declared.health.Health.TheVariants.{Good, Refused, Broken};
 
@@ -84,14 +85,7 @@ impl<W: Write, B: Beginning> Trace<W, B> {
     pub fn new(alloc: Global, entries: Vec<Entry>, out: W) -> Trace<W, B>
         requires fits { AllByRecursion FitsPort entries.items }
         requires held { Keeps B.held (W.contents out) }
-        ensures { result ≡ record {
-          log = [];
-          failed = 0;
-          health = Good;
-          started = false;
-          left = entries.items;
-          written = W.contents out;
-        } }
+        ensures { result ≡ first_traced false entries.items (W.contents out) }
     {
         Trace::over(alloc, entries, out, false)
     }
@@ -101,14 +95,7 @@ impl<W: Write, B: Beginning> Trace<W, B> {
     pub fn without_tick(alloc: Global, entries: Vec<Entry>, out: W) -> Trace<W, B>
         requires fits { AllByRecursion FitsPort entries.items }
         requires held { Keeps B.held (W.contents out) }
-        ensures { result ≡ record {
-          log = [];
-          failed = 0;
-          health = Good;
-          started = true;
-          left = entries.items;
-          written = W.contents out;
-        } }
+        ensures { result ≡ first_traced true entries.items (W.contents out) }
     {
         Trace::over(alloc, entries, out, true)
     }
@@ -117,14 +104,7 @@ impl<W: Write, B: Beginning> Trace<W, B> {
     fn over(alloc: Global, entries: Vec<Entry>, out: W, is_started: bool) -> Trace<W, B>
         requires fits { AllByRecursion FitsPort entries.items }
         requires held { Keeps B.held (W.contents out) }
-        ensures { result ≡ record {
-          log = [];
-          failed = 0;
-          health = Good;
-          started = is_started;
-          left = entries.items;
-          written = W.contents out;
-        } }
+        ensures { result ≡ first_traced is_started entries.items (W.contents out) }
     {
         let mut entries = entries;
         // Each is then taken off the end, and none is moved up.

@@ -6,13 +6,12 @@ ghost use Rattle.gateway.specs.Log.{events_of};
 ghost use Rattle.gateway.specs.Ports.{output_of};
 ghost use Rattle.traces.specs.Actions.{line_of, lines_of_actions};
 ghost use Rattle.traces.specs.Fields.{parts_after};
-ghost use Rattle.traces.specs.Progress.{IsFirst, script_of, coming_in, is_through, tells_event};
+ghost use Rattle.traces.specs.Progress.{IsFirst, script_of, coming_in, first_standing, is_through};
+ghost use Rattle.traces.specs.Progress.{tells_event};
 ghost use Rattle.traces.specs.Trace.{first_wrong, lines_of};
 
-use crate::actions::print_action_at;
 use crate::event::{FirstLine, announce, first_line};
-use crate::moments::Moment;
-use crate::page::Page;
+use crate::printout::Printout;
 use gateway::{Action, History, Next, Port};
 use std::alloc::Global;
 use std::marker::Model;
@@ -22,83 +21,47 @@ use std::marker::Model;
 /// memory whole.
 #[derive(Drop)]
 pub struct Pause {
-    alloc: Global,
     is_started: bool,
-    history: History,
-    /// The log as it was when the page was cleared.
-    poured: History,
-    page: Page,
-    /// That of the latest action.
-    moment: Moment,
+    page: Printout,
     failures: u64,
 }
 
 impl Model for Pause {
-    ghost use Rattle.traces.specs.Progress.{Standing, IsStanding};
+    ghost use Rattle.traces.specs.Progress.{Standing};
 
     ghost Value = { Standing };
 
     ghost view = { λ a. record {
       started = a.is_started;
-      log = a.history.entries;
-      poured = a.poured.entries;
-      page = a.page;
+      log = a.page.log;
+      poured = a.page.poured;
+      page = a.page.lines;
       failed = a.failures;
     } };
-
-    ghost invariant = { λ a. IsStanding (record {
-      started = a.is_started;
-      log = a.history.entries;
-      poured = a.poured.entries;
-      page = a.page;
-      failed = a.failures;
-    }) };
 }
 
 impl Pause {
     /// A run that has not begun.
     pub fn new(alloc: Global) -> Pause
-        ensures { result ≡ record {
-          started = false;
-          log = [];
-          poured = [];
-          page = [];
-          failed = 0;
-        } }
+        ensures { result ≡ first_standing false }
     {
         Pause::begun(alloc, false)
     }
 
     /// The same without the tick at moment 0: a record begins with the first event of its run.
     pub fn without_tick(alloc: Global) -> Pause
-        ensures { result ≡ record {
-          started = true;
-          log = [];
-          poured = [];
-          page = [];
-          failed = 0;
-        } }
+        ensures { result ≡ first_standing true }
     {
         Pause::begun(alloc, true)
     }
 
     /// A run that has given the tick at moment 0 if it is to be taken so, and nothing else.
     fn begun(alloc: Global, is_started: bool) -> Pause
-        ensures { result ≡ record {
-          started = is_started;
-          log = [];
-          poured = [];
-          page = [];
-          failed = 0;
-        } }
+        ensures { result ≡ first_standing is_started }
     {
         Pause {
-            alloc,
             is_started,
-            history: History::new(),
-            poured: History::new(),
-            page: Page::new(alloc),
-            moment: Moment::new(0),
+            page: Printout::new(alloc),
             failures: 0,
         }
     }
@@ -120,25 +83,17 @@ impl Pause {
         } }
     {
         let Pause {
-            alloc,
             is_started,
-            history,
-            poured,
             page,
-            moment,
             failures,
         } = self;
         TextPort {
-            alloc,
             text,
             left: Some(text),
             is_first: !is_started,
             is_started,
-            earlier: history.again(),
-            history,
-            poured,
+            earlier: page.log(),
             page,
-            moment,
             failures,
         }
     }
@@ -152,7 +107,6 @@ impl Pause {
 /// is; after one it takes and gives nothing more.
 #[derive(Drop)]
 pub struct TextPort<'a> {
-    alloc: Global,
     /// Those of this part.
     text: &'a [u8],
     /// The lines that are still to come.
@@ -162,12 +116,7 @@ pub struct TextPort<'a> {
     is_started: bool,
     /// The log before this part.
     earlier: History,
-    history: History,
-    /// The log as it was when the page was cleared.
-    poured: History,
-    page: Page,
-    /// That of the latest action.
-    moment: Moment,
+    page: Printout,
     failures: u64,
 }
 
@@ -181,9 +130,9 @@ impl<'a> Model for TextPort<'a> {
       part = record { text = a.text.now; is_first = a.is_first; earlier = a.earlier.entries };
       left = option_copied a.left;
       started = a.is_started;
-      log = a.history.entries;
-      poured = a.poured.entries;
-      page = a.page;
+      log = a.page.log;
+      poured = a.page.poured;
+      page = a.page.lines;
       failed = a.failures;
     } };
 
@@ -191,9 +140,9 @@ impl<'a> Model for TextPort<'a> {
       part = record { text = a.text.now; is_first = a.is_first; earlier = a.earlier.entries };
       left = option_copied a.left;
       started = a.is_started;
-      log = a.history.entries;
-      poured = a.poured.entries;
-      page = a.page;
+      log = a.page.log;
+      poured = a.page.poured;
+      page = a.page.lines;
       failed = a.failures;
     }) };
 }
@@ -243,7 +192,7 @@ impl<'a> TextPort<'a> {
         ensures right { is_through self.now ≡ true →
             first_wrong 1 (lines_of self.now.part.text) ≡ None }
     {
-        self.page.octets()
+        self.page.lines()
     }
 
     /// Takes all lines off the page, which keeps its room.
@@ -251,7 +200,6 @@ impl<'a> TextPort<'a> {
         ensures { self.new ≡ record self.old { poured = self.old.log; page = [] } }
     {
         self.page.clear();
-        self.poured = self.history.again();
     }
 
     /// The run behind this part, or where it was left.
@@ -265,25 +213,17 @@ impl<'a> TextPort<'a> {
         } }
     {
         let TextPort {
-            alloc,
             text: _,
             left: _,
             is_first: _,
             is_started,
             earlier: _,
-            history,
-            poured,
             page,
-            moment,
             failures,
         } = self;
         Pause {
-            alloc,
             is_started,
-            history,
-            poured,
             page,
-            moment,
             failures,
         }
     }
@@ -311,13 +251,13 @@ impl<'a> Port for TextPort<'a> {
         }
         if !self.is_started {
             self.is_started = true;
-            self.history = self.history.came(&Next::Tick(0), buf);
+            self.page.came(&Next::Tick(0), buf);
             return Next::Tick(0);
         }
         let (next, left) = first_event(self.left, buf);
         if is_event(next) {
             self.left = left;
-            self.history = self.history.came(&next, buf);
+            self.page.came(&next, buf);
             return next;
         }
         if let Next::Done = next {
@@ -329,17 +269,10 @@ impl<'a> Port for TextPort<'a> {
     }
 
     fn put(&mut self, now: u64, action: &Action<'_>) -> bool {
-        if self.failures > 0 {
+        if self.failures > 0 || self.page.went(now, action).is_err() {
             self.failures += 1;
             return false;
         }
-        self.moment.renew(now);
-        // The line first: the log has no action without one.
-        if print_action_at(self.alloc, &mut self.page, &self.moment, action).is_err() {
-            self.failures += 1;
-            return false;
-        }
-        self.history = self.history.went(&now, action);
         true
     }
 

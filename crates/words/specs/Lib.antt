@@ -1,4 +1,3 @@
-pub mod Names
 pub mod Numbers
 pub mod Quality
 pub mod Tags

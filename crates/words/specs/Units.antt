@@ -3,13 +3,13 @@ use Rattle.std.specs.Prelude.{ℕ, ◌+◌, ◌%◌, ◌==◌, Bool, true, false
 use Rattle.std.specs.Prelude.{List, [], ◌∷◌, ◌++◌, length, slice_index, Option, Some, None}
 use Rattle.std.specs.Fmt.{decimal}
 use Rattle.elements.specs.declared.types.TypeId.{TypeId}
+use Rattle.elements.specs.Names.{cause_name, type_name}
 use Rattle.elements.specs.Types.{type_of}
 use Rattle.asdu.specs.Asdu.{Info}
 use Rattle.asdu.specs.Fields.{value_at, originator_at, ca_at, is_sequence}
 use Rattle.asdu.specs.Refusals.{refusal}
 use Rattle.asdu.specs.Sizes.{header_len, ioa_len}
 use Rattle.asdu.specs.declared.sizes.Sizes.{Sizes}
-use Rattle.words.specs.Names.{cause_name, type_name}
 use Rattle.words.specs.Numbers.{mark}
 use Rattle.words.specs.Tags.{tag_text}
 use Rattle.words.specs.Values.{value_words}

@@ -4,8 +4,8 @@
 //! octets: the frame and its ASDU with the standard's names, values with their units, quality and
 //! time tags in words; or why the octets are no such frame, and the first wrong place. The outcome
 //! is that of `show_line` and `show_tcp`. `push_line_frame` and `push_apdu` append a frame that was
-//! read. `type_name` and `cause_name` are the tables of names. `read_line_of_octets` reads octets
-//! in hexadecimal with blanks, of which `line_end` and `apdu_end` tell the first frame's end.
+//! read. The standard's names are those of `elements`. `read_line_of_octets` reads octets in
+//! hexadecimal with blanks, of which `line_end` and `apdu_end` tell the first frame's end.
 //!
 //! Proved: each text is an exact function of the frame (`AreLineWords`, `AreConnectionWords`), for
 //! every type, value, quality and tag; an `Err` is want of memory alone. The words have worked
@@ -20,7 +20,6 @@ mod floats;
 mod forms;
 mod lines;
 mod monitored;
-mod names;
 mod numbers;
 mod objects;
 mod pipes;
@@ -33,6 +32,5 @@ pub use connections::{push_apdu, push_apdu_refusal, words_of_connection};
 pub use examples::{asdus_by_example, frames_by_example, tags_by_example, values_by_example};
 pub use faults::push_cut_off;
 pub use lines::{push_line_frame, push_line_refusal, words_of_line};
-pub use names::{cause_name, type_name};
 pub use pipes::{apdu_end, line_end, read_line_of_octets};
 pub use told::{both, tell_apdu, tell_apdus, tell_line, tell_line_frames};

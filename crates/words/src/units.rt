@@ -10,10 +10,10 @@ ghost use Rattle.words.specs.Units.{data_words, header_words, kind_words, named,
 ghost use Rattle.words.specs.Units.{originator_text, parting as parting_of, place_words};
 ghost use Rattle.words.specs.Units.{reason as reason_of, reason_words, type_text};
 
-use crate::names::{cause_name, type_name};
 use crate::numbers::push_mark;
 use crate::objects::push_object;
 use asdu::{Asdu, Head, Refused, Sizes};
+use elements::{cause_name, type_name};
 use show::Outcome;
 use std::alloc::{AllocError, Global};
 

@@ -156,13 +156,7 @@ impl Bench {
 
     /// Whether this is told of octets that come.
     fn hears(&mut self, octets: &[u8], told: Told<'_>) -> bool {
-        if let Some(outcome) = self.master.hear_whole(octets) {
-            return is_told(&outcome, told);
-        }
-        match self.master.gather(octets) {
-            Some(frame) => is_told(&self.master.hear(frame.lent()), told),
-            None => told == Told::None,
-        }
+        is_told(&self.master.octets(octets, &mut None), told)
     }
 
     /// Whether the first station takes a command that is offered to it.

@@ -1,7 +1,7 @@
 use Rattle.std.proofs.Common.{◌≡◌, ◌++◌, Option, List, ℕ, ap, refl, subst, sym, ◌∙◌}
 use Rattle.std.specs.Option.{option_copied}
-use Rattle.audit.proofs.BlockLemmas.{AreOf}
-use Rattle.blocks.specs.Reading.{Gives, Reading}
+use Rattle.record.proofs.BlockLemmas.{AreOf}
+use Rattle.traces.specs.Blocks.{Gives, Reading}
 use Rattle.capture.specs.Blocks.{file_header}
 use Rattle.capture.specs.Texts.{IsCaptureFault, IsCaptured}
 use Rattle.capture.specs.declared.whole.CaptureFault.{CaptureFault}

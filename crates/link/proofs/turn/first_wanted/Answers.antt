@@ -5,7 +5,7 @@ pub returns-in-Some-clause-first : goal.returns-in-Some-clause-first
 returns-in-Some-clause-first c =
     looked_wish _ _ c.args.stations.now _ _ _ _ _ _ _ c.loop-seen-test.true
     c.next_place-place.ensures.next
-    c.nth_station.ensures c.wish-wish.ensures c.in-Some.is
+    c.nth_station.ensures c.wish-wish.ensures.wish c.in-Some.is
     c.loop-seen.invariant.same
 
 pub loop-seen-preserved : goal.loop-seen-preserved
@@ -13,6 +13,6 @@ loop-seen-preserved c = record {
   in_range = c.next_place-place.ensures.in_range;
   same = looked_wish _ _ c.args.stations.now _ _ _ _ _ _ _ c.loop-seen-test.true
       c.next_place-place.ensures.next
-      c.nth_station.ensures c.wish-wish.ensures c.in_default.is
+      c.nth_station.ensures c.wish-wish.ensures.wish c.in_default.is
       c.loop-seen.invariant.same;
 }

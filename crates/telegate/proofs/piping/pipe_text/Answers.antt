@@ -1,6 +1,6 @@
 use Rattle.std.proofs.Common.{ℕ, List, inr, refl, ap, sym, subst, string_bytes, ◌∙◌}
 use Rattle.std.specs.Io.KnownBytes.{Appends}
-use Rattle.blocks.specs.Reading.{Reading}
+use Rattle.traces.specs.Blocks.{Reading}
 use Rattle.sim.specs.Runs.{IsBegun}
 use Rattle.telegate.specs.Piping.{Pipes}
 use Rattle.telegate.specs.Source.{Gives}

@@ -1,5 +1,5 @@
 use Rattle.std.proofs.Common.{ap, sym, ◌∙◌}
-use Rattle.blocks.specs.Reading.{Reading}
+use Rattle.traces.specs.Blocks.{Reading}
 use Rattle.telegate.proofs.RecordLemmas.{seeks_begin, seeks_found, seeks_last, seeks_on}
 use Rattle.telegate.proofs.recorded.is_record.Goals as goal
 

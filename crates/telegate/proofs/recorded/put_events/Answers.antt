@@ -1,6 +1,6 @@
 use Rattle.std.proofs.Common.{◌≡◌, ◌++◌, ◌∷◌, [], List, ℕ, ap, sym, ◌∙◌}
 use Rattle.std.specs.Option.{option_copied}
-use Rattle.audit.specs.Record.{event_line}
+use Rattle.record.specs.Lines.{event_line}
 use Rattle.traces.specs.Fields.{parts_after}
 use Rattle.telegate.proofs.RecordLemmas.{puts_begin, puts_last, puts_on}
 use Rattle.telegate.proofs.recorded.put_events.Goals as goal

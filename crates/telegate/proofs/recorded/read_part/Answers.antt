@@ -1,5 +1,5 @@
 use Rattle.std.proofs.Common.{◌≡◌, Bool, true, List, ℕ, Option, ap, sym, subst, ◌∙◌}
-use Rattle.audit.specs.Record.{event_lines}
+use Rattle.record.specs.Lines.{event_lines}
 use Rattle.traces.specs.Trace.{lines_of}
 use Rattle.std.specs.Option.{option_copied}
 use Rattle.telegate.specs.Parts.{IsPartRead}

@@ -1,5 +1,5 @@
 use Rattle.std.proofs.Common.{false, refl, ap, sym, inl, inr, ◌∙◌}
-use Rattle.blocks.specs.Reading.{Reading}
+use Rattle.traces.specs.Blocks.{Reading}
 use Rattle.telegate.specs.Parts.{RunsOver}
 use Rattle.traces.specs.Actions.{lines_of_actions}
 use Rattle.telegate.specs.Manners.{AreLines}

@@ -1,5 +1,5 @@
 use Rattle.std.proofs.Common.{Bool, ap, sym, subst, inl, inr, ◌∙◌}
-use Rattle.blocks.specs.Reading.{Reading}
+use Rattle.traces.specs.Blocks.{Reading}
 use Rattle.ladder.specs.Told.{IsLadder}
 use Rattle.ladder.specs.declared.rungs.Style.{Style}
 use Rattle.telegate.specs.Parts.{IsPartRead, IsPartStopped, RunsOver}

@@ -3,6 +3,7 @@ use Rattle.std.specs.Fmt.{digits}
 use Rattle.jiff_core.specs.Calendar.{day_count, days_from_civil, days_of_months, days_of_years}
 use Rattle.jiff_core.specs.Calendar.{weekday_number}
 use Rattle.hex.specs.Hex.{encode_with}
+use Rattle.elements.specs.Names.{report_name, other_name, cause_name}
 use Rattle.elements.specs.Types.{type_of}
 use Rattle.words.specs.Numbers.{mark, two_digits, three_digits, six_digits, pointed}
 use Rattle.words.specs.Quality.{validity, origin, point_quality, quality}
@@ -19,7 +20,6 @@ use Rattle.words.specs.Units.{named, type_text, cause_text, cause_words, origina
 use Rattle.words.specs.Units.{kind_words, place_words, header_words, object_words, parting, reason}
 use Rattle.words.specs.Units.{reason_words, typed_words, content_by, content_words, asdu_words}
 use Rattle.words.specs.Units.{data_words}
-use Rattle.words.specs.Names.{report_name, other_name, cause_name}
 use Rattle.words.proofs.examples.asdus_by_example.Goals as goal
 
 pub returns-clause-tagged : goal.returns-clause-tagged

@@ -3,7 +3,7 @@ use Rattle.gateway.proofs.Events.{told_cut, told_tick, told_wall, told_bytes}
 use Rattle.gateway.proofs.engine.Gateway.take_connection_event.Goals as goal
 
 pub returns-in-Line-clause-kept : goal.returns-in-Line-clause-kept
-returns-in-Line-clause-kept g c = λ p s now b h. c.end_line.ensures.kept p s now
+returns-in-Line-clause-kept g c = λ p s now b h. c.end_line.ensures.kept p s now _
     (rw c.in-Line.is at b)
     (rw c.in-Line.is at h)
 

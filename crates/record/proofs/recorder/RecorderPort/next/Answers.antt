@@ -1,5 +1,5 @@
 use Rattle.std.proofs.Common.{◌∙◌}
-use Rattle.record.proofs.Passing.{told_both}
+use Rattle.record.proofs.Hearing.{told_both}
 use Rattle.record.proofs.recorder.RecorderPort.next.Goals as goal
 
 pub returns-clause-told : goal.returns-clause-told

@@ -6,7 +6,7 @@ use Rattle.gateway.specs.Setups.{setup_of}
 use Rattle.sim.specs.declared.directive.RequestFate.{RequestFate}
 use Rattle.sim.specs.Losses.{fate_of}
 use Rattle.sim.specs.Lives.{IsPutOut, arriving, plan_of}
-use Rattle.sim.specs.Pages.{Printed}
+use Rattle.traces.specs.Printout.{Printed}
 use Rattle.sim.specs.Tallies.{tallied_asked}
 use Rattle.sim.proofs.HearingLemmas.{length_out}
 use Rattle.sim.proofs.Keeping.{ask_kept, written}

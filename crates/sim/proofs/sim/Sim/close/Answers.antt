@@ -1,5 +1,5 @@
 use Rattle.std.proofs.Common.{ap}
-use Rattle.sim.specs.Pages.{Printed}
+use Rattle.traces.specs.Printout.{Printed}
 use Rattle.sim.proofs.Keeping.{close_kept}
 use Rattle.sim.proofs.sim.Sim.close.Goals as goal
 

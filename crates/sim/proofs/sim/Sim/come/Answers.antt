@@ -2,7 +2,7 @@ use Rattle.std.proofs.Common.{◌<◌, ◌++◌, Bool, None, option_map, if◌th
 use Rattle.gateway.specs.Entries.{event_of}
 use Rattle.gateway.specs.Log.{Log}
 use Rattle.sim.specs.Losses.{turns_of}
-use Rattle.sim.specs.Pages.{Printed}
+use Rattle.traces.specs.Printout.{Printed}
 use Rattle.sim.specs.Played.{Simulated, coming}
 use Rattle.sim.proofs.Keeping.{come_kept}
 use Rattle.sim.proofs.sim.Sim.come.Goals as goal

@@ -1,5 +1,5 @@
 use Rattle.std.proofs.Common.{ap}
-use Rattle.sim.specs.Pages.{Printed}
+use Rattle.traces.specs.Printout.{Printed}
 use Rattle.sim.proofs.Keeping.{hand_kept}
 use Rattle.sim.proofs.sim.Sim.hand.Goals as goal
 

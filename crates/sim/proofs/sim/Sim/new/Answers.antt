@@ -1,6 +1,6 @@
 use Rattle.std.proofs.Common.{◌≡◌, ℕ, None, length, replicate, ap, ◌∙◌, arith, Vec, Global, vec_len}
 use Rattle.link.specs.declared.station.Station.{Station}
-use Rattle.sim.specs.Pages.{Printed}
+use Rattle.traces.specs.Printout.{Printed}
 use Rattle.sim.specs.Tallies.{Tallied, fresh_tally}
 use Rattle.sim.proofs.BeginningLemmas.{begun_sizes}
 use Rattle.sim.proofs.Keeping.{stands_new}

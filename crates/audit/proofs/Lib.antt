@@ -1,5 +1,0 @@
-pub mod LineLemmas
-pub mod PassingLemmas
-pub mod CompareLemmas
-pub mod RunLemmas
-pub mod BlockLemmas

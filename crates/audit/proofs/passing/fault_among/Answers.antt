@@ -1,5 +1,0 @@
-use Rattle.audit.proofs.LineLemmas.{one_line}
-use Rattle.audit.proofs.passing.fault_among.Goals as goal
-
-pub judge_line-requires : goal.judge_line-requires
-judge_line-requires c = one_line c.in-Some.text.now c.cut.result.0.now _ c.cut.ensures

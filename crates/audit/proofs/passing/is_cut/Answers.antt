@@ -1,6 +1,0 @@
-use Rattle.std.proofs.Common.{◌∙◌}
-use Rattle.audit.proofs.LineLemmas.{mark_found}
-use Rattle.audit.proofs.passing.is_cut.Goals as goal
-
-pub returns : goal.returns
-returns c = c.is_some.ensures ∙ mark_found c.args.line.now c.memchr.result c.memchr.ensures

@@ -1,0 +1,238 @@
+-- The lines of a record, passed one after another.
+use Rattle.std.proofs.Common.{◌≡◌, ℕ, ◌+◌, ◌≤◌, ◌==◌, ◌&&◌, not, cond, Bool, true, false}
+use Rattle.std.proofs.Common.{if◌then◌else◌, length, map, take, List, [], ◌∷◌, ◌++◌, Option, Some}
+use Rattle.std.proofs.Common.{None, refl, ap, sym, ◌∙◌, subst, append_assoc, arith}
+use Rattle.std.proofs.lemmas.List.{append-nil, length-append}
+use Rattle.std.proofs.lemmas.List.Sums.{sum_by-cons}
+use Rattle.std.specs.List.{AllByRecursion, count_by, slice_split, cons_option}
+use Rattle.std.specs.Option.{is_none}
+use Rattle.gateway.specs.Log.{LogEntry, Came, LineIn, Opened, TcpIn, CutOff, Ticked, WallIs}
+use Rattle.gateway.specs.Ports.{told_by, FitsBuffer}
+use Rattle.gateway.specs.declared.ports.Next.{Next}
+use Rattle.gateway.specs.declared.ports.Next.TheVariants as answers
+use Rattle.traces.specs.Event.{Event, event_in}
+use Rattle.traces.specs.Fields.{parts_after}
+use Rattle.traces.specs.Progress.{IsFirst, IsRight, came, events_in, tells_event}
+use Rattle.traces.specs.Trace.{is_skipped, is_wrong, lines_of, told}
+use Rattle.traces.proofs.JoinedLemmas.{events_joined}
+use Rattle.record.specs.Passing.{IsKind, IsNext, IsOneLine, IsTally, Passes}
+use Rattle.record.specs.Lines.{event_line, event_lines, is_action, is_cut, is_marked}
+use Rattle.record.specs.declared.audit.passing.Kind.{Kind}
+use Rattle.record.specs.declared.audit.passing.Kind.TheVariants as kinds
+use Rattle.record.specs.declared.audit.passing.Tally.{Tally}
+
+-- One line
+
+-- a line that was cut short tells nothing
+pub cut_action : (line : List ℕ) → is_cut line ≡ true → is_action line ≡ false
+cut_action line cut = ap (λ (b : Bool). if b then false
+    else is_marked (slice_split (λ b. b == 32) line)) cut
+
+pub uncut_action : (line : List ℕ) (b : Bool) → is_cut line ≡ false
+    → is_marked (slice_split (λ b. b == 32) line) ≡ b
+    → is_action line ≡ b
+uncut_action line b uncut is =
+    ap (λ (b : Bool). if b then false else is_marked (slice_split (λ b. b == 32) line)) uncut ∙ is
+
+pub cut_line : (line : List ℕ) → is_cut line ≡ true → event_line line ≡ []
+cut_line line cut =
+    ap (λ (b : Bool). if b then [] else if is_cut line then [] else line) (cut_action line cut)
+    ∙ ap (λ (b : Bool). if b then [] else line) cut
+
+pub action_line : (line : List ℕ) → is_action line ≡ true → event_line line ≡ []
+action_line line is = ap (λ (b : Bool). if b then [] else if is_cut line then [] else line) is
+
+pub plain_line : (line : List ℕ) → is_cut line ≡ false → is_action line ≡ false → event_line line
+    ≡ line
+plain_line line uncut is =
+    ap (λ (b : Bool). if b then [] else if is_cut line then [] else line) is
+    ∙ ap (λ (b : Bool). if b then [] else line) uncut
+
+-- What a line tells
+
+pub kind_cut : (line buf : List ℕ) → is_cut line ≡ true → IsKind line buf kinds.Neither
+kind_cut line buf cut =
+    let none : event_line line ≡ [] = cut_line line cut in (
+      cut_action line cut,
+      ap (λ l. events_in (l ∷ [])) none,
+      ap is_wrong none,
+    )
+
+right_told : (line : List ℕ) (event : Event) → told line ≡ Some event → is_wrong line ≡ false
+right_told line event = by (is_skipped line) (event_in line)
+  where
+    by : (skipped : Bool) (o : Option Event) → (if skipped then None else o) ≡ Some event
+        → (not skipped && is_none o) ≡ false
+    by true o h = cc
+    by false None h = cc
+    by false (Some e) h = refl
+
+-- a line that tells an event tells that alone
+one_event : (line : List ℕ) (x : LogEntry) (more : List LogEntry) → (x ∷ []) ++ more
+    ≡ events_in (line ∷ [])
+    → (x ∷ [] ≡ events_in (line ∷ [])) × (is_wrong line ≡ false)
+one_event line x more is = by (told line) refl is
+  where
+    by : (o : Option Event) → told line ≡ o → x ∷ more ≡ map came (cons_option o [])
+        → (x ∷ [] ≡ map came (cons_option o [])) × (is_wrong line ≡ false)
+    by None none h = cc
+    by (Some event) some h =
+        let same : x ≡ came event = cc in
+        (ap (λ e. e ∷ []) same, right_told line event some)
+
+pub kind_none : (line buf : List ℕ) (left : Option (List ℕ)) → is_cut line ≡ false → is_action line
+    ≡ false
+    → IsOneLine line → IsFirst (lines_of line) left answers.Done buf → IsKind line buf kinds.Neither
+kind_none line buf left uncut plain one first =
+    let done : left ≡ None = first.done refl in
+    let whole : event_line line ≡ line = plain_line line uncut plain in
+    let none : events_in (line ∷ []) ≡ [] =
+    ap events_in (sym one) ∙ sym (first.none refl) ∙ ap (λ l. events_in (parts_after 10 l)) done in
+    let all : AllByRecursion IsRight (lines_of line) =
+    first.right (subst (λ (l : Option (List ℕ)). AllByRecursion IsRight (parts_after 10 l))
+    (sym done) tt) in
+    let one_right : AllByRecursion IsRight (line ∷ []) = subst (AllByRecursion IsRight) one all in (
+      plain,
+      ap (λ l. events_in (l ∷ [])) whole ∙ none,
+      ap is_wrong whole ∙ one_right.0,
+    )
+
+event_with : (line buf : List ℕ) (left : Option (List ℕ)) (next : Next) (x : LogEntry) → is_cut line
+    ≡ false
+    → is_action line ≡ false → IsOneLine line → IsFirst (lines_of line) left next buf
+    → tells_event next ≡ true
+    → told_by next buf ≡ x ∷ [] → IsKind line buf (kinds.Event next)
+event_with line buf left next x uncut plain one first tells is =
+    let whole : event_line line ≡ line = plain_line line uncut plain in
+    let both : (x ∷ []) ++ events_in (parts_after 10 left) ≡ events_in (line ∷ []) =
+    ap (λ es. es ++ events_in (parts_after 10 left)) (sym is) ∙ first.told tells
+    ∙ ap events_in one in
+    let found = one_event line x (events_in (parts_after 10 left)) both in (
+      plain,
+      is ∙ found.0 ∙ ap (λ l. events_in (l ∷ [])) (sym whole),
+      tells,
+      first.fits,
+      ap is_wrong whole ∙ found.1,
+    )
+
+pub kind_event : (line buf : List ℕ) (left : Option (List ℕ)) (next : Next) → is_cut line ≡ false
+    → is_action line ≡ false
+    → IsOneLine line → IsFirst (lines_of line) left next buf → (next ≡ answers.Done → ⊥)
+    → (next ≡ answers.Fault → ⊥)
+    → IsKind line buf (kinds.Event next)
+kind_event line buf left (answers.Line now len) uncut plain one first some right =
+    event_with line buf left (answers.Line now len) (Came now (LineIn (take len buf))) uncut plain
+    one first refl refl
+kind_event line buf left (answers.Open now) uncut plain one first some right =
+    event_with line buf left (answers.Open now) (Came now Opened) uncut plain one first refl refl
+kind_event line buf left (answers.Bytes now len) uncut plain one first some right =
+    event_with line buf left (answers.Bytes now len) (Came now (TcpIn (take len buf))) uncut plain
+    one first refl refl
+kind_event line buf left (answers.Cut now) uncut plain one first some right =
+    event_with line buf left (answers.Cut now) (Came now CutOff) uncut plain one first refl refl
+kind_event line buf left (answers.Tick now) uncut plain one first some right =
+    event_with line buf left (answers.Tick now) (Came now Ticked) uncut plain one first refl refl
+kind_event line buf left (answers.Wall now number) uncut plain one first some right =
+    event_with line buf left (answers.Wall now number) (Came now (WallIs number)) uncut plain one
+    first refl refl
+kind_event line buf left answers.Done uncut plain one first some right = absurd (some refl)
+kind_event line buf left answers.Fault uncut plain one first some right = absurd (right refl)
+
+-- an answer tells one event
+one_told : (next : Next) (buf : List ℕ) → tells_event next ≡ true → length (told_by next buf) ≡ 1
+one_told (answers.Line now len) buf tells = refl
+one_told (answers.Open now) buf tells = refl
+one_told (answers.Bytes now len) buf tells = refl
+one_told (answers.Cut now) buf tells = refl
+one_told (answers.Tick now) buf tells = refl
+one_told (answers.Wall now number) buf tells = refl
+one_told answers.Done buf tells = cc
+one_told answers.Fault buf tells = cc
+
+-- Lines
+
+pub passes_none : (lines : List (List ℕ)) (tally : Tally) → Passes [] lines tally lines tally
+passes_none lines tally = record {
+  told = refl;
+  right = λ all. all;
+  counted = refl;
+  events = omega arith;
+  actions = refl;
+}
+
+-- a line more was passed
+passes_line : (news : List LogEntry) (lines left rest : List (List ℕ)) (line : List ℕ)
+    (before now after : Tally)
+    → Passes [] lines before left now → left ≡ line ∷ rest → news ≡ events_in (event_line line ∷ [])
+    → IsRight (event_line line) → after.lines ≡ now.lines + 1 → after.events
+    ≡ now.events + length news
+    → after.actions + count_by is_action rest ≡ now.actions + count_by is_action (line ∷ rest)
+    → Passes news lines before rest after
+passes_line news lines left rest line before now after h is tells right one some counts = record {
+  told = ap (λ es. es ++ events_in (event_lines rest)) tells
+      ∙ sym (events_joined (event_line line ∷ []) (event_lines rest))
+      ∙ ap (λ ls. events_in (event_lines ls)) (sym is) ∙ h.told;
+  right =
+      λ all. h.right (subst (λ (ls : List (List ℕ)). AllByRecursion IsRight (event_lines ls))
+      (sym is) (right, all));
+  counted = let all : length left ≡ length (line ∷ rest) = ap length is in
+      omega (arith, all, one, h.counted);
+  events = omega (arith, some, h.events);
+  actions = counts ∙ ap (λ ls. now.actions + count_by is_action ls) (sym is) ∙ h.actions;
+}
+
+count_yes : (n : ℕ) (line : List ℕ) (rest : List (List ℕ)) → is_action line ≡ true
+    → n + 1 + count_by is_action rest ≡ n + count_by is_action (line ∷ rest)
+count_yes n line rest is =
+    let all : count_by is_action (line ∷ rest) ≡ 1 + count_by is_action rest =
+    sum_by-cons (λ x. cond (is_action x) 1 0) line rest
+    ∙ ap (λ (b : Bool). cond b 1 0 + count_by is_action rest) is in
+    omega (arith, all)
+
+count_no : (n : ℕ) (line : List ℕ) (rest : List (List ℕ)) → is_action line ≡ false
+    → n + count_by is_action rest ≡ n + count_by is_action (line ∷ rest)
+count_no n line rest is =
+    let all : count_by is_action (line ∷ rest) ≡ 0 + count_by is_action rest =
+    sum_by-cons (λ x. cond (is_action x) 1 0) line rest
+    ∙ ap (λ (b : Bool). cond b 1 0 + count_by is_action rest) is in
+    omega (arith, all)
+
+module _ (lines left rest : List (List ℕ)) (line : List ℕ) (before : Tally) (n e a : ℕ)
+    (h : Passes [] lines before left (record { lines = n; events = e; actions = a })) (is : left
+    ≡ line ∷ rest) where
+  pub passes_action : is_action line ≡ true
+      → Passes [] lines before rest (record { lines = n + 1; events = e; actions = a + 1 })
+  passes_action marked =
+      let none : event_line line ≡ [] = action_line line marked in
+      passes_line [] lines left rest line before _ _ h is (sym (ap (λ l. events_in (l ∷ [])) none))
+      (ap is_wrong none) refl
+      (omega arith) (count_yes a line rest marked)
+
+  pub passes_neither : (buf : List ℕ) → IsKind line buf kinds.Neither
+      → Passes [] lines before rest (record { lines = n + 1; events = e; actions = a })
+  passes_neither buf kind =
+      passes_line [] lines left rest line before _ _ h is (sym kind.1) kind.2 refl (omega arith)
+      (count_no a line rest kind.0)
+
+  pub passes_event : (next : Next) (buf : List ℕ) → IsKind line buf (kinds.Event next)
+      → Passes (told_by next buf) lines before rest
+      (record { lines = n + 1; events = e + 1; actions = a })
+  passes_event next buf kind =
+      passes_line (told_by next buf) lines left rest line before _ _ h is kind.1 kind.4 refl
+      (ap (λ k. e + k) (sym (one_told next buf kind.2))) (count_no a line rest kind.0)
+
+  pub event_next : (next : Next) (buf : List ℕ) (behind : Option (List ℕ))
+      → rest ≡ parts_after 10 behind
+      → IsKind line buf (kinds.Event next) → e + a ≤ n
+      → IsNext lines before next buf behind (record { lines = n + 1; events = e + 1; actions = a })
+  event_next next buf behind same kind few = record {
+    passes =
+        subst (λ (ls : List (List ℕ)). Passes (told_by next buf) lines before ls
+        (record { lines = n + 1; events = e + 1; actions = a }))
+        same (passes_event next buf kind);
+    done = λ over. let tells : tells_event next ≡ true = kind.2 in
+        let none : tells_event next ≡ false = ap tells_event over in
+        cc;
+    fits = kind.3;
+    few = omega (arith, few);
+  }

@@ -1,0 +1,274 @@
+-- A record that is run part by part.
+use Rattle.std.proofs.Common.{◌≡◌, ℕ, ◌+◌, true, cond, length, List, [], ◌∷◌, ◌++◌, Option, Some}
+use Rattle.std.proofs.Common.{None, refl, ap, sym, ◌∙◌, subst, append_assoc, arith}
+use Rattle.std.proofs.lemmas.List.{append-nil, length-append, length-map, map-append}
+use Rattle.std.proofs.lemmas.List.Sums.{sum_by-append}
+use Rattle.std.specs.List.{AllByRecursion, count_by}
+use Rattle.std.specs.Option.{is_none}
+use Rattle.gateway.specs.Agrees.{Follows, Rests}
+use Rattle.gateway.specs.Config.{Settings}
+use Rattle.gateway.specs.Log.{Log, LogEntry, Came, Went, Output, events_of}
+use Rattle.gateway.specs.Ports.{told_by}
+use Rattle.gateway.specs.Setups.{setup_of}
+use Rattle.gateway.specs.State.{State}
+use Rattle.gateway.specs.Traffic.{HasRested}
+use Rattle.gateway.specs.declared.ports.Next.{Next}
+use Rattle.gateway.specs.declared.ports.Next.TheVariants as answers
+use Rattle.traces.specs.Actions.{line_of}
+use Rattle.traces.specs.Fields.{parts_after}
+use Rattle.traces.specs.Printed.{IsPrintable, lines_of_log}
+use Rattle.traces.specs.Progress.{events_in, IsRight}
+use Rattle.traces.specs.Trace.{first_wrong}
+use Rattle.traces.proofs.JoinedLemmas.{events_joined, none_wrong_from, wrong_behind}
+use Rattle.traces.proofs.ProgressLemmas.{none_wrong}
+use Rattle.record.proofs.LineLemmas.{page_lines}
+use Rattle.record.specs.Comparing.{IsCompared}
+use Rattle.record.specs.Passing.{IsNext}
+use Rattle.record.specs.Lines.{event_line, event_lines, is_action, whole_lines}
+use Rattle.record.specs.Rerunning.{Halted, IsHalted, Rerunning, IsRerunning, RunsSoFar, Stands}
+use Rattle.record.specs.declared.audit.comparing.Standing.{Standing}
+use Rattle.record.specs.declared.audit.passing.Tally.{Tally}
+
+-- The log
+
+-- an answer comes behind the events before it, and its line behind theirs
+events_told : (next : Next) (buf : List ℕ) (log : Log) → events_of (told_by next buf ++ log)
+    ≡ events_of log ++ told_by next buf
+events_told (answers.Line now len) buf log = refl
+events_told (answers.Open now) buf log = refl
+events_told (answers.Bytes now len) buf log = refl
+events_told (answers.Cut now) buf log = refl
+events_told (answers.Tick now) buf log = refl
+events_told (answers.Wall now number) buf log = refl
+events_told answers.Done buf log = sym (append-nil (events_of log))
+events_told answers.Fault buf log = sym (append-nil (events_of log))
+
+lines_told : (next : Next) (buf : List ℕ) (log : Log)
+    → lines_of_log (told_by next buf ++ log) ≡ lines_of_log log ++ lines_of_log (told_by next buf)
+lines_told (answers.Line now len) buf log = refl
+lines_told (answers.Open now) buf log = refl
+lines_told (answers.Bytes now len) buf log = refl
+lines_told (answers.Cut now) buf log = refl
+lines_told (answers.Tick now) buf log = refl
+lines_told (answers.Wall now number) buf log = refl
+lines_told answers.Done buf log = sym (append-nil (lines_of_log log))
+lines_told answers.Fault buf log = sym (append-nil (lines_of_log log))
+
+both_all : {A : Type 0} (P : A → Type 0) (xs ys : List A) → AllByRecursion P xs
+    → AllByRecursion P ys → AllByRecursion P (xs ++ ys)
+both_all P [] ys all more = more
+both_all P (x ∷ xs) ys all more = (all.0, both_all P xs ys all.1 more)
+
+-- The port
+
+-- a part begins
+pub begun : (h : Halted) (part : Option (List ℕ)) (earlier : Log) → earlier ≡ h.log → IsHalted h
+    → IsRerunning (record {
+      part = part;
+      start = record { tally = h.tally; log = earlier };
+      left = part;
+      now = h;
+      page = [];
+      failed = 0;
+    })
+begun h part earlier same halted = record {
+  halted = halted;
+  whole = ap (λ log. events_of log ++ events_in (event_lines (parts_after 10 part))) (sym same);
+  right = λ all. all;
+  lines = refl;
+  actions = refl;
+  page = append-nil (lines_of_log earlier) ∙ ap lines_of_log same;
+}
+
+-- an action was printed
+pub went : (r : Rerunning) (page : List ℕ) (now : ℕ) (action : Output) → IsRerunning r
+    → page ≡ r.page ++ line_of now action
+    → IsPrintable (Went now action)
+    → IsRerunning (record r {
+      now = record r.now { log = Went now action ∷ r.now.log };
+      page =
+          page;
+    })
+went r page now action holds printed printable = record {
+  halted = record {
+    few = holds.halted.few;
+    events = holds.halted.events;
+    printable = (printable, holds.halted.printable);
+  };
+  whole = holds.whole;
+  right = holds.right;
+  lines = holds.lines;
+  actions = holds.actions;
+  page = ap (λ xs. lines_of_log r.start.log ++ xs) printed
+      ∙ sym (append_assoc (lines_of_log r.start.log) r.page (line_of now action))
+      ∙ ap (λ xs. xs ++ line_of now action) holds.page;
+}
+
+-- an event came, or none does any more
+pub came : (r : Rerunning) (page : List ℕ) (left : Option (List ℕ)) (tally : Tally) (next : Next)
+    (buf : List ℕ)
+    → IsRerunning r → IsNext (parts_after 10 r.left) r.now.tally next buf left tally
+    → page ≡ r.page ++ lines_of_log (told_by next buf)
+    → AllByRecursion IsPrintable (told_by next buf)
+    → IsRerunning (record r {
+      left = left;
+      now = record { tally = tally; log = told_by next buf ++ r.now.log };
+      page = page;
+    })
+came r page left tally next buf holds found printed printable = record {
+  halted = record {
+    few = found.few;
+    events =
+        let count : length (events_of (told_by next buf ++ r.now.log))
+        ≡ length (events_of r.now.log ++ told_by next buf) =
+        ap length (events_told next buf r.now.log) in
+        let split = length-append (events_of r.now.log) (told_by next buf) in
+        omega (arith, count, split, found.passes.events, holds.halted.events);
+    printable = both_all IsPrintable (told_by next buf) r.now.log printable holds.halted.printable;
+  };
+  whole =
+      let rest = events_in (event_lines (parts_after 10 left)) in
+      ap (λ es. es ++ rest) (events_told next buf r.now.log)
+      ∙ append_assoc (events_of r.now.log) (told_by next buf) rest
+      ∙ ap (λ es. events_of r.now.log ++ es) found.passes.told ∙ holds.whole;
+  right = λ all. holds.right (found.passes.right all);
+  lines = found.passes.counted ∙ holds.lines;
+  actions = found.passes.actions ∙ holds.actions;
+  page = ap (λ xs. lines_of_log r.start.log ++ xs) printed
+      ∙ sym (append_assoc (lines_of_log r.start.log) r.page (lines_of_log (told_by next buf)))
+      ∙ ap (λ xs. xs ++ lines_of_log (told_by next buf)) holds.page
+      ∙ sym (lines_told next buf r.now.log);
+}
+
+-- Part by part
+
+none_left : (left : Option (List ℕ)) → is_none left ≡ true → left ≡ None
+none_left None over = refl
+none_left (Some text) over = cc
+
+count_joined : (xs ys : List (List ℕ)) → count_by is_action (xs ++ ys) ≡ count_by is_action xs
+    + count_by is_action ys
+count_joined xs ys = sum_by-append (λ x. cond (is_action x) 1 0) xs ys
+
+pub lines_behind : (xs ys : List (List ℕ)) → event_lines (xs ++ ys)
+    ≡ event_lines xs ++ event_lines ys
+lines_behind xs ys = map-append event_line xs ys
+
+pub right_behind : (lines part : List (List ℕ)) → first_wrong 1 (event_lines lines) ≡ None
+    → first_wrong 1 (event_lines part) ≡ None → first_wrong 1 (event_lines (lines ++ part)) ≡ None
+right_behind lines part before right =
+    ap (first_wrong 1) (lines_behind lines part)
+    ∙ wrong_behind 1 (event_lines lines) (event_lines part) before
+    ∙ none_wrong_from 1 (1 + length (event_lines lines)) (event_lines part) right
+
+-- what stays fixed over a part
+abbrev pub fixed_of : Rerunning → Option (List ℕ) × Halted
+fixed_of r = (r.part, r.start)
+
+-- one part more was run to its end
+pub part_run : (settings : Settings) (lines : List (List ℕ)) (began ended : State) (h : Halted)
+    (start r : Rerunning)
+    (part : Option (List ℕ)) → start ≡ record {
+      part = part;
+      start = h;
+      left = part;
+      now = h;
+      page =
+          [];
+      failed = 0;
+    }
+    → RunsSoFar settings lines began h → IsRerunning r → fixed_of r ≡ fixed_of start
+    → is_none r.left ≡ true → Follows (setup_of settings) ended (Some r.now.log)
+    → HasRested (setup_of settings) r.now.log
+    → RunsSoFar settings (lines ++ parts_after 10 part) ended r.now
+part_run settings lines began ended h start r part fresh so holds fixed over follows rests =
+    let none : r.left ≡ None = none_left r.left over in
+    let same_part : r.part ≡ part = ap (λ (s : Option (List ℕ) × Halted). s.0) fixed
+    ∙ ap (λ (s : Rerunning). s.part) fresh in
+    let same_start : r.start ≡ h = ap (λ (s : Option (List ℕ) × Halted). s.1) fixed
+    ∙ ap (λ (s : Rerunning). s.start) fresh in
+    let lines_part = parts_after 10 part in
+    let all : AllByRecursion IsRight (event_lines (parts_after 10 r.part)) =
+    holds.right
+    (subst (λ (l : Option (List ℕ)). AllByRecursion IsRight (event_lines (parts_after 10 l)))
+    (sym none) tt) in
+    let right : AllByRecursion IsRight (event_lines lines_part) =
+    subst (λ (l : Option (List ℕ)). AllByRecursion IsRight (event_lines (parts_after 10 l)))
+    same_part all in
+    let counted : r.now.tally.lines + 0 ≡ h.tally.lines + length lines_part =
+    ap (λ (l : Option (List ℕ)). r.now.tally.lines + length (parts_after 10 l)) (sym none)
+    ∙ holds.lines
+    ∙ ap (λ (s : Halted). s.tally.lines + length (parts_after 10 r.part)) same_start
+    ∙ ap (λ (l : Option (List ℕ)). h.tally.lines + length (parts_after 10 l)) same_part in
+    let acted : r.now.tally.actions + 0 ≡ h.tally.actions + count_by is_action lines_part =
+    ap (λ (l : Option (List ℕ)). r.now.tally.actions + count_by is_action (parts_after 10 l))
+    (sym none) ∙ holds.actions
+    ∙ ap (λ (s : Halted). s.tally.actions + count_by is_action (parts_after 10 r.part)) same_start
+    ∙ ap (λ (l : Option (List ℕ)). h.tally.actions + count_by is_action (parts_after 10 l))
+    same_part in
+    record {
+      right = right_behind lines lines_part so.right (none_wrong 1 (event_lines lines_part) right);
+      events = sym (append-nil (events_of r.now.log))
+          ∙ ap (λ (l : Option (List ℕ)). events_of r.now.log
+          ++ events_in (event_lines (parts_after 10 l))) (sym none)
+          ∙ holds.whole
+          ∙ ap (λ (s : Halted). events_of s.log ++ events_in (event_lines (parts_after 10 r.part)))
+          same_start
+          ∙ ap (λ (l : Option (List ℕ)). events_of h.log
+          ++ events_in (event_lines (parts_after 10 l))) same_part
+          ∙ ap (λ es. es ++ events_in (event_lines lines_part)) so.events
+          ∙ sym (ap events_in (lines_behind lines lines_part)
+          ∙ events_joined (event_lines lines) (event_lines lines_part));
+      passed = omega (arith, counted, so.passed, length-append lines lines_part);
+      actions = omega (arith, acted, so.actions, count_joined lines lines_part);
+      follows = follows;
+      rests = rests;
+    }
+
+-- the lines of the run are those before the part, and those on the page
+pub run_lines : (start r : Rerunning) (h : Halted) (part : Option (List ℕ))
+    → start ≡ record { part = part; start = h; left = part; now = h; page = []; failed = 0 }
+    → IsRerunning r → fixed_of r ≡ fixed_of start
+    → whole_lines (lines_of_log h.log) ++ whole_lines r.page ≡ whole_lines (lines_of_log r.now.log)
+run_lines start r h part fresh holds fixed =
+    let same : r.start ≡ h = ap (λ (s : Option (List ℕ) × Halted). s.1) fixed
+    ∙ ap (λ (s : Rerunning). s.start) fresh in
+    ap (λ (s : Halted). whole_lines (lines_of_log s.log) ++ whole_lines r.page) (sym same)
+    ∙ page_lines r.start.log r.now.log r.page holds.page
+
+-- and was compared
+pub part_stands : (settings : Settings) (lines : List (List ℕ)) (began ended : State) (h : Halted)
+    (start r : Rerunning)
+    (part : Option (List ℕ)) (standing stood : Standing) (page : List ℕ)
+    → start ≡ record { part = part; start = h; left = part; now = h; page = []; failed = 0 }
+    → Stands settings lines began h standing → IsRerunning r → fixed_of r ≡ fixed_of start
+    → is_none r.left ≡ true → Follows (setup_of settings) ended (Some r.now.log)
+    → HasRested (setup_of settings) r.now.log
+    → page ≡ r.page
+    → IsCompared (lines ++ parts_after 10 part) (whole_lines (lines_of_log h.log)
+    ++ whole_lines page) stood
+    → Stands settings (lines ++ parts_after 10 part) ended r.now stood
+part_stands settings lines began ended h start r part standing stood page fresh so holds fixed over
+    follows rests same compared =
+    record {
+      runs = part_run settings lines began ended h start r part fresh so.runs holds fixed over
+          follows rests;
+      compared =
+          subst (λ (run : List (List ℕ)). IsCompared (lines ++ parts_after 10 part) run stood)
+          (ap (λ xs. whole_lines (lines_of_log h.log) ++ whole_lines xs) same
+          ∙ run_lines start r h part fresh holds fixed)
+          compared;
+    }
+
+-- the run may go on over this part
+pub goes_on : (settings : Settings) (lines : List (List ℕ)) (state : State) (h : Halted)
+    (start : Rerunning) (part : Option (List ℕ))
+    → start ≡ record { part = part; start = h; left = part; now = h; page = []; failed = 0 }
+    → RunsSoFar settings lines state h
+    → Follows (setup_of settings) state (Some start.now.log)
+    × Rests (setup_of settings) (Some start.now.log)
+goes_on settings lines state h start part fresh so = (
+  subst (λ (r : Rerunning). Follows (setup_of settings) state (Some r.now.log)) (sym fresh)
+      so.follows,
+  subst (λ (r : Rerunning). Rests (setup_of settings) (Some r.now.log)) (sym fresh) so.rests,
+)

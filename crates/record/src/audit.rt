@@ -1,0 +1,186 @@
+//! The audit of a recorded run: its events are run again, and the lines of the run are compared
+//! with those of the record.
+//!
+//! A record is a text of lines: each event as a trace has it, and each action as a run prints it,
+//! in the order in which they came and went out. A line with `!` was cut short and is left out.
+//! It is read block by block, so that an audit takes as much memory as a block and the lines of its
+//! run do, however long the record is. Proved of [`audit_text`]: it answers 'the same' exactly
+//! where the record's lines are the first of those of the run over its events, and else the first
+//! line that differs; and the log of that run keeps every promise of a gateway with these settings.
+//! What the lines of a record say has literal examples ([`record_lines_by_example`]).
+mod comparing;
+pub(crate) mod examples;
+pub(crate) mod passing;
+mod rerun;
+
+ghost use Rattle.std.specs.Prelude.{◌≡◌, ◌++◌, false, IfErr, IfOk, IfSome, List, OnOk, ℕ};
+ghost use Rattle.std.specs.Option.{option_copied};
+ghost use Rattle.traces.specs.Blocks.{IsGiven};
+ghost use Rattle.gateway.specs.Config.{Settings};
+ghost use Rattle.gateway.specs.Setups.{setup_of};
+ghost use Rattle.gateway.specs.Traffic.{IsFaithful};
+ghost use Rattle.traces.specs.Fields.{parts_after};
+ghost use Rattle.gateway.specs.State.{State};
+ghost use Rattle.record.specs.Audit.{IsAudited, IsVerdict};
+ghost use Rattle.record.specs.Rerunning.{IsHalted, IsPartFault, IsReadFault, Stands};
+
+use self::comparing::{Standing, compare};
+use self::passing::{fault_among, part_of};
+use self::rerun::Halt;
+use delivery::nothing_is_lost;
+use gateway::{Config, End, Gateway, drive_on, steps_keep_their_order};
+use std::alloc::{AllocError, Global};
+use std::io::Read;
+use thiserror::Error;
+use traces::{BlockFault, Blocks, TextFault};
+
+/// What an audit finds.
+#[derive(Clone, Copy, Debug, PartialEq, Eq)]
+pub enum Verdict {
+    /// The record is that of the run over its events, as far as it goes.
+    Same {
+        /// How many events it has.
+        events: u64,
+        /// How many actions it has.
+        actions: u64,
+    },
+    /// The first line, counted from 1, that isn't the run's.
+    Differs(u64),
+}
+
+/// Why there is no verdict.
+#[derive(Clone, Copy, Debug, PartialEq, Eq, Error)]
+pub enum RecordFault {
+    /// The first line, counted from 1, that is neither an event nor an action.
+    #[error("line {0}")]
+    Line(u64),
+    /// The record can't be read on.
+    #[error("the record cannot be read")]
+    Unread,
+    /// Memory was refused.
+    #[error("no memory")]
+    NoMemory,
+}
+
+impl From<AllocError> for RecordFault {
+    ghost use Rattle.record.specs.declared.audit.RecordFault.TheVariants.{NoMemory};
+
+    ghost from_gives = { λ _ e. e ≡ NoMemory };
+
+    fn from(_error: AllocError) -> RecordFault {
+        RecordFault::NoMemory
+    }
+}
+
+/// How far an audit has come.
+#[derive(Drop)]
+struct Course {
+    halt: Halt,
+    standing: Standing,
+}
+
+/// Goes on to the next block of a text, where there is one.
+fn advance<R: Read + Drop>(blocks: &mut Blocks<R>) -> Result<(), RecordFault>
+    requires { blocks.old.is_over ≡ false }
+    ensures block { OnOk result (IfSome blocks.old.coming (λ text. IsGiven text blocks.new)) }
+    ensures fault { IfErr result IsReadFault }
+{
+    match blocks.advance() {
+        Ok(true) => Ok(()),
+        Ok(false) => unreachable!(),
+        Err(BlockFault::Unread) => Err(RecordFault::Unread),
+        Err(BlockFault::NoMemory) => Err(RecordFault::NoMemory),
+    }
+}
+
+/// Runs a gateway over the lines of one part more, or over no line, and compares them with those of
+/// the run.
+fn run_part(
+    alloc: Global,
+    gateway: &mut Gateway,
+    course: Course,
+    part: Option<&[u8]>,
+) -> Result<Course, RecordFault>
+    ensures ran { (settings : Settings) (lines : List (List ℕ)) →
+        Stands settings lines gateway.old course.halt course.standing →
+        IfOk result (λ after. Stands settings (lines ++ parts_after 10 (option_copied part.entry))
+        gateway.new after.halt after.standing
+        × IsFaithful (setup_of settings) after.halt.log × IsHalted after.halt) }
+    ensures fault { IfErr result (IsPartFault course.halt.tally.lines
+        (parts_after 10 (option_copied part.entry))) }
+{
+    let Course { halt, standing } = course;
+    let before = halt.tally().lines;
+    // No memory holds so many lines.
+    let Some(first) = before.checked_add(1) else {
+        return Err(RecordFault::NoMemory);
+    };
+    let mut port = halt.over(part);
+    match drive_on(gateway, &mut port, u64::MAX) {
+        End::Finished => {
+            let standing = compare(alloc, standing, part, first, port.page())?;
+            Ok(Course {
+                halt: port.halt(),
+                standing,
+            })
+        }
+        End::Device => match fault_among(part, first) {
+            TextFault::Line(n) => Err(RecordFault::Line(n)),
+            TextFault::NoMemory => Err(RecordFault::NoMemory),
+        },
+        // No memory holds so many events.
+        End::Turns => Err(RecordFault::NoMemory),
+    }
+}
+
+/// What an audit found that has come to the end of its record.
+fn verdict_of(course: &Course) -> Verdict
+    ensures { (settings : Settings) (lines : List (List ℕ)) (state : State) →
+        Stands settings lines state course.now.halt course.now.standing →
+        IsVerdict lines course.now.halt.log result }
+{
+    match &course.standing {
+        Standing::Level(_) => {
+            let tally = course.halt.tally();
+            Verdict::Same {
+                events: tally.events,
+                actions: tally.actions,
+            }
+        }
+        Standing::Behind(number, _) => Verdict::Differs(*number),
+        Standing::Differs(number) => Verdict::Differs(*number),
+    }
+}
+
+/// Runs a gateway with these settings over the events of a record, and compares what went out with
+/// the record's actions. The record is read once, block by block: a block and the lines of its run
+/// are held in memory, and no more. A last line that was cut short is left out. A line that is
+/// neither an event nor an action is a fault, whether or not a line before it differs.
+pub fn audit_text<R: Read + Drop>(
+    alloc: Global,
+    config: &Config,
+    text: R,
+) -> Result<Verdict, RecordFault>
+    ensures { IsAudited config.now (R.remaining text) result }
+{
+    nothing_is_lost();
+    steps_keep_their_order();
+    let Ok(mut gateway) = Gateway::new(alloc, config) else {
+        return Err(RecordFault::NoMemory);
+    };
+    let mut blocks = Blocks::new(alloc, text);
+    let mut course = Course {
+        halt: Halt::new(alloc),
+        standing: Standing::Level(Vec::new(alloc)),
+    };
+    'auditing: for _ in 0..u64::MAX {
+        advance(&mut blocks)?;
+        let part = part_of(blocks.lines(), blocks.is_over());
+        course = run_part(alloc, &mut gateway, course, part)?;
+        if blocks.is_over() {
+            return Ok(verdict_of(&course));
+        }
+    }
+    // No memory holds so many blocks.
+    Err(RecordFault::NoMemory)
+}
