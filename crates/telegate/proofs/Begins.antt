@@ -3,7 +3,7 @@ use Rattle.std.proofs.Common.{◌≡◌, ◌++◌, ℕ, List, [], Option, Some, 
 use Rattle.gateway.specs.Log.{Log}
 use Rattle.record.specs.Recording.{Recording, added, log_of, told_behind, told_first}
 use Rattle.record.specs.Written.{IsText, IsWritten}
-use Rattle.telegate.specs.Lives.{all_told, behind}
+use Rattle.telegate.specs.Lives.{all_passed, behind}
 use Rattle.telegate.specs.Sites.{IsNew}
 
 empty_text : IsText []
@@ -21,22 +21,22 @@ added_nothing None missed new = tt
 added_nothing (Some text) missed new =
     subst (λ (t : List ℕ). IsText (t ++ [])) (sym new.0) empty_text
 
-told_nothing : (taken : Option (List ℕ)) (missed : Option Log) → IsNew taken missed
+written_nothing : (taken : Option (List ℕ)) (missed : Option Log) → IsNew taken missed
     → told_first (told_behind (added taken []) missed) (Some []) ≡ Some []
-told_nothing None missed new = refl
-told_nothing (Some text) None new = refl
-told_nothing (Some text) (Some log) new = rw (new.0, new.1)
+written_nothing None missed new = refl
+written_nothing (Some text) None new = refl
+written_nothing (Some text) (Some log) new = rw (new.0, new.1)
 
 -- so its record has an empty log, or none
-pub new_tells_nothing : (r : Recording) → IsNew r.taken r.missed → r.held ≡ []
+pub new_has_nothing : (r : Recording) → IsNew r.taken r.missed → r.held ≡ []
     → told_first (log_of r) (Some []) ≡ Some []
-new_tells_nothing r new none =
+new_has_nothing r new none =
     ap (λ held. told_first (told_behind (added r.taken held) r.missed) (Some [])) none
-    ∙ told_nothing r.taken r.missed new
+    ∙ written_nothing r.taken r.missed new
 
 -- and all that passed is what passed before
-pub told_before : (before : Log) (pen : Recording) (told : Option Log)
+pub all_before : (before : Log) (pen : Recording) (written : Option Log)
     → told_first (log_of pen) (Some []) ≡ Some []
-    → told ≡ Some [] → all_told before pen told ≡ Some before
-told_before before pen told new none =
+    → written ≡ Some [] → all_passed before pen written ≡ Some before
+all_before before pen written new none =
     ap (λ t. behind before (told_first (log_of pen) t)) none ∙ ap (behind before) new

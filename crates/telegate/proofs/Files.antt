@@ -13,9 +13,10 @@ use Rattle.telegate.specs.Wishes.{IsSiteIn, site_files}
 use Rattle.telegate.specs.declared.run_words.RunWords.{RunWords}
 use Rattle.telegate.specs.Manners.{manner_of}
 use Rattle.telegate.specs.declared.host.Wishes.{Wishes}
-use Rattle.telegate.specs.declared.command_line.Request.{Request}
-use Rattle.telegate.specs.declared.command_line.Request.TheVariants.{Check, Replay, Run, State}
-use Rattle.telegate.specs.declared.command_line.Request.TheVariants.{Stations}
+use Rattle.telegate.specs.declared.command_line.CommandRequest.{CommandRequest}
+use Rattle.telegate.specs.declared.command_line.CommandRequest.TheVariants.{Check, Replay, Run}
+use Rattle.telegate.specs.declared.command_line.CommandRequest.TheVariants.{State}
+use Rattle.telegate.specs.declared.command_line.CommandRequest.TheVariants.{Stations}
 use Rattle.telegate.specs.declared.fault.Fault.{Fault}
 use Rattle.telegate.specs.declared.host.Unread.{Unread}
 use Rattle.telegate.specs.declared.host.Unread.TheVariants.{Unreadable, NoMemory}
@@ -129,13 +130,14 @@ module _ (has : Text → List ℕ → Type 0) (lacks : Text → Type 0) where
       (played : List ℕ → List ℕ → Result (Unit {0}) Fault → Type 0)
       (stands : Text → Stood → Type 0) (colours : Bool) where
     -- a command whose files can't be read
-    pub unanswered : (request : Request) (files : List Text) (known : Option (List ℕ)) (exit : ℕ)
+    pub unanswered : (request : CommandRequest) (files : List Text) (known : Option (List ℕ))
+        (exit : ℕ)
         → files_of request ≡ files → IsNotRead has lacks files exit
         → Responds has lacks ran answered silent played stands colours request known known exit
     unanswered request files known exit are h =
         inr (subst (λ (fs : List Text). IsNotRead has lacks fs exit) (sym are) h, keeps_same known)
 
-    pub has_replayed : (request : Request) (config trace : Bor Text)
+    pub has_replayed : (request : CommandRequest) (config trace : Bor Text)
         (left counts words color : Bool) (octets : List ℕ)
         (old new : Option (List ℕ)) (exit : ℕ)
         → request ≡ Replay config trace left counts words color
@@ -145,7 +147,8 @@ module _ (has : Text → List ℕ → Type 0) (lacks : Text → Type 0) where
         old new exit
         → Responds has lacks ran answered silent played stands colours request old new exit
     has_replayed request config trace left counts words color octets old new exit is read h =
-        subst (λ (r : Request). Responds has lacks ran answered silent played stands colours r old
+        subst (λ (r : CommandRequest). Responds has lacks ran answered silent played stands colours
+        r old
         new exit)
         (sym is)
         (elim h [
@@ -154,12 +157,13 @@ module _ (has : Text → List ℕ → Type 0) (lacks : Text → Type 0) where
               inr (later_of_more config.now octets (trace.now ∷ []) exit read none.0, none.1)
         ])
 
-    pub has_run : (request : Request) (config : Bor Text) (words : RunWords)
+    pub has_run : (request : CommandRequest) (config : Bor Text) (words : RunWords)
         (known : Option (List ℕ)) (exit : ℕ)
         → request ≡ Run config words → RunsAsSaid has lacks ran config.now words exit
         → Responds has lacks ran answered silent played stands colours request known known exit
     has_run request config words known exit is h =
-        subst (λ (r : Request). Responds has lacks ran answered silent played stands colours r known
+        subst (λ (r : CommandRequest). Responds has lacks ran answered silent played stands colours
+        r known
         known
         exit)
         (sym is)
@@ -169,23 +173,26 @@ module _ (has : Text → List ℕ → Type 0) (lacks : Text → Type 0) where
         ])
 
     -- settings that were judged, behind the file of a site or alone
-    pub has_checked : (request : Request) (config : Bor Text) (site : Option (Bor Text))
+    pub has_checked : (request : CommandRequest) (config : Bor Text) (site : Option (Bor Text))
         (live explain : Bool) (old new : Option (List ℕ)) (exit : ℕ)
         → request ≡ Check config site live explain
         → ChecksBehind has lacks (text_of site) config.now
         (record { live = live; explain = explain }) old new exit
         → Responds has lacks ran answered silent played stands colours request old new exit
     has_checked request config site live explain old new exit is h =
-        subst (λ (r : Request). Responds has lacks ran answered silent played stands colours r old
+        subst (λ (r : CommandRequest). Responds has lacks ran answered silent played stands colours
+        r old
         new exit)
         (sym is) h
 
-    pub have_played : (request : Request) (config script : Bor Text) (known : Option (List ℕ))
+    pub have_played : (request : CommandRequest) (config script : Bor Text)
+        (known : Option (List ℕ))
         (exit : ℕ) → request ≡ Stations config script
         → PlayFiles has lacks played config.now script.now exit
         → Responds has lacks ran answered silent played stands colours request known known exit
     have_played request config script known exit is h =
-        subst (λ (r : Request). Responds has lacks ran answered silent played stands colours r known
+        subst (λ (r : CommandRequest). Responds has lacks ran answered silent played stands colours
+        r known
         known
         exit)
         (sym is)
@@ -194,11 +201,12 @@ module _ (has : Text → List ℕ → Type 0) (lacks : Text → Type 0) where
           | inr none ↦ inr (none, keeps_same known)
         ])
 
-    pub has_shown : (request : Request) (directory : Bor Text) (config : Option (Bor Text))
+    pub has_shown : (request : CommandRequest) (directory : Bor Text) (config : Option (Bor Text))
         (old new : Option (List ℕ)) (exit : ℕ) → request ≡ State directory config
         → ShowsState has lacks stands directory.now (text_of config) old new exit
         → Responds has lacks ran answered silent played stands colours request old new exit
     has_shown request directory config old new exit is h =
-        subst (λ (r : Request). Responds has lacks ran answered silent played stands colours r old
+        subst (λ (r : CommandRequest). Responds has lacks ran answered silent played stands colours
+        r old
         new exit)
         (sym is) h

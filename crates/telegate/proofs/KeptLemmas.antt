@@ -2,7 +2,7 @@
 use Rattle.std.proofs.Common.{◌≡◌, Bool, true, false, refl, sym, subst}
 use Rattle.runlog.specs.Logging.{Book}
 use Rattle.telegate.specs.Kept.{IsEndFault, IsKeptFault}
-use Rattle.telegate.specs.Told.{IsUnkept, fault_of}
+use Rattle.telegate.specs.Logged.{IsUnkept, fault_of}
 use Rattle.telegate.specs.declared.fault.Fault.{Fault}
 use Rattle.telegate.specs.declared.fault.Fault.TheVariants.{NoMemory, StateInUse, StateUnusable}
 

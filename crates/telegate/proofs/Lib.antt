@@ -19,8 +19,8 @@ pub mod RecordLemmas
 pub mod CheckLemmas
 pub mod KeptLemmas
 pub mod PipeLemmas
-pub mod TellingLemmas
-pub mod ToldSimLemmas
+pub mod InWordsLemmas
+pub mod SimInWordsLemmas
 pub mod Wished
 pub mod RanLemmas
 pub mod CaptureLemmas

@@ -5,8 +5,8 @@ use Rattle.gateway.specs.Log.{Log, tell}
 use Rattle.telegate.specs.Lives.{behind}
 
 -- where the port inside logged it, so did the whole
-pub told_behind : (before : Log) (old new : Option Log) (news : Log) → new ≡ tell old news
+pub logged_behind : (before : Log) (old new : Option Log) (news : Log) → new ≡ tell old news
     → behind before new ≡ tell (behind before old) news
-told_behind before None new news is = rw is
-told_behind before (Some log) new news is = ap (behind before) is
+logged_behind before None new news is = rw is
+logged_behind before (Some log) new news is = ap (behind before) is
     ∙ ap Some (append_assoc news log before)

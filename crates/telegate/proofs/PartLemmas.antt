@@ -20,7 +20,7 @@ use Rattle.traces.specs.Progress.{events_left, events_of_part, is_through, scrip
 use Rattle.traces.specs.Trace.{lines_of, first_wrong}
 use Rattle.telegate.specs.Manners.{AreLines}
 use Rattle.telegate.specs.Parts.{IsJudgedFault, IsLineFault, IsRightText, IsWrongText, GoesOn}
-use Rattle.telegate.specs.Parts.{StaysFaithful, IsClear, IsPartRun, IsPartStopped, IsRunOver}
+use Rattle.telegate.specs.Parts.{StaysFaithful, IsClearPause, IsPartRun, IsPartStopped, IsPartsRun}
 use Rattle.telegate.specs.Parts.{IsPartRead, IsStoppedOver, part_behind}
 use Rattle.telegate.specs.Printed.{IsPoured}
 use Rattle.telegate.specs.Records.{behind_tick, lines_read, script_read}
@@ -249,7 +249,7 @@ module _ (r : Bool) (known coming : Option (List ℕ)) (first : ℕ)
 -- Running
 
 -- how far a run over a text has come, and what was printed of it
-pub record RunsTo (Tells : Log → List ℕ → Type 0) (r : Bool) (known coming : Option (List ℕ))
+pub record RunsTo (IsTextBy : Log → List ℕ → Type 0) (r : Bool) (known coming : Option (List ℕ))
     (began state : State) (s : Standing)
     (is_whole : Bool) (old new : Option (List ℕ)) : Type 0 where
   pub before : List ℕ
@@ -262,9 +262,9 @@ pub record RunsTo (Tells : Log → List ℕ → Type 0) (r : Bool) (known coming
   pub goes : (p : Setup) → Follows p began (Some []) → Follows p state (Some s.log)
       × HasRested p s.log
   pub faithful : Keeps old new ⊎ ((p : Setup) → Follows p began (Some []) → IsFaithful p s.log)
-  pub clear : IsClear s
+  pub clear : IsClearPause s
   pub lines : List ℕ
-  pub told : Tells s.log lines
+  pub written : IsTextBy s.log lines
   pub poured : IsPoured is_whole old new lines
 
 -- the events of a part, where the tick came before
@@ -295,10 +295,10 @@ events_on r earlier b lines part t more =
     ∙ ap (behind_tick b) (sym (events_joined (lines_of part) (lines_read r t))
     ∙ ap events_in (sym more)))
 
-module _ (Tells : Log → List ℕ → Type 0) (r : Bool) (known coming later : Option (List ℕ))
+module _ (IsTextBy : Log → List ℕ → Type 0) (r : Bool) (known coming later : Option (List ℕ))
     (began state : State) (s : Standing)
     (is_whole : Bool) (old new : Option (List ℕ)) (lines part : List ℕ) (over : Bool)
-    (h : RunsTo Tells r known coming began state s is_whole old new)
+    (h : RunsTo IsTextBy r known coming began state s is_whole old new)
     (read : IsPartRead r lines over part) where
   -- all events of the last part
   last_part_events : over ≡ true → events_of s.log ++ events_of_part (not s.started) part
@@ -311,9 +311,9 @@ module _ (Tells : Log → List ℕ → Type 0) (r : Bool) (known coming later : 
       (text : List ℕ) → over ≡ false
       → IfSome coming (λ text. AreCutOff text lines false later)
       → IsPartRun s part state ended after
-      → Tells after.log text → IsPoured whole old newer text
-      → RunsTo Tells r known later began ended after whole old newer
-  ran_on ended after whole newer text goes cut run told poured = record {
+      → IsTextBy after.log text → IsPoured whole old newer text
+      → RunsTo IsTextBy r known later began ended after whole old newer
+  ran_on ended after whole newer text goes cut run written poured = record {
     before = h.before ++ (lines ++ 10 ∷ []);
     rest = rest_behind known coming later h.before lines h.rest cut;
     right = λ t right. ap (λ xs. first_wrong 1 (lines_read r xs)) (joined h.before lines t)
@@ -333,7 +333,7 @@ module _ (Tells : Log → List ℕ → Type 0) (r : Bool) (known coming later : 
         done.faithful);
     clear = run.clear;
     lines = text;
-    told = told;
+    written = written;
     poured = poured;
   }
 
@@ -342,9 +342,9 @@ module _ (Tells : Log → List ℕ → Type 0) (r : Bool) (known coming later : 
       (text : List ℕ) → over ≡ true
       → IfSome coming (λ text. AreCutOff text lines true later)
       → IsPartRun s part state ended after
-      → Tells after.log text → IsPoured whole old newer text
-      → IsRunOver Tells r known began ended old newer whole
-  ran_last ended after whole newer text is cut run told poured = record {
+      → IsTextBy after.log text → IsPoured whole old newer text
+      → IsPartsRun IsTextBy r known began ended old newer whole
+  ran_last ended after whole newer text is cut run written poured = record {
     octets = h.before ++ lines;
     given = rest_last known coming later h.before lines h.rest cut;
     right = h.right lines (read.last_wrong is 1 ∙ run.right);
@@ -352,19 +352,19 @@ module _ (Tells : Log → List ℕ → Type 0) (r : Bool) (known coming later : 
     events = run.events ∙ last_part_events is;
     goes = λ p begins rested. let at = h.goes p begins in run.goes p at.0 at.1;
     lines = text;
-    told = told;
+    written = written;
     poured = poured;
   }
 
   -- or the run stopped in it
   pub ran_into : (newer : Option (List ℕ))
       → IfSome coming (λ text. AreCutOff text lines over later)
-      → IsPartStopped Tells s part state old newer
-      → IsStoppedOver Tells r known began old newer
+      → IsPartStopped IsTextBy s part state old newer
+      → IsStoppedOver IsTextBy r known began old newer
   ran_into newer cut stop = by over refl cut
     where
       by : (o : Bool) → over ≡ o → IfSome coming (λ text. AreCutOff text lines o later)
-          → IsStoppedOver Tells r known began old newer
+          → IsStoppedOver IsTextBy r known began old newer
       by true is cut = record {
         octets = h.before ++ lines;
         given = rest_last known coming later h.before lines h.rest cut;
@@ -373,7 +373,7 @@ module _ (Tells : Log → List ℕ → Type 0) (r : Bool) (known coming later : 
         events = stop.events ∙ last_part_events is;
         faithful = λ p begins rested. let at = h.goes p begins in stop.faithful p at.0 at.1;
         lines = stop.lines;
-        told = stop.told;
+        written = stop.written;
         begun = stop.begun;
       }
       by false goes cut =
@@ -391,21 +391,21 @@ module _ (Tells : Log → List ℕ → Type 0) (r : Bool) (known coming later : 
                 ∙ h.events (lines ++ 10 ∷ some.0);
             faithful = λ p begins rested. let at = h.goes p begins in stop.faithful p at.0 at.1;
             lines = stop.lines;
-            told = stop.told;
+            written = stop.written;
             begun = stop.begun;
           }
 
 -- the run stopped between two blocks
-pub ran_to : (Tells : Log → List ℕ → Type 0) (r : Bool) (known coming : Option (List ℕ))
+pub ran_to : (IsTextBy : Log → List ℕ → Type 0) (r : Bool) (known coming : Option (List ℕ))
     (began state : State)
     (s : Standing)
     (is_whole : Bool) (old new : Option (List ℕ))
-    → RunsTo Tells r known coming began state s is_whole old new
-    → Keeps old new ⊎ IsStoppedOver Tells r known began old new
-ran_to Tells r known coming began state s is_whole old new h = by h.faithful
+    → RunsTo IsTextBy r known coming began state s is_whole old new
+    → Keeps old new ⊎ IsStoppedOver IsTextBy r known began old new
+ran_to IsTextBy r known coming began state s is_whole old new h = by h.faithful
   where
     by : Keeps old new ⊎ ((p : Setup) → Follows p began (Some []) → IsFaithful p s.log)
-        → Keeps old new ⊎ IsStoppedOver Tells r known began old new
+        → Keeps old new ⊎ IsStoppedOver IsTextBy r known began old new
     by (inl keeps) = inl keeps
     by (inr faithful) =
         let some = rest_some known coming h.before h.rest in
@@ -417,20 +417,20 @@ ran_to Tells r known coming began state s is_whole old new h = by h.faithful
           events = h.events some.0;
           faithful = λ p begins rested. faithful p begins;
           lines = h.lines;
-          told = h.told;
+          written = h.written;
           begun = poured_begun is_whole old new h.lines h.poured;
         })
 
 -- at first
-pub runs_begin : (Tells : Log → List ℕ → Type 0) (r : Bool) (known coming : Option (List ℕ))
+pub runs_begin : (IsTextBy : Log → List ℕ → Type 0) (r : Bool) (known coming : Option (List ℕ))
     (began : State)
     (s : Standing)
     (old : Option (List ℕ)) → coming ≡ known
-    → s ≡ record { started = r; log = []; poured = []; page = []; failed = 0 } → Tells [] []
-    → RunsTo Tells r known coming began began s true old old
-runs_begin Tells r known coming began s old all fresh nothing =
-    subst (λ (c : Option (List ℕ)). RunsTo Tells r known c began began s true old old) (sym all)
-    (subst (λ (x : Standing). RunsTo Tells r known known began began x true old old) (sym fresh)
+    → s ≡ record { started = r; log = []; poured = []; page = []; failed = 0 } → IsTextBy [] []
+    → RunsTo IsTextBy r known coming began began s true old old
+runs_begin IsTextBy r known coming began s old all fresh nothing =
+    subst (λ (c : Option (List ℕ)). RunsTo IsTextBy r known c began began s true old old) (sym all)
+    (subst (λ (x : Standing). RunsTo IsTextBy r known known began began x true old old) (sym fresh)
     (record {
       before = [];
       rest = rest_begins known;
@@ -440,7 +440,7 @@ runs_begin Tells r known coming began s old all fresh nothing =
       faithful = inl (keeps_same old);
       clear = record { healthy = refl; poured = refl };
       lines = [];
-      told = nothing;
+      written = nothing;
       poured = appends_none old;
     }))
 
@@ -450,13 +450,13 @@ pub poured_lines : (known coming : Option (List ℕ)) (began state : State) (s :
     (old mid : Option (List ℕ)) → RunsTo AreLines false known coming began state s is_whole old mid
     → IsPoured is_whole old mid (lines_of_actions s.log)
 poured_lines known coming began state s is_whole old mid h =
-    subst (λ (xs : List ℕ). IsPoured is_whole old mid xs) h.told h.poured
+    subst (λ (xs : List ℕ). IsPoured is_whole old mid xs) h.written h.poured
 
 -- over a block that was read so
-module _ (Tells : Log → List ℕ → Type 0) (r : Bool) (known coming : Option (List ℕ))
+module _ (IsTextBy : Log → List ℕ → Type 0) (r : Bool) (known coming : Option (List ℕ))
     (began state : State)
     (s : Standing)
-    (is_whole : Bool) (old mid : Option (List ℕ)) (h : RunsTo Tells r known coming began state s
+    (is_whole : Bool) (old mid : Option (List ℕ)) (h : RunsTo IsTextBy r known coming began state s
     is_whole old mid)
     (block : Reading) (lines part : List ℕ) (same : lines ≡ block.lines)
     (cut : IfSome coming (λ text. IsGiven text block))
@@ -469,29 +469,30 @@ module _ (Tells : Log → List ℕ → Type 0) (r : Bool) (known coming : Option
       (sym same) cut)
 
   module _ (ended : State) (after : Standing) (whole : Bool) (new : Option (List ℕ))
-      (run : IsPartRun s part state ended after) (text : List ℕ) (told : Tells after.log text)
+      (run : IsPartRun s part state ended after) (text : List ℕ) (written : IsTextBy after.log text)
       (poured : IsPoured whole old new text) where
     pub block_run : block.is_over ≡ false
-        → RunsTo Tells r known block.coming began ended after whole
+        → RunsTo IsTextBy r known block.coming began ended after whole
         old new
-    block_run is = ran_on Tells r known coming block.coming began state s is_whole old mid lines
+    block_run is = ran_on IsTextBy r known coming block.coming began state s is_whole old mid lines
         part block.is_over h read ended after whole new
-        text is (cut_so false is) run told poured
+        text is (cut_so false is) run written poured
 
-    pub all_run : block.is_over ≡ true → IsRunOver Tells r known began ended old new whole
-    all_run is = ran_last Tells r known coming block.coming began state s is_whole old mid lines
+    pub all_run : block.is_over ≡ true → IsPartsRun IsTextBy r known began ended old new whole
+    all_run is = ran_last IsTextBy r known coming block.coming began state s is_whole old mid lines
         part block.is_over h read ended after whole new
-        text is (cut_so true is) run told poured
+        text is (cut_so true is) run written poured
 
   -- the run stopped before it, or in it
-  pub block_left : (new : Option (List ℕ)) → (new ≡ mid) ⊎ IsPartStopped Tells s part state old new
-      → Keeps old new ⊎ IsStoppedOver Tells r known began old new
+  pub block_left : (new : Option (List ℕ)) → (new ≡ mid)
+      ⊎ IsPartStopped IsTextBy s part state old new
+      → Keeps old new ⊎ IsStoppedOver IsTextBy r known began old new
   block_left new (inl unchanged) =
-      subst (λ (n : Option (List ℕ)). Keeps old n ⊎ IsStoppedOver Tells r known began old n)
+      subst (λ (n : Option (List ℕ)). Keeps old n ⊎ IsStoppedOver IsTextBy r known began old n)
       (sym unchanged)
-      (ran_to Tells r known coming began state s is_whole old mid h)
+      (ran_to IsTextBy r known coming began state s is_whole old mid h)
   block_left new (inr stop) =
-      inr (ran_into Tells r known coming block.coming began state s is_whole old mid lines part
+      inr (ran_into IsTextBy r known coming block.coming began state s is_whole old mid lines part
       block.is_over h read new (cut_so block.is_over refl) stop)
 
 -- One part
@@ -567,12 +568,12 @@ module _ (s : Standing) (text : List ℕ) (began : State) (start port : Progress
     events = whole ∙ ap script_of same_part;
     faithful = subst (λ (t : Progress). StaysFaithful began t.log port.log) fresh faithful;
     lines = lines_of_actions port.log;
-    told = refl;
+    written = refl;
     begun = begun;
   }
 
   -- its lines so far were printed
-  pub part_poured : (is_whole : Bool) (old new : Option (List ℕ)) → IsClear s
+  pub part_poured : (is_whole : Bool) (old new : Option (List ℕ)) → IsClearPause s
       → IsPoured is_whole old new (lines_of_actions s.log)
       → IsPoured is_whole old new (lines_of_actions start.poured)
   part_poured is_whole old new clear poured =

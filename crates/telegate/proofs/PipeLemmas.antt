@@ -14,7 +14,8 @@ use Rattle.traces.specs.Trace.{lines_of}
 use Rattle.words.specs.Pipes.{octets_in}
 use Rattle.words.specs.Told.{both}
 use Rattle.telegate.specs.Parts.{IsWant}
-use Rattle.telegate.specs.Piping.{AreLinesTold, IsAdded, IsLineTold, IsToldAs, IsPiped, IsPipedSome}
+use Rattle.telegate.specs.Piping.{AreLinesShown, IsAdded, IsLineShown, IsShownAs, IsPiped}
+use Rattle.telegate.specs.Piping.{IsPipedSome}
 use Rattle.telegate.specs.Piping.{Pipes}
 use Rattle.telegate.specs.Source.{Gives}
 use Rattle.telegate.specs.declared.fault.Fault.{Fault}
@@ -38,11 +39,11 @@ both_good Faulty = refl
 module _ (piped : Piped) (words : Bool) where
   -- some lines, and then others
   pub lines_more : (ls ms : List (List ℕ)) (a b : List ℕ) (o p : Outcome)
-      → AreLinesTold piped words ls a o
-      → AreLinesTold piped words ms b p → AreLinesTold piped words (ls ++ ms) (a ++ b) (both o p)
+      → AreLinesShown piped words ls a o
+      → AreLinesShown piped words ms b p → AreLinesShown piped words (ls ++ ms) (a ++ b) (both o p)
   lines_more [] ms a b o p h k =
-      subst (λ (x : Outcome). AreLinesTold piped words ms (a ++ b) (both x p)) (sym h.1)
-      (subst (λ (xs : List ℕ). AreLinesTold piped words ms (xs ++ b) p) (sym h.0) k)
+      subst (λ (x : Outcome). AreLinesShown piped words ms (a ++ b) (both x p)) (sym h.1)
+      (subst (λ (xs : List ℕ). AreLinesShown piped words ms (xs ++ b) p) (sym h.0) k)
   lines_more (l ∷ ls) ms a b o p h k = (
     h.0,
     h.1,
@@ -55,22 +56,23 @@ module _ (piped : Piped) (words : Bool) where
   )
 
   -- one line
-  one_line : (line text : List ℕ) (o : Outcome) → IsLineTold piped words (octets_in line) text o
-      → AreLinesTold piped words (line ∷ []) text o
+  one_line : (line text : List ℕ) (o : Outcome) → IsLineShown piped words (octets_in line) text o
+      → AreLinesShown piped words (line ∷ []) text o
   one_line line text o h =
       (text, o, [], Good, h, (refl, refl), sym (append-nil text), sym (both_good o))
 
   -- a line that is no octets adds nothing, and isn't as it should be
-  pub none_added : (octets : Option (List ℕ)) (told : Option Shown) (text : List ℕ)
-      (o later : Outcome) → told ≡ None
-      → later ≡ both o Faulty → IsToldAs piped words octets told
+  pub none_added : (octets : Option (List ℕ)) (shown : Option Shown) (text : List ℕ)
+      (o later : Outcome) → shown ≡ None
+      → later ≡ both o Faulty → IsShownAs piped words octets shown
       → IsAdded piped words octets text text o later
-  none_added octets told text o later none judged is =
-      let nothing : octets ≡ None = subst (λ (t : Option Shown). IsToldAs piped words octets t) none
+  none_added octets shown text o later none judged is =
+      let nothing : octets ≡ None = subst (λ (t : Option Shown). IsShownAs piped words octets t)
+      none
       is in record {
         text = [];
         one = Faulty;
-        told = subst (λ (x : Option (List ℕ)). IsLineTold piped words x [] Faulty) (sym nothing)
+        shown = subst (λ (x : Option (List ℕ)). IsLineShown piped words x [] Faulty) (sym nothing)
             (refl, refl);
         added = sym (append-nil text);
         judged = judged;
@@ -80,29 +82,29 @@ module _ (piped : Piped) (words : Bool) where
   pub record LinesTo (all left : List (List ℕ)) (text : List ℕ) (o : Outcome) : Type 0 where
     pub done : List (List ℕ)
     pub split : all ≡ done ++ left
-    pub told : AreLinesTold piped words done text o
+    pub shown : AreLinesShown piped words done text o
 
   pub lines_begin : (all : List (List ℕ)) (text : List ℕ) → text ≡ [] → LinesTo all all text Good
-  lines_begin all text none = record { done = []; split = refl; told = (none, refl) }
+  lines_begin all text none = record { done = []; split = refl; shown = (none, refl) }
 
   pub lines_on : (all left : List (List ℕ)) (line text one later : List ℕ) (o p q : Outcome)
-      → LinesTo all (line ∷ left) text o → IsLineTold piped words (octets_in line) one p
+      → LinesTo all (line ∷ left) text o → IsLineShown piped words (octets_in line) one p
       → later ≡ text ++ one
       → q ≡ both o p → LinesTo all left later q
-  lines_on all left line text one later o p q h told added judged = record {
+  lines_on all left line text one later o p q h shown added judged = record {
     done = h.done ++ line ∷ [];
     split = h.split ∙ sym (append_assoc h.done (line ∷ []) left);
-    told = subst (λ (x : Outcome). AreLinesTold piped words (h.done ++ line ∷ []) later x)
+    shown = subst (λ (x : Outcome). AreLinesShown piped words (h.done ++ line ∷ []) later x)
         (sym judged)
-        (subst (λ (xs : List ℕ). AreLinesTold piped words (h.done ++ line ∷ []) xs (both o p))
+        (subst (λ (xs : List ℕ). AreLinesShown piped words (h.done ++ line ∷ []) xs (both o p))
         (sym added)
-        (lines_more h.done (line ∷ []) text one o p h.told (one_line line one p told)));
+        (lines_more h.done (line ∷ []) text one o p h.shown (one_line line one p shown)));
   }
 
   pub lines_end : (all : List (List ℕ)) (text : List ℕ) (o : Outcome) → LinesTo all [] text o
-      → AreLinesTold piped words all text o
-  lines_end all text o h = subst (λ (ls : List (List ℕ)). AreLinesTold piped words ls text o)
-      (sym (h.split ∙ append-nil h.done)) h.told
+      → AreLinesShown piped words all text o
+  lines_end all text o h = subst (λ (ls : List (List ℕ)). AreLinesShown piped words ls text o)
+      (sym (h.split ∙ append-nil h.done)) h.shown
 
   -- so much of a text was read and shown
   pub record PipesTo (known coming : Option (List ℕ)) (o : Outcome)
@@ -112,7 +114,7 @@ module _ (piped : Piped) (words : Bool) where
     pub done : List (List ℕ)
     pub lines : (t : List ℕ) → lines_of (before ++ t) ≡ done ++ lines_of t
     pub text : List ℕ
-    pub told : AreLinesTold piped words done text o
+    pub shown : AreLinesShown piped words done text o
     pub printed : Appends old new text
 
   pub pipes_begin : (known coming : Option (List ℕ)) (old : Option (List ℕ)) → coming ≡ known
@@ -124,7 +126,7 @@ module _ (piped : Piped) (words : Bool) where
         done = [];
         lines = λ t. refl;
         text = [];
-        told = (refl, refl);
+        shown = (refl, refl);
         printed = appends_none old;
       })
 
@@ -140,14 +142,14 @@ module _ (piped : Piped) (words : Bool) where
       lines = h.lines some.0;
       text = h.text;
       outcome = o;
-      told = h.told;
+      shown = h.shown;
       printed = appends_begun old mid h.text h.printed;
     }
 
     module _ (block : Reading) (ls : List ℕ) (same : ls ≡ block.lines)
         (cut : IfSome coming (λ text. IsGiven text block))
         (text : List ℕ) (p q : Outcome) (new : Option (List ℕ))
-        (told : AreLinesTold piped words (lines_of ls) text p) (judged : q ≡ both o p) where
+        (shown : AreLinesShown piped words (lines_of ls) text p) (judged : q ≡ both o p) where
       cut_as : (over : Bool) → block.is_over ≡ over
           → IfSome coming (λ text. AreCutOff text ls over block.coming)
       cut_as over is =
@@ -156,11 +158,11 @@ module _ (piped : Piped) (words : Bool) where
           (λ (xs : List ℕ). IfSome coming (λ text. AreCutOff text xs block.is_over block.coming))
           (sym same) cut)
 
-      all_told : AreLinesTold piped words (h.done ++ lines_of ls) (h.text ++ text) q
-      all_told =
-          subst (λ (x : Outcome). AreLinesTold piped words (h.done ++ lines_of ls) (h.text ++ text)
+      all_passed : AreLinesShown piped words (h.done ++ lines_of ls) (h.text ++ text) q
+      all_passed =
+          subst (λ (x : Outcome). AreLinesShown piped words (h.done ++ lines_of ls) (h.text ++ text)
           x) (sym judged)
-          (lines_more h.done (lines_of ls) h.text text o p h.told told)
+          (lines_more h.done (lines_of ls) h.text text o p h.shown shown)
 
       pub pipes_on : block.is_over ≡ false → Appends mid new text
           → PipesTo known block.coming q old new
@@ -172,7 +174,7 @@ module _ (piped : Piped) (words : Bool) where
             ∙ ap (λ (xs : List (List ℕ)). h.done ++ xs) (lines_joined ls t)
             ∙ sym (append_assoc h.done (lines_of ls) (lines_of t));
         text = h.text ++ text;
-        told = all_told;
+        shown = all_passed;
         printed = appends_more old mid new h.text text h.printed printed;
       }
 
@@ -182,8 +184,8 @@ module _ (piped : Piped) (words : Bool) where
         octets = h.before ++ ls;
         is = rest_last known coming block.coming h.before ls h.rest (cut_as true is);
         text = h.text ++ text;
-        told = subst (λ (xs : List (List ℕ)). AreLinesTold piped words xs (h.text ++ text) q)
-            (sym (h.lines ls)) all_told;
+        shown = subst (λ (xs : List (List ℕ)). AreLinesShown piped words xs (h.text ++ text) q)
+            (sym (h.lines ls)) all_passed;
         printed = appends_more old mid new h.text text h.printed printed;
       }
 
@@ -200,7 +202,7 @@ module _ (piped : Piped) (words : Bool) where
             lines = h.lines ls ∙ sym (append-nil (h.done ++ lines_of ls));
             text = h.text ++ text;
             outcome = q;
-            told = all_told;
+            shown = all_passed;
             printed = begun_behind old mid new h.text text h.printed begun;
           }
           by false is =
@@ -216,7 +218,7 @@ module _ (piped : Piped) (words : Bool) where
                     ∙ sym (append_assoc h.done (lines_of ls) (lines_of some.0));
                 text = h.text ++ text;
                 outcome = q;
-                told = all_told;
+                shown = all_passed;
                 printed = begun_behind old mid new h.text text h.printed begun;
               }
 
@@ -255,7 +257,7 @@ module _ (piped : Piped) (words : Bool) where
         lines = h.lines;
         text = h.text;
         outcome = h.outcome;
-        told = h.told;
+        shown = h.shown;
         printed = h.printed;
       }
 
@@ -270,8 +272,8 @@ module _ (piped : Piped) (words : Bool) where
         octets = h.octets;
         is = wider h.octets h.is;
         text = h.text;
-        told =
-            h.told;
+        shown =
+            h.shown;
         printed = h.printed;
       }
       by (Err Device) h = some_of h

@@ -13,34 +13,34 @@ use Rattle.traces.specs.Blocks.{AreCutOff, IsGiven, Reading}
 use Rattle.traces.specs.Fields.{parts_after}
 use Rattle.traces.specs.Trace.{lines_of}
 use Rattle.traces.proofs.JoinedLemmas.{lines_joined}
-use Rattle.telegate.specs.Parts.{IsFoundIn, IsPartRead}
-use Rattle.telegate.specs.Records.{tells_action}
+use Rattle.telegate.specs.Parts.{IsRecordFound, IsPartRead}
+use Rattle.telegate.specs.Records.{is_action_line}
 use Rattle.telegate.proofs.PartLemmas.{IsRest, joined, last_part, no_part, record_part, rest_behind}
 use Rattle.telegate.proofs.PartLemmas.{rest_begins, rest_last, rest_more}
 
 -- Whether a text is a record
 
 -- whether a line among these is that of an action
-abbrev pub tell_actions : List (List ℕ) → Bool
-tell_actions lines = list_any tells_action lines
+abbrev pub have_actions : List (List ℕ) → Bool
+have_actions lines = list_any is_action_line lines
 
 pub none_more : (line : List ℕ) (lines left : List (List ℕ)) → left ≡ line ∷ lines
-    → tells_action line ≡ false → tell_actions left ≡ tell_actions lines
+    → is_action_line line ≡ false → have_actions left ≡ have_actions lines
 none_more line lines left is none =
-    ap tell_actions is ∙ list_any-append tells_action (line ∷ []) lines
-    ∙ ap (λ (b : Bool). (b || false) || tell_actions lines) none
+    ap have_actions is ∙ list_any-append is_action_line (line ∷ []) lines
+    ∙ ap (λ (b : Bool). (b || false) || have_actions lines) none
 
 pub some_here : (line : List ℕ) (lines left : List (List ℕ)) → left ≡ line ∷ lines
-    → tells_action line ≡ true → tell_actions left ≡ true
+    → is_action_line line ≡ true → have_actions left ≡ true
 some_here line lines left is some =
-    ap tell_actions is ∙ list_any-append tells_action (line ∷ []) lines
-    ∙ ap (λ (b : Bool). (b || false) || tell_actions lines) some
+    ap have_actions is ∙ list_any-append is_action_line (line ∷ []) lines
+    ∙ ap (λ (b : Bool). (b || false) || have_actions lines) some
 
 -- a text was read so far, and no line of it is one's
 pub record SeeksTo (known coming : Option (List ℕ)) : Type 0 where
   pub before : List ℕ
   pub rest : IsRest known before coming
-  pub none : (t : List ℕ) → tell_actions (lines_of (before ++ t)) ≡ tell_actions (lines_of t)
+  pub none : (t : List ℕ) → have_actions (lines_of (before ++ t)) ≡ have_actions (lines_of t)
 
 pub seeks_begin : (known coming : Option (List ℕ)) → coming ≡ known → SeeksTo known coming
 seeks_begin known coming all = subst (λ (c : Option (List ℕ)). SeeksTo known c) (sym all)
@@ -57,24 +57,24 @@ module _ (known coming : Option (List ℕ)) (h : SeeksTo known coming) (block : 
       (sym same) cut)
 
   -- those of a block, and of what follows it
-  told_with : (t : List ℕ) → tell_actions (lines_of (h.before ++ (lines ++ 10 ∷ t)))
-      ≡ (tell_actions (lines_of lines) || tell_actions (lines_of t))
-  told_with t = h.none (lines ++ 10 ∷ t) ∙ ap tell_actions (lines_joined lines t)
-      ∙ list_any-append tells_action (lines_of lines) (lines_of t)
+  found_with : (t : List ℕ) → have_actions (lines_of (h.before ++ (lines ++ 10 ∷ t)))
+      ≡ (have_actions (lines_of lines) || have_actions (lines_of t))
+  found_with t = h.none (lines ++ 10 ∷ t) ∙ ap have_actions (lines_joined lines t)
+      ∙ list_any-append is_action_line (lines_of lines) (lines_of t)
 
   -- a block more has none
-  pub seeks_on : block.is_over ≡ false → tell_actions (lines_of lines) ≡ false
+  pub seeks_on : block.is_over ≡ false → have_actions (lines_of lines) ≡ false
       → SeeksTo known block.coming
   seeks_on goes none = record {
     before = h.before ++ (lines ++ 10 ∷ []);
     rest = rest_behind known coming block.coming h.before lines h.rest (cut_as false goes);
-    none = λ t. ap (λ (xs : List ℕ). tell_actions (lines_of xs)) (joined h.before lines t)
-        ∙ told_with t ∙ ap (λ (b : Bool). b || tell_actions (lines_of t)) none;
+    none = λ t. ap (λ (xs : List ℕ). have_actions (lines_of xs)) (joined h.before lines t)
+        ∙ found_with t ∙ ap (λ (b : Bool). b || have_actions (lines_of t)) none;
   }
 
   -- nor has the last one
-  pub seeks_last : block.is_over ≡ true → tell_actions (lines_of lines) ≡ false
-      → IsFoundIn known false
+  pub seeks_last : block.is_over ≡ true → have_actions (lines_of lines) ≡ false
+      → IsRecordFound known false
   seeks_last over none = record {
     octets = h.before ++ lines;
     given = rest_last known coming block.coming h.before lines h.rest (cut_as true over);
@@ -82,10 +82,10 @@ module _ (known coming : Option (List ℕ)) (h : SeeksTo known coming) (block : 
   }
 
   -- or a line of it is one's
-  pub seeks_found : tell_actions (lines_of lines) ≡ true → IsFoundIn known true
+  pub seeks_found : have_actions (lines_of lines) ≡ true → IsRecordFound known true
   seeks_found some = by block.is_over refl
     where
-      by : (over : Bool) → block.is_over ≡ over → IsFoundIn known true
+      by : (over : Bool) → block.is_over ≡ over → IsRecordFound known true
       by true over = record {
         octets = h.before ++ lines;
         given = rest_last known coming block.coming h.before lines h.rest (cut_as true over);
@@ -97,8 +97,8 @@ module _ (known coming : Option (List ℕ)) (h : SeeksTo known coming) (block : 
           record {
             octets = h.before ++ (lines ++ 10 ∷ more.0);
             given = more.1;
-            is = sym (told_with more.0
-                ∙ ap (λ (b : Bool). b || tell_actions (lines_of more.0)) some);
+            is = sym (found_with more.0
+                ∙ ap (λ (b : Bool). b || have_actions (lines_of more.0)) some);
           }
 
 -- The events of lines

@@ -17,13 +17,13 @@ use Rattle.gateway.specs.State.{State}
 use Rattle.gateway.specs.Traffic.{IsFaithful, HasRested}
 use Rattle.settings.specs.Settings.{IsReadOfText}
 use Rattle.traces.specs.Trace.{first_wrong}
-use Rattle.telegate.specs.Answers.{HasRun, Runs, IsEndOf, IsRun, IsRunOf, IsStopOf, IsReplayed}
+use Rattle.telegate.specs.Answers.{HasRun, Runs, IsEndOf, IsReplay, IsRunOf, IsStopOf, IsReplayed}
 use Rattle.telegate.specs.Answers.{IsWrongTrace, WasJudged}
 use Rattle.telegate.specs.Given.{IsConfigFault}
 use Rattle.telegate.specs.Closing.{closing_lines}
-use Rattle.telegate.specs.Manners.{Tells}
+use Rattle.telegate.specs.Manners.{IsTextBy}
 use Rattle.telegate.specs.Records.{IsFound, lines_read, script_read}
-use Rattle.telegate.specs.Parts.{IsFoundIn, IsWant, IsJudgedFault, IsRightText, IsStoppedOver}
+use Rattle.telegate.specs.Parts.{IsRecordFound, IsWant, IsJudgedFault, IsRightText, IsStoppedOver}
 use Rattle.telegate.specs.Source.{Gives}
 use Rattle.telegate.proofs.Kept.{keeps_same}
 use Rattle.telegate.specs.Printed.{IsClosedBy}
@@ -39,7 +39,8 @@ use Rattle.telegate.specs.declared.fault.Fault.TheVariants.{Unread, NoMemory}
 module _ (manner : Manner) (r : Bool) (has : List ℕ → Type 0) (closing : Closing)
     (settings : Settings) (trace : List ℕ)
     (log : Log) (lines : List ℕ) (old new : Option (List ℕ)) (is : has trace)
-    (faithful : IsFaithful (setup_of settings) log) (told : Tells manner settings log lines) where
+    (faithful : IsFaithful (setup_of settings) log)
+    (written : IsTextBy manner settings log lines) where
   -- a run that stopped before its end
   pub stopped : (rest : List LogEntry) → events_of log ++ rest ≡ script_read r trace
       → IsBegun old new lines → IsStopOf settings manner r has old new
@@ -51,7 +52,7 @@ module _ (manner : Manner) (r : Bool) (has : List ℕ → Type 0) (closing : Clo
     events = events;
     faithful = faithful;
     text = lines;
-    told = told;
+    written = written;
     printed = begun;
   }
 
@@ -68,7 +69,7 @@ module _ (manner : Manner) (r : Bool) (has : List ℕ → Type 0) (closing : Clo
       text : List ℕ
       text = lines ++ closing_lines closing.left closing.counts state
 
-      run : IsRun settings manner r trace closing text
+      run : IsReplay settings manner r trace closing text
       run = record {
         log = log;
         events = events;
@@ -80,7 +81,7 @@ module _ (manner : Manner) (r : Bool) (has : List ℕ → Type 0) (closing : Clo
         follows = follows;
         accounts = accounts;
         lines = lines;
-        told = told;
+        written = written;
         joined = refl;
       }
 
@@ -123,11 +124,11 @@ module _ (manner : Manner) (r : Bool) (has : List ℕ → Type 0) (closing : Clo
 pub stopped_by : (manner : Manner) (r : Bool) (closing : Closing) (settings : Settings)
     (known old new : Option (List ℕ))
     (began : State) → Follows (setup_of settings) began (Some []) → (fault : Fault) → IsWant fault
-    → Keeps old new ⊎ IsStoppedOver (Tells manner settings) r known began old new
+    → Keeps old new ⊎ IsStoppedOver (IsTextBy manner settings) r known began old new
     → IsEndOf settings manner r (Gives known) closing old new (Err fault)
 stopped_by manner r closing settings known old new began begins = by
   where
-    either : Keeps old new ⊎ IsStoppedOver (Tells manner settings) r known began old new
+    either : Keeps old new ⊎ IsStoppedOver (IsTextBy manner settings) r known began old new
         → Keeps old new ⊎ IsStopOf settings manner r (Gives known) old new
     either (inl keeps) = inl keeps
     either (inr s) =
@@ -135,7 +136,7 @@ stopped_by manner r closing settings known old new began begins = by
         (s.faithful (setup_of settings) begins tt) s.told s.rest s.events s.begun)
 
     by : (fault : Fault) → IsWant fault → Keeps old new
-        ⊎ IsStoppedOver (Tells manner settings) r known began old new
+        ⊎ IsStoppedOver (IsTextBy manner settings) r known began old new
         → IsEndOf settings manner r (Gives known) closing old new (Err fault)
     by NoMemory want stop = either stop
     by Unread want stop = either stop
@@ -188,7 +189,7 @@ replayed config manner r has more closing settings old new read found judged wid
       events = h.events;
       faithful = h.faithful;
       text = h.text;
-      told = h.told;
+      written = h.written;
       printed = h.printed;
     }
 
@@ -312,7 +313,7 @@ misjudged config manner r has closing settings known old read found gives Device
 
 -- a text in which a record was sought is one of those that may be
 pub was_found : (is_coloured : Bool) (r : Bool) (has : List ℕ → Type 0) (known : Option (List ℕ))
-    → ((octets : List ℕ) → Gives known octets → has octets) → IsFoundIn known r
+    → ((octets : List ℕ) → Gives known octets → has octets) → IsRecordFound known r
     → IsFound (Words is_coloured) has r
 was_found is_coloured r has known gives h = (h.octets, gives h.octets h.given, h.is)
 

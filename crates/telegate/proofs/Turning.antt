@@ -13,8 +13,8 @@ none_more : (events : Option (List LogEntry)) → option_map length events
 none_more None = refl
 none_more (Some es) = ap Some (omega arith)
 
-pub no_events_yet : (told : Option Log) → MoreEvents 0 told told
-no_events_yet told = none_more (events_told told)
+pub no_events_yet : (shown : Option Log) → MoreEvents 0 shown shown
+no_events_yet shown = none_more (events_told shown)
 
 plus_one : (events : Option (List LogEntry))
     → option_map (λ (es : List LogEntry). length es + 1) events
@@ -37,9 +37,9 @@ one_more_event n a b c before turn =
     ∙ plus_more n (events_told a)))
 
 -- a gateway that may begin with an empty log
-pub begun : (p : Setup) (s : State) (told : Option Log) → Follows p s (Some []) → told ≡ Some []
-    → Follows p s told × Rests p told
-begun p s told begins empty =
+pub begun : (p : Setup) (s : State) (shown : Option Log) → Follows p s (Some []) → shown ≡ Some []
+    → Follows p s shown × Rests p shown
+begun p s shown begins empty =
     let P : Option Log → Type 0 = λ t. Follows p s t in
     let Q : Option Log → Type 0 = λ t. Rests p t in
     (subst P (sym empty) begins, subst Q (sym empty) tt)

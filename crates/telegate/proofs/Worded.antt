@@ -8,13 +8,13 @@ use Rattle.telegate.specs.CommandLine.{AreRunWords, AsksFor, text_of}
 use Rattle.telegate.specs.Examples.{Agree, Say, name_of}
 use Rattle.telegate.specs.Wishes.{Said}
 use Rattle.telegate.specs.declared.run_words.RunWords.{RunWords}
-use Rattle.telegate.specs.declared.command_line.Request.{Request}
-use Rattle.telegate.specs.declared.command_line.Request.TheVariants.{Show101, Show104, Check}
-use Rattle.telegate.specs.declared.command_line.Request.TheVariants.{Replay, Sim, Audit, Run}
-use Rattle.telegate.specs.declared.command_line.Request.TheVariants.{Status, State, Capture}
-use Rattle.telegate.specs.declared.command_line.Request.TheVariants.{Stations}
+use Rattle.telegate.specs.declared.command_line.CommandRequest.{CommandRequest}
+use Rattle.telegate.specs.declared.command_line.CommandRequest.TheVariants.{Show101, Show104, Check}
+use Rattle.telegate.specs.declared.command_line.CommandRequest.TheVariants.{Replay, Sim, Audit, Run}
+use Rattle.telegate.specs.declared.command_line.CommandRequest.TheVariants.{Status, State, Capture}
+use Rattle.telegate.specs.declared.command_line.CommandRequest.TheVariants.{Stations}
 
-pub names : (name : Text) (rows : List Row) (request : Request) → AsksFor name rows request
+pub names : (name : Text) (rows : List Row) (request : CommandRequest) → AsksFor name rows request
     → name ≡ name_of request
 names name rows (Show101 sizes hex words) h = h.0
 names name rows (Show104 hex words) h = h.0

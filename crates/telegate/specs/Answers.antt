@@ -26,12 +26,12 @@ use Rattle.gateway.specs.Order.{KeepsOrder}
 use Rattle.gateway.specs.State.{State}
 use Rattle.telegate.specs.Closing.{closing_lines}
 use Rattle.telegate.specs.Faults.{status_of_end}
-use Rattle.telegate.specs.Given.{Gives}
-use Rattle.telegate.specs.Manners.{Tells}
+use Rattle.telegate.specs.Given.{GivesAnswer}
+use Rattle.telegate.specs.Manners.{IsTextBy}
 use Rattle.telegate.specs.Records.{IsFound, lines_read, script_read}
-use Rattle.telegate.specs.SimulatedTold.{IsSimulatedIn, IsCutShortIn, IsStoppedIn}
+use Rattle.telegate.specs.SimulatedInWords.{IsSimulatedIn, IsCutShortIn, IsStoppedIn}
 use Rattle.telegate.specs.declared.closing.Closing.{Closing}
-use Rattle.telegate.specs.declared.answer.Answer.{Answer}
+use Rattle.telegate.specs.declared.answer.CommandAnswer.{CommandAnswer}
 use Rattle.telegate.specs.declared.fault.Fault.{Fault}
 use Rattle.telegate.specs.declared.fault.Fault.TheVariants.{Config, Trace, Script, Sizes, Octets}
 use Rattle.telegate.specs.declared.fault.Fault.TheVariants.{Device, Unread, NoMemory}
@@ -54,7 +54,7 @@ abbrev pub IsReadOctets : List ℕ → Result (Vec ℕ Global) Fault → Type 0
 IsReadOctets hex result = MatchResult result (λ v. octets_of hex ≡ Some v.items) (IsOctetsFault hex)
 
 -- that is answered, with a status that stands for a fault in the octets
-pub record IsLineAnswer (words : Bool) (sizes hex : List ℕ) (answer : Answer) : Type 0 where
+pub record IsLineAnswer (words : Bool) (sizes hex : List ℕ) (answer : CommandAnswer) : Type 0 where
   pub line_sizes : LineSizes
   pub octets : List ℕ
   pub outcome : Outcome
@@ -71,18 +71,18 @@ IsLineFault sizes hex Octets = ((s : LineSizes) × (sizes_of sizes ≡ Some s))
 IsLineFault sizes hex NoMemory = Unit {0}
 IsLineFault sizes hex _ = ⊥
 
-abbrev pub IsShown101 : (words : Bool) → List ℕ → List ℕ → Result Answer Fault → Type 0
+abbrev pub IsShown101 : (words : Bool) → List ℕ → List ℕ → Result CommandAnswer Fault → Type 0
 IsShown101 words sizes hex result =
     MatchResult result (IsLineAnswer words sizes hex) (IsLineFault sizes hex)
 
-pub record IsTcpAnswer (words : Bool) (hex : List ℕ) (answer : Answer) : Type 0 where
+pub record IsTcpAnswer (words : Bool) (hex : List ℕ) (answer : CommandAnswer) : Type 0 where
   pub octets : List ℕ
   pub outcome : Outcome
   pub read_octets : octets_of hex ≡ Some octets
   pub shown : IsTcpTold words octets (answer.text.items) outcome
   pub status : answer.status ≡ status_by outcome
 
-abbrev pub IsShown104 : (words : Bool) → List ℕ → Result Answer Fault → Type 0
+abbrev pub IsShown104 : (words : Bool) → List ℕ → Result CommandAnswer Fault → Type 0
 IsShown104 words hex result = MatchResult result (IsTcpAnswer words hex) (IsOctetsFault hex)
 
 -- The text of the log of a run over this text, and the lines with which the run ends: the events of
@@ -91,7 +91,7 @@ IsShown104 words hex result = MatchResult result (IsTcpAnswer words hex) (IsOcte
 -- outstations reported. What is left and was counted is that of a gateway whose state agrees with
 -- this log: of the reports that went out on the open connection the very ASDUs that aren't
 -- acknowledged, then as many pieces of the others as have places.
-pub record IsRun (settings : Settings) (manner : Manner) (as_record : Bool) (trace : List ℕ)
+pub record IsReplay (settings : Settings) (manner : Manner) (as_record : Bool) (trace : List ℕ)
     (closing : Closing) (text : List ℕ) : Type 0 where
   pub log : Log
   pub events : events_of log ≡ script_read as_record trace
@@ -103,7 +103,7 @@ pub record IsRun (settings : Settings) (manner : Manner) (as_record : Bool) (tra
   pub follows : Follows (setup_of settings) state (Some log)
   pub accounts : IsAccounted (setup_of settings) state log
   pub lines : List ℕ
-  pub told : Tells manner settings log lines
+  pub written : IsTextBy manner settings log lines
   pub joined : text ≡ lines ++ closing_lines closing.left closing.counts state
 
 -- a text whose octets may be these was judged, and no line of it is wrong
@@ -120,7 +120,7 @@ pub record IsRunOf (settings : Settings) (manner : Manner) (as_record : Bool)
   pub is : has trace
   pub right : first_wrong 1 (lines_read as_record trace) ≡ None
   pub text : List ℕ
-  pub run : IsRun settings manner as_record trace closing text
+  pub run : IsReplay settings manner as_record trace closing text
   pub printed : IsPrinted text
 
 -- The same of a run that stopped before its end: the events of its log are the first of the text,
@@ -134,7 +134,7 @@ pub record IsStopOf (settings : Settings) (manner : Manner) (as_record : Bool)
   pub events : events_of log ++ rest ≡ script_read as_record trace
   pub faithful : IsFaithful (setup_of settings) log
   pub text : List ℕ
-  pub told : Tells manner settings log text
+  pub written : IsTextBy manner settings log text
   pub printed : IsBegun old new text
 
 -- How a run over a text ends that was judged. Where the output failed, of the text of the whole run
@@ -254,8 +254,8 @@ pub record Runs (IsRunning : (old new : Option (List ℕ)) → Result (Unit {0})
 
 -- what a command does to the output
 abbrev pub DoesJob : Job → (old new : Option (List ℕ)) → (exit : ℕ) → Type 0
-DoesJob (Show101 sizes hex words) = Gives (IsShown101 words sizes.now hex.now)
-DoesJob (Show104 hex words) = Gives (IsShown104 words hex.now)
+DoesJob (Show101 sizes hex words) = GivesAnswer (IsShown101 words sizes.now hex.now)
+DoesJob (Show104 hex words) = GivesAnswer (IsShown104 words hex.now)
 DoesJob (Sim config script manner) = Runs (IsSimulatedBy manner config.now script.now)
 
 -- the same, of an output whose octets are these before and after, and with this exit status

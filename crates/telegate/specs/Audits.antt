@@ -8,7 +8,7 @@ use Rattle.record.specs.declared.audit.Verdict.{Verdict}
 use Rattle.record.specs.declared.audit.Verdict.TheVariants.{Same, Differs}
 use Rattle.gateway.specs.Config.{Settings}
 use Rattle.settings.specs.Settings.{IsReadOfText}
-use Rattle.telegate.specs.declared.answer.Answer.{Answer}
+use Rattle.telegate.specs.declared.answer.CommandAnswer.{CommandAnswer}
 use Rattle.telegate.specs.declared.fault.Fault.{Fault}
 use Rattle.telegate.specs.declared.fault.Fault.TheVariants.{Config, Record, Unread, NoMemory}
 
@@ -22,7 +22,7 @@ abbrev pub verdict_status : Verdict → ℕ
 verdict_status (Same events actions) = 0
 verdict_status (Differs number) = 1
 
-pub record IsToldOf (verdict : Verdict) (answer : Answer) : Type 0 where
+pub record IsVerdictAnswer (verdict : Verdict) (answer : CommandAnswer) : Type 0 where
   pub text : answer.text.items ≡ verdict_line verdict
   pub status : answer.status ≡ verdict_status verdict
 
@@ -32,14 +32,15 @@ IsMemory _ = ⊥
 
 -- a text whose octets may be these was audited by settings of these octets, and the verdict
 -- answered
-pub record IsAuditAnswer (config : List ℕ) (has : List ℕ → Type 0) (answer : Answer) : Type 0 where
+pub record IsAuditAnswer (config : List ℕ) (has : List ℕ → Type 0) (answer : CommandAnswer) : Type
+    0 where
   pub settings : Settings
   pub text : List ℕ
   pub verdict : Verdict
   pub read_config : IsReadOfText config (Ok settings)
   pub is : has text
   pub audited : IsAudit settings text verdict
-  pub told : IsToldOf verdict answer
+  pub answered : IsVerdictAnswer verdict answer
 
 -- why a command stops whose record has no verdict
 abbrev pub fault_of_lem : RecordFault → Fault
@@ -57,6 +58,6 @@ IsAuditFault config has Unread = Unit {0}
 IsAuditFault config has NoMemory = Unit {0}
 IsAuditFault config has _ = ⊥
 
-abbrev pub IsAuditedBy : List ℕ → (has : List ℕ → Type 0) → Result Answer Fault → Type 0
+abbrev pub IsAuditedBy : List ℕ → (has : List ℕ → Type 0) → Result CommandAnswer Fault → Type 0
 IsAuditedBy config has result =
     MatchResult result (IsAuditAnswer config has) (IsAuditFault config has)

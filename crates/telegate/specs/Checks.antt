@@ -9,7 +9,7 @@ use Rattle.settings.specs.Settings.{IsLiveReadOfText, IsReadOfText}
 use Rattle.settings.specs.declared.live.LiveSettings.{LiveSettings}
 use Rattle.sim.specs.Runs.{IsBegun}
 use Rattle.telegate.specs.Faults.{status_of}
-use Rattle.telegate.specs.Given.{Gives, IsConfigFault, IsGood}
+use Rattle.telegate.specs.Given.{GivesAnswer, IsConfigFault, IsGood}
 use Rattle.telegate.specs.Running.{IsLiveConfigFault}
 use Rattle.telegate.specs.declared.check.Checking.{Checking}
 use Rattle.telegate.specs.declared.fault.Fault.{Fault}
@@ -49,24 +49,24 @@ IsFileRefused true Explain old new exit =
 IsFileRefused false Explain old new exit = Keeps old new × (exit ≡ 1)
 
 -- what is answered of a fault in these octets
-abbrev pub IsRefusalTold : (explain : Bool) → List ℕ → Fault → (old new : Option (List ℕ))
+abbrev pub IsRefusalAnswered : (explain : Bool) → List ℕ → Fault → (old new : Option (List ℕ))
     → (exit : ℕ) → Type 0
-IsRefusalTold explain text (Config why) old new exit =
+IsRefusalAnswered explain text (Config why) old new exit =
     IsFileRefused explain (IsExplained text why) old new exit
-IsRefusalTold explain text (Site why) old new exit =
+IsRefusalAnswered explain text (Site why) old new exit =
     IsFileRefused explain (IsSiteExplained text why) old new exit
-IsRefusalTold explain text fault old new exit = Keeps old new × (exit ≡ status_of fault)
+IsRefusalAnswered explain text fault old new exit = Keeps old new × (exit ≡ status_of fault)
 
 pub record IsRefused (config : List ℕ) (how : Checking) (old new : Option (List ℕ)) (exit : ℕ)
     : Type 0 where
   pub fault : Fault
   pub is : IsCheckFault how.live config fault
-  pub told : IsRefusalTold how.explain config fault old new exit
+  pub answered : IsRefusalAnswered how.explain config fault old new exit
 
 pub record IsAccepted (config : List ℕ) (how : Checking) (old new : Option (List ℕ)) (exit : ℕ)
     : Type 0 where
   pub good : IsGoodFor how.live config
-  pub given : Gives IsGood old new exit
+  pub given : GivesAnswer IsGood old new exit
 
 -- settings without a fault are good, others are refused
 abbrev pub IsCheckDone : List ℕ → Checking → (old new : Option (List ℕ)) → (exit : ℕ) → Type 0

@@ -9,11 +9,11 @@ use Rattle.clap.specs.declared.builder.command.Command.{Command}
 use Rattle.clap.specs.declared.builder.command.Command.TheViews.{out-Command}
 use Rattle.clap.specs.declared.builder.action.ArgAction.TheVariants.{Append, Set, SetTrue}
 use Rattle.telegate.specs.declared.run_words.RunWords.{RunWords}
-use Rattle.telegate.specs.declared.command_line.Request.{Request}
-use Rattle.telegate.specs.declared.command_line.Request.TheVariants.{Show101, Show104, Check}
-use Rattle.telegate.specs.declared.command_line.Request.TheVariants.{Replay, Sim, Audit, Run}
-use Rattle.telegate.specs.declared.command_line.Request.TheVariants.{Status, State, Capture}
-use Rattle.telegate.specs.declared.command_line.Request.TheVariants.{Stations}
+use Rattle.telegate.specs.declared.command_line.CommandRequest.{CommandRequest}
+use Rattle.telegate.specs.declared.command_line.CommandRequest.TheVariants.{Show101, Show104, Check}
+use Rattle.telegate.specs.declared.command_line.CommandRequest.TheVariants.{Replay, Sim, Audit, Run}
+use Rattle.telegate.specs.declared.command_line.CommandRequest.TheVariants.{Status, State, Capture}
+use Rattle.telegate.specs.declared.command_line.CommandRequest.TheVariants.{Stations}
 
 -- What the commands take
 
@@ -153,7 +153,7 @@ pub record AreRunWords (rows : List Row) (words : RunWords) : Type 0 where
   pub status : IsNamed rows (codes "status") (text_of words.status)
 
 -- the command that was named, with what was given for it, asks for this
-abbrev pub AsksFor : (name : Text) → List Row → Request → Type 0
+abbrev pub AsksFor : (name : Text) → List Row → CommandRequest → Type 0
 AsksFor name rows (Show101 sizes hex words) = (name ≡ codes "show101")
     × IsGiven rows (codes "SIZES") sizes.now × IsGiven rows (codes "HEX") hex.now
     × IsFlag rows (codes "words") words
@@ -185,11 +185,12 @@ AsksFor name rows (Stations config script) = (name ≡ codes "stations")
     × IsGiven rows (codes "CONFIG") config.now × IsGiven rows (codes "SCRIPT") script.now
 
 -- the request, or none where none is asked for
-abbrev pub IsAsked : (name : Text) → List Row → Option Request → Type 0
+abbrev pub IsAsked : (name : Text) → List Row → Option CommandRequest → Type 0
 IsAsked name rows asked =
-    MatchOption asked ((request : Request) → AsksFor name rows request → ⊥) (AsksFor name rows)
+    MatchOption asked ((request : CommandRequest) → AsksFor name rows request
+    → ⊥) (AsksFor name rows)
 
 -- the same of the command that the words name, if any
-abbrev pub IsRequestOf : Option (Text × List Row) → Option Request → Type 0
+abbrev pub IsRequestOf : Option (Text × List Row) → Option CommandRequest → Type 0
 IsRequestOf None asked = asked ≡ None
 IsRequestOf (Some (name, rows)) asked = IsAsked name rows asked

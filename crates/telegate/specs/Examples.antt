@@ -9,11 +9,11 @@ use Rattle.telegate.specs.CommandLine.{IsRequestOf, program, text_of, texts_of}
 use Rattle.telegate.specs.Shell.{status_of_kind}
 use Rattle.telegate.specs.Wishes.{Said}
 use Rattle.telegate.specs.declared.run_words.RunWords.{RunWords}
-use Rattle.telegate.specs.declared.command_line.Request.{Request}
-use Rattle.telegate.specs.declared.command_line.Request.TheVariants.{Show101, Show104, Check}
-use Rattle.telegate.specs.declared.command_line.Request.TheVariants.{Replay, Sim, Audit, Run}
-use Rattle.telegate.specs.declared.command_line.Request.TheVariants.{Status, State, Capture}
-use Rattle.telegate.specs.declared.command_line.Request.TheVariants.{Stations}
+use Rattle.telegate.specs.declared.command_line.CommandRequest.{CommandRequest}
+use Rattle.telegate.specs.declared.command_line.CommandRequest.TheVariants.{Show101, Show104, Check}
+use Rattle.telegate.specs.declared.command_line.CommandRequest.TheVariants.{Replay, Sim, Audit, Run}
+use Rattle.telegate.specs.declared.command_line.CommandRequest.TheVariants.{Status, State, Capture}
+use Rattle.telegate.specs.declared.command_line.CommandRequest.TheVariants.{Stations}
 
 -- the command that these words behind the program's name name, with what they give for it
 abbrev pub named_by : List Text → Option (Text × List Row)
@@ -34,7 +34,7 @@ pub record Agree (one other : Type 0) : Type 0 where
   pub back : other → one
 
 -- nothing is wrong with the words, and they ask for a request exactly where this is so
-abbrev pub Ask : List Text → Request → Type 0 → Type 0
+abbrev pub Ask : List Text → CommandRequest → Type 0 → Type 0
 Ask words request is =
     (statuses_of words ≡ []) × Agree (IsRequestOf (named_by words) (Some request)) is
 
@@ -48,7 +48,8 @@ AskShow104 words hex in_words = (h : Bor Text) (w : Bool) →
     Ask words (Show104 h w) ((h.now ≡ hex) × (w ≡ in_words))
 
 -- they ask for a command of two words
-abbrev pub AskTwo : List Text → (Bor Text → Bor Text → Request) → (first second : Text) → Type 0
+abbrev pub AskTwo : List Text → (Bor Text → Bor Text → CommandRequest) → (first second : Text)
+    → Type 0
 AskTwo words of first second = (one other : Bor Text)
     → Ask words (of one other) ((one.now ≡ first) × (other.now ≡ second))
 
@@ -99,7 +100,7 @@ AskRun words config site said = (c : Bor Text) (w : RunWords) →
     Ask words (Run c w) ((c.now ≡ config) × Say w site said)
 
 -- the name of the command of a request
-abbrev pub name_of : Request → Text
+abbrev pub name_of : CommandRequest → Text
 name_of (Show101 sizes hex words) = codes "show101"
 name_of (Show104 hex words) = codes "show104"
 name_of (Check config site live explain) = codes "check"

@@ -17,11 +17,11 @@ pub mod Parts
 pub mod Lives
 pub mod Sites
 pub mod Living
-pub mod Told
+pub mod Logged
 pub mod Kept
 pub mod Manners
-pub mod SimulatedTold
-pub mod Telling
+pub mod SimulatedInWords
+pub mod InWords
 pub mod Piping
 pub mod Asking
 pub mod Ran

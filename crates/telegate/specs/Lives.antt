@@ -9,13 +9,13 @@ behind before None = None
 behind before (Some log) = Some (log ++ before)
 
 -- the same, where this one is known by its record, or else by its port
-abbrev pub all_told : (before : Log) → Recording → (port : Option Log) → Option Log
-all_told before recording port = behind before (told_first (log_of recording) port)
+abbrev pub all_passed : (before : Log) → Recording → (port : Option Log) → Option Log
+all_passed before recording port = behind before (told_first (log_of recording) port)
 
 -- what is fixed of a run: what is of its port, and what passed before
-pub record Fixture (F : Type 0) : Type 0 where
+pub record LivesFixture (F : Type 0) : Type 0 where
   pub port : F
   pub before : Log
 
-abbrev pub fixture : {F : Type 0} → F → (before : Log) → Fixture F
+abbrev pub fixture : {F : Type 0} → F → (before : Log) → LivesFixture F
 fixture port before = record { port = port; before = before }

@@ -6,7 +6,7 @@ use Rattle.gateway.specs.Setups.{setup_of}
 use Rattle.live.specs.Ends.{LiveEnds, fixed_of}
 use Rattle.live.specs.declared.allow_list.AllowList.{AllowList}
 use Rattle.record.specs.Recording.{Recording}
-use Rattle.telegate.specs.Lives.{all_told}
+use Rattle.telegate.specs.Lives.{all_passed}
 use Rattle.telegate.specs.Running.{HasEnded, HasRunFaithfully, IsRecorded}
 
 -- The port is that of a run with these settings and this allow list; where it goes on after a
@@ -24,6 +24,6 @@ IsPortOf settings allow_list goes_on port = fixed_of port ≡ record {
 pub record HasLived {E : Type 0} (settings : Settings) (allow_list : AllowList) (goes_on : Bool)
     (before : Log) (port : LiveEnds) (pen : Recording) (ended : Result (Unit {0}) E) : Type 0 where
   pub port_is : IsPortOf settings allow_list goes_on port
-  pub over : OnOk ended (HasEnded false (Some before) (all_told before pen (Some port.log)))
-  pub faithful : HasRunFaithfully (setup_of settings) (all_told before pen (Some port.log)) ended
+  pub over : OnOk ended (HasEnded false (Some before) (all_passed before pen (Some port.log)))
+  pub faithful : HasRunFaithfully (setup_of settings) (all_passed before pen (Some port.log)) ended
   pub recorded : IsRecorded (setup_of settings) before pen ended

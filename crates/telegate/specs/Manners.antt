@@ -42,6 +42,6 @@ style_of settings is_coloured = record {
 abbrev pub AreLines : Log → (text : List ℕ) → Type 0
 AreLines log text = text ≡ lines_of_actions log
 
-abbrev pub Tells : Manner → Settings → Log → (text : List ℕ) → Type 0
-Tells Lines settings = AreLines
-Tells (Words is_coloured) settings = IsLadder (style_of settings is_coloured)
+abbrev pub IsTextBy : Manner → Settings → Log → (text : List ℕ) → Type 0
+IsTextBy Lines settings = AreLines
+IsTextBy (Words is_coloured) settings = IsLadder (style_of settings is_coloured)

@@ -40,7 +40,7 @@ pub record IsPartRead (as_record : Bool) (lines : List ℕ) (is_over : Bool) (pa
 -- Judging
 
 -- whether a text is a record
-pub record IsFoundIn (known : Option (List ℕ)) (found : Bool) : Type 0 where
+pub record IsRecordFound (known : Option (List ℕ)) (found : Bool) : Type 0 where
   pub octets : List ℕ
   pub given : Gives known octets
   pub is : found ≡ is_record octets
@@ -94,7 +94,7 @@ StaysFaithful began before after =
     (p : Setup) → Follows p began (Some before) → HasRested p before → IsFaithful p after
 
 -- nothing failed, and all lines were taken off the page
-pub record IsClear (s : Standing) : Type 0 where
+pub record IsClearPause (s : Standing) : Type 0 where
   pub healthy : s.failed ≡ 0
   pub poured : s.poured ≡ s.log
 
@@ -105,23 +105,23 @@ pub record IsPartRun (s : Standing) (text : List ℕ) (began ended : State) (aft
   pub right : first_wrong 1 (lines_of text) ≡ None
   pub goes : GoesOn began s.log ended after.log
   pub started : after.started ≡ true
-  pub clear : IsClear after
+  pub clear : IsClearPause after
 
 -- A run stopped in a part, and a beginning of its text was printed. (How a log is written as a
 -- text, the first argument says, here and below.)
-pub record IsPartStopped (Tells : Log → List ℕ → Type 0) (s : Standing) (text : List ℕ)
+pub record IsPartStopped (IsTextBy : Log → List ℕ → Type 0) (s : Standing) (text : List ℕ)
     (began : State) (old new : Option (List ℕ)) : Type 0 where
   pub log : Log
   pub rest : List LogEntry
   pub events : events_of log ++ rest ≡ script_of (part_behind s text)
   pub faithful : StaysFaithful began s.log log
   pub lines : List ℕ
-  pub told : Tells log lines
+  pub written : IsTextBy log lines
   pub begun : IsBegun old new lines
 
 -- A run over a whole text, of which no line is wrong; all lines of its log were printed, or, where
 -- the output failed, a beginning of them.
-pub record IsRunOver (Tells : Log → List ℕ → Type 0) (as_record : Bool)
+pub record IsPartsRun (IsTextBy : Log → List ℕ → Type 0) (as_record : Bool)
     (known : Option (List ℕ)) (began ended : State) (old new : Option (List ℕ)) (is_whole : Bool)
     : Type 0 where
   pub octets : List ℕ
@@ -131,12 +131,12 @@ pub record IsRunOver (Tells : Log → List ℕ → Type 0) (as_record : Bool)
   pub events : events_of log ≡ script_read as_record octets
   pub goes : GoesOn began [] ended log
   pub lines : List ℕ
-  pub told : Tells log lines
+  pub written : IsTextBy log lines
   pub poured : IsPoured is_whole old new lines
 
 -- a run over a text stopped before its end, and a beginning of its lines was printed; or before
 -- its beginning, and nothing was
-pub record IsStoppedOver (Tells : Log → List ℕ → Type 0) (as_record : Bool)
+pub record IsStoppedOver (IsTextBy : Log → List ℕ → Type 0) (as_record : Bool)
     (known : Option (List ℕ)) (began : State) (old new : Option (List ℕ)) : Type 0 where
   pub octets : List ℕ
   pub given : Gives known octets
@@ -145,11 +145,11 @@ pub record IsStoppedOver (Tells : Log → List ℕ → Type 0) (as_record : Bool
   pub events : events_of log ++ rest ≡ script_read as_record octets
   pub faithful : StaysFaithful began [] log
   pub lines : List ℕ
-  pub told : Tells log lines
+  pub written : IsTextBy log lines
   pub begun : IsBegun old new lines
 
-abbrev pub RunsOver : (Tells : Log → List ℕ → Type 0) → (as_record : Bool) → Option (List ℕ)
+abbrev pub RunsOver : (IsTextBy : Log → List ℕ → Type 0) → (as_record : Bool) → Option (List ℕ)
     → (began ended : State) → (old new : Option (List ℕ)) → Result Bool Fault → Type 0
-RunsOver Tells as_record known began ended old new result =
-    MatchResult result (IsRunOver Tells as_record known began ended old new)
-    (λ fault. IsWant fault × (Keeps old new ⊎ IsStoppedOver Tells as_record known began old new))
+RunsOver IsTextBy as_record known began ended old new result =
+    MatchResult result (IsPartsRun IsTextBy as_record known began ended old new)
+    (λ fault. IsWant fault × (Keeps old new ⊎ IsStoppedOver IsTextBy as_record known began old new))

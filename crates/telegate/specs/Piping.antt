@@ -25,15 +25,15 @@ AreFrames (Line sizes) words = AreLineFramesTold words sizes
 AreFrames Connection words = AreApdusTold words
 
 -- those of a line; one that is no octets has no text, and is a fault
-abbrev pub IsLineTold : Piped → (words : Bool) → Option (List ℕ) → (text : List ℕ) → Outcome
+abbrev pub IsLineShown : Piped → (words : Bool) → Option (List ℕ) → (text : List ℕ) → Outcome
     → Type 0
-IsLineTold piped words None text outcome = (text ≡ []) × (outcome ≡ Faulty)
-IsLineTold piped words (Some octets) text outcome = AreFrames piped words octets text outcome
+IsLineShown piped words None text outcome = (text ≡ []) × (outcome ≡ Faulty)
+IsLineShown piped words (Some octets) text outcome = AreFrames piped words octets text outcome
 
 -- what is shown of a line, if it is octets
-abbrev pub IsToldAs : Piped → (words : Bool) → Option (List ℕ) → Option Shown → Type 0
-IsToldAs piped words octets None = octets ≡ None
-IsToldAs piped words octets (Some shown) =
+abbrev pub IsShownAs : Piped → (words : Bool) → Option (List ℕ) → Option Shown → Type 0
+IsShownAs piped words octets None = octets ≡ None
+IsShownAs piped words octets (Some shown) =
     (xs : List ℕ) × (octets ≡ Some xs)
     × AreFrames piped words xs (string_bytes shown.lines) shown.outcome
 
@@ -42,18 +42,18 @@ pub record IsAdded (piped : Piped) (words : Bool) (octets : Option (List ℕ))
     (old new : List ℕ) (outcome later : Outcome) : Type 0 where
   pub text : List ℕ
   pub one : Outcome
-  pub told : IsLineTold piped words octets text one
+  pub shown : IsLineShown piped words octets text one
   pub added : new ≡ old ++ text
   pub judged : later ≡ both outcome one
 
 -- lines one after another, each whatever the others are; all is well where each line is
-abbrev pub AreLinesTold : Piped → (words : Bool) → List (List ℕ) → (text : List ℕ) → Outcome
+abbrev pub AreLinesShown : Piped → (words : Bool) → List (List ℕ) → (text : List ℕ) → Outcome
     → Type 0
-AreLinesTold piped words [] text outcome = (text ≡ []) × (outcome ≡ Good)
-AreLinesTold piped words (line ∷ lines) text outcome =
+AreLinesShown piped words [] text outcome = (text ≡ []) × (outcome ≡ Good)
+AreLinesShown piped words (line ∷ lines) text outcome =
     (first : List ℕ) × (one : Outcome) × (texts : List ℕ) × (others : Outcome)
-    × IsLineTold piped words (octets_in line) first one
-    × AreLinesTold piped words lines texts others
+    × IsLineShown piped words (octets_in line) first one
+    × AreLinesShown piped words lines texts others
     × (text ≡ first ++ texts) × (outcome ≡ both one others)
 
 -- the lines of a text whose octets may be these, and their whole text
@@ -62,7 +62,7 @@ pub record IsPiped (piped : Piped) (words : Bool) (has : List ℕ → Type 0)
   pub octets : List ℕ
   pub is : has octets
   pub text : List ℕ
-  pub told : AreLinesTold piped words (lines_of octets) text outcome
+  pub shown : AreLinesShown piped words (lines_of octets) text outcome
   pub printed : Appends old new text
 
 -- the same of the first lines, and a beginning of their text
@@ -75,7 +75,7 @@ pub record IsPipedSome (piped : Piped) (words : Bool) (has : List ℕ → Type 0
   pub lines : lines_of octets ≡ first ++ later
   pub text : List ℕ
   pub outcome : Outcome
-  pub told : AreLinesTold piped words first text outcome
+  pub shown : AreLinesShown piped words first text outcome
   pub printed : IsBegun old new text
 
 -- the output failed, the text can't be read on, or memory was refused

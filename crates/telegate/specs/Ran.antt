@@ -48,7 +48,7 @@ pub record IsOver (begins : Origin → Type 0) (settings : Settings) (wishes : W
     (answer : Result (Unit {0}) Fault) : Type 0 where
   pub ended : Result (Unit {0}) DeviceFailed
   pub lived : HasLivedAs begins settings wishes ended
-  pub told : answer ≡ answer_to ended
+  pub answered : answer ≡ answer_to ended
 
 -- it didn't begin: an end of it, or its state, can't be had
 abbrev pub HasNotBegun : Result (Unit {0}) Fault → Type 0

@@ -9,12 +9,12 @@ use Rattle.telegate.specs.declared.manner.Manner.{Manner}
 use Rattle.telegate.specs.declared.manner.Manner.TheVariants.{Lines, Words}
 
 -- a line is that of an action, and is no comment: a trace has none
-abbrev pub tells_action : List ℕ → Bool
-tells_action line = not (is_skipped line) && is_action line
+abbrev pub is_action_line : List ℕ → Bool
+is_action_line line = not (is_skipped line) && is_action line
 
 -- a text with such a line is a record
 abbrev pub is_record : List ℕ → Bool
-is_record text = list_any tells_action (lines_of text)
+is_record text = list_any is_action_line (lines_of text)
 
 -- The lines of a text as they are read. Of a record these are the lines that a line feed ends, with
 -- an empty one in the place of each action, and of each line that was cut short.

@@ -34,12 +34,13 @@ HasEnded ended before after = (ended ≡ true) ⊎ MoreEvents 184467440737095516
 
 -- What a log of the run shows, where it is known, keeps every promise of such a gateway; and where
 -- the device didn't fail, nothing that may be sent is left.
-abbrev pub IsRunTold : Setup → Option Log → Type 0
-IsRunTold p told = IfSome told (IsFaithful p)
+abbrev pub IsRunFaithful : Setup → Option Log → Type 0
+IsRunFaithful p shown = IfSome shown (IsFaithful p)
 
 abbrev pub HasRunFaithfully : {A E : Type 0} → Setup → Option Log → Result A E → Type 0
-HasRunFaithfully p told result =
-    MatchResult result (λ _. IsRunTold p told × IfSome told (HasRested p)) (λ _. IsRunTold p told)
+HasRunFaithfully p shown result =
+    MatchResult result (λ _. IsRunFaithful p shown × IfSome shown (HasRested p))
+    (λ _. IsRunFaithful p shown)
 
 -- What a run leaves on its record: the text is the lines of a log, which, behind the lives before,
 -- and with what passed once the record was over, keeps every promise. Until it is over nothing

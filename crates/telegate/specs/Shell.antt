@@ -10,12 +10,12 @@ use Rattle.clap.specs.declared.error.kind.ErrorKind.TheVariants as kind
 use Rattle.sitefile.specs.declared.site.Site.{Site as SiteFile}
 use Rattle.state_files.specs.declared.looking.Stood.{Stood}
 use Rattle.telegate.specs.Answers.{IsReplayed, Performs, Runs}
-use Rattle.telegate.specs.Given.{Gives}
+use Rattle.telegate.specs.Given.{GivesAnswer}
 use Rattle.telegate.specs.Asking.{IsUnanswered, ShowsStatus}
 use Rattle.telegate.specs.Audits.{IsAuditedBy}
 use Rattle.telegate.specs.Captures.{IsCapturedBy}
 use Rattle.telegate.specs.Faults.{status_of_end}
-use Rattle.telegate.specs.Checks.{IsCheckDone, IsRefusalTold}
+use Rattle.telegate.specs.Checks.{IsCheckDone, IsRefusalAnswered}
 use Rattle.telegate.specs.CommandLine.{IsRequestOf, text_of, program}
 use Rattle.telegate.specs.Wishes.{CameAt, HasRunAsSaid, HasRunLive, HasWrongSite, site_files}
 use Rattle.telegate.specs.Wishes.{IsFirstSiteFault, IsGoodSite}
@@ -28,11 +28,11 @@ use Rattle.telegate.specs.declared.check.Checking.{Checking}
 use Rattle.telegate.specs.declared.closing.Closing.{Closing}
 use Rattle.telegate.specs.declared.host.Wishes.{Wishes}
 use Rattle.telegate.specs.declared.run_words.RunWords.{RunWords}
-use Rattle.telegate.specs.declared.command_line.Request.{Request}
-use Rattle.telegate.specs.declared.command_line.Request.TheVariants.{Show101, Show104, Check}
-use Rattle.telegate.specs.declared.command_line.Request.TheVariants.{Replay, Sim, Audit, Run}
-use Rattle.telegate.specs.declared.command_line.Request.TheVariants.{Status, State, Capture}
-use Rattle.telegate.specs.declared.command_line.Request.TheVariants.{Stations}
+use Rattle.telegate.specs.declared.command_line.CommandRequest.{CommandRequest}
+use Rattle.telegate.specs.declared.command_line.CommandRequest.TheVariants.{Show101, Show104, Check}
+use Rattle.telegate.specs.declared.command_line.CommandRequest.TheVariants.{Replay, Sim, Audit, Run}
+use Rattle.telegate.specs.declared.command_line.CommandRequest.TheVariants.{Status, State, Capture}
+use Rattle.telegate.specs.declared.command_line.CommandRequest.TheVariants.{Stations}
 use Rattle.telegate.specs.declared.fault.Fault.{Fault}
 use Rattle.telegate.specs.declared.host.Unread.{Unread}
 use Rattle.telegate.specs.declared.host.Unread.TheVariants.{Unreadable, NoMemory}
@@ -42,7 +42,8 @@ use Rattle.telegate.specs.declared.job.Job.TheVariants as job
 -- Files
 
 -- the job of a request, with what its files have in place of their names
-abbrev pub IsJobOf : (has : Text → List ℕ → Type 0) → (colours : Bool) → Request → Job → Type 0
+abbrev pub IsJobOf : (has : Text → List ℕ → Type 0) → (colours : Bool) → CommandRequest → Job
+    → Type 0
 IsJobOf has colours (Show101 sizes hex words) (job.Show101 s h w) =
     (s.now ≡ sizes.now) × (h.now ≡ hex.now) × (w ≡ words)
 IsJobOf has colours (Show104 hex words) (job.Show104 h w) = (h.now ≡ hex.now) × (w ≡ words)
@@ -56,7 +57,7 @@ first_file None config = config
 first_file (Some site) config = site
 
 -- the names of the files that are read before anything is judged, in the order of the words
-abbrev pub files_of : Request → List Text
+abbrev pub files_of : CommandRequest → List Text
 files_of (Show101 sizes hex words) = []
 files_of (Show104 hex words) = []
 files_of (Check config site live explain) = first_file (text_of site) config.now ∷ []
@@ -101,7 +102,7 @@ pub record IsNotRead (has : Text → List ℕ → Type 0) (lacks : Text → Type
 -- Commands
 
 -- the command's job was done
-pub record IsJobDone (has : Text → List ℕ → Type 0) (colours : Bool) (request : Request)
+pub record IsJobDone (has : Text → List ℕ → Type 0) (colours : Bool) (request : CommandRequest)
     (old new : Option (List ℕ)) (exit : ℕ) : Type 0 where
   pub job : Job
   pub of : IsJobOf has colours request job
@@ -134,7 +135,7 @@ pub record HasRefusedSite (has : Text → List ℕ → Type 0) (site : Text) (ex
   pub read : has site octets
   pub fault : Fault
   pub is : IsFirstSiteFault octets fault
-  pub told : IsRefusalTold explain octets fault old new exit
+  pub answered : IsRefusalAnswered explain octets fault old new exit
 
 -- Settings are judged; where a site's file is named, that is judged before them, and they are only
 -- where it is good.
@@ -172,7 +173,7 @@ pub record HasReplayed (has : Text → List ℕ → Type 0) (config trace : Text
 -- the record of this name was audited by settings of these octets
 abbrev pub AuditsFile : (has : Text → List ℕ → Type 0) → (text : Text) → (config : List ℕ)
     → (old new : Option (List ℕ)) → (exit : ℕ) → Type 0
-AuditsFile has text config = Gives (IsAuditedBy config (has text))
+AuditsFile has text config = GivesAnswer (IsAuditedBy config (has text))
 
 -- the same by the octets of a file
 pub record HasAudited (has : Text → List ℕ → Type 0) (config text : Text)
@@ -200,7 +201,7 @@ abbrev pub ShowsDirectory : (lacks : Text → Type 0) → (stands : Text → Sto
     → (directory : Text) → (given : Option (List ℕ)) → (old new : Option (List ℕ)) → (exit : ℕ)
     → Type 0
 ShowsDirectory lacks stands directory given old new exit =
-    Gives (IsStateShown (stands directory) given) old new exit
+    GivesAnswer (IsStateShown (stands directory) given) old new exit
     ⊎ (IsUnanswered lacks directory exit × Keeps old new)
 
 -- the same, by the octets of a file, if one is named
@@ -288,7 +289,7 @@ abbrev pub IsDone : (has : Text → List ℕ → Type 0) → (lacks : Text → T
     → (ran : List ℕ → Wishes → Result (Unit {0}) Fault → Type 0)
     → (answered : Text → List ℕ → List ℕ → Type 0) → (silent : Text → Type 0)
     → (played : List ℕ → List ℕ → Result (Unit {0}) Fault → Type 0)
-    → (stands : Text → Stood → Type 0) → (colours : Bool) → Request
+    → (stands : Text → Stood → Type 0) → (colours : Bool) → CommandRequest
     → (old new : Option (List ℕ)) → (exit : ℕ) → Type 0
 IsDone has lacks ran answered silent played stands colours (Run config words) old new exit =
     HasRunAsSaid has ran config.now words exit × Keeps old new
@@ -325,7 +326,7 @@ abbrev pub Responds : (has : Text → List ℕ → Type 0) → (lacks : Text →
     → (ran : List ℕ → Wishes → Result (Unit {0}) Fault → Type 0)
     → (answered : Text → List ℕ → List ℕ → Type 0) → (silent : Text → Type 0)
     → (played : List ℕ → List ℕ → Result (Unit {0}) Fault → Type 0)
-    → (stands : Text → Stood → Type 0) → (colours : Bool) → Request
+    → (stands : Text → Stood → Type 0) → (colours : Bool) → CommandRequest
     → (old new : Option (List ℕ)) → (exit : ℕ) → Type 0
 Responds has lacks ran answered silent played stands colours request old new exit =
     IsDone has lacks ran answered silent played stands colours request old new exit
@@ -341,8 +342,8 @@ status_of_kind kind.DisplayVersion = 0
 status_of_kind _ = 2
 
 -- what the words gave in place of a command was written, or couldn't be written, 3
-abbrev pub IsTold : ErrorKind → (exit : ℕ) → Type 0
-IsTold kind exit = (exit ≡ status_of_kind kind) ⊎ (exit ≡ 3)
+abbrev pub IsUsageAnswered : ErrorKind → (exit : ℕ) → Type 0
+IsUsageAnswered kind exit = (exit ≡ status_of_kind kind) ⊎ (exit ≡ 3)
 
 -- in place of a command nothing is printed but help and the version
 abbrev pub IsSilent : ErrorKind → (old new : Option (List ℕ)) → Type 0
@@ -357,7 +358,7 @@ pub record IsAskedAndDone (has : Text → List ℕ → Type 0) (lacks : Text →
     (played : List ℕ → List ℕ → Result (Unit {0}) Fault → Type 0)
     (stands : Text → Stood → Type 0) (colours : Bool) (words : List Text)
     (old new : Option (List ℕ)) (exit : ℕ) : Type 0 where
-  pub request : Request
+  pub request : CommandRequest
   pub asked : IsRequestOf (subcommand_of program words) (Some request)
   pub done : Responds has lacks ran answered silent played stands colours request old new exit
 
@@ -365,7 +366,7 @@ pub record IsAskedAndDone (has : Text → List ℕ → Type 0) (lacks : Text →
 pub record IsUsage (words : List Text) (old new : Option (List ℕ)) (exit : ℕ) : Type 0 where
   pub fault : Error
   pub kind : HasKind (fault_of program words) fault
-  pub told : IsTold (kind_of fault) exit
+  pub answered : IsUsageAnswered (kind_of fault) exit
   pub silent : IsSilent (kind_of fault) old new
 
 -- the words name no command with all that it needs, 2

@@ -1,2 +1,2 @@
--- What a text is, as far as a reader of it tells.
+-- What a text is, as far as a reader of it notes.
 pub use Rattle.traces.specs.Blocks.{Gives}

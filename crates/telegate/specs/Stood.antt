@@ -8,7 +8,7 @@ use Rattle.state.specs.declared.start.Beginning.{Beginning}
 use Rattle.state.specs.declared.start.Beginning.TheVariants as beginnings
 use Rattle.state_files.specs.declared.looking.Stood.{Stood}
 use Rattle.state_words.specs.Text.{IsStateText}
-use Rattle.telegate.specs.declared.answer.Answer.{Answer}
+use Rattle.telegate.specs.declared.answer.CommandAnswer.{CommandAnswer}
 use Rattle.telegate.specs.declared.fault.Fault.{Fault}
 use Rattle.telegate.specs.declared.fault.Fault.TheVariants.{Unread, NoMemory}
 
@@ -24,24 +24,26 @@ status_of_sight beginnings.LinksReset = 0
 status_of_sight beginnings.GoesOn = 0
 
 -- this was found, and answered beside these settings
-pub record TellsState (is_held is_stale : Bool) (given : Option (List ℕ)) (sight : Sight)
-    (answer : Answer) : Type 0 where
-  pub told : IsStateText is_held is_stale given sight answer.text.items
+pub record AnswersState (is_held is_stale : Bool) (given : Option (List ℕ)) (sight : Sight)
+    (answer : CommandAnswer) : Type 0 where
+  pub answered : IsStateText is_held is_stale given sight answer.text.items
   pub status : answer.status ≡ status_of_sight sight.beginning
 
 -- what a start would find in two files was found, and answered beside these settings
-pub record TellsSight (stood : Stood) (given : Option (List ℕ)) (answer : Answer) : Type 0 where
+pub record AnswersSight (stood : Stood) (given : Option (List ℕ)) (answer : CommandAnswer) : Type
+    0 where
   pub sight : Sight
   pub found : IsSight stood.before.entries stood.is_stale (memory_bytes stood.files.log)
       (memory_bytes stood.files.db) sight
-  pub told : TellsState stood.is_held stood.is_stale given sight answer
+  pub answered : AnswersState stood.is_held stood.is_stale given sight answer
 
 -- the same of a directory that has this, as far as it is known
-pub record HasToldState (stands : Stood → Type 0) (given : Option (List ℕ)) (answer : Answer) :
+pub record HasAnsweredState (stands : Stood → Type 0) (given : Option (List ℕ))
+    (answer : CommandAnswer) :
     Type 0 where
   pub stood : Stood
   pub is : stands stood
-  pub tells : TellsSight stood given answer
+  pub answers : AnswersSight stood given answer
 
 abbrev pub IsLookFault : Fault → Type 0
 IsLookFault Unread = Unit {0}
@@ -50,13 +52,13 @@ IsLookFault _ = ⊥
 
 -- it was answered, or a read has failed, or memory was refused
 abbrev pub IsStateShown : (stands : Stood → Type 0) → (given : Option (List ℕ))
-    → Result Answer Fault → Type 0
-IsStateShown stands given result = MatchResult result (HasToldState stands given) IsLookFault
+    → Result CommandAnswer Fault → Type 0
+IsStateShown stands given result = MatchResult result (HasAnsweredState stands given) IsLookFault
 
-abbrev pub IsSightTold : (is_held is_stale : Bool) → (given : Option (List ℕ)) → Sight
-    → Result Answer Fault → Type 0
-IsSightTold is_held is_stale given sight result =
-    MatchResult result (TellsState is_held is_stale given sight) IsLookFault
+abbrev pub IsSightAnswer : (is_held is_stale : Bool) → (given : Option (List ℕ)) → Sight
+    → Result CommandAnswer Fault → Type 0
+IsSightAnswer is_held is_stale given sight result =
+    MatchResult result (AnswersState is_held is_stale given sight) IsLookFault
 
-abbrev pub IsStoodShown : Stood → (given : Option (List ℕ)) → Result Answer Fault → Type 0
-IsStoodShown stood given result = MatchResult result (TellsSight stood given) IsLookFault
+abbrev pub IsStoodShown : Stood → (given : Option (List ℕ)) → Result CommandAnswer Fault → Type 0
+IsStoodShown stood given result = MatchResult result (AnswersSight stood given) IsLookFault

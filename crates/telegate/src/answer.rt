@@ -2,7 +2,7 @@
 
 /// What a command prints on standard output, and its exit status.
 #[derive(Debug, PartialEq, Eq, Drop)]
-pub(crate) struct Answer {
+pub(crate) struct CommandAnswer {
     pub(crate) text: Vec<u8>,
     pub(crate) status: u8,
 }

@@ -6,7 +6,7 @@ ghost use Rattle.telegate.specs.Asking.{IsUnanswered, ShowsPage, ShowsStatus};
 
 use crate::fault::Fault;
 use crate::host::{Host, Unread};
-use crate::performing::{print, tell};
+use crate::performing::{print, write_fault};
 use status::{UNKNOWN, body_of, exit_status};
 use std::io::Write;
 
@@ -40,7 +40,7 @@ pub(crate) fn ask_status<H: Host, W: Write, E: Write>(
                     print_page(table, status, out, err)
                 }
             }
-            None => tell_unknown(place, err),
+            None => write_unknown(place, err),
         },
         Err(status) => status,
     }
@@ -60,7 +60,7 @@ fn ask_json<H: Host, W: Write, E: Write>(
     match ask(host, place, JSON, err) {
         Ok(answer) => match body_of(answer.as_slice()) {
             Some(page) => print_page(page, status, out, err),
-            None => tell_unknown(place, err),
+            None => write_unknown(place, err),
         },
         Err(status) => status,
     }
@@ -74,13 +74,13 @@ fn ask<H: Host, E: Write>(host: &H, place: &str, request: &[u8], err: &mut E) ->
 {
     match host.ask(place, request) {
         Ok(answer) => Ok(answer),
-        Err(Unread::Unreadable) => Err(tell_unknown(place, err)),
-        Err(Unread::NoMemory) => Err(tell(&Fault::NoMemory, err)),
+        Err(Unread::Unreadable) => Err(write_unknown(place, err)),
+        Err(Unread::NoMemory) => Err(write_fault(&Fault::NoMemory, err)),
     }
 }
 
 /// Writes that nobody answers as a live run does.
-fn tell_unknown<E: Write>(place: &str, err: &mut E) -> u8
+fn write_unknown<E: Write>(place: &str, err: &mut E) -> u8
     ensures { result ≡ 3 }
 {
     let _ = writeln!(err, "no answer from {place}");
@@ -94,6 +94,6 @@ fn print_page<W: Write, E: Write>(page: &[u8], status: u8, out: &mut W, err: &mu
 {
     match print(page, out) {
         Ok(()) => status,
-        Err(_) => tell(&Fault::Device, err),
+        Err(_) => write_fault(&Fault::Device, err),
     }
 }

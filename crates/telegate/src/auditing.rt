@@ -1,8 +1,8 @@
 //! The command that audits a recorded run.
 ghost use Rattle.std.specs.Prelude.{◌≡◌, MatchResult};
-ghost use Rattle.telegate.specs.Audits.{IsAuditedBy, IsToldOf, IsMemory, fault_of_lem};
+ghost use Rattle.telegate.specs.Audits.{IsAuditedBy, IsVerdictAnswer, IsMemory, fault_of_lem};
 
-use crate::answer::Answer;
+use crate::answer::CommandAnswer;
 use crate::check::read_config;
 use crate::fault::{BAD_CONTENT, DONE, Fault};
 use crate::replay::open;
@@ -12,13 +12,17 @@ use std::alloc::Global;
 
 /// Runs the gateway over the events of a record, and answers whether its actions are the record's.
 /// The settings are judged before the record, which is read once, block by block.
-pub(crate) fn audit<S: Source>(alloc: Global, config: &[u8], text: &S) -> Result<Answer, Fault>
+pub(crate) fn audit<S: Source>(
+    alloc: Global,
+    config: &[u8],
+    text: &S,
+) -> Result<CommandAnswer, Fault>
     ensures { IsAuditedBy config.now (S.has text.now) result }
 {
     let text = open(text)?;
     let config = read_config(alloc, config)?;
     match audit_text(alloc, &config, text) {
-        Ok(verdict) => tell_verdict(alloc, verdict),
+        Ok(verdict) => answer_verdict(alloc, verdict),
         Err(fault) => Err(fault_of(fault)),
     }
 }
@@ -35,8 +39,8 @@ fn fault_of(fault: RecordFault) -> Fault
 }
 
 /// The line of a verdict, and its exit status: 0 where the two are the same.
-fn tell_verdict(alloc: Global, verdict: Verdict) -> Result<Answer, Fault>
-    ensures { MatchResult result (IsToldOf verdict) IsMemory }
+fn answer_verdict(alloc: Global, verdict: Verdict) -> Result<CommandAnswer, Fault>
+    ensures { MatchResult result (IsVerdictAnswer verdict) IsMemory }
 {
     let mut line = String::new(alloc);
     let status = match verdict {
@@ -49,7 +53,7 @@ fn tell_verdict(alloc: Global, verdict: Verdict) -> Result<Answer, Fault>
             BAD_CONTENT
         }
     };
-    Ok(Answer {
+    Ok(CommandAnswer {
         text: line.into_bytes(),
         status,
     })

@@ -2,13 +2,13 @@
 ghost use Rattle.std.specs.Prelude.{MatchResult};
 ghost use Rattle.telegate.specs.Given.{IsGood, IsReadConfig};
 ghost use Rattle.telegate.specs.Checks.{AreLinesGiven, IsCheckDone, IsCheckFault, IsGoodFor};
-ghost use Rattle.telegate.specs.Checks.{IsRefusalTold};
+ghost use Rattle.telegate.specs.Checks.{IsRefusalAnswered};
 ghost use Rattle.telegate.specs.Faults.{status_of};
 
-use crate::answer::Answer;
+use crate::answer::CommandAnswer;
 use crate::fault::{DONE, Fault};
 use crate::living::read_live;
-use crate::performing::{give, print, tell};
+use crate::performing::{give, print, write_fault};
 use gateway::Config;
 use hints::{explain, explain_site};
 use settings::{ConfigFault, is_here};
@@ -85,16 +85,16 @@ pub(crate) fn refuse<W: Write, E: Write>(
     out: &mut W,
     err: &mut E,
 ) -> u8
-    ensures { IsRefusalTold explains text.now fault.now (W.contents out.old) (W.contents out.new)
-        result }
+    ensures { IsRefusalAnswered explains text.now fault.now (W.contents out.old)
+        (W.contents out.new) result }
 {
     if !explains {
-        return tell(fault, err);
+        return write_fault(fault, err);
     }
     match fault {
         Fault::Config(why) => give_lines(&explain(alloc, text, why), fault, out, err),
         Fault::Site(why) => give_lines(&explain_site(alloc, text, why), fault, out, err),
-        _ => tell(fault, err),
+        _ => write_fault(fault, err),
     }
 }
 
@@ -111,22 +111,22 @@ fn give_lines<W: Write, E: Write>(
 {
     match lines {
         Ok(lines) => {
-            let status = tell(fault, err);
+            let status = write_fault(fault, err);
             match print(lines.as_slice(), out) {
                 Ok(()) => status,
-                Err(_) => tell(&Fault::Device, err),
+                Err(_) => write_fault(&Fault::Device, err),
             }
         }
-        Err(_) => tell(&Fault::NoMemory, err),
+        Err(_) => write_fault(&Fault::NoMemory, err),
     }
 }
 
 /// The answer to settings that are good.
-fn good(alloc: Global) -> Result<Answer, Fault>
+fn good(alloc: Global) -> Result<CommandAnswer, Fault>
     ensures { IsGood result }
 {
     match String::from_str(alloc, "ok\n") {
-        Ok(text) => Ok(Answer {
+        Ok(text) => Ok(CommandAnswer {
             text: text.into_bytes(),
             status: DONE,
         }),

@@ -13,7 +13,7 @@ use std::alloc::{AllocError, Global};
 
 /// What the words ask for.
 #[derive(Clone, Copy, Debug, PartialEq, Eq)]
-pub(crate) enum Request<'m, 'a> {
+pub(crate) enum CommandRequest<'m, 'a> {
     /// The sizes of addresses, octets or `-`, and whether a frame is shown in one line of words.
     Show101 {
         sizes: &'a str,
@@ -445,29 +445,29 @@ fn all_given<'m, 'a>(matches: &'m ArgMatches<'a>, name: &str) -> Option<&'m [&'a
     matches.get_strs(name)
 }
 
-fn show101_of<'m, 'a>(matches: &'m ArgMatches<'a>) -> Option<Request<'m, 'a>>
+fn show101_of<'m, 'a>(matches: &'m ArgMatches<'a>) -> Option<CommandRequest<'m, 'a>>
     ensures { IsAsked (codes "show101") (rows_of (found_of matches.now)) result }
 {
-    Some(Request::Show101 {
+    Some(CommandRequest::Show101 {
         sizes: given(matches, "SIZES")?,
         hex: given(matches, "HEX")?,
         words: is_given(matches, "words"),
     })
 }
 
-fn show104_of<'m, 'a>(matches: &'m ArgMatches<'a>) -> Option<Request<'m, 'a>>
+fn show104_of<'m, 'a>(matches: &'m ArgMatches<'a>) -> Option<CommandRequest<'m, 'a>>
     ensures { IsAsked (codes "show104") (rows_of (found_of matches.now)) result }
 {
-    Some(Request::Show104 {
+    Some(CommandRequest::Show104 {
         hex: given(matches, "HEX")?,
         words: is_given(matches, "words"),
     })
 }
 
-fn check_of<'m, 'a>(matches: &'m ArgMatches<'a>) -> Option<Request<'m, 'a>>
+fn check_of<'m, 'a>(matches: &'m ArgMatches<'a>) -> Option<CommandRequest<'m, 'a>>
     ensures { IsAsked (codes "check") (rows_of (found_of matches.now)) result }
 {
-    Some(Request::Check {
+    Some(CommandRequest::Check {
         config: given(matches, "CONFIG")?,
         site: given(matches, "site"),
         live: is_given(matches, "live"),
@@ -475,10 +475,10 @@ fn check_of<'m, 'a>(matches: &'m ArgMatches<'a>) -> Option<Request<'m, 'a>>
     })
 }
 
-fn replay_of<'m, 'a>(matches: &'m ArgMatches<'a>) -> Option<Request<'m, 'a>>
+fn replay_of<'m, 'a>(matches: &'m ArgMatches<'a>) -> Option<CommandRequest<'m, 'a>>
     ensures { IsAsked (codes "replay") (rows_of (found_of matches.now)) result }
 {
-    Some(Request::Replay {
+    Some(CommandRequest::Replay {
         config: given(matches, "CONFIG")?,
         trace: given(matches, "TRACE")?,
         left: is_given(matches, "left"),
@@ -488,10 +488,10 @@ fn replay_of<'m, 'a>(matches: &'m ArgMatches<'a>) -> Option<Request<'m, 'a>>
     })
 }
 
-fn sim_of<'m, 'a>(matches: &'m ArgMatches<'a>) -> Option<Request<'m, 'a>>
+fn sim_of<'m, 'a>(matches: &'m ArgMatches<'a>) -> Option<CommandRequest<'m, 'a>>
     ensures { IsAsked (codes "sim") (rows_of (found_of matches.now)) result }
 {
-    Some(Request::Sim {
+    Some(CommandRequest::Sim {
         config: given(matches, "CONFIG")?,
         script: given(matches, "SCRIPT")?,
         words: is_given(matches, "words"),
@@ -499,10 +499,10 @@ fn sim_of<'m, 'a>(matches: &'m ArgMatches<'a>) -> Option<Request<'m, 'a>>
     })
 }
 
-fn audit_of<'m, 'a>(matches: &'m ArgMatches<'a>) -> Option<Request<'m, 'a>>
+fn audit_of<'m, 'a>(matches: &'m ArgMatches<'a>) -> Option<CommandRequest<'m, 'a>>
     ensures { IsAsked (codes "audit") (rows_of (found_of matches.now)) result }
 {
-    Some(Request::Audit {
+    Some(CommandRequest::Audit {
         config: given(matches, "CONFIG")?,
         text: given(matches, "RECORD")?,
     })
@@ -525,53 +525,53 @@ fn run_words_of<'m, 'a>(matches: &'m ArgMatches<'a>) -> RunWords<'m, 'a>
     }
 }
 
-fn run_of<'m, 'a>(matches: &'m ArgMatches<'a>) -> Option<Request<'m, 'a>>
+fn run_of<'m, 'a>(matches: &'m ArgMatches<'a>) -> Option<CommandRequest<'m, 'a>>
     ensures { IsAsked (codes "run") (rows_of (found_of matches.now)) result }
 {
-    Some(Request::Run {
+    Some(CommandRequest::Run {
         config: given(matches, "CONFIG")?,
         words: run_words_of(matches),
     })
 }
 
-fn status_of<'m, 'a>(matches: &'m ArgMatches<'a>) -> Option<Request<'m, 'a>>
+fn status_of<'m, 'a>(matches: &'m ArgMatches<'a>) -> Option<CommandRequest<'m, 'a>>
     ensures { IsAsked (codes "status") (rows_of (found_of matches.now)) result }
 {
-    Some(Request::Status {
+    Some(CommandRequest::Status {
         place: given(matches, "PLACE")?,
         json: is_given(matches, "json"),
     })
 }
 
-fn state_of<'m, 'a>(matches: &'m ArgMatches<'a>) -> Option<Request<'m, 'a>>
+fn state_of<'m, 'a>(matches: &'m ArgMatches<'a>) -> Option<CommandRequest<'m, 'a>>
     ensures { IsAsked (codes "state") (rows_of (found_of matches.now)) result }
 {
-    Some(Request::State {
+    Some(CommandRequest::State {
         directory: given(matches, "DIR")?,
         config: given(matches, "CONFIG"),
     })
 }
 
-fn capture_of<'m, 'a>(matches: &'m ArgMatches<'a>) -> Option<Request<'m, 'a>>
+fn capture_of<'m, 'a>(matches: &'m ArgMatches<'a>) -> Option<CommandRequest<'m, 'a>>
     ensures { IsAsked (codes "capture") (rows_of (found_of matches.now)) result }
 {
-    Some(Request::Capture {
+    Some(CommandRequest::Capture {
         config: given(matches, "CONFIG")?,
         text: given(matches, "RECORD")?,
     })
 }
 
-fn stations_of<'m, 'a>(matches: &'m ArgMatches<'a>) -> Option<Request<'m, 'a>>
+fn stations_of<'m, 'a>(matches: &'m ArgMatches<'a>) -> Option<CommandRequest<'m, 'a>>
     ensures { IsAsked (codes "stations") (rows_of (found_of matches.now)) result }
 {
-    Some(Request::Stations {
+    Some(CommandRequest::Stations {
         config: given(matches, "CONFIG")?,
         script: given(matches, "SCRIPT")?,
     })
 }
 
 /// The request of the words.
-pub(crate) fn request_of<'m, 'a>(matches: &'m ArgMatches<'a>) -> Option<Request<'m, 'a>>
+pub(crate) fn request_of<'m, 'a>(matches: &'m ArgMatches<'a>) -> Option<CommandRequest<'m, 'a>>
     ensures { IsRequestOf (subcommand_rows_of matches.now) result }
 {
     let (name, matches) = named(matches)?;

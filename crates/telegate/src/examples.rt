@@ -6,15 +6,15 @@ ghost use Rattle.telegate.specs.Examples.{AskCheck, AskReplay, AskRun, AskShow10
 ghost use Rattle.telegate.specs.Examples.{AskSim, AskState, AskStatus, AskTwo, end_with};
 ghost use Rattle.telegate.specs.Examples.{name_of};
 ghost use Rattle.telegate.specs.Wishes.{nothing_said};
-ghost use Rattle.telegate.specs.declared.command_line.Request.{Request};
-ghost use Rattle.telegate.specs.declared.command_line.Request.TheVariants.{Audit, Capture};
-ghost use Rattle.telegate.specs.declared.command_line.Request.TheVariants.{Stations};
+ghost use Rattle.telegate.specs.declared.command_line.CommandRequest.{CommandRequest};
+ghost use Rattle.telegate.specs.declared.command_line.CommandRequest.TheVariants.{Audit, Capture};
+ghost use Rattle.telegate.specs.declared.command_line.CommandRequest.TheVariants.{Stations};
 
 /// What words behind the program's name ask for (docs/TEXTS.md): which word is which, wherever
 /// flags stand; and how words end that ask for nothing: wrong ones with 2, help and the version
 /// with 0.
 pub fn words_by_example()
-    ensures names { (name : Text) (rows : List Row) (request : Request) →
+    ensures names { (name : Text) (rows : List Row) (request : CommandRequest) →
         AsksFor name rows request → name ≡ name_of request }
     ensures shows { AskShow101 (codes "show101" ∷ codes "1112" ∷ codes "E5" ∷ [])
         (codes "1112") (codes "E5") false

@@ -34,7 +34,7 @@ impl<P: Port + Drop> Life<P> {
 }
 
 impl<P: Port + Drop> Port for Life<P> {
-    ghost use Rattle.telegate.specs.Lives.{Fixture, behind, fixture};
+    ghost use Rattle.telegate.specs.Lives.{LivesFixture, behind, fixture};
 
     /// What passed in all lives.
     ghost log = { λ l. behind l.before.entries (P.log l.port) };
@@ -43,12 +43,12 @@ impl<P: Port + Drop> Port for Life<P> {
 
     ghost ended = { λ l. P.ended l.port };
 
-    ghost Fixed = { Fixture P.Fixed };
+    ghost Fixed = { LivesFixture P.Fixed };
 
     /// What is fixed of the port inside, and what passed before.
     ghost script = { λ l. fixture (P.script l.port) l.before.entries };
 
-    #[tactic(auto, using(crate::proofs::Lives::told_behind))]
+    #[tactic(auto, using(crate::proofs::Lives::logged_behind))]
     fn next(&mut self, buf: &mut [u8; 1024]) -> Next
         requires { P.failed self.old.port < u64.MAX }
         ensures told { behind self.new.before.entries (P.log self.new.port)
@@ -62,7 +62,7 @@ impl<P: Port + Drop> Port for Life<P> {
         self.port.next(buf)
     }
 
-    #[tactic(auto, using(crate::proofs::Lives::told_behind))]
+    #[tactic(auto, using(crate::proofs::Lives::logged_behind))]
     fn put(&mut self, now: u64, action: &Action<'_>) -> bool
         requires { P.failed self.old.port < u64.MAX }
         ensures told { behind self.new.before.entries (P.log self.new.port)

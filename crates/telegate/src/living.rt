@@ -11,14 +11,14 @@ ghost use Rattle.telegate.specs.Kept.{first_moment};
 ghost use Rattle.telegate.specs.Living.{HasLived, IsPortOf};
 ghost use Rattle.telegate.specs.Ran.{HasLivedAs};
 ghost use Rattle.telegate.specs.Running.{IsReadLiveConfig};
-ghost use Rattle.telegate.specs.Told.{IsRefused, IsUnkept, NotesIf, TellsBeginning, TellsGap};
-ghost use Rattle.telegate.specs.Told.{note_if_on, note_of_address};
+ghost use Rattle.telegate.specs.Logged.{IsRefused, IsUnkept, LogsNoteIf, LogsBeginning, LogsGap};
+ghost use Rattle.telegate.specs.Logged.{note_if_on, note_of_address};
 
 use crate::fault::Fault;
 use crate::help::VERSION;
 use crate::host::Wishes;
 use crate::running::{DeviceFailed, Lived, Scribes, live};
-use crate::site::{Refusal, Site};
+use crate::site::{EndRefusal, RunSite};
 use gateway::{Action, Config, Gateway, History};
 use live::{AllowList, Listener, Live, OctetStream};
 use lookout::Lookout;
@@ -44,7 +44,7 @@ pub(crate) fn read_live(alloc: Global, config: &[u8]) -> Result<(Config, LiveSet
 /// What logs a run, if it is to be logged, records it, if it is to be recorded, and shows it, if it
 /// is to be shown.
 #[tactic(auto, using(crate::proofs::KeptLemmas::memory_is_end))]
-fn scribes_of<T: Site>(
+fn scribes_of<T: RunSite>(
     site: &T,
     config: &Config,
     wishes: &Wishes<'_>,
@@ -67,7 +67,7 @@ fn scribes_of<T: Site>(
 }
 
 /// Who looks at a run, if there is to be a listener for it.
-fn lookout_of<T: Site>(
+fn lookout_of<T: RunSite>(
     site: &T,
     config: &Config,
     wishes: &Wishes<'_>,
@@ -88,8 +88,8 @@ fn lookout_of<T: Site>(
 }
 
 /// What writes the record of a run, if it is to have one.
-#[tactic(auto, using(crate::proofs::Begins::new_is_written, crate::proofs::Begins::added_nothing, crate::proofs::Begins::new_tells_nothing))]
-fn pen_of<T: Site>(site: &T, record: bool) -> Pen<T::Sheet>
+#[tactic(auto, using(crate::proofs::Begins::new_is_written, crate::proofs::Begins::added_nothing, crate::proofs::Begins::new_has_nothing))]
+fn pen_of<T: RunSite>(site: &T, record: bool) -> Pen<T::Sheet>
     ensures { told_first (log_of result) (Some []) ≡ Some [] }
 {
     if record {
@@ -110,7 +110,7 @@ struct RunEnds<S: OctetStream, L: Listener + Drop, C: live::RunClock + Drop> {
 /// The ends, opened in this order: the listener, the line, and the clock, which begins at this
 /// moment, in ms. A second process that is started by mistake ends at the listener, and leaves the
 /// line of the first alone.
-fn opened<T: Site>(
+fn opened<T: RunSite>(
     site: &T,
     redial: bool,
     moment: u64,
@@ -135,15 +135,15 @@ fn opened<T: Site>(
 }
 
 /// The listener, opened. Its address is logged, if that is known.
-fn listener_of<T: Site>(site: &T, logger: &mut Logger<T::Sink>) -> Result<T::Listener, Fault>
-    ensures told { IfOk result (λ _. (address : Option SocketAddr)
-        × NotesIf (note_of_address address) logger.old logger.new) }
+fn listener_of<T: RunSite>(site: &T, logger: &mut Logger<T::Sink>) -> Result<T::Listener, Fault>
+    ensures logged { IfOk result (λ _. (address : Option SocketAddr)
+        × LogsNoteIf (note_of_address address) logger.old logger.new) }
     ensures refused { IfErr result (λ fault. IsRefused fault logger.old logger.new) }
     ensures fault { IfErr result IsEndFault }
 {
     match site.listener() {
         Ok((listener, address)) => {
-            tell(note_of_address(address), logger);
+            log(note_of_address(address), logger);
             Ok(listener)
         }
         Err(refusal) => Err(refused(refusal, logger)),
@@ -161,8 +161,8 @@ fn note_of_address(address: Option<SocketAddr>) -> Option<Note>
 }
 
 /// Logs this, if there is anything to log.
-fn tell<S: LogSink + Drop>(note: Option<Note>, logger: &mut Logger<S>)
-    ensures { NotesIf note logger.old logger.new }
+fn log<S: LogSink + Drop>(note: Option<Note>, logger: &mut Logger<S>)
+    ensures { LogsNoteIf note logger.old logger.new }
 {
     if let Some(note) = note {
         logger.note(note);
@@ -171,7 +171,7 @@ fn tell<S: LogSink + Drop>(note: Option<Note>, logger: &mut Logger<S>)
 
 /// An end can't be had, which is logged.
 #[tactic(auto, using(crate::proofs::KeptLemmas::refused_is_end))]
-fn refused<S: LogSink + Drop>(refusal: Refusal, logger: &mut Logger<S>) -> Fault
+fn refused<S: LogSink + Drop>(refusal: EndRefusal, logger: &mut Logger<S>) -> Fault
     ensures refused { IsRefused result logger.old logger.new }
     ensures fault { IsEndFault result }
 {
@@ -199,7 +199,7 @@ fn port_between<S: OctetStream, L: Listener + Drop, C: live::RunClock + Drop>(
 /// Runs the gateway live with these settings, which were read from this text, and answers how that
 /// ended. An `Err` says why it didn't begin.
 #[tactic(auto, using(crate::proofs::KeptLemmas::end_is_kept))]
-pub(crate) fn run_at<T: Site>(
+pub(crate) fn run_at<T: RunSite>(
     site: &T,
     config: &Config,
     text: &[u8],
@@ -219,7 +219,7 @@ pub(crate) fn run_at<T: Site>(
 
 /// Runs the gateway anew, without a state on the disk.
 #[tactic(auto, using(crate::proofs::KeptLemmas::memory_is_end))]
-fn run_anew<T: Site>(
+fn run_anew<T: RunSite>(
     site: &T,
     config: &Config,
     wishes: Wishes<'_>,
@@ -235,7 +235,7 @@ fn run_anew<T: Site>(
 }
 
 /// Runs a new gateway between these ends, whose clock begins at 0.
-fn run_new<T: Site>(
+fn run_new<T: RunSite>(
     _site: &T,
     config: &Config,
     gateway: Gateway,
@@ -256,14 +256,14 @@ fn run_new<T: Site>(
 /// A port between the ends of a site, whose events are kept in a directory of it.
 type Kept<T> = Keeper<
     Pair<
-        Live<<T as Site>::Line, <T as Site>::Listener, <T as Site>::Clock>,
-        DiskStore<<T as Site>::Folder>,
+        Live<<T as RunSite>::Line, <T as RunSite>::Listener, <T as RunSite>::Clock>,
+        DiskStore<<T as RunSite>::Folder>,
     >,
 >;
 
 /// Runs the gateway with the state that this directory has, or anew, and keeps it there.
 #[tactic(auto, using(crate::proofs::KeptLemmas::end_is_kept, crate::proofs::KeptLemmas::unkept_is_kept))]
-fn run_kept<T: Site>(
+fn run_kept<T: RunSite>(
     site: &T,
     config: &Config,
     text: &[u8],
@@ -293,7 +293,7 @@ fn first_moment(moment: Option<u64>) -> u64
 
 /// Runs the gateway between these ends from where a run begins, and keeps its state. Their clock
 /// goes on where the gateway does.
-fn run_from<T: Site>(
+fn run_from<T: RunSite>(
     site: &T,
     config: &Config,
     begun: Begun<T::Folder>,
@@ -325,7 +325,7 @@ fn run_from<T: Site>(
 
 /// What this directory has, or a new state, which is logged.
 #[tactic(auto, using(crate::proofs::KeptLemmas::memory_is_unkept))]
-fn begun_in<T: Site>(
+fn begun_in<T: RunSite>(
     site: &T,
     config: &Config,
     text: &[u8],
@@ -335,13 +335,13 @@ fn begun_in<T: Site>(
     ensures begun { IfOk result (λ b. IsBegun config.now text.now T.Folder.lineage
         (T.Folder.mark b.store.folder) b.store.opened b.origin) }
     ensures settings { IfOk result (λ b. b.store.settings.items ≡ text.now) }
-    ensures told { IfOk result (λ b. TellsBeginning b.origin logger.old logger.new) }
+    ensures logged { IfOk result (λ b. LogsBeginning b.origin logger.old logger.new) }
     ensures unkept { IfErr result (λ fault. IsUnkept fault logger.old logger.new) }
 {
     let folder = site.folder(directory)?;
     match begin(site.alloc(), config, text, folder) {
         Ok(begun) => {
-            tell_beginning(&begun.origin, logger);
+            log_beginning(&begun.origin, logger);
             Ok(begun)
         }
         Err(fault) => Err(unkept(fault, logger)),
@@ -376,8 +376,8 @@ fn note_if_on(moment: Option<u64>, gateway: &Gateway) -> Option<Note>
 }
 
 /// Logs the gap that may not have been seen, at the moment at which the run goes on, in ms.
-fn tell_gap<S: LogSink + Drop>(moment: Option<u64>, gap: Option<ToldGap>, logger: &mut Logger<S>)
-    ensures { TellsGap moment gap logger.old logger.new }
+fn log_gap<S: LogSink + Drop>(moment: Option<u64>, gap: Option<ToldGap>, logger: &mut Logger<S>)
+    ensures { LogsGap moment gap logger.old logger.new }
 {
     let Some(moment) = moment else {
         return;
@@ -389,11 +389,11 @@ fn tell_gap<S: LogSink + Drop>(moment: Option<u64>, gap: Option<ToldGap>, logger
 }
 
 /// Logs how a run begins, and the gap that may not have been seen.
-fn tell_beginning<S: LogSink + Drop>(origin: &Origin, logger: &mut Logger<S>)
-    ensures { TellsBeginning origin.now logger.old logger.new }
+fn log_beginning<S: LogSink + Drop>(origin: &Origin, logger: &mut Logger<S>)
+    ensures { LogsBeginning origin.now logger.old logger.new }
 {
-    tell(note_of(origin.beginning), logger);
-    tell(note_of_settings(origin.is_moved), logger);
-    tell(note_if_on(origin.moment, &origin.gateway), logger);
-    tell_gap(origin.moment, origin.gap, logger);
+    log(note_of(origin.beginning), logger);
+    log(note_of_settings(origin.is_moved), logger);
+    log(note_if_on(origin.moment, &origin.gateway), logger);
+    log_gap(origin.moment, origin.gap, logger);
 }

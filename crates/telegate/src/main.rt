@@ -32,6 +32,7 @@ mod examples;
 mod fault;
 mod help;
 mod host;
+mod in_words;
 mod inquiry;
 mod job;
 mod life;
@@ -48,17 +49,16 @@ mod running;
 mod shell;
 mod showing;
 mod simulating;
-mod simulating_told;
+mod simulating_in_words;
 mod site;
 mod source;
 mod stood;
-mod telling;
 mod wishes;
 
 use fault::{Fault, USAGE};
 use host::{Host, System};
 use manner::shows_colours;
-use performing::tell;
+use performing::write_fault;
 use shell::obey;
 use std::io::{IsTerminal, Write};
 use std::process::ExitCode;
@@ -88,7 +88,7 @@ fn run<R: Env + AllocGlobal, H: Host, W: Write, E: Write>(
 ) -> u8 {
     match words_of(rt) {
         Ok(words) => obey(rt.alloc(), system, words.as_slice(), out, err),
-        Err(Unspoken::NoMemory) => tell(&Fault::NoMemory, err),
+        Err(Unspoken::NoMemory) => write_fault(&Fault::NoMemory, err),
         Err(Unspoken::NotText) => {
             let _ = writeln!(err, "error: the words are not UTF-8");
             USAGE

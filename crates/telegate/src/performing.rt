@@ -6,7 +6,7 @@ ghost use Rattle.telegate.specs.Faults.{status_of};
 ghost use Rattle.telegate.specs.Answers.{Performs};
 ghost use Rattle.telegate.specs.Given.{IsGiven};
 
-use crate::answer::Answer;
+use crate::answer::CommandAnswer;
 use crate::fault::{DONE, Fault};
 use crate::job::Job;
 use crate::showing::{show101, show104};
@@ -36,7 +36,7 @@ pub fn perform<W: Write, E: Write>(
         Job::Sim(config, script, manner) => {
             match simulate(alloc, *config, *script, *manner, is_watched, out, err) {
                 Ok(()) => DONE,
-                Err(fault) => tell(&fault, err),
+                Err(fault) => write_fault(&fault, err),
             }
         }
     }
@@ -44,7 +44,7 @@ pub fn perform<W: Write, E: Write>(
 
 /// Prints an answer, or writes a fault, and answers the exit status.
 pub(crate) fn give<W: Write, E: Write>(
-    answer: &Result<Answer, Fault>,
+    answer: &Result<CommandAnswer, Fault>,
     out: &mut W,
     err: &mut E,
 ) -> u8
@@ -53,9 +53,9 @@ pub(crate) fn give<W: Write, E: Write>(
     match answer {
         Ok(answer) => match print(answer.text.as_slice(), out) {
             Ok(()) => answer.status,
-            Err(_) => tell(&Fault::Device, err),
+            Err(_) => write_fault(&Fault::Device, err),
         },
-        Err(fault) => tell(fault, err),
+        Err(fault) => write_fault(fault, err),
     }
 }
 
@@ -81,7 +81,7 @@ pub(crate) fn print<W: Write>(text: &[u8], out: &mut W) -> io::Result<()>
 }
 
 /// Writes the line of a fault, as far as that can be done, and answers its exit status.
-pub(crate) fn tell<E: Write>(fault: &Fault, err: &mut E) -> u8
+pub(crate) fn write_fault<E: Write>(fault: &Fault, err: &mut E) -> u8
     ensures { result ≡ status_of fault.now }
 {
     let _ = writeln!(err, "{fault}");

@@ -4,13 +4,13 @@ ghost use Rattle.std.specs.Io.KnownBytes.{Appends};
 ghost use Rattle.traces.specs.Trace.{lines_of};
 ghost use Rattle.words.specs.Pipes.{octets_in};
 ghost use Rattle.telegate.specs.Parts.{IsWant};
-ghost use Rattle.telegate.specs.Piping.{AreFrames, AreLinesTold, IsAdded, IsToldAs, Pipes};
+ghost use Rattle.telegate.specs.Piping.{AreFrames, AreLinesShown, IsAdded, IsShownAs, Pipes};
 ghost use Rattle.telegate.specs.Piping.{status_of_pipe, wrong_line};
 ghost use Rattle.telegate.specs.Source.{Gives};
 ghost use Rattle.telegate.specs.declared.piping.Piped.{Piped};
 
 use crate::fault::{BAD_CONTENT, DONE, Fault};
-use crate::performing::{print, tell};
+use crate::performing::{print, write_fault};
 use crate::replay::{advance, open};
 use crate::source::Source;
 use show::{LineSizes, Outcome, Shown};
@@ -54,7 +54,7 @@ pub(crate) fn end_pipe<E: Write>(ended: &Result<Outcome, Fault>, err: &mut E) ->
     match ended {
         Ok(Outcome::Good) => DONE,
         Ok(Outcome::Faulty) => BAD_CONTENT,
-        Err(fault) => tell(fault, err),
+        Err(fault) => write_fault(fault, err),
     }
 }
 
@@ -76,7 +76,7 @@ fn pipe_text<R: Read + Drop, W: Write, E: Write>(
     'piping: for _ in 0..u64::MAX {
         advance(&mut blocks)?;
         let lines = blocks.lines();
-        let (shown, number) = tell_lines(alloc, lines, next, piped, words, err)?;
+        let (shown, number) = show_lines(alloc, lines, next, piped, words, err)?;
         match print(shown.lines.as_bytes(), out) {
             Ok(()) => {}
             Err(_) => return Err(Fault::Device),
@@ -93,7 +93,7 @@ fn pipe_text<R: Read + Drop, W: Write, E: Write>(
 
 /// The frames of lines, of which the first has this number. Answers that of the line behind them
 /// too.
-fn tell_lines<E: Write>(
+fn show_lines<E: Write>(
     alloc: Global,
     text: &[u8],
     first: u64,
@@ -101,20 +101,20 @@ fn tell_lines<E: Write>(
     words: bool,
     err: &mut E,
 ) -> Result<(Shown, u64), Fault>
-    ensures told { IfOk result (λ told. AreLinesTold piped words (lines_of text.now)
-        (string_bytes told.0.lines) told.0.outcome) }
+    ensures shown { IfOk result (λ shown. AreLinesShown piped words (lines_of text.now)
+        (string_bytes shown.0.lines) shown.0.outcome) }
     ensures fault { IfErr result IsWant }
 {
     let mut lines = String::new(alloc);
     let mut outcome = Outcome::Good;
     let mut left = Some(text);
-    'telling: for number in first..u64::MAX {
+    'showing: for number in first..u64::MAX {
         let Some(text) = left else {
             return Ok((Shown { lines, outcome }, number));
         };
         let (line, rest) = cut(text, b'\n');
-        let told = tell_text_line(alloc, line, piped, words)?;
-        outcome = push_told(&mut lines, outcome, &told, number, err)?;
+        let shown = show_text_line(alloc, line, piped, words)?;
+        outcome = push_shown(&mut lines, outcome, &shown, number, err)?;
         left = rest;
     }
     // No memory holds so many lines.
@@ -124,45 +124,45 @@ fn tell_lines<E: Write>(
 /// Appends what is shown of a line with this number, or writes that it is no octets. Answers
 /// whether all was as it should be so far.
 #[tactic(auto, using(crate::proofs::PipeLemmas::none_added))]
-fn push_told<E: Write>(
+fn push_shown<E: Write>(
     lines: &mut String,
     outcome: Outcome,
-    told: &Option<Shown>,
+    shown: &Option<Shown>,
     number: u64,
     err: &mut E,
 ) -> Result<Outcome, AllocError>
     ensures { IfOk result (λ later. (piped : Piped) (words : Bool) (octets : Option (List ℕ)) →
-        IsToldAs piped words octets told.now → IsAdded piped words octets
+        IsShownAs piped words octets shown.now → IsAdded piped words octets
         (string_bytes lines.old) (string_bytes lines.new) outcome later) }
 {
-    match told {
+    match shown {
         Some(shown) => {
             lines.push_str(shown.lines.as_str())?;
             Ok(both(outcome, shown.outcome))
         }
         None => {
-            let _ = tell_wrong_line(number, err);
+            let _ = write_wrong_line(number, err);
             Ok(both(outcome, Outcome::Faulty))
         }
     }
 }
 
 /// The frames of a line of text, or none where it is no octets.
-fn tell_text_line(
+fn show_text_line(
     alloc: Global,
     line: &[u8],
     piped: Piped,
     words: bool,
 ) -> Result<Option<Shown>, AllocError>
-    ensures { IfOk result (IsToldAs piped words (octets_in line.now)) }
+    ensures { IfOk result (IsShownAs piped words (octets_in line.now)) }
 {
     match read_line_of_octets(alloc, line)? {
-        Some(octets) => Ok(Some(tell_frames(alloc, octets.as_slice(), piped, words)?)),
+        Some(octets) => Ok(Some(show_frames(alloc, octets.as_slice(), piped, words)?)),
         None => Ok(None),
     }
 }
 
-fn tell_frames(alloc: Global, octets: &[u8], piped: Piped, words: bool) -> Result<Shown, AllocError>
+fn show_frames(alloc: Global, octets: &[u8], piped: Piped, words: bool) -> Result<Shown, AllocError>
     ensures { IfOk result (λ shown.
         AreFrames piped words octets.now (string_bytes shown.lines) shown.outcome) }
 {
@@ -173,7 +173,7 @@ fn tell_frames(alloc: Global, octets: &[u8], piped: Piped, words: bool) -> Resul
 }
 
 /// Writes that a line is no octets.
-fn tell_wrong_line<E: Write>(number: u64, err: &mut E) -> io::Result<()>
+fn write_wrong_line<E: Write>(number: u64, err: &mut E) -> io::Result<()>
     ensures { OnOk result (Appends (E.contents err.old) (E.contents err.new)
         (wrong_line number)) }
 {

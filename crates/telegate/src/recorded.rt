@@ -3,8 +3,8 @@ ghost use Rattle.std.specs.List.{list_any};
 ghost use Rattle.std.specs.Prelude.{◌≡◌, [], false, IfErr, IfOk, OnOk};
 ghost use Rattle.record.specs.Lines.{event_lines};
 ghost use Rattle.traces.specs.Trace.{lines_of};
-ghost use Rattle.telegate.specs.Parts.{IsFoundIn, IsPartRead, IsWant};
-ghost use Rattle.telegate.specs.Records.{tells_action};
+ghost use Rattle.telegate.specs.Parts.{IsRecordFound, IsPartRead, IsWant};
+ghost use Rattle.telegate.specs.Records.{is_action_line};
 
 use crate::fault::Fault;
 use crate::replay::advance;
@@ -16,20 +16,20 @@ use traces::{Blocks, Pause, cut, is_skipped};
 const LINE_FEED: u8 = b'\n';
 
 /// Whether a line is that of an action, and is no comment.
-fn tells_action(line: &[u8]) -> bool
-    ensures { result ≡ tells_action line.now }
+fn is_action_line(line: &[u8]) -> bool
+    ensures { result ≡ is_action_line line.now }
 {
     !is_skipped(line) && is_action(line)
 }
 
 /// Whether one of these lines is that of an action.
-fn tell_actions(lines: &[u8]) -> Result<bool, AllocError>
-    ensures { IfOk result (λ found. found ≡ list_any tells_action (lines_of lines.now)) }
+fn have_actions(lines: &[u8]) -> Result<bool, AllocError>
+    ensures { IfOk result (λ found. found ≡ list_any is_action_line (lines_of lines.now)) }
 {
     let mut left = lines;
     'seeking: for _ in 0..u64::MAX {
         let (line, rest) = cut(left, LINE_FEED);
-        if tells_action(line) {
+        if is_action_line(line) {
             return Ok(true);
         }
         let Some(behind) = rest else {
@@ -44,15 +44,15 @@ fn tell_actions(lines: &[u8]) -> Result<bool, AllocError>
 /// Whether a text is a record: a line of it is that of an action. It is read as far as the first
 /// block that has one.
 pub(crate) fn is_record<R: Read + Drop>(alloc: Global, text: R) -> Result<bool, Fault>
-    ensures found { IfOk result (IsFoundIn (R.remaining text)) }
+    ensures found { IfOk result (IsRecordFound (R.remaining text)) }
     ensures fault { IfErr result IsWant }
 {
     let mut blocks = Blocks::new(alloc, text);
     'seeking: for _ in 0..u64::MAX {
         advance(&mut blocks)?;
         let lines = blocks.lines();
-        let tells = tell_actions(lines)?;
-        if tells {
+        let has_actions = have_actions(lines)?;
+        if has_actions {
             return Ok(true);
         }
         if blocks.is_over() {

@@ -8,7 +8,7 @@ ghost use Rattle.traces.specs.Trace.{lines_of};
 ghost use Rattle.telegate.specs.Answers.{IsEndOf, IsReplayed};
 ghost use Rattle.telegate.specs.Closing.{closing_lines};
 ghost use Rattle.telegate.specs.Manners.{AreLines};
-ghost use Rattle.telegate.specs.Parts.{IsWant, IsJudged, IsLineFault, IsClear, IsPartRun};
+ghost use Rattle.telegate.specs.Parts.{IsWant, IsJudged, IsLineFault, IsClearPause, IsPartRun};
 ghost use Rattle.telegate.specs.Parts.{IsPartStopped, RunsOver};
 ghost use Rattle.telegate.specs.Printed.{IsPoured, IsClosedBy};
 ghost use Rattle.telegate.specs.Source.{Gives};
@@ -18,11 +18,11 @@ use crate::check::read_config;
 use crate::closing::{Closing, push_closing};
 use crate::fault::Fault;
 use crate::host::Unread;
+use crate::in_words::run_in_words;
 use crate::manner::Manner;
 use crate::printed::{blank_if, drive_printed, print_closing, tell_percent};
 use crate::recorded::{is_record, read_part};
 use crate::source::Source;
-use crate::telling::run_told;
 use delivery::nothing_is_lost;
 use gateway::{Config, End, Gateway, steps_keep_their_order};
 use std::alloc::Global;
@@ -35,7 +35,7 @@ const STRIDE: u64 = 33_554_432;
 
 /// What is asked of a replay.
 #[derive(Clone, Copy)]
-pub(crate) struct Asked<'a> {
+pub(crate) struct AskedReplay<'a> {
     /// The octets of the file of settings.
     pub(crate) config: &'a [u8],
     pub(crate) manner: Manner,
@@ -46,7 +46,7 @@ pub(crate) struct Asked<'a> {
 
 /// A run over a trace that was judged.
 #[derive(Clone, Copy)]
-struct Course {
+struct ReplayCourse {
     closing: Closing,
     /// The octets of the trace, with a line feed behind its last line too.
     size: u64,
@@ -62,7 +62,7 @@ struct Course {
 /// over.
 pub(crate) fn replay<S: Source, W: Write, E: Write>(
     alloc: Global,
-    asked: &Asked<'_>,
+    asked: &AskedReplay<'_>,
     trace: &S,
     out: &mut W,
     err: &mut E,
@@ -76,7 +76,7 @@ pub(crate) fn replay<S: Source, W: Write, E: Write>(
     match asked.manner {
         Manner::Lines => {
             let size = judge_text(alloc, text, false)?;
-            let course = Course {
+            let course = ReplayCourse {
                 closing: asked.closing,
                 size,
                 is_watched: asked.is_watched,
@@ -90,7 +90,7 @@ pub(crate) fn replay<S: Source, W: Write, E: Write>(
             judge_text(alloc, text, as_record)?;
             let text = open(trace)?;
             let closing = asked.closing;
-            run_told(alloc, &config, text, as_record, is_coloured, closing, out)
+            run_in_words(alloc, &config, text, as_record, is_coloured, closing, out)
         }
     }
 }
@@ -170,7 +170,7 @@ fn run<R: Read + Drop, W: Write, E: Write>(
     alloc: Global,
     config: &Config,
     text: R,
-    course: &Course,
+    course: &ReplayCourse,
     out: &mut W,
     err: &mut E,
 ) -> Result<(), Fault>
@@ -182,13 +182,13 @@ fn run<R: Read + Drop, W: Write, E: Write>(
     steps_keep_their_order();
     let mut gateway = Gateway::new(alloc, config)?;
     let ran = run_parts(alloc, &mut gateway, text, course, out, err);
-    blank_if(is_told(course), err);
+    blank_if(is_progress_shown(course), err);
     let is_whole = ran?;
     close(alloc, &gateway, course.closing, is_whole, out)
 }
 
 /// Whether it is said how far a run has come.
-fn is_told(course: &Course) -> bool
+fn is_progress_shown(course: &ReplayCourse) -> bool
     ensures unwatched { course.now.is_watched ≡ false → result ≡ false }
     ensures some { result ≡ true → 0 < course.now.size }
 {
@@ -201,7 +201,7 @@ fn run_parts<R: Read + Drop, W: Write, E: Write>(
     alloc: Global,
     gateway: &mut Gateway,
     text: R,
-    course: &Course,
+    course: &ReplayCourse,
     out: &mut W,
     err: &mut E,
 ) -> Result<bool, Fault>
@@ -222,7 +222,7 @@ fn run_parts<R: Read + Drop, W: Write, E: Write>(
         }
         let before = size;
         size = with_lines(size, lines);
-        tell_between(course, before, size, err);
+        show_progress(course, before, size, err);
     }
     // No memory holds so many blocks.
     Err(Fault::NoMemory)
@@ -238,7 +238,7 @@ fn run_part<W: Write, E: Write>(
     out: &mut W,
     err: &mut E,
 ) -> Result<(Pause, bool), Fault>
-    requires { IsClear pause }
+    requires { IsClearPause pause }
     ensures run { IfOk result (λ after.
         IsPartRun pause lines.now gateway.old gateway.new after.0) }
     ensures printed { IfOk result (λ after. (before : Option (List ℕ)) →
@@ -283,10 +283,10 @@ pub(crate) fn fault_in(lines: &[u8]) -> Fault
 }
 
 /// Says after each stride how far a run has come, where that is wanted.
-fn tell_between<E: Write>(course: &Course, before: u64, size: u64, err: &mut E)
+fn show_progress<E: Write>(course: &ReplayCourse, before: u64, size: u64, err: &mut E)
     ensures { course.now.is_watched ≡ false → err.new ≡ err.old }
 {
-    if is_told(course) && before / STRIDE < size / STRIDE {
+    if is_progress_shown(course) && before / STRIDE < size / STRIDE {
         // A text that has grown since it was judged isn't counted beyond its end.
         let _ = tell_percent(size.min(course.size), course.size, err);
     }

@@ -2,7 +2,7 @@
 ghost use Rattle.std.specs.Prelude.{◌≡◌, ◌<◌, OnOk};
 ghost use Rattle.gateway.specs.Agrees.{Follows, Rests};
 ghost use Rattle.gateway.specs.Reports.{Setup};
-ghost use Rattle.telegate.specs.Lives.{all_told};
+ghost use Rattle.telegate.specs.Lives.{all_passed};
 ghost use Rattle.telegate.specs.Running.{HasEnded, HasRun, HasRunFaithfully, IsRecorded};
 
 use crate::life::Life;
@@ -85,22 +85,22 @@ pub(crate) fn live<P: Watched + Drop, W: Sheet + Drop, S: LogSink + Drop, D: Str
     requires { P.failed port < u64.MAX }
     ensures device { HasRun (P.failed port) (P.failed result.run_log.port.port.port) result.ended }
     ensures over { OnOk result.ended (HasEnded (P.ended result.run_log.port.port.port)
-        (all_told before.entries scribes.pen (P.log port))
-        (all_told before.entries result.run_log.port.port.pen
+        (all_passed before.entries scribes.pen (P.log port))
+        (all_passed before.entries result.run_log.port.port.pen
         (P.log result.run_log.port.port.port))) }
     ensures script { P.script result.run_log.port.port.port ≡ P.script port }
     ensures before { result.run_log.port.before.entries ≡ before.entries }
     // Where the gateway begins with the state that all that passed before leads to, what has passed
     // then keeps every promise of a gateway with these settings.
     ensures faithful { (p : Setup) →
-        Follows p gateway (all_told before.entries scribes.pen (P.log port)) →
-        Rests p (all_told before.entries scribes.pen (P.log port)) →
-        HasRunFaithfully p (all_told before.entries result.run_log.port.port.pen
+        Follows p gateway (all_passed before.entries scribes.pen (P.log port)) →
+        Rests p (all_passed before.entries scribes.pen (P.log port)) →
+        HasRunFaithfully p (all_passed before.entries result.run_log.port.port.pen
         (P.log result.run_log.port.port.port)) result.ended }
     // And so does what is written of it.
     ensures text { (p : Setup) →
-        Follows p gateway (all_told before.entries scribes.pen (P.log port)) →
-        Rests p (all_told before.entries scribes.pen (P.log port)) →
+        Follows p gateway (all_passed before.entries scribes.pen (P.log port)) →
+        Rests p (all_passed before.entries scribes.pen (P.log port)) →
         IsRecorded p before.entries result.run_log.port.port.pen result.ended }
 {
     let recorder = Recorder::new(port, scribes.pen);

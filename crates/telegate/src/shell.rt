@@ -11,7 +11,7 @@ ghost use Rattle.telegate.specs.Shell.{HaveEnded, IsGivenIn, PlayFiles, ShowsDir
 ghost use Rattle.telegate.specs.Shell.{ShowsState};
 ghost use Rattle.telegate.specs.Stood.{octets_of};
 ghost use Rattle.telegate.specs.Shell.{AuditsFile, ChecksBehind, ChecksFile, IsNoSite, IsNotRead};
-ghost use Rattle.telegate.specs.Shell.{IsSilent, IsTold, Obeys};
+ghost use Rattle.telegate.specs.Shell.{IsSilent, IsUsageAnswered, Obeys};
 ghost use Rattle.telegate.specs.Shell.{ReplaysFile, Responds, RunsAsSaid, RunsAtSite, RunsFile};
 ghost use Rattle.telegate.specs.Shell.{input, unreadable_line};
 ghost use Rattle.telegate.specs.Wishes.{HasEndedLive, IsSiteIn, site_files};
@@ -21,17 +21,17 @@ use crate::auditing::audit;
 use crate::capturing::capture;
 use crate::check::{Checking, check, refuse};
 use crate::closing::Closing;
-use crate::command_line::{Request, parse, request_of};
+use crate::command_line::{CommandRequest, parse, request_of};
 use crate::fault::{DEVICE_FAILED, DONE, Fault, USAGE};
 use crate::host::{Host, HostFile, INPUT, Unread, Wishes};
 use crate::job::Job;
 use crate::manner::manner_of;
-use crate::performing::{give, perform, tell};
+use crate::performing::{give, perform, write_fault};
 use crate::piping::{Piped, end_pipe, pipe};
-use crate::replay::{Asked, replay};
+use crate::replay::{AskedReplay, replay};
 use crate::run_words::RunWords;
-use crate::source::{Held, Source};
-use crate::stood::tell_stood;
+use crate::source::{HeldText, Source};
+use crate::stood::answer_stood;
 use crate::wishes::{judge_site, site_in, wishes_of};
 use clap::Error;
 use clap::error::ErrorKind;
@@ -59,17 +59,17 @@ pub(crate) fn obey<H: Host, W: Write, E: Write>(
             Some(request) => respond(alloc, host, &request, out, err),
             None => USAGE,
         },
-        Err(fault) => tell_usage(&fault, out, err),
+        Err(fault) => print_usage(&fault, out, err),
     }
 }
 
 /// Prints what the words gave in place of a command, and answers the exit status.
-fn tell_usage<W: Write, E: Write>(fault: &Error, out: &mut W, err: &mut E) -> u8
-    ensures told { IsTold (kind_of fault.now) result }
+fn print_usage<W: Write, E: Write>(fault: &Error, out: &mut W, err: &mut E) -> u8
+    ensures answered { IsUsageAnswered (kind_of fault.now) result }
     ensures silent { IsSilent (kind_of fault.now) (W.contents out.old) (W.contents out.new) }
 {
     match fault.kind() {
-        ErrorKind::OutOfMemory => tell(&Fault::NoMemory, err),
+        ErrorKind::OutOfMemory => write_fault(&Fault::NoMemory, err),
         ErrorKind::DisplayHelp | ErrorKind::DisplayVersion => {
             let printed = show(fault, out);
             end_of(&printed, DONE, err)
@@ -87,7 +87,7 @@ fn end_of<E: Write>(printed: &io::Result<()>, status: u8, err: &mut E) -> u8
 {
     match printed {
         Ok(()) => status,
-        Err(_) => tell(&Fault::Device, err),
+        Err(_) => write_fault(&Fault::Device, err),
     }
 }
 
@@ -101,7 +101,7 @@ fn show<W: Write>(fault: &Error, to: &mut W) -> io::Result<()> {
 pub(crate) fn respond<H: Host, W: Write, E: Write>(
     alloc: Global,
     host: &H,
-    request: &Request<'_, '_>,
+    request: &CommandRequest<'_, '_>,
     out: &mut W,
     err: &mut E,
 ) -> u8
@@ -112,20 +112,20 @@ pub(crate) fn respond<H: Host, W: Write, E: Write>(
     let is_watched = host.is_watched();
     let has_colours = host.shows_colours();
     match request {
-        Request::Show101 { sizes, hex, words } => {
+        CommandRequest::Show101 { sizes, hex, words } => {
             if *hex == INPUT {
                 return pipe_line(alloc, host, *sizes, *words, out, err);
             }
             let job = Job::Show101(*sizes, *hex, *words);
             perform(alloc, &job, is_watched, out, err)
         }
-        Request::Show104 { hex, words } => {
+        CommandRequest::Show104 { hex, words } => {
             if *hex == INPUT {
                 return pipe_frames(alloc, host, Piped::Connection, *words, out, err);
             }
             perform(alloc, &Job::Show104(*hex, *words), is_watched, out, err)
         }
-        Request::Check {
+        CommandRequest::Check {
             config,
             site,
             live,
@@ -137,7 +137,7 @@ pub(crate) fn respond<H: Host, W: Write, E: Write>(
             };
             check_behind(alloc, host, *site, *config, how, out, err)
         }
-        Request::Replay {
+        CommandRequest::Replay {
             config,
             trace,
             left,
@@ -146,7 +146,7 @@ pub(crate) fn respond<H: Host, W: Write, E: Write>(
             color,
         } => match read_file(host, *config, err) {
             Ok(config) => {
-                let asked = Asked {
+                let asked = AskedReplay {
                     config: config.as_slice(),
                     manner: manner_of(*words, *color, has_colours),
                     closing: Closing {
@@ -159,7 +159,7 @@ pub(crate) fn respond<H: Host, W: Write, E: Write>(
             }
             Err(status) => status,
         },
-        Request::Sim {
+        CommandRequest::Sim {
             config,
             script,
             words,
@@ -172,20 +172,20 @@ pub(crate) fn respond<H: Host, W: Write, E: Write>(
             }
             Err(status) => status,
         },
-        Request::Audit { config, text } => match read_file(host, *config, err) {
+        CommandRequest::Audit { config, text } => match read_file(host, *config, err) {
             Ok(config) => audit_file(alloc, host, *text, config.as_slice(), out, err),
             Err(status) => status,
         },
-        Request::Run { config, words } => run_wished(alloc, host, *config, words, err),
-        Request::Status { place, json } => ask_status(host, *place, *json, out, err),
-        Request::State { directory, config } => {
+        CommandRequest::Run { config, words } => run_wished(alloc, host, *config, words, err),
+        CommandRequest::Status { place, json } => ask_status(host, *place, *json, out, err),
+        CommandRequest::State { directory, config } => {
             show_state(alloc, host, *directory, *config, out, err)
         }
-        Request::Capture { config, text } => match read_file(host, *config, err) {
+        CommandRequest::Capture { config, text } => match read_file(host, *config, err) {
             Ok(config) => capture_file(alloc, host, *text, config.as_slice(), out, err),
             Err(status) => status,
         },
-        Request::Stations { config, script } => play_files(host, *config, *script, err),
+        CommandRequest::Stations { config, script } => play_files(host, *config, *script, err),
     }
 }
 
@@ -247,7 +247,7 @@ fn pipe_line<H: Host, W: Write, E: Write>(
 {
     match show::read_sizes(sizes) {
         Some(sizes) => pipe_frames(alloc, host, Piped::Line(sizes), words, out, err),
-        None => tell(&Fault::Sizes, err),
+        None => write_fault(&Fault::Sizes, err),
     }
 }
 
@@ -274,7 +274,7 @@ fn replay_file<H: Host, W: Write, E: Write>(
     alloc: Global,
     host: &H,
     name: &str,
-    asked: &Asked<'_>,
+    asked: &AskedReplay<'_>,
     out: &mut W,
     err: &mut E,
 ) -> u8
@@ -286,7 +286,7 @@ fn replay_file<H: Host, W: Write, E: Write>(
     }
     match read_file(host, name, err) {
         Ok(octets) => {
-            let text = Held {
+            let text = HeldText {
                 octets: octets.as_slice(),
             };
             replay_text(alloc, &text, name, asked, out, err)
@@ -300,7 +300,7 @@ fn replay_text<S: Source, W: Write, E: Write>(
     alloc: Global,
     text: &S,
     name: &str,
-    asked: &Asked<'_>,
+    asked: &AskedReplay<'_>,
     out: &mut W,
     err: &mut E,
 ) -> u8
@@ -310,10 +310,10 @@ fn replay_text<S: Source, W: Write, E: Write>(
     match replay(alloc, asked, text, out, err) {
         Ok(()) => DONE,
         Err(Fault::Unread) => {
-            let _ = tell_unreadable(name, err);
+            let _ = write_unreadable(name, err);
             DEVICE_FAILED
         }
-        Err(fault) => tell(&fault, err),
+        Err(fault) => write_fault(&fault, err),
     }
 }
 
@@ -332,7 +332,7 @@ fn audit_file<H: Host, W: Write, E: Write>(
 {
     match audit(alloc, config, &HostFile { host, name }) {
         Err(Fault::Unread) => {
-            let _ = tell_unreadable(name, err);
+            let _ = write_unreadable(name, err);
             DEVICE_FAILED
         }
         answer => give(&answer, out, err),
@@ -355,10 +355,10 @@ fn capture_file<H: Host, W: Write, E: Write>(
     match capture(alloc, config, &HostFile { host, name }, out) {
         Ok(()) => DONE,
         Err(Fault::Unread) => {
-            let _ = tell_unreadable(name, err);
+            let _ = write_unreadable(name, err);
             DEVICE_FAILED
         }
-        Err(fault) => tell(&fault, err),
+        Err(fault) => write_fault(&fault, err),
     }
 }
 
@@ -416,12 +416,12 @@ fn show_directory<H: Host, W: Write, E: Write>(
         (octets_of given) (W.contents out.old) (W.contents out.new) result }
 {
     match host.look(directory) {
-        Ok(stood) => give(&tell_stood(alloc, stood, given), out, err),
+        Ok(stood) => give(&answer_stood(alloc, stood, given), out, err),
         Err(Unread::Unreadable) => {
-            let _ = tell_unreadable(directory, err);
+            let _ = write_unreadable(directory, err);
             DEVICE_FAILED
         }
-        Err(Unread::NoMemory) => tell(&Fault::NoMemory, err),
+        Err(Unread::NoMemory) => write_fault(&Fault::NoMemory, err),
     }
 }
 
@@ -444,7 +444,7 @@ fn play_live<H: Host, E: Write>(host: &H, config: &[u8], script: &[u8], err: &mu
 {
     match host.play(config, script) {
         Ok(()) => DONE,
-        Err(fault) => tell(&fault, err),
+        Err(fault) => write_fault(&fault, err),
     }
 }
 
@@ -484,7 +484,7 @@ fn site_of<H: Host, E: Write>(
     match read_file(host, name, err) {
         Ok(octets) => match site_in(alloc, octets.as_slice()) {
             Ok(site) => Ok(site),
-            Err(fault) => Err(tell(&fault, err)),
+            Err(fault) => Err(write_fault(&fault, err)),
         },
         Err(status) => Err(status),
     }
@@ -504,7 +504,7 @@ fn run_at_site<H: Host, E: Write>(
 {
     match wishes_of(alloc, words, site) {
         Ok(wishes) => run_file(host, config, wishes, err),
-        Err(fault) => tell(&fault, err),
+        Err(fault) => write_fault(&fault, err),
     }
 }
 
@@ -525,7 +525,7 @@ fn run_live<H: Host, E: Write>(host: &H, config: &[u8], wishes: Wishes<'_>, err:
 {
     match host.run(config, wishes) {
         Ok(()) => DONE,
-        Err(fault) => tell(&fault, err),
+        Err(fault) => write_fault(&fault, err),
     }
 }
 
@@ -558,15 +558,15 @@ fn read_file<H: Host, E: Write>(host: &H, name: &str, err: &mut E) -> Result<Vec
     match host.read(name) {
         Ok(octets) => Ok(octets),
         Err(Unread::Unreadable) => {
-            let _ = tell_unreadable(name, err);
+            let _ = write_unreadable(name, err);
             Err(DEVICE_FAILED)
         }
-        Err(Unread::NoMemory) => Err(tell(&Fault::NoMemory, err)),
+        Err(Unread::NoMemory) => Err(write_fault(&Fault::NoMemory, err)),
     }
 }
 
 /// Writes the line of a file that can't be read.
-fn tell_unreadable<E: Write>(name: &str, err: &mut E) -> io::Result<()>
+fn write_unreadable<E: Write>(name: &str, err: &mut E) -> io::Result<()>
     ensures { OnOk result (Appends (E.contents err.old) (E.contents err.new)
         (unreadable_line name.now)) }
 {

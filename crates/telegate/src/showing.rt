@@ -2,7 +2,7 @@
 ghost use Rattle.std.specs.Prelude.{◌≡◌, string_bytes};
 ghost use Rattle.telegate.specs.Answers.{IsReadOctets, IsShown101, IsShown104, status_by};
 
-use crate::answer::Answer;
+use crate::answer::CommandAnswer;
 use crate::fault::{BAD_CONTENT, DONE, Fault};
 use show::{Outcome, Shown};
 use std::alloc::Global;
@@ -10,7 +10,12 @@ use words::{tell_apdu, tell_line};
 
 /// Shows the line frame at the front of octets, in one line of words or with a fact a line. The
 /// sizes are judged before the octets.
-pub(crate) fn show101(alloc: Global, sizes: &str, hex: &str, words: bool) -> Result<Answer, Fault>
+pub(crate) fn show101(
+    alloc: Global,
+    sizes: &str,
+    hex: &str,
+    words: bool,
+) -> Result<CommandAnswer, Fault>
     ensures { IsShown101 words sizes.now hex.now result }
 {
     let Some(sizes) = show::read_sizes(sizes) else {
@@ -24,7 +29,7 @@ pub(crate) fn show101(alloc: Global, sizes: &str, hex: &str, words: bool) -> Res
 }
 
 /// Shows the APDU at the front of octets, in one line of words or with a fact a line.
-pub(crate) fn show104(alloc: Global, hex: &str, words: bool) -> Result<Answer, Fault>
+pub(crate) fn show104(alloc: Global, hex: &str, words: bool) -> Result<CommandAnswer, Fault>
     ensures { IsShown104 words hex.now result }
 {
     let octets = read_octets(alloc, hex)?;
@@ -46,11 +51,11 @@ fn read_octets(alloc: Global, hex: &str) -> Result<Vec<u8>, Fault>
 }
 
 /// The lines, and the exit status that stands for a fault in the octets.
-fn answer_of(shown: Shown) -> Answer
+fn answer_of(shown: Shown) -> CommandAnswer
     ensures text { result.text.items ≡ string_bytes shown.lines }
     ensures status { result.status ≡ status_by shown.outcome }
 {
-    Answer {
+    CommandAnswer {
         text: shown.lines.into_bytes(),
         status: match shown.outcome {
             Outcome::Good => DONE,

@@ -10,7 +10,7 @@ ghost use Rattle.telegate.specs.declared.manner.Manner.TheVariants.{Lines};
 use crate::check::read_config;
 use crate::fault::Fault;
 use crate::manner::Manner;
-use crate::simulating_told::simulate_told;
+use crate::simulating_in_words::simulate_in_words;
 use gateway::Config;
 use sim::{Script, SimFault, TextFault, read_script, simulate_watched};
 use std::alloc::Global;
@@ -40,7 +40,7 @@ pub(crate) fn simulate<W: Write, E: Write>(
         Ok(script) => match manner {
             Manner::Lines => run(alloc, &config, &script, is_watched, out, err),
             Manner::Words { is_coloured } => {
-                simulate_told(alloc, &config, &script, is_coloured, out)
+                simulate_in_words(alloc, &config, &script, is_coloured, out)
             }
         },
         Err(TextFault::Line(n)) => Err(Fault::Script(n)),
@@ -63,14 +63,14 @@ fn run<W: Write, E: Write>(
     ensures unwatched { is_watched ≡ false → err.new ≡ err.old }
 {
     if is_watched {
-        told(simulate_watched(alloc, config, script, out, err))
+        fault_of_run(simulate_watched(alloc, config, script, out, err))
     } else {
-        told(sim::simulate(alloc, config, script, out))
+        fault_of_run(sim::simulate(alloc, config, script, out))
     }
 }
 
 /// The program's fault for a run's fault.
-fn told(run: Result<(), SimFault>) -> Result<(), Fault>
+fn fault_of_run(run: Result<(), SimFault>) -> Result<(), Fault>
     ensures { (c : Settings) (ds : List Directive) (old new : Option (List ℕ)) →
         IsSimulation c ds old new run → IsSimulationOf Lines c ds old new result }
 {

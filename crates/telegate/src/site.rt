@@ -1,6 +1,6 @@
 //! Where a live run finds its ends.
 ghost use Rattle.std.specs.Prelude.{◌≡◌, ℕ, IfOk};
-ghost use Rattle.telegate.specs.Told.{fault_of};
+ghost use Rattle.telegate.specs.Logged.{fault_of};
 
 use crate::fault::Fault;
 use live::{
@@ -21,16 +21,16 @@ use std::rt::Clock;
 
 /// Why an end can't be had.
 #[derive(Clone, Copy, Debug, PartialEq, Eq)]
-pub(crate) struct Refusal {
+pub(crate) struct EndRefusal {
     pub(crate) trouble: Trouble,
     /// For want of memory.
     pub(crate) is_memory: bool,
 }
 
-impl From<Refusal> for Fault {
+impl From<EndRefusal> for Fault {
     ghost from_gives = { λ refusal fault. fault ≡ fault_of refusal.is_memory };
 
-    fn from(refusal: Refusal) -> Fault {
+    fn from(refusal: EndRefusal) -> Fault {
         if refusal.is_memory {
             Fault::NoMemory
         } else {
@@ -40,7 +40,7 @@ impl From<Refusal> for Fault {
 }
 
 /// Where a live run finds its ends, and where its log and its record go.
-pub(crate) trait Site {
+pub(crate) trait RunSite {
     ghost use Rattle.telegate.specs.Sites.{IsNew};
 
     type Line: OctetStream + Reached;
@@ -74,16 +74,16 @@ pub(crate) trait Site {
         ensures { IsNew (Self.Sheet.taken result) (Self.Sheet.missed result) };
 
     /// The listener, open, and its address, if that is known.
-    fn listener(&self) -> Result<(Self::Listener, Option<SocketAddr>), Refusal>;
+    fn listener(&self) -> Result<(Self::Listener, Option<SocketAddr>), EndRefusal>;
 
     /// The listener for visitors at this place, open.
-    fn status_listener(&self, place: &str) -> Result<Self::Glass, Refusal>;
+    fn status_listener(&self, place: &str) -> Result<Self::Glass, EndRefusal>;
 
     /// The line: one that is there, or one that is reached again where it ends.
-    fn line(&self, redial: bool) -> Result<Self::Line, Refusal>;
+    fn line(&self, redial: bool) -> Result<Self::Line, EndRefusal>;
 
     /// A clock that begins at this moment, in ms.
-    fn clock(&self, moment: u64) -> Result<Self::Clock, Refusal>
+    fn clock(&self, moment: u64) -> Result<Self::Clock, EndRefusal>
         ensures { IfOk result (λ clock. begins_at clock moment) };
 
     /// The directory of this name, in which a state is kept. Nothing in it is touched yet.
@@ -146,7 +146,7 @@ impl<R: Net<Stream = TcpStream> + Clock> Reached for ProcessLine<'_, R> {
     }
 }
 
-impl<'r> Site for Process<'r> {
+impl<'r> RunSite for Process<'r> {
     type Line = ProcessLine<'r, HostRuntime>;
 
     type Listener = CentreListener<'r, HostRuntime>;
@@ -186,7 +186,9 @@ impl<'r> Site for Process<'r> {
         StandardOutput::new(self.rt)
     }
 
-    fn listener(&self) -> Result<(CentreListener<'r, HostRuntime>, Option<SocketAddr>), Refusal> {
+    fn listener(
+        &self,
+    ) -> Result<(CentreListener<'r, HostRuntime>, Option<SocketAddr>), EndRefusal> {
         match CentreListener::listen(self.rt, self.places.listen.as_str()) {
             Ok(listener) => {
                 let address = listener.address().ok();
@@ -196,21 +198,21 @@ impl<'r> Site for Process<'r> {
         }
     }
 
-    fn status_listener(&self, place: &str) -> Result<VisitorListener, Refusal> {
+    fn status_listener(&self, place: &str) -> Result<VisitorListener, EndRefusal> {
         match VisitorListener::listen(self.rt, place) {
             Ok(listener) => Ok(listener),
             Err(fault) => Err(refusal_by(Trouble::StatusUnusable, &fault)),
         }
     }
 
-    fn line(&self, redial: bool) -> Result<ProcessLine<'r, HostRuntime>, Refusal> {
+    fn line(&self, redial: bool) -> Result<ProcessLine<'r, HostRuntime>, EndRefusal> {
         match reached(self.rt, self.places.line.as_str(), redial) {
             Ok(line) => Ok(line),
             Err(fault) => Err(refusal_by(line_trouble(&fault), &fault)),
         }
     }
 
-    fn clock(&self, moment: u64) -> Result<SystemClock<'r, HostRuntime>, Refusal> {
+    fn clock(&self, moment: u64) -> Result<SystemClock<'r, HostRuntime>, EndRefusal> {
         match SystemClock::start_at(self.rt, moment) {
             Ok(clock) => Ok(clock),
             Err(fault) => Err(refusal_by(Trouble::LineUnreached, &fault)),
@@ -236,8 +238,8 @@ fn reached<'r, R: Net<Stream = TcpStream> + Clock>(
     Ok(ProcessLine::Again(Redialled::new(LineDialler::new(rt, place), tries)))
 }
 
-fn refusal_by(trouble: Trouble, fault: &io::Error) -> Refusal {
-    Refusal {
+fn refusal_by(trouble: Trouble, fault: &io::Error) -> EndRefusal {
+    EndRefusal {
         trouble,
         is_memory: fault.kind() == ErrorKind::OutOfMemory,
     }

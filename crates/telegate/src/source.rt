@@ -20,11 +20,11 @@ pub(crate) trait Source {
 
 /// A text that stands in memory.
 #[derive(Clone, Copy)]
-pub(crate) struct Held<'a> {
+pub(crate) struct HeldText<'a> {
     pub(crate) octets: &'a [u8],
 }
 
-impl<'a> Source for Held<'a> {
+impl<'a> Source for HeldText<'a> {
     type Text = &'a [u8];
 
     ghost has = { λ s octets. s.octets.now ≡ octets };

@@ -1,9 +1,9 @@
 //! The command that shows what a run would go on with.
 ghost use Rattle.std.specs.Prelude.{◌≡◌, option_map};
-ghost use Rattle.telegate.specs.Stood.{IsLookFault, IsSightTold, IsStoodShown, octets_of};
+ghost use Rattle.telegate.specs.Stood.{IsLookFault, IsSightAnswer, IsStoodShown, octets_of};
 ghost use Rattle.telegate.specs.Stood.{status_of_sight};
 
-use crate::answer::Answer;
+use crate::answer::CommandAnswer;
 use crate::fault::{BAD_CONTENT, DONE, Fault};
 use checkpoint::StateFault;
 use state::{Beginning, Sight, look};
@@ -13,11 +13,11 @@ use std::alloc::Global;
 
 /// What a start would find in a directory, in lines, with the exit status: 1 where what is there
 /// can't be read. It is compared with these settings, if any are given.
-pub(crate) fn tell_stood(
+pub(crate) fn answer_stood(
     alloc: Global,
     stood: Stood,
     given: Option<Vec<u8>>,
-) -> Result<Answer, Fault>
+) -> Result<CommandAnswer, Fault>
     ensures { IsStoodShown stood (octets_of given) result }
 {
     let Stood {
@@ -28,23 +28,23 @@ pub(crate) fn tell_stood(
         ..
     } = stood;
     match look(alloc, files, is_stale, &before) {
-        Ok(sight) => tell_sight(alloc, is_held, is_stale, given, sight),
+        Ok(sight) => answer_sight(alloc, is_held, is_stale, given, sight),
         Err(fault) => Err(fault_of(fault)),
     }
 }
 
 /// That in lines.
-fn tell_sight(
+fn answer_sight(
     alloc: Global,
     is_held: bool,
     is_stale: bool,
     given: Option<Vec<u8>>,
     sight: Sight,
-) -> Result<Answer, Fault>
-    ensures { IsSightTold is_held is_stale (octets_of given) sight result }
+) -> Result<CommandAnswer, Fault>
+    ensures { IsSightAnswer is_held is_stale (octets_of given) sight result }
 {
     let text = tell_state(alloc, is_held, is_stale, slice_of(&given), &sight)?;
-    Ok(Answer {
+    Ok(CommandAnswer {
         text,
         status: status_of(sight.beginning),
     })

@@ -5,5 +5,5 @@ pub returns-in-Err : goal.returns-in-Err
 returns-in-Err g c = inr (record {
   fault = c.in-Err.fault;
   is = c.in-Err.ensures;
-  told = c.refuse.ensures;
+  answered = c.refuse.ensures;
 })

@@ -27,5 +27,5 @@ pub returns-in-Err : goal.returns-in-Err
 returns-in-Err g c = performs_as c.in-Sim.is (record {
   result = c.simulate.result;
   ran = c.simulate.ensures.answer;
-  status = c.tell.ensures ∙ sym (ap status_of_end c.in-Err.is);
+  status = c.write_fault.ensures ∙ sym (ap status_of_end c.in-Err.is);
 })

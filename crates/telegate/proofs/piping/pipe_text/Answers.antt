@@ -55,7 +55,7 @@ returns-in-Err g c =
     c.lines-lines.result.now
     c.lines-lines.ensures c.in_ok-advance.ensures.block (string_bytes shown.lines) shown.outcome _
     new
-    c.in_ok-shown.ensures.told refl
+    c.in_ok-shown.ensures.shown refl
     (subst (λ (xs : List ℕ). IsBegun mid new xs) c.as_bytes.ensures.value c.in-Err.ensures.begun)
 
 pub returns-then-is_over : goal.returns-then-is_over
@@ -69,7 +69,7 @@ returns-then-is_over g c =
     c.lines-lines.result.now
     c.lines-lines.ensures c.in_ok-advance.ensures.block (string_bytes shown.lines) shown.outcome
     c.both-outcome.result new
-    c.in_ok-shown.ensures.told c.both-outcome.ensures (sym c.is_over.ensures ∙ c.if-is_over.true)
+    c.in_ok-shown.ensures.shown c.both-outcome.ensures (sym c.is_over.ensures ∙ c.if-is_over.true)
     (subst (λ (xs : List ℕ). Appends mid new xs) c.as_bytes.ensures.value c.in-Ok.ensures.all)
 
 pub piping-preserved : goal.piping-preserved
@@ -85,7 +85,7 @@ piping-preserved g c =
           c.lines-lines.result.now
           c.lines-lines.ensures c.in_ok-advance.ensures.block (string_bytes shown.lines)
           shown.outcome
-          c.both-outcome.result new c.in_ok-shown.ensures.told c.both-outcome.ensures goes_on
+          c.both-outcome.result new c.in_ok-shown.ensures.shown c.both-outcome.ensures goes_on
           (subst (λ (xs : List ℕ). Appends mid new xs) c.as_bytes.ensures.value
           c.in-Ok.ensures.all);
       goes_on = goes_on;

@@ -10,12 +10,12 @@ seeking-init g c = record {
   goes_on = ap (λ (r : Reading). r.is_over) c.new-blocks.ensures;
 }
 
-pub returns-then-tells-clause-found : goal.returns-then-tells-clause-found
-returns-then-tells-clause-found g c =
+pub returns-then-has_actions-clause-found : goal.returns-then-has_actions-clause-found
+returns-then-has_actions-clause-found g c =
     seeks_found (g.R.Read.remaining c.args.text) c.seeking.blocks.coming
     c.seeking.invariant.seeks c.advance.new.blocks c.lines-lines.result.now
     c.lines-lines.ensures c.in_ok-advance.ensures.block
-    (sym c.in_ok-tells.ensures ∙ c.if-tells.true)
+    (sym c.in_ok-has_actions.ensures ∙ c.if-has_actions.true)
 
 pub returns-then-is_over-clause-found : goal.returns-then-is_over-clause-found
 returns-then-is_over-clause-found g c =
@@ -23,7 +23,7 @@ returns-then-is_over-clause-found g c =
     c.seeking.invariant.seeks c.advance.new.blocks c.lines-lines.result.now
     c.lines-lines.ensures c.in_ok-advance.ensures.block
     (sym c.is_over.ensures ∙ c.if-is_over.true)
-    (sym c.in_ok-tells.ensures ∙ c.if-tells.false)
+    (sym c.in_ok-has_actions.ensures ∙ c.if-has_actions.false)
 
 pub seeking-preserved : goal.seeking-preserved
 seeking-preserved g c =
@@ -32,6 +32,6 @@ seeking-preserved g c =
       seeks = seeks_on (g.R.Read.remaining c.args.text) c.seeking.blocks.coming
           c.seeking.invariant.seeks c.advance.new.blocks c.lines-lines.result.now
           c.lines-lines.ensures c.in_ok-advance.ensures.block goes_on
-          (sym c.in_ok-tells.ensures ∙ c.if-tells.false);
+          (sym c.in_ok-has_actions.ensures ∙ c.if-has_actions.false);
       goes_on = goes_on;
     }

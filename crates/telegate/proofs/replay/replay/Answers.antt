@@ -71,13 +71,13 @@ returns-clause-answer g c =
     let has = g.S.Source.has c.args.trace.now in
     let closing = c.args.asked.now.closing in
     let old = g.W.Write.contents c.args.out.now in
-    let new = g.W.Write.contents c.run_told.new.out in
+    let new = g.W.Write.contents c.run_in_words.new.out in
     let first = g.S.Text.Read.remaining c.in_ok-text.text in
     let second = g.S.Text.Read.remaining c.in_ok-text-in-Words.text in
     let third = g.S.Text.Read.remaining c.in_ok-text-in-Words-2.text in
     let manner = Words c.in-Words.is_coloured in
     let r = c.in_ok-as_record-in-Words.as_record in
-    subst (λ (m : Manner). IsReplayed config m has closing old new c.run_told.result)
+    subst (λ (m : Manner). IsReplayed config m has closing old new c.run_in_words.result)
     (sym c.in-Words.is)
     (replayed config manner r (Gives third) has closing c.in_ok-config.config
     old new c.in_ok-config.ensures
@@ -85,4 +85,4 @@ returns-clause-answer g c =
     c.in_ok-as_record-in-Words.ensures.found)
     (was_judged r has second c.in_ok-text-in-Words.ensures.text c.in_ok-judge_text-in-Words.ensures)
     c.in_ok-text-in-Words-2.ensures.text
-    c.run_told.result c.run_told.ensures)
+    c.run_in_words.result c.run_in_words.ensures)

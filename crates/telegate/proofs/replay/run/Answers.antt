@@ -32,7 +32,7 @@ returns-clause-answer g c =
     ended Lines false (Gives known) c.args.course.now.closing settings run.octets run.log run.lines
     old
     (g.W.Write.contents c.close.new.out)
-    run.given done.faithful run.told c.run_parts-ran.new.gateway run.right run.events done.rests
+    run.given done.faithful run.written c.run_parts-ran.new.gateway run.right run.events done.rests
     (c.steps_keep_their_order.ensures.settings settings run.log done.faithful)
     (c.nothing_is_lost.ensures (setup_of settings) run.log done.faithful) done.follows done.accounts
     c.close.result (c.close.ensures old run.lines run.poured)

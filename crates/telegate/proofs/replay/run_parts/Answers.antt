@@ -98,7 +98,7 @@ running-preserved g c =
           c.running.gateway c.running.pause c.running.is_whole old mid c.running.invariant.run))
           goes_on;
       goes_on = goes_on;
-      unwatched = λ unwatched. c.tell_between.ensures unwatched ∙ c.in_ok-pause.ensures.unwatched
+      unwatched = λ unwatched. c.show_progress.ensures unwatched ∙ c.in_ok-pause.ensures.unwatched
           ∙ c.running.invariant.unwatched unwatched;
     }
 

@@ -2,7 +2,7 @@ use Rattle.std.proofs.Common.{◌≡◌, ◌<◌}
 use Rattle.gateway.specs.Agrees.{Follows, Rests}
 use Rattle.gateway.specs.Reports.{Setup}
 use Rattle.gateway.specs.Runs.{MoreEvents}
-use Rattle.telegate.specs.Running.{IsRunTold}
+use Rattle.telegate.specs.Running.{IsRunFaithful}
 use Rattle.telegate.proofs.running.serve.Given as goal
 
 abbrev pub invariant-turning : goal.invariant-turning
@@ -13,7 +13,7 @@ invariant-turning g l = record {
   faithful : (p : Setup) → Follows p l.initial.gateway (g.P.Port.log l.initial.run_log.port)
       → Rests p (g.P.Port.log l.initial.run_log.port)
       → Follows p l.gateway (g.P.Port.log l.run_log.port) × Rests p (g.P.Port.log l.run_log.port);
-  told : (p : Setup) → Follows p l.initial.gateway (g.P.Port.log l.initial.run_log.port)
+  shown : (p : Setup) → Follows p l.initial.gateway (g.P.Port.log l.initial.run_log.port)
       → Rests p (g.P.Port.log l.initial.run_log.port) → 0 < l.counter
-      → IsRunTold p (g.P.Port.log l.run_log.port);
+      → IsRunFaithful p (g.P.Port.log l.run_log.port);
 }

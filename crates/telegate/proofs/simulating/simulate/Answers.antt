@@ -18,14 +18,14 @@ returns-in-Lines-clause-answer g c =
 pub returns-in-Ok-clause-answer : goal.returns-in-Ok-clause-answer
 returns-in-Ok-clause-answer g c =
     let old = g.W.Write.contents c.args.out.now in
-    let new = g.W.Write.contents c.simulate_told.new.out in
+    let new = g.W.Write.contents c.simulate_in_words.new.out in
     subst (λ (m : Manner). IsSimulatedBy m c.args.config.now c.args.script.now old new
-    c.simulate_told.result)
+    c.simulate_in_words.result)
     (sym c.in-Words.is)
     (scripted (Words c.in-Words.is_coloured) c.args.config.now c.args.script.now
     c.in_ok-config.config c.in-Ok.script
-    old new c.simulate_told.result c.in_ok-config.ensures c.in-Ok.ensures.script
-    c.simulate_told.ensures)
+    old new c.simulate_in_words.result c.in_ok-config.ensures c.in-Ok.ensures.script
+    c.simulate_in_words.ensures)
 
 pub returns-in-Err-Line-clause-answer : goal.returns-in-Err-Line-clause-answer
 returns-in-Err-Line-clause-answer g c =

@@ -28,7 +28,7 @@ returns-in-Ok-run_at c =
       came = inr (record {
         ended = c.in-Ok-run_at.ended;
         lived = c.in-Ok-run_at.ensures.lived;
-        told = c.answer_to.ensures;
+        answered = c.answer_to.ensures;
       });
     })
 

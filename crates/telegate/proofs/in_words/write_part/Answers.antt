@@ -12,8 +12,8 @@ use Rattle.telegate.specs.Printed.{IsPoured}
 use Rattle.telegate.proofs.PartLemmas.{part_run, standing_of, turns_left}
 use Rattle.telegate.proofs.Poured.{poured_begun}
 use Rattle.telegate.proofs.RunLemmas.{at_finish}
-use Rattle.telegate.proofs.TellingLemmas.{telling_stopped}
-use Rattle.telegate.proofs.telling.tell_part.Goals as goal
+use Rattle.telegate.proofs.InWordsLemmas.{writing_stopped}
+use Rattle.telegate.proofs.in_words.write_part.Goals as goal
 
 pub new-ladder-requires : goal.new-ladder-requires
 new-ladder-requires g c = record {
@@ -91,13 +91,13 @@ returns-in-Device-clause-begun g c = elim c.drive_told-end.ensures.so_far [
       let same : port.log ≡ scribe.log = cc in
       let style_is : scribe.style ≡ style = c.drive_told-end.ensures.style
       ∙ ap (λ (l : Climbing Progress). l.scribe.style) c.new-ladder.ensures in
-      let told = subst (λ (s : Scribing). IsPoured c.args.was_whole before old s.told)
+      let written = subst (λ (s : Scribing). IsPoured c.args.was_whole before old s.told)
       (sym (ap (λ (l : Climbing Progress). l.scribe) c.new-ladder.ensures)) poured in
-      telling_stopped style c.args.pause c.args.lines.now c.args.gateway.now start port fresh
+      writing_stopped style c.args.pause c.args.lines.now c.args.gateway.now start port fresh
       c.drive_told-end.ensures.course whole scribe.poured behind.0 scribe.told before new (same
       ∙ behind.1) kept
       (subst (λ (s : Style). IsLadder s scribe.poured scribe.told) style_is
       c.page-page_is_clear.ensures.poured)
       (poured_begun c.drive_told-end.result.1 before new scribe.told
-      (c.drive_told-end.ensures.told before told)))
+      (c.drive_told-end.ensures.told before written)))
 ]

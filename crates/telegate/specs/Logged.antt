@@ -12,12 +12,12 @@ use Rattle.state_words.specs.Notes.{note_of, note_of_queue, note_of_settings}
 use Rattle.telegate.specs.declared.fault.Fault.{Fault}
 use Rattle.telegate.specs.declared.fault.Fault.TheVariants.{Device, NoMemory, StateInUse}
 use Rattle.telegate.specs.declared.fault.Fault.TheVariants.{StateUnusable}
-use Rattle.telegate.specs.declared.site.Refusal.{Refusal}
+use Rattle.telegate.specs.declared.site.EndRefusal.{EndRefusal}
 
 -- a note is logged, if there is one
-abbrev pub NotesIf : Option Note → (old new : Book) → Type 0
-NotesIf None old new = new ≡ old
-NotesIf (Some note) old new = LogsNote old note new
+abbrev pub LogsNoteIf : Option Note → (old new : Book) → Type 0
+LogsNoteIf None old new = new ≡ old
+LogsNoteIf (Some note) old new = LogsNote old note new
 
 abbrev pub note_of_address : Option SocketAddr → Option Note
 note_of_address None = None
@@ -29,20 +29,20 @@ note_if_on None gateway = None
 note_if_on (Some moment) gateway = Some (note_of_queue gateway)
 
 -- the gap that may not have been seen, at the moment at which the run goes on
-abbrev pub TellsGap : (moment : Option ℕ) → Option (ℕ × ℕ) → (old new : Book) → Type 0
-TellsGap None gap old new = new ≡ old
-TellsGap (Some moment) None old new = new ≡ old
-TellsGap (Some moment) (Some gap) old new = LogsAction old moment (GapOut gap.0 gap.1) new
+abbrev pub LogsGap : (moment : Option ℕ) → Option (ℕ × ℕ) → (old new : Book) → Type 0
+LogsGap None gap old new = new ≡ old
+LogsGap (Some moment) None old new = new ≡ old
+LogsGap (Some moment) (Some gap) old new = LogsAction old moment (GapOut gap.0 gap.1) new
 
 -- how a run begins is logged, in this order, and nothing else
-pub record TellsBeginning (o : Origin) (old new : Book) : Type 0 where
+pub record LogsBeginning (o : Origin) (old new : Book) : Type 0 where
   pub begun : Book
-  pub begins : NotesIf (note_of o.beginning) old begun
+  pub begins : LogsNoteIf (note_of o.beginning) old begun
   pub moved : Book
-  pub settings : NotesIf (note_of_settings o.is_moved) begun moved
+  pub settings : LogsNoteIf (note_of_settings o.is_moved) begun moved
   pub noted : Book
-  pub goes_on : NotesIf (note_if_on o.moment o.gateway) moved noted
-  pub gap : TellsGap o.moment o.gap noted new
+  pub goes_on : LogsNoteIf (note_if_on o.moment o.gateway) moved noted
+  pub gap : LogsGap o.moment o.gap noted new
 
 -- The state can't be had, which is logged, unless memory is refused.
 abbrev pub IsUnkept : Fault → (old new : Book) → Type 0
@@ -58,6 +58,6 @@ fault_of false = Device
 
 -- an end can't be had, which is logged, and the run doesn't begin
 pub record IsRefused (fault : Fault) (old new : Book) : Type 0 where
-  pub refusal : Refusal
-  pub told : LogsNote old (note.Trouble refusal.trouble) new
+  pub refusal : EndRefusal
+  pub written : LogsNote old (note.Trouble refusal.trouble) new
   pub is : fault ≡ fault_of refusal.is_memory

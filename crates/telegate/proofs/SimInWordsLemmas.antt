@@ -27,10 +27,10 @@ use Rattle.telegate.specs.declared.manner.Manner.TheVariants.{Words}
 pub words_of_all : (style : Style) (s : Scribing) (log : Log) → s.style ≡ style
     → Some log ≡ Some s.poured
     → IsLadder s.style s.poured s.told → IsLadder style log s.told
-words_of_all style s log is all told =
+words_of_all style s log is all written =
     let same : s.poured ≡ log = cc in
     subst (λ (l : Log). IsLadder style l s.told) same
-    (subst (λ (x : Style). IsLadder x s.poured s.told) is told)
+    (subst (λ (x : Style). IsLadder x s.poured s.told) is written)
 
 module _ (c : Settings) (ds : List Directive) (is_coloured : Bool) (s : Simulated) (plan : s.plan
     ≡ plan_of c ds)
@@ -41,7 +41,7 @@ module _ (c : Settings) (ds : List Directive) (is_coloured : Bool) (s : Simulate
       → s.log ≡ news ++ first
       → IsLadder (style_of c is_coloured) first words → IsBegun old new words
       → IsSimulationOf (Words is_coloured) c ds old new (Err NoMemory)
-  words_stopped first news words old new behind told begun = inr (record {
+  words_stopped first news words old new behind written begun = inr (record {
     log = s.log;
     stop = let most : s.standing.call ≤ turns_of s.plan.directives = stands.in_turns in record {
       stations = s.stations;
@@ -55,7 +55,7 @@ module _ (c : Settings) (ds : List Directive) (is_coloured : Bool) (s : Simulate
     news = news;
     behind = behind;
     words = words;
-    told = told;
+    written = written;
     printed = begun;
   })
 
@@ -65,21 +65,37 @@ module _ (c : Settings) (ds : List Directive) (is_coloured : Bool) (s : Simulate
       → IsRun c ds s.log closing → IsLadder (style_of c is_coloured) s.log words
       → IsClosedBy old new words closing r
       → IsSimulationOf (Words is_coloured) c ds old new r
-  words_ended closing words old new (Ok done) run told h =
-      record { log = s.log; closing = closing; run = run; words = words; told = told; printed = h }
-  words_ended closing words old new (Err Device) run told h =
-      record { log = s.log; closing = closing; run = run; words = words; told = told; printed = h }
-  words_ended closing words old new (Err NoMemory) run told h =
-      words_stopped s.log [] words old new refl told h
-  words_ended closing words old new (Err (Config why)) run told h = absurd h
-  words_ended closing words old new (Err (Trace n)) run told h = absurd h
-  words_ended closing words old new (Err (Script n)) run told h = absurd h
-  words_ended closing words old new (Err (Site why)) run told h = absurd h
-  words_ended closing words old new (Err (Record n)) run told h = absurd h
-  words_ended closing words old new (Err NoState) run told h = absurd h
-  words_ended closing words old new (Err StateInUse) run told h = absurd h
-  words_ended closing words old new (Err StateUnusable) run told h = absurd h
-  words_ended closing words old new (Err Sizes) run told h = absurd h
-  words_ended closing words old new (Err Octets) run told h = absurd h
-  words_ended closing words old new (Err Address) run told h = absurd h
-  words_ended closing words old new (Err Unread) run told h = absurd h
+  words_ended closing words old new (Ok done) run written h =
+      record {
+        log = s.log;
+        closing = closing;
+        run = run;
+        words = words;
+        written =
+            written;
+        printed = h;
+      }
+  words_ended closing words old new (Err Device) run written h =
+      record {
+        log = s.log;
+        closing = closing;
+        run = run;
+        words = words;
+        written =
+            written;
+        printed = h;
+      }
+  words_ended closing words old new (Err NoMemory) run written h =
+      words_stopped s.log [] words old new refl written h
+  words_ended closing words old new (Err (Config why)) run written h = absurd h
+  words_ended closing words old new (Err (Trace n)) run written h = absurd h
+  words_ended closing words old new (Err (Script n)) run written h = absurd h
+  words_ended closing words old new (Err (Site why)) run written h = absurd h
+  words_ended closing words old new (Err (Record n)) run written h = absurd h
+  words_ended closing words old new (Err NoState) run written h = absurd h
+  words_ended closing words old new (Err StateInUse) run written h = absurd h
+  words_ended closing words old new (Err StateUnusable) run written h = absurd h
+  words_ended closing words old new (Err Sizes) run written h = absurd h
+  words_ended closing words old new (Err Octets) run written h = absurd h
+  words_ended closing words old new (Err Address) run written h = absurd h
+  words_ended closing words old new (Err Unread) run written h = absurd h

@@ -12,7 +12,7 @@ use Rattle.std.specs.Io.KnownBytes.{Appends}
 use Rattle.traces.specs.Progress.{Progress, Standing, coming_in, script_of}
 use Rattle.telegate.specs.Parts.{IsPartStopped, StaysFaithful}
 use Rattle.telegate.specs.Printed.{IsPoured}
-use Rattle.telegate.specs.Telling.{HasWritten}
+use Rattle.telegate.specs.InWords.{HasWritten}
 use Rattle.telegate.proofs.PartLemmas.{RunsTo, part_start, runs_begin}
 use Rattle.telegate.proofs.Poured.{appends_none}
 
@@ -29,7 +29,7 @@ events_behind (Came now event ∷ news) log =
 events_behind (Went now action ∷ news) log = events_behind news log
 
 -- how far a run over a text has come, with a scribe that has written of all
-pub record TellsTo (style : Style) (r : Bool) (known coming : Option (List ℕ))
+pub record WritesTo (style : Style) (r : Bool) (known coming : Option (List ℕ))
     (began state : State)
     (s : Standing)
     (scribe : Scribing) (is_whole : Bool) (old new : Option (List ℕ)) : Type 0 where
@@ -52,11 +52,11 @@ abbrev pub unbegun : (as_record : Bool) → Standing
 unbegun as_record =
     record { started = as_record; log = []; poured = []; page = []; failed = 0 }
 
-pub tells_begin : (style : Style) (r : Bool) (known coming : Option (List ℕ)) (began : State)
+pub text_begins : (style : Style) (r : Bool) (known coming : Option (List ℕ)) (began : State)
     (s : Standing) (scribe : Scribing)
     (old : Option (List ℕ)) → coming ≡ known → s ≡ unbegun r → scribe ≡ blank style
-    → TellsTo style r known coming began began s scribe true old old
-tells_begin style r known coming began s scribe old all fresh new = record {
+    → WritesTo style r known coming began began s scribe true old old
+text_begins style r known coming began s scribe old all fresh new = record {
   run = runs_begin (IsLadder style) r known coming began s old all fresh (no_words style);
   written = subst (λ (x : Scribing). HasWritten style s.log x) (sym new)
       (subst (λ (x : Standing). HasWritten style x.log (blank style)) (sym fresh) (record {
@@ -64,7 +64,7 @@ tells_begin style r known coming began s scribe old all fresh new = record {
         log_is = refl;
         poured = refl;
         noted = refl;
-        told = no_words style;
+        written = no_words style;
       }));
   poured = subst (λ (x : Scribing). Appends old old x.told) (sym new) (appends_none old);
 }
@@ -73,11 +73,11 @@ module _ (style : Style) (s : Standing) (text : List ℕ) (began : State) (start
     (fresh : start ≡ part_start s text) (course : port.part ≡ start.part)
     (whole : events_of port.log ++ coming_in port ≡ script_of port.part) where
   -- a part was left, of whose first entries so much was written
-  pub telling_stopped : (first news : Log) (words : List ℕ) (old new : Option (List ℕ))
+  pub writing_stopped : (first news : Log) (words : List ℕ) (old new : Option (List ℕ))
       → port.log ≡ news ++ first
       → StaysFaithful began start.log first → IsLadder style first words → IsBegun old new words
       → IsPartStopped (IsLadder style) s text began old new
-  telling_stopped first news words old new behind faithful told begun = record {
+  writing_stopped first news words old new behind faithful written begun = record {
     log = first;
     rest = events_of news ++ coming_in port;
     events = sym (append_assoc (events_of first) (events_of news) (coming_in port))
@@ -86,6 +86,6 @@ module _ (style : Style) (s : Standing) (text : List ℕ) (began : State) (start
         ∙ whole ∙ ap script_of (course ∙ ap (λ (t : Progress). t.part) fresh);
     faithful = subst (λ (t : Progress). StaysFaithful began t.log first) fresh faithful;
     lines = words;
-    told = told;
+    written = written;
     begun = begun;
   }

@@ -25,7 +25,7 @@ use std::io::Write;
 
 /// Runs the gateway as a script says, and prints its events and actions in words, and then the
 /// closing lines.
-pub(crate) fn simulate_told<W: Write>(
+pub(crate) fn simulate_in_words<W: Write>(
     alloc: Global,
     config: &Config,
     script: &Script,

@@ -25,7 +25,7 @@ pub record IsRunInWords (c : Settings) (ds : List Directive) (is_coloured : Bool
   pub closing : List ℕ
   pub run : IsRun c ds log closing
   pub words : List ℕ
-  pub told : IsLadder (style_of c is_coloured) log words
+  pub written : IsLadder (style_of c is_coloured) log words
   pub printed : IsPrinted (words ++ closing)
 
 -- a run of the script may stop with this log
@@ -45,7 +45,7 @@ pub record IsStopInWords (c : Settings) (ds : List Directive) (is_coloured : Boo
   pub news : Log
   pub behind : log ≡ news ++ first
   pub words : List ℕ
-  pub told : IsLadder (style_of c is_coloured) first words
+  pub written : IsLadder (style_of c is_coloured) first words
   pub printed : IsBegun before after words
 
 abbrev pub IsSimulatedIn : Manner → Settings → List Directive

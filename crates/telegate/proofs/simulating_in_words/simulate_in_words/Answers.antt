@@ -12,8 +12,8 @@ use Rattle.sim.proofs.SimulationLemmas.{at_turns, at_finish, at_first_call, run_
 use Rattle.telegate.specs.Manners.{style_of}
 use Rattle.telegate.specs.Printed.{IsPoured}
 use Rattle.telegate.proofs.Poured.{appends_none, poured_begun}
-use Rattle.telegate.proofs.ToldSimLemmas.{words_of_all, words_stopped}
-use Rattle.telegate.proofs.simulating_told.simulate_told.Goals as goal
+use Rattle.telegate.proofs.SimInWordsLemmas.{words_of_all, words_stopped}
+use Rattle.telegate.proofs.simulating_in_words.simulate_in_words.Goals as goal
 
 pub returns-in-Turns : goal.returns-in-Turns
 returns-in-Turns g c =

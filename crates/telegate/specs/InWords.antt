@@ -11,4 +11,4 @@ pub record HasWritten (style : Style) (log : Log) (s : Scribing) : Type 0 where
   pub log_is : s.log ≡ log
   pub poured : s.poured ≡ log
   pub noted : s.is_noted ≡ true
-  pub told : IsLadder style log s.told
+  pub written : IsLadder style log s.told

@@ -9,7 +9,7 @@ use Rattle.telegate.specs.Source.{Gives}
 use Rattle.telegate.specs.declared.manner.Manner.TheVariants.{Words}
 use Rattle.telegate.proofs.ReplayLemmas.{ended, stopped_by}
 use Rattle.telegate.proofs.RunLemmas.{as_err}
-use Rattle.telegate.proofs.telling.run_told.Goals as goal
+use Rattle.telegate.proofs.in_words.run_in_words.Goals as goal
 
 pub returns-in_err-is_whole : goal.returns-in_err-is_whole
 returns-in_err-is_whole g c =
@@ -18,7 +18,7 @@ returns-in_err-is_whole g c =
     let manner = Words c.args.is_coloured in
     let closing = c.args.closing in
     let old = g.W.Write.contents c.args.out.now in
-    let new = g.W.Write.contents c.tell_parts.new.out in
+    let new = g.W.Write.contents c.write_parts.new.out in
     let fault = c.in_err-is_whole.field-0.0 in
     let began = c.in_ok-gateway.gateway in
     as_err (IsEndOf settings manner c.args.as_record (Gives known) closing old new)
@@ -44,8 +44,8 @@ returns g c =
     run.lines old
     (g.W.Write.contents c.close.new.out)
     run.given done.faithful (subst (λ (s : Style). IsLadder s run.log run.lines)
-    c.style_of-style.ensures run.told)
-    c.tell_parts.new.gateway run.right run.events done.rests
+    c.style_of-style.ensures run.written)
+    c.write_parts.new.gateway run.right run.events done.rests
     (c.steps_keep_their_order.ensures.settings settings run.log done.faithful)
     (c.nothing_is_lost.ensures (setup_of settings) run.log done.faithful) done.follows done.accounts
     c.close.result (c.close.ensures old run.lines run.poured)

@@ -1,10 +1,10 @@
 //! Runs over a trace that are printed in words.
 ghost use Rattle.std.specs.Prelude.{◌≡◌, ◌⊎◌, [], ℕ, List, Option, IfOk, IfErr, OnErr};
 ghost use Rattle.telegate.specs.Answers.{IsEndOf};
-ghost use Rattle.telegate.specs.Parts.{IsClear, IsPartRun, IsPartStopped, IsWant, RunsOver};
+ghost use Rattle.telegate.specs.Parts.{IsClearPause, IsPartRun, IsPartStopped, IsWant, RunsOver};
 ghost use Rattle.telegate.specs.Printed.{IsPoured};
 ghost use Rattle.telegate.specs.Source.{Gives};
-ghost use Rattle.telegate.specs.Telling.{HasWritten};
+ghost use Rattle.telegate.specs.InWords.{HasWritten};
 ghost use Rattle.telegate.specs.declared.manner.Manner.TheVariants.{Words};
 ghost use Rattle.ladder.specs.Told.{IsLadder};
 
@@ -22,7 +22,7 @@ use traces::{Blocks, Pause};
 
 /// Runs the gateway over a trace or a record that was judged, and prints its events and actions in
 /// words. An output that fails is written to no more, and said at the end.
-pub(crate) fn run_told<R: Read + Drop, W: Write>(
+pub(crate) fn run_in_words<R: Read + Drop, W: Write>(
     alloc: Global,
     config: &Config,
     text: R,
@@ -38,13 +38,13 @@ pub(crate) fn run_told<R: Read + Drop, W: Write>(
     steps_keep_their_order();
     let mut gateway = Gateway::new(alloc, config)?;
     let style = style_of(config, is_coloured);
-    let is_whole = tell_parts(alloc, &mut gateway, text, as_record, style, out)?;
+    let is_whole = write_parts(alloc, &mut gateway, text, as_record, style, out)?;
     close(alloc, &gateway, closing, is_whole, out)
 }
 
 /// Runs a gateway over a whole text, block by block, and prints its words. Answers whether the
 /// output has taken all.
-fn tell_parts<R: Read + Drop, W: Write>(
+fn write_parts<R: Read + Drop, W: Write>(
     alloc: Global,
     gateway: &mut Gateway,
     text: R,
@@ -60,12 +60,12 @@ fn tell_parts<R: Read + Drop, W: Write>(
     let mut pause = pause_before(alloc, as_record);
     let mut scribe = Scribe::new(alloc, style);
     let mut is_whole = true;
-    'telling: for _ in 0..u64::MAX {
+    'writing: for _ in 0..u64::MAX {
         advance(&mut blocks)?;
         let lines = blocks.lines();
         let is_last = blocks.is_over();
         let read = read_part(&mut part, lines, is_last, as_record)?;
-        (pause, scribe, is_whole) = tell_part(gateway, pause, scribe, read, is_whole, out)?;
+        (pause, scribe, is_whole) = write_part(gateway, pause, scribe, read, is_whole, out)?;
         if blocks.is_over() {
             return Ok(is_whole);
         }
@@ -76,7 +76,7 @@ fn tell_parts<R: Read + Drop, W: Write>(
 
 /// Runs a gateway over one block. Answers how the run then stands, and whether the output has taken
 /// all so far.
-fn tell_part<W: Write>(
+fn write_part<W: Write>(
     gateway: &mut Gateway,
     pause: Pause,
     scribe: Scribe,
@@ -84,7 +84,7 @@ fn tell_part<W: Write>(
     was_whole: bool,
     out: &mut W,
 ) -> Result<(Pause, Scribe, bool), Fault>
-    requires clear { IsClear pause }
+    requires clear { IsClearPause pause }
     requires written { HasWritten scribe.style pause.log scribe }
     ensures run { IfOk result (λ after.
         IsPartRun pause lines.now gateway.old gateway.new after.0) }

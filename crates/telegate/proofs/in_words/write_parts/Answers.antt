@@ -3,16 +3,16 @@ use Rattle.traces.specs.Blocks.{Reading}
 use Rattle.ladder.specs.Told.{IsLadder}
 use Rattle.ladder.specs.declared.rungs.Style.{Style}
 use Rattle.telegate.specs.Parts.{IsPartRead, IsPartStopped, RunsOver}
-use Rattle.telegate.specs.Telling.{HasWritten}
+use Rattle.telegate.specs.InWords.{HasWritten}
 use Rattle.telegate.proofs.PartLemmas.{ran_to, block_run, all_run, block_left}
 use Rattle.telegate.proofs.RunLemmas.{as_err}
-use Rattle.telegate.proofs.TellingLemmas.{tells_begin}
+use Rattle.telegate.proofs.InWordsLemmas.{text_begins}
 use Rattle.telegate.specs.declared.fault.Fault.TheVariants.{NoMemory}
-use Rattle.telegate.proofs.telling.tell_parts.Goals as goal
+use Rattle.telegate.proofs.in_words.write_parts.Goals as goal
 
-pub telling-init : goal.telling-init
-telling-init g c = record {
-  run = tells_begin c.args.style c.args.as_record (g.R.Read.remaining c.args.text)
+pub writing-init : goal.writing-init
+writing-init g c = record {
+  run = text_begins c.args.style c.args.as_record (g.R.Read.remaining c.args.text)
       c.new-blocks.result.coming c.args.gateway.now
       c.pause_before-pause.result c.new-scribe.result (g.W.Write.contents c.args.out.now)
       (ap (λ (r : Reading). r.coming) c.new-blocks.ensures) c.pause_before-pause.ensures
@@ -24,50 +24,50 @@ pub returns-in_err-advance : goal.returns-in_err-advance
 returns-in_err-advance g c =
     let known = g.R.Read.remaining c.args.text in
     let old = g.W.Write.contents c.args.out.now in
-    let new = g.W.Write.contents c.telling.out in
-    let tells = IsLadder c.args.style in
-    as_err (RunsOver tells c.args.as_record known c.args.gateway.now c.telling.gateway old new)
+    let new = g.W.Write.contents c.writing.out in
+    let is_text = IsLadder c.args.style in
+    as_err (RunsOver is_text c.args.as_record known c.args.gateway.now c.writing.gateway old new)
     c.from_residual.result
     c.in_err-advance.field-0.0 c.from_residual.ensures.1 (
       c.in_err-advance.ensures.fault,
-      ran_to tells c.args.as_record known c.telling.blocks.coming c.args.gateway.now
-          c.telling.gateway c.telling.pause c.telling.is_whole
-          old new c.telling.invariant.run.run,
+      ran_to is_text c.args.as_record known c.writing.blocks.coming c.args.gateway.now
+          c.writing.gateway c.writing.pause c.writing.is_whole
+          old new c.writing.invariant.run.run,
     )
 
 pub returns-in_err-read : goal.returns-in_err-read
 returns-in_err-read g c =
     let known = g.R.Read.remaining c.args.text in
     let old = g.W.Write.contents c.args.out.now in
-    let new = g.W.Write.contents c.telling.out in
-    let tells = IsLadder c.args.style in
-    as_err (RunsOver tells c.args.as_record known c.args.gateway.now c.telling.gateway old new)
+    let new = g.W.Write.contents c.writing.out in
+    let is_text = IsLadder c.args.style in
+    as_err (RunsOver is_text c.args.as_record known c.args.gateway.now c.writing.gateway old new)
     c.from_residual-in_err-read.result
     NoMemory c.from_residual-in_err-read.ensures.1 (
       tt,
-      ran_to tells c.args.as_record known c.telling.blocks.coming c.args.gateway.now
-          c.telling.gateway c.telling.pause c.telling.is_whole
-          old new c.telling.invariant.run.run,
+      ran_to is_text c.args.as_record known c.writing.blocks.coming c.args.gateway.now
+          c.writing.gateway c.writing.pause c.writing.is_whole
+          old new c.writing.invariant.run.run,
     )
 
 pub returns-in_err-pause : goal.returns-in_err-pause
 returns-in_err-pause g c =
     let known = g.R.Read.remaining c.args.text in
     let old = g.W.Write.contents c.args.out.now in
-    let mid = g.W.Write.contents c.telling.out in
-    let new = g.W.Write.contents c.tell_part.new.out in
-    let tells = IsLadder c.args.style in
+    let mid = g.W.Write.contents c.writing.out in
+    let new = g.W.Write.contents c.write_part.new.out in
+    let is_text = IsLadder c.args.style in
     let lines = c.lines-lines.result.now in
     let part = c.in_ok-read.read.now in
-    as_err (RunsOver tells c.args.as_record known c.args.gateway.now c.tell_part.new.gateway old
+    as_err (RunsOver is_text c.args.as_record known c.args.gateway.now c.write_part.new.gateway old
     new)
     c.from_residual-in_err-pause.result
     c.in_err-pause.field-0.0 c.from_residual-in_err-pause.ensures.1 (
       c.in_err-pause.ensures.stopped,
-      block_left tells c.args.as_record known c.telling.blocks.coming c.args.gateway.now
-          c.telling.gateway
-          c.telling.pause
-          c.telling.is_whole old mid c.telling.invariant.run.run c.advance.new.blocks
+      block_left is_text c.args.as_record known c.writing.blocks.coming c.args.gateway.now
+          c.writing.gateway
+          c.writing.pause
+          c.writing.is_whole old mid c.writing.invariant.run.run c.advance.new.blocks
           lines part
           c.lines-lines.ensures c.in_ok-advance.ensures.block
           (subst (λ (o : Bool). IsPartRead c.args.as_record lines o part) c.is_over-is_last.ensures
@@ -75,9 +75,9 @@ returns-in_err-pause g c =
           (elim c.in_err-pause.ensures.begun [
             | inl unchanged ↦ inl (ap g.W.Write.contents unchanged)
             | inr stop ↦ inr (subst
-                (λ (st : Style). IsPartStopped (IsLadder st) c.telling.pause
-                part c.telling.gateway old new)
-                c.telling.invariant.run.written.style_is (stop old c.telling.invariant.run.poured))
+                (λ (st : Style). IsPartStopped (IsLadder st) c.writing.pause
+                part c.writing.gateway old new)
+                c.writing.invariant.run.written.style_is (stop old c.writing.invariant.run.poured))
           ]),
     )
 
@@ -85,37 +85,37 @@ pub returns-then-is_over : goal.returns-then-is_over
 returns-then-is_over g c =
     let known = g.R.Read.remaining c.args.text in
     let old = g.W.Write.contents c.args.out.now in
-    let mid = g.W.Write.contents c.telling.out in
-    let new = g.W.Write.contents c.tell_part.new.out in
+    let mid = g.W.Write.contents c.writing.out in
+    let new = g.W.Write.contents c.write_part.new.out in
     let lines = c.lines-lines.result.now in
     let part = c.in_ok-read.read.now in
-    let run = c.telling.invariant.run in
+    let run = c.writing.invariant.run in
     let written : HasWritten c.args.style c.in_ok-pause.field-0-0.log c.in_ok-pause.field-0-1 =
     subst (λ (st : Style). HasWritten st c.in_ok-pause.field-0-0.log c.in_ok-pause.field-0-1)
     run.written.style_is
     c.in_ok-pause.ensures.written in
-    all_run (IsLadder c.args.style) c.args.as_record known c.telling.blocks.coming
+    all_run (IsLadder c.args.style) c.args.as_record known c.writing.blocks.coming
     c.args.gateway.now
-    c.telling.gateway c.telling.pause
-    c.telling.is_whole old mid run.run
+    c.writing.gateway c.writing.pause
+    c.writing.is_whole old mid run.run
     c.advance.new.blocks lines part c.lines-lines.ensures
     c.in_ok-advance.ensures.block
     (subst (λ (o : Bool). IsPartRead c.args.as_record lines o part) c.is_over-is_last.ensures
     c.in_ok-read.ensures)
-    c.tell_part.new.gateway c.in_ok-pause.field-0-0 c.in_ok-pause.field-0-2 new
-    c.in_ok-pause.ensures.run c.in_ok-pause.field-0-1.told written.told
+    c.write_part.new.gateway c.in_ok-pause.field-0-0 c.in_ok-pause.field-0-2 new
+    c.in_ok-pause.ensures.run c.in_ok-pause.field-0-1.told written.written
     (c.in_ok-pause.ensures.printed old run.poured) (sym c.is_over.ensures ∙ c.if-is_over.true)
 
-pub telling-preserved : goal.telling-preserved
-telling-preserved g c =
+pub writing-preserved : goal.writing-preserved
+writing-preserved g c =
     let goes_on = sym c.is_over.ensures ∙ c.if-is_over.false in
     let known = g.R.Read.remaining c.args.text in
     let old = g.W.Write.contents c.args.out.now in
-    let mid = g.W.Write.contents c.telling.out in
-    let new = g.W.Write.contents c.tell_part.new.out in
+    let mid = g.W.Write.contents c.writing.out in
+    let new = g.W.Write.contents c.write_part.new.out in
     let lines = c.lines-lines.result.now in
     let part = c.in_ok-read.read.now in
-    let run = c.telling.invariant.run in
+    let run = c.writing.invariant.run in
     let written : HasWritten c.args.style c.in_ok-pause.field-0-0.log c.in_ok-pause.field-0-1 =
     subst (λ (st : Style). HasWritten st c.in_ok-pause.field-0-0.log c.in_ok-pause.field-0-1)
     run.written.style_is
@@ -123,17 +123,17 @@ telling-preserved g c =
     let poured = c.in_ok-pause.ensures.printed old run.poured in
     record {
       run = record {
-        run = block_run (IsLadder c.args.style) c.args.as_record known c.telling.blocks.coming
+        run = block_run (IsLadder c.args.style) c.args.as_record known c.writing.blocks.coming
             c.args.gateway.now
-            c.telling.gateway
-            c.telling.pause c.telling.is_whole old mid run.run
+            c.writing.gateway
+            c.writing.pause c.writing.is_whole old mid run.run
             c.advance.new.blocks lines part c.lines-lines.ensures
             c.in_ok-advance.ensures.block
             (subst (λ (o : Bool). IsPartRead c.args.as_record lines o part)
             c.is_over-is_last.ensures c.in_ok-read.ensures)
-            c.tell_part.new.gateway c.in_ok-pause.field-0-0
+            c.write_part.new.gateway c.in_ok-pause.field-0-0
             c.in_ok-pause.field-0-2
-            new c.in_ok-pause.ensures.run c.in_ok-pause.field-0-1.told written.told
+            new c.in_ok-pause.ensures.run c.in_ok-pause.field-0-1.told written.written
             poured goes_on;
         written = written;
         poured = poured;
@@ -145,18 +145,18 @@ pub returns : goal.returns
 returns g c = (
   tt,
   ran_to (IsLadder c.args.style) c.args.as_record (g.R.Read.remaining c.args.text)
-      c.telling.blocks.coming
+      c.writing.blocks.coming
       c.args.gateway.now
-      c.telling.gateway c.telling.pause c.telling.is_whole (g.W.Write.contents c.args.out.now)
-      (g.W.Write.contents c.telling.out) c.telling.invariant.run.run,
+      c.writing.gateway c.writing.pause c.writing.is_whole (g.W.Write.contents c.args.out.now)
+      (g.W.Write.contents c.writing.out) c.writing.invariant.run.run,
 )
 
-pub tell_part-requires : goal.tell_part-requires
-tell_part-requires g c =
-    let run = c.telling.invariant.run in
+pub write_part-requires : goal.write_part-requires
+write_part-requires g c =
+    let run = c.writing.invariant.run in
     record {
       clear = run.run.clear;
-      written = subst (λ (st : Style). HasWritten st c.telling.pause.log c.telling.scribe)
+      written = subst (λ (st : Style). HasWritten st c.writing.pause.log c.writing.scribe)
           (sym run.written.style_is)
           run.written;
     }

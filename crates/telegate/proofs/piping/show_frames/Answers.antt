@@ -3,7 +3,7 @@ use Rattle.std.specs.Prelude.{IfOk, string_bytes}
 use Rattle.show.specs.declared.outcome.Shown.{Shown}
 use Rattle.telegate.specs.Piping.{AreFrames}
 use Rattle.telegate.specs.declared.piping.Piped.{Piped}
-use Rattle.telegate.proofs.piping.tell_frames.Goals as goal
+use Rattle.telegate.proofs.piping.show_frames.Goals as goal
 
 pub returns-in-Line : goal.returns-in-Line
 returns-in-Line c = subst (λ (p : Piped). IfOk c.tell_line_frames.result (λ (shown : Shown).
