@@ -1,5 +1,6 @@
 use Rattle.std.proofs.Common.{refl}
 use Rattle.std.specs.Fmt.{digits}
+use Rattle.elements.specs.Names.{report_name, other_name}
 use Rattle.elements.specs.Types.{type_of}
 use Rattle.runlog.proofs.examples.commands_by_example.Goals as goal
 
@@ -10,7 +11,7 @@ pub returns-clause-replies : goal.returns-clause-replies
 returns-clause-replies c = (refl, refl, refl, refl, refl, refl, refl)
 
 pub returns-clause-words : goal.returns-clause-words
-unfolding digits type_of
+unfolding digits type_of report_name other_name
 returns-clause-words c = (refl, refl, refl, refl, refl, refl, refl, refl)
 
 pub returns-clause-gathered : goal.returns-clause-gathered
