@@ -7,8 +7,8 @@ same octets.
 For each type identification, 1 to 127, and each cause of transmission, 0 to 63, there is one APDU.
 The names that tshark has in its own tables have to stand in the words, if this program says
 something of them. For each type that is carried there is an APDU with values. The points,
-positions, numbers, counters, commands, qualifiers, quality bits and time tags that tshark reads
-have to be those in the words.
+positions, numbers, counters, commands, qualifiers, quality bits, causes of initialisation and time
+tags that tshark reads have to be those in the words, and so have P/N and test.
 
 The script prints names that the standard has and tshark lacks. They are no fault. Without tshark it
 is skipped.
@@ -91,7 +91,9 @@ def values():
                   49: [struct.pack("<hB", 12, 5)]}[plain]
         for body in bodies:
             rows += [(plain, 6, body), (tagged, 6, body + TAG)]
-    return rows + [(70, 4, b"\x00"), (100, 6, b"\x14"), (100, 6, b"\x24")]
+    rows += [(70, 4, b"\x00"), (70, 4, b"\x81"), (70, 4, b"\x02"), (100, 6, b"\x14"), (100, 6, b"\x24")]
+    # an activation con that is negative and a test
+    return rows + [(45, 0xC7, b"\x01")]
 
 
 def compared(words, fields):
@@ -131,6 +133,12 @@ def compared(words, fields):
             marks = {"iv": "invalid", "nt": "not topical", "sb": "substituted", "bl": "blocked", "ov": "overflow", "cy": "carry",
                      "ca": "adjusted", "t": "transient"}
             wanted.append((marks[leaf], said))
+        elif name == "coi_r":
+            wanted.append(({"0": "local power on", "1": "local manual reset", "2": "remote reset"}[value], said))
+        elif name == "coi_i" and value in ("1", "True"):
+            wanted.append(("parameters changed", said))
+        elif name in ("nega", "test") and value in ("1", "True"):
+            wanted.append((", negative" if name == "nega" else ", test", said))
         elif leaf == "se":
             wanted.append(("select" if value in ("1", "True") else "execute", said))
     return [f"{said!r} isn't in the words as {text!r}" for text, said in wanted if text not in words]

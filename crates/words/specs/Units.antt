@@ -6,7 +6,7 @@ use Rattle.elements.specs.declared.types.TypeId.{TypeId}
 use Rattle.elements.specs.Names.{cause_name, type_name}
 use Rattle.elements.specs.Types.{type_of}
 use Rattle.asdu.specs.Asdu.{Info}
-use Rattle.asdu.specs.Fields.{value_at, originator_at, ca_at, is_sequence}
+use Rattle.asdu.specs.Fields.{value_at, originator_at, ca_at}
 use Rattle.asdu.specs.Refusals.{refusal}
 use Rattle.asdu.specs.Sizes.{header_len, ioa_len}
 use Rattle.asdu.specs.declared.sizes.Sizes.{Sizes}

@@ -1,4 +1,4 @@
-use Rattle.std.proofs.Common.{append_assoc, w64}
+use Rattle.std.proofs.Common.{w64}
 use Rattle.std.proofs.lemmas.Int.{to_z-of_z}
 use Rattle.words.proofs.numbers.push_signed.Goals as goal
 

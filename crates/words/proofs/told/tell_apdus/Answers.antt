@@ -1,8 +1,8 @@
-use Rattle.std.proofs.Common.{rules, ◌≡◌, ℕ, List, [], ◌++◌, length, string_bytes, sym, subst, ap}
+use Rattle.std.proofs.Common.{rules, ◌≡◌, ℕ, List, ◌++◌, length, string_bytes, sym, subst, ap}
 use Rattle.std.proofs.Common.{◌∙◌}
 use Rattle.words.specs.Pipes.{IsApduEnd}
 use Rattle.words.specs.Told.{IsTcpTold}
-use Rattle.words.proofs.Telling.{IsToldUpTo, none_left, rest_is, told_all, told_from, told_on}
+use Rattle.words.proofs.Telling.{IsToldUpTo, none_left, rest_is, told_all, told_on}
 use Rattle.words.proofs.told.tell_apdus.Goals as goal
 
 pub apdus-preserved : goal.apdus-preserved

@@ -1,8 +1,8 @@
-use Rattle.std.proofs.Common.{rules, ◌≡◌, ℕ, List, [], ◌++◌, length, string_bytes, sym, subst, ap}
+use Rattle.std.proofs.Common.{rules, ◌≡◌, ℕ, List, ◌++◌, length, string_bytes, sym, subst, ap}
 use Rattle.std.proofs.Common.{◌∙◌}
 use Rattle.words.specs.Pipes.{IsLineEnd}
 use Rattle.words.specs.Told.{IsLineTold}
-use Rattle.words.proofs.Telling.{IsToldUpTo, none_left, rest_is, told_all, told_from, told_on}
+use Rattle.words.proofs.Telling.{IsToldUpTo, none_left, rest_is, told_all, told_on}
 use Rattle.words.proofs.told.tell_line_frames.Goals as goal
 
 pub frames-preserved : goal.frames-preserved
