@@ -579,7 +579,8 @@ event_told (events.line now octets) text fits =
     (decimal_read now fits.0)
     ∙ ap (octets_at (Some now) (83 ∷ [])) (octets_fit octets fits.1 fits.2 fits.3))
 event_told (events.received now octets) text fits =
-    first_of (events.received now octets) (line_of_entry (logged (events.received now octets)) ++ text)
+    first_of (events.received now octets) (line_of_entry (logged (events.received now octets))
+    ++ text)
     text now (82 ∷ [])
     (encode_upper octets ∷ []) fits.0
     (lined (decimal now) (32 ∷ 82 ∷ 32 ∷ []) (encode_upper octets) text)
