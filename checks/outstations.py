@@ -19,9 +19,14 @@ ACD, FCB = 0x20, 0x20
 SPONTANEOUS, ACTIVATED = 3, 7
 
 
-def asdu(kind, cause, station, number, value):
-    """An ASDU with one object, in the sizes that the scripts set: cause and common address of one octet, object address of two."""
-    return bytes([kind, 1, cause, station]) + number.to_bytes(2, "little") + bytes([value])
+# The sizes that the scripts set, in octets: of cause, common address and object address.
+SIZES = (1, 1, 2)
+
+
+def asdu(kind, cause, station, number, value, sizes=SIZES):
+    """An ASDU with one object, in these sizes."""
+    fields = zip((cause, station, number), sizes)
+    return bytes([kind, 1]) + b"".join(field.to_bytes(size, "little") for field, size in fields) + bytes([value])
 
 
 class Outstation:
@@ -30,6 +35,7 @@ class Outstation:
     def __init__(self, address, chance):
         self.address = address
         self.chance = chance
+        self.sizes = SIZES
         self.bit = None
         self.last = None
         self.urgent = collections.deque()
@@ -58,15 +64,16 @@ class Outstation:
         """The answer to a service whose frame count bit is new."""
         self.served += 1
         if function == COMMAND:
-            number = int.from_bytes(octets[4:6], "little")
+            place = 2 + self.sizes[0] + self.sizes[1]
+            number = int.from_bytes(octets[place : place + self.sizes[2]], "little")
             self.accepted.append(number)
-            self.urgent.append(asdu(octets[0], ACTIVATED, self.address, number, octets[6]))
+            self.urgent.append(asdu(octets[0], ACTIVATED, self.address, number, octets[place + self.sizes[2]], self.sizes))
             return self.short(0)
         if function == CLASS1 and self.urgent:
             report = self.urgent.popleft()
         elif function == CLASS2 and self.given < self.made:
             self.given += 1
-            report = asdu(1, SPONTANEOUS, self.address, self.given, 1)
+            report = asdu(1, SPONTANEOUS, self.address, self.given, 1, self.sizes)
         else:
             return self.short(9)
         return ends.data(8 | (ACD if self.has_urgent() else 0), self.address, report)
@@ -100,7 +107,12 @@ class Field(threading.Thread):
         self.silent = set()
         self.mute_at_command = False
         self.requests = 0
+        self.line = None
         self.start()
+
+    def hang_up(self):
+        """Closes the line: the device server serves the present gateway no more."""
+        self.line.stream.shutdown(socket.SHUT_RDWR)
 
     def place(self):
         return "tcp:127.0.0.1:{}".format(self.server.getsockname()[1])
@@ -108,7 +120,7 @@ class Field(threading.Thread):
     def run(self):
         while True:
             try:
-                line = ends.Line(self.server.accept()[0])
+                line = self.line = ends.Line(self.server.accept()[0])
             except OSError:
                 return
             line.stream.settimeout(None)

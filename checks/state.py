@@ -35,7 +35,7 @@ import time
 
 import ends
 import frame
-from outstations import Field, Visitor, chances, faults_of
+from outstations import Field, Outstation, Visitor, chances, faults_of
 
 # What was synced stands in a second directory. Each write since is kept until the next sync of its file, and a file beside the copy has
 # them, so that a power cut can leave any part of them. A change of names counts once the directory is synced.
@@ -160,9 +160,9 @@ int fsync(int file) {
 
 SETTINGS = """[line]
 link = 1
-cause = 1
-ca = 1
-ioa = 2
+cause = {cause}
+ca = {ca}
+ioa = {ioa}
 answer_ms = {answer_ms}
 retries = {retries}
 silence = "{silence}"
@@ -177,7 +177,7 @@ listen = "{listener[0]}:{listener[1]}"
 """
 
 # Where no answer is lost, the time to answer is never up, however busy the machine is.
-USUAL = {"answer_ms": 1000, "retries": 2, "silence": "hold", "burst": 8, "queue": 200, "k": 12}
+USUAL = {"cause": 1, "ca": 1, "ioa": 2, "answer_ms": 1000, "retries": 2, "silence": "hold", "burst": 8, "queue": 200, "k": 12}
 
 # How long it is waited for what must come, in seconds.
 PATIENCE = 60
@@ -211,8 +211,8 @@ class Gateway:
         with open(self.config, "w") as file:
             file.write(SETTINGS.format(**{**USUAL, **settings}, stations=tables, line=self.field.place(), listener=self.listener))
 
-    def start(self, **more):
-        words = [self.program, "run", "--redial", "--log", "--state", self.state, *self.flags, self.config]
+    def start(self, redial=True, **more):
+        words = [self.program, "run", *(["--redial"] if redial else []), "--log", "--state", self.state, *self.flags, self.config]
         # The log is read by its name: a place in the file that both had would move under the gateway's lines.
         with open(self.log, "w") as log:
             self.process = subprocess.Popen(words, stdin=subprocess.DEVNULL, stderr=log, env=self.environment, **more)
@@ -556,6 +556,9 @@ CHANGES = [
     ({"k": 3}, 0),
     ({"queue": 8}, 0),
     ({"stations": [(2, 2, ""), (1, 1, "")]}, 0),
+    ({"cause": 2}, 1),
+    ({"ca": 2}, 1),
+    ({"ioa": 3}, 1),
     ({"stations": [(1, 1, "select = true\n"), (2, 2, "select = true\n")]}, 1),
 ]
 
@@ -569,6 +572,8 @@ def settings_that_change(count, program, settings, resets):
         before = [station.resets for station in gateway.field.stations.values()]
         gateway.kill()
         gateway.set(**settings)
+        for station in gateway.field.stations.values():
+            station.sizes = tuple({**USUAL, **settings}[size] for size in ("cause", "ca", "ioa"))
         gateway.start()
         told = gateway.waits("goes on")
         got = drained(gateway)
@@ -585,6 +590,80 @@ def settings_that_change(count, program, settings, resets):
         told = gateway.waits("goes on")
         said = gateway.kill()
         count.judge(f"{settings}: not told again", told and "settings have changed" not in said, said)
+        gateway.field.server.close()
+
+
+def resets_of(gateway):
+    return {address: station.resets for address, station in gateway.field.stations.items()}
+
+
+def a_new_station(count, program):
+    """A station is new behind a restart: its link is started, and no other is touched."""
+    with tempfile.TemporaryDirectory() as folder:
+        gateway = quiet(program, folder)
+        gateway.start()
+        gateway.waits("listening")
+        queue_up(gateway, 4)
+        before = resets_of(gateway)
+        gateway.kill()
+        gateway.field.stations[3] = Outstation(3, random.Random(3))
+        gateway.set()
+        gateway.start()
+        told = gateway.waits("state: settings have changed", "state: goes on", "station 3 up")
+        queue_up(gateway, 2)
+        got = drained(gateway)
+        said = gateway.kill()
+        count.judge("a new station is told", told and "gap" not in said, said)
+        after = resets_of(gateway)
+        count.judge("its link is started", after.pop(3) == 1, resets_of(gateway))
+        count.judge("and no other is reset", after == before, (before, after))
+        count.judge("its reports come, and all others", got == all_came(gateway), got)
+        gateway.field.server.close()
+
+
+def a_station_that_is_gone(count, program):
+    """A station is gone behind a restart: its reports still go out, and a command on its line counts as lost."""
+    with tempfile.TemporaryDirectory() as folder:
+        gateway = quiet(program, folder, addresses=(1, 2, 3))
+        gone, others = gateway.field.stations[3], [(1, 1, ""), (2, 2, "")]
+        gateway.start()
+        gateway.waits("listening")
+        queue_up(gateway, 4)
+        before = resets_of(gateway)
+        gateway.kill()
+        # A last request may still be on its way.
+        time.sleep(0.2)
+        served = gone.served
+        gateway.set(stations=others)
+        gateway.start()
+        told = gateway.waits("state: settings have changed", "state: goes on")
+        got = drained(gateway)
+        said = gateway.kill()
+        count.judge("a station that is gone is told", told and "gap" not in said, said)
+        count.judge("its reports still go out, and all others", got == all_came(gateway), got)
+        count.judge("it is asked nothing", gone.served == served, (served, gone.served))
+        count.judge("no link is reset", resets_of(gateway) == before, (before, resets_of(gateway)))
+        gateway.set()
+        gateway.start()
+        gateway.waits("station 3 up")
+        gateway.field.mute_at_command = True
+        visitor = Visitor(gateway.door, [3], random.Random(1), commands=1, stays=1)
+        until(lambda: gateway.field.silent)
+        visitor.commands = 0
+        time.sleep(0.5)
+        gateway.kill()
+        visitor.is_over = True
+        visitor.join()
+        gateway.set(stations=others)
+        gateway.start(redial=False)
+        gateway.waits("state: goes on")
+        begins(gateway.field)
+        gateway.field.hang_up()
+        until(lambda: gateway.process.poll() is not None)
+        said = gateway.kill()
+        counted = re.findall(r"counts skipped \d+ mirrors \d+ lost (\d+) ", said)
+        count.judge("a command on its line counts as lost", counted[-1:] == ["1"], said)
+        count.judge("and nobody operates it", not gone.accepted, gone.accepted)
         gateway.field.server.close()
 
 
@@ -771,6 +850,8 @@ PARTS = [
     alone("look", a_look),
     alone("full disk", a_full_disk),
     alone("command", a_command_at_a_restart),
+    alone("station new", a_new_station),
+    alone("station gone", a_station_that_is_gone),
     *(alone(f"settings {n}", settings_that_change, *row) for n, row in enumerate(CHANGES)),
 ]
 

@@ -321,21 +321,18 @@ failed_kept old new seen seen' page held stored durable size e ordered sized lon
     subst (BeginsWith new durable) (sym (same_held stored seen seen' page held e same))
     (call durable (text_in stored seen page) ordered (subst (HasLength old) (sym sized) long) kept)
 
-pub failed_mixed : (mixes mixes' mix : Bool) (old new : List ℕ
-    → Type 0) (seen seen' page held : List ℕ) (stored size : ℕ) → held ≡ page
-    → length seen ≡ size → HasLength old size
-    → (IsTrue mixes → HasNoOther old (text_in stored seen page)) → (IsTrue mixes' → IsTrue mixes)
-    → (IsTrue mixes' → IsTrue mix)
-    → (IsTrue mix → HasLength old (length seen) → HasNoOther old (text_in stored seen held)
+pub failed_mixed : (old new : List ℕ → Type 0) (seen seen' page held : List ℕ) (stored size : ℕ)
+    → held ≡ page → length seen ≡ size → HasLength old size
+    → HasNoOther old (text_in stored seen page)
+    → (HasLength old (length seen) → HasNoOther old (text_in stored seen held)
     → HasNoOther new (text_in stored seen held))
-    → text_in stored seen' held ≡ text_in stored seen held → IsTrue mixes'
+    → text_in stored seen' held ≡ text_in stored seen held
     → HasNoOther new (text_in stored seen' page)
-failed_mixed mixes mixes' mix old new seen seen' page held stored size e sized long kept first
-    second call same on =
+failed_mixed old new seen seen' page held stored size e sized long kept call same =
     subst (HasNoOther new) (ap (text_in stored seen) e
     ∙ sym (same_held stored seen seen' page held e same))
-    (call (second on) (subst (HasLength old) (sym sized) long)
-    (subst (λ (h : List ℕ). HasNoOther old (text_in stored seen h)) (sym e) (kept (first on))))
+    (call (subst (HasLength old) (sym sized) long)
+    (subst (λ (h : List ℕ). HasNoOther old (text_in stored seen h)) (sym e) kept))
 
 pub written_again : (stored end : ℕ) (seen seen' page held cleared : List ℕ) → held ≡ page
     → end ≡ stored + length held → cleared ≡ []
@@ -355,19 +352,16 @@ written_kept old new seen page text stored durable size ordered sized long kept 
     subst (BeginsWith new durable) (sym same)
     (call durable (text_in stored seen page) ordered (subst (HasLength old) (sym sized) long) kept)
 
-pub written_mixed : (mixes mixes' mix : Bool) (old new : List ℕ
-    → Type 0) (seen page held text : List ℕ) (stored size : ℕ) → held ≡ page
-    → length seen ≡ size → HasLength old size
-    → (IsTrue mixes → HasNoOther old (text_in stored seen page)) → (IsTrue mixes' → IsTrue mixes)
-    → (IsTrue mixes' → IsTrue mix)
-    → (IsTrue mix → HasLength old (length seen) → HasNoOther old (text_in stored seen held)
+pub written_mixed : (old new : List ℕ → Type 0) (seen page held text : List ℕ) (stored size : ℕ)
+    → held ≡ page → length seen ≡ size → HasLength old size
+    → HasNoOther old (text_in stored seen page)
+    → (HasLength old (length seen) → HasNoOther old (text_in stored seen held)
     → HasNoOther new (text_in stored seen held))
-    → text ≡ text_in stored seen page → IsTrue mixes' → HasNoOther new text
-written_mixed mixes mixes' mix old new seen page held text stored size e sized long kept first
-    second call same on =
+    → text ≡ text_in stored seen page → HasNoOther new text
+written_mixed old new seen page held text stored size e sized long kept call same =
     subst (HasNoOther new) (ap (text_in stored seen) e ∙ sym same)
-    (call (second on) (subst (HasLength old) (sym sized) long)
-    (subst (λ (h : List ℕ). HasNoOther old (text_in stored seen h)) (sym e) (kept (first on))))
+    (call (subst (HasLength old) (sym sized) long)
+    (subst (λ (h : List ℕ). HasNoOther old (text_in stored seen h)) (sym e) kept))
 
 pub long_again : (old new : List ℕ → Type 0) (seen : List ℕ) (size : ℕ) → length seen ≡ size
     → HasLength old size
@@ -382,14 +376,6 @@ pub fewer_begin : (old new : List ℕ → Type 0) (seen seen' page : List ℕ) (
 fewer_begin old new seen seen' page stored n fewer same kept =
     subst (λ (f : List ℕ). BeginsWith new n (text_in stored f page)) (sym same)
     (λ c left. kept c (fewer c left))
-
-pub fewer_mixed : (mixes : Bool) (old new : List ℕ → Type 0) (seen seen' page : List ℕ) (stored : ℕ)
-    → ((c : List ℕ) → new c → old c)
-    → seen' ≡ seen → (IsTrue mixes → HasNoOther old (text_in stored seen page)) → IsTrue mixes
-    → HasNoOther new (text_in stored seen' page)
-fewer_mixed mixes old new seen seen' page stored fewer same kept on =
-    subst (λ (f : List ℕ). HasNoOther new (text_in stored f page)) (sym same)
-    (λ c left. kept on c (fewer c left))
 
 pub all_begins : (new : List ℕ → Type 0) (seen seen' page : List ℕ) (stored : ℕ) → Only seen new
     → seen' ≡ seen → stored ≤ length seen

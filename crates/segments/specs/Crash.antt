@@ -1,5 +1,10 @@
 -- What a crash may leave of a file whose text is appended to (profile).
-use Rattle.std.specs.Prelude.{◌≡◌, ◌≢◌, ℕ, ◌<◌, ◌≤◌, List, length, take, slice_index}
+use Rattle.std.specs.Prelude.{◌≡◌, ◌≢◌, ℕ, ◌<◌, ◌≤◌, IsTrue, List, length, take, slice_index}
+use Rattle.sqlite_disk.specs.declared.Disk.{Ghosts}
+
+-- the disk says of each file that a crash leaves each octet below its old end old or new
+abbrev pub AreMixing : {D : Type 0} → Ghosts D → Type 0
+AreMixing {D = D} g = (file : D) → IsTrue (g.is_mixing file)
 
 -- each outcome has this length
 abbrev pub HasLength : (List ℕ → Type 0) → ℕ → Type 0

@@ -31,7 +31,3 @@ module _ {D : Type 0} {g : Ghosts D} where
   -- what a crash may leave of its file
   abbrev pub outcomes_of : Segment D g → List ℕ → Type 0
   outcomes_of s = g.may_leave s.file
-
-  -- the disk has said that a crash leaves each octet below a file's end old or new
-  abbrev pub mixes : Segment D g → Bool
-  mixes s = s.mixes

@@ -4,7 +4,7 @@ ghost use Rattle.std.specs.Prelude.{drop, slice_index, take, IsTrue, OnOk, OnErr
 ghost use Rattle.std.specs.Prelude.{true};
 ghost use Rattle.std.specs.Prelude.{false};
 ghost use Rattle.segments.specs.declared.fault.SegmentFault.TheVariants.{Device, NoMemory};
-ghost use Rattle.segments.specs.Crash.{HasLength, BeginsWith, HasNoOther, IsBlankFrom};
+ghost use Rattle.segments.specs.Crash.{AreMixing, HasLength, BeginsWith, HasNoOther, IsBlankFrom};
 ghost use Rattle.segments.specs.Crashes.{HasNoZero, Survives};
 ghost use Rattle.segments.specs.Head.{Fits, IsWholeText, head_for, whole_text};
 ghost use Rattle.segments.specs.Starts.{BeginsNewer, IsBacked};
@@ -37,8 +37,6 @@ pub struct Segment<D: Disk> {
     page: Vec<u8>,
     /// No write or sync has failed.
     is_open: bool,
-    /// The disk has said that a crash leaves each octet below a file's end old or new.
-    mixes: bool,
     ghost begun: { begins ≤ durable },
     ghost ordered: { durable ≤ stored },
     ghost within: { stored + length page.items ≤ size },
@@ -48,18 +46,9 @@ pub struct Segment<D: Disk> {
     ghost long: { HasLength (D.Disk.may_leave file) size },
     ghost kept: { BeginsWith (D.Disk.may_leave file) durable
         (text_in stored (D.Disk.seen file) page.items) },
-    ghost mixed: { IsTrue mixes → HasNoOther (D.Disk.may_leave file)
+    ghost mixed: { AreMixing D.Disk → HasNoOther (D.Disk.may_leave file)
         (text_in stored (D.Disk.seen file) page.items) },
     ghost whole: { IsWholeText number (take begins (D.Disk.seen file)) },
-}
-
-/// Whether both are true.
-fn both(first: bool, second: bool) -> bool
-    ensures first { IsTrue result → IsTrue first }
-    ensures second { IsTrue result → IsTrue second }
-    ensures both { IsTrue first → IsTrue second → IsTrue result }
-{
-    first && second
 }
 
 /// Writes octets where zeros stand.
@@ -96,7 +85,7 @@ fn store<D: Disk>(file: &mut D, at: usize, page: &[u8]) -> Result<usize, Segment
 }
 
 impl<D: Disk> Segment<D> {
-    ghost use Rattle.segments.specs.Segment.{text_of, durable_of, size_of, is_open, mixes};
+    ghost use Rattle.segments.specs.Segment.{text_of, durable_of, size_of, is_open};
     ghost use Rattle.segments.specs.Segment.{outcomes_of, file_of, own_number};
 
     /// A segment in a file that is synced: the text ends there, zeros stand behind it.
@@ -110,11 +99,11 @@ impl<D: Disk> Segment<D> {
         requires synced { Only (D.Disk.seen file) (D.Disk.may_leave file) }
         requires blank { IsBlankFrom end (D.Disk.seen file) }
         ensures text { text_of result ≡ text_in end (D.Disk.seen file) [] }
+        ensures whole { IsWholeText number (text_of result) }
         ensures durable { durable_of result ≡ end }
         ensures size { size_of result ≡ size }
         ensures open { is_open result ≡ true }
     {
-        let mixes = file.mixes();
         Segment {
             file,
             number,
@@ -124,7 +113,6 @@ impl<D: Disk> Segment<D> {
             size,
             page: Vec::new(alloc),
             is_open: true,
-            mixes,
         }
     }
 
@@ -154,13 +142,14 @@ impl<D: Disk> Segment<D> {
         file
     }
 
-    /// Whatever a crash leaves now begins with the text that is synced; and where a crash leaves
-    /// each octet old or new, there is nothing behind that but octets of the text, and zeros.
+    /// Whatever a crash leaves now begins with the text that is synced; and where the disk says that
+    /// a crash leaves each octet old or new, there is nothing behind that but octets of the text,
+    /// and zeros.
     pub fn survives(&self)
         ensures long { HasLength (outcomes_of self.now) (size_of self.now) }
         ensures kept { BeginsWith (outcomes_of self.now) (durable_of self.now) (text_of self.now) }
         ensures durable { durable_of self.now ≤ length (text_of self.now) }
-        ensures mixed { IsTrue (mixes self.now) →
+        ensures mixed { AreMixing D.Disk →
             HasNoOther (outcomes_of self.now) (text_of self.now) }
         // So a start finds its checkpoint and its synced lines, of which no octet is 0
         // ([`crate::a_start_finds_what_was_synced`]).
@@ -247,7 +236,6 @@ impl<D: Disk> Segment<D> {
         let _size = self.size;
         // Until the write has answered: nobody knows how much of a failed one stands in the file.
         self.is_open = false;
-        self.mixes = both(self.mixes, self.file.mixes());
         match store(&mut self.file, self.stored, &self.page) {
             Ok(end) => {
                 self.stored = end;

@@ -4,7 +4,7 @@ ghost use Rattle.std.specs.Prelude.{length, slice_index, bit_xor, IsTrue, IfOk, 
 ghost use Rattle.std.specs.Prelude.{true, false};
 ghost use Rattle.sqlite_disk.specs.Disk.{Only};
 ghost use Rattle.segments.specs.Crash.{IsShut, IsLong, IsBlankFrom, IsOldIfOpen, IsTextIfOpen};
-ghost use Rattle.segments.specs.Head.{whole_text};
+ghost use Rattle.segments.specs.Head.{IsWholeText, whole_text};
 ghost use Rattle.segments.specs.Starts.{IsBacked};
 ghost use Rattle.segments.specs.Written.{text_in};
 ghost use Rattle.statetext.specs.Sum.{remainder_after};
@@ -90,6 +90,7 @@ impl<D: Disk> Writer<D> {
     /// it, or the whole one.
     pub fn finish(self, alloc: Global, number: u64, blocks: usize) -> Result<Segment<D>, Failed<D>>
         ensures text { IfOk result (λ s. text_of s ≡ whole_text number (appended_to self)) }
+        ensures whole { IfOk result (λ s. IsWholeText number (text_of s)) }
         ensures durable { IfOk result (λ s. durable_of s ≡ length (text_of s)) }
         ensures room { IfOk result (λ s. size_of s ≡ length (text_of s) + blocks * 4096) }
         ensures open { IfOk result (λ s. IsTrue (is_open s)) }

@@ -14,14 +14,11 @@ use Rattle.std.proofs.lemmas.List.Sums.{fails_before_first}
 use Rattle.std.proofs.lemmas.List.Splits.{join_with_byte-slice_split, length-slice_split}
 use Rattle.std.proofs.lemmas.List.Splits.{slice_split_first, slice_split_none}
 use Rattle.std.specs.List.{join_with_byte}
-use Rattle.gateway.specs.Entries.{event_of as logged}
 use Rattle.gateway.specs.Log.{Log, LogEntry}
-use Rattle.gateway.specs.declared.entries.Entry.{Entry}
-use Rattle.gateway.specs.declared.entries.Entry.TheVariants as entries
 use Rattle.segments.specs.Crashes.{lines_behind}
 use Rattle.segments.specs.Head.{head_for}
 use Rattle.segments.proofs.Crashes.{nothing_else_left, one_segment, synced_left, whole_left}
-use Rattle.traces.specs.Event.{event_of}
+use Rattle.traces.specs.Event.{Event}
 use Rattle.traces.specs.Printed.{IsFirstOf, line_of_entry, lines_of_log}
 use Rattle.traces.specs.Progress.{came}
 use Rattle.traces.specs.Trace.{lines_of}
@@ -39,38 +36,29 @@ is_feed = λ b. b == 10
 abbrev HasNoFeed : List ℕ → Type 0
 HasNoFeed text = All (λ b. (b == 10) ≡ false) text
 
-came_of : (entry : Entry) → came (event_of entry) ≡ logged entry
-came_of (entries.Line now octets) = refl
-came_of (entries.Open now) = refl
-came_of (entries.Bytes now octets) = refl
-came_of (entries.Cut now) = refl
-came_of (entries.Tick now) = refl
-came_of (entries.Wall now number) = refl
-
 -- the first line of a text tells this event, and the others are those of this text
 record IsAhead (event : LogEntry) (whole text : List ℕ) : Type 0 where
   told : events_in_front (whole_lines whole) ≡ event ∷ events_in_front (whole_lines text)
   count : length (whole_lines whole) ≡ 1 + length (whole_lines text)
 
-ahead : (entry : Entry) (whole text : List ℕ) → IsFirstOf entry whole text
-    → IsAhead (logged entry) whole text
+ahead : (event : Event) (whole text : List ℕ) → IsFirstOf event whole text
+    → IsAhead (came event) whole text
 unfolding whole_lines
-ahead entry whole text first =
+ahead event whole text first =
     let cut : whole_lines whole ≡ first.line ∷ whole_lines text =
     ap whole_parts first.lines ∙ parts_read first.line (lines_of text)
     (omega (arith, length-slice_split (λ (b : ℕ). b == 10) text)) in
     record {
       told = ap events_in_front cut
-          ∙ ap (λ event. before_those event (events_in_front (whole_lines text))) first.told
-          ∙ ap (λ event. event ∷ events_in_front (whole_lines text)) (came_of entry);
+          ∙ ap (λ told. before_those told (events_in_front (whole_lines text))) first.told;
       count = omega (arith, ap (λ (l : List (List ℕ)). length l) cut);
     }
 
 line_ahead : (event : LogEntry) (text : List ℕ) → IsWritable event
     → IsAhead event (line_of_entry event ++ text) text
-line_ahead event text (entry, fits, is) =
+line_ahead event text (told, fits, is) =
     subst (λ e. IsAhead e (line_of_entry e ++ text) text) (sym is)
-    (ahead entry (line_of_entry (logged entry) ++ text) text (event_told entry text fits))
+    (ahead told (line_of_entry (came told) ++ text) text (event_told told text fits))
 
 -- a text that is cut at a line feed behind this row alone
 no_feed : (row : List ℕ) → slice_split (λ b. b == 10) (row ++ 10 ∷ []) ≡ row ∷ [] ∷ []
@@ -112,11 +100,11 @@ record IsOneLine (line : List ℕ) : Type 0 where
   none : HasNoFeed row
 
 one_line : (event : LogEntry) → IsWritable event → IsOneLine (line_of_entry event)
-one_line event (entry, fits, is) =
+one_line event (told, fits, is) =
     subst (λ e. IsOneLine (line_of_entry e)) (sym is)
-    (by (line_of_entry (logged entry)) (event_told entry [] fits))
+    (by (line_of_entry (came told)) (event_told told [] fits))
   where
-    by : (line : List ℕ) → IsFirstOf entry (line ++ []) [] → IsOneLine line
+    by : (line : List ℕ) → IsFirstOf told (line ++ []) [] → IsOneLine line
     by line first =
         let cut : slice_split (λ b. b == 10) line ≡ first.line ∷ [] ∷ [] =
         ap lines_of (sym (append-nil line)) ∙ first.lines in

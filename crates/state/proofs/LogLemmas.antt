@@ -9,7 +9,7 @@ use Rattle.statetext.specs.Text.{lines_in}
 use Rattle.statetext.proofs.TextLemmas.{no_text}
 use Rattle.state.specs.Logs.{IsHeaded, told_by}
 
-all_taken : (text : List ℕ) (n : ℕ) → n ≡ length text → take n text ≡ text
+pub all_taken : (text : List ℕ) (n : ℕ) → n ≡ length text → take n text ≡ text
 all_taken text n is = take_all n text (omega (arith, is))
 
 none_left : (text : List ℕ) (n : ℕ) → n ≡ length text → drop n text ≡ []

@@ -1,18 +1,37 @@
 -- What a crash leaves of a log of events (profile).
-use Rattle.std.specs.Prelude.{◌≡◌, ℕ, List, ◌++◌, length, reverse}
+use Rattle.std.specs.Prelude.{◌≡◌, ℕ, ◌≤◌, List, Some, ◌++◌, drop, length, reverse}
 use Rattle.std.specs.List.{AllByRecursion}
-use Rattle.gateway.specs.Entries.{event_of}
-use Rattle.gateway.specs.Log.{Log, LogEntry}
-use Rattle.gateway.specs.declared.entries.Entry.{Entry}
+use Rattle.gateway.specs.Log.{Log, LogEntry, last_moment}
+use Rattle.gateway.specs.Restored.{state_lines}
+use Rattle.gateway.specs.State.{State}
+use Rattle.gateway.specs.declared.ports.Next.{Next}
+use Rattle.gateway.specs.declared.ports.Next.TheVariants as answers
 use Rattle.segments.specs.Crash.{HasNoOther}
 use Rattle.segments.specs.Crashes.{Survives}
 use Rattle.segments.specs.Head.{whole_text}
+use Rattle.segments.specs.Starts.{before_zero}
+use Rattle.traces.specs.Event.{Event}
 use Rattle.traces.specs.Printed.{FitsTrace, lines_of_log}
-use Rattle.state.specs.Replays.{AreRead, events_in_front}
+use Rattle.traces.specs.Progress.{came}
+use Rattle.state.specs.Beginnings.{AreLinesRead, IsHeadOf}
+use Rattle.state.specs.Deeds.{Deeds, waiting}
+use Rattle.state.specs.Replays.{AreRead, events_in_front, whole_lines}
+use Rattle.state.specs.Stores.{head, safe}
 
 -- an event that the line of a trace can tell
 abbrev pub IsWritable : LogEntry → Type 0
-IsWritable event = (entry : Entry) × FitsTrace entry × (event ≡ event_of entry)
+IsWritable event = (told : Event) × FitsTrace told × (event ≡ came told)
+
+-- it can tell the event of a port's answer, whose octets fit the buffer
+abbrev pub FitsLine : Next → Type 0
+FitsLine (answers.Line now len) = (now ≤ last_moment) × (1 ≤ len)
+FitsLine (answers.Open now) = now ≤ last_moment
+FitsLine (answers.Bytes now len) = (now ≤ last_moment) × (1 ≤ len)
+FitsLine (answers.Cut now) = now ≤ last_moment
+FitsLine (answers.Tick now) = now ≤ last_moment
+FitsLine (answers.Wall now number) = (now ≤ last_moment) × (number ≤ last_moment)
+FitsLine answers.Done = Unit {0}
+FitsLine answers.Fault = Unit {0}
 
 -- Whatever a crash leaves of a file: the segment with this number and this checkpoint, and behind
 -- it
@@ -37,3 +56,14 @@ pub record AreLeft (waiting synced : Log) (lines : List (List ℕ)) : Type 0 whe
   pub left : Log
   pub split : waiting ≡ lost ++ left
   pub tell : TellAll lines (left ++ synced)
+
+-- A start reads this of a file: at the head of its log the settings, and the state with which that
+-- was begun; behind it all events that were synced, and the oldest of those that waited. No other
+-- line stands there.
+pub record IsKeptIn (settings : List ℕ) (deeds : Deeds) (file : List ℕ) : Type 0 where
+  pub state : State
+  pub begun : head deeds ≡ Some state
+  pub begins : ℕ
+  pub opening : IsHeadOf file begins settings (state_lines state)
+  pub left : AreLeft (waiting deeds) (safe deeds) (whole_lines (before_zero (drop begins file)))
+  pub read : AreLinesRead file

@@ -13,3 +13,4 @@ pub mod Unread
 pub mod Directories
 pub mod Sights
 pub mod Crashed
+pub mod Returns

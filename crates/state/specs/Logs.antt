@@ -1,8 +1,10 @@
 -- What a log in two files has (profile).
-use Rattle.std.specs.Prelude.{◌≡◌, ℕ, List, [], ◌∷◌, take, drop}
+use Rattle.std.specs.Prelude.{◌≡◌, ℕ, List, [], ◌∷◌, ◌++◌, length, take, drop}
 use Rattle.sqlite_disk.specs.declared.Disk.{Ghosts}
+use Rattle.segments.specs.Crash.{AreMixing, HasNoOther}
+use Rattle.segments.specs.Crashes.{Survives}
 use Rattle.segments.specs.Head.{whole_text}
-use Rattle.segments.specs.Segment.{durable_of, text_of}
+use Rattle.segments.specs.Segment.{durable_of, outcomes_of, text_of}
 use Rattle.statetext.specs.Text.{lines_in}
 use Rattle.state.specs.Stores.{Stored}
 use Rattle.state.specs.declared.opened.Opened.{Opened}
@@ -47,3 +49,22 @@ module _ {D : Type 0} {g : Ghosts D} where
   Bears number (opens.Both newest spare) = ⊥
   Bears number (opens.Current c) =
       (body : List ℕ) × (take c.head (text_of c.segment) ≡ whole_text number body)
+
+  -- What a crash may leave of the file of the log that takes lines. Where none does, that is
+  -- anything.
+  abbrev pub leaves_in : Opened D g → List ℕ → Type 0
+  leaves_in opens.Neither = λ file. Unit {0}
+  leaves_in (opens.Both newest spare) = λ file. Unit {0}
+  leaves_in (opens.Current c) = outcomes_of c.segment
+
+  -- Whatever a crash leaves of that file: the segment with the head that the log tells, and behind
+  -- it the log's lines, as far as they are synced. Where a crash leaves each octet old or new, each
+  -- octet there is one of the log, or 0.
+  pub record SurvivesAsTold (opened : Opened D g) : Type 0 where
+    pub number : ℕ
+    pub body : List ℕ
+    pub says : lines_in body ≡ (stored_in opened).head
+    pub survives : Survives (leaves_in opened) number body (stored_in opened).text
+        (length (stored_in opened).safe)
+    pub mixed : AreMixing g →
+        HasNoOther (leaves_in opened) (whole_text number body ++ (stored_in opened).text)

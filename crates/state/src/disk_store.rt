@@ -3,7 +3,7 @@ ghost use Rattle.std.specs.Prelude.{◌≡◌, ◌+◌, ◌≤◌, ◌++◌, ◌
 ghost use Rattle.std.specs.Prelude.{OnOk};
 ghost use Rattle.std.specs.Prelude.{Some, length, min, true, false};
 ghost use Rattle.gateway.specs.Restored.{state_lines};
-ghost use Rattle.segments.specs.Head.{whole_text};
+ghost use Rattle.segments.specs.Head.{IsWholeText, whole_text};
 ghost use Rattle.segments.specs.Segment.{durable_of, file_of, text_of};
 ghost use Rattle.segments.specs.Starts.{IsBacked};
 ghost use Rattle.segments.specs.Writer.{appended_to};
@@ -43,7 +43,8 @@ pub struct DiskStore<F: Folder + Drop> {
 
 impl<F: Folder + Drop> DiskStore<F> {
     ghost use Rattle.segments.specs.Starts.{IsBacked};
-    ghost use Rattle.state.specs.Logs.{Bears, SpareIs, stored_in};
+    ghost use Rattle.segments.specs.Crashes.{HasNoZero};
+    ghost use Rattle.state.specs.Logs.{Bears, SpareIs, SurvivesAsTold, stored_in};
 
     /// One over a directory whose files aren't open. The next segment has this number.
     pub(crate) fn new(alloc: Global, folder: F, settings: Vec<u8>, number: u64) -> DiskStore<F>
@@ -138,10 +139,24 @@ impl<F: Folder + Drop> DiskStore<F> {
         let head = segment.octets();
         self.opened = Opened::Current(Current {
             segment,
+            number,
             head,
             spare: newest,
         });
         self.unmark()
+    }
+
+    /// Whatever a crash leaves now of the file of a log that was begun has what the store tells of
+    /// it: the head, the lines that are synced, and nothing else but the beginning of those that
+    /// wait. No octet of a line may be 0.
+    #[tactic(auto, using(crate::proofs::Surviving::none_survives))]
+    pub fn survives(&self)
+        ensures { ((stored_in self.now.opened).head ≡ [] → ⊥) →
+            HasNoZero (stored_in self.now.opened).text → SurvivesAsTold self.now.opened }
+    {
+        if let Opened::Current(current) = &self.opened {
+            current.segment.survives();
+        }
     }
 
     /// Takes the mark away, unless none stands.
@@ -179,6 +194,7 @@ fn files_of<D: Disk + Drop>(alloc: Global, opened: Opened<D>) -> Option<(D, D)>
         Opened::Current(current) => {
             let Current {
                 segment,
+                number: _,
                 head: _,
                 spare,
             } = current;
@@ -285,6 +301,7 @@ fn write_segment<D: Disk + Drop>(
     ensures synced { IfSome result (λ s. durable_of s ≡ length (text_of s)) }
     ensures number { IfSome result
         (λ s. (body : List ℕ) × (text_of s ≡ whole_text number body)) }
+    ensures whole { IfSome result (λ s. IsWholeText number (text_of s)) }
 {
     let Ok(writer) = Writer::begin(alloc, spare, newest) else {
         return None;

@@ -11,10 +11,14 @@ ghost use Rattle.state.specs.Renewals.{after_notice, is_renewal_due, is_try_due,
 ghost use Rattle.state.specs.Renewals.{notice_of};
 ghost use Rattle.state.specs.Standings.{IsPortLeft, Renews, is_lost, is_stopped};
 
+use crate::disk_store::DiskStore;
 use crate::ends::Ends;
+use crate::folder::Folder;
 use crate::keeping::{is_stopped, keep, settle};
+use crate::pair::Pair;
 use crate::renewal::Patience;
 use crate::standing::Standing;
+use crate::start::Beginning;
 use gateway::{Action, Gateway, Next, Port};
 use live::{EndsSight, Failure, Notice, Watched};
 use std::marker::Model;
@@ -145,6 +149,33 @@ impl<E: Ends + Drop> Keeper<E> {
         ensures { IsOrderly self.now.bears_loss result (E.deeds self.now.ends) }
     {
         self.standing
+    }
+}
+
+impl<P: Watched + Drop, F: Folder + Drop> Keeper<Pair<P, DiskStore<F>>> {
+    ghost use Rattle.std.specs.Prelude.{ℕ, List};
+    ghost use Rattle.gateway.specs.Config.{Settings};
+    ghost use Rattle.gateway.specs.Log.{Log};
+    ghost use Rattle.segments.specs.Crash.{AreMixing};
+    ghost use Rattle.state.specs.Crashed.{IsKeptIn};
+    ghost use Rattle.state.specs.Deeds.{is_kept};
+    ghost use Rattle.state.specs.Logs.{leaves_in};
+    ghost use Rattle.state.specs.Returns.{IsBegunOver};
+    ghost use Rattle.state.specs.declared.beginning.Origin.{Origin};
+
+    /// At any moment between two calls, while the state is kept: whatever a crash leaves then of the
+    /// log's file, a start reads there the state with which the log was begun, all events that are
+    /// synced, the oldest of those that wait, and no other line. So it goes on with each link.
+    pub fn survives(&self)
+        ensures kept { is_kept self.now.ends.deeds ≡ true → AreMixing F.File.Disk →
+            (file : List ℕ) → leaves_in self.now.ends.store.opened file →
+            IsKeptIn self.now.ends.store.settings.items self.now.ends.deeds file }
+        ensures goes_on { is_kept self.now.ends.deeds ≡ true → AreMixing F.File.Disk →
+            (file : List ℕ) → leaves_in self.now.ends.store.opened file →
+            (c : Settings) (text : List ℕ) (log : Log) (o : Origin) →
+            IsBegunOver F.File.Disk file c text log o → o.beginning ≡ Beginning.GoesOn }
+    {
+        self.ends.survives();
     }
 }
 

@@ -1,14 +1,22 @@
 //! What holds of each history.
-ghost use Rattle.std.specs.Prelude.{◌≡◌, ◌++◌, ◌∷◌, ℕ, Bool, false, List};
+ghost use Rattle.std.specs.Prelude.{◌≡◌, ◌++◌, ◌∷◌, ℕ, Bool, false, List, Some};
+ghost use Rattle.gateway.specs.Agrees.{Follows, Rests};
+ghost use Rattle.gateway.specs.Config.{Settings};
 ghost use Rattle.gateway.specs.Log.{Log, LogEntry};
+ghost use Rattle.gateway.specs.Restored.{IsSavable};
+ghost use Rattle.gateway.specs.Setups.{setup_of};
+ghost use Rattle.gateway.specs.State.{State};
 ghost use Rattle.segments.specs.Crashes.{lines_behind};
 ghost use Rattle.state.specs.Beginnings.{AreLinesRead};
-ghost use Rattle.state.specs.Crashed.{AreLeft, HasLog};
+ghost use Rattle.state.specs.Crashed.{AreLeft, HasLog, IsKeptIn};
 ghost use Rattle.state.specs.Deeds.{AreRight, Deeds, IsAllOnDisk, IsSafe, PutOut, appended};
 ghost use Rattle.state.specs.Deeds.{on_disk, waiting};
 ghost use Rattle.state.specs.Replays.{whole_lines};
-ghost use Rattle.state.specs.Stores.{led_to_head, safe, written};
+ghost use Rattle.state.specs.Returns.{HasReturned, IsBegunOver};
+ghost use Rattle.state.specs.Stores.{head, led_to_head, safe, written};
+ghost use Rattle.state.specs.declared.beginning.Origin.{Origin};
 
+use crate::start::Beginning;
 use sqlite_disk::Disk;
 
 /// Whatever action was handed out: when it was, all events that had been heard were on the disk, or
@@ -39,4 +47,20 @@ pub fn no_crash_leaves_another_line<D: Disk>()
     ensures read { (mine : D) (number : ℕ) (body : List ℕ) (later synced : Log) (c : List ℕ) →
         HasLog (D.Disk.may_leave mine) number body later synced → D.Disk.may_leave mine c →
         AreLinesRead c }
+{}
+
+/// A start behind a crash goes on. It finds the file of a log that was kept, as a crash left it
+/// ([`crate::Keeper::survives`]); in the other file each segment is older, and nothing stands there
+/// that no crash leaves. So if the settings are the same, and the state with which that log was
+/// begun has followed the log of all lives, the gateway follows it further: with all events that
+/// were synced, the oldest of those that waited, and the restart.
+pub fn a_start_goes_on_behind_a_crash<D: Disk + Drop>()
+    ensures begins { (settings : List ℕ) (deeds : Deeds) (file : List ℕ) (c : Settings)
+        (text : List ℕ) (log : Log) (o : Origin) → IsKeptIn settings deeds file →
+        IsBegunOver D.Disk file c text log o → o.beginning ≡ Beginning.GoesOn }
+    ensures goes_on { (text : List ℕ) (deeds : Deeds) (file : List ℕ) (state : State)
+        (c : Settings) (log : Log) (o : Origin) → IsKeptIn text deeds file →
+        IsBegunOver D.Disk file c text log o → head deeds ≡ Some state → IsSavable state →
+        Follows (setup_of c) state (Some log) → Rests (setup_of c) (Some log) →
+        HasReturned c log deeds o }
 {}

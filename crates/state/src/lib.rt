@@ -28,8 +28,8 @@ pub use event_text::EventText;
 pub use folder::{Folder, FolderFault};
 pub use keeper::Keeper;
 pub use laws::{
-    no_crash_leaves_another_line, nothing_goes_out_before_it_is_on_disk,
-    what_is_on_disk_is_in_the_log,
+    a_start_goes_on_behind_a_crash, no_crash_leaves_another_line,
+    nothing_goes_out_before_it_is_on_disk, what_is_on_disk_is_in_the_log,
 };
 pub use looking::{Seen, Sight, look};
 pub use loss::Loss;

@@ -1,6 +1,7 @@
 //! What of a log's two files is open.
-ghost use Rattle.std.specs.Prelude.{◌≤◌};
-ghost use Rattle.segments.specs.Segment.{durable_of};
+ghost use Rattle.std.specs.Prelude.{◌≤◌, take};
+ghost use Rattle.segments.specs.Head.{IsWholeText};
+ghost use Rattle.segments.specs.Segment.{durable_of, text_of};
 
 use segments::Segment;
 use sqlite_disk::Disk;
@@ -9,10 +10,13 @@ use sqlite_disk::Disk;
 #[derive(Drop)]
 pub(crate) struct Current<D: Disk + Drop> {
     pub(crate) segment: Segment<D>,
+    /// Its number.
+    pub(crate) number: u64,
     /// How many octets of its text come before the lines.
     pub(crate) head: usize,
     pub(crate) spare: D,
     pub(crate) ghost within: { head ≤ durable_of segment },
+    pub(crate) ghost whole: { IsWholeText number (take head (text_of segment)) },
 }
 
 /// What of the two files is open.

@@ -1,14 +1,18 @@
 //! A port, and a store beside it.
-ghost use Rattle.std.specs.Prelude.{◌≡◌, ◌++◌, true, [], length};
+ghost use Rattle.std.specs.Prelude.{◌≡◌, ◌++◌, ℕ, List, true, [], length};
+ghost use Rattle.std.specs.List.{AllByRecursion};
 ghost use Rattle.gateway.specs.Ports.{FitsBuffer, told_by};
+ghost use Rattle.state.specs.Crashed.{FitsLine, IsWritable};
 ghost use Rattle.traces.specs.Printed.{lines_of_log};
 
+use crate::disk_store::DiskStore;
 use crate::ends::Ends;
+use crate::folder::Folder;
 use crate::loss::Loss;
 use crate::renewal::is_renewal_due;
 use crate::store::Store;
 use crate::trail::{Done, Trail};
-use gateway::{Action, Gateway, Next};
+use gateway::{Action, Gateway, LAST_MOMENT, Next};
 use live::{EndsSight, Watched};
 use std::alloc::Global;
 use std::marker::Model;
@@ -24,8 +28,10 @@ pub struct Pair<P: Watched + Drop, S: Store + Drop> {
 }
 
 impl<P: Watched + Drop, S: Store + Drop> Model for Pair<P, S> {
+    ghost use Rattle.std.specs.List.{AllByRecursion};
     ghost use Rattle.state.specs.Both.{Both};
-    ghost use Rattle.state.specs.Stores.{IsMarked, IsStored};
+    ghost use Rattle.state.specs.Crashed.{IsWritable};
+    ghost use Rattle.state.specs.Stores.{IsMarked, IsStored, written};
 
     ghost Value = { Both P S };
 
@@ -33,11 +39,14 @@ impl<P: Watched + Drop, S: Store + Drop> Model for Pair<P, S> {
 
     // While the state is kept the store has the events' lines, and nothing else.
     ghost invariant = { λ p. IsStored (S.settings p.store) p.trail.deeds (S.stored p.store)
-        × IsMarked p.trail.deeds (S.mark p.store) };
+        × IsMarked p.trail.deeds (S.mark p.store)
+        × AllByRecursion IsWritable (written p.trail.deeds) };
 }
 
 impl<P: Watched + Drop, S: Store + Drop> Pair<P, S> {
-    ghost use Rattle.state.specs.Stores.{IsMarked, IsStored};
+    ghost use Rattle.std.specs.List.{AllByRecursion};
+    ghost use Rattle.state.specs.Crashed.{IsWritable};
+    ghost use Rattle.state.specs.Stores.{IsMarked, IsStored, written};
 
     /// Both, at which nothing was done.
     pub fn new(alloc: Global, port: P, store: S) -> Pair<P, S>
@@ -57,20 +66,55 @@ impl<P: Watched + Drop, S: Store + Drop> Pair<P, S> {
         ensures stored { IsStored (S.settings self.now.store) self.now.deeds
             (S.stored self.now.store) }
         ensures marked { IsMarked self.now.deeds (S.mark self.now.store) }
+        ensures writable { AllByRecursion IsWritable (written self.now.deeds) }
     {
         &self.store
     }
 }
 
-/// Appends the line of an event to a store, if there is memory for it.
+impl<P: Watched + Drop, F: Folder + Drop> Pair<P, DiskStore<F>> {
+    ghost use Rattle.segments.specs.Crash.{AreMixing};
+    ghost use Rattle.state.specs.Crashed.{IsKeptIn};
+    ghost use Rattle.state.specs.Deeds.{is_kept};
+    ghost use Rattle.state.specs.Logs.{leaves_in};
+
+    /// While the state is kept a start finds it, whatever a crash leaves now of the log's file:
+    /// with all events that are synced, with the oldest of those that wait, and with no other line.
+    pub fn survives(&self)
+        ensures { is_kept self.now.deeds ≡ true → AreMixing F.File.Disk → (file : List ℕ) →
+            leaves_in self.now.store.opened file →
+            IsKeptIn self.now.store.settings.items self.now.deeds file }
+    {
+        self.store().survives();
+    }
+}
+
+/// A line can tell the event of this answer: its moment has 15 digits at most, and it has octets.
+fn is_writable(next: Next) -> bool
+    ensures { result ≡ true → FitsLine next }
+{
+    match next {
+        Next::Line(now, len) | Next::Bytes(now, len) => now <= LAST_MOMENT && len >= 1,
+        Next::Open(now) | Next::Cut(now) | Next::Tick(now) => now <= LAST_MOMENT,
+        Next::Wall(now, number) => now <= LAST_MOMENT && number <= LAST_MOMENT,
+        Next::Done | Next::Fault => true,
+    }
+}
+
+/// Appends the line of an event to a store, if there is one and memory for it.
 fn take<S: Store>(alloc: Global, store: &mut S, next: Next, buf: &[u8; 1024]) -> bool
     requires { FitsBuffer next }
     ensures taken { result ≡ true → S.stored store.new ≡ record (S.stored store.old) {
       text = (S.stored store.old).text ++ lines_of_log (told_by next buf.now);
     } }
+    ensures writable { result ≡ true → AllByRecursion IsWritable (told_by next buf.now) }
     ensures mark { S.mark store.new ≡ S.mark store.old }
     ensures settings { S.settings store.new ≡ S.settings store.old }
 {
+    // A start couldn't read such a line (docs/DECISIONS.md, "A line that can't be read").
+    if !is_writable(next) {
+        return false;
+    }
     let mut line = String::new(alloc);
     if append_event(alloc, &mut line, next, buf).is_err() {
         return false;

@@ -1,7 +1,8 @@
 -- A printed line is read as the entry that it was printed of.
 use Rattle.std.proofs.Common.{◌≡◌, ℕ, ◌+◌, ◌-◌, ◌*◌, ◌^◌, ◌<◌, ◌≤◌, ◌==◌, nat_le, ◌&&◌, ◌||◌, Bool}
 use Rattle.std.proofs.Common.{true, false, List, [], ◌∷◌, ◌++◌, length, reverse, Option, Some, None}
-use Rattle.std.proofs.Common.{option_map, if◌then◌else◌, refl, sym, ap, ◌∙◌, arith, append_assoc}
+use Rattle.std.proofs.Common.{option_map, if◌then◌else◌, refl, sym, subst, ap, ◌∙◌, arith}
+use Rattle.std.proofs.Common.{append_assoc}
 use Rattle.std.proofs.lemmas.List.{append-nil, reverse-append}
 use Rattle.std.proofs.lemmas.List.Elements.{All-append, All-cons, All-nil}
 use Rattle.std.proofs.lemmas.List.Folds.{list_any_none, list_any-append}
@@ -23,11 +24,11 @@ use Rattle.session.specs.declared.kinds.Close.TheVariants.{Stopped, Timeout, Own
 use Rattle.gateway.specs.Log.{Log, LogEntry, Came, Went, Input, LineIn, Opened, TcpIn, CutOff}
 use Rattle.gateway.specs.Log.{Ticked, WallIs, Restarted, Output, LineOut, TcpOut, Closed, GapOut}
 use Rattle.gateway.specs.Log.{last_moment}
-use Rattle.gateway.specs.Entries.{number_of, event_of as logged}
-use Rattle.gateway.specs.declared.entries.Entry.{Entry}
-use Rattle.gateway.specs.declared.entries.Entry.TheVariants as entries
+use Rattle.gateway.specs.Entries.{number_of}
 use Rattle.traces.specs.Fields.{digits_after, decimal_of, octets_of, some_octets}
-use Rattle.traces.specs.Event.{event_of, event_from, event_in, bare_at, octets_at, wall_at}
+use Rattle.traces.specs.Event.{Event, event_from, event_in, bare_at, octets_at, wall_at}
+use Rattle.traces.specs.Event as events
+use Rattle.traces.specs.Progress.{came as logged}
 use Rattle.traces.specs.Trace.{lines_of, is_skipped}
 use Rattle.traces.specs.Actions.{line_of, lines_of_actions}
 use Rattle.traces.specs.Printed.{FitsTrace, HasNoMark, IsFirstOf, IsPrintable, IsPrintableEvent}
@@ -408,6 +409,28 @@ log_before (entry ∷ log) text all =
     ∙ log_before log (line_of_entry entry ++ text) all.1
     ∙ ap (told_before log) (first_read entry text all.0)
 
+-- no line has an octet 0
+
+octet_above : (b : ℕ) → (b == 0) ≡ false → 0 < b
+octet_above b isnt = grind arith
+
+entry_above : (entry : LogEntry) → IsPrintable entry → All (λ b. 0 < b) (line_of_entry entry)
+entry_above entry ok =
+    let s = entry_shaped entry ok in
+    let none : All (λ b. (b == 0) ≡ false) (spaced s.field s.fields ++ 10 ∷ []) =
+    All-append (λ b. (b == 0) ≡ false) (spaced s.field s.fields) (10 ∷ [])
+    (spaced_without 0 s.field s.fields (omega arith) refl s.plain s.all)
+    (All-cons (λ b. (b == 0) ≡ false) 10 [] refl (All-nil (λ b. (b == 0) ≡ false))) in
+    subst (All (λ b. 0 < b)) (sym (s.same []) ∙ append-nil (line_of_entry entry))
+    (λ i x is. octet_above _ (none i x is))
+
+pub log_above : (log : Log) → AllByRecursion IsPrintable log
+    → All (λ b. 0 < b) (lines_of_log log)
+log_above [] all = All-nil (λ b. 0 < b)
+log_above (entry ∷ log) all =
+    All-append (λ b. 0 < b) (lines_of_log log) (line_of_entry entry) (log_above log all.1)
+    (entry_above entry all.0)
+
 -- no line has the mark of one that was cut short
 pub log_unmarked : (log : Log) → AllByRecursion IsPrintable log → HasNoMark (lines_of_log log)
 log_unmarked [] all = refl
@@ -519,13 +542,13 @@ numbered now rest le =
     let is = decimal_is_IsNumeral_wide now (omega arith) in
     not_skipped (decimal now) rest is.0.0 is.0.1
 
-first_of : (entry : Entry) (whole text : List ℕ) (now : ℕ) (next : List ℕ) (fields : List (List ℕ))
+first_of : (event : Event) (whole text : List ℕ) (now : ℕ) (next : List ℕ) (fields : List (List ℕ))
     → now ≤ last_moment
     → whole ≡ spaced (decimal now) (next ∷ fields) ++ 10 ∷ text →
     IsPlain next → AllByRecursion IsPlain fields → event_from (decimal now ∷ next ∷ fields)
-    ≡ Some (event_of entry)
-    → IsFirstOf entry whole text
-first_of entry whole text now next fields le same plain all is = record {
+    ≡ Some event
+    → IsFirstOf event whole text
+first_of event whole text now next fields le same plain all is = record {
   line = spaced (decimal now) (next ∷ fields);
   lines =
       ap lines_of same
@@ -543,45 +566,46 @@ first_of entry whole text now next fields le same plain all is = record {
       ∙ is;
 }
 
-pub event_told : (entry : Entry) (text : List ℕ) → FitsTrace entry
-    → IsFirstOf entry (line_of_entry (logged entry) ++ text) text
-event_told (entries.Line now octets) text fits =
-    first_of (entries.Line now octets) (line_of_entry (logged (entries.Line now octets)) ++ text)
+pub event_told : (event : Event) (text : List ℕ) → FitsTrace event
+    → IsFirstOf event (line_of_entry (logged event) ++ text) text
+event_told (events.line now octets) text fits =
+    first_of (events.line now octets) (line_of_entry (logged (events.line now octets)) ++ text)
     text now (83 ∷ [])
-    (encode_upper octets.items ∷ []) fits.0
-    (lined (decimal now) (32 ∷ 83 ∷ 32 ∷ []) (encode_upper octets.items) text)
+    (encode_upper octets ∷ []) fits.0
+    (lined (decimal now) (32 ∷ 83 ∷ 32 ∷ []) (encode_upper octets) text)
     (word 83 (omega arith))
-    (octets_plain octets.items fits.1, tt)
-    (ap (λ (o : Option ℕ). octets_at o (83 ∷ []) (octets_of (encode_upper octets.items)))
+    (octets_plain octets fits.1, tt)
+    (ap (λ (o : Option ℕ). octets_at o (83 ∷ []) (octets_of (encode_upper octets)))
     (decimal_read now fits.0)
-    ∙ ap (octets_at (Some now) (83 ∷ [])) (octets_fit octets.items fits.1 fits.2 fits.3))
-event_told (entries.Bytes now octets) text fits =
-    first_of (entries.Bytes now octets) (line_of_entry (logged (entries.Bytes now octets)) ++ text)
+    ∙ ap (octets_at (Some now) (83 ∷ [])) (octets_fit octets fits.1 fits.2 fits.3))
+event_told (events.received now octets) text fits =
+    first_of (events.received now octets) (line_of_entry (logged (events.received now octets))
+    ++ text)
     text now (82 ∷ [])
-    (encode_upper octets.items ∷ []) fits.0
-    (lined (decimal now) (32 ∷ 82 ∷ 32 ∷ []) (encode_upper octets.items) text)
+    (encode_upper octets ∷ []) fits.0
+    (lined (decimal now) (32 ∷ 82 ∷ 32 ∷ []) (encode_upper octets) text)
     (word 82 (omega arith))
-    (octets_plain octets.items fits.1, tt)
-    (ap (λ (o : Option ℕ). octets_at o (82 ∷ []) (octets_of (encode_upper octets.items)))
+    (octets_plain octets fits.1, tt)
+    (ap (λ (o : Option ℕ). octets_at o (82 ∷ []) (octets_of (encode_upper octets)))
     (decimal_read now fits.0)
-    ∙ ap (octets_at (Some now) (82 ∷ [])) (octets_fit octets.items fits.1 fits.2 fits.3))
-event_told (entries.Open now) text fits =
-    first_of (entries.Open now) (line_of_entry (logged (entries.Open now)) ++ text) text now
+    ∙ ap (octets_at (Some now) (82 ∷ [])) (octets_fit octets fits.1 fits.2 fits.3))
+event_told (events.opening now) text fits =
+    first_of (events.opening now) (line_of_entry (logged (events.opening now)) ++ text) text now
     (79 ∷ []) [] fits
     (lined_two (decimal now) (32 ∷ 79 ∷ []) text) (word 79 (omega arith)) tt
     (ap (λ (o : Option ℕ). bare_at o (79 ∷ [])) (decimal_read now fits))
-event_told (entries.Cut now) text fits =
-    first_of (entries.Cut now) (line_of_entry (logged (entries.Cut now)) ++ text) text now (67 ∷ [])
+event_told (events.cut now) text fits =
+    first_of (events.cut now) (line_of_entry (logged (events.cut now)) ++ text) text now (67 ∷ [])
     [] fits
     (lined_two (decimal now) (32 ∷ 67 ∷ []) text) (word 67 (omega arith)) tt
     (ap (λ (o : Option ℕ). bare_at o (67 ∷ [])) (decimal_read now fits))
-event_told (entries.Tick now) text fits =
-    first_of (entries.Tick now) (line_of_entry (logged (entries.Tick now)) ++ text) text now
+event_told (events.tick now) text fits =
+    first_of (events.tick now) (line_of_entry (logged (events.tick now)) ++ text) text now
     (84 ∷ []) [] fits
     (lined_two (decimal now) (32 ∷ 84 ∷ []) text) (word 84 (omega arith)) tt
     (ap (λ (o : Option ℕ). bare_at o (84 ∷ [])) (decimal_read now fits))
-event_told (entries.Wall now number) text fits =
-    first_of (entries.Wall now number) (line_of_entry (logged (entries.Wall now number)) ++ text)
+event_told (events.wall now number) text fits =
+    first_of (events.wall now number) (line_of_entry (logged (events.wall now number)) ++ text)
     text now (87 ∷ [])
     (decimal number ∷ []) fits.0
     (lined (decimal now) (32 ∷ 87 ∷ 32 ∷ []) (decimal number) text) (word 87 (omega arith))

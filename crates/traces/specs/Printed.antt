@@ -13,13 +13,12 @@ use Rattle.gateway.specs.Log.{Log, LogEntry, Came, Went, Input, LineIn, Opened, 
 use Rattle.gateway.specs.Log.{Ticked, WallIs, Restarted, Output, LineOut, TcpOut, Closed, GapOut}
 use Rattle.gateway.specs.Log.{last_moment}
 use Rattle.gateway.specs.Entries.{cause_of, told_of}
-use Rattle.gateway.specs.declared.entries.Entry.{Entry}
-use Rattle.gateway.specs.declared.entries.Entry.TheVariants as entries
 use Rattle.gateway.specs.declared.entries.Told.{Told}
 use Rattle.gateway.specs.declared.entries.Told.TheVariants as stored
 use Rattle.traces.specs.Fields.{digits_after}
 use Rattle.traces.specs.Actions.{line_of}
-use Rattle.traces.specs.Event.{event_of}
+use Rattle.traces.specs.Event.{Event}
+use Rattle.traces.specs.Event as events
 use Rattle.traces.specs.Trace.{lines_of, told}
 
 -- Printing
@@ -85,23 +84,21 @@ HasNoMark text = list_any (λ b. b == 33) text ≡ false
 -- Traces
 
 -- what a trace can tell: moments and numbers of 15 digits at most, and 1 to 1,024 octets
-abbrev pub FitsTrace : Entry → Type 0
-FitsTrace (entries.Line now octets) =
-    (now ≤ last_moment) × IsBytes octets.items × (1 ≤ length octets.items)
-    × (length octets.items ≤ 1024)
-FitsTrace (entries.Bytes now octets) =
-    (now ≤ last_moment) × IsBytes octets.items × (1 ≤ length octets.items)
-    × (length octets.items ≤ 1024)
-FitsTrace (entries.Open now) = now ≤ last_moment
-FitsTrace (entries.Cut now) = now ≤ last_moment
-FitsTrace (entries.Tick now) = now ≤ last_moment
-FitsTrace (entries.Wall now number) = (now ≤ last_moment) × (number ≤ last_moment)
+abbrev pub FitsTrace : Event → Type 0
+FitsTrace (events.line now octets) =
+    (now ≤ last_moment) × IsBytes octets × (1 ≤ length octets) × (length octets ≤ 1024)
+FitsTrace (events.received now octets) =
+    (now ≤ last_moment) × IsBytes octets × (1 ≤ length octets) × (length octets ≤ 1024)
+FitsTrace (events.opening now) = now ≤ last_moment
+FitsTrace (events.cut now) = now ≤ last_moment
+FitsTrace (events.tick now) = now ≤ last_moment
+FitsTrace (events.wall now number) = (now ≤ last_moment) × (number ≤ last_moment)
 
--- the first line of this text tells this entry in a trace, and the others are those of this text
-pub record IsFirstOf (entry : Entry) (whole text : List ℕ) : Type 0 where
+-- the first line of this text tells this event in a trace, and the others are those of this text
+pub record IsFirstOf (event : Event) (whole text : List ℕ) : Type 0 where
   pub line : List ℕ
   pub lines : lines_of whole ≡ line ∷ lines_of text
-  pub told : told line ≡ Some (event_of entry)
+  pub told : told line ≡ Some event
 
 -- Reading
 

@@ -1,4 +1,4 @@
-use Rattle.std.proofs.Common.{◌∙◌, subst, IsTrue, arith}
+use Rattle.std.proofs.Common.{◌∙◌, arith}
 use Rattle.std.proofs.lemmas.Bool.{false≢true}
 use Rattle.segments.proofs.CrashLemmas.{failed_kept, failed_mixed, written_again, written_kept}
 use Rattle.segments.proofs.CrashLemmas.{written_mixed, long_again}
@@ -18,11 +18,10 @@ invariant_of-self-in-Ok-clause-kept g c =
     c.clear.ensures.items c.in-Ok.ensures.text)
 
 pub invariant_of-self-in-Ok-clause-mixed : goal.invariant_of-self-in-Ok-clause-mixed
-invariant_of-self-in-Ok-clause-mixed g c =
+invariant_of-self-in-Ok-clause-mixed g c mixing =
     let s = c.args.self.now in
-    written_mixed _ _ _ _ _ _ _ _ _ s.stored s.size c.deref.ensures.value s.sized s.long s.mixed
-    c.both-self.ensures.first
-    (λ on. subst IsTrue c.mixes.ensures (c.both-self.ensures.second on)) c.store.ensures.mixed
+    written_mixed _ _ _ _ _ _ s.stored s.size c.deref.ensures.value s.sized s.long (s.mixed mixing)
+    (c.store.ensures.mixed (mixing s.file))
     (written_again s.stored _ _ _ _ _ _ c.deref.ensures.value c.in-Ok.ensures.end
     c.clear.ensures.items c.in-Ok.ensures.text)
 
@@ -40,11 +39,8 @@ invariant_of-self-in-Err-1 g c =
       kept = failed_kept _ _ _ _ _ _ s.stored s.durable s.size c.deref.ensures.value s.ordered
           s.sized s.long s.kept
           c.store.ensures.kept c.store.ensures.before;
-      mixed = failed_mixed _ _ _ _ _ _ _ _ _ s.stored s.size c.deref.ensures.value s.sized s.long
-          s.mixed
-          c.both-self.ensures.first
-          (λ on. subst IsTrue c.mixes.ensures (c.both-self.ensures.second on)) c.store.ensures.mixed
-          c.store.ensures.before;
+      mixed = λ mixing. failed_mixed _ _ _ _ _ _ s.stored s.size c.deref.ensures.value s.sized
+          s.long (s.mixed mixing) (c.store.ensures.mixed (mixing s.file)) c.store.ensures.before;
       whole = whole_written s.number s.begins s.stored _ _ _ s.whole
           (omega (arith, s.begun, s.ordered)) (omega (arith, s.sized, s.within))
           c.store.ensures.sized c.store.ensures.before;

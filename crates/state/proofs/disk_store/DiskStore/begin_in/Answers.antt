@@ -1,8 +1,9 @@
-use Rattle.std.proofs.Common.{◌≡◌, ◌∙◌, ℕ, List, ap, subst}
+use Rattle.std.proofs.Common.{◌≡◌, ◌∙◌, ℕ, List, ap, subst, sym, arith}
 use Rattle.gateway.specs.Restored.{state_lines}
+use Rattle.segments.specs.Head.{IsWholeText}
 use Rattle.segments.specs.Segment.{text_of}
 use Rattle.state.specs.Logs.{IsHeaded, stored_in}
-use Rattle.state.proofs.LogLemmas.{begun_told}
+use Rattle.state.proofs.LogLemmas.{all_taken, begun_told}
 use Rattle.state.proofs.disk_store.DiskStore.begin_in.Goals as goal
 
 pub returns-clause-begun : goal.returns-clause-begun
@@ -14,3 +15,11 @@ returns-clause-begun g c _ =
     (subst (λ (s : List ℕ). IsHeaded s (state_lines c.args.gateway.now) (text_of c.in-Some.segment))
     same c.in-Some.ensures.head)
     c.octets-head.ensures c.in-Some.ensures.synced
+
+pub invariant_of-t-23 : goal.invariant_of-t-23
+invariant_of-t-23 g c = record {
+  within = omega (arith, c.octets-head.ensures, c.in-Some.ensures.synced);
+  whole = subst (IsWholeText c.args.self.now.number)
+      (sym (all_taken (text_of c.in-Some.segment) c.octets-head.result c.octets-head.ensures))
+      c.in-Some.ensures.whole;
+}

@@ -1,0 +1,164 @@
+-- A start behind a crash.
+use Rattle.std.proofs.Common.{◌≡◌, ◌∙◌, ◌⊎◌, inl, inr, ℕ, ◌+◌, ◌<◌, ◌≤◌, Bool, true, false, IsTrue}
+use Rattle.std.proofs.Common.{List, [], ◌∷◌, ◌++◌, drop, length, reverse, Option, Some, refl, sym}
+use Rattle.std.proofs.Common.{ap}
+use Rattle.std.proofs.Common.{subst, arith}
+use Rattle.std.specs.Prelude.{not, ◌&&◌}
+use Rattle.std.proofs.lemmas.List.{append-nil}
+use Rattle.sqlite_disk.specs.declared.Disk.{Ghosts}
+use Rattle.gateway.specs.Agrees.{Follows, Rests}
+use Rattle.gateway.specs.Config.{Settings}
+use Rattle.gateway.specs.Log.{Came, Log, LogEntry, Restarted, events_of}
+use Rattle.gateway.specs.Restored.{IsSavable, state_lines}
+use Rattle.gateway.specs.Setups.{setup_of}
+use Rattle.gateway.specs.State.{State}
+use Rattle.segments.specs.Crashes.{AreBoth}
+use Rattle.segments.specs.Starts.{IsFoundIn, IsNewest, IsShut, IsSound, before_zero}
+use Rattle.segments.proofs.Crashes.{one_segment}
+use Rattle.segments.proofs.Fronts.{not_shut}
+use Rattle.statetext.specs.Text.{lines_in}
+use Rattle.state.specs.Beginnings.{AreLinesRead, GoesOnBy, GoesOnFrom, IsHeadOf, IsMoved, WentOn}
+use Rattle.state.specs.Beginnings.{has_past, is_trusted}
+use Rattle.state.specs.Crashed.{AreLeft, IsKeptIn}
+use Rattle.state.specs.Deeds.{Deeds, waiting}
+use Rattle.state.specs.Origins.{IsBegun, IsMarkedBy}
+use Rattle.state.specs.Replays.{ToldGap, events_in_front, whole_lines}
+use Rattle.state.specs.Returns.{HasOlder, HasReturned, IsBegunOver}
+use Rattle.state.specs.Stores.{head, safe}
+use Rattle.state.specs.declared.beginning.Origin.{Origin}
+use Rattle.state.specs.declared.opened.Opened.TheVariants as opens
+use Rattle.state.specs.declared.start.Beginning.{Beginning}
+use Rattle.state.specs.declared.start.Beginning.TheVariants as beginnings
+
+unmarked : {P : Type 0} → Some false ≡ Some true → P
+unmarked is = absurd (cc)
+
+-- two readings of one head
+record AreSame (begins begins' : ℕ) (settings settings' : List ℕ) (lines lines' : List (List ℕ)) :
+    Type 0 where
+  place : begins ≡ begins'
+  wrote : settings ≡ settings'
+  state : lines ≡ lines'
+
+same_head : (file : List ℕ) (begins begins' : ℕ) (settings settings' : List ℕ)
+    (lines lines' : List (List ℕ)) → IsHeadOf file begins settings lines
+    → IsHeadOf file begins' settings' lines'
+    → AreSame begins begins' settings settings' lines lines'
+same_head file begins begins' settings settings' lines lines' one two =
+    let body : one.body ≡ two.body = one_segment file one.head two.head one.body two.body one.fits
+    two.fits one.found two.found in
+    let both : settings ∷ lines ≡ settings' ∷ lines' =
+    sym one.says ∙ ap lines_in body ∙ two.says in
+    record {
+      place = one.behind ∙ ap (λ (l : List ℕ). 87 + length l) body ∙ sym two.behind;
+      wrote = cc;
+      state = cc;
+    }
+
+-- a log whose settings are the same wasn't moved
+went : (is_moved : Bool) (c : Settings) (written text : List ℕ) (log : Log)
+    (lines : List (List ℕ)) (events : List ℕ) (gap : Option ToldGap) (whole : Log) (s : State)
+    → IsMoved written text is_moved → written ≡ text
+    → GoesOnBy (true && not is_moved) true c written log lines events gap whole s
+    → WentOn c log lines events gap whole s
+went true c written text log lines events gap whole s moved same goes = absurd (moved same)
+went false c written text log lines events gap whole s moved same goes = goes
+
+module _ {D : Type 0} (g : Ghosts D) (settings : List ℕ) (deeds : Deeds) (file : List ℕ)
+    (c : Settings) (text : List ℕ) (log : Log) (o : Origin) (kept : IsKeptIn settings deeds file)
+    (b : IsBegunOver g file c text log o) where
+  -- the newest file is that of the log, where the start has found a segment there
+  newest_is : (trusted : Bool) → GoesOnFrom trusted c text log (g.seen b.newest) o.is_moved o.gap
+      o.before.entries o.gateway
+      → IsNewest (g.seen b.newest) (g.seen b.spare)
+      → AreBoth file b.other (g.seen b.newest) (g.seen b.spare)
+      → (g.seen b.newest ≡ file) × (g.seen b.spare ≡ b.other)
+  newest_is trusted goes wins (inl both) = both
+  newest_is trusted goes wins (inr both) =
+      let own = kept.opening in
+      let head = goes.head in
+      let below = b.older own.head head.head own.body head.body own.fits head.fits own.found
+      (subst (λ (f : List ℕ). IsFoundIn f head.head head.body) both.0 head.found) in
+      let above = wins head.head own.head head.body own.body head.fits own.fits head.found
+      (subst (λ (f : List ℕ). IsFoundIn f own.head own.body) (sym both.1) own.found) in
+      absurd (omega (arith, below, above))
+
+  is_there : has_past o.beginning ≡ true → (g.seen b.newest ≡ file) × (g.seen b.spare ≡ b.other)
+  is_there past = newest_is (is_trusted o.beginning) (b.begun.goes_on past b.clean.0)
+      (b.begun.newest past b.clean.0 b.clean.1) b.found
+
+  not_both_shut : AreBoth file b.other (g.seen b.newest) (g.seen b.spare)
+      → IsShut (g.seen b.newest) × IsShut (g.seen b.spare) → ⊥
+  not_both_shut (inl both) shut =
+      not_shut file kept.opening.head kept.opening.found.first (subst IsShut both.0 shut.0)
+  not_both_shut (inr both) shut =
+      not_shut file kept.opening.head kept.opening.found.first (subst IsShut both.1 shut.1)
+
+  is_sound : IsSound file
+  is_sound =
+      inr (kept.opening.head, kept.opening.body, kept.opening.fits, kept.opening.found)
+
+  begins_so : (beginning : Beginning) → o.beginning ≡ beginning → o.beginning ≡ beginnings.GoesOn
+  begins_so beginnings.Anew is =
+      absurd (not_both_shut b.found (b.begun.empty is b.clean.0 b.clean.1))
+  begins_so beginnings.PutAside is =
+      unmarked (subst (λ (x : Beginning). IsMarkedBy x (Some false)) is b.begun.marked)
+  begins_so beginnings.LinksReset is = elim (b.begun.reset is) [
+    | inl stale ↦ unmarked stale
+    | inr rotten ↦
+        let there = is_there (ap has_past is) in
+        absurd (rotten b.clean.0 b.clean.1 (subst IsSound (sym there.0) is_sound)
+        (subst IsSound (sym there.1) b.sound) (subst AreLinesRead (sym there.0) kept.read))
+  ]
+  begins_so beginnings.GoesOn is = is
+
+  pub goes_on : o.beginning ≡ beginnings.GoesOn
+  goes_on = begins_so o.beginning refl
+
+  from_file : GoesOnFrom true c text log file o.is_moved o.gap o.before.entries o.gateway
+  from_file =
+      let past : has_past o.beginning ≡ true = ap has_past goes_on in
+      let there = is_there past in
+      subst (λ (f : List ℕ). GoesOnFrom true c text log f o.is_moved o.gap o.before.entries
+      o.gateway) there.0
+      (subst (λ (t : Bool). GoesOnFrom t c text log (g.seen b.newest) o.is_moved o.gap
+      o.before.entries o.gateway) (ap is_trusted goes_on) (b.begun.goes_on past b.clean.0))
+
+  returned_from : settings ≡ text → IsSavable kept.state
+      → Follows (setup_of c) kept.state (Some log) → Rests (setup_of c) (Some log)
+      → HasReturned c log deeds o
+  returned_from unchanged savable follows rests =
+      let goes = from_file in
+      let same = same_head file goes.begins kept.begins goes.written settings goes.lines
+      (state_lines kept.state) goes.head kept.opening in
+      let on : WentOn c log goes.lines (before_zero (drop goes.begins file)) o.gap
+      o.before.entries o.gateway =
+      went o.is_moved c goes.written text log goes.lines (before_zero (drop goes.begins file))
+      o.gap o.before.entries o.gateway goes.moved (same.wrote ∙ unchanged) goes.goes in
+      let lines : goes.lines ≡ state_lines kept.state ++ [] =
+      same.state ∙ sym (append-nil (state_lines kept.state)) in
+      let replayed = on.read kept.state [] lines savable follows rests in
+      let told : events_in_front (whole_lines (before_zero (drop goes.begins file)))
+      ≡ reverse (kept.left.left ++ safe deeds) =
+      ap (λ (n : ℕ). events_in_front (whole_lines (before_zero (drop n file)))) same.place
+      ∙ kept.left.tell.told in
+      record {
+        lost = kept.left.lost;
+        left = kept.left.left;
+        split = kept.left.split;
+        moment = on.left.moment;
+        heard =
+            ap events_of on.restarted
+            ∙ ap (λ (l : List LogEntry). l ++ Came on.left.moment Restarted ∷ [])
+            (replayed.heard ∙ ap (λ (l : List LogEntry). events_of log ++ l) told);
+        follows = (on.follows kept.state [] lines savable follows rests).0;
+      }
+
+  pub returned : settings ≡ text → (state : State) → head deeds ≡ Some state → IsSavable state
+      → Follows (setup_of c) state (Some log) → Rests (setup_of c) (Some log)
+      → HasReturned c log deeds o
+  returned unchanged state begun savable follows =
+      let both : Some kept.state ≡ Some state = sym kept.begun ∙ begun in
+      let same : kept.state ≡ state = cc in
+      returned_from unchanged (subst IsSavable (sym same) savable)
+      (subst (λ (s : State). Follows (setup_of c) s (Some log)) (sym same) follows)

@@ -1,0 +1,226 @@
+-- What outlives a crash of what a store has.
+use Rattle.std.proofs.Common.{◌≡◌, ◌∙◌, ℕ, ◌+◌, ◌-◌, ◌<◌, ◌≤◌, ◌^◌, Bool, true, false, List, []}
+use Rattle.std.proofs.Common.{◌∷◌}
+use Rattle.std.proofs.Common.{◌++◌, length, take, drop, map, Option, Some, None, refl, sym, ap}
+use Rattle.std.proofs.Common.{subst}
+use Rattle.std.proofs.Common.{arith}
+use Rattle.std.specs.List.{All, AllByRecursion}
+use Rattle.std.proofs.lemmas.List.{length-append, length-drop, length-take-le, take-append-drop}
+use Rattle.sqlite_disk.specs.declared.Disk.{Ghosts}
+use Rattle.gateway.specs.Log.{Log, LogEntry}
+use Rattle.gateway.specs.Ports.{FitsBuffer, told_by}
+use Rattle.gateway.specs.Restored.{state_lines}
+use Rattle.gateway.specs.State.{State}
+use Rattle.gateway.specs.declared.ports.Next.{Next}
+use Rattle.gateway.specs.declared.ports.Next.TheVariants as answers
+use Rattle.segments.specs.Crash.{AreMixing, HasNoOther}
+use Rattle.segments.specs.Crashes.{HasNoZero, Survives, lines_behind}
+use Rattle.segments.specs.Head.{Fits, IsWholeText, head_for, whole_text}
+use Rattle.segments.specs.Segment.{durable_of, outcomes_of, text_of}
+use Rattle.segments.specs.declared.segment.Segment.{Segment}
+use Rattle.segments.proofs.Crashes.{whole_left}
+use Rattle.statetext.specs.Text.{lines_in}
+use Rattle.traces.specs.Event as events
+use Rattle.traces.specs.Event.{Event}
+use Rattle.traces.specs.Printed.{FitsTrace, IsPrintable, lines_of_log}
+use Rattle.traces.specs.Progress.{came}
+use Rattle.traces.proofs.ReadingBack.{log_above}
+use Rattle.state.specs.Crashed.{FitsLine, HasLog, IsKeptIn, IsWritable}
+use Rattle.state.specs.Deeds.{Deed, Deeds, Heard, Appended, Synced, Begun, GivenUp, PutOut, is_kept}
+use Rattle.state.specs.Deeds.{waiting}
+use Rattle.state.specs.Logs.{SurvivesAsTold, leaves_in, stored_in, told_by as told_of}
+use Rattle.state.specs.Stores.{IsStored, Stored, head, lines_of_head, safe, written}
+use Rattle.state.specs.declared.opened.Current.{Current}
+use Rattle.state.specs.declared.opened.Opened.{Opened}
+use Rattle.state.specs.declared.opened.Opened.TheVariants as opens
+use Rattle.state.proofs.CrashLines.{all_read, lines_left}
+use Rattle.state.proofs.Histories.{all_written}
+
+-- Events that a line can tell
+
+pub writable : (next : Next) (buf : List ℕ) → FitsBuffer next → FitsLine next
+    → 1024 ≤ length buf → AllByRecursion IsPrintable (told_by next buf)
+    → AllByRecursion IsWritable (told_by next buf)
+writable (answers.Line now len) buf fits line long all =
+    let count : length (take len buf) ≡ len = length-take-le len buf (omega (arith, fits, long)) in (
+      (
+        events.line now (take len buf),
+        (line.0, all.0.1, omega (arith, count, line.1), omega (arith, count, fits)),
+        refl,
+      ),
+      tt,
+    )
+writable (answers.Open now) buf fits line long all = ((events.opening now, line, refl), tt)
+writable (answers.Bytes now len) buf fits line long all =
+    let count : length (take len buf) ≡ len = length-take-le len buf (omega (arith, fits, long)) in (
+      (
+        events.received now (take len buf),
+        (line.0, all.0.1, omega (arith, count, line.1), omega (arith, count, fits)),
+        refl,
+      ),
+      tt,
+    )
+writable (answers.Cut now) buf fits line long all = ((events.cut now, line, refl), tt)
+writable (answers.Tick now) buf fits line long all = ((events.tick now, line, refl), tt)
+writable (answers.Wall now number) buf fits line long all =
+    ((events.wall now number, line, refl), tt)
+writable answers.Done buf fits line long all = tt
+writable answers.Fault buf fits line long all = tt
+
+pub written_more : (news : Log) (deeds : Deeds) → AllByRecursion IsWritable news
+    → AllByRecursion IsWritable (written deeds)
+    → AllByRecursion IsWritable (written (map Appended news ++ deeds))
+written_more [] deeds all before = before
+written_more (event ∷ news) deeds all before = (all.0, written_more news deeds all.1 before)
+
+pub written_heard : (news : Log) (deeds : Deeds) → AllByRecursion IsWritable (written deeds)
+    → AllByRecursion IsWritable (written (map Heard news ++ deeds))
+written_heard [] deeds before = before
+written_heard (event ∷ news) deeds before = written_heard news deeds before
+
+small : (now : ℕ) → now ≤ 999999999999999 → now < 2 ^ 64
+small now le = omega arith
+
+printable : (told : Event) → FitsTrace told → IsPrintable (came told)
+printable (events.line now octets) fits = (small now fits.0, fits.1)
+printable (events.opening now) fits = (small now fits, tt)
+printable (events.received now octets) fits = (small now fits.0, fits.1)
+printable (events.cut now) fits = (small now fits, tt)
+printable (events.tick now) fits = (small now fits, tt)
+printable (events.wall now number) fits = (small now fits.0, small number fits.1)
+
+all_printable : (log : Log) → AllByRecursion IsWritable log → AllByRecursion IsPrintable log
+all_printable [] all = tt
+all_printable (event ∷ log) all =
+    let (told, fits, is) = all.0 in
+    (subst IsPrintable (sym is) (printable told fits), all_printable log all.1)
+
+pub no_zero : (log : Log) → AllByRecursion IsWritable log → HasNoZero (lines_of_log log)
+no_zero log all i lt zero =
+    let above = log_above log (all_printable log all) i 0 lt in
+    absurd (omega (arith, above, zero))
+
+-- A log that was begun has a head
+
+has_head : (deeds : Deeds) → is_kept deeds ≡ true → (state : State) × (head deeds ≡ Some state)
+has_head [] kept = absurd (cc)
+has_head (Heard event ∷ deeds) kept = has_head deeds kept
+has_head (Appended event ∷ deeds) kept = has_head deeds kept
+has_head (Synced ∷ deeds) kept = has_head deeds kept
+has_head (Begun state ∷ deeds) kept = (state, refl)
+has_head (GivenUp loss ∷ deeds) kept = absurd (cc)
+has_head (PutOut action ∷ deeds) kept = has_head deeds kept
+
+some_head : (settings : List ℕ) (lines told : List (List ℕ)) → told ≡ settings ∷ lines
+    → told ≡ [] → ⊥
+some_head settings lines told is none = let no : [] ≡ settings ∷ lines = sym none ∙ is in
+    absurd (cc)
+
+-- The file of a log
+
+module _ {D : Type 0} {g : Ghosts D} where
+  pub current_survives : (current : Current D g)
+      → durable_of current.segment ≤ length (text_of current.segment)
+      → ((number : ℕ) (body lines : List ℕ) → Fits (head_for number body)
+      → text_of current.segment ≡ whole_text number body ++ lines → HasNoZero lines
+      → length (whole_text number body) ≤ durable_of current.segment
+      → Survives (outcomes_of current.segment) number body lines
+      (durable_of current.segment - length (whole_text number body)))
+      → (AreMixing g → HasNoOther (outcomes_of current.segment) (text_of current.segment))
+      → HasNoZero (drop current.head (text_of current.segment))
+      → SurvivesAsTold (opens.Current current)
+  current_survives current within survives mixed none =
+      let text : List ℕ = text_of current.segment in
+      let body : List ℕ = drop 87 (take current.head text) in
+      let behind : List ℕ = drop current.head text in
+      let durable : ℕ = durable_of current.segment in
+      let le : current.head ≤ length text = omega (arith, current.within, within) in
+      let is : text ≡ whole_text current.number body ++ behind =
+      sym (take-append-drop current.head text)
+      ∙ ap (λ (l : List ℕ). l ++ behind) current.whole.is in
+      let count : length (whole_text current.number body) ≡ current.head =
+      ap (λ (l : List ℕ). length l) (sym current.whole.is)
+      ∙ length-take-le current.head text le in
+      let synced : durable - length (whole_text current.number body)
+      ≡ length (drop current.head (take durable text)) = omega (
+        arith,
+        count,
+        length-drop current.head (take durable text),
+        length-take-le durable text within,
+      ) in
+      record {
+        number = current.number;
+        body = body;
+        says = refl;
+        survives =
+            subst (Survives (outcomes_of current.segment) current.number body behind) synced
+            (survives current.number body behind current.whole.fits is none
+            (omega (arith, count, current.within)));
+        mixed = λ mixing.
+            subst (HasNoOther (outcomes_of current.segment)) is (mixed mixing);
+      }
+
+  -- a log that takes no lines tells no head
+  pub none_survives : (opened : Opened D g) → (stored_in opened).head ≡ []
+      → ((stored_in opened).head ≡ [] → ⊥) → SurvivesAsTold opened
+  none_survives opened none some = absurd (some none)
+
+  -- What a start reads there
+
+  kept_so : (opened : Opened D g) (settings : List ℕ) (deeds : Deeds) (state : State)
+      (file : List ℕ)
+      → head deeds ≡ Some state
+      → (stored_in opened).head ≡ settings ∷ state_lines state
+      → (stored_in opened).text ≡ lines_of_log (waiting deeds ++ safe deeds)
+      → (stored_in opened).safe ≡ lines_of_log (safe deeds)
+      → AllByRecursion IsWritable (waiting deeds ++ safe deeds)
+      → AreMixing g → SurvivesAsTold opened → leaves_in opened file
+      → IsKeptIn settings deeds file
+  kept_so opened settings deeds state file begun opening text synced all mixing s left =
+      let lines : List ℕ = lines_of_log (waiting deeds ++ safe deeds) in
+      let has : HasLog (leaves_in opened) s.number s.body (waiting deeds) (safe deeds) = record {
+        writable = all;
+        survives =
+            subst (λ (l : List ℕ). Survives (leaves_in opened) s.number s.body lines (length l))
+            synced (subst (λ (l : List ℕ). Survives (leaves_in opened) s.number s.body l
+            (length (stored_in opened).safe)) text s.survives);
+        mixed =
+            subst (λ (l : List ℕ). HasNoOther (leaves_in opened)
+            (whole_text s.number s.body ++ l)) text (s.mixed mixing);
+      } in
+      record {
+        state = state;
+        begun = begun;
+        begins = 87 + length s.body;
+        opening = record {
+          head = head_for s.number s.body;
+          body = s.body;
+          fits = has.survives.fits;
+          found = whole_left (leaves_in opened) s.number s.body lines
+              (length (lines_of_log (safe deeds))) file has.survives left;
+          says = s.says ∙ opening;
+          behind = refl;
+        };
+        left = lines_left (leaves_in opened) s.number s.body (waiting deeds) (safe deeds) file has
+            left;
+        read = all_read (leaves_in opened) s.number s.body (waiting deeds) (safe deeds) file has
+            left;
+      }
+
+  pub kept_in : (opened : Opened D g) (settings : List ℕ) (deeds : Deeds)
+      → IsStored settings deeds (stored_in opened) → AllByRecursion IsWritable (written deeds)
+      → (((stored_in opened).head ≡ [] → ⊥) → HasNoZero (stored_in opened).text
+      → SurvivesAsTold opened)
+      → is_kept deeds ≡ true → AreMixing g → (file : List ℕ) → leaves_in opened file
+      → IsKeptIn settings deeds file
+  kept_in opened settings deeds stored all survives kept mixing file left =
+      let (state, begun) = has_head deeds kept in
+      let opening : (stored_in opened).head ≡ settings ∷ state_lines state =
+      ap (λ (s : Stored). s.head) (stored kept) ∙ ap (lines_of_head settings) begun in
+      let text : (stored_in opened).text ≡ lines_of_log (written deeds) =
+      ap (λ (s : Stored). s.text) (stored kept) in
+      kept_so opened settings deeds state file begun opening
+      (text ∙ ap lines_of_log (all_written deeds)) (ap (λ (s : Stored). s.safe) (stored kept))
+      (subst (AllByRecursion IsWritable) (all_written deeds) all) mixing
+      (survives (some_head settings (state_lines state) (stored_in opened).head opening)
+      (subst HasNoZero (sym text) (no_zero (written deeds) all))) left
