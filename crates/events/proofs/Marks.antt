@@ -4,8 +4,7 @@ use Rattle.std.proofs.Common.{ap, sym, subst, ◌∙◌, arith, suc, zero, appen
 use Rattle.std.proofs.lemmas.List.{map-append, take-append-drop, take-map, drop-map, drop-drop}
 use Rattle.std.proofs.lemmas.List.{drop-take, take-append-le, drop-append-le, take-take, length-map}
 use Rattle.std.proofs.lemmas.List.{length-take}
-use Rattle.std.proofs.Math.Seq.{set-append_seam}
-use Rattle.std.specs.Prelude.{Some, None, Result, Ok, Err, IsOk, OnOk, slice_get, slice_set}
+use Rattle.std.specs.Prelude.{Some, None, slice_get}
 use Rattle.arrayvec.specs.ArrayVec.{ArrayVec}
 use Rattle.events.specs.Pieces.{AreAsdus, AreSendable}
 use Rattle.events.specs.Queue.{Queue, queue_of, octets_of, acknowledged, rewound, kept}
@@ -84,9 +83,13 @@ unsent_none [] (suc m) h = refl
 unsent_none (x ∷ xs) zero h = cc
 unsent_none (x ∷ xs) (suc m) h = unsent_none xs m h
 
-pub on_ok : {T E : Type 0} (r : Result T E) (P : Type 0) → IsOk r → OnOk r P → P
-on_ok (Ok x) P h p = p
-on_ok (Err e) P h p = cc
+-- and what stands behind it
+pub lent_some : (xs : List (ArrayVec ℕ)) (m : ℕ) (p : ArrayVec ℕ) → slice_get xs m ≡ Some p
+    → octets_of (drop m xs) ≡ p.items ∷ octets_of (drop (m + 1) xs)
+lent_some xs m p h =
+    unsent_some xs m p h
+    ∙ ap (λ ps. p.items ∷ ps) (drop-map (λ q. q.items) 1 (drop m xs)
+    ∙ ap octets_of (drop-drop 1 m xs))
 
 -- ---- each piece is an ASDU
 
@@ -113,13 +116,6 @@ pub sendable-drop : (n : ℕ) (ps : List (List ℕ)) → AreSendable ps → AreS
 sendable-drop zero ps h = h
 sendable-drop (suc n) [] h = h
 sendable-drop (suc n) (p ∷ ps) h = sendable-drop n ps h.1
-
-pub written_there : (xs ys : List (ArrayVec ℕ)) (y p : ArrayVec ℕ) (n : ℕ) → ys ≡ xs ++ y ∷ []
-    → n ≡ length xs
-    → slice_set ys n p ≡ xs ++ p ∷ []
-written_there xs ys y p n e at =
-    ap (λ zs. slice_set zs n p) e ∙ ap (λ k. slice_set (xs ++ y ∷ []) k p) at
-    ∙ set-append_seam xs y [] p
 
 module _ (left rest : List (List ℕ)) (q r : Queue) (unsent : r.unsent ≡ q.unsent ++ take 1 left)
     (others : rest ≡ drop 1 left) where

@@ -1,4 +1,5 @@
 pub mod Queue
+pub mod Ring
 pub mod Pieces
 pub mod Runs
 pub mod Restored

@@ -14,7 +14,7 @@ impl Events {
     {
         // Never smaller: each piece that is kept stays (docs/DECISIONS.md, "The queue's places").
         if self.ring.capacity() < places {
-            self.ring.resize(places).map_err(|_| NoMemory)?;
+            self.ring.widen(places).map_err(|_| NoMemory)?;
         }
         self.places = places;
         self.sent = 0;

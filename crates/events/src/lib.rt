@@ -29,10 +29,11 @@ ghost use Rattle.events.specs.Pieces.{IsSendable, AreAsdus, AreSendable};
 mod carrying;
 mod laws;
 mod restoring;
+mod ring;
 
 use asdu::{Asdu, Piece, Pieces, Translation};
-use circular_buffer::{HeapCircularBuffer, Iter};
 pub use laws::pieces_are_kept_in_order;
+use ring::PieceRing;
 use std::alloc::Global;
 use std::marker::Model;
 use thiserror::Error;
@@ -48,7 +49,7 @@ const MOST_PIECES: usize = 3;
 /// The kept pieces, oldest first. The first ones were sent on the open connection.
 #[derive(Drop)]
 pub struct Events {
-    ring: HeapCircularBuffer<Piece>,
+    ring: PieceRing,
     /// How many of the pieces were sent.
     sent: usize,
     /// For how many pieces there are places. The ring has more where it kept more pieces when their
@@ -77,7 +78,7 @@ impl Events {
     {
         // All its room now, since nothing takes memory later (docs/DECISIONS.md, "Rings from the
         // start").
-        let ring = HeapCircularBuffer::with_capacity(alloc, places).map_err(|_| NoMemory)?;
+        let ring = PieceRing::with_capacity(alloc, places).map_err(|_| NoMemory)?;
         Ok(Events {
             ring,
             sent: 0,
@@ -119,7 +120,7 @@ impl Events {
         requires asdu { IsSendable piece.items }
         ensures { self.new ≡ pushed (piece.items ∷ []) self.old }
     {
-        let _ = self.ring.try_push_back(piece);
+        self.ring.push(&piece);
     }
 
     /// Appends the pieces of a report of at most 253 octets, unsent, each written in its place. The
@@ -144,13 +145,7 @@ impl Events {
         ensures queue { self.new ≡ pushed (take 1 left.old) self.old }
         ensures others { left.new ≡ drop 1 left.old }
     {
-        // Where it will stand: a move would copy 249 octets.
-        let newest = self.ring.len();
-        let _ = self.ring.try_push_back(Piece::new());
-        let Some(piece) = self.ring.get_mut(newest) else {
-            unreachable!();
-        };
-        left.write_next(piece);
+        self.ring.push_next(left);
     }
 
     /// The oldest piece that isn't sent, of 9 to 249 octets.
@@ -178,8 +173,7 @@ impl Events {
         requires { count ≤ length self.old.sent }
         ensures { self.new ≡ acknowledged count self.old }
     {
-        let left = self.ring.len() - count;
-        self.ring.truncate_front(left);
+        self.ring.remove_oldest(count);
         self.sent -= count;
     }
 
@@ -201,21 +195,10 @@ impl Events {
     pub fn kept(&self) -> Kept<'_>
         ensures { result ≡ kept self.now }
     {
-        let pieces = self.ring.iter();
-        Kept { pieces }
-    }
-
-    /// The ring itself, the oldest piece first.
-    pub fn into_ring(self) -> HeapCircularBuffer<Piece>
-        ensures pieces { octets_of result.items ≡ kept self }
-        ensures capacity { self.places ≤ result.capacity }
-    {
-        let Events {
-            ring,
-            sent: _,
-            places: _,
-        } = self;
-        ring
+        Kept {
+            ring: &self.ring,
+            next: 0,
+        }
     }
 }
 
@@ -223,16 +206,18 @@ impl Events {
 /// come.
 #[derive(Drop)]
 pub struct Kept<'a> {
-    pieces: Iter<'a, Piece>,
+    ring: &'a PieceRing,
+    /// How many pieces were lent.
+    next: usize,
 }
 
 impl<'a> Model for Kept<'a> {
-    ghost use Rattle.std.specs.Prelude.{List, ℕ};
+    ghost use Rattle.std.specs.Prelude.{List, ℕ, drop};
     ghost use Rattle.events.specs.Queue.{octets_of};
 
     ghost Value = { List (List ℕ) };
 
-    ghost view = { λ k. octets_of k.pieces };
+    ghost view = { λ k. octets_of (drop k.next k.ring.now.items) };
 }
 
 impl<'a> Iterator for Kept<'a> {
@@ -243,7 +228,9 @@ impl<'a> Iterator for Kept<'a> {
     ghost remaining = { λ s. at_most (length s) };
 
     fn next(&mut self) -> Option<&'a [u8]> {
-        let piece = self.pieces.next()?;
+        let piece = self.ring.get(self.next)?;
+        prove!(self.next < self.ring.len());
+        self.next += 1;
         Some(piece.as_slice())
     }
 }

@@ -10,7 +10,7 @@ const POINT: [u8; 10] = [0x01, 0x01, 0x03, 0x00, 0x01, 0x00, 0x64, 0x00, 0x00, 0
 fn a_queue_of_three_places(rt: HostRuntime) -> Result<(), NoMemory> {
     let mut events = Events::new(rt.alloc(), 3)?;
     goes_through(&rt, &mut events);
-    assert_eq!(rt; left_in(events), 1);
+    assert_eq!(rt; events.free(), 2);
     Ok(())
 }
 
@@ -40,9 +40,4 @@ fn goes_through(rt: &impl Abort, events: &mut Events) {
     let mut kept = events.kept();
     assert!(rt; kept.next() == Some(POINT.as_slice()));
     assert!(rt; kept.next().is_none());
-}
-
-/// How many pieces its ring is left with.
-fn left_in(events: Events) -> usize {
-    events.into_ring().len()
 }

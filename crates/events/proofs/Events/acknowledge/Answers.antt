@@ -1,4 +1,4 @@
-use Rattle.std.proofs.Common.{◌≡◌, ◌≤◌, ◌-◌, length, drop, arith, ap, ◌∙◌}
+use Rattle.std.proofs.Common.{◌≤◌, ◌-◌, ap, ◌∙◌}
 use Rattle.events.specs.Queue.{queue_of, acknowledged}
 use Rattle.events.proofs.Marks.{queue_of-acknowledged, within_mark}
 use Rattle.events.proofs.Events.acknowledge.Goals as goal
@@ -9,9 +9,6 @@ returns c =
     let le : c.args.count ≤ e.sent =
     within_mark e.ring.items e.sent e.places c.args.count c.args.self.now c.self.view_is
     c.requires in
-    let gone : length e.ring.items - (c.len.result - c.args.count) ≡ c.args.count =
-    omega (arith, c.len.ensures.len, c.self.invariant) in
-    ap (λ r. queue_of r.items (e.sent - c.args.count) e.places) c.truncate_front.ensures
-    ∙ ap (λ k. queue_of (drop k e.ring.items) (e.sent - c.args.count) e.places) gone
+    ap (λ r. queue_of r.items (e.sent - c.args.count) e.places) c.remove_oldest.ensures
     ∙ queue_of-acknowledged e.ring.items e.sent e.places c.args.count le
     ∙ ap (acknowledged c.args.count) c.self.view_is

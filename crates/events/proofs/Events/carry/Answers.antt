@@ -12,7 +12,7 @@ returns-clause-ok c =
     let same : c.if-capacity-places.self-inside.ring.items ≡ e.ring.items =
     elim c.if-capacity-places.branch [
       | then-capacity-places+in_ok-map_err w ↦
-          (let r : w.resize.new.self ≡ record { items = e.ring.items; capacity = c.args.places } =
+          (let r : w.widen.new.self ≡ record { items = e.ring.items; capacity = c.args.places } =
           search rules in ap (λ (i : _). i.ring.items) w.self-inside-is ∙ ap (λ (r : _). r.items) r)
       | else-capacity-places w ↦ ap (λ (i : _). i.ring.items) w.self-inside-is
     ] in
