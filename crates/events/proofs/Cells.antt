@@ -1,5 +1,6 @@
 -- Pieces in the cells of a ring.
-use Rattle.std.proofs.Common.{◌≡◌, ℕ, ◌+◌, ◌-◌, ◌<◌, ◌≤◌, ◌⊎◌, List, [], ◌∷◌, ◌++◌, length, take, drop}
+use Rattle.std.proofs.Common.{◌≡◌, ℕ, ◌+◌, ◌-◌, ◌<◌, ◌≤◌, ◌⊎◌, List, [], ◌∷◌, ◌++◌, length, take}
+use Rattle.std.proofs.Common.{drop}
 use Rattle.std.proofs.Common.{set, ap, sym, ◌∙◌, arith, suc, append_assoc, inl, inr, add-one}
 use Rattle.std.proofs.Common.{length-append, length-take, length-drop, length-set}
 use Rattle.std.proofs.lemmas.Bool.{cases_lt}
@@ -8,7 +9,7 @@ use Rattle.std.proofs.lemmas.List.{drop-append-le, take-take, drop-set-lt, drop-
 use Rattle.std.proofs.Math.Seq.{take-suc-set, take-add, take-append-add, drop-append-add}
 use Rattle.std.proofs.Math.Seq.{drop-length}
 use Rattle.arrayvec.specs.ArrayVec.{ArrayVec}
-use Rattle.events.specs.Ring.{pieces_in, IsInCells}
+use Rattle.events.specs.Ring.{Ring, ring_of, appended, pieces_in, IsInCells}
 
 -- ---- Pieces from the start on, and then from the first cell on
 
@@ -101,9 +102,9 @@ written_round cells start count place p within lt is =
     (omega arith)))
 
 -- the cells, of which the last may be a new one
-pub record IsReached (cells reached : List (ArrayVec ℕ)) (place : ℕ) (e : ArrayVec ℕ) : Type 0 where
-  pub there : place < length cells → reached ≡ cells
-  pub next : place ≡ length cells → reached ≡ cells ++ e ∷ []
+record IsReached (cells reached : List (ArrayVec ℕ)) (place : ℕ) (e : ArrayVec ℕ) : Type 0 where
+  there : place < length cells → reached ≡ cells
+  next : place ≡ length cells → reached ≡ cells ++ e ∷ []
 
 long_enough : (cells reached : List (ArrayVec ℕ)) (place : ℕ) (e : ArrayVec ℕ)
     → place ≤ length cells
@@ -119,7 +120,7 @@ long_enough cells reached place e le is =
         let same = ap (λ (l : List (ArrayVec ℕ)). length l) (is.next at) in
         omega (arith, length-append cells (e ∷ []))
 
-pub pushed_there : (cells reached : List (ArrayVec ℕ)) (start count capacity reserved place : ℕ)
+pushed_there : (cells reached : List (ArrayVec ℕ)) (start count capacity reserved place : ℕ)
     (e p : ArrayVec ℕ)
     → IsInCells cells start count capacity reserved
     → count < capacity
@@ -153,7 +154,12 @@ pushed_there cells reached start count capacity reserved place e p is few before
     pushed (inl lt) =
         let at = before lt in
         let within : place ≤ length cells =
-        omega (arith, at, within_cells cells start count capacity reserved count is (omega arith) lt) in
+        omega (
+          arith,
+          at,
+          within_cells cells start count capacity reserved count is (omega arith)
+              lt,
+        ) in
         let long = long_enough cells reached place e within reach in
         ap (λ k. pieces_in (set reached k p) start (suc count)) at
         ∙ written_flat reached start count p (omega arith)
@@ -164,6 +170,30 @@ pushed_there cells reached start count capacity reserved place e p is few before
         let full = all_cells cells start count capacity reserved count is (omega arith) le in
         ap (λ l. pieces_in (set l place p) start (suc count)) (reach.there (omega arith))
         ∙ written_round cells start count place p begins (omega arith) (omega arith)
+
+pub appended_there : (cells reached : List (ArrayVec ℕ))
+    (start count capacity reserved size place : ℕ) (e p : ArrayVec ℕ) (r : Ring)
+    → IsInCells cells start count capacity reserved
+    → ring_of (pieces_in cells start count) capacity ≡ r
+    → length r.items < r.capacity
+    → (start + count < capacity → place ≡ start + count)
+    → (capacity ≤ start + count → place + capacity ≡ start + count)
+    → size ≡ length cells
+    → (place < size → reached ≡ cells)
+    → (place ≡ size → reached ≡ cells ++ e ∷ [])
+    → ring_of (pieces_in (set reached place p) start (count + 1)) capacity ≡ appended p.items r
+appended_there cells reached start count capacity reserved size place e p r is view room before
+    behind long there next =
+    let all = ap (λ (q : Ring). length q.items) view in
+    let most = ap (λ (q : Ring). q.capacity) view in
+    let many = number cells start count capacity reserved is in
+    let reach : IsReached cells reached place e = record {
+      there = λ lt. there (omega (arith, lt, long));
+      next = λ at. next (omega (arith, at, long));
+    } in
+    ap (λ xs. ring_of xs capacity) (pushed_there cells reached start count capacity reserved place e
+    p is (omega (arith, room)) before behind reach)
+    ∙ ap (λ (q : Ring). appended p.items q) view
 
 -- ---- The oldest pieces leave
 

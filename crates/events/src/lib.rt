@@ -8,8 +8,8 @@
 //! ([`Events::rewind`]). What pieces say, and which frames acknowledge them, is no matter of this
 //! crate.
 //!
-//! A place has room for the longest piece, some 264 octets, and a report is written where it will
-//! stand. A place that was never used is never touched.
+//! A place has room for the longest piece, some 264 octets. A report is written where it will
+//! stand, over a piece that has left. A place that was never used is never touched.
 //!
 //! Proved: each call is one small function on the two lists. Above it, after every list of calls
 //! the queue keeps what was pushed and isn't acknowledged, in its order: nothing is overwritten or

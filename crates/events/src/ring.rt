@@ -1,8 +1,8 @@
 //! The ring that the pieces stand in: cells that are made once and then written over.
 //!
-//! A ring of the kit's makes each item anew, here 249 octets of zeros, and goes round through all
-//! its memory. Here a piece is written over one that has left. Once all have left the next one is
-//! written to the first cell, so a queue that is nearly empty stays in the processor's cache.
+//! A piece is written over one that has left, so only its own octets are written. Once all pieces
+//! have left, the next one goes to the first cell. So a queue that is nearly empty stays in the
+//! processor's cache (docs/DECISIONS.md, "A ring of the queue's own").
 ghost use Rattle.std.specs.Prelude.{◌≡◌, ◌+◌, ◌<◌, ◌≤◌, ℕ, List, [], ◌∷◌, ◌++◌, length, vec_len};
 ghost use Rattle.std.specs.Prelude.{vec_capacity, slice_get, option_copied, IfOk, OnOk, OnErr};
 ghost use Rattle.events.specs.Ring.{ring_of, appended, without_oldest};
