@@ -101,7 +101,9 @@ fn recorded(rt: &impl Abort, alloc: Global, calls: u32) -> Result<FewTexts, Fail
             _ => assert!(rt; matches!(port.next(&mut [0; 1024]), Next::Tick(_))),
         }
     }
-    assert_eq!(rt; port.is_over(), calls > 4);
+    let is_over = port.is_over();
+    drop(port);
+    assert_eq!(rt; is_over, calls > 4);
     Ok(texts)
 }
 
