@@ -20,12 +20,12 @@ telling-preserved g c =
     let line = c.cut.result.0.now in
     let left : List (List ℕ) = parts_after 10 (option_copied c.cut.result.1) in
     let text : List ℕ = string_bytes c.telling.lines in
-    let h : LinesTo piped words all (line ∷ left) text c.telling.outcome =
-    subst (λ (ls : List (List ℕ)). LinesTo piped words all ls text c.telling.outcome)
+    let h : LinesTo piped words all (line ∷ left) text c.telling.condition =
+    subst (λ (ls : List (List ℕ)). LinesTo piped words all ls text c.telling.condition)
     (ap (λ (x : Option (Bor (List ℕ))). parts_after 10 (option_copied x)) c.in-Some.is
     ∙ c.cut.ensures)
     c.telling.invariant in
-    let added = c.in_ok-outcome.ensures piped words (octets_in line) c.in_ok-told.ensures in
+    let added = c.in_ok-condition.ensures piped words (octets_in line) c.in_ok-told.ensures in
     lines_on piped words all left line text added.text (string_bytes c.push_told.new.lines)
-    c.telling.outcome added.one
-    c.in_ok-outcome.outcome h added.told added.added added.judged
+    c.telling.condition added.one
+    c.in_ok-condition.condition h added.told added.added added.judged

@@ -8,4 +8,4 @@ use Rattle.telegate.proofs.piping.tell_lines.Given as goal
 abbrev pub invariant-telling : goal.invariant-telling
 invariant-telling g l = LinesTo l.piped l.words (lines_of l.fn.text)
     (parts_after 10 (option_copied l.left))
-    (string_bytes l.lines) l.outcome
+    (string_bytes l.lines) l.condition
