@@ -3,7 +3,7 @@ use Rattle.std.specs.Prelude.{ℕ, List, Option, Result, Ok, Err, MatchResult}
 use Rattle.record.specs.Audit.{IsAudit, IsAuditFault, OfGiven}
 use Rattle.record.specs.declared.audit.RecordFault.{RecordFault}
 use Rattle.record.specs.declared.audit.RecordFault.TheVariants as faults
-use Rattle.record.specs.declared.audit.Verdict.{Verdict}
+use Rattle.record.specs.declared.audit.Comparison.{Comparison}
 use Rattle.gateway.specs.Config.{Settings}
 use Rattle.settings.specs.Settings.{IsReadOfText}
 use Rattle.telegate.specs.Audits.{IsToldOf, IsMemory, IsAuditedBy, fault_of_lem}
@@ -20,34 +20,34 @@ module _ (config : List ℕ) (has : List ℕ → Type 0) (settings : Settings) (
     (read : IsReadOfText config (Ok settings)) (holds : (octets : List ℕ) → Gives known octets
     → has octets) where
   -- the answer to the command, where its files were read
-  pub audited : (verdict : Verdict) (r : Result Answer Fault)
-      → OfGiven known (λ text. IsAudit settings text verdict)
-      → MatchResult r (IsToldOf verdict) IsMemory → IsAuditedBy config has r
-  audited verdict (Ok answer) found told = record {
+  pub audited : (comparison : Comparison) (r : Result Answer Fault)
+      → OfGiven known (λ text. IsAudit settings text comparison)
+      → MatchResult r (IsToldOf comparison) IsMemory → IsAuditedBy config has r
+  audited comparison (Ok answer) found told = record {
     settings = settings;
     text = found.text;
-    verdict = verdict;
+    comparison = comparison;
     read_config = read;
     is = holds found.text found.given;
     audited = found.so;
     told = told;
   }
-  audited verdict (Err NoMemory) found told = tt
-  audited verdict (Err (Config why)) found told = absurd told
-  audited verdict (Err (Trace n)) found told = absurd told
-  audited verdict (Err (Script n)) found told = absurd told
-  audited verdict (Err (Site why)) found told = absurd told
-  audited verdict (Err (Record n)) found told = absurd told
-  audited verdict (Err NoState) found told = absurd told
-  audited verdict (Err StateInUse) found told = absurd told
-  audited verdict (Err StateUnusable) found told = absurd told
-  audited verdict (Err Sizes) found told = absurd told
-  audited verdict (Err Octets) found told = absurd told
-  audited verdict (Err Address) found told = absurd told
-  audited verdict (Err Device) found told = absurd told
-  audited verdict (Err Unread) found told = absurd told
+  audited comparison (Err NoMemory) found told = tt
+  audited comparison (Err (Config why)) found told = absurd told
+  audited comparison (Err (Trace n)) found told = absurd told
+  audited comparison (Err (Script n)) found told = absurd told
+  audited comparison (Err (Site why)) found told = absurd told
+  audited comparison (Err (Record n)) found told = absurd told
+  audited comparison (Err NoState) found told = absurd told
+  audited comparison (Err StateInUse) found told = absurd told
+  audited comparison (Err StateUnusable) found told = absurd told
+  audited comparison (Err Sizes) found told = absurd told
+  audited comparison (Err Octets) found told = absurd told
+  audited comparison (Err Address) found told = absurd told
+  audited comparison (Err Device) found told = absurd told
+  audited comparison (Err Unread) found told = absurd told
 
-  -- or there is no verdict
+  -- or there is no comparison
   pub unaudited : (fault : RecordFault) → IsAuditFault known fault
       → told.IsAuditFault config has (fault_of_lem fault)
   unaudited (faults.Line n) wrong =

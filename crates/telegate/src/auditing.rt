@@ -7,7 +7,7 @@ use crate::check::read_config;
 use crate::fault::{BAD_CONTENT, DONE, Fault};
 use crate::replay::open;
 use crate::source::Source;
-use record::{RecordFault, Verdict, audit_text};
+use record::{Comparison, RecordFault, audit_text};
 use std::alloc::Global;
 
 /// Runs the gateway over the events of a record, and answers whether its actions are the record's.
@@ -18,12 +18,12 @@ pub(crate) fn audit<S: Source>(alloc: Global, config: &[u8], text: &S) -> Result
     let text = open(text)?;
     let config = read_config(alloc, config)?;
     match audit_text(alloc, &config, text) {
-        Ok(verdict) => tell_verdict(alloc, verdict),
+        Ok(comparison) => tell_comparison(alloc, comparison),
         Err(fault) => Err(fault_of(fault)),
     }
 }
 
-/// Why a command stops whose record has no verdict.
+/// Why a command stops whose record has no comparison.
 fn fault_of(fault: RecordFault) -> Fault
     ensures { result ≡ fault_of_lem fault }
 {
@@ -34,17 +34,17 @@ fn fault_of(fault: RecordFault) -> Fault
     }
 }
 
-/// The line of a verdict, and its exit status: 0 where the two are the same.
-fn tell_verdict(alloc: Global, verdict: Verdict) -> Result<Answer, Fault>
-    ensures { MatchResult result (IsToldOf verdict) IsMemory }
+/// The line of a comparison, and its exit status: 0 where the two are the same.
+fn tell_comparison(alloc: Global, comparison: Comparison) -> Result<Answer, Fault>
+    ensures { MatchResult result (IsToldOf comparison) IsMemory }
 {
     let mut line = String::new(alloc);
-    let status = match verdict {
-        Verdict::Same { events, actions } => {
+    let status = match comparison {
+        Comparison::Same { events, actions } => {
             writeln!(line, "same, {events} events, {actions} actions")?;
             DONE
         }
-        Verdict::Differs(number) => {
+        Comparison::Differs(number) => {
             writeln!(line, "line {number} differs")?;
             BAD_CONTENT
         }
