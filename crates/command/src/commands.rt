@@ -14,7 +14,7 @@ ghost use Rattle.command.specs.Mirrors.{element_of as element_in};
 mod carrying;
 mod refusing;
 
-use crate::act::{Act, Answer};
+use crate::act::{Act, OwnAnswer};
 use crate::content::{
     Command, Target, append, is_command_type, is_process_command, line_kind, read_command, refuse,
 };
@@ -70,7 +70,7 @@ pub struct Commands {
     selections: ArrayVec<Selection, 16>,
     /// The latest first sendings of types 45 to 49 on the open connection, oldest first.
     sendings: HeapCircularBuffer<Sending>,
-    answers: HeapCircularBuffer<Answer>,
+    answers: HeapCircularBuffer<OwnAnswer>,
 }
 
 impl Model for Commands {
@@ -499,7 +499,7 @@ impl Commands {
 
     /// The station refused the command on its line as busy. The answer is for the control centre,
     /// and no report; there is none where the connection that sent the command has ended.
-    pub fn busy(&mut self, station: usize) -> Option<Answer>
+    pub fn busy(&mut self, station: usize) -> Option<OwnAnswer>
         ensures answer { option_map (λ answer. answer.items) result ≡
             refusal_of (line_of station self.old) }
         ensures fits { IfSome result

@@ -16,7 +16,7 @@ ghost use Rattle.command.specs.Command.{without_select as execute_of};
 ghost use Rattle.command.specs.Selection.{target_of};
 ghost use Rattle.command.specs.Octets.{answer};
 
-use crate::act::Answer;
+use crate::act::OwnAnswer;
 use arrayvec::ArrayVec;
 use asdu::{CaSize, CauseSize, IoaSize, Sizes, head};
 
@@ -289,7 +289,7 @@ pub(crate) fn append<const N: usize>(out: &mut ArrayVec<u8, N>, octets: &[u8])
 }
 
 /// The ASDU as an own answer: its test bit kept, P/N set, the new cause.
-pub(crate) fn refuse(cause: u8, octets: &[u8]) -> Answer
+pub(crate) fn refuse(cause: u8, octets: &[u8]) -> OwnAnswer
     requires known { cause < 64 }
     requires long { 3 ≤ length octets.now }
     requires fits { length octets.now ≤ 249 }

@@ -14,7 +14,7 @@ ghost use Rattle.command.specs.declared.waiting.Waiting.{Waiting};
 ghost use Rattle.command.specs.declared.waiting.Line.TheVariants.{Free};
 ghost use Rattle.command.specs.declared.selection.Sign.TheVariants.{Over as OverSign};
 
-use crate::act::Answer;
+use crate::act::OwnAnswer;
 use crate::commands::NoMemory;
 use crate::content::{Target, read_command, refuse, write_command};
 use crate::judging::{is_for, negative_cause};
@@ -112,7 +112,7 @@ fn cut(line: &mut Line)
 }
 
 /// The negative answer to the command on the station's line, where its connection is open.
-pub(crate) fn refusal_at(lines: &[Line], station: usize) -> Option<Answer>
+pub(crate) fn refusal_at(lines: &[Line], station: usize) -> Option<OwnAnswer>
     ensures answer { option_map (λ answer. answer.items) result ≡
         refusal_of (get_or lines.now station Free) }
     ensures fits { IfSome result
@@ -125,7 +125,7 @@ pub(crate) fn refusal_at(lines: &[Line], station: usize) -> Option<Answer>
     }
 }
 
-fn refusal(line: &Line) -> Option<Answer>
+fn refusal(line: &Line) -> Option<OwnAnswer>
     ensures answer { option_map (λ answer. answer.items) result ≡ refusal_of line.now }
     ensures fits { IfSome result
         (λ answer. (9 ≤ array_vec_len answer) × (array_vec_len answer ≤ 249)) }

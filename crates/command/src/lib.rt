@@ -53,7 +53,7 @@ mod station;
 mod tags;
 mod waiting;
 
-pub use act::{Act, Answer};
+pub use act::{Act, OwnAnswer};
 pub use commands::{Commands, NoMemory};
 pub use glance::Glance;
 pub use laws::{

@@ -11,7 +11,7 @@ ghost use Rattle.command.specs.Saved.{octets_in, received_in, for_line_in, waiti
 ghost use Rattle.command.specs.Saved.{line_in, element_in, stage_in, command_with, selection_in};
 ghost use Rattle.command.specs.Saved.{tag_in, target_in, sending_in};
 
-use crate::act::Answer;
+use crate::act::OwnAnswer;
 use crate::commands::{MOST_ANSWERS, MOST_SELECTIONS, MOST_WAITING};
 use crate::content::{Command, Element, Target, command_octets_of};
 use crate::saving::Saved;
@@ -239,14 +239,14 @@ pub(crate) fn sending_from(numbers: &[u64]) -> Option<Sending>
 }
 
 /// Whether each can be an own answer.
-pub(crate) fn are_answers(answers: &[Answer]) -> bool
+pub(crate) fn are_answers(answers: &[OwnAnswer]) -> bool
     ensures value { result ≡ are_long answers.now }
     ensures asdus { result ≡ true → AreAsdus answers.now }
 {
     are_all_long(answers)
 }
 
-fn are_all_long(answers: &[Answer]) -> bool
+fn are_all_long(answers: &[OwnAnswer]) -> bool
     ensures { result ≡ are_long answers.now }
 {
     answers
@@ -356,7 +356,7 @@ pub(crate) struct Parts {
     pub lines: Vec<Line>,
     pub selections: Vec<Selection>,
     pub sendings: Vec<Sending>,
-    pub answers: Vec<Answer>,
+    pub answers: Vec<OwnAnswer>,
 }
 
 /// Reads what is kept of the commands of so many stations.

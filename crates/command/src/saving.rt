@@ -12,7 +12,7 @@ ghost use Rattle.command.specs.Saved.{is_savable_element, tag_numbers, is_savabl
 ghost use Rattle.command.specs.Saved.{sending_numbers, is_savable_sending, answer_numbers};
 ghost use Rattle.command.specs.Saved.{is_savable_answer};
 
-use crate::act::Answer;
+use crate::act::OwnAnswer;
 use crate::content::{Command, Element};
 use crate::restoring::{line_from, octets_from, selection_from, sending_from, waiting_from};
 use crate::selection::{Selection, Stage};
@@ -116,7 +116,7 @@ impl Saved for Sending {
     }
 }
 
-impl Saved for Answer {
+impl Saved for OwnAnswer {
     ghost numbers = { answer_numbers };
 
     ghost is_savable = { is_savable_answer };
@@ -125,7 +125,7 @@ impl Saved for Answer {
         put_octets(self.as_slice(), line)
     }
 
-    fn read(line: &[u64]) -> Option<Answer> {
+    fn read(line: &[u64]) -> Option<OwnAnswer> {
         octets_from(line)
     }
 }

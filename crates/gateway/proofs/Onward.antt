@@ -5,8 +5,8 @@ use Rattle.std.proofs.lemmas.List.{drop-drop, length-drop}
 use Rattle.std.proofs.Math.Seq.{take-length}
 use Rattle.gateway.specs.Log.{Log}
 use Rattle.gateway.specs.Reports.{Setup}
-use Rattle.gateway.specs.declared.step.Outcome.{Outcome}
-use Rattle.gateway.specs.declared.step.Outcome.TheVariants.{On}
+use Rattle.gateway.specs.declared.step.Progress.{Progress}
+use Rattle.gateway.specs.declared.step.Progress.TheVariants.{On}
 use Rattle.gateway.specs.State.{State}
 use Rattle.gateway.specs.Agrees.{Awaits}
 use Rattle.gateway.specs.Judging.{Goes, IsOnward, faults_in}
@@ -19,7 +19,7 @@ rest_is done octets = ap (λ n. take n (drop done octets)) (sym (length-drop don
     ∙ take-length (drop done octets)
 
 -- an APDU is taken from what is left of a piece
-pub goes_from : (p : Setup) (o : Outcome) (s t : State) (told after : Option Log) (n done : ℕ)
+pub goes_from : (p : Setup) (o : Progress) (s t : State) (told after : Option Log) (n done : ℕ)
     (octets : List ℕ)
     → (Awaits p s told (take (length octets - done) (drop done octets))
     → Goes o p t after (drop n (take (length octets - done) (drop done octets))))
@@ -29,16 +29,16 @@ goes_from p o s t told after n done octets law h =
     (subst (λ front. Goes o p t after (drop n front)) (rest_is done octets)
     (law (subst (λ front. Awaits p s told front) (sym (rest_is done octets)) h)))
 
-pub goes_as : (p : Setup) (o out : Outcome) (s : State) (told : Option Log) (rest : List ℕ)
+pub goes_as : (p : Setup) (o out : Progress) (s : State) (told : Option Log) (rest : List ℕ)
     → o ≡ out
     → Goes o p s told rest → Goes out p s told rest
 goes_as p o out s told rest is h = subst (λ o. Goes o p s told rest) is h
 
-pub onward : (o : Outcome) (P : Type 0) → o ≡ On → IsOnward o P → P
+pub onward : (o : Progress) (P : Type 0) → o ≡ On → IsOnward o P → P
 onward o P is h = subst (λ o. IsOnward o P) is h
 
 pub put_by : {S F : Type 0} {log : S → Option Log} {fixed : S → F} {failed : S → ℕ} {a b : S}
-    (o out : Outcome)
+    (o out : Progress)
     → o ≡ out → Puts log fixed failed a b (faults_in o) → Puts log fixed failed a b (faults_in out)
 put_by {log = log} {fixed = fixed} {failed = failed} {a = a} {b = b} o out is h =
     subst (λ o. Puts log fixed failed a b (faults_in o)) is h

@@ -3,24 +3,24 @@ use Rattle.std.specs.Prelude.{ℕ, List, [], Option, IfSome}
 use Rattle.gateway.specs.Log.{Log}
 use Rattle.gateway.specs.Reports.{Setup}
 use Rattle.gateway.specs.Traffic.{IsFaithful}
-use Rattle.gateway.specs.declared.step.Outcome.{Outcome}
-use Rattle.gateway.specs.declared.step.Outcome.TheVariants.{On, Over, Failed}
+use Rattle.gateway.specs.declared.step.Progress.{Progress}
+use Rattle.gateway.specs.declared.step.Progress.TheVariants.{On, Over, Failed}
 use Rattle.gateway.specs.State.{State}
 use Rattle.gateway.specs.Phases.{Idle}
 use Rattle.gateway.specs.Agrees.{Tracks, Awaits}
 
-abbrev pub Goes : Outcome → Setup → State → Option Log → List ℕ → Type 0
+abbrev pub Goes : Progress → Setup → State → Option Log → List ℕ → Type 0
 Goes On p s told rest = Awaits p s told rest
 Goes Over p s told rest = Tracks p s told [] Idle
 Goes Failed p s told rest = IfSome told (IsFaithful p)
 
-abbrev pub IsOnward : Outcome → Type 0 → Type 0
+abbrev pub IsOnward : Progress → Type 0 → Type 0
 IsOnward On P = P
 IsOnward Over P = Unit {0}
 IsOnward Failed P = Unit {0}
 
--- how many failures of the device an outcome tells
-abbrev pub faults_in : Outcome → ℕ
+-- how many failures of the device it tells
+abbrev pub faults_in : Progress → ℕ
 faults_in On = 0
 faults_in Over = 0
 faults_in Failed = 1

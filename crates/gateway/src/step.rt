@@ -29,7 +29,7 @@ use session::{Close, calls_come_to_an_end};
 
 /// What an APDU leads to.
 #[derive(Clone, Copy)]
-pub enum Outcome {
+pub enum Progress {
     /// It is taken, and the octets after it are next.
     On,
     /// Nothing is left to be done with the octets.
@@ -226,7 +226,7 @@ impl Gateway {
 
     /// Takes an APDU, and sends what it makes room for, or closes the connection.
     #[inline(always)]
-    fn take_apdu<P: Port>(&mut self, apdu: ApduRef<'_>, port: &mut P) -> Outcome
+    fn take_apdu<P: Port>(&mut self, apdu: ApduRef<'_>, port: &mut P) -> Progress
         requires ready { P.failed port.old < u64.MAX }
         requires fits { Fits (owned apdu) }
         requires open { is_open self.old.centre.session ≡ true }
@@ -244,14 +244,14 @@ impl Gateway {
         // Behind each APDU and not once a piece: the next one is taken when no confirmation is
         // due.
         if !self.flush(port) {
-            return Outcome::Failed;
+            return Progress::Failed;
         }
-        Outcome::On
+        Progress::On
     }
 
     /// Takes what stands at the front of the octets, and says how many that is. A whole APDU is
     /// read where it stands; the assembler takes only what a piece leaves over.
-    fn take_front<P: Port>(&mut self, octets: &[u8], port: &mut P) -> (usize, Outcome)
+    fn take_front<P: Port>(&mut self, octets: &[u8], port: &mut P) -> (usize, Progress)
         requires ready { P.failed port.old < u64.MAX }
         requires some { 0 < length octets.now }
         requires open { is_open self.old.centre.session ≡ true }
@@ -266,13 +266,13 @@ impl Gateway {
         }
         match self.feed(octets) {
             Found::Whole(count) => (count, self.take_heard(port)),
-            Found::More => (0, Outcome::Over),
+            Found::More => (0, Progress::Over),
             Found::Refused => (0, self.shut(Close::Grammar, port)),
         }
     }
 
     /// Takes the APDU that came in pieces and is whole now.
-    fn take_heard<P: Port>(&mut self, port: &mut P) -> Outcome
+    fn take_heard<P: Port>(&mut self, port: &mut P) -> Progress
         requires ready { P.failed port.old < u64.MAX }
         requires heard { (frame : Apdu) × (self.old.centre.heard ≡ Some frame) × Fits frame }
         requires open { is_open self.old.centre.session ≡ true }
@@ -290,7 +290,7 @@ impl Gateway {
     }
 
     /// Closes the connection, and the octets that are left are dropped.
-    fn shut<P: Port>(&mut self, cause: Close, port: &mut P) -> Outcome
+    fn shut<P: Port>(&mut self, cause: Close, port: &mut P) -> Progress
         requires { P.failed port.old < u64.MAX }
         ensures kept { (p : Setup) → IfSome (P.log port.old) (MayClose p self.old cause Idle) →
             (rest : List ℕ) → Goes result p self.new (P.log port.new) rest }
@@ -298,9 +298,9 @@ impl Gateway {
         ensures puts { Puts P.log P.script P.failed port.old port.new (faults_in result) }
     {
         if !self.close(cause, port) {
-            return Outcome::Failed;
+            return Progress::Failed;
         }
-        Outcome::Over
+        Progress::Over
     }
 
     /// Takes the octets of a piece.
@@ -315,11 +315,11 @@ impl Gateway {
         while done < octets.len() {
             let (count, went) = self.take_front(&octets[done..], port);
             match went {
-                Outcome::On => done += count,
+                Progress::On => done += count,
                 // The first cause in the octets decides (docs/DECISIONS.md, "Several causes in one
                 // piece").
-                Outcome::Over => return true,
-                Outcome::Failed => return false,
+                Progress::Over => return true,
+                Progress::Failed => return false,
             }
         }
         true

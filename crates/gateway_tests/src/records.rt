@@ -1,6 +1,6 @@
 //! A recorder over a port in memory.
 use gateway::{Action, Next, Port};
-use record::{Pen, Recorder, Sheet};
+use record::{Pen, RecordSheet, Recorder};
 use session::Close;
 use std::alloc::Global;
 use std::process::Abort;
@@ -23,7 +23,7 @@ struct Lent<'a> {
     texts: &'a mut FewTexts,
 }
 
-impl Sheet for Lent<'_> {
+impl RecordSheet for Lent<'_> {
     ghost use Rattle.std.specs.Prelude.{None};
 
     ghost taken = { λ _. None };

@@ -7,7 +7,7 @@ use Rattle.gateway.specs.Log.{Output, LineOut, TcpOut, Closed, GapOut}
 use Rattle.session.specs.declared.kinds.Close.{Close}
 use Rattle.session.specs.declared.kinds.Close.TheVariants.{Grammar, SendNumber, ReceiveNumber}
 use Rattle.session.specs.declared.kinds.Close.TheVariants.{Stopped, Timeout, OwnAnswers, Replaced}
-use Rattle.show.specs.declared.outcome.Outcome.{Outcome}
+use Rattle.show.specs.declared.condition.Condition.{Condition}
 use Rattle.show.specs.declared.sizes.LineSizes.{LineSizes}
 use Rattle.ladder.specs.declared.rungs.Way.{Way}
 use Rattle.ladder.specs.declared.rungs.Way.TheVariants.{FromOutstation, ToOutstation, FromCentre}
@@ -74,8 +74,10 @@ gap_text station session = station_text (station + 1) ++ session_text session
 
 -- the words of an action
 abbrev pub AreActionWords : LineSizes → Output → List ℕ → Type 0
-AreActionWords s (LineOut octets) text = (outcome : Outcome) × AreLineWords s octets text outcome
-AreActionWords s (TcpOut octets) text = (outcome : Outcome) × AreConnectionWords octets text outcome
+AreActionWords s (LineOut octets) text = (condition : Condition)
+    × AreLineWords s octets text condition
+AreActionWords s (TcpOut octets) text = (condition : Condition)
+    × AreConnectionWords octets text condition
 AreActionWords s (Closed cause) text = text ≡ close_text cause ++ 10 ∷ []
 AreActionWords s (GapOut station session) text = text ≡ gap_text station session ++ 10 ∷ []
 

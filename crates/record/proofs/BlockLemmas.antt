@@ -20,13 +20,13 @@ use Rattle.traces.proofs.BlockLemmas.{gives_last, gives_on, gives_some, more_beh
 use Rattle.traces.proofs.JoinedLemmas.{wrong_before, wrong_behind}
 use Rattle.record.proofs.LineLemmas.{none_whole, whole_joined}
 use Rattle.record.proofs.RunLemmas.{lines_behind}
-use Rattle.record.specs.Audit.{IsAudit, IsAuditFault, IsVerdict, IsWrongLine, OfGiven}
+use Rattle.record.specs.Audit.{IsAudit, IsAuditFault, IsComparison, IsWrongLine, OfGiven}
 use Rattle.record.specs.Comparing.{AreWhole}
 use Rattle.record.specs.Lines.{event_line, event_lines, first_difference, whole_lines}
 use Rattle.record.specs.Rerunning.{Halted, IsHalted, IsPartFault, IsReadFault, Stands}
 use Rattle.record.specs.declared.audit.RecordFault.{RecordFault}
 use Rattle.record.specs.declared.audit.RecordFault.TheVariants as faults
-use Rattle.record.specs.declared.audit.Verdict.{Verdict}
+use Rattle.record.specs.declared.audit.Comparison.{Comparison}
 use Rattle.record.specs.declared.audit.comparing.Standing.{Standing}
 use Rattle.record.specs.declared.audit.comparing.Standing.TheVariants.{Level}
 
@@ -113,13 +113,13 @@ module _ (settings : Settings) (known coming : Option (List ℕ)) (state : State
 
   -- and it was the last one
   pub audit_ends : block.is_over ≡ true
-      → (ended : State) (after : Halted) (stood : Standing) (found : Verdict)
+      → (ended : State) (after : Halted) (stood : Standing) (found : Comparison)
       → Stands settings (so.lines ++ parts_after 10 part) ended after stood → IsHalted after
       → IsFaithful (setup_of settings) after.log → KeepsOrder after.log
       → Delivers (setup_of settings) after.log
-      → IsVerdict (so.lines ++ parts_after 10 part) after.log found
+      → IsComparison (so.lines ++ parts_after 10 part) after.log found
       → OfGiven known (λ text. IsAudit settings text found)
-  audit_ends over ended after stood found stands halted faithful ordered delivers verdict =
+  audit_ends over ended after stood found stands halted faithful ordered delivers comparison =
       let is = lines_last over in
       record {
         text = so.before ++ lines;
@@ -135,7 +135,8 @@ module _ (settings : Settings) (known coming : Option (List ℕ)) (state : State
             delivers = delivers;
             printable = halted.printable;
           };
-          verdict = subst (λ (ls : List (List ℕ)). IsVerdict ls after.log found) (sym is) verdict;
+          comparison = subst (λ (ls : List (List ℕ)). IsComparison ls after.log found) (sym is)
+              comparison;
         };
       }
 

@@ -14,12 +14,12 @@ use Rattle.gateway.specs.State.{State}
 use Rattle.traces.specs.Printed.{lines_of_log}
 use Rattle.traces.specs.Trace.{lines_of}
 use Rattle.record.proofs.LineLemmas.{both_whole, ended_whole, rest_whole, whole_joined}
-use Rattle.record.specs.Audit.{IsVerdict}
+use Rattle.record.specs.Audit.{IsComparison}
 use Rattle.record.specs.Comparing.{AreWhole, GoesOn, IsBehind, IsCompared, IsOff}
 use Rattle.record.specs.Lines.{is_cut, is_first, behind_first, first_difference, whole_lines}
 use Rattle.record.specs.Rerunning.{Halted, IsHalted, Stands}
-use Rattle.record.specs.declared.audit.Verdict.TheVariants as Verdicts
-use Rattle.record.specs.declared.audit.Verdict.TheVariants.{Same}
+use Rattle.record.specs.declared.audit.Comparison.TheVariants as Comparisons
+use Rattle.record.specs.declared.audit.Comparison.TheVariants.{Same}
 use Rattle.record.specs.declared.audit.comparing.Standing.{Standing}
 use Rattle.record.specs.declared.audit.comparing.Standing.TheVariants.{Level, Behind, Differs}
 use Rattle.record.specs.declared.audit.passing.Tally.{Tally}
@@ -108,7 +108,7 @@ counted_on n m line left rest is counted =
     let one : length left ≡ length (line ∷ rest) = ap length is in
     omega (arith, one, counted)
 
--- The verdict
+-- The comparison
 
 none_more : (lines run : List (List ℕ)) (o : Option ℕ)
     → first_difference 1 (lines ++ []) (run ++ []) ≡ o → first_difference 1 lines run ≡ o
@@ -120,7 +120,7 @@ module _ (settings : Settings) (lines : List (List ℕ)) (state : State) (h : Ha
   pub told_level : (ahead : Vec ℕ Global) → standing ≡ Level ahead → (tally : Tally)
       → tally ≡ h.tally → IsHalted h
       → Stands settings lines state h standing
-      → IsVerdict lines h.log (Same tally.events tally.actions)
+      → IsComparison lines h.log (Same tally.events tally.actions)
   told_level ahead is tally same halted stands =
       let compared : IsCompared lines (whole_lines (lines_of_log h.log)) (Level ahead) =
       subst (IsCompared lines (whole_lines (lines_of_log h.log))) is stands.compared in (
@@ -130,7 +130,7 @@ module _ (settings : Settings) (lines : List (List ℕ)) (state : State) (h : Ha
       )
 
   pub told_behind : (n : ℕ) (line : Vec ℕ Global) → standing ≡ Behind n line
-      → Stands settings lines state h standing → IsVerdict lines h.log (Verdicts.Differs n)
+      → Stands settings lines state h standing → IsComparison lines h.log (Comparisons.Differs n)
   told_behind n line is stands =
       let behind : IsBehind 1 lines (whole_lines (lines_of_log h.log)) n line.items =
       subst (IsCompared lines (whole_lines (lines_of_log h.log))) is stands.compared in
@@ -139,7 +139,7 @@ module _ (settings : Settings) (lines : List (List ℕ)) (state : State) (h : Ha
       behind.uncut)
 
   pub told_off : (n : ℕ) → standing ≡ Differs n → Stands settings lines state h standing
-      → IsVerdict lines h.log (Verdicts.Differs n)
+      → IsComparison lines h.log (Comparisons.Differs n)
   told_off n is stands =
       let off : IsOff 1 lines (whole_lines (lines_of_log h.log)) n =
       subst (IsCompared lines (whole_lines (lines_of_log h.log))) is stands.compared in

@@ -13,8 +13,8 @@ use Rattle.traces.specs.Printed.{IsPrintable, lines_of_log}
 use Rattle.traces.specs.Progress.{events_in}
 use Rattle.traces.specs.Trace.{first_wrong}
 use Rattle.record.specs.Lines.{whole_lines, is_action, event_lines, first_difference}
-use Rattle.record.specs.declared.audit.Verdict.{Verdict}
-use Rattle.record.specs.declared.audit.Verdict.TheVariants.{Same, Differs}
+use Rattle.record.specs.declared.audit.Comparison.{Comparison}
+use Rattle.record.specs.declared.audit.Comparison.TheVariants.{Same, Differs}
 use Rattle.record.specs.declared.audit.RecordFault.{RecordFault}
 use Rattle.record.specs.declared.audit.RecordFault.TheVariants.{Line, Unread, NoMemory}
 
@@ -30,19 +30,19 @@ pub record IsRunOver (settings : Settings) (script : List LogEntry) (log : Log) 
 
 -- the same: each whole line of the record is that of the run, and so many are events and actions;
 -- else the first line that isn't
-abbrev pub IsVerdict : (lines : List (List ℕ)) → Log → Verdict → Type 0
-IsVerdict lines log (Same n m) =
+abbrev pub IsComparison : (lines : List (List ℕ)) → Log → Comparison → Type 0
+IsComparison lines log (Same n m) =
     (first_difference 1 lines (whole_lines (lines_of_log log)) ≡ None)
     × (n ≡ length (events_of log)) × (m ≡ count_by is_action lines)
-IsVerdict lines log (Differs n) =
+IsComparison lines log (Differs n) =
     first_difference 1 lines (whole_lines (lines_of_log log)) ≡ Some n
 
 -- the audit of a text: no line is wrong, and the run is that over the events of its whole lines
-pub record IsAudit (settings : Settings) (text : List ℕ) (found : Verdict) : Type 0 where
+pub record IsAudit (settings : Settings) (text : List ℕ) (found : Comparison) : Type 0 where
   pub right : first_wrong 1 (event_lines (whole_lines text)) ≡ None
   pub log : Log
   pub run : IsRunOver settings (events_in (event_lines (whole_lines text))) log
-  pub verdict : IsVerdict (whole_lines text) log found
+  pub comparison : IsComparison (whole_lines text) log found
 
 -- this whole line is the first that is no event and no action
 abbrev pub IsWrongLine : (text : List ℕ) → (line : ℕ) → Type 0
@@ -60,7 +60,7 @@ IsAuditFault known Unread = Unit {0}
 IsAuditFault known NoMemory = Unit {0}
 
 -- what an audit answers of a record whose reader will give this, where that is known
-abbrev pub IsAudited : Settings → (known : Option (List ℕ)) → Result Verdict RecordFault → Type 0
+abbrev pub IsAudited : Settings → (known : Option (List ℕ)) → Result Comparison RecordFault → Type 0
 IsAudited settings known result =
     MatchResult result (λ found. OfGiven known (λ text. IsAudit settings text found))
     (IsAuditFault known)

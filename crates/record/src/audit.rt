@@ -21,7 +21,7 @@ ghost use Rattle.gateway.specs.Setups.{setup_of};
 ghost use Rattle.gateway.specs.Traffic.{IsFaithful};
 ghost use Rattle.traces.specs.Fields.{parts_after};
 ghost use Rattle.gateway.specs.State.{State};
-ghost use Rattle.record.specs.Audit.{IsAudited, IsVerdict};
+ghost use Rattle.record.specs.Audit.{IsAudited, IsComparison};
 ghost use Rattle.record.specs.Rerunning.{IsHalted, IsPartFault, IsReadFault, Stands};
 
 use self::comparing::{Standing, compare};
@@ -36,7 +36,7 @@ use traces::{BlockFault, Blocks, TextFault};
 
 /// What an audit finds.
 #[derive(Clone, Copy, Debug, PartialEq, Eq)]
-pub enum Verdict {
+pub enum Comparison {
     /// The record is that of the run over its events, as far as it goes.
     Same {
         /// How many events it has.
@@ -48,7 +48,7 @@ pub enum Verdict {
     Differs(u64),
 }
 
-/// Why there is no verdict.
+/// Why there is no comparison.
 #[derive(Clone, Copy, Debug, PartialEq, Eq, Error)]
 pub enum RecordFault {
     /// The first line, counted from 1, that is neither an event nor an action.
@@ -134,21 +134,21 @@ fn run_part(
 }
 
 /// What an audit found that has come to the end of its record.
-fn verdict_of(course: &Course) -> Verdict
+fn comparison_of(course: &Course) -> Comparison
     ensures { (settings : Settings) (lines : List (List ℕ)) (state : State) →
         Stands settings lines state course.now.halt course.now.standing →
-        IsVerdict lines course.now.halt.log result }
+        IsComparison lines course.now.halt.log result }
 {
     match &course.standing {
         Standing::Level(_) => {
             let tally = course.halt.tally();
-            Verdict::Same {
+            Comparison::Same {
                 events: tally.events,
                 actions: tally.actions,
             }
         }
-        Standing::Behind(number, _) => Verdict::Differs(*number),
-        Standing::Differs(number) => Verdict::Differs(*number),
+        Standing::Behind(number, _) => Comparison::Differs(*number),
+        Standing::Differs(number) => Comparison::Differs(*number),
     }
 }
 
@@ -160,7 +160,7 @@ pub fn audit_text<R: Read + Drop>(
     alloc: Global,
     config: &Config,
     text: R,
-) -> Result<Verdict, RecordFault>
+) -> Result<Comparison, RecordFault>
     ensures { IsAudited config.now (R.remaining text) result }
 {
     nothing_is_lost();
@@ -178,7 +178,7 @@ pub fn audit_text<R: Read + Drop>(
         let part = part_of(blocks.lines(), blocks.is_over());
         course = run_part(alloc, &mut gateway, course, part)?;
         if blocks.is_over() {
-            return Ok(verdict_of(&course));
+            return Ok(comparison_of(&course));
         }
     }
     // No memory holds so many blocks.

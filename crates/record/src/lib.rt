@@ -3,7 +3,7 @@
 //! [`Recorder`] is a port around any port: it passes each event and each action on unchanged, so
 //! what is proved of a run over a port holds of a run over it, and writes them down: an event as a
 //! trace has it, an action as a run over a trace prints it. The line of an event goes to a
-//! [`Sheet`] before the gateway hears of the event, with the lines of the step before it.
+//! [`RecordSheet`] before the gateway hears of the event, with the lines of the step before it.
 //!
 //! Proved, for any port and any sheet that tells what it took: what was taken and what is held are
 //! the lines of all that passed, in their order, until the record is over; it is over where the
@@ -19,14 +19,14 @@ mod audit;
 mod examples;
 mod laws;
 mod pen;
+mod record_sheet;
 mod recorder;
-mod sheet;
 
 pub use audit::examples::record_lines_by_example;
 pub use audit::passing::{event_line, is_action, is_cut, part_of};
-pub use audit::{RecordFault, Verdict, audit_text};
+pub use audit::{Comparison, RecordFault, audit_text};
 pub use examples::{records_by_example, texts_are_read_by_example};
 pub use laws::a_record_is_the_text_of_what_passed;
 pub use pen::Pen;
+pub use record_sheet::{RecordSheet, StandardOutput};
 pub use recorder::Recorder;
-pub use sheet::{Sheet, StandardOutput};

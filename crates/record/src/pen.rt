@@ -8,7 +8,7 @@ ghost use Rattle.record.specs.Written.{IsWritten};
 ghost use Rattle.traces.specs.Actions.{line_of};
 ghost use Rattle.traces.specs.Printed.{IsPrintable, lines_of_log};
 
-use crate::sheet::Sheet;
+use crate::record_sheet::RecordSheet;
 use gateway::{Action, Next};
 use std::alloc::Global;
 use std::marker::Model;
@@ -17,7 +17,7 @@ use traces::{Page, print_action, print_event, printed_lines_read_back};
 /// Writes lines down, and gives them to its sheet, until that takes none any more. What it has
 /// written is always the lines of a log.
 #[derive(Drop)]
-pub struct Pen<W: Sheet + Drop> {
+pub struct Pen<W: RecordSheet + Drop> {
     alloc: Global,
     sheet: W,
     /// The lines that the sheet hasn't been given yet.
@@ -25,7 +25,7 @@ pub struct Pen<W: Sheet + Drop> {
     is_over: bool,
 }
 
-impl<W: Sheet + Drop> Model for Pen<W> {
+impl<W: RecordSheet + Drop> Model for Pen<W> {
     ghost use Rattle.record.specs.Recording.{IsKept, Recording};
 
     ghost Value = { Recording };
@@ -45,7 +45,7 @@ impl<W: Sheet + Drop> Model for Pen<W> {
     }) };
 }
 
-impl<W: Sheet + Drop> Pen<W> {
+impl<W: RecordSheet + Drop> Pen<W> {
     /// One that writes to this sheet, which hasn't missed anything, at first these lines.
     pub fn new(alloc: Global, sheet: W, first: Vec<u8>) -> Pen<W>
         requires written { IsWritten (added (W.taken sheet) first.items) }

@@ -6,7 +6,7 @@ ghost use Rattle.gateway.specs.declared.ports.Next.TheVariants.{Done};
 ghost use Rattle.record.specs.Recording.{Hears, IsKept, Puts, log_of, told_first};
 
 use crate::pen::Pen;
-use crate::sheet::Sheet;
+use crate::record_sheet::RecordSheet;
 use gateway::{Action, Gateway, Next, Port};
 use live::{EndsSight, Notice, Watched};
 
@@ -14,12 +14,12 @@ use live::{EndsSight, Notice, Watched};
 /// Once the record is over they pass unwritten. Where the sheet tells what it took and what it
 /// missed, the log is what the record's text tells, and behind that what was missed.
 #[derive(Drop)]
-pub struct Recorder<P: Port + Drop, W: Sheet + Drop> {
+pub struct Recorder<P: Port + Drop, W: RecordSheet + Drop> {
     port: P,
     pen: Pen<W>,
 }
 
-impl<P: Port + Drop, W: Sheet + Drop> Recorder<P, W> {
+impl<P: Port + Drop, W: RecordSheet + Drop> Recorder<P, W> {
     /// One over this port.
     pub fn new(port: P, pen: Pen<W>) -> Recorder<P, W>
         ensures { result ≡ record { port = port; pen = pen } }
@@ -36,7 +36,7 @@ impl<P: Port + Drop, W: Sheet + Drop> Recorder<P, W> {
     }
 }
 
-impl<P: Port + Drop, W: Sheet + Drop> Port for Recorder<P, W> {
+impl<P: Port + Drop, W: RecordSheet + Drop> Port for Recorder<P, W> {
     ghost use Rattle.record.specs.Recording.{log_of, told_first};
 
     /// What it wrote down, where its sheet tells that, or else the log of the port inside.
@@ -94,7 +94,7 @@ impl<P: Port + Drop, W: Sheet + Drop> Port for Recorder<P, W> {
     }
 }
 
-impl<P: Watched + Drop, W: Sheet + Drop> Watched for Recorder<P, W> {
+impl<P: Watched + Drop, W: RecordSheet + Drop> Watched for Recorder<P, W> {
     ghost tends = { λ old state new notice.
         P.tends old.port state new.port notice × (new.pen ≡ old.pen) };
 

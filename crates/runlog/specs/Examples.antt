@@ -10,7 +10,7 @@ use Rattle.runlog.specs.Stations.{asked, asking_of, station_asked, standing_of}
 use Rattle.runlog.specs.Traffic.{new_traffic, suffered, traffic_line}
 use Rattle.runlog.specs.declared.fate.Mishap.{Mishap}
 use Rattle.runlog.specs.declared.gathered.Gathered.{Gathered}
-use Rattle.runlog.specs.declared.order.Act.{Act}
+use Rattle.runlog.specs.declared.order.OrderKind.{OrderKind}
 use Rattle.runlog.specs.declared.order.Value.{Value}
 use Rattle.runlog.specs.declared.order.Order.{Order}
 use Rattle.runlog.specs.declared.stations.StationStanding.{StationStanding}
@@ -35,7 +35,7 @@ lines_of_looks [] w = []
 lines_of_looks (x ∷ xs) w =
     option_to_list (line_seen x.1 x.0 w).1 ++ lines_of_looks xs (line_seen x.1 x.0 w).0
 
-abbrev pub order : (kind : ℕ) → Act → (ca object : ℕ) → Value → Order
+abbrev pub order : (kind : ℕ) → OrderKind → (ca object : ℕ) → Value → Order
 order kind act ca object value =
     record { kind = kind; act = act; ca = ca; object = object; value = value }
 

@@ -7,8 +7,8 @@ use Rattle.elements.specs.Names as standard
 use Rattle.elements.specs.Types.{type_of}
 use Rattle.command.specs.declared.refusal.Refusal.{Refusal}
 use Rattle.command.specs.declared.refusal.Refusal.TheVariants as refusal
-use Rattle.runlog.specs.declared.order.Act.{Act}
-use Rattle.runlog.specs.declared.order.Act.TheVariants as act
+use Rattle.runlog.specs.declared.order.OrderKind.{OrderKind}
+use Rattle.runlog.specs.declared.order.OrderKind.TheVariants as act
 use Rattle.runlog.specs.declared.order.Value.{Value}
 use Rattle.runlog.specs.declared.order.Value.TheVariants as value
 use Rattle.runlog.specs.declared.order.Order.{Order}
@@ -37,7 +37,7 @@ type_name_by None = []
 abbrev pub type_name : ℕ → List ℕ
 type_name octet = type_name_by (name_of octet)
 
-abbrev pub act_words : Act → List ℕ
+abbrev pub act_words : OrderKind → List ℕ
 act_words act.Select = codes " select"
 act_words act.Execute = codes " execute"
 act_words act.Activate = codes " activate"

@@ -4,8 +4,8 @@ use Rattle.std.specs.Prelude.{length, drop, slice_index, Option, Some, None, if�
 use Rattle.asdu.specs.Sizes.{header_len, ioa_len}
 use Rattle.asdu.specs.Fields.{ca_at, first_address}
 use Rattle.asdu.specs.declared.sizes.Sizes.{Sizes}
-use Rattle.runlog.specs.declared.order.Act.{Act}
-use Rattle.runlog.specs.declared.order.Act.TheVariants as act
+use Rattle.runlog.specs.declared.order.OrderKind.{OrderKind}
+use Rattle.runlog.specs.declared.order.OrderKind.TheVariants as act
 use Rattle.runlog.specs.declared.order.Value.{Value}
 use Rattle.runlog.specs.declared.order.Value.TheVariants as value
 use Rattle.runlog.specs.declared.order.Order.{Order}
@@ -27,7 +27,7 @@ is_select kind element =
     if is_set_point kind then nat_le 128 (octet element 2) else nat_le 128 (octet element 0)
 
 -- what it wants: by its cause (8 deactivation, 9 its confirmation), and of types 45 to 49 by S/E
-abbrev pub act_of : (kind cause : ℕ) → (element : List ℕ) → Act
+abbrev pub act_of : (kind cause : ℕ) → (element : List ℕ) → OrderKind
 act_of kind cause element =
     if cause % 64 == 8 || cause % 64 == 9 then act.Deactivate
     else if nat_le 45 kind && nat_le kind 49

@@ -19,7 +19,7 @@ ghost use Rattle.runlog.specs.Traffic.{reply_of};
 ghost use Rattle.runlog.specs.declared.content.Skip.TheVariants as skip;
 ghost use Rattle.runlog.specs.declared.fate.CommandFate.TheVariants as fate;
 ghost use Rattle.runlog.specs.declared.fate.Reason.TheVariants as reason;
-ghost use Rattle.runlog.specs.declared.order.Act.TheVariants as act;
+ghost use Rattle.runlog.specs.declared.order.OrderKind.TheVariants as act;
 ghost use Rattle.runlog.specs.declared.order.Value.TheVariants as value;
 ghost use Rattle.runlog.specs.declared.stations.StationStanding.TheVariants as standing;
 ghost use Rattle.runlog.specs.Notes.{line_text, words};

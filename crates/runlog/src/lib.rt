@@ -60,7 +60,7 @@ pub use laws::{
 pub use logger::{Logger, taken_places};
 pub use names::{LogNames, NamedLine, NamedStation, name_of};
 pub use note::{LogLine, Note, RunCounts, Trouble};
-pub use order::{Act, Order, Value};
+pub use order::{Order, OrderKind, Value};
 pub use port::RunLog;
 pub use severity::Severity;
 pub use sink::{LogSink, StandardError};

@@ -7,7 +7,7 @@ use asdu::{CaSize, CauseSize, IoaSize, Sizes, head};
 
 /// What a command wants.
 #[derive(Clone, Copy, Debug, PartialEq, Eq)]
-pub enum Act {
+pub enum OrderKind {
     /// The activation of types 45 to 49 with S/E 1.
     Select,
     /// That with S/E 0.
@@ -40,7 +40,7 @@ pub enum Value {
 pub struct Order {
     /// Its type octet.
     pub kind: u8,
-    pub act: Act,
+    pub act: OrderKind,
     /// Its common address.
     pub ca: u16,
     /// The address of its object.
@@ -106,21 +106,21 @@ fn is_select(kind: u8, element: &[u8]) -> bool
     }
 }
 
-fn act_of(kind: u8, cause: u8, element: &[u8]) -> Act
+fn act_of(kind: u8, cause: u8, element: &[u8]) -> OrderKind
     ensures { result ≡ spec.act_of kind cause element.now }
 {
     if cause % 64 == 8 || cause % 64 == 9 {
-        Act::Deactivate
+        OrderKind::Deactivate
     } else if 45 <= kind && kind <= 49 {
         if is_select(kind, element) {
-            Act::Select
+            OrderKind::Select
         } else {
-            Act::Execute
+            OrderKind::Execute
         }
     } else if kind == 100 {
-        Act::Activate
+        OrderKind::Activate
     } else {
-        Act::Other
+        OrderKind::Other
     }
 }
 

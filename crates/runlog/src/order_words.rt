@@ -5,7 +5,7 @@ ghost use Rattle.std.specs.Option.{option_copied};
 ghost use Rattle.runlog.specs.OrderWords as spec;
 
 use crate::fate::{CommandFate, Reason};
-use crate::order::{Act, Order, Value};
+use crate::order::{Order, OrderKind, Value};
 use command::Refusal;
 use elements::{kind, type_name};
 use std::fmt;
@@ -37,15 +37,15 @@ pub(crate) fn write_type_name<W: fmt::Write>(octet: u8, f: &mut fmt::Formatter<W
     }
 }
 
-fn act_words(act: Act) -> &'static str
+fn act_words(act: OrderKind) -> &'static str
     ensures { result.now ≡ spec.act_words act }
 {
     match act {
-        Act::Select => " select",
-        Act::Execute => " execute",
-        Act::Activate => " activate",
-        Act::Deactivate => " deactivate",
-        Act::Other => "",
+        OrderKind::Select => " select",
+        OrderKind::Execute => " execute",
+        OrderKind::Activate => " activate",
+        OrderKind::Deactivate => " deactivate",
+        OrderKind::Other => "",
     }
 }
 

@@ -1,6 +1,6 @@
 pub mod Bits
 pub mod Sizes
-pub mod Outcome
+pub mod Condition
 pub mod Units
 pub mod Line
 pub mod Tcp

@@ -12,11 +12,11 @@ use Rattle.ft12.specs.declared.frame.Front.TheVariants.{Whole, More, Never}
 use Rattle.ft12.specs.Reading.{IsFront}
 use Rattle.link.specs.Control.{is_primary, fcb_bit, fcv_bit, acd_bit, dfc_bit, function_code}
 use Rattle.show.specs.Bits.{flag}
-use Rattle.show.specs.Outcome.{rest_line, with_rest}
-use Rattle.show.specs.Units.{unit_lines, unit_outcome}
+use Rattle.show.specs.Condition.{rest_line, with_rest}
+use Rattle.show.specs.Units.{unit_lines, unit_condition}
 use Rattle.show.specs.declared.sizes.LineSizes.{LineSizes}
-use Rattle.show.specs.declared.outcome.Outcome.{Outcome}
-use Rattle.show.specs.declared.outcome.Outcome.TheVariants as outcome
+use Rattle.show.specs.declared.condition.Condition.{Condition}
+use Rattle.show.specs.declared.condition.Condition.TheVariants as condition
 
 -- The control octet and its fields: PRM, and then FCB and FCV of a primary station, or ACD and DFC
 -- of a secondary one, and the number of the function.
@@ -58,10 +58,10 @@ frame_lines s (Data c a body) = frame_line (Data c a body) ++ unit_lines s.asdu 
 frame_lines s Single = frame_line Single
 frame_lines s (Fixed c a) = frame_line (Fixed c a)
 
-abbrev pub frame_outcome : LineSizes → Frame → Outcome
-frame_outcome s (Data c a body) = unit_outcome s.asdu body.items
-frame_outcome s Single = outcome.Good
-frame_outcome s (Fixed c a) = outcome.Good
+abbrev pub frame_condition : LineSizes → Frame → Condition
+frame_condition s (Data c a body) = unit_condition s.asdu body.items
+frame_condition s Single = condition.Good
+frame_condition s (Fixed c a) = condition.Good
 
 -- what stands at the front of n octets
 abbrev pub front_lines : LineSizes → ℕ → Front → List ℕ
@@ -70,14 +70,14 @@ front_lines s n More = codes "truncated" ++ 10 ∷ []
 front_lines s n (Never place w) =
     codes "refused " ++ decimal (number_of w) ++ codes " at " ++ decimal place ++ 10 ∷ []
 
-abbrev pub front_outcome : LineSizes → ℕ → Front → Outcome
-front_outcome s n (Whole frame len) = with_rest (n - len) (frame_outcome s frame)
-front_outcome s n More = outcome.Faulty
-front_outcome s n (Never place w) = outcome.Faulty
+abbrev pub front_condition : LineSizes → ℕ → Front → Condition
+front_condition s n (Whole frame len) = with_rest (n - len) (frame_condition s frame)
+front_condition s n More = condition.Faulty
+front_condition s n (Never place w) = condition.Faulty
 
--- the lines are those of the front of the octets, and so is the outcome
-pub record IsLineShown (s : LineSizes) (octets text : List ℕ) (result : Outcome) : Type 0 where
+-- the lines are those of the front of the octets, and so is the condition
+pub record IsLineShown (s : LineSizes) (octets text : List ℕ) (result : Condition) : Type 0 where
   pub front : Front
   pub is_front : IsFront s.link octets front
   pub lines : text ≡ front_lines s (length octets) front
-  pub outcome : result ≡ front_outcome s (length octets) front
+  pub condition : result ≡ front_condition s (length octets) front

@@ -13,10 +13,10 @@ use Rattle.apci.specs.declared.apdu.Front.{Front}
 use Rattle.apci.specs.declared.apdu.Front.TheVariants.{Whole, More, Never}
 use Rattle.apci.specs.Reading.{IsFront}
 use Rattle.asdu.specs.Sizes.{tcp}
-use Rattle.show.specs.Outcome.{rest_line, with_rest}
-use Rattle.show.specs.Units.{unit_lines, unit_outcome}
-use Rattle.show.specs.declared.outcome.Outcome.{Outcome}
-use Rattle.show.specs.declared.outcome.Outcome.TheVariants as outcome
+use Rattle.show.specs.Condition.{rest_line, with_rest}
+use Rattle.show.specs.Units.{unit_lines, unit_condition}
+use Rattle.show.specs.declared.condition.Condition.{Condition}
+use Rattle.show.specs.declared.condition.Condition.TheVariants as condition
 
 abbrev pub function_text : Uf → List ℕ
 function_text StartAct = codes "STARTDT act"
@@ -47,10 +47,10 @@ apdu_lines (I ns nr asdu) = apdu_line (I ns nr asdu) ++ unit_lines tcp asdu.item
 apdu_lines (S nr) = apdu_line (S nr)
 apdu_lines (U f) = apdu_line (U f)
 
-abbrev pub apdu_outcome : Apdu → Outcome
-apdu_outcome (I ns nr asdu) = unit_outcome tcp asdu.items
-apdu_outcome (S nr) = outcome.Good
-apdu_outcome (U f) = outcome.Good
+abbrev pub apdu_condition : Apdu → Condition
+apdu_condition (I ns nr asdu) = unit_condition tcp asdu.items
+apdu_condition (S nr) = condition.Good
+apdu_condition (U f) = condition.Good
 
 -- what stands at the front of n octets
 abbrev pub front_lines : ℕ → Front → List ℕ
@@ -59,14 +59,14 @@ front_lines n More = codes "truncated" ++ 10 ∷ []
 front_lines n (Never place w) =
     codes "refused " ++ decimal (number_of w) ++ codes " at " ++ decimal place ++ 10 ∷ []
 
-abbrev pub front_outcome : ℕ → Front → Outcome
-front_outcome n (Whole apdu len) = with_rest (n - len) (apdu_outcome apdu)
-front_outcome n More = outcome.Faulty
-front_outcome n (Never place w) = outcome.Faulty
+abbrev pub front_condition : ℕ → Front → Condition
+front_condition n (Whole apdu len) = with_rest (n - len) (apdu_condition apdu)
+front_condition n More = condition.Faulty
+front_condition n (Never place w) = condition.Faulty
 
--- the lines are those of the front of the octets, and so is the outcome
-pub record IsTcpShown (octets text : List ℕ) (result : Outcome) : Type 0 where
+-- the lines are those of the front of the octets, and so is the condition
+pub record IsTcpShown (octets text : List ℕ) (result : Condition) : Type 0 where
   pub front : Front
   pub is_front : IsFront octets front
   pub lines : text ≡ front_lines (length octets) front
-  pub outcome : result ≡ front_outcome (length octets) front
+  pub condition : result ≡ front_condition (length octets) front

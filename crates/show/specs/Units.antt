@@ -16,8 +16,8 @@ use Rattle.asdu.specs.Fields.{value_at}
 use Rattle.asdu.specs.Refusals.{refusal}
 use Rattle.asdu.specs.declared.sizes.Sizes.{Sizes}
 use Rattle.show.specs.Bits.{bit, flag}
-use Rattle.show.specs.declared.outcome.Outcome.{Outcome}
-use Rattle.show.specs.declared.outcome.Outcome.TheVariants as outcome
+use Rattle.show.specs.declared.condition.Condition.{Condition}
+use Rattle.show.specs.declared.condition.Condition.TheVariants as condition
 
 abbrev pub verdict_text : Verdict → List ℕ
 verdict_text (Good ms) = codes "good " ++ decimal ms
@@ -84,11 +84,11 @@ abbrev pub unit_lines : Sizes → List ℕ → List ℕ
 unit_lines s [] = []
 unit_lines s (x ∷ xs) = lines_by s (x ∷ xs) (refusal s (x ∷ xs))
 
-abbrev pub outcome_by : Option ℕ → Outcome
-outcome_by None = outcome.Good
-outcome_by (Some why) = outcome.Faulty
+abbrev pub condition_by : Option ℕ → Condition
+condition_by None = condition.Good
+condition_by (Some why) = condition.Faulty
 
 -- data that are no ASDU are a fault
-abbrev pub unit_outcome : Sizes → List ℕ → Outcome
-unit_outcome s [] = outcome.Good
-unit_outcome s (x ∷ xs) = outcome_by (refusal s (x ∷ xs))
+abbrev pub unit_condition : Sizes → List ℕ → Condition
+unit_condition s [] = condition.Good
+unit_condition s (x ∷ xs) = condition_by (refusal s (x ∷ xs))

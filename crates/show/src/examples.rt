@@ -15,9 +15,10 @@ ghost use Rattle.asdu.specs.declared.sizes.IoaSize.TheVariants as ioa;
 ghost use Rattle.elements.specs.declared.tag.Verdict.TheVariants.{Good, MarkedInvalid, OutOfRange};
 ghost use Rattle.elements.specs.declared.tag.Verdict.TheVariants.{NoSuchDay, WrongWeekday};
 ghost use Rattle.show.specs.declared.sizes.LineSizes.{LineSizes};
-ghost use Rattle.show.specs.declared.outcome.Outcome.TheVariants as outcome;
-ghost use Rattle.show.specs.Line.{control_text, frame_line, front_lines, front_outcome, number_of};
-ghost use Rattle.show.specs.Outcome.{rest_line, with_rest};
+ghost use Rattle.show.specs.declared.condition.Condition.TheVariants as condition;
+ghost use Rattle.show.specs.Line.{control_text, frame_line, front_lines, front_condition};
+ghost use Rattle.show.specs.Line.{number_of};
+ghost use Rattle.show.specs.Condition.{rest_line, with_rest};
 ghost use Rattle.show.specs.Sizes.{sizes_of};
 ghost use Rattle.show.specs.Tcp.{function_text, apdu_line, front_lines as apdu_lines};
 ghost use Rattle.show.specs.Tcp.{number_of as number_of_reason};
@@ -40,14 +41,15 @@ pub fn line_texts_by_example()
         × (number_of why.Sum ≡ 5) × (number_of why.End ≡ 6) }
     ensures fronts { (s : LineSizes) →
         (front_lines s 5 (line.Never 3 why.Sum) ≡ codes "refused 5 at 3" ++ 10 ∷ [])
-        × (front_outcome s 5 (line.Never 3 why.Sum) ≡ outcome.Faulty)
+        × (front_condition s 5 (line.Never 3 why.Sum) ≡ condition.Faulty)
         × (front_lines s 5 line.More ≡ codes "truncated" ++ 10 ∷ [])
-        × (front_outcome s 5 line.More ≡ outcome.Faulty)
+        × (front_condition s 5 line.More ≡ condition.Faulty)
         × (front_lines s 2 (line.Whole Single 1) ≡ codes "single" ++ 10 ∷ codes "rest 1" ++ 10 ∷ [])
-        × (front_outcome s 2 (line.Whole Single 1) ≡ outcome.Faulty)
-        × (front_outcome s 1 (line.Whole Single 1) ≡ outcome.Good) }
+        × (front_condition s 2 (line.Whole Single 1) ≡ condition.Faulty)
+        × (front_condition s 1 (line.Whole Single 1) ≡ condition.Good) }
     ensures rest { (rest_line 0 ≡ []) × (rest_line 12 ≡ codes "rest 12" ++ 10 ∷ [])
-        × (with_rest 0 outcome.Good ≡ outcome.Good) × (with_rest 1 outcome.Good ≡ outcome.Faulty) }
+        × (with_rest 0 condition.Good ≡ condition.Good)
+        × (with_rest 1 condition.Good ≡ condition.Faulty) }
     ensures sizes { (sizes_of (codes "2123") ≡ Some (record {
       link = link.Two;
       asdu = record { cause = cause.One; ca = ca.Two; ioa = ioa.Three };

@@ -6,24 +6,24 @@
 //! `read_sizes` reads the sizes of a line's addresses. Nothing is printed here, and octets in
 //! hexadecimal are read elsewhere.
 //!
-//! Proved: the lines and the outcome are those of the frame that stands at the front
+//! Proved: the lines and the condition are those of the frame that stands at the front
 //! (`IsLineShown`, `IsTcpShown`), every field, object, value and time tag with its verdict; an
 //! `Err` is want of memory alone. Its texts have worked examples (`line_texts_by_example`,
 //! `connection_texts_by_example`).
 #![tactic(auto)]
 
 mod bits;
+mod condition;
 mod control;
 mod examples;
 mod line;
 mod objects;
-mod outcome;
 mod sizes;
 mod tcp;
 mod units;
 
+pub use condition::{Condition, Shown};
 pub use examples::{connection_texts_by_example, line_texts_by_example};
 pub use line::show_line;
-pub use outcome::{Outcome, Shown};
 pub use sizes::{LineSizes, read_sizes};
 pub use tcp::show_tcp;

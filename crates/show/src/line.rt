@@ -1,13 +1,13 @@
 //! Octets of the line in words.
 ghost use Rattle.std.specs.Prelude.{◌≡◌, ◌++◌, IfOk, OnOk, length, string_bytes};
 ghost use Rattle.ft12.specs.Borrowed.{owned, owned_front};
-ghost use Rattle.show.specs.Line.{frame_line, frame_lines, frame_outcome, front_lines};
-ghost use Rattle.show.specs.Line.{front_outcome, number_of, IsLineShown};
+ghost use Rattle.show.specs.Line.{frame_line, frame_lines, frame_condition, front_lines};
+ghost use Rattle.show.specs.Line.{front_condition, number_of, IsLineShown};
 
+use crate::condition::push_rest;
 use crate::control::control_text;
-use crate::outcome::push_rest;
 use crate::units::push_unit;
-use crate::{LineSizes, Outcome, Shown};
+use crate::{Condition, LineSizes, Shown};
 use ft12::{FrameRef, FrontRef, Why, front_ref};
 use std::alloc::{AllocError, Global};
 
@@ -15,12 +15,12 @@ use std::alloc::{AllocError, Global};
 /// octets follow; or that they begin a frame, or why they begin none.
 pub fn show_line(alloc: Global, sizes: LineSizes, octets: &[u8]) -> Result<Shown, AllocError>
     ensures { IfOk result (λ shown.
-        IsLineShown sizes octets.now (string_bytes shown.lines) shown.outcome) }
+        IsLineShown sizes octets.now (string_bytes shown.lines) shown.condition) }
 {
     let front = front_ref(sizes.link, octets);
     let mut lines = String::new(alloc);
-    let outcome = push_front(alloc, &mut lines, sizes, octets.len(), front)?;
-    Ok(Shown { lines, outcome })
+    let condition = push_front(alloc, &mut lines, sizes, octets.len(), front)?;
+    Ok(Shown { lines, condition })
 }
 
 /// Appends the lines of what stands at the front of so many octets.
@@ -30,28 +30,28 @@ fn push_front(
     sizes: LineSizes,
     count: usize,
     front: FrontRef<'_>,
-) -> Result<Outcome, AllocError>
+) -> Result<Condition, AllocError>
     ensures lines { OnOk result (string_bytes lines.new
         ≡ string_bytes lines.old ++ front_lines sizes count (owned_front front.entry)) }
-    ensures outcome { IfOk result (λ outcome.
-        outcome ≡ front_outcome sizes count (owned_front front.entry)) }
+    ensures condition { IfOk result (λ condition.
+        condition ≡ front_condition sizes count (owned_front front.entry)) }
 {
     match front {
         FrontRef::Whole(frame, len) => {
-            let outcome = push_frame(alloc, lines, sizes, frame)?;
+            let condition = push_frame(alloc, lines, sizes, frame)?;
             // A frame is never longer than what it was read from; said so that it needs no proof.
             let rest = count.saturating_sub(len);
             push_rest(lines, rest)?;
-            Ok(outcome.with_rest(rest))
+            Ok(condition.with_rest(rest))
         }
         FrontRef::More => {
             writeln!(lines, "truncated")?;
-            Ok(Outcome::Faulty)
+            Ok(Condition::Faulty)
         }
         FrontRef::Never(place, why) => {
             let number = number_of(why);
             writeln!(lines, "refused {number} at {place}")?;
-            Ok(Outcome::Faulty)
+            Ok(Condition::Faulty)
         }
     }
 }
@@ -62,10 +62,11 @@ fn push_frame(
     lines: &mut String,
     sizes: LineSizes,
     frame: FrameRef<'_>,
-) -> Result<Outcome, AllocError>
+) -> Result<Condition, AllocError>
     ensures lines { OnOk result (string_bytes lines.new
         ≡ string_bytes lines.old ++ frame_lines sizes (owned frame.entry)) }
-    ensures outcome { IfOk result (λ outcome. outcome ≡ frame_outcome sizes (owned frame.entry)) }
+    ensures condition { IfOk result (λ condition.
+        condition ≡ frame_condition sizes (owned frame.entry)) }
 {
     match frame {
         FrameRef::Single => writeln!(lines, "single")?,
@@ -81,7 +82,7 @@ fn push_frame(
             return push_unit(alloc, lines, sizes.asdu, body);
         }
     }
-    Ok(Outcome::Good)
+    Ok(Condition::Good)
 }
 
 /// The number of a refusal.

@@ -1,12 +1,12 @@
 //! Octets of the connection in words.
 ghost use Rattle.std.specs.Prelude.{◌≡◌, ◌++◌, IfOk, OnOk, length, string_bytes};
 ghost use Rattle.apci.specs.Borrowed.{owned, owned_front};
-ghost use Rattle.show.specs.Tcp.{apdu_lines, apdu_outcome, front_lines, front_outcome};
+ghost use Rattle.show.specs.Tcp.{apdu_lines, apdu_condition, front_lines, front_condition};
 ghost use Rattle.show.specs.Tcp.{function_text, number_of, IsTcpShown};
 
-use crate::outcome::push_rest;
+use crate::condition::push_rest;
 use crate::units::push_unit;
-use crate::{Outcome, Shown};
+use crate::{Condition, Shown};
 use apci::{ApduRef, FrontRef, Uf, Why, front_ref};
 use asdu::Sizes;
 use std::alloc::{AllocError, Global};
@@ -15,12 +15,12 @@ use std::alloc::{AllocError, Global};
 /// octets follow; or that they begin an APDU, or why they begin none.
 pub fn show_tcp(alloc: Global, octets: &[u8]) -> Result<Shown, AllocError>
     ensures { IfOk result (λ shown.
-        IsTcpShown octets.now (string_bytes shown.lines) shown.outcome) }
+        IsTcpShown octets.now (string_bytes shown.lines) shown.condition) }
 {
     let front = front_ref(octets);
     let mut lines = String::new(alloc);
-    let outcome = push_front(alloc, &mut lines, octets.len(), front)?;
-    Ok(Shown { lines, outcome })
+    let condition = push_front(alloc, &mut lines, octets.len(), front)?;
+    Ok(Shown { lines, condition })
 }
 
 /// Appends the lines of what stands at the front of so many octets.
@@ -29,36 +29,36 @@ fn push_front(
     lines: &mut String,
     count: usize,
     front: FrontRef<'_>,
-) -> Result<Outcome, AllocError>
+) -> Result<Condition, AllocError>
     ensures lines { OnOk result (string_bytes lines.new
         ≡ string_bytes lines.old ++ front_lines count (owned_front front.entry)) }
-    ensures outcome { IfOk result (λ outcome.
-        outcome ≡ front_outcome count (owned_front front.entry)) }
+    ensures condition { IfOk result (λ condition.
+        condition ≡ front_condition count (owned_front front.entry)) }
 {
     match front {
         FrontRef::Whole(apdu, len) => {
-            let outcome = push_apdu(alloc, lines, apdu)?;
+            let condition = push_apdu(alloc, lines, apdu)?;
             let rest = count.saturating_sub(len);
             push_rest(lines, rest)?;
-            Ok(outcome.with_rest(rest))
+            Ok(condition.with_rest(rest))
         }
         FrontRef::More => {
             writeln!(lines, "truncated")?;
-            Ok(Outcome::Faulty)
+            Ok(Condition::Faulty)
         }
         FrontRef::Never(place, why) => {
             let number = number_of(why);
             writeln!(lines, "refused {number} at {place}")?;
-            Ok(Outcome::Faulty)
+            Ok(Condition::Faulty)
         }
     }
 }
 
 /// Appends the lines of an APDU and of its ASDU.
-fn push_apdu(alloc: Global, lines: &mut String, apdu: ApduRef<'_>) -> Result<Outcome, AllocError>
+fn push_apdu(alloc: Global, lines: &mut String, apdu: ApduRef<'_>) -> Result<Condition, AllocError>
     ensures lines { OnOk result (string_bytes lines.new
         ≡ string_bytes lines.old ++ apdu_lines (owned apdu.entry)) }
-    ensures outcome { IfOk result (λ outcome. outcome ≡ apdu_outcome (owned apdu.entry)) }
+    ensures condition { IfOk result (λ condition. condition ≡ apdu_condition (owned apdu.entry)) }
 {
     match apdu {
         ApduRef::I { ns, nr, asdu } => {
@@ -72,7 +72,7 @@ fn push_apdu(alloc: Global, lines: &mut String, apdu: ApduRef<'_>) -> Result<Out
             writeln!(lines, "U {text}")?;
         }
     }
-    Ok(Outcome::Good)
+    Ok(Condition::Good)
 }
 
 fn function_text(function: Uf) -> &'static str

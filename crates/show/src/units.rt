@@ -5,9 +5,9 @@ ghost use Rattle.elements.specs.Types.{row};
 ghost use Rattle.asdu.specs.Asdu.{IsAsdu};
 ghost use Rattle.asdu.specs.Reading.{value_of};
 ghost use Rattle.show.specs.Units.{structure_text, cause_text, addresses_text, header_line};
-ghost use Rattle.show.specs.Units.{object_line, unit_lines, unit_outcome, asdu_lines};
+ghost use Rattle.show.specs.Units.{object_line, unit_lines, unit_condition, asdu_lines};
 
-use crate::Outcome;
+use crate::Condition;
 use crate::bits::{bit, cause_in, flag};
 use crate::objects::push_object;
 use asdu::{Asdu, Refused, Sizes};
@@ -19,22 +19,22 @@ pub(crate) fn push_unit(
     lines: &mut String,
     sizes: Sizes,
     octets: &[u8],
-) -> Result<Outcome, AllocError>
+) -> Result<Condition, AllocError>
     ensures lines { OnOk result (string_bytes lines.new
         ≡ string_bytes lines.old ++ unit_lines sizes octets.now) }
-    ensures outcome { IfOk result (λ outcome. outcome ≡ unit_outcome sizes octets.now) }
+    ensures condition { IfOk result (λ condition. condition ≡ unit_condition sizes octets.now) }
 {
     if octets.is_empty() {
-        return Ok(Outcome::Good);
+        return Ok(Condition::Good);
     }
     match asdu::read(sizes, octets) {
         Ok(asdu) => {
             push_asdu(alloc, lines, &asdu)?;
-            Ok(Outcome::Good)
+            Ok(Condition::Good)
         }
         Err(Refused(why)) => {
             writeln!(lines, "asdu refused {why}")?;
-            Ok(Outcome::Faulty)
+            Ok(Condition::Faulty)
         }
     }
 }

@@ -31,7 +31,7 @@ const INTERROGATION: [u8; 10] = [0x64, 0x01, 0x06, 0x00, 0x01, 0x00, 0x00, 0x00,
 const NEGATIVE: [u8; 10] = [0x64, 0x01, 0x47, 0x00, 0x01, 0x00, 0x00, 0x00, 0x00, 0x14];
 
 /// Whether this is the answer.
-fn is_answer(answer: Option<command::Answer>, octets: &[u8]) -> bool {
+fn is_answer(answer: Option<command::OwnAnswer>, octets: &[u8]) -> bool {
     answer.is_some_and(|answer| answer.as_slice() == octets)
 }
 

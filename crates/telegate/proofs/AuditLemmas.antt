@@ -3,10 +3,10 @@ use Rattle.std.specs.Prelude.{ℕ, List, Option, Result, Ok, Err, MatchResult}
 use Rattle.record.specs.Audit.{IsAudit, IsAuditFault, OfGiven}
 use Rattle.record.specs.declared.audit.RecordFault.{RecordFault}
 use Rattle.record.specs.declared.audit.RecordFault.TheVariants as faults
-use Rattle.record.specs.declared.audit.Verdict.{Verdict}
+use Rattle.record.specs.declared.audit.Comparison.{Comparison}
 use Rattle.gateway.specs.Config.{Settings}
 use Rattle.settings.specs.Settings.{IsReadOfText}
-use Rattle.telegate.specs.Audits.{IsVerdictAnswer, IsMemory, IsAuditedBy, fault_of_lem}
+use Rattle.telegate.specs.Audits.{IsComparisonAnswer, IsMemory, IsAuditedBy, fault_of_lem}
 use Rattle.telegate.specs.Audits as audits
 use Rattle.telegate.specs.Source.{Gives}
 use Rattle.telegate.specs.declared.answer.CommandAnswer.{CommandAnswer}
@@ -20,34 +20,34 @@ module _ (config : List ℕ) (has : List ℕ → Type 0) (settings : Settings) (
     (read : IsReadOfText config (Ok settings)) (holds : (octets : List ℕ) → Gives known octets
     → has octets) where
   -- the answer to the command, where its files were read
-  pub audited : (verdict : Verdict) (r : Result CommandAnswer Fault)
-      → OfGiven known (λ text. IsAudit settings text verdict)
-      → MatchResult r (IsVerdictAnswer verdict) IsMemory → IsAuditedBy config has r
-  audited verdict (Ok answer) found answered = record {
+  pub audited : (comparison : Comparison) (r : Result CommandAnswer Fault)
+      → OfGiven known (λ text. IsAudit settings text comparison)
+      → MatchResult r (IsComparisonAnswer comparison) IsMemory → IsAuditedBy config has r
+  audited comparison (Ok answer) found answered = record {
     settings = settings;
     text = found.text;
-    verdict = verdict;
+    comparison = comparison;
     read_config = read;
     is = holds found.text found.given;
     audited = found.so;
     answered = answered;
   }
-  audited verdict (Err NoMemory) found answered = tt
-  audited verdict (Err (Config why)) found answered = absurd answered
-  audited verdict (Err (Trace n)) found answered = absurd answered
-  audited verdict (Err (Script n)) found answered = absurd answered
-  audited verdict (Err (Site why)) found answered = absurd answered
-  audited verdict (Err (Record n)) found answered = absurd answered
-  audited verdict (Err NoState) found answered = absurd answered
-  audited verdict (Err StateInUse) found answered = absurd answered
-  audited verdict (Err StateUnusable) found answered = absurd answered
-  audited verdict (Err Sizes) found answered = absurd answered
-  audited verdict (Err Octets) found answered = absurd answered
-  audited verdict (Err Address) found answered = absurd answered
-  audited verdict (Err Device) found answered = absurd answered
-  audited verdict (Err Unread) found answered = absurd answered
+  audited comparison (Err NoMemory) found answered = tt
+  audited comparison (Err (Config why)) found answered = absurd answered
+  audited comparison (Err (Trace n)) found answered = absurd answered
+  audited comparison (Err (Script n)) found answered = absurd answered
+  audited comparison (Err (Site why)) found answered = absurd answered
+  audited comparison (Err (Record n)) found answered = absurd answered
+  audited comparison (Err NoState) found answered = absurd answered
+  audited comparison (Err StateInUse) found answered = absurd answered
+  audited comparison (Err StateUnusable) found answered = absurd answered
+  audited comparison (Err Sizes) found answered = absurd answered
+  audited comparison (Err Octets) found answered = absurd answered
+  audited comparison (Err Address) found answered = absurd answered
+  audited comparison (Err Device) found answered = absurd answered
+  audited comparison (Err Unread) found answered = absurd answered
 
-  -- or there is no verdict
+  -- or there is no comparison
   pub unaudited : (fault : RecordFault) → IsAuditFault known fault
       → audits.IsAuditFault config has (fault_of_lem fault)
   unaudited (faults.Line n) wrong =

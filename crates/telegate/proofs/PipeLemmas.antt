@@ -5,9 +5,9 @@ use Rattle.std.proofs.lemmas.List.{append-nil}
 use Rattle.std.specs.Prelude.{IfSome, Result, Ok, Err}
 use Rattle.std.specs.Io.KnownBytes.{Appends, Keeps}
 use Rattle.traces.specs.Blocks.{AreCutOff, IsGiven, Reading}
-use Rattle.show.specs.declared.outcome.Outcome.{Outcome}
-use Rattle.show.specs.declared.outcome.Shown.{Shown}
-use Rattle.show.specs.declared.outcome.Outcome.TheVariants.{Good, Faulty}
+use Rattle.show.specs.declared.condition.Condition.{Condition}
+use Rattle.show.specs.declared.condition.Shown.{Shown}
+use Rattle.show.specs.declared.condition.Condition.TheVariants.{Good, Faulty}
 use Rattle.sim.specs.Runs.{IsBegun}
 use Rattle.traces.proofs.JoinedLemmas.{lines_joined}
 use Rattle.traces.specs.Trace.{lines_of}
@@ -28,21 +28,21 @@ use Rattle.telegate.proofs.PartLemmas.{IsRest, joined, rest_begins, rest_behind,
 use Rattle.telegate.proofs.PartLemmas.{rest_some}
 use Rattle.telegate.proofs.Poured.{appends_more, appends_none, appends_begun, begun_behind}
 
-both_along : (a b c : Outcome) → both (both a b) c ≡ both a (both b c)
+both_along : (a b c : Condition) → both (both a b) c ≡ both a (both b c)
 both_along Good b c = refl
 both_along Faulty b c = refl
 
-both_good : (a : Outcome) → both a Good ≡ a
+both_good : (a : Condition) → both a Good ≡ a
 both_good Good = refl
 both_good Faulty = refl
 
 module _ (piped : Piped) (words : Bool) where
   -- some lines, and then others
-  pub lines_more : (ls ms : List (List ℕ)) (a b : List ℕ) (o p : Outcome)
+  pub lines_more : (ls ms : List (List ℕ)) (a b : List ℕ) (o p : Condition)
       → AreLinesShown piped words ls a o
       → AreLinesShown piped words ms b p → AreLinesShown piped words (ls ++ ms) (a ++ b) (both o p)
   lines_more [] ms a b o p h k =
-      subst (λ (x : Outcome). AreLinesShown piped words ms (a ++ b) (both x p)) (sym h.1)
+      subst (λ (x : Condition). AreLinesShown piped words ms (a ++ b) (both x p)) (sym h.1)
       (subst (λ (xs : List ℕ). AreLinesShown piped words ms (xs ++ b) p) (sym h.0) k)
   lines_more (l ∷ ls) ms a b o p h k = (
     h.0,
@@ -52,18 +52,18 @@ module _ (piped : Piped) (words : Bool) where
     h.4,
     lines_more ls ms h.2 b h.3 p h.5 k,
     ap (λ (xs : List ℕ). xs ++ b) h.6 ∙ append_assoc h.0 h.2 b,
-    ap (λ (x : Outcome). both x p) h.7 ∙ both_along h.1 h.3 p,
+    ap (λ (x : Condition). both x p) h.7 ∙ both_along h.1 h.3 p,
   )
 
   -- one line
-  one_line : (line text : List ℕ) (o : Outcome) → IsLineShown piped words (octets_in line) text o
+  one_line : (line text : List ℕ) (o : Condition) → IsLineShown piped words (octets_in line) text o
       → AreLinesShown piped words (line ∷ []) text o
   one_line line text o h =
       (text, o, [], Good, h, (refl, refl), sym (append-nil text), sym (both_good o))
 
   -- a line that is no octets adds nothing, and isn't as it should be
   pub none_added : (octets : Option (List ℕ)) (shown : Option Shown) (text : List ℕ)
-      (o later : Outcome) → shown ≡ None
+      (o later : Condition) → shown ≡ None
       → later ≡ both o Faulty → IsShownAs piped words octets shown
       → IsAdded piped words octets text text o later
   none_added octets shown text o later none judged is =
@@ -79,7 +79,7 @@ module _ (piped : Piped) (words : Bool) where
       }
 
   -- the first lines of some were shown, and these are left
-  pub record LinesTo (all left : List (List ℕ)) (text : List ℕ) (o : Outcome) : Type 0 where
+  pub record LinesTo (all left : List (List ℕ)) (text : List ℕ) (o : Condition) : Type 0 where
     pub done : List (List ℕ)
     pub split : all ≡ done ++ left
     pub shown : AreLinesShown piped words done text o
@@ -87,27 +87,27 @@ module _ (piped : Piped) (words : Bool) where
   pub lines_begin : (all : List (List ℕ)) (text : List ℕ) → text ≡ [] → LinesTo all all text Good
   lines_begin all text none = record { done = []; split = refl; shown = (none, refl) }
 
-  pub lines_on : (all left : List (List ℕ)) (line text one later : List ℕ) (o p q : Outcome)
+  pub lines_on : (all left : List (List ℕ)) (line text one later : List ℕ) (o p q : Condition)
       → LinesTo all (line ∷ left) text o → IsLineShown piped words (octets_in line) one p
       → later ≡ text ++ one
       → q ≡ both o p → LinesTo all left later q
   lines_on all left line text one later o p q h shown added judged = record {
     done = h.done ++ line ∷ [];
     split = h.split ∙ sym (append_assoc h.done (line ∷ []) left);
-    shown = subst (λ (x : Outcome). AreLinesShown piped words (h.done ++ line ∷ []) later x)
+    shown = subst (λ (x : Condition). AreLinesShown piped words (h.done ++ line ∷ []) later x)
         (sym judged)
         (subst (λ (xs : List ℕ). AreLinesShown piped words (h.done ++ line ∷ []) xs (both o p))
         (sym added)
         (lines_more h.done (line ∷ []) text one o p h.shown (one_line line one p shown)));
   }
 
-  pub lines_end : (all : List (List ℕ)) (text : List ℕ) (o : Outcome) → LinesTo all [] text o
+  pub lines_end : (all : List (List ℕ)) (text : List ℕ) (o : Condition) → LinesTo all [] text o
       → AreLinesShown piped words all text o
   lines_end all text o h = subst (λ (ls : List (List ℕ)). AreLinesShown piped words ls text o)
       (sym (h.split ∙ append-nil h.done)) h.shown
 
   -- so much of a text was read and shown
-  pub record PipesTo (known coming : Option (List ℕ)) (o : Outcome)
+  pub record PipesTo (known coming : Option (List ℕ)) (o : Condition)
       (old new : Option (List ℕ)) : Type 0 where
     pub before : List ℕ
     pub rest : IsRest known before coming
@@ -130,7 +130,7 @@ module _ (piped : Piped) (words : Bool) where
         printed = appends_none old;
       })
 
-  module _ (known coming : Option (List ℕ)) (o : Outcome) (old mid : Option (List ℕ))
+  module _ (known coming : Option (List ℕ)) (o : Condition) (old mid : Option (List ℕ))
       (h : PipesTo known coming o old mid) where
     -- what was printed so far
     pub some_piped : IsPipedSome piped words (Gives known) old mid
@@ -141,14 +141,14 @@ module _ (piped : Piped) (words : Bool) where
       later = lines_of some.0;
       lines = h.lines some.0;
       text = h.text;
-      outcome = o;
+      condition = o;
       shown = h.shown;
       printed = appends_begun old mid h.text h.printed;
     }
 
     module _ (block : Reading) (ls : List ℕ) (same : ls ≡ block.lines)
         (cut : IfSome coming (λ text. IsGiven text block))
-        (text : List ℕ) (p q : Outcome) (new : Option (List ℕ))
+        (text : List ℕ) (p q : Condition) (new : Option (List ℕ))
         (shown : AreLinesShown piped words (lines_of ls) text p) (judged : q ≡ both o p) where
       cut_as : (over : Bool) → block.is_over ≡ over
           → IfSome coming (λ text. AreCutOff text ls over block.coming)
@@ -160,7 +160,7 @@ module _ (piped : Piped) (words : Bool) where
 
       all_passed : AreLinesShown piped words (h.done ++ lines_of ls) (h.text ++ text) q
       all_passed =
-          subst (λ (x : Outcome). AreLinesShown piped words (h.done ++ lines_of ls) (h.text ++ text)
+          subst (λ (x : Condition). AreLinesShown piped words (h.done ++ lines_of ls) (h.text ++ text)
           x) (sym judged)
           (lines_more h.done (lines_of ls) h.text text o p h.shown shown)
 
@@ -201,7 +201,7 @@ module _ (piped : Piped) (words : Bool) where
             later = [];
             lines = h.lines ls ∙ sym (append-nil (h.done ++ lines_of ls));
             text = h.text ++ text;
-            outcome = q;
+            condition = q;
             shown = all_passed;
             printed = begun_behind old mid new h.text text h.printed begun;
           }
@@ -217,7 +217,7 @@ module _ (piped : Piped) (words : Bool) where
                     ∙ ap (λ (xs : List (List ℕ)). h.done ++ xs) (lines_joined ls some.0)
                     ∙ sym (append_assoc h.done (lines_of ls) (lines_of some.0));
                 text = h.text ++ text;
-                outcome = q;
+                condition = q;
                 shown = all_passed;
                 printed = begun_behind old mid new h.text text h.printed begun;
               }
@@ -243,7 +243,7 @@ module _ (piped : Piped) (words : Bool) where
   pipe_wanted has old new Device want h = absurd want
 
   -- a text that is known to be one of these
-  pub piped_as : (has more : List ℕ → Type 0) (old new : Option (List ℕ)) (r : Result Outcome Fault)
+  pub piped_as : (has more : List ℕ → Type 0) (old new : Option (List ℕ)) (r : Result Condition Fault)
       → ((octets : List ℕ) → has octets → more octets) → Pipes piped words has old new r
       → Pipes piped words more old new r
   piped_as has more old new r wider = by r
@@ -256,7 +256,7 @@ module _ (piped : Piped) (words : Bool) where
         later = h.later;
         lines = h.lines;
         text = h.text;
-        outcome = h.outcome;
+        condition = h.condition;
         shown = h.shown;
         printed = h.printed;
       }
@@ -266,7 +266,7 @@ module _ (piped : Piped) (words : Bool) where
       either (inl keeps) = inl keeps
       either (inr h) = inr (some_of h)
 
-      by : (r : Result Outcome Fault) → Pipes piped words has old new r
+      by : (r : Result Condition Fault) → Pipes piped words has old new r
           → Pipes piped words more old new r
       by (Ok o) h = record {
         octets = h.octets;

@@ -5,8 +5,8 @@ use Rattle.std.specs.Io.KnownBytes.{Appends, Keeps}
 use Rattle.std.specs.declared.alloc.Global.{Global}
 use Rattle.show.specs.Sizes.{sizes_of}
 use Rattle.show.specs.declared.sizes.LineSizes.{LineSizes}
-use Rattle.show.specs.declared.outcome.Outcome.{Outcome}
-use Rattle.show.specs.declared.outcome.Outcome.TheVariants.{Good, Faulty}
+use Rattle.show.specs.declared.condition.Condition.{Condition}
+use Rattle.show.specs.declared.condition.Condition.TheVariants.{Good, Faulty}
 use Rattle.traces.specs.Fields.{octets_of}
 use Rattle.words.specs.Told.{IsLineTold, IsTcpTold}
 use Rattle.traces.specs.Trace.{first_wrong}
@@ -40,7 +40,7 @@ use Rattle.telegate.specs.declared.job.Job.{Job}
 use Rattle.telegate.specs.declared.job.Job.TheVariants.{Show101, Show104, Sim}
 
 -- octets that are as they should be, 0, or not, 1
-abbrev pub status_by : Outcome → ℕ
+abbrev pub status_by : Condition → ℕ
 status_by Good = 0
 status_by Faulty = 1
 
@@ -57,11 +57,11 @@ IsReadOctets hex result = MatchResult result (λ v. octets_of hex ≡ Some v.ite
 pub record IsLineAnswer (words : Bool) (sizes hex : List ℕ) (answer : CommandAnswer) : Type 0 where
   pub line_sizes : LineSizes
   pub octets : List ℕ
-  pub outcome : Outcome
+  pub condition : Condition
   pub read_sizes : sizes_of sizes ≡ Some line_sizes
   pub read_octets : octets_of hex ≡ Some octets
-  pub shown : IsLineTold words line_sizes octets (answer.text.items) outcome
-  pub status : answer.status ≡ status_by outcome
+  pub shown : IsLineTold words line_sizes octets (answer.text.items) condition
+  pub status : answer.status ≡ status_by condition
 
 -- sizes are judged before octets
 abbrev pub IsLineFault : List ℕ → List ℕ → Fault → Type 0
@@ -77,10 +77,10 @@ IsShown101 words sizes hex result =
 
 pub record IsTcpAnswer (words : Bool) (hex : List ℕ) (answer : CommandAnswer) : Type 0 where
   pub octets : List ℕ
-  pub outcome : Outcome
+  pub condition : Condition
   pub read_octets : octets_of hex ≡ Some octets
-  pub shown : IsTcpTold words octets (answer.text.items) outcome
-  pub status : answer.status ≡ status_by outcome
+  pub shown : IsTcpTold words octets (answer.text.items) condition
+  pub status : answer.status ≡ status_by condition
 
 abbrev pub IsShown104 : (words : Bool) → List ℕ → Result CommandAnswer Fault → Type 0
 IsShown104 words hex result = MatchResult result (IsTcpAnswer words hex) (IsOctetsFault hex)

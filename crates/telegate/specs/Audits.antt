@@ -4,45 +4,45 @@ use Rattle.std.specs.Fmt.{decimal}
 use Rattle.record.specs.Audit.{IsAudit, IsWrongLine}
 use Rattle.record.specs.declared.audit.RecordFault.{RecordFault}
 use Rattle.record.specs.declared.audit.RecordFault.TheVariants as faults
-use Rattle.record.specs.declared.audit.Verdict.{Verdict}
-use Rattle.record.specs.declared.audit.Verdict.TheVariants.{Same, Differs}
+use Rattle.record.specs.declared.audit.Comparison.{Comparison}
+use Rattle.record.specs.declared.audit.Comparison.TheVariants.{Same, Differs}
 use Rattle.gateway.specs.Config.{Settings}
 use Rattle.settings.specs.Settings.{IsReadOfText}
 use Rattle.telegate.specs.declared.answer.CommandAnswer.{CommandAnswer}
 use Rattle.telegate.specs.declared.fault.Fault.{Fault}
 use Rattle.telegate.specs.declared.fault.Fault.TheVariants.{Config, Record, Unread, NoMemory}
 
-abbrev pub verdict_line : Verdict → List ℕ
-verdict_line (Same events actions) =
+abbrev pub comparison_line : Comparison → List ℕ
+comparison_line (Same events actions) =
     codes "same, " ++ decimal events ++ codes " events, " ++ decimal actions ++ codes " actions"
     ++ 10 ∷ []
-verdict_line (Differs number) = codes "line " ++ decimal number ++ codes " differs" ++ 10 ∷ []
+comparison_line (Differs number) = codes "line " ++ decimal number ++ codes " differs" ++ 10 ∷ []
 
-abbrev pub verdict_status : Verdict → ℕ
-verdict_status (Same events actions) = 0
-verdict_status (Differs number) = 1
+abbrev pub comparison_status : Comparison → ℕ
+comparison_status (Same events actions) = 0
+comparison_status (Differs number) = 1
 
-pub record IsVerdictAnswer (verdict : Verdict) (answer : CommandAnswer) : Type 0 where
-  pub text : answer.text.items ≡ verdict_line verdict
-  pub status : answer.status ≡ verdict_status verdict
+pub record IsComparisonAnswer (comparison : Comparison) (answer : CommandAnswer) : Type 0 where
+  pub text : answer.text.items ≡ comparison_line comparison
+  pub status : answer.status ≡ comparison_status comparison
 
 abbrev pub IsMemory : Fault → Type 0
 IsMemory NoMemory = Unit {0}
 IsMemory _ = ⊥
 
--- a text whose octets may be these was audited by settings of these octets, and the verdict
+-- a text whose octets may be these was audited by settings of these octets, and the comparison
 -- answered
 pub record IsAuditAnswer (config : List ℕ) (has : List ℕ → Type 0) (answer : CommandAnswer) : Type
     0 where
   pub settings : Settings
   pub text : List ℕ
-  pub verdict : Verdict
+  pub comparison : Comparison
   pub read_config : IsReadOfText config (Ok settings)
   pub is : has text
-  pub audited : IsAudit settings text verdict
-  pub answered : IsVerdictAnswer verdict answer
+  pub audited : IsAudit settings text comparison
+  pub answered : IsComparisonAnswer comparison answer
 
--- why a command stops whose record has no verdict
+-- why a command stops whose record has no comparison
 abbrev pub fault_of_lem : RecordFault → Fault
 fault_of_lem (faults.Line n) = Record n
 fault_of_lem faults.Unread = Unread

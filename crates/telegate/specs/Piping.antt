@@ -5,9 +5,9 @@ use Rattle.std.specs.Fmt.{decimal}
 use Rattle.std.specs.Io.KnownBytes.{Appends, Keeps}
 use Rattle.show.specs.Sizes.{sizes_of}
 use Rattle.show.specs.declared.sizes.LineSizes.{LineSizes}
-use Rattle.show.specs.declared.outcome.Outcome.{Outcome}
-use Rattle.show.specs.declared.outcome.Shown.{Shown}
-use Rattle.show.specs.declared.outcome.Outcome.TheVariants.{Good, Faulty}
+use Rattle.show.specs.declared.condition.Condition.{Condition}
+use Rattle.show.specs.declared.condition.Shown.{Shown}
+use Rattle.show.specs.declared.condition.Condition.TheVariants.{Good, Faulty}
 use Rattle.sim.specs.Runs.{IsBegun}
 use Rattle.traces.specs.Trace.{lines_of}
 use Rattle.words.specs.Pipes.{octets_in}
@@ -20,49 +20,49 @@ use Rattle.telegate.specs.declared.piping.Piped.{Piped}
 use Rattle.telegate.specs.declared.piping.Piped.TheVariants.{Line, Connection}
 
 -- the frames of octets, one after another
-abbrev pub AreFrames : Piped → (words : Bool) → (octets text : List ℕ) → Outcome → Type 0
+abbrev pub AreFrames : Piped → (words : Bool) → (octets text : List ℕ) → Condition → Type 0
 AreFrames (Line sizes) words = AreLineFramesTold words sizes
 AreFrames Connection words = AreApdusTold words
 
 -- those of a line; one that is no octets has no text, and is a fault
-abbrev pub IsLineShown : Piped → (words : Bool) → Option (List ℕ) → (text : List ℕ) → Outcome
+abbrev pub IsLineShown : Piped → (words : Bool) → Option (List ℕ) → (text : List ℕ) → Condition
     → Type 0
-IsLineShown piped words None text outcome = (text ≡ []) × (outcome ≡ Faulty)
-IsLineShown piped words (Some octets) text outcome = AreFrames piped words octets text outcome
+IsLineShown piped words None text condition = (text ≡ []) × (condition ≡ Faulty)
+IsLineShown piped words (Some octets) text condition = AreFrames piped words octets text condition
 
 -- what is shown of a line, if it is octets
 abbrev pub IsShownAs : Piped → (words : Bool) → Option (List ℕ) → Option Shown → Type 0
 IsShownAs piped words octets None = octets ≡ None
 IsShownAs piped words octets (Some shown) =
     (xs : List ℕ) × (octets ≡ Some xs)
-    × AreFrames piped words xs (string_bytes shown.lines) shown.outcome
+    × AreFrames piped words xs (string_bytes shown.lines) shown.condition
 
 -- it was added behind a text, and judged with what is there
 pub record IsAdded (piped : Piped) (words : Bool) (octets : Option (List ℕ))
-    (old new : List ℕ) (outcome later : Outcome) : Type 0 where
+    (old new : List ℕ) (condition later : Condition) : Type 0 where
   pub text : List ℕ
-  pub one : Outcome
+  pub one : Condition
   pub shown : IsLineShown piped words octets text one
   pub added : new ≡ old ++ text
-  pub judged : later ≡ both outcome one
+  pub judged : later ≡ both condition one
 
 -- lines one after another, each whatever the others are; all is well where each line is
-abbrev pub AreLinesShown : Piped → (words : Bool) → List (List ℕ) → (text : List ℕ) → Outcome
+abbrev pub AreLinesShown : Piped → (words : Bool) → List (List ℕ) → (text : List ℕ) → Condition
     → Type 0
-AreLinesShown piped words [] text outcome = (text ≡ []) × (outcome ≡ Good)
-AreLinesShown piped words (line ∷ lines) text outcome =
-    (first : List ℕ) × (one : Outcome) × (texts : List ℕ) × (others : Outcome)
+AreLinesShown piped words [] text condition = (text ≡ []) × (condition ≡ Good)
+AreLinesShown piped words (line ∷ lines) text condition =
+    (first : List ℕ) × (one : Condition) × (texts : List ℕ) × (others : Condition)
     × IsLineShown piped words (octets_in line) first one
     × AreLinesShown piped words lines texts others
-    × (text ≡ first ++ texts) × (outcome ≡ both one others)
+    × (text ≡ first ++ texts) × (condition ≡ both one others)
 
 -- the lines of a text whose octets may be these, and their whole text
 pub record IsPiped (piped : Piped) (words : Bool) (has : List ℕ → Type 0)
-    (old new : Option (List ℕ)) (outcome : Outcome) : Type 0 where
+    (old new : Option (List ℕ)) (condition : Condition) : Type 0 where
   pub octets : List ℕ
   pub is : has octets
   pub text : List ℕ
-  pub shown : AreLinesShown piped words (lines_of octets) text outcome
+  pub shown : AreLinesShown piped words (lines_of octets) text condition
   pub printed : Appends old new text
 
 -- the same of the first lines, and a beginning of their text
@@ -74,8 +74,8 @@ pub record IsPipedSome (piped : Piped) (words : Bool) (has : List ℕ → Type 0
   pub later : List (List ℕ)
   pub lines : lines_of octets ≡ first ++ later
   pub text : List ℕ
-  pub outcome : Outcome
-  pub shown : AreLinesShown piped words first text outcome
+  pub condition : Condition
+  pub shown : AreLinesShown piped words first text condition
   pub printed : IsBegun old new text
 
 -- the output failed, the text can't be read on, or memory was refused
@@ -87,18 +87,18 @@ IsPipeFault piped words has old new NoMemory = Keeps old new ⊎ IsPipedSome pip
 IsPipeFault piped words has old new _ = ⊥
 
 abbrev pub Pipes : Piped → (words : Bool) → (has : List ℕ → Type 0) → (old new : Option (List ℕ))
-    → Result Outcome Fault → Type 0
+    → Result Condition Fault → Type 0
 Pipes piped words has old new result =
     MatchResult result (IsPiped piped words has old new) (IsPipeFault piped words has old new)
 
 -- 0 where all is as it should be, 1 where it isn't, or that of the fault
-abbrev pub status_of_pipe : Result Outcome Fault → ℕ
-status_of_pipe (Ok outcome) = status_by outcome
+abbrev pub status_of_pipe : Result Condition Fault → ℕ
+status_of_pipe (Ok condition) = status_by condition
 status_of_pipe (Err fault) = status_of fault
 
 pub record HasPiped (piped : Piped) (words : Bool) (has : List ℕ → Type 0)
     (old new : Option (List ℕ)) (exit : ℕ) : Type 0 where
-  pub result : Result Outcome Fault
+  pub result : Result Condition Fault
   pub pipes : Pipes piped words has old new result
   pub status : exit ≡ status_of_pipe result
 

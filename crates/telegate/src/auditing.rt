@@ -1,13 +1,13 @@
 //! The command that audits a recorded run.
 ghost use Rattle.std.specs.Prelude.{◌≡◌, MatchResult};
-ghost use Rattle.telegate.specs.Audits.{IsAuditedBy, IsVerdictAnswer, IsMemory, fault_of_lem};
+ghost use Rattle.telegate.specs.Audits.{IsAuditedBy, IsComparisonAnswer, IsMemory, fault_of_lem};
 
 use crate::answer::CommandAnswer;
 use crate::check::read_config;
 use crate::fault::{BAD_CONTENT, DONE, Fault};
 use crate::replay::open;
 use crate::source::Source;
-use record::{RecordFault, Verdict, audit_text};
+use record::{RecordFault, Comparison, audit_text};
 use std::alloc::Global;
 
 /// Runs the gateway over the events of a record, and answers whether its actions are the record's.
@@ -22,12 +22,12 @@ pub(crate) fn audit<S: Source>(
     let text = open(text)?;
     let config = read_config(alloc, config)?;
     match audit_text(alloc, &config, text) {
-        Ok(verdict) => answer_verdict(alloc, verdict),
+        Ok(comparison) => answer_comparison(alloc, comparison),
         Err(fault) => Err(fault_of(fault)),
     }
 }
 
-/// Why a command stops whose record has no verdict.
+/// Why a command stops whose record has no comparison.
 fn fault_of(fault: RecordFault) -> Fault
     ensures { result ≡ fault_of_lem fault }
 {
@@ -38,17 +38,17 @@ fn fault_of(fault: RecordFault) -> Fault
     }
 }
 
-/// The line of a verdict, and its exit status: 0 where the two are the same.
-fn answer_verdict(alloc: Global, verdict: Verdict) -> Result<CommandAnswer, Fault>
-    ensures { MatchResult result (IsVerdictAnswer verdict) IsMemory }
+/// The line of a comparison, and its exit status: 0 where the two are the same.
+fn answer_comparison(alloc: Global, comparison: Comparison) -> Result<CommandAnswer, Fault>
+    ensures { MatchResult result (IsComparisonAnswer comparison) IsMemory }
 {
     let mut line = String::new(alloc);
-    let status = match verdict {
-        Verdict::Same { events, actions } => {
+    let status = match comparison {
+        Comparison::Same { events, actions } => {
             writeln!(line, "same, {events} events, {actions} actions")?;
             DONE
         }
-        Verdict::Differs(number) => {
+        Comparison::Differs(number) => {
             writeln!(line, "line {number} differs")?;
             BAD_CONTENT
         }

@@ -22,7 +22,7 @@ use crate::site::{EndRefusal, RunSite};
 use gateway::{Action, Config, Gateway, History};
 use live::{AllowList, Listener, Live, OctetStream};
 use lookout::Lookout;
-use record::{Pen, Sheet};
+use record::{Pen, RecordSheet};
 use runlog::{LogSink, Logger, Note, Trouble, Watch};
 use settings::{ConfigFault, LiveSettings, read_live_config};
 use state::{Begun, DiskStore, FolderFault, Keeper, Origin, Pair, ToldGap, begin};

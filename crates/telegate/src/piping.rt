@@ -13,7 +13,7 @@ use crate::fault::{BAD_CONTENT, DONE, Fault};
 use crate::performing::{print, write_fault};
 use crate::replay::{advance, open};
 use crate::source::Source;
-use show::{LineSizes, Outcome, Shown};
+use show::{LineSizes, Condition, Shown};
 use std::alloc::{AllocError, Global};
 use std::io;
 use std::io::{Read, Write};
@@ -40,7 +40,7 @@ pub(crate) fn pipe<S: Source, W: Write, E: Write>(
     words: bool,
     out: &mut W,
     err: &mut E,
-) -> Result<Outcome, Fault>
+) -> Result<Condition, Fault>
     ensures { Pipes piped words (S.has text.now) (W.contents out.old) (W.contents out.new) result }
 {
     let text = open(text)?;
@@ -48,12 +48,12 @@ pub(crate) fn pipe<S: Source, W: Write, E: Write>(
 }
 
 /// The exit status of that, and the line of its fault.
-pub(crate) fn end_pipe<E: Write>(ended: &Result<Outcome, Fault>, err: &mut E) -> u8
+pub(crate) fn end_pipe<E: Write>(ended: &Result<Condition, Fault>, err: &mut E) -> u8
     ensures { result ≡ status_of_pipe ended.now }
 {
     match ended {
-        Ok(Outcome::Good) => DONE,
-        Ok(Outcome::Faulty) => BAD_CONTENT,
+        Ok(Condition::Good) => DONE,
+        Ok(Condition::Faulty) => BAD_CONTENT,
         Err(fault) => write_fault(fault, err),
     }
 }
@@ -66,12 +66,12 @@ fn pipe_text<R: Read + Drop, W: Write, E: Write>(
     words: bool,
     out: &mut W,
     err: &mut E,
-) -> Result<Outcome, Fault>
+) -> Result<Condition, Fault>
     ensures { Pipes piped words (Gives (R.remaining text)) (W.contents out.old)
         (W.contents out.new) result }
 {
     let mut blocks = Blocks::new(alloc, text);
-    let mut outcome = Outcome::Good;
+    let mut condition = Condition::Good;
     let mut next = 1;
     'piping: for _ in 0..u64::MAX {
         advance(&mut blocks)?;
@@ -81,10 +81,10 @@ fn pipe_text<R: Read + Drop, W: Write, E: Write>(
             Ok(()) => {}
             Err(_) => return Err(Fault::Device),
         }
-        outcome = both(outcome, shown.outcome);
+        condition = both(condition, shown.condition);
         next = number;
         if blocks.is_over() {
-            return Ok(outcome);
+            return Ok(condition);
         }
     }
     // No memory holds so many blocks.
@@ -102,19 +102,19 @@ fn show_lines<E: Write>(
     err: &mut E,
 ) -> Result<(Shown, u64), Fault>
     ensures shown { IfOk result (λ shown. AreLinesShown piped words (lines_of text.now)
-        (string_bytes shown.0.lines) shown.0.outcome) }
+        (string_bytes shown.0.lines) shown.0.condition) }
     ensures fault { IfErr result IsWant }
 {
     let mut lines = String::new(alloc);
-    let mut outcome = Outcome::Good;
+    let mut condition = Condition::Good;
     let mut left = Some(text);
     'showing: for number in first..u64::MAX {
         let Some(text) = left else {
-            return Ok((Shown { lines, outcome }, number));
+            return Ok((Shown { lines, condition }, number));
         };
         let (line, rest) = cut(text, b'\n');
         let shown = show_text_line(alloc, line, piped, words)?;
-        outcome = push_shown(&mut lines, outcome, &shown, number, err)?;
+        condition = push_shown(&mut lines, condition, &shown, number, err)?;
         left = rest;
     }
     // No memory holds so many lines.
@@ -126,23 +126,23 @@ fn show_lines<E: Write>(
 #[tactic(auto, using(crate::proofs::PipeLemmas::none_added))]
 fn push_shown<E: Write>(
     lines: &mut String,
-    outcome: Outcome,
+    condition: Condition,
     shown: &Option<Shown>,
     number: u64,
     err: &mut E,
-) -> Result<Outcome, AllocError>
+) -> Result<Condition, AllocError>
     ensures { IfOk result (λ later. (piped : Piped) (words : Bool) (octets : Option (List ℕ)) →
         IsShownAs piped words octets shown.now → IsAdded piped words octets
-        (string_bytes lines.old) (string_bytes lines.new) outcome later) }
+        (string_bytes lines.old) (string_bytes lines.new) condition later) }
 {
     match shown {
         Some(shown) => {
             lines.push_str(shown.lines.as_str())?;
-            Ok(both(outcome, shown.outcome))
+            Ok(both(condition, shown.condition))
         }
         None => {
             let _ = write_wrong_line(number, err);
-            Ok(both(outcome, Outcome::Faulty))
+            Ok(both(condition, Condition::Faulty))
         }
     }
 }
@@ -164,7 +164,7 @@ fn show_text_line(
 
 fn show_frames(alloc: Global, octets: &[u8], piped: Piped, words: bool) -> Result<Shown, AllocError>
     ensures { IfOk result (λ shown.
-        AreFrames piped words octets.now (string_bytes shown.lines) shown.outcome) }
+        AreFrames piped words octets.now (string_bytes shown.lines) shown.condition) }
 {
     match piped {
         Piped::Line(sizes) => tell_line_frames(alloc, sizes, octets, words),

@@ -9,7 +9,7 @@ use crate::life::Life;
 use gateway::{End, Gateway, History, drive_on};
 use live::Watched;
 use lookout::Lookout;
-use record::{Pen, Recorder, Sheet};
+use record::{Pen, RecordSheet, Recorder};
 use runlog::{LogSink, Logger, RunLog};
 use status::StreamSource;
 
@@ -19,7 +19,7 @@ pub(crate) struct DeviceFailed;
 
 /// What comes of a run beside its work: the log, the record, and how it stands, for who looks.
 #[derive(Drop)]
-pub(crate) struct Scribes<S: LogSink + Drop, W: Sheet + Drop, D: StreamSource + Drop> {
+pub(crate) struct Scribes<S: LogSink + Drop, W: RecordSheet + Drop, D: StreamSource + Drop> {
     pub(crate) logger: Logger<S>,
     pub(crate) pen: Pen<W>,
     /// None where there is no listener for who looks.
@@ -28,7 +28,7 @@ pub(crate) struct Scribes<S: LogSink + Drop, W: Sheet + Drop, D: StreamSource + 
 
 /// A run over a port that is over: the port, with what was logged, and how it ended.
 #[derive(Drop)]
-pub(crate) struct Lived<P: Watched + Drop, W: Sheet + Drop, S: LogSink + Drop> {
+pub(crate) struct Lived<P: Watched + Drop, W: RecordSheet + Drop, S: LogSink + Drop> {
     pub(crate) run_log: RunLog<Life<Recorder<P, W>>, S>,
     pub(crate) ended: Result<(), DeviceFailed>,
 }
@@ -76,12 +76,12 @@ fn serve<P: Watched + Drop, S: LogSink + Drop, D: StreamSource + Drop>(
 }
 
 /// Runs the gateway over a port, behind the lives in which it came to be as it is.
-pub(crate) fn live<P: Watched + Drop, W: Sheet + Drop, S: LogSink + Drop, D: StreamSource + Drop>(
-    gateway: Gateway,
-    port: P,
-    before: History,
-    scribes: Scribes<S, W, D>,
-) -> Lived<P, W, S>
+pub(crate) fn live<
+    P: Watched + Drop,
+    W: RecordSheet + Drop,
+    S: LogSink + Drop,
+    D: StreamSource + Drop,
+>(gateway: Gateway, port: P, before: History, scribes: Scribes<S, W, D>) -> Lived<P, W, S>
     requires { P.failed port < u64.MAX }
     ensures device { HasRun (P.failed port) (P.failed result.run_log.port.port.port) result.ended }
     ensures over { OnOk result.ended (HasEnded (P.ended result.run_log.port.port.port)

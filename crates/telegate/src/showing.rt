@@ -4,7 +4,7 @@ ghost use Rattle.telegate.specs.Answers.{IsReadOctets, IsShown101, IsShown104, s
 
 use crate::answer::CommandAnswer;
 use crate::fault::{BAD_CONTENT, DONE, Fault};
-use show::{Outcome, Shown};
+use show::{Condition, Shown};
 use std::alloc::Global;
 use words::{tell_apdu, tell_line};
 
@@ -53,13 +53,13 @@ fn read_octets(alloc: Global, hex: &str) -> Result<Vec<u8>, Fault>
 /// The lines, and the exit status that stands for a fault in the octets.
 fn answer_of(shown: Shown) -> CommandAnswer
     ensures text { result.text.items ≡ string_bytes shown.lines }
-    ensures status { result.status ≡ status_by shown.outcome }
+    ensures status { result.status ≡ status_by shown.condition }
 {
     CommandAnswer {
         text: shown.lines.into_bytes(),
-        status: match shown.outcome {
-            Outcome::Good => DONE,
-            Outcome::Faulty => BAD_CONTENT,
+        status: match shown.condition {
+            Condition::Good => DONE,
+            Condition::Faulty => BAD_CONTENT,
         },
     }
 }

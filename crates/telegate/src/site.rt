@@ -7,7 +7,7 @@ use live::{
     CentreListener, Got, LineDialler, LineSocket, Listener, OctetStream, Presence, Reached,
     Redialled, SystemClock,
 };
-use record::{Sheet, StandardOutput};
+use record::{RecordSheet, StandardOutput};
 use runlog::{LogNames, LogSink, StandardError, Trouble};
 use settings::LiveSettings;
 use state::Folder;
@@ -53,7 +53,7 @@ pub(crate) trait RunSite {
 
     type Sink: LogSink + Drop;
 
-    type Sheet: Sheet + Drop;
+    type Sheet: RecordSheet + Drop;
 
     /// Where visitors connect who look at a run.
     type Glass: status::StreamSource + Drop;

@@ -52,7 +52,7 @@ pub use lines::{cut, is_skipped, parts};
 pub use moments::Moment;
 pub use octets::{hex_digits, read_octets};
 pub use page::Page;
-pub use port::{Beginning, Trace};
+pub use port::{HeldBefore, Trace};
 pub use printout::Printout;
 pub use reading::{TextFault, read_trace};
 pub use readings::trace_lines_by_example;

@@ -17,14 +17,14 @@ use std::marker::{Brand, Model, PhantomData};
 
 /// What a writer holds before a run: known to proofs alone, so that they can say what the run has
 /// added.
-pub trait Beginning {
+pub trait HeldBefore {
     ghost use Rattle.std.specs.Prelude.{ℕ, List, Option};
 
     /// The octets, where they are known.
     ghost held: { Option (List ℕ) };
 }
 
-impl Beginning for Brand {
+impl HeldBefore for Brand {
     ghost use Rattle.std.specs.Prelude.{None};
 
     ghost held = { None };
@@ -35,7 +35,7 @@ impl Beginning for Brand {
 /// `MS > X CAUSE` (a close) or `MS > G S K` (a gap of station S, counted from 1, at the end of its
 /// session K), in upper case. Room in the log is made before a line is written. After a fault it
 /// takes and gives nothing more.
-pub struct Trace<W: Write, B: Beginning = Brand> {
+pub struct Trace<W: Write, B: HeldBefore = Brand> {
     alloc: Global,
     /// Those that are still to come, the last first.
     entries: Vec<Entry>,
@@ -49,7 +49,7 @@ pub struct Trace<W: Write, B: Beginning = Brand> {
     beginning: PhantomData<B>,
 }
 
-impl<W: Write, B: Beginning> Model for Trace<W, B> {
+impl<W: Write, B: HeldBefore> Model for Trace<W, B> {
     ghost use Rattle.std.specs.Prelude.{reverse};
     ghost use Rattle.gateway.specs.Entries.{log_of};
     ghost use Rattle.traces.specs.Traced.{Traced, IsTraced};
@@ -75,7 +75,7 @@ impl<W: Write, B: Beginning> Model for Trace<W, B> {
     }) };
 }
 
-impl<W: Write, B: Beginning> Trace<W, B> {
+impl<W: Write, B: HeldBefore> Trace<W, B> {
     ghost use Rattle.traces.specs.Traced.{Traced, Takes, HasLines, first_traced, is_refused};
     ghost use Rattle.traces.specs.Traced.{refused};
     ghost use Rattle.std.specs.Io.KnownBytes.{Keeps};
@@ -222,7 +222,7 @@ fn prepare(
     Ok(told)
 }
 
-impl<W: Write, B: Beginning> Port for Trace<W, B> {
+impl<W: Write, B: HeldBefore> Port for Trace<W, B> {
     ghost use Rattle.std.specs.Prelude.{Some};
     ghost use Rattle.traces.specs.Traced.{has_ended, whole_script};
 

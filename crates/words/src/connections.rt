@@ -1,7 +1,7 @@
 //! APDUs of the connection in words.
 ghost use Rattle.std.specs.Prelude.{◌≡◌, ◌++◌, ◌∷◌, [], IfOk, OnOk, length, string_bytes};
 ghost use Rattle.apci.specs.Borrowed.{owned, owned_front};
-ghost use Rattle.show.specs.Tcp.{apdu_outcome, front_outcome, function_text as function_words};
+ghost use Rattle.show.specs.Tcp.{apdu_condition, front_condition, function_text as function_words};
 ghost use Rattle.words.specs.Faults.{no_frame};
 ghost use Rattle.words.specs.Connections.{apdu_words, fault_of as fault_in, front_words};
 ghost use Rattle.words.specs.Connections.{numbers_words, AreConnectionWords};
@@ -10,21 +10,21 @@ use crate::faults::{push_cut_off, push_no_frame, push_rest, with_rest};
 use crate::units::push_data;
 use apci::{ApduRef, FrontRef, Uf, Why, front_ref};
 use asdu::Sizes;
-use show::{Outcome, Shown};
+use show::{Condition, Shown};
 use std::alloc::{AllocError, Global};
 
 /// Says in words, on one line, what stands at the front of octets of the connection: the APDU and
 /// its ASDU, and how many octets follow; or that they begin an APDU, or why they begin none. The
-/// outcome is that of `show_tcp`.
+/// condition is that of `show_tcp`.
 pub fn words_of_connection(alloc: Global, octets: &[u8]) -> Result<Shown, AllocError>
     ensures { IfOk result (λ shown.
-        AreConnectionWords octets.now (string_bytes shown.lines) shown.outcome) }
+        AreConnectionWords octets.now (string_bytes shown.lines) shown.condition) }
 {
     let front = front_ref(octets);
     let mut lines = String::new(alloc);
-    let outcome = push_front(alloc, &mut lines, octets.len(), front)?;
+    let condition = push_front(alloc, &mut lines, octets.len(), front)?;
     lines.push_str("\n")?;
-    Ok(Shown { lines, outcome })
+    Ok(Shown { lines, condition })
 }
 
 /// Appends what stands at the front of so many octets.
@@ -34,37 +34,41 @@ fn push_front(
     line: &mut String,
     count: usize,
     front: FrontRef<'_>,
-) -> Result<Outcome, AllocError>
+) -> Result<Condition, AllocError>
     ensures words { OnOk result (string_bytes line.new
         ≡ string_bytes line.old ++ front_words count (owned_front front.entry)) }
-    ensures outcome { IfOk result (λ outcome.
-        outcome ≡ front_outcome count (owned_front front.entry)) }
+    ensures condition { IfOk result (λ condition.
+        condition ≡ front_condition count (owned_front front.entry)) }
 {
     match front {
         FrontRef::Whole(apdu, len) => {
-            let outcome = push_apdu(alloc, line, apdu)?;
+            let condition = push_apdu(alloc, line, apdu)?;
             // An APDU is never longer than what it was read from; said so that it needs no proof.
             let rest = count.saturating_sub(len);
             push_rest(line, rest)?;
-            Ok(with_rest(outcome, rest))
+            Ok(with_rest(condition, rest))
         }
         FrontRef::More => {
             push_cut_off(line, count)?;
-            Ok(Outcome::Faulty)
+            Ok(Condition::Faulty)
         }
         FrontRef::Never(place, why) => {
             push_apdu_refusal(line, place, why)?;
-            Ok(Outcome::Faulty)
+            Ok(Condition::Faulty)
         }
     }
 }
 
 /// Appends an APDU in words, and says whether its ASDU is as it should be.
 #[tactic(auto, unfolding(crate::specs::Connections::apdu_words))]
-pub fn push_apdu(alloc: Global, line: &mut String, apdu: ApduRef<'_>) -> Result<Outcome, AllocError>
+pub fn push_apdu(
+    alloc: Global,
+    line: &mut String,
+    apdu: ApduRef<'_>,
+) -> Result<Condition, AllocError>
     ensures words { OnOk result (string_bytes line.new
         ≡ string_bytes line.old ++ apdu_words (owned apdu.entry)) }
-    ensures outcome { IfOk result (λ outcome. outcome ≡ apdu_outcome (owned apdu.entry)) }
+    ensures condition { IfOk result (λ condition. condition ≡ apdu_condition (owned apdu.entry)) }
 {
     match apdu {
         ApduRef::I { ns, nr, asdu } => {
@@ -74,7 +78,7 @@ pub fn push_apdu(alloc: Global, line: &mut String, apdu: ApduRef<'_>) -> Result<
         ApduRef::S { nr } => write!(line, "S {nr}")?,
         ApduRef::U(function) => line.push_str(function_text(function))?,
     }
-    Ok(Outcome::Good)
+    Ok(Condition::Good)
 }
 
 /// Appends send and receive number.

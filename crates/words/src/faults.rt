@@ -1,9 +1,9 @@
 //! What octets are that are no whole frame, or more than one.
 ghost use Rattle.std.specs.Prelude.{◌≡◌, ◌++◌, OnOk, string_bytes};
-ghost use Rattle.show.specs.Outcome.{with_rest as outcome_with};
+ghost use Rattle.show.specs.Condition.{with_rest as condition_with};
 ghost use Rattle.words.specs.Faults.{cut_off, no_frame, rest_words};
 
-use show::Outcome;
+use show::Condition;
 use std::alloc::AllocError;
 
 /// Appends how many octets follow a frame, where there are any.
@@ -34,9 +34,13 @@ pub(crate) fn push_no_frame(line: &mut String, fault: &str, place: usize) -> Res
     write!(line, "no frame: {fault} at {place}")
 }
 
-/// An outcome where so many octets follow the frame.
-pub(crate) fn with_rest(outcome: Outcome, rest: usize) -> Outcome
-    ensures { result ≡ outcome_with rest outcome }
+/// A condition where so many octets follow the frame.
+pub(crate) fn with_rest(condition: Condition, rest: usize) -> Condition
+    ensures { result ≡ condition_with rest condition }
 {
-    if rest == 0 { outcome } else { Outcome::Faulty }
+    if rest == 0 {
+        condition
+    } else {
+        Condition::Faulty
+    }
 }

@@ -2,10 +2,11 @@
 //!
 //! `words_of_line` and `words_of_connection` answer a `show::Shown` for what stands at the front of
 //! octets: the frame and its ASDU with the standard's names, values with their units, quality and
-//! time tags in words; or why the octets are no such frame, and the first wrong place. The outcome
-//! is that of `show_line` and `show_tcp`. `push_line_frame` and `push_apdu` append a frame that was
-//! read. The standard's names are those of `elements`. `read_line_of_octets` reads octets in
-//! hexadecimal with blanks, of which `line_end` and `apdu_end` tell the first frame's end.
+//! time tags in words; or why the octets are no such frame, and the first wrong place. The
+//! condition is that of `show_line` and `show_tcp`. `push_line_frame` and `push_apdu` append a
+//! frame that was read. The standard's names are those of `elements`. `read_line_of_octets` reads
+//! octets in hexadecimal with blanks, of which `line_end` and `apdu_end` tell the first frame's
+//! end.
 //!
 //! Proved: each text is an exact function of the frame (`AreLineWords`, `AreConnectionWords`), for
 //! every type, value, quality and tag; an `Err` is want of memory alone. The words have worked

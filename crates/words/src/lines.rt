@@ -2,7 +2,7 @@
 ghost use Rattle.std.specs.Prelude.{◌≡◌, ◌++◌, ◌∷◌, [], IfOk, OnOk, length, string_bytes};
 ghost use Rattle.ft12.specs.Borrowed.{owned, owned_front};
 ghost use Rattle.link.specs.Control.{primary_code, secondary_code};
-ghost use Rattle.show.specs.Line.{frame_outcome, front_outcome};
+ghost use Rattle.show.specs.Line.{frame_condition, front_condition};
 ghost use Rattle.words.specs.Faults.{no_frame};
 ghost use Rattle.words.specs.Lines.{answered_words, asked_words, control_words};
 ghost use Rattle.words.specs.Lines.{demand_text as demand_words, fault_of as fault_in};
@@ -14,21 +14,21 @@ use crate::faults::{push_cut_off, push_no_frame, push_rest, with_rest};
 use crate::units::push_data;
 use ft12::{FrameRef, FrontRef, Why, front_ref};
 use link::{Control, PrimaryFunction, SecondaryFunction};
-use show::{LineSizes, Outcome, Shown};
+use show::{Condition, LineSizes, Shown};
 use std::alloc::{AllocError, Global};
 
 /// Says in words, on one line, what stands at the front of octets of the line: the frame and its
 /// ASDU, and how many octets follow; or that they begin a frame, or why they begin none. The
-/// outcome is that of `show_line`.
+/// condition is that of `show_line`.
 pub fn words_of_line(alloc: Global, sizes: LineSizes, octets: &[u8]) -> Result<Shown, AllocError>
     ensures { IfOk result (λ shown.
-        AreLineWords sizes octets.now (string_bytes shown.lines) shown.outcome) }
+        AreLineWords sizes octets.now (string_bytes shown.lines) shown.condition) }
 {
     let front = front_ref(sizes.link, octets);
     let mut lines = String::new(alloc);
-    let outcome = push_front(alloc, &mut lines, sizes, octets.len(), front)?;
+    let condition = push_front(alloc, &mut lines, sizes, octets.len(), front)?;
     lines.push_str("\n")?;
-    Ok(Shown { lines, outcome })
+    Ok(Shown { lines, condition })
 }
 
 /// Appends what stands at the front of so many octets.
@@ -39,27 +39,27 @@ fn push_front(
     sizes: LineSizes,
     count: usize,
     front: FrontRef<'_>,
-) -> Result<Outcome, AllocError>
+) -> Result<Condition, AllocError>
     ensures words { OnOk result (string_bytes line.new
         ≡ string_bytes line.old ++ front_words sizes count (owned_front front.entry)) }
-    ensures outcome { IfOk result (λ outcome.
-        outcome ≡ front_outcome sizes count (owned_front front.entry)) }
+    ensures condition { IfOk result (λ condition.
+        condition ≡ front_condition sizes count (owned_front front.entry)) }
 {
     match front {
         FrontRef::Whole(frame, len) => {
-            let outcome = push_line_frame(alloc, line, sizes, frame)?;
+            let condition = push_line_frame(alloc, line, sizes, frame)?;
             // A frame is never longer than what it was read from; said so that it needs no proof.
             let rest = count.saturating_sub(len);
             push_rest(line, rest)?;
-            Ok(with_rest(outcome, rest))
+            Ok(with_rest(condition, rest))
         }
         FrontRef::More => {
             push_cut_off(line, count)?;
-            Ok(Outcome::Faulty)
+            Ok(Condition::Faulty)
         }
         FrontRef::Never(place, why) => {
             push_line_refusal(line, place, why)?;
-            Ok(Outcome::Faulty)
+            Ok(Condition::Faulty)
         }
     }
 }
@@ -71,10 +71,11 @@ pub fn push_line_frame(
     line: &mut String,
     sizes: LineSizes,
     frame: FrameRef<'_>,
-) -> Result<Outcome, AllocError>
+) -> Result<Condition, AllocError>
     ensures words { OnOk result (string_bytes line.new
         ≡ string_bytes line.old ++ frame_words sizes (owned frame.entry)) }
-    ensures outcome { IfOk result (λ outcome. outcome ≡ frame_outcome sizes (owned frame.entry)) }
+    ensures condition { IfOk result (λ condition.
+        condition ≡ frame_condition sizes (owned frame.entry)) }
 {
     match frame {
         FrameRef::Single => line.push_str("ACK (E5)")?,
@@ -84,7 +85,7 @@ pub fn push_line_frame(
             return push_data(alloc, line, sizes.asdu, body);
         }
     }
-    Ok(Outcome::Good)
+    Ok(Condition::Good)
 }
 
 /// Appends control octet and address.

@@ -6,7 +6,7 @@ ghost use Rattle.words.specs.Told.{IsTcpTold};
 use crate::connections::words_of_connection;
 use crate::lines::words_of_line;
 use crate::pipes::{apdu_end, line_end};
-use show::{LineSizes, Outcome, Shown, show_line, show_tcp};
+use show::{Condition, LineSizes, Shown, show_line, show_tcp};
 use std::alloc::{AllocError, Global};
 
 /// What stands at the front of octets of the line, in one line of words or with a fact a line.
@@ -17,7 +17,7 @@ pub fn tell_line(
     words: bool,
 ) -> Result<Shown, AllocError>
     ensures { IfOk result (λ shown.
-        IsLineTold words sizes octets.now (string_bytes shown.lines) shown.outcome) }
+        IsLineTold words sizes octets.now (string_bytes shown.lines) shown.condition) }
 {
     if words {
         words_of_line(alloc, sizes, octets)
@@ -29,7 +29,7 @@ pub fn tell_line(
 /// What stands at the front of octets of the connection, told so.
 pub fn tell_apdu(alloc: Global, octets: &[u8], words: bool) -> Result<Shown, AllocError>
     ensures { IfOk result (λ shown.
-        IsTcpTold words octets.now (string_bytes shown.lines) shown.outcome) }
+        IsTcpTold words octets.now (string_bytes shown.lines) shown.condition) }
 {
     if words {
         words_of_connection(alloc, octets)
@@ -47,45 +47,45 @@ pub fn tell_line_frames(
     words: bool,
 ) -> Result<Shown, AllocError>
     ensures { IfOk result (λ shown.
-        AreLineFramesTold words sizes octets.now (string_bytes shown.lines) shown.outcome) }
+        AreLineFramesTold words sizes octets.now (string_bytes shown.lines) shown.condition) }
 {
     let mut lines = String::new(alloc);
-    let mut outcome = Outcome::Good;
+    let mut condition = Condition::Good;
     let mut left = octets;
     'frames: while !left.is_empty() {
         let end = line_end(sizes.link, left);
         let shown = tell_line(alloc, sizes, &left[..end], words)?;
         lines.push_str(shown.lines.as_str())?;
-        outcome = both(outcome, shown.outcome);
+        condition = both(condition, shown.condition);
         left = &left[end..];
     }
-    Ok(Shown { lines, outcome })
+    Ok(Shown { lines, condition })
 }
 
 /// Tells octets of the connection APDU by APDU, and those at whose front none is whole together.
 pub fn tell_apdus(alloc: Global, octets: &[u8], words: bool) -> Result<Shown, AllocError>
     ensures { IfOk result (λ shown.
-        AreApdusTold words octets.now (string_bytes shown.lines) shown.outcome) }
+        AreApdusTold words octets.now (string_bytes shown.lines) shown.condition) }
 {
     let mut lines = String::new(alloc);
-    let mut outcome = Outcome::Good;
+    let mut condition = Condition::Good;
     let mut left = octets;
     'apdus: while !left.is_empty() {
         let end = apdu_end(left);
         let shown = tell_apdu(alloc, &left[..end], words)?;
         lines.push_str(shown.lines.as_str())?;
-        outcome = both(outcome, shown.outcome);
+        condition = both(condition, shown.condition);
         left = &left[end..];
     }
-    Ok(Shown { lines, outcome })
+    Ok(Shown { lines, condition })
 }
 
 /// Two are as they should be, where both are.
-pub fn both(one: Outcome, other: Outcome) -> Outcome
+pub fn both(one: Condition, other: Condition) -> Condition
     ensures { result ≡ both_of one other }
 {
     match one {
-        Outcome::Good => other,
-        Outcome::Faulty => Outcome::Faulty,
+        Condition::Good => other,
+        Condition::Faulty => Condition::Faulty,
     }
 }

@@ -4,7 +4,7 @@ ghost use Rattle.std.specs.Option.{option_copied};
 ghost use Rattle.asdu.specs.Asdu.{IsAsdu};
 ghost use Rattle.asdu.specs.Fields.{IsHeadOf};
 ghost use Rattle.asdu.specs.Reading.{value_of};
-ghost use Rattle.show.specs.Units.{unit_outcome};
+ghost use Rattle.show.specs.Units.{unit_condition};
 ghost use Rattle.words.specs.Units.{asdu_words, ca_text, cause_text, cause_words, content_words};
 ghost use Rattle.words.specs.Units.{data_words, header_words, kind_words, named, objects_words};
 ghost use Rattle.words.specs.Units.{originator_text, parting as parting_of, place_words};
@@ -14,7 +14,7 @@ use crate::numbers::push_mark;
 use crate::objects::push_object;
 use asdu::{Asdu, Head, Refused, Sizes};
 use elements::{cause_name, type_name};
-use show::Outcome;
+use show::Condition;
 use std::alloc::{AllocError, Global};
 
 /// Appends the data of a frame, if it has any, and says whether they are as they should be.
@@ -24,13 +24,13 @@ pub(crate) fn push_data(
     line: &mut String,
     sizes: Sizes,
     octets: &[u8],
-) -> Result<Outcome, AllocError>
+) -> Result<Condition, AllocError>
     ensures words { OnOk result (string_bytes line.new
         ≡ string_bytes line.old ++ data_words sizes octets.now) }
-    ensures outcome { IfOk result (λ outcome. outcome ≡ unit_outcome sizes octets.now) }
+    ensures condition { IfOk result (λ condition. condition ≡ unit_condition sizes octets.now) }
 {
     if octets.is_empty() {
-        return Ok(Outcome::Good);
+        return Ok(Condition::Good);
     }
     line.push_str("  ")?;
     push_asdu(alloc, line, sizes, octets)
@@ -43,15 +43,15 @@ fn push_asdu(
     line: &mut String,
     sizes: Sizes,
     octets: &[u8],
-) -> Result<Outcome, AllocError>
+) -> Result<Condition, AllocError>
     requires { octets.now ≡ [] → ⊥ }
     ensures words { OnOk result (string_bytes line.new
         ≡ string_bytes line.old ++ asdu_words sizes octets.now) }
-    ensures outcome { IfOk result (λ outcome. outcome ≡ unit_outcome sizes octets.now) }
+    ensures condition { IfOk result (λ condition. condition ≡ unit_condition sizes octets.now) }
 {
     let Some(head) = asdu::head(sizes, octets) else {
         line.push_str("no ASDU: too short")?;
-        return Ok(Outcome::Faulty);
+        return Ok(Condition::Faulty);
     };
     push_header(line, sizes, octets, &head)?;
     push_content(alloc, line, sizes, octets)
@@ -165,20 +165,20 @@ fn push_content(
     line: &mut String,
     sizes: Sizes,
     octets: &[u8],
-) -> Result<Outcome, AllocError>
+) -> Result<Condition, AllocError>
     requires { octets.now ≡ [] → ⊥ }
     ensures words { OnOk result (string_bytes line.new
         ≡ string_bytes line.old ++ content_words sizes octets.now) }
-    ensures outcome { IfOk result (λ outcome. outcome ≡ unit_outcome sizes octets.now) }
+    ensures condition { IfOk result (λ condition. condition ≡ unit_condition sizes octets.now) }
 {
     match asdu::read(sizes, octets) {
         Ok(asdu) => {
             push_objects(alloc, line, &asdu)?;
-            Ok(Outcome::Good)
+            Ok(Condition::Good)
         }
         Err(Refused(why)) => {
             push_reason(line, why)?;
-            Ok(Outcome::Faulty)
+            Ok(Condition::Faulty)
         }
     }
 }

@@ -39,10 +39,11 @@ returns-then-is_over g c =
     c.auditing.course.halt
     c.auditing.course.standing so c.advance.new.blocks c.lines.result.now c.lines.ensures
     c.in_ok-advance.ensures.block part of (sym c.is_over-in-auditing.ensures ∙ c.if-is_over.true)
-    c.run_part.new.gateway after.halt after.standing c.verdict_of.result ran.0 ran.2 ran.1
+    c.run_part.new.gateway after.halt after.standing c.comparison_of.result ran.0 ran.2 ran.1
     (c.steps_keep_their_order.ensures.settings settings after.halt.log ran.1)
     (c.nothing_is_lost.ensures (setup_of settings) after.halt.log ran.1)
-    (c.verdict_of.ensures settings (so.lines ++ parts_after 10 part) c.run_part.new.gateway ran.0)
+    (c.comparison_of.ensures settings (so.lines ++ parts_after 10 part) c.run_part.new.gateway
+    ran.0)
 
 pub auditing-preserved : goal.auditing-preserved
 auditing-preserved g c =

@@ -8,8 +8,8 @@ pub returns-in-Ok : goal.returns-in-Ok
 returns-in-Ok g c =
     audited c.args.config.now (g.S.Source.has c.args.text.now) c.in_ok-config.config
     (g.S.Text.Read.remaining c.in_ok-text.text) c.in_ok-config.ensures c.in_ok-text.ensures.text
-    c.in-Ok.verdict
-    c.answer_verdict.result c.in-Ok.ensures c.answer_verdict.ensures
+    c.in-Ok.comparison
+    c.answer_comparison.result c.in-Ok.ensures c.answer_comparison.ensures
 
 pub returns : goal.returns
 returns g c =

@@ -28,7 +28,7 @@ returns-in_err-advance g c =
     c.from_residual.ensures.1
     (pipe_wanted c.args.piped c.args.words (Gives known) old new fault
     c.in_err-advance.ensures.fault
-    (inr (some_piped c.args.piped c.args.words known c.piping.blocks.coming c.piping.outcome old new
+    (inr (some_piped c.args.piped c.args.words known c.piping.blocks.coming c.piping.condition old new
     c.piping.invariant.run)))
 
 pub returns-in_err-shown : goal.returns-in_err-shown
@@ -41,7 +41,7 @@ returns-in_err-shown g c =
     c.from_residual-in_err-shown.result fault
     c.from_residual-in_err-shown.ensures.1
     (pipe_wanted c.args.piped c.args.words (Gives known) old new fault c.in_err-shown.ensures.fault
-    (inr (some_piped c.args.piped c.args.words known c.piping.blocks.coming c.piping.outcome old new
+    (inr (some_piped c.args.piped c.args.words known c.piping.blocks.coming c.piping.condition old new
     c.piping.invariant.run)))
 
 pub returns-in-Err : goal.returns-in-Err
@@ -50,10 +50,10 @@ returns-in-Err g c =
     let new = g.W.Write.contents c.print.new.out in
     let shown = c.in_ok-shown.shown in
     pipes_cut c.args.piped c.args.words (g.R.Read.remaining c.args.text) c.piping.blocks.coming
-    c.piping.outcome
+    c.piping.condition
     (g.W.Write.contents c.args.out.now) mid c.piping.invariant.run c.advance.new.blocks
     c.lines-lines.result.now
-    c.lines-lines.ensures c.in_ok-advance.ensures.block (string_bytes shown.lines) shown.outcome _
+    c.lines-lines.ensures c.in_ok-advance.ensures.block (string_bytes shown.lines) shown.condition _
     new
     c.in_ok-shown.ensures.shown refl
     (subst (λ (xs : List ℕ). IsBegun mid new xs) c.as_bytes.ensures.value c.in-Err.ensures.begun)
@@ -64,12 +64,12 @@ returns-then-is_over g c =
     let new = g.W.Write.contents c.print.new.out in
     let shown = c.in_ok-shown.shown in
     pipes_all c.args.piped c.args.words (g.R.Read.remaining c.args.text) c.piping.blocks.coming
-    c.piping.outcome
+    c.piping.condition
     (g.W.Write.contents c.args.out.now) mid c.piping.invariant.run c.advance.new.blocks
     c.lines-lines.result.now
-    c.lines-lines.ensures c.in_ok-advance.ensures.block (string_bytes shown.lines) shown.outcome
-    c.both-outcome.result new
-    c.in_ok-shown.ensures.shown c.both-outcome.ensures (sym c.is_over.ensures ∙ c.if-is_over.true)
+    c.lines-lines.ensures c.in_ok-advance.ensures.block (string_bytes shown.lines) shown.condition
+    c.both-condition.result new
+    c.in_ok-shown.ensures.shown c.both-condition.ensures (sym c.is_over.ensures ∙ c.if-is_over.true)
     (subst (λ (xs : List ℕ). Appends mid new xs) c.as_bytes.ensures.value c.in-Ok.ensures.all)
 
 pub piping-preserved : goal.piping-preserved
@@ -80,12 +80,12 @@ piping-preserved g c =
     let shown = c.in_ok-shown.shown in
     record {
       run = pipes_on c.args.piped c.args.words (g.R.Read.remaining c.args.text)
-          c.piping.blocks.coming c.piping.outcome
+          c.piping.blocks.coming c.piping.condition
           (g.W.Write.contents c.args.out.now) mid c.piping.invariant.run c.advance.new.blocks
           c.lines-lines.result.now
           c.lines-lines.ensures c.in_ok-advance.ensures.block (string_bytes shown.lines)
-          shown.outcome
-          c.both-outcome.result new c.in_ok-shown.ensures.shown c.both-outcome.ensures goes_on
+          shown.condition
+          c.both-condition.result new c.in_ok-shown.ensures.shown c.both-condition.ensures goes_on
           (subst (λ (xs : List ℕ). Appends mid new xs) c.as_bytes.ensures.value
           c.in-Ok.ensures.all);
       goes_on = goes_on;
@@ -96,5 +96,5 @@ returns g c =
     let known = g.R.Read.remaining c.args.text in
     pipe_wanted c.args.piped c.args.words (Gives known) (g.W.Write.contents c.args.out.now)
     (g.W.Write.contents c.piping.out) NoMemory tt
-    (inr (some_piped c.args.piped c.args.words known c.piping.blocks.coming c.piping.outcome
+    (inr (some_piped c.args.piped c.args.words known c.piping.blocks.coming c.piping.condition
     (g.W.Write.contents c.args.out.now) (g.W.Write.contents c.piping.out) c.piping.invariant.run))

@@ -20,12 +20,12 @@ showing-preserved g c =
     let line = c.cut.result.0.now in
     let left : List (List ℕ) = parts_after 10 (option_copied c.cut.result.1) in
     let text : List ℕ = string_bytes c.showing.lines in
-    let h : LinesTo piped words all (line ∷ left) text c.showing.outcome =
-    subst (λ (ls : List (List ℕ)). LinesTo piped words all ls text c.showing.outcome)
+    let h : LinesTo piped words all (line ∷ left) text c.showing.condition =
+    subst (λ (ls : List (List ℕ)). LinesTo piped words all ls text c.showing.condition)
     (ap (λ (x : Option (Bor (List ℕ))). parts_after 10 (option_copied x)) c.in-Some.is
     ∙ c.cut.ensures)
     c.showing.invariant in
-    let added = c.in_ok-outcome.ensures piped words (octets_in line) c.in_ok-shown.ensures in
+    let added = c.in_ok-condition.ensures piped words (octets_in line) c.in_ok-shown.ensures in
     lines_on piped words all left line text added.text (string_bytes c.push_shown.new.lines)
-    c.showing.outcome added.one
-    c.in_ok-outcome.outcome h added.shown added.added added.judged
+    c.showing.condition added.one
+    c.in_ok-condition.condition h added.shown added.added added.judged

@@ -8,4 +8,4 @@ use Rattle.telegate.proofs.piping.show_lines.Given as goal
 abbrev pub invariant-showing : goal.invariant-showing
 invariant-showing g l = LinesTo l.piped l.words (lines_of l.fn.text)
     (parts_after 10 (option_copied l.left))
-    (string_bytes l.lines) l.outcome
+    (string_bytes l.lines) l.condition

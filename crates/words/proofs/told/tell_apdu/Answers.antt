@@ -6,11 +6,11 @@ use Rattle.words.proofs.told.tell_apdu.Goals as goal
 pub returns-then-words : goal.returns-then-words
 returns-then-words c =
     subst (λ (b : Bool). IfOk c.words_of_connection.result (λ shown.
-    IsTcpTold b c.args.octets.now (string_bytes shown.lines) shown.outcome))
+    IsTcpTold b c.args.octets.now (string_bytes shown.lines) shown.condition))
     (sym c.if-words.true) c.words_of_connection.ensures
 
 pub returns-else-words : goal.returns-else-words
 returns-else-words c =
     subst (λ (b : Bool). IfOk c.show_tcp.result (λ shown.
-    IsTcpTold b c.args.octets.now (string_bytes shown.lines) shown.outcome))
+    IsTcpTold b c.args.octets.now (string_bytes shown.lines) shown.condition))
     (sym c.if-words.false) c.show_tcp.ensures

@@ -11,20 +11,21 @@ apdus-preserved c =
     let end = c.apdu_end-end.result in
     let text : List ℕ = string_bytes c.in_ok-shown.shown.lines in
     subst (λ (xs : List ℕ). IsToldUpTo IsApduEnd (IsTcpTold c.args.words) c.args.octets.now
-    (string_bytes c.push_str.new.self) xs c.both-outcome.result)
+    (string_bytes c.push_str.new.self) xs c.both-condition.result)
     (sym (rest_is end left c.apdu_end-end.ensures.within))
     (told_on IsApduEnd (IsTcpTold c.args.words) c.args.octets.now
-    (string_bytes c.apdus.lines) left text (string_bytes c.push_str.new.self) end c.apdus.outcome
-    c.in_ok-shown.shown.outcome c.both-outcome.result c.apdus.invariant c.apdu_end-end.ensures.some
+    (string_bytes c.apdus.lines) left text (string_bytes c.push_str.new.self) end c.apdus.condition
+    c.in_ok-shown.shown.condition c.both-condition.result c.apdus.invariant
+    c.apdu_end-end.ensures.some
     c.apdu_end-end.ensures.end
     c.in_ok-shown.ensures
     (c.in_ok-push_str.ensures.bytes ∙ ap (λ (xs : List ℕ). string_bytes c.apdus.lines ++ xs)
     c.as_str.ensures.value)
-    c.both-outcome.ensures)
+    c.both-condition.ensures)
 
 pub returns : goal.returns
 returns c =
     let none : length c.apdus.left.now ≡ 0 = search rules in
     told_all IsApduEnd (IsTcpTold c.args.words) c.args.octets.now
-    (string_bytes c.apdus.lines) c.apdus.left.now c.apdus.outcome c.apdus.invariant
+    (string_bytes c.apdus.lines) c.apdus.left.now c.apdus.condition c.apdus.invariant
     (none_left c.apdus.left.now none)

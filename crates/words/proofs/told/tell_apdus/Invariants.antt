@@ -6,7 +6,7 @@ use Rattle.words.proofs.told.tell_apdus.Given as goal
 
 abbrev pub invariant-apdus : goal.invariant-apdus
 invariant-apdus l = IsToldUpTo IsApduEnd (IsTcpTold l.words) l.octets (string_bytes l.lines) l.left
-    l.outcome
+    l.condition
 
 abbrev pub decreases-apdus : goal.decreases-apdus
 decreases-apdus l = length l.left

@@ -12,20 +12,22 @@ frames-preserved c =
     let text : List ℕ = string_bytes c.in_ok-shown.shown.lines in
     subst (λ (xs : List ℕ). IsToldUpTo (IsLineEnd c.args.sizes.link)
     (IsLineTold c.args.words c.args.sizes) c.args.octets.now
-    (string_bytes c.push_str.new.self) xs c.both-outcome.result)
+    (string_bytes c.push_str.new.self) xs c.both-condition.result)
     (sym (rest_is end left c.line_end-end.ensures.within))
     (told_on (IsLineEnd c.args.sizes.link) (IsLineTold c.args.words c.args.sizes) c.args.octets.now
-    (string_bytes c.frames.lines) left text (string_bytes c.push_str.new.self) end c.frames.outcome
-    c.in_ok-shown.shown.outcome c.both-outcome.result c.frames.invariant c.line_end-end.ensures.some
+    (string_bytes c.frames.lines) left text (string_bytes c.push_str.new.self) end
+    c.frames.condition
+    c.in_ok-shown.shown.condition c.both-condition.result c.frames.invariant
+    c.line_end-end.ensures.some
     c.line_end-end.ensures.end
     c.in_ok-shown.ensures
     (c.in_ok-push_str.ensures.bytes ∙ ap (λ (xs : List ℕ). string_bytes c.frames.lines ++ xs)
     c.as_str.ensures.value)
-    c.both-outcome.ensures)
+    c.both-condition.ensures)
 
 pub returns : goal.returns
 returns c =
     let none : length c.frames.left.now ≡ 0 = search rules in
     told_all (IsLineEnd c.args.sizes.link) (IsLineTold c.args.words c.args.sizes) c.args.octets.now
-    (string_bytes c.frames.lines) c.frames.left.now c.frames.outcome c.frames.invariant
+    (string_bytes c.frames.lines) c.frames.left.now c.frames.condition c.frames.invariant
     (none_left c.frames.left.now none)

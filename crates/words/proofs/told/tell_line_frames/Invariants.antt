@@ -7,7 +7,7 @@ use Rattle.words.proofs.told.tell_line_frames.Given as goal
 abbrev pub invariant-frames : goal.invariant-frames
 invariant-frames l = IsToldUpTo (IsLineEnd l.sizes.link) (IsLineTold l.words l.sizes) l.octets
     (string_bytes l.lines)
-    l.left l.outcome
+    l.left l.condition
 
 abbrev pub decreases-frames : goal.decreases-frames
 decreases-frames l = length l.left

@@ -1,7 +1,7 @@
 use Rattle.std.proofs.Common.{ℕ, ◌∙◌, length, arith, ap, subst, length-drop}
 use Rattle.std.proofs.Math.ListN.{drop_of_length-le}
 use Rattle.gateway.specs.Agrees.{Awaits}
-use Rattle.gateway.specs.declared.step.Outcome.TheVariants.{On, Over, Failed}
+use Rattle.gateway.specs.declared.step.Progress.TheVariants.{On, Over, Failed}
 use Rattle.gateway.proofs.Events.{told_idle}
 use Rattle.gateway.proofs.Onward.{rest_is, goes_from, goes_as, onward, put_by}
 use Rattle.gateway.proofs.engine.Gateway.receive.Goals as goal

@@ -17,7 +17,7 @@ invariant_of-self-else-is_err g c =
     record {
       written =
           rw held (more_written c.printed_lines_read_back.ensures.log
-          (g.W.Sheet.taken c.self.inside.sheet)
+          (g.W.RecordSheet.taken c.self.inside.sheet)
           c.self.inside.held line (record {
             news = went ∷ [];
             printable = (printable, tt);

@@ -15,7 +15,7 @@ invariant_of-self-else-is_err g c =
     record {
       written =
           rw held (more_written c.printed_lines_read_back.ensures.log
-          (g.W.Sheet.taken c.self.inside.sheet)
+          (g.W.RecordSheet.taken c.self.inside.sheet)
           c.self.inside.held (lines_of_log news) (record {
             news = news;
             printable = printable;

@@ -1,7 +1,7 @@
 use Rattle.std.proofs.Common.{subst}
 use Rattle.record.specs.Rerunning.{Stands}
 use Rattle.record.proofs.CompareLemmas.{told_behind, told_level, told_off}
-use Rattle.record.proofs.audit.verdict_of.Goals as goal
+use Rattle.record.proofs.audit.comparison_of.Goals as goal
 
 pub returns-in-Level : goal.returns-in-Level
 returns-in-Level c = λ settings lines state stands. told_level settings lines state

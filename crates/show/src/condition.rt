@@ -1,12 +1,12 @@
 //! What octets in words are, and whether they were as they should be.
 ghost use Rattle.std.specs.Prelude.{◌≡◌, ◌++◌, OnOk, string_bytes};
-ghost use Rattle.show.specs.Outcome.{rest_line, with_rest};
+ghost use Rattle.show.specs.Condition.{rest_line, with_rest};
 
 use std::alloc::AllocError;
 
 /// Whether octets are as they should be.
 #[derive(Clone, Copy, Debug, PartialEq, Eq)]
-pub enum Outcome {
+pub enum Condition {
     /// One whole frame, with no data or an ASDU that could be read, and nothing after it.
     Good,
     /// No whole frame, an ASDU that was refused, or octets after the frame.
@@ -18,15 +18,15 @@ pub enum Outcome {
 pub struct Shown {
     /// One fact a line, each ended by a line feed.
     pub lines: String,
-    pub outcome: Outcome,
+    pub condition: Condition,
 }
 
-impl Outcome {
-    /// The outcome where so many octets follow the frame.
-    pub(crate) fn with_rest(self, rest: usize) -> Outcome
+impl Condition {
+    /// The condition where so many octets follow the frame.
+    pub(crate) fn with_rest(self, rest: usize) -> Condition
         ensures { result ≡ with_rest rest self }
     {
-        if rest == 0 { self } else { Outcome::Faulty }
+        if rest == 0 { self } else { Condition::Faulty }
     }
 }
 

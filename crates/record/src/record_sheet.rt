@@ -6,7 +6,7 @@ use std::io::{Eprint, Print};
 
 /// Where a text goes. One that tells what it took adds each text that it took, and one that tells
 /// what passed unwritten adds that.
-pub trait Sheet {
+pub trait RecordSheet {
     ghost use Rattle.gateway.specs.Log.{LogEntry, Went, tell};
     ghost use Rattle.gateway.specs.Ports.{FitsBuffer, output_of, told_by};
     ghost use Rattle.record.specs.Recording.{added};
@@ -55,7 +55,7 @@ impl<'a, R> StandardOutput<'a, R> {
     }
 }
 
-impl<R: Print + Eprint> Sheet for StandardOutput<'_, R> {
+impl<R: Print + Eprint> RecordSheet for StandardOutput<'_, R> {
     ghost taken = { λ _. None };
 
     ghost missed = { λ _. None };
