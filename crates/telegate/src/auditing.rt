@@ -7,7 +7,7 @@ use crate::check::read_config;
 use crate::fault::{BAD_CONTENT, DONE, Fault};
 use crate::replay::open;
 use crate::source::Source;
-use record::{RecordFault, Comparison, audit_text};
+use record::{Comparison, RecordFault, audit_text};
 use std::alloc::Global;
 
 /// Runs the gateway over the events of a record, and answers whether its actions are the record's.

@@ -13,7 +13,7 @@ use crate::fault::{BAD_CONTENT, DONE, Fault};
 use crate::performing::{print, write_fault};
 use crate::replay::{advance, open};
 use crate::source::Source;
-use show::{LineSizes, Condition, Shown};
+use show::{Condition, LineSizes, Shown};
 use std::alloc::{AllocError, Global};
 use std::io;
 use std::io::{Read, Write};
