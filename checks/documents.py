@@ -36,7 +36,7 @@ PLAIN = ["README.md", "CONTRIBUTING.md", "SECURITY.md", "packaging/README.md", "
 PLAIN += [f"docs/{name}.md" for name in ("COMMISSIONING", "RUNNING", "TROUBLE", "GLOSSARY")]
 PLAIN += [f"docs/{name}.md" for name in ("SETTINGS", "SITE", "STATUS", "TEXTS", "STATIONS")]
 PLAIN += [f"docs/{name}.md" for name in ("PROFILE", "INTEROPERABILITY", "LIBRARY")]
-PLAIN += [f"docs/{name}.md" for name in ("PROOFS", "PARTS", "PROGRAM", "MISREADINGS", "PERFORMANCE")]
+PLAIN += [f"docs/{name}.md" for name in ("PROOFS", "MISREADINGS", "PERFORMANCE")]
 PLAIN += [f"docs/{name}.md" for name in ("ARCHITECTURE", "CHANGING", "DECISIONS", "TESTS", "GATE")]
 # What a sentence names as a file: a path with one of these endings, or in one of these folders.
 NAMED = re.compile(r"`?(?<![\w/])((?:bench|checks|crates|docs|examples|packaging|tools|specs|src|\.ci)/[\w./*-]*\w|[\w-]+\.(?:md|txt|py))`?")
@@ -51,8 +51,12 @@ def read(name):
         return file.read()
 
 
+def crate_pages():
+    return sorted(glob.glob("crates/*/README.md", root_dir=TOP))
+
+
 def documents():
-    names = [*sorted(glob.glob("*.md", root_dir=TOP)), *sorted(glob.glob("docs/*.md", root_dir=TOP)), *sorted(glob.glob("packaging/*.md", root_dir=TOP))]
+    names = [*sorted(glob.glob("*.md", root_dir=TOP)), *sorted(glob.glob("docs/*.md", root_dir=TOP)), *sorted(glob.glob("packaging/*.md", root_dir=TOP)), *crate_pages()]
     return {name: read(name) for name in names}
 
 
@@ -215,7 +219,7 @@ def lists(count, program, _folder):
     judge_version(count, program, texts)
     judge_crates(count, texts["docs/ARCHITECTURE.md"])
     judge_list(count, texts["docs/TESTS.md"])
-    for name in PLAIN:
+    for name in PLAIN + crate_pages():
         judge_sentences(count, name, texts[name])
 
 

@@ -4,7 +4,7 @@
     checks/names.py [--program FILE] [--only NAME] [--all]
 
 Prose is what stands behind `//` in src/ of a crate, and README.md, CONTRIBUTING.md, SECURITY.md,
-docs/*.md and packaging/*.md outside of their blocks. A name is what one can write in code:
+docs/*.md, packaging/*.md and crates/*/README.md outside of their blocks. A name is what one can write in code:
 
 - `Owner::member` has to be a function, variant, field or constant of that type, trait or crate,
   here or in the toolchain's libraries.
@@ -40,7 +40,7 @@ FILE = re.compile(r"(?:bench|checks|crates|docs|examples|packaging|specs|src|too
 # A type of the standard (IEC 60870-5-101, 7.2.1), or an octet or a digit in hexadecimal.
 STANDARD = re.compile(r"[MCPF]_[A-Z]{2}_[A-Z]{2}_\d|[0-9A-F]{2}|[A-Z]\w?")
 # Where prose stands beside the crates, and where names stand that are no Rust.
-PAGES = ["README.md", "CONTRIBUTING.md", "SECURITY.md", "docs/*.md", "packaging/*.md"]
+PAGES = ["README.md", "CONTRIBUTING.md", "SECURITY.md", "docs/*.md", "packaging/*.md", "crates/*/README.md"]
 PAGES += ["docs/pictures/make.py"]
 BESIDE = ["crates/*/must-fail/*", "checks/**/*.py", "bench/**/*", "tools/*.py", "examples/**/*"]
 BESIDE += ["packaging/**/*", "crates.txt", "test", "build", "telegate"]
