@@ -111,18 +111,18 @@ due_keeps passed i (Some d) old new (false, mid, r, e) =
     ap (λ (s : OutstationsState). s.late) e
     ∙ reported_keeps d.station d.class d.report old false mid r
 
-reported_keeps : (passed n : ℕ) (old new : OutstationsState) → LinesReport passed n old new →
+lines_keep : (passed n : ℕ) (old new : OutstationsState) → LinesReport passed n old new →
     new.late ≡ old.late
-reported_keeps passed zero old new h = ap (λ (s : OutstationsState). s.late) h
-reported_keeps passed (suc n) old new h =
-    due_keeps passed n (due_in passed n h.0.cues) h.0 new h.2 ∙ reported_keeps passed n old h.0 h.1
+lines_keep passed zero old new h = ap (λ (s : OutstationsState). s.late) h
+lines_keep passed (suc n) old new h =
+    due_keeps passed n (due_in passed n h.0.cues) h.0 new h.2 ∙ lines_keep passed n old h.0 h.1
 
 since_keeps : (now : ℕ) (start : Option ℕ) (old new : OutstationServer)
     → ReportsSince now start old new →
     new.standing.late ≡ old.standing.late
 since_keeps now None old new h = ap (λ (p : OutstationServer). p.standing.late) h
 since_keeps now (Some start) old new h =
-    reported_keeps (passed_since start now) (length old.standing.cues) old.standing new.standing
+    lines_keep (passed_since start now) (length old.standing.cues) old.standing new.standing
     h.reported
 
 gives_keeps : (i : ℕ) (reply : Option (List ℕ)) (old new : OutstationsState) →
