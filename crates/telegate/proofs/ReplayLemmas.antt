@@ -133,7 +133,7 @@ stopped_by manner r closing settings known old new began begins = by
     either (inl keeps) = inl keeps
     either (inr s) =
         inr (stopped manner r (Gives known) closing settings s.octets s.log s.lines old new s.given
-        (s.faithful (setup_of settings) begins tt) s.told s.rest s.events s.begun)
+        (s.faithful (setup_of settings) begins tt) s.written s.rest s.events s.begun)
 
     by : (fault : Fault) → IsWant fault → Keeps old new
         ⊎ IsStoppedOver (IsTextBy manner settings) r known began old new
