@@ -47,7 +47,12 @@ fn starts_the_second(rt: &impl Abort, master: &mut Master) {
     assert!(rt; sends(master.next(0, true), &STATUS));
     assert!(rt; matches!(master.due(200), Outcome::None));
     assert!(rt; sends(master.next(200, true), &[0x10, 0x49, 0x02, 0x4B, 0x16]));
-    assert!(rt; matches!(master.octets(&[0x10, 0x0B, 0x02, 0x0D, 0x16], &mut None), Outcome::None));
+    assert!(rt;
+        matches!(
+            master.octets(&[0x10, 0x0B, 0x02, 0x0D, 0x16], &mut None),
+            Outcome::None
+        )
+    );
     assert!(rt; sends(master.next(201, true), &[0x10, 0x40, 0x02, 0x42, 0x16]));
     assert!(rt; matches!(master.octets(&[0xE5], &mut None), Outcome::Started(1)));
     assert!(rt; sends(master.next(202, true), &STATUS));
