@@ -142,9 +142,9 @@ impl<D: Disk> Segment<D> {
         file
     }
 
-    /// Whatever a crash leaves now begins with the text that is synced; and where the disk says that
-    /// a crash leaves each octet old or new, there is nothing behind that but octets of the text,
-    /// and zeros.
+    /// Whatever a crash leaves now begins with the text that is synced. Where the disk says that a
+    /// crash leaves each octet old or new, there is nothing behind that but octets of the text, and
+    /// zeros.
     pub fn survives(&self)
         ensures long { HasLength (outcomes_of self.now) (size_of self.now) }
         ensures kept { BeginsWith (outcomes_of self.now) (durable_of self.now) (text_of self.now) }

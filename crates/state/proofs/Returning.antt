@@ -1,5 +1,5 @@
 -- A start behind a crash.
-use Rattle.std.proofs.Common.{◌≡◌, ◌∙◌, ◌⊎◌, inl, inr, ℕ, ◌+◌, ◌<◌, ◌≤◌, Bool, true, false, IsTrue}
+use Rattle.std.proofs.Common.{◌≡◌, ◌∙◌, inl, inr, ℕ, ◌+◌, Bool, true, false}
 use Rattle.std.proofs.Common.{List, [], ◌∷◌, ◌++◌, drop, length, reverse, Option, Some, refl, sym}
 use Rattle.std.proofs.Common.{ap}
 use Rattle.std.proofs.Common.{subst, arith}
@@ -19,14 +19,13 @@ use Rattle.segments.proofs.Fronts.{not_shut}
 use Rattle.statetext.specs.Text.{lines_in}
 use Rattle.state.specs.Beginnings.{AreLinesRead, GoesOnBy, GoesOnFrom, IsHeadOf, IsMoved, WentOn}
 use Rattle.state.specs.Beginnings.{has_past, is_trusted}
-use Rattle.state.specs.Crashed.{AreLeft, IsKeptIn}
-use Rattle.state.specs.Deeds.{Deeds, waiting}
-use Rattle.state.specs.Origins.{IsBegun, IsMarkedBy}
+use Rattle.state.specs.Crashed.{IsKeptIn}
+use Rattle.state.specs.Deeds.{Deeds}
+use Rattle.state.specs.Origins.{IsMarkedBy}
 use Rattle.state.specs.Replays.{ToldGap, events_in_front, whole_lines}
-use Rattle.state.specs.Returns.{HasOlder, HasReturned, IsBegunOver}
+use Rattle.state.specs.Returns.{HasReturned, IsBegunOver}
 use Rattle.state.specs.Stores.{head, safe}
 use Rattle.state.specs.declared.beginning.Origin.{Origin}
-use Rattle.state.specs.declared.opened.Opened.TheVariants as opens
 use Rattle.state.specs.declared.start.Beginning.{Beginning}
 use Rattle.state.specs.declared.start.Beginning.TheVariants as beginnings
 

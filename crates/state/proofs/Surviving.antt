@@ -1,34 +1,32 @@
 -- What outlives a crash of what a store has.
-use Rattle.std.proofs.Common.{◌≡◌, ◌∙◌, ℕ, ◌+◌, ◌-◌, ◌<◌, ◌≤◌, ◌^◌, Bool, true, false, List, []}
+use Rattle.std.proofs.Common.{◌≡◌, ◌∙◌, ℕ, ◌+◌, ◌-◌, ◌<◌, ◌≤◌, ◌^◌, true, List, []}
 use Rattle.std.proofs.Common.{◌∷◌}
-use Rattle.std.proofs.Common.{◌++◌, length, take, drop, map, Option, Some, None, refl, sym, ap}
+use Rattle.std.proofs.Common.{◌++◌, length, take, drop, map, Some, refl, sym, ap}
 use Rattle.std.proofs.Common.{subst}
 use Rattle.std.proofs.Common.{arith}
-use Rattle.std.specs.List.{All, AllByRecursion}
-use Rattle.std.proofs.lemmas.List.{length-append, length-drop, length-take-le, take-append-drop}
+use Rattle.std.specs.List.{AllByRecursion}
+use Rattle.std.proofs.lemmas.List.{length-drop, length-take-le, take-append-drop}
 use Rattle.sqlite_disk.specs.declared.Disk.{Ghosts}
-use Rattle.gateway.specs.Log.{Log, LogEntry}
+use Rattle.gateway.specs.Log.{Log}
 use Rattle.gateway.specs.Ports.{FitsBuffer, told_by}
 use Rattle.gateway.specs.Restored.{state_lines}
 use Rattle.gateway.specs.State.{State}
 use Rattle.gateway.specs.declared.ports.Next.{Next}
 use Rattle.gateway.specs.declared.ports.Next.TheVariants as answers
 use Rattle.segments.specs.Crash.{AreMixing, HasNoOther}
-use Rattle.segments.specs.Crashes.{HasNoZero, Survives, lines_behind}
-use Rattle.segments.specs.Head.{Fits, IsWholeText, head_for, whole_text}
+use Rattle.segments.specs.Crashes.{HasNoZero, Survives}
+use Rattle.segments.specs.Head.{Fits, head_for, whole_text}
 use Rattle.segments.specs.Segment.{durable_of, outcomes_of, text_of}
-use Rattle.segments.specs.declared.segment.Segment.{Segment}
 use Rattle.segments.proofs.Crashes.{whole_left}
-use Rattle.statetext.specs.Text.{lines_in}
 use Rattle.traces.specs.Event as events
 use Rattle.traces.specs.Event.{Event}
 use Rattle.traces.specs.Printed.{FitsTrace, IsPrintable, lines_of_log}
 use Rattle.traces.specs.Progress.{came}
 use Rattle.traces.proofs.ReadingBack.{log_above}
 use Rattle.state.specs.Crashed.{FitsLine, HasLog, IsKeptIn, IsWritable}
-use Rattle.state.specs.Deeds.{Deed, Deeds, Heard, Appended, Synced, Begun, GivenUp, PutOut, is_kept}
+use Rattle.state.specs.Deeds.{Deeds, Heard, Appended, Synced, Begun, GivenUp, PutOut, is_kept}
 use Rattle.state.specs.Deeds.{waiting}
-use Rattle.state.specs.Logs.{SurvivesAsTold, leaves_in, stored_in, told_by as told_of}
+use Rattle.state.specs.Logs.{SurvivesAsTold, leaves_in, stored_in}
 use Rattle.state.specs.Stores.{IsStored, Stored, head, lines_of_head, safe, written}
 use Rattle.state.specs.declared.opened.Current.{Current}
 use Rattle.state.specs.declared.opened.Opened.{Opened}
@@ -42,7 +40,7 @@ pub writable : (next : Next) (buf : List ℕ) → FitsBuffer next → FitsLine n
     → 1024 ≤ length buf → AllByRecursion IsPrintable (told_by next buf)
     → AllByRecursion IsWritable (told_by next buf)
 writable (answers.Line now len) buf fits line long all =
-    let count : length (take len buf) ≡ len = length-take-le len buf (omega (arith, fits, long)) in (
+    let count = length-take-le len buf (omega (arith, fits, long)) in (
       (
         events.line now (take len buf),
         (line.0, all.0.1, omega (arith, count, line.1), omega (arith, count, fits)),
@@ -52,7 +50,7 @@ writable (answers.Line now len) buf fits line long all =
     )
 writable (answers.Open now) buf fits line long all = ((events.opening now, line, refl), tt)
 writable (answers.Bytes now len) buf fits line long all =
-    let count : length (take len buf) ≡ len = length-take-le len buf (omega (arith, fits, long)) in (
+    let count = length-take-le len buf (omega (arith, fits, long)) in (
       (
         events.received now (take len buf),
         (line.0, all.0.1, omega (arith, count, line.1), omega (arith, count, fits)),

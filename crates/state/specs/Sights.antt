@@ -5,7 +5,6 @@ use Rattle.gateway.specs.Config.{Settings}
 use Rattle.gateway.specs.Log.{Log}
 use Rattle.segments.specs.Starts.{ArePlaced, HasNoNewer, IsNewest, IsShut, IsSound, before_zero}
 use Rattle.segments.specs.declared.start.Side.{Side}
-use Rattle.segments.specs.declared.start.Side.TheVariants as sides
 use Rattle.settings.specs.Settings.{IsReadOfText}
 use Rattle.state.specs.Beginnings.{AreLinesRead, BearsNumber, IsHeadOf, IsRead, has_past}
 use Rattle.state.specs.Replays.{ToldGap, events_in_front, whole_lines}

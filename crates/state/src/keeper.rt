@@ -163,9 +163,9 @@ impl<P: Watched + Drop, F: Folder + Drop> Keeper<Pair<P, DiskStore<F>>> {
     ghost use Rattle.state.specs.Returns.{IsBegunOver};
     ghost use Rattle.state.specs.declared.beginning.Origin.{Origin};
 
-    /// At any moment between two calls, while the state is kept: whatever a crash leaves then of the
-    /// log's file, a start reads there the state with which the log was begun, all events that are
-    /// synced, the oldest of those that wait, and no other line. So it goes on with each link.
+    /// At any moment between two calls, while the state is kept: whatever a crash leaves then of
+    /// the log's file, a start reads there the state with which the log was begun, all events that
+    /// are synced, the oldest of those that wait, and no other line. So it goes on with each link.
     pub fn survives(&self)
         ensures kept { is_kept self.now.ends.deeds ≡ true → AreMixing F.File.Disk →
             (file : List ℕ) → leaves_in self.now.ends.store.opened file →

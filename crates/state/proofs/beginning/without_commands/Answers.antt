@@ -1,4 +1,4 @@
-use Rattle.std.proofs.Common.{◌≡◌, ◌∙◌, ◌∷◌, ℕ, Some, ap, subst, sym}
+use Rattle.std.proofs.Common.{◌∙◌, ◌∷◌, ℕ, Some, ap, subst, sym}
 use Rattle.gateway.specs.Agrees.{Follows}
 use Rattle.gateway.specs.Log.{Came, Log, Restarted}
 use Rattle.state.proofs.beginning.without_commands.Goals as goal

@@ -1,4 +1,4 @@
-use Rattle.std.proofs.Common.{◌≡◌, ◌∙◌, IsTrue, inl, inr, ap, refl, subst, sym}
+use Rattle.std.proofs.Common.{◌∙◌, IsTrue, inl, inr, ap, refl, subst, sym}
 use Rattle.std.specs.Option.{is_some}
 use Rattle.state.specs.Beginnings.{AreLinesRead}
 use Rattle.state.specs.Sights.{IsSeen, IsSight}

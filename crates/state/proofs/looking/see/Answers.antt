@@ -1,4 +1,4 @@
-use Rattle.std.proofs.Common.{◌≡◌, List, ℕ, ap, drop, subst, sym}
+use Rattle.std.proofs.Common.{List, ℕ, ap, drop, subst, sym}
 use Rattle.statetext.specs.Text.{lines_in}
 use Rattle.state.specs.Beginnings.{IsHeadOf}
 use Rattle.state.specs.Unread.{HasState}

@@ -1,5 +1,4 @@
 use Rattle.std.proofs.Common.{◌≡◌, List, ℕ, Ok, ap₂, drop, subst}
-use Rattle.segments.specs.Found.{events_in}
 use Rattle.segments.specs.Starts.{before_zero}
 use Rattle.settings.specs.Settings.{IsReadOfText}
 use Rattle.statetext.specs.Text.{lines_in}
