@@ -108,8 +108,8 @@ pub fn translate(asdu: &Asdu) -> Pieces
     ensures number { array_vec_len result ≡ parts asdu.now.sizes asdu.now.octets.now }
     ensures few { array_vec_len result ≤ 3 }
 {
-    // How a long report is cut is this gateway's own profile (docs/DECISIONS.md, "Verdicts and pieces
-    // are ours").
+    // How a long report is cut is this gateway's own profile (docs/DECISIONS.md, "Verdicts and
+    // pieces are ours").
     let mut left = Translation::new(asdu);
     let mut pieces = Pieces::new();
     while !left.is_over() {

@@ -240,9 +240,9 @@ impl Commands {
         ensures fits { IfSome (answer_of result)
             (λ answer. (9 ≤ length answer) × (length answer ≤ 249)) }
     {
-        // As many octets as an I frame has, since an answer has the same (docs/DECISIONS.md, "9 to 249
-        // octets").
-        // An answer is made in one place, since there has to be room for each that may be.
+        // As many octets as an I frame has, since an answer has the same (docs/DECISIONS.md, "9 to
+        // 249 octets"). An answer is made in one place, since there has to be room for each that
+        // may be.
         match self.refusal_cause(octets, now, wall) {
             Some(cause) => Act::Own(refuse(cause, octets)),
             None => Act::Forward,
@@ -338,7 +338,8 @@ impl Commands {
         ensures { self.new ≡
             (if ends_selection command then without_selection command self.old else self.old) }
     {
-        // A deactivation calls the select itself off (docs/DECISIONS.md, "Select and deactivation").
+        // A deactivation calls the select itself off (docs/DECISIONS.md, "Select and
+        // deactivation").
         if command.is_deactivation() || command.is_execute() {
             self.tell(Sign::Over(command.target()));
         }

@@ -206,10 +206,9 @@ impl Selection {
     ) -> Option<Selection>
         ensures { result ≡ next_of select_ms (ConSign target element now) self }
     {
-        // A con before the acceptance answers an older select, and one past `select_ms` is too
-        // late (docs/DECISIONS.md, "An answer to an older select").
-        // Also where it is live already: then its time begins anew (docs/DECISIONS.md, "A second positive
-        // confirmation").
+        // A con before the acceptance answers an older select, and one past `select_ms` is too late
+        // (docs/DECISIONS.md, "An answer to an older select"). Also where it is live already: then
+        // its time begins anew (docs/DECISIONS.md, "A second positive confirmation").
         if self.is_named(target, element)
             && self.is_accepted()
             && now.saturating_sub(self.came) < select_ms

@@ -70,8 +70,8 @@ pub trait Port {
     ghost failed: { Self → ℕ };
 
     /// No event comes any more.
-    // Without it no clause could say that a run ends where nothing comes (docs/DECISIONS.md, "When a
-    // run is finished").
+    // Without it no clause could say that a run ends where nothing comes (docs/DECISIONS.md, "When
+    // a run is finished").
     ghost ended: { Self → Bool };
 
     /// What is fixed from the start: where it is a list of events, those of a whole run, the oldest

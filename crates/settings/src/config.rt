@@ -23,8 +23,8 @@ use toml::Table;
 pub fn read_config(alloc: Global, text: &[u8], live: bool) -> Result<Config, ConfigFault>
     ensures { IsReadFor live text.now result }
 {
-    // Whether the ends are needed, since `Config` knows none (docs/DECISIONS.md, "Whether live ends are
-    // needed").
+    // Whether the ends are needed, since `Config` knows none (docs/DECISIONS.md, "Whether live ends
+    // are needed").
     if live {
         without_ends(read_live_config(alloc, text))
     } else {

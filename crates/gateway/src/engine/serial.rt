@@ -131,8 +131,8 @@ fn keep_all(commands: &mut Commands, pieces: &[Piece]) -> bool
 }
 
 impl SerialSide {
-    /// Takes octets of the line, and answers what came of them. An answer that came in pieces is put
-    /// into `room`.
+    /// Takes octets of the line, and answers what came of them. An answer that came in pieces is
+    /// put into `room`.
     fn hear<'a>(&mut self, octets: &'a [u8], room: &'a mut Option<Frame>) -> Outcome<'a>
         ensures state { self.new ≡ heard octets.now self.old }
         ensures outcome { result ≡ heard_outcome octets.now self.old }
