@@ -25,13 +25,7 @@ fn reported(outcome: &Outcome<'_>) -> Option<u8> {
 
 /// Octets of the line come: the first octet of the report that they bring.
 fn hear(master: &mut Master, octets: &[u8]) -> Option<u8> {
-    if let Some(outcome) = master.hear_whole(octets) {
-        return reported(&outcome);
-    }
-    match master.gather(octets) {
-        Some(frame) => reported(&master.hear(frame.lent())),
-        None => None,
-    }
+    reported(&master.octets(octets, &mut None))
 }
 
 /// The first octets of the reports that the master took, as one number in base 16.
