@@ -24,6 +24,7 @@ pub mod Connecting
 pub mod Put
 pub mod Putting
 pub mod Onward
+pub mod Gathering
 pub mod Judgements
 pub mod Events
 pub mod Following

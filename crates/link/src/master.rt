@@ -454,14 +454,15 @@ impl Master {
     /// the frame at the front of its octets. Those that come while no request is outstanding, and
     /// those after an answer or after what can't be one, are dropped. A report is lent: from the
     /// octets, where the whole answer stands there, and else from `room`, in which an answer is put
-    /// that came in pieces.
+    /// that came in pieces. Who has no room to give for each piece calls the parts of this one:
+    /// `hear_whole`, `gather_inner`, `gather` and `hear`, in this order.
     pub fn octets<'a>(&mut self, octets: &'a [u8], room: &'a mut Option<Frame>) -> Outcome<'a>
         ensures state { self.new ≡ received (front_of self.old.settings.size) self.old octets.now }
         ensures outcome { result
             ≡ received_outcome (front_of self.old.settings.size) self.old octets.now }
     {
-        // Most answers come whole. A frame has a place only where it ends in these octets: to make
-        // one for each octet costs more than all else (docs/DECISIONS.md, "A place for an answer").
+        // A place is filled only by the octet that ends an answer (docs/DECISIONS.md, "A place for
+        // an answer").
         if let Some(outcome) = self.hear_whole(octets) {
             return outcome;
         }
@@ -476,10 +477,10 @@ impl Master {
         }
     }
 
-    /// Hears octets of the line with a whole frame at their front, where a request is outstanding
-    /// and these are the first octets that come: that is its answer. Else nothing is heard, and
-    /// nothing changes.
-    fn hear_whole<'a>(&mut self, octets: &'a [u8]) -> Option<Outcome<'a>>
+    /// A part of `octets`. Hears octets of the line with a whole frame at their front, where a
+    /// request is outstanding and these are the first octets that come: that is its answer. Else
+    /// nothing is heard, and nothing changes.
+    pub fn hear_whole<'a>(&mut self, octets: &'a [u8]) -> Option<Outcome<'a>>
         ensures whole { IfSome result (λ outcome.
             (self.new ≡ received (front_of self.old.settings.size) self.old octets.now)
             × (outcome
@@ -506,10 +507,11 @@ impl Master {
         }
     }
 
-    /// Gathers octets of the line up to one that may be the last of the answer, and says how many:
-    /// all where none may. The others are to be gathered as well, and then what is heard is what
-    /// all of them say. It makes no place for a frame.
-    fn gather_inner(&mut self, octets: &[u8]) -> usize
+    /// A part of `octets`. Gathers octets of the line up to one that may be the last of the answer,
+    /// and says how many: all where none may. The others are to be gathered as well
+    /// ([`Master::gather`]), and then what is heard is what all of them say. It makes no place for
+    /// a frame, so it is the first call for octets that aren't a whole answer.
+    pub fn gather_inner(&mut self, octets: &[u8]) -> usize
         ensures within { result ≤ length octets.now }
         ensures all { result ≡ length octets.now → (self.new
             ≡ received (front_of self.old.settings.size) self.old octets.now)
@@ -532,11 +534,12 @@ impl Master {
         }
     }
 
-    /// Gathers octets of the line, in any pieces, up to the frame that is the answer: the one at
-    /// the front of the octets of the exchange. Those that come while no request is outstanding,
-    /// and those after an answer or after what can't be one, are dropped. The frame is to be heard.
+    /// A part of `octets`. Gathers octets of the line, in any pieces, up to the frame that is the
+    /// answer: the one at the front of the octets of the exchange. Those that come while no request
+    /// is outstanding, and those after an answer or after what can't be one, are dropped. The frame
+    /// is to be heard ([`Master::hear`]).
     #[inline(never)]
-    fn gather(&mut self, octets: &[u8]) -> Option<Frame>
+    pub fn gather(&mut self, octets: &[u8]) -> Option<Frame>
         ensures frame { result ≡ completed (front_of self.old.settings.size) self.old octets.now }
         ensures whole { IfSome result (λ frame. (heard_from self.new self.new.outstanding frame
             ≡ received (front_of self.old.settings.size) self.old octets.now)
@@ -554,10 +557,10 @@ impl Master {
         }
     }
 
-    /// Hears the frame that is the answer to the outstanding request, and says what came of the
-    /// exchange. Asks for at most 253 octets of data.
+    /// A part of `octets`. Hears the frame that is the answer to the outstanding request, and says
+    /// what came of the exchange. Asks for at most 253 octets of data.
     #[inline(always)]
-    fn hear<'a>(&mut self, frame: FrameRef<'a>) -> Outcome<'a>
+    pub fn hear<'a>(&mut self, frame: FrameRef<'a>) -> Outcome<'a>
         requires { FitsMemory frame }
         ensures state { self.new ≡ heard_from self.old self.old.outstanding (owned frame.entry) }
         ensures outcome { result ≡ heard_outcome self.old self.old.outstanding (owned frame.entry) }

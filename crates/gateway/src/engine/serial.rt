@@ -7,6 +7,7 @@ ghost use Rattle.std.specs.List.{AllByRecursion};
 ghost use Rattle.asdu.specs.Asdu.{IsAsdu};
 ghost use Rattle.asdu.specs.InformationObjects.{monitor_objects_of};
 ghost use Rattle.asdu.specs.Reading.{value_of};
+ghost use Rattle.ft12.specs.Borrowed.{owned, FitsMemory};
 ghost use Rattle.link.specs.declared.outcome.Outcome.TheVariants as exchange;
 ghost use Rattle.link.specs.declared.settings.LinkSettings.{LinkSettings};
 ghost use Rattle.link.specs.Exchanges.{Sending, Exchanges};
@@ -37,7 +38,7 @@ use crate::gaps::Gap;
 use asdu::{Asdu, Piece, objects_are_those_of_the_asdu, pieces_carry_the_report, read, translate};
 use command::{Act, Commands};
 use elements::TypeId;
-use ft12::Frame;
+use ft12::{Frame, FrameRef};
 use link::{
     Master, Outcome, Request, RequestKind, master_tells_the_log, offers_wait, polls_wait_for_leave,
 };
@@ -131,17 +132,63 @@ fn keep_all(commands: &mut Commands, pieces: &[Piece]) -> bool
 }
 
 impl SerialSide {
-    /// Takes octets of the line, and answers what came of them. An answer that came in pieces is
-    /// put into `room`.
-    fn hear<'a>(&mut self, octets: &'a [u8], room: &'a mut Option<Frame>) -> Outcome<'a>
-        ensures state { self.new ≡ heard octets.now self.old }
-        ensures outcome { result ≡ heard_outcome octets.now self.old }
-        ensures report { is_report result ≡ true →
-            (is_polling self.old.line ≡ true) × (is_polling self.new.line ≡ false) }
+    /// Takes octets of the line whose front is the whole answer to the request that is outstanding,
+    /// and answers what came of them. Else nothing changes.
+    fn hear_whole<'a>(&mut self, octets: &'a [u8]) -> Option<Outcome<'a>>
+        ensures whole { IfSome result (λ outcome. (self.new ≡ heard octets.now self.old)
+            × (outcome ≡ heard_outcome octets.now self.old)) }
+        ensures none { IfNone result (self.new ≡ self.old) }
+        ensures report { IfSome result (λ outcome. is_report outcome ≡ true →
+            (is_polling self.old.line ≡ true) × (is_polling self.new.line ≡ false)) }
         ensures polls { is_polling self.new.line ≡ true → is_polling self.old.line ≡ true }
     {
         polls_wait_for_leave();
-        self.line.octets(octets, room)
+        self.line.hear_whole(octets)
+    }
+
+    /// Gathers octets of the line up to one that may be the last of the answer, and says how many:
+    /// all where none may, and then nothing comes of them. What is heard of the others is what is
+    /// heard of all.
+    fn gather_inner(&mut self, octets: &[u8]) -> usize
+        ensures within { result ≤ length octets.now }
+        ensures all { result ≡ length octets.now → (self.new ≡ heard octets.now self.old)
+            × (heard_outcome octets.now self.old ≡ exchange.None) }
+        ensures rest { result < length octets.now →
+            (heard (drop result octets.now) self.new ≡ heard octets.now self.old)
+            × (heard_outcome (drop result octets.now) self.new
+            ≡ heard_outcome octets.now self.old) }
+        ensures others { self.new ≡ record self.old { line = self.new.line } }
+        ensures polls { is_polling self.new.line ≡ true → is_polling self.old.line ≡ true }
+    {
+        polls_wait_for_leave();
+        self.line.gather_inner(octets)
+    }
+
+    /// Gathers octets of the line up to the frame that is the answer.
+    fn gather(&mut self, octets: &[u8]) -> Option<Frame>
+        ensures whole { IfSome result (λ frame. (record self.new {
+          line =
+              heard_from self.new.line self.new.line.outstanding frame;
+        } ≡ heard octets.now self.old)
+            × (outcome_of_frame self.new.line self.new.line.outstanding frame
+            ≡ heard_outcome octets.now self.old)) }
+        ensures none { IfNone result ((self.new ≡ heard octets.now self.old)
+            × (heard_outcome octets.now self.old ≡ exchange.None)) }
+    {
+        self.line.gather(octets)
+    }
+
+    /// Hears the frame that is the answer, and says what came of the exchange.
+    fn hear_frame<'a>(&mut self, frame: FrameRef<'a>) -> Outcome<'a>
+        requires { FitsMemory frame }
+        ensures state { self.new ≡ record self.old {
+          line =
+              heard_from self.old.line self.old.line.outstanding (owned frame.entry);
+        } }
+        ensures outcome { result
+            ≡ outcome_of_frame self.old.line self.old.line.outstanding (owned frame.entry) }
+    {
+        self.line.hear(frame)
     }
 
     /// The command on a station's line was accepted.
@@ -363,8 +410,32 @@ impl Gateway {
     pub(crate) fn hear(&mut self, octets: &[u8]) -> bool
         ensures { Hears self.old octets.now result self.new }
     {
-        let mut room = None;
-        let outcome = self.serial.hear(octets, &mut room);
+        match self.serial.hear_whole(octets) {
+            Some(outcome) => self.learn(&outcome),
+            None => self.hear_piece(octets),
+        }
+    }
+
+    /// As `hear`, for octets that aren't a whole answer by themselves.
+    fn hear_piece(&mut self, octets: &[u8]) -> bool
+        ensures { Hears self.old octets.now result self.new }
+    {
+        let count = self.serial.gather_inner(octets);
+        if count == octets.len() {
+            return true;
+        }
+        self.hear_end(&octets[count..])
+    }
+
+    /// As `hear`, for octets of which the first may be the last of an answer.
+    fn hear_end(&mut self, octets: &[u8]) -> bool
+        ensures { Hears self.old octets.now result self.new }
+    {
+        polls_wait_for_leave();
+        let Some(frame) = self.serial.gather(octets) else {
+            return true;
+        };
+        let outcome = self.serial.hear_frame(frame.lent());
         self.learn(&outcome)
     }
 
