@@ -647,7 +647,7 @@ def a_station_that_is_gone(count, program):
         gateway.start()
         gateway.waits("station 3 up")
         gateway.field.mute_at_command = True
-        visitor = Visitor(gateway.door, [3], random.Random(1), commands=1, stays=1)
+        visitor = Visitor(gateway.listener, [3], random.Random(1), commands=1, stays=1)
         until(lambda: gateway.field.silent)
         visitor.commands = 0
         time.sleep(0.5)
