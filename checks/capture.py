@@ -22,6 +22,7 @@ Without tshark the script is skipped.
 """
 import glob
 import os
+import re
 import shutil
 import subprocess
 import tomllib
@@ -115,7 +116,7 @@ def faults_of(capture, sizes, record, is_made_up):
     for number, _ in tshark(capture, sizes, wrong, ["frame.number", "frame.len"]):
         faults.append(f"packet {number} has a wrong sum or number")
     for number, message in [] if is_made_up else tshark(capture, sizes, "_ws.expert", ["frame.number", "_ws.expert.message"]):
-        if not all(part.startswith(FINE) for part in message.split(",")):
+        if not all(part.startswith(FINE) for part in re.split(",(?! session )", message)):
             faults.append(f"packet {number}: {message}")
     for number, _ in [] if is_made_up else tshark(capture, sizes, "_ws.malformed", ["frame.number", "frame.len"]):
         faults.append(f"packet {number} is malformed")
