@@ -20,7 +20,7 @@ use Rattle.apci.specs.Reading.{IsMore, IsDecidedAt, IsFront}
 use Rattle.apci.specs.Progress.{so_far, IsState, Gives}
 use Rattle.apci.proofs.Fronts.{nothing, start_alone, length_more, i_more, i_asdu, i_third, s_1, s_2}
 use Rattle.apci.proofs.Fronts.{s_3, u_1, u_2, u_3}
-use Rattle.apci.proofs.Stream.{heard_apdu, heard_never, decided_by}
+use Rattle.apci.proofs.Stream.{received_apdu, received_never, decided_by}
 
 -- the octets of a counter
 low_octet : (n : ℕ) → n % 128 * 2 < 256
@@ -93,24 +93,24 @@ state_more (state.Information ns nr) asdu x h e = (let x_is : [] ≡ x = cc in
 state_more (state.Short a) asdu x h e = (let x_is : [] ≡ x = cc in subst IsMore x_is (inl nothing))
 
 -- one that isn't deaf has octets so far
-pub hears : (s : State) (asdu : List ℕ) → (s ≡ state.Deaf → ⊥) → (x : List ℕ)
+pub receives : (s : State) (asdu : List ℕ) → (s ≡ state.Deaf → ⊥) → (x : List ℕ)
     × (so_far s asdu ≡ Some x)
-hears state.Deaf asdu apart = absurd (apart refl)
-hears state.Start asdu apart = ([], refl)
-hears state.Length asdu apart = (_, refl)
-hears (state.Control len) asdu apart = (_, refl)
-hears (state.ISecond len low) asdu apart = (_, refl)
-hears (state.IThird len ns) asdu apart = (_, refl)
-hears (state.IFourth len ns low) asdu apart = (_, refl)
-hears (state.Asdu len ns nr) asdu apart = (_, refl)
-hears state.SSecond asdu apart = (_, refl)
-hears state.SThird asdu apart = (_, refl)
-hears (state.SFourth low) asdu apart = (_, refl)
-hears (state.USecond f) asdu apart = (_, refl)
-hears (state.UThird f) asdu apart = (_, refl)
-hears (state.UFourth f) asdu apart = (_, refl)
-hears (state.Information ns nr) asdu apart = (_, refl)
-hears (state.Short a) asdu apart = (_, refl)
+receives state.Deaf asdu apart = absurd (apart refl)
+receives state.Start asdu apart = ([], refl)
+receives state.Length asdu apart = (_, refl)
+receives (state.Control len) asdu apart = (_, refl)
+receives (state.ISecond len low) asdu apart = (_, refl)
+receives (state.IThird len ns) asdu apart = (_, refl)
+receives (state.IFourth len ns low) asdu apart = (_, refl)
+receives (state.Asdu len ns nr) asdu apart = (_, refl)
+receives state.SSecond asdu apart = (_, refl)
+receives state.SThird asdu apart = (_, refl)
+receives (state.SFourth low) asdu apart = (_, refl)
+receives (state.USecond f) asdu apart = (_, refl)
+receives (state.UThird f) asdu apart = (_, refl)
+receives (state.UFourth f) asdu apart = (_, refl)
+receives (state.Information ns nr) asdu apart = (_, refl)
+receives (state.Short a) asdu apart = (_, refl)
 
 -- ---- an octet of a piece
 
@@ -152,16 +152,18 @@ keeps_on s asdu before piece i o step joined lt at h is =
     (g.1, g.0 ∙ ap Some (one_more before piece i lt), g.2)
 
 -- the fronts of the octets with this one are those of the whole piece
-whole_heard : (s : State) (asdu before piece : List ℕ) (i : ℕ) (a : Apdu) (n : ℕ) → IsState s asdu
+whole_received : (s : State) (asdu before piece : List ℕ) (i : ℕ) (a : Apdu) (n : ℕ)
+    → IsState s asdu
     → so_far s asdu ≡ Some (before ++ take i piece) → i < length piece
     → IsFront ((before ++ take i piece) ++ get_or piece i 0 ∷ []) (Whole a n)
     → IsFront (before ++ piece) (Whole a (length before + (i + 1)))
-whole_heard s asdu before piece i a n h joined lt front =
-    heard_apdu before piece (before ++ take i piece) ((before ++ take i piece) ++ get_or piece i 0
+whole_received s asdu before piece i a n h joined lt front =
+    received_apdu before piece (before ++ take i piece) ((before ++ take i piece)
+    ++ get_or piece i 0
     ∷ []) i a n refl lt
     (state_more s asdu (before ++ take i piece) h joined) refl front
 
-pub i_heard : (s : State) (asdu before piece : List ℕ) (i o : ℕ) (step : Step) (ns nr : ℕ)
+pub i_received : (s : State) (asdu before piece : List ℕ) (i o : ℕ) (step : Step) (ns nr : ℕ)
     → IsState s asdu
     → so_far s asdu ≡ Some (before ++ take i piece) → i < length piece → o ≡ get_or piece i 0
     → IfSome (so_far s asdu) (λ octets. Gives (octets ++ o ∷ []) asdu o s step)
@@ -169,48 +171,48 @@ pub i_heard : (s : State) (asdu before piece : List ℕ) (i o : ℕ) (step : Ste
     → IsFront (before ++ piece) (Whole (apdu.I ns nr (record { items = asdu ++ o ∷ [] }))
     (length before + (i + 1)))
     × (length asdu < 249)
-i_heard s asdu before piece i o step ns nr state joined lt at h is =
+i_received s asdu before piece i o step ns nr state joined lt at h is =
     let x : List ℕ = (before ++ take i piece) ++ get_or piece i 0 ∷ [] in
     let g : Gives x asdu o s (steps.I ns nr) = subst (Gives x asdu o s) is
     (gives_at s asdu before piece i o step joined at h) in (
-      whole_heard s asdu before piece i (apdu.I ns nr (record { items = asdu ++ o ∷ [] }))
+      whole_received s asdu before piece i (apdu.I ns nr (record { items = asdu ++ o ∷ [] }))
           (length x) state joined lt g.0,
       g.1,
     )
 
-pub s_heard : (s : State) (asdu before piece : List ℕ) (i o : ℕ) (step : Step) (nr : ℕ)
+pub s_received : (s : State) (asdu before piece : List ℕ) (i o : ℕ) (step : Step) (nr : ℕ)
     → IsState s asdu
     → so_far s asdu ≡ Some (before ++ take i piece) → i < length piece → o ≡ get_or piece i 0
     → IfSome (so_far s asdu) (λ octets. Gives (octets ++ o ∷ []) asdu o s step) → step ≡ steps.S nr
     → IsFront (before ++ piece) (Whole (apdu.S nr) (length before + (i + 1))) × (asdu ≡ [])
-s_heard s asdu before piece i o step nr state joined lt at h is =
+s_received s asdu before piece i o step nr state joined lt at h is =
     let x : List ℕ = (before ++ take i piece) ++ get_or piece i 0 ∷ [] in
     let g : Gives x asdu o s (steps.S nr) = subst (Gives x asdu o s) is
     (gives_at s asdu before piece i o step joined at h) in
-    (whole_heard s asdu before piece i (apdu.S nr) (length x) state joined lt g.0, g.1)
+    (whole_received s asdu before piece i (apdu.S nr) (length x) state joined lt g.0, g.1)
 
-pub u_heard : (s : State) (asdu before piece : List ℕ) (i o : ℕ) (step : Step) (f : Uf)
+pub u_received : (s : State) (asdu before piece : List ℕ) (i o : ℕ) (step : Step) (f : Uf)
     → IsState s asdu
     → so_far s asdu ≡ Some (before ++ take i piece) → i < length piece → o ≡ get_or piece i 0
     → IfSome (so_far s asdu) (λ octets. Gives (octets ++ o ∷ []) asdu o s step) → step ≡ steps.U f
     → IsFront (before ++ piece) (Whole (apdu.U f) (length before + (i + 1))) × (asdu ≡ [])
-u_heard s asdu before piece i o step f state joined lt at h is =
+u_received s asdu before piece i o step f state joined lt at h is =
     let x : List ℕ = (before ++ take i piece) ++ get_or piece i 0 ∷ [] in
     let g : Gives x asdu o s (steps.U f) = subst (Gives x asdu o s) is
     (gives_at s asdu before piece i o step joined at h) in
-    (whole_heard s asdu before piece i (apdu.U f) (length x) state joined lt g.0, g.1)
+    (whole_received s asdu before piece i (apdu.U f) (length x) state joined lt g.0, g.1)
 
-pub never_heard : (s : State) (asdu before piece : List ℕ) (i o : ℕ) (step : Step) (place : ℕ)
+pub never_received : (s : State) (asdu before piece : List ℕ) (i o : ℕ) (step : Step) (place : ℕ)
     (why : Why)
     → so_far s asdu ≡ Some (before ++ take i piece) → i < length piece → o ≡ get_or piece i 0
     → IfSome (so_far s asdu) (λ octets. Gives (octets ++ o ∷ []) asdu o s step)
     → step ≡ steps.Never place why
     → IsFront (before ++ piece) (Never place why)
-never_heard s asdu before piece i o step place why joined lt at h is =
+never_received s asdu before piece i o step place why joined lt at h is =
     let x : List ℕ = (before ++ take i piece) ++ get_or piece i 0 ∷ [] in
     let g : Gives x asdu o s (steps.Never place why) =
     subst (Gives x asdu o s) is (gives_at s asdu before piece i o step joined at h) in
-    heard_never before piece (before ++ take i piece) x i place why refl lt refl g
+    received_never before piece (before ++ take i piece) x i place why refl lt refl g
 
 -- the octet that decides is the one looked at last
 pub decided_here : (s : State) (asdu before piece : List ℕ) (i o : ℕ) (step : Step) (place : ℕ)

@@ -4,40 +4,42 @@ use Rattle.std.proofs.Common.{All, Option, Some, None, IfSome, refl, sym, subst,
 use Rattle.std.proofs.Math.Seq.{take-append_seam}
 use Rattle.std.proofs.lemmas.List.Elements.{All-cons, All-nil, All-take}
 use Rattle.apci.specs.declared.apdu.Front.TheVariants as front
-use Rattle.apci.specs.declared.assembling.Heard.{Heard}
-use Rattle.apci.specs.declared.assembling.Heard.TheVariants as heard
+use Rattle.apci.specs.declared.assembling.Received.{Received}
+use Rattle.apci.specs.declared.assembling.Received.TheVariants as arrived
 use Rattle.apci.specs.declared.assembling.State.{State}
 use Rattle.apci.specs.declared.apdu.Apdu.{Apdu}
 use Rattle.apci.specs.declared.apdu.Apdu.TheVariants as apdu
 use Rattle.apci.specs.Spelling.{IsOctet, Fits, spelling, counter, function}
 use Rattle.apci.specs.Reading.{IsMore}
-use Rattle.apci.specs.Assembly.{Assembly, Hears, IsResumable}
+use Rattle.apci.specs.Assembly.{Assembly, Receives, IsResumable}
 use Rattle.apci.specs.Progress.{so_far, IsState}
 use Rattle.apci.proofs.Apdus.{odd_function}
 use Rattle.apci.proofs.EachOctet.{state_more}
 use Rattle.apci.proofs.Exact.{one_front}
 
 -- Octets from which an APDU may go on are heard as no more than that.
-heard_open : (octets : List ℕ) (n : ℕ) (h : Heard) (after : Assembly) → IsMore octets
-    → Hears [] octets n h after
+received_open : (octets : List ℕ) (n : ℕ) (h : Received) (after : Assembly) → IsMore octets
+    → Receives [] octets n h after
     → (after.so_far ≡ Some octets) × (after.whole ≡ None)
-heard_open octets n heard.More after is hears = (hears.2, hears.3)
-heard_open octets n heard.Whole after is hears =
-    let bad : front.Whole hears.0 (0 + n) ≡ front.More =
-    one_front octets front.More (front.Whole hears.0 (0 + n)) is hears.1 in
+received_open octets n arrived.More after is receives = (receives.2, receives.3)
+received_open octets n arrived.Whole after is receives =
+    let bad : front.Whole receives.0 (0 + n) ≡ front.More =
+    one_front octets front.More (front.Whole receives.0 (0 + n)) is receives.1 in
     absurd cc
-heard_open octets n (heard.Never place why) after is hears =
+received_open octets n (arrived.Never place why) after is receives =
     let bad : front.Never place why ≡ front.More =
-    one_front octets front.More (front.Never place why) is hears.0 in
+    one_front octets front.More (front.Never place why) is receives.0 in
     absurd cc
-heard_open octets n heard.Deaf after is hears = absurd hears
+received_open octets n arrived.Deaf after is receives = absurd receives
 
-pub heard_more : (so_far : Option (List ℕ)) (octets : List ℕ) (n : ℕ) (h : Heard) (after : Assembly)
-    → so_far ≡ Some [] → IfSome so_far (λ before. Hears before octets n h after) → IsMore octets
+pub received_more : (so_far : Option (List ℕ)) (octets : List ℕ) (n : ℕ) (h : Received)
+    (after : Assembly)
+    → so_far ≡ Some [] → IfSome so_far (λ before. Receives before octets n h after) → IsMore octets
     → (after.so_far ≡ Some octets) × (after.whole ≡ None)
-heard_more so_far octets n h after e hears is =
-    heard_open octets n h after is
-    (subst (λ (x : Option (List ℕ)). IfSome x (λ before. Hears before octets n h after)) e hears)
+received_more so_far octets n h after e receives is =
+    received_open octets n h after is
+    (subst (λ (x : Option (List ℕ)). IfSome x (λ before. Receives before octets n h after)) e
+    receives)
 
 -- the octets of an APDU are octets
 low_octet : (n : ℕ) → n % 128 * 2 < 256

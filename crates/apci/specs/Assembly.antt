@@ -3,8 +3,8 @@ use Rattle.std.specs.Prelude.{◌≡◌, ℕ, ◌+◌, ◌-◌, ◌^◌, min, Li
 use Rattle.std.specs.Prelude.{Some, None}
 use Rattle.apci.specs.declared.apdu.Apdu.{Apdu}
 use Rattle.apci.specs.declared.apdu.Front.TheVariants as front
-use Rattle.apci.specs.declared.assembling.Heard.{Heard}
-use Rattle.apci.specs.declared.assembling.Heard.TheVariants as heard
+use Rattle.apci.specs.declared.assembling.Received.{Received}
+use Rattle.apci.specs.declared.assembling.Received.TheVariants as arrived
 use Rattle.apci.specs.Reading.{IsFront, IsMore, IsDecidedAt}
 use Rattle.apci.specs.Spelling.{spelling, IsOctet}
 
@@ -17,32 +17,32 @@ pub record Assembly : Type 0 where
 
 -- What is heard of a piece after the octets so far is what stands at the front of both joined. n
 -- octets of the piece are taken.
-abbrev pub Hears : List ℕ → List ℕ → ℕ → Heard → Assembly → Type 0
-Hears so_far piece n heard.Whole after =
+abbrev pub Receives : List ℕ → List ℕ → ℕ → Received → Assembly → Type 0
+Receives so_far piece n arrived.Whole after =
     (a : Apdu) × IsFront (so_far ++ piece) (front.Whole a (length so_far + n))
     × (after.so_far ≡ Some []) × (after.whole ≡ Some a)
-Hears so_far piece n heard.More after =
+Receives so_far piece n arrived.More after =
     IsFront (so_far ++ piece) front.More × (n ≡ length piece)
     × (after.so_far ≡ Some (so_far ++ piece)) × (after.whole ≡ None)
-Hears so_far piece n (heard.Never place why) after =
+Receives so_far piece n (arrived.Never place why) after =
     IsFront (so_far ++ piece) (front.Never place why) × (n ≡ length piece)
     × (after.so_far ≡ None) × (after.whole ≡ None)
-Hears so_far piece n heard.Deaf after = ⊥
+Receives so_far piece n arrived.Deaf after = ⊥
 
 -- How often octets were looked at, where n octets of the piece were taken: each once. Where they
 -- begin no APDU, the last one looked at is the one that decides it; those behind it aren't looked
 -- at. The count saturates.
-abbrev pub HasLooked : List ℕ → List ℕ → ℕ → ℕ → Heard → ℕ → Type 0
-HasLooked so_far piece before n heard.Whole after = after ≡ min (2 ^ 64 - 1) (before + n)
-HasLooked so_far piece before n heard.More after = after ≡ min (2 ^ 64 - 1) (before + n)
-HasLooked so_far piece before n (heard.Never place why) after =
+abbrev pub HasLooked : List ℕ → List ℕ → ℕ → ℕ → Received → ℕ → Type 0
+HasLooked so_far piece before n arrived.Whole after = after ≡ min (2 ^ 64 - 1) (before + n)
+HasLooked so_far piece before n arrived.More after = after ≡ min (2 ^ 64 - 1) (before + n)
+HasLooked so_far piece before n (arrived.Never place why) after =
     (decides : ℕ) × IsDecidedAt (so_far ++ piece) decides
     × (after ≡ min (2 ^ 64 - 1) (before + (decides + 1 - length so_far)))
-HasLooked so_far piece before n heard.Deaf after = ⊥
+HasLooked so_far piece before n arrived.Deaf after = ⊥
 
 -- The whole APDU is heard, its octets are taken, and the octets behind it begin the next one.
-pub record IsHeardWhole (a : Apdu) (n : ℕ) (h : Heard) (after : Assembly) : Type 0 where
-  pub heard_is : h ≡ heard.Whole
+pub record IsReceivedWhole (a : Apdu) (n : ℕ) (h : Received) (after : Assembly) : Type 0 where
+  pub received_is : h ≡ arrived.Whole
   pub whole : after.whole ≡ Some a
   pub taken : n ≡ length (spelling a)
   pub listening : after.so_far ≡ Some []

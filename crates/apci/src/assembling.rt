@@ -2,10 +2,10 @@
 
 ghost use Rattle.std.specs.Prelude.{◌≡◌, ℕ, ◌+◌, ◌-◌, ◌^◌, ◌<◌, ◌≤◌, min, ◌↔◌, List, None, [], ◌∷◌};
 ghost use Rattle.std.specs.Prelude.{◌++◌, length, Some, IfSome, IfNone, IsTrue, OnOk};
-ghost use Rattle.apci.specs.declared.assembling.Heard.{Heard};
-ghost use Rattle.apci.specs.declared.assembling.Heard.TheVariants.{Deaf as HeardDeaf};
+ghost use Rattle.apci.specs.declared.assembling.Received.{Received};
+ghost use Rattle.apci.specs.declared.assembling.Received.TheVariants.{Deaf as ReceivedDeaf};
 ghost use Rattle.apci.specs.declared.assembling.State.TheVariants as State;
-ghost use Rattle.apci.specs.Assembly.{Hears, HasLooked, IsResumable, so_far_numbers};
+ghost use Rattle.apci.specs.Assembly.{Receives, HasLooked, IsResumable, so_far_numbers};
 ghost use Rattle.apci.specs.Reading.{IsMore};
 ghost use Rattle.apci.specs.Progress.{so_far, whole, IsState, Gives};
 
@@ -19,7 +19,7 @@ use std::mem;
 
 /// What an assembler hears in a piece.
 #[derive(Clone, Copy, Debug, PartialEq, Eq)]
-pub enum Heard {
+pub enum Received {
     /// The last octet of an APDU, which `take` answers.
     Whole,
     /// The beginning of an APDU, or nothing.
@@ -276,13 +276,13 @@ impl Assembler {
 
     /// An assembler that was fed these octets. Where an APDU may go on from them, it goes on.
     pub fn resumed(octets: &[u8]) -> Self
-        ensures fed { (n : ℕ) × (heard : Heard) × Hears [] octets.now n heard result }
+        ensures fed { (n : ℕ) × (arrived : Received) × Receives [] octets.now n arrived result }
         ensures so_far { IsMore octets.now → result.so_far ≡ Some octets.now }
         ensures whole { IsMore octets.now → result.whole ≡ None }
     {
         let mut assembler = Assembler::new();
         // What was heard shows in the assembler, and the caller asks for it there.
-        let _heard = assembler.feed(octets);
+        let _received = assembler.feed(octets);
         assembler
     }
 
@@ -320,11 +320,11 @@ impl Assembler {
     /// Takes octets of a piece, up to the last one of an APDU, and says how many and what was
     /// heard. It takes them all where no APDU ends in the piece. After a refusal it takes and drops
     /// all octets until `clear`. An APDU that wasn't taken before is dropped.
-    pub fn feed(&mut self, piece: &[u8]) -> (usize, Heard)
+    pub fn feed(&mut self, piece: &[u8]) -> (usize, Received)
         ensures listening { IfSome self.old.so_far (λ so_far.
-            Hears so_far piece.now result.0 result.1 self.new) }
+            Receives so_far piece.now result.0 result.1 self.new) }
         ensures deaf { IfNone self.old.so_far
-            ((result.0 ≡ length piece.now) × (result.1 ≡ HeardDeaf) × (self.new ≡ self.old)) }
+            ((result.0 ≡ length piece.now) × (result.1 ≡ ReceivedDeaf) × (self.new ≡ self.old)) }
         ensures within { result.0 ≤ length piece.now }
         ensures progress { 0 < length piece.now → 0 < result.0 }
         ensures looked { IfSome self.old.so_far (λ so_far.
@@ -332,18 +332,18 @@ impl Assembler {
         ensures at_most_once { self.new.looked ≤ self.old.looked + result.0 }
     {
         if is_deaf(&self.state) {
-            return (piece.len(), Heard::Deaf);
+            return (piece.len(), Received::Deaf);
         }
         self.forget();
         self.listen(piece)
     }
 
     /// Takes octets of a piece, where it isn't deaf and no APDU is left to be taken.
-    fn listen(&mut self, piece: &[u8]) -> (usize, Heard)
+    fn listen(&mut self, piece: &[u8]) -> (usize, Received)
         requires listens { (so_far : List ℕ) × (self.old.so_far ≡ Some so_far) }
         requires taken { self.old.whole ≡ None }
         ensures listening { IfSome self.old.so_far (λ so_far.
-            Hears so_far piece.now result.0 result.1 self.new) }
+            Receives so_far piece.now result.0 result.1 self.new) }
         ensures within { result.0 ≤ length piece.now }
         ensures progress { 0 < length piece.now → 0 < result.0 }
         ensures looked { IfSome self.old.so_far (λ so_far.
@@ -358,25 +358,25 @@ impl Assembler {
                 Step::I { ns, nr } => {
                     self.asdu.push(octet);
                     self.state = State::Information { ns, nr };
-                    return (i + 1, Heard::Whole);
+                    return (i + 1, Received::Whole);
                 }
                 Step::S { nr } => {
                     self.state = State::Short(Short::S { nr });
-                    return (i + 1, Heard::Whole);
+                    return (i + 1, Received::Whole);
                 }
                 Step::U(function) => {
                     self.state = State::Short(Short::U(function));
-                    return (i + 1, Heard::Whole);
+                    return (i + 1, Received::Whole);
                 }
                 Step::Never(place, why) => {
                     // Nothing in a stream says where the next APDU would begin, so the rest of it
                     // can't be read.
                     self.state = State::Deaf;
-                    return (piece.len(), Heard::Never(place, why));
+                    return (piece.len(), Received::Never(place, why));
                 }
             }
         }
-        (piece.len(), Heard::More)
+        (piece.len(), Received::More)
     }
 
     /// An APDU that is whole is dropped.

@@ -3,14 +3,14 @@
 ghost use Rattle.std.specs.Prelude.{◌≡◌, ℕ, List, [], ◌++◌};
 ghost use Rattle.apci.specs.declared.apdu.Apdu.{Apdu};
 ghost use Rattle.apci.specs.declared.apdu.Front.{Front};
-ghost use Rattle.apci.specs.declared.assembling.Heard.{Heard};
+ghost use Rattle.apci.specs.declared.assembling.Received.{Received};
 ghost use Rattle.apci.specs.Spelling.{Fits, IsApdu, spelling};
-ghost use Rattle.apci.specs.Assembly.{Assembly, Hears, IsHeardWhole};
+ghost use Rattle.apci.specs.Assembly.{Assembly, Receives, IsReceivedWhole};
 ghost use Rattle.apci.specs.Reading.{IsFront};
 ghost use Rattle.apci.specs.Places.{HavePlaces};
 ghost use Rattle.apci.specs.Refusals.{RefuseOctets};
 ghost use Rattle.std.specs.List.{AllByRecursion};
-ghost use Rattle.apci.specs.Examples.{IsSpelledSo, TellFormats, IsRefusedSo, spelling_examples};
+ghost use Rattle.apci.specs.Examples.{IsSpelledSo, DifferFormats, IsRefusedSo, spelling_examples};
 ghost use Rattle.apci.specs.Examples.{refusal_examples};
 
 /// Each APDU has one spelling.
@@ -36,16 +36,16 @@ pub fn spellings_cancel()
 
 /// The first control octet tells the format by its two lowest bits (IEC 60870-5-104, 5), and the
 /// length of an I format has room for an ASDU.
-pub fn formats_are_told_apart()
-    ensures { TellFormats }
+pub fn formats_are_distinct()
+    ensures { DifferFormats }
 {}
 
 /// An assembler that is fed the octets of an APDU, with anything behind them, hears that APDU,
 /// takes its octets and no more, and listens on: so it hears the APDUs of a stream one after
 /// another.
-pub fn apdus_are_heard_one_after_another()
-    ensures { (a : Apdu) (more : List ℕ) (n : ℕ) (heard : Heard) (after : Assembly) →
-        Fits a → Hears [] (spelling a ++ more) n heard after → IsHeardWhole a n heard after }
+pub fn apdus_are_received_one_after_another()
+    ensures { (a : Apdu) (more : List ℕ) (n : ℕ) (arrived : Received) (after : Assembly) →
+        Fits a → Receives [] (spelling a ++ more) n arrived after → IsReceivedWhole a n arrived after }
 {}
 
 /// Sequence numbers, length and ASDU have their places (IEC 60870-5-104, 5 and 5.1).
@@ -54,7 +54,7 @@ pub fn fields_have_places()
 {}
 
 /// Octets that begin no APDU are refused for this, whatever stands behind them.
-pub fn refusals_are_told()
+pub fn refusals_are_given()
     ensures { RefuseOctets }
 {}
 

@@ -22,10 +22,10 @@ mod reading;
 mod writing;
 
 pub use apdu::{Apdu, ApduRef, Front, FrontRef, Short, Uf, Why};
-pub use assembling::{Assembler, Heard};
+pub use assembling::{Assembler, Received};
 pub use laws::{
-    apdus_are_heard_one_after_another, fields_have_places, formats_are_told_apart,
-    no_spelling_begins_another, one_front, one_spelling, refusals_are_told, spellings_cancel,
+    apdus_are_received_one_after_another, fields_have_places, formats_are_distinct,
+    no_spelling_begins_another, one_front, one_spelling, refusals_are_given, spellings_cancel,
     worked_examples_hold,
 };
 pub use reading::{front, front_ref};

@@ -14,15 +14,15 @@ use Rattle.gateway.specs.Log.{Restarted, LineOut, TcpOut, Closed, GapOut}
 use Rattle.session.specs.declared.kinds.Close.TheVariants.{Grammar, SendNumber, ReceiveNumber}
 use Rattle.session.specs.declared.kinds.Close.TheVariants.{Stopped, Timeout, OwnAnswers, Replaced}
 use Rattle.capture.specs.Blocks.{file_header}
-use Rattle.capture.specs.Captures.{Captured, Packets, after, after_all, after_line, after_told}
+use Rattle.capture.specs.Captures.{Captured, Packets, after, after_all, after_line, after_logged}
 use Rattle.capture.specs.Captures.{after_lines, begun, blocks_for, blocks_of, blocks_of_lines}
 use Rattle.capture.specs.Captures.{capture_of, deeds_of, last_packets, line_after, line_octets}
 use Rattle.capture.specs.Captures.{packets_in, packets_of, segments_in, serial_data, serial_in}
 use Rattle.capture.specs.Captures.{serial_joined, serial_of, tcp_octets, whole_capture}
 use Rattle.capture.specs.Connections.{RunOn, Sent, data_of, joined, octets_of, sent_in}
-use Rattle.capture.specs.Recorded.{entry_told}
+use Rattle.capture.specs.Recorded.{entry_logged}
 use Rattle.capture.specs.Wires.{Line, Serial, after_answer, answers, asked, begun_part, cut_of}
-use Rattle.capture.specs.Wires.{heard, no_frame, request_of, spoilt_part}
+use Rattle.capture.specs.Wires.{arrived, no_frame, request_of, spoilt_part}
 use Rattle.capture.proofs.Numbering.{run_on, sent_more}
 use Rattle.capture.proofs.Carrying.{segments_joined}
 use Rattle.capture.proofs.Cutting.{cut_joined, flat}
@@ -115,10 +115,10 @@ parts_joined More rest = refl
 parts_joined (Never place why) rest = append-nil rest
 
 -- what came behind what is pending goes, or is pending
-heard_joined : (line : Line) (octets : List ℕ) →
-    serial_joined false (heard line octets) ++ (after_answer line octets).pending
+received_joined : (line : Line) (octets : List ℕ) →
+    serial_joined false (arrived line octets) ++ (after_answer line octets).pending
     ≡ line.pending ++ octets
-heard_joined line octets =
+received_joined line octets =
     let all = line.pending ++ octets in
     let cut = cut_of line.size all in
     let spoilt = spoilt_part (front_of line.size cut.rest) cut.rest in
@@ -147,39 +147,39 @@ asked_joined line octets =
     ∙ no_frame_joined unfinished line.pending)
 
 -- what is pending, and comes with an entry, goes with it, or is pending then
-entry_heard : (line : Line) (entry : LogEntry) →
+entry_received : (line : Line) (entry : LogEntry) →
     serial_joined false (serial_of line entry) ++ (line_after line entry).pending
     ≡ line.pending ++ line_octets false entry
-entry_heard line (Came now (LineIn octets)) = heard_joined line octets
-entry_heard line (Came now Opened) = sym (append-nil line.pending)
-entry_heard line (Came now (TcpIn octets)) = sym (append-nil line.pending)
-entry_heard line (Came now CutOff) = sym (append-nil line.pending)
-entry_heard line (Came now Ticked) = sym (append-nil line.pending)
-entry_heard line (Came now (WallIs number)) = sym (append-nil line.pending)
-entry_heard line (Came now Restarted) = sym (append-nil line.pending)
-entry_heard line (Went now (LineOut octets)) =
+entry_received line (Came now (LineIn octets)) = received_joined line octets
+entry_received line (Came now Opened) = sym (append-nil line.pending)
+entry_received line (Came now (TcpIn octets)) = sym (append-nil line.pending)
+entry_received line (Came now CutOff) = sym (append-nil line.pending)
+entry_received line (Came now Ticked) = sym (append-nil line.pending)
+entry_received line (Came now (WallIs number)) = sym (append-nil line.pending)
+entry_received line (Came now Restarted) = sym (append-nil line.pending)
+entry_received line (Went now (LineOut octets)) =
     ap (λ (xs : List ℕ). xs ++ []) (asked_joined line octets)
-entry_heard line (Went now (TcpOut octets)) = sym (append-nil line.pending)
-entry_heard line (Went now (Closed cause)) = sym (append-nil line.pending)
-entry_heard line (Went now (GapOut station session)) = sym (append-nil line.pending)
+entry_received line (Went now (TcpOut octets)) = sym (append-nil line.pending)
+entry_received line (Went now (Closed cause)) = sym (append-nil line.pending)
+entry_received line (Went now (GapOut station session)) = sym (append-nil line.pending)
 
 -- joined ++ (behind ++ rest), where behind is what one more entry is followed by
-entries_heard : (c : Captured) (entries : List LogEntry) →
+entries_received : (c : Captured) (entries : List LogEntry) →
     serial_joined false (serial_in (packets_in c entries)) ++ (after_all c entries).line.pending
     ≡ c.line.pending ++ flat_map (line_octets false) entries
-entries_heard c [] = sym (append-nil c.line.pending)
-entries_heard c (entry ∷ entries) =
+entries_received c [] = sym (append-nil c.line.pending)
+entries_received c (entry ∷ entries) =
     let now = serial_joined false (serial_of c.line entry) in
     let then_all = serial_in (packets_in (after c entry) entries) in
     let end = (after_all (after c entry) entries).line.pending in
     ap (λ (xs : List ℕ). xs ++ end)
     (flat_map-append (serial_data false) (serial_of c.line entry) then_all)
     ∙ (append_assoc now (serial_joined false then_all) end
-    ∙ (ap (λ (xs : List ℕ). now ++ xs) (entries_heard (after c entry) entries)
+    ∙ (ap (λ (xs : List ℕ). now ++ xs) (entries_received (after c entry) entries)
     ∙ (sym (append_assoc now (line_after c.line entry).pending
     (flat_map (line_octets false) entries))
     ∙ (ap (λ (xs : List ℕ). xs ++ flat_map (line_octets false) entries)
-    (entry_heard c.line entry)
+    (entry_received c.line entry)
     ∙ append_assoc c.line.pending (line_octets false entry)
     (flat_map (line_octets false) entries)))))
 
@@ -244,43 +244,43 @@ line_carried size false entries =
     ended_serial size entries false
     ∙ (ap (λ (xs : List ℕ). serial_joined false (serial_in (packets_in (begun size) entries)) ++ xs)
     (no_frame_joined unfinished (after_all (begun size) entries).line.pending)
-    ∙ entries_heard (begun size) entries)
+    ∙ entries_received (begun size) entries)
 
 -- ---- Lines
 
 -- a line that tells an entry, and one that tells none
-told_blocks : (c : Captured) (told : Option LogEntry) (lines : List (List ℕ)) →
-    blocks_of_lines (after_told c told) lines
-    ≡ flat_map blocks_of (packets_in (after_told c told) (filter_map entry_told lines)) →
-    blocks_for c told ++ blocks_of_lines (after_told c told) lines
-    ≡ flat_map blocks_of (packets_in c (cons_option told (filter_map entry_told lines)))
-told_blocks c None lines h = h
-told_blocks c (Some entry) lines h =
+logged_blocks : (c : Captured) (logged : Option LogEntry) (lines : List (List ℕ)) →
+    blocks_of_lines (after_logged c logged) lines
+    ≡ flat_map blocks_of (packets_in (after_logged c logged) (filter_map entry_logged lines)) →
+    blocks_for c logged ++ blocks_of_lines (after_logged c logged) lines
+    ≡ flat_map blocks_of (packets_in c (cons_option logged (filter_map entry_logged lines)))
+logged_blocks c None lines h = h
+logged_blocks c (Some entry) lines h =
     ap (λ (xs : List ℕ). blocks_of (packets_of c entry) ++ xs) h
 
-told_after : (c : Captured) (told : Option LogEntry) (entries : List LogEntry) →
-    after_all (after_told c told) entries ≡ after_all c (cons_option told entries)
-told_after c None entries = refl
-told_after c (Some entry) entries = refl
+logged_after : (c : Captured) (logged : Option LogEntry) (entries : List LogEntry) →
+    after_all (after_logged c logged) entries ≡ after_all c (cons_option logged entries)
+logged_after c None entries = refl
+logged_after c (Some entry) entries = refl
 
 pub lines_blocks : (c : Captured) (lines : List (List ℕ)) →
-    blocks_of_lines c lines ≡ flat_map blocks_of (packets_in c (filter_map entry_told lines))
+    blocks_of_lines c lines ≡ flat_map blocks_of (packets_in c (filter_map entry_logged lines))
 lines_blocks c [] = refl
 lines_blocks c (line ∷ lines) =
-    told_blocks c (entry_told line) lines (lines_blocks (after_line c line) lines)
+    logged_blocks c (entry_logged line) lines (lines_blocks (after_line c line) lines)
 
 pub lines_after : (c : Captured) (lines : List (List ℕ)) →
-    after_lines c lines ≡ after_all c (filter_map entry_told lines)
+    after_lines c lines ≡ after_all c (filter_map entry_logged lines)
 lines_after c [] = refl
 lines_after c (line ∷ lines) =
     lines_after (after_line c line) lines
-    ∙ told_after c (entry_told line) (filter_map entry_told lines)
+    ∙ logged_after c (entry_logged line) (filter_map entry_logged lines)
 
 pub capture_whole : (size : LinkSize) (lines : List (List ℕ)) →
     capture_of size lines
-    ≡ file_header ++ flat_map blocks_of (whole_capture size (filter_map entry_told lines))
+    ≡ file_header ++ flat_map blocks_of (whole_capture size (filter_map entry_logged lines))
 capture_whole size lines =
-    let entries = filter_map entry_told lines in
+    let entries = filter_map entry_logged lines in
     let all = packets_in (begun size) entries in
     let end = last_packets (after_all (begun size) entries) in
     ap (λ (xs : List ℕ). file_header ++ xs)

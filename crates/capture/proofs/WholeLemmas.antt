@@ -21,8 +21,8 @@ use Rattle.traces.proofs.BlockLemmas.{gives_last, gives_on, gives_some, more_beh
 use Rattle.traces.specs.Trace.{is_skipped, lines_of}
 use Rattle.capture.specs.Blocks.{file_header}
 use Rattle.capture.specs.Captures.{Captured, after_line, after_lines, begun, blocks_for, blocks_of}
-use Rattle.capture.specs.Captures.{after_told, blocks_of_lines, last_packets, line_blocks}
-use Rattle.capture.specs.Recorded.{entry_told, is_line}
+use Rattle.capture.specs.Captures.{after_logged, blocks_of_lines, last_packets, line_blocks}
+use Rattle.capture.specs.Recorded.{entry_logged, is_line}
 use Rattle.capture.specs.Texts.{ArePassed, ArePut, AreWritten, IsCaptureFault, IsCaptured}
 use Rattle.capture.specs.Texts.{IsEndFault, IsFirstWrong, IsPartBegun, IsPartFault, IsPartly}
 use Rattle.capture.specs.Texts.{IsReadFault, IsWhole, IsWrongPart, IsWrongRecord, are_lines}
@@ -88,11 +88,11 @@ put_one a b line p q is put behind = record {
 }
 
 -- a wrong line tells nothing
-none_told : (line : List ℕ) → is_line line ≡ false → entry_told line ≡ None
-none_told line wrong = by (is_skipped line) (entry_told line) wrong
+none_logged : (line : List ℕ) → is_line line ≡ false → entry_logged line ≡ None
+none_logged line wrong = by (is_skipped line) (entry_logged line) wrong
   where
-    by : (skipped : Bool) (told : Option LogEntry) → (skipped || is_some told) ≡ false
-        → told ≡ None
+    by : (skipped : Bool) (logged : Option LogEntry) → (skipped || is_some logged) ≡ false
+        → logged ≡ None
     by skipped None h = refl
     by true (Some entry) h = cc
     by false (Some entry) h = cc
@@ -130,11 +130,12 @@ module _ (all left : List (List ℕ)) (line : List ℕ) (first n : ℕ) (old mid
   -- or it is wrong
   pub put_wrong : is_line line ≡ false → ArePassed first old all before after new (Wrong n)
   put_wrong wrong =
-      let none = none_told line wrong in
+      let none = none_logged line wrong in
       let same : after ≡ page =
-      put ∙ (ap (λ (told : Option LogEntry). page ++ blocks_for mid told) none ∙ append-nil page) in
+      put ∙ (ap (λ (logged : Option LogEntry). page ++ blocks_for mid logged) none
+      ∙ append-nil page) in
       let stays : new ≡ mid =
-      behind ∙ ap (λ (told : Option LogEntry). after_told mid told) none in (
+      behind ∙ ap (λ (logged : Option LogEntry). after_logged mid logged) none in (
         h.done,
         record {
           wrong = line;

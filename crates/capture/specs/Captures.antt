@@ -12,8 +12,8 @@ use Rattle.capture.specs.Blocks.{file_header}
 use Rattle.capture.specs.Clocks.{clock_after, micros_of}
 use Rattle.capture.specs.Connections.{Deed, Opens, Carries, Closes, Cuts, Sent, after_deeds}
 use Rattle.capture.specs.Connections.{sent_blocks, sent_in}
-use Rattle.capture.specs.Recorded.{entry_told}
-use Rattle.capture.specs.Wires.{Line, Serial, after_answer, after_request, asked, gap, heard}
+use Rattle.capture.specs.Recorded.{entry_logged}
+use Rattle.capture.specs.Wires.{Line, Serial, after_answer, after_request, asked, gap, arrived}
 use Rattle.capture.specs.Wires.{no_frame, serial_blocks}
 use Rattle.capture.specs.declared.clock.Clock.{Clock}
 use Rattle.capture.specs.declared.connection.Connection.{Connection}
@@ -60,7 +60,7 @@ deeds_of entry = []
 
 -- what goes over the line, and a gap
 abbrev pub serial_of : Line → LogEntry → List Serial
-serial_of line (Came now (LineIn octets)) = heard line octets
+serial_of line (Came now (LineIn octets)) = arrived line octets
 serial_of line (Went now (LineOut octets)) = asked line octets
 serial_of line (Went now (GapOut station session)) = gap station session ∷ []
 serial_of line entry = []
@@ -115,15 +115,15 @@ abbrev pub blocks_for : Captured → Option LogEntry → List ℕ
 blocks_for c None = []
 blocks_for c (Some entry) = blocks_of (packets_of c entry)
 
-abbrev pub after_told : Captured → Option LogEntry → Captured
-after_told c None = c
-after_told c (Some entry) = after c entry
+abbrev pub after_logged : Captured → Option LogEntry → Captured
+after_logged c None = c
+after_logged c (Some entry) = after c entry
 
 abbrev pub line_blocks : Captured → (line : List ℕ) → List ℕ
-line_blocks c line = blocks_for c (entry_told line)
+line_blocks c line = blocks_for c (entry_logged line)
 
 abbrev pub after_line : Captured → (line : List ℕ) → Captured
-after_line c line = after_told c (entry_told line)
+after_line c line = after_logged c (entry_logged line)
 
 abbrev pub after_lines : Captured → (lines : List (List ℕ)) → Captured
 after_lines c [] = c

@@ -54,15 +54,15 @@ called c = record {
   down = 0;
 }
 
-abbrev pub heard : Connection → Connection
-heard c = record (called c) { down = 1 }
+abbrev pub arrived : Connection → Connection
+arrived c = record (called c) { down = 1 }
 
 abbrev pub opened : Connection → Connection
 opened c = record (called c) { up = 1; down = 1 }
 
 -- SYN (2) of the control centre, SYN and ACK (18) of the gateway, ACK (16)
 abbrev pub opening : Connection → List Sent
-opening c = bare (called c) false 2 ∷ bare (heard c) true 18 ∷ bare (opened c) false 16 ∷ []
+opening c = bare (called c) false 2 ∷ bare (arrived c) true 18 ∷ bare (opened c) false 16 ∷ []
 
 -- PSH and ACK (24), with the octets
 abbrev pub carried_by : Connection → (is_up : Bool) → List ℕ → Sent

@@ -41,10 +41,10 @@ entry_from (moment ∷ second ∷ fields) =
     else option_map came (event_from (moment ∷ second ∷ fields))
 
 -- what a line tells; an empty one and a comment tell nothing
-abbrev pub entry_told : List ℕ → Option LogEntry
-entry_told line =
+abbrev pub entry_logged : List ℕ → Option LogEntry
+entry_logged line =
     if is_skipped line then None else entry_from (slice_split (λ b. b == 32) line)
 
 -- a line of a record: an event, an action, empty or a comment
 abbrev pub is_line : List ℕ → Bool
-is_line line = is_skipped line || is_some (entry_told line)
+is_line line = is_skipped line || is_some (entry_logged line)

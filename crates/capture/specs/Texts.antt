@@ -10,7 +10,7 @@ use Rattle.pages.specs.Pouring.{IsBegun}
 use Rattle.capture.specs.Blocks.{file_header}
 use Rattle.capture.specs.Captures.{Captured, after_lines, blocks_of, blocks_of_lines, last_packets}
 use Rattle.capture.specs.Captures.{whole_capture}
-use Rattle.capture.specs.Recorded.{entry_told, is_line}
+use Rattle.capture.specs.Recorded.{entry_logged, is_line}
 use Rattle.capture.specs.declared.passing.Passed.{Passed}
 use Rattle.capture.specs.declared.passing.Passed.TheVariants.{All, Wrong}
 use Rattle.capture.specs.declared.whole.CaptureFault.{CaptureFault}
@@ -96,7 +96,7 @@ IsPartFault first old lines before after NoMemory = IsPartBegun old lines before
 
 -- the events and actions of lines, in their order
 abbrev pub entries_in : List (List ℕ) → List LogEntry
-entries_in lines = filter_map entry_told lines
+entries_in lines = filter_map entry_logged lines
 
 -- the file of a log: its header, and the blocks of the packets of each entry
 abbrev pub file_of : LinkSize → List LogEntry → List ℕ

@@ -123,14 +123,14 @@ begun_part (Never place why) octets = []
 
 -- The frames in octets from an outstation, behind those that are pending. What begins no frame goes
 -- as it is, and what begins one waits for the rest.
-abbrev pub heard_in : (is_awaited : Bool) → LinkSize → Cut → List Serial
-heard_in is_awaited size cut =
+abbrev pub received_in : (is_awaited : Bool) → LinkSize → Cut → List Serial
+received_in is_awaited size cut =
     answers is_awaited cut.frames
     ++ no_frame (codes "spoilt") (spoilt_part (front_of size cut.rest) cut.rest)
 
-abbrev pub heard : Line → List ℕ → List Serial
-heard line octets =
-    heard_in line.is_awaited line.size (cut_of line.size (line.pending ++ octets))
+abbrev pub arrived : Line → List ℕ → List Serial
+arrived line octets =
+    received_in line.is_awaited line.size (cut_of line.size (line.pending ++ octets))
 
 abbrev pub line_behind : Line → Cut → Line
 line_behind line cut = record line {

@@ -1,6 +1,6 @@
 //! A record as a capture, line by line.
 ghost use Rattle.std.specs.Prelude.{◌≡◌, ◌++◌, ◌∷◌, ◌≤◌, ◌<◌, ◌^◌, [], length, IfOk, OnOk};
-ghost use Rattle.gateway.specs.Entries.{FitsPort, event_of, told_of};
+ghost use Rattle.gateway.specs.Entries.{FitsPort, event_of, logged_of};
 ghost use Rattle.session.specs.declared.kinds.Close.TheVariants.{Replaced};
 ghost use Rattle.capture.specs.Blocks.{file_header};
 ghost use Rattle.capture.specs.Captures.{after, after_line, begun, blocks_of};
@@ -18,7 +18,7 @@ use crate::entry::read_entry;
 use crate::pcapng::put_file_header;
 use crate::wire::Wire;
 use ft12::LinkSize;
-use gateway::{Entry, Told};
+use gateway::{Entry, StoredEntry};
 use session::Close;
 use std::alloc::{AllocError, Global};
 use std::marker::Model;
@@ -96,8 +96,8 @@ impl Capture {
             return Ok(true);
         }
         match read_entry(self.alloc, line)? {
-            Some(told) => {
-                self.add(page, &told)?;
+            Some(logged) => {
+                self.add(page, &logged)?;
                 Ok(true)
             }
             None => Ok(false),
@@ -113,20 +113,22 @@ impl Capture {
     }
 
     /// Puts the packets of an event or an action.
-    fn add(&mut self, page: &mut Page, told: &Told) -> Result<(), AllocError>
-        requires { FitsPacket told.now }
+    fn add(&mut self, page: &mut Page, logged: &StoredEntry) -> Result<(), AllocError>
+        requires { FitsPacket logged.now }
         ensures put { OnOk result (page.new
-            ≡ page.old ++ blocks_of (packets_of self.old (told_of told.now))) }
-        ensures after { OnOk result (self.new ≡ after self.old (told_of told.now)) }
+            ≡ page.old ++ blocks_of (packets_of self.old (logged_of logged.now))) }
+        ensures after { OnOk result (self.new ≡ after self.old (logged_of logged.now)) }
     {
-        match told {
-            Told::Came(entry) => self.add_event(page, entry),
-            Told::Line(_, octets) => self.wire.ask(page, self.clock.micros(), octets.as_slice()),
-            Told::Tcp(_, octets) => self.carry(page, true, octets.as_slice()),
+        match logged {
+            StoredEntry::Came(entry) => self.add_event(page, entry),
+            StoredEntry::Line(_, octets) => self
+                .wire
+                .ask(page, self.clock.micros(), octets.as_slice()),
+            StoredEntry::Tcp(_, octets) => self.carry(page, true, octets.as_slice()),
             // The connection whose place a new one took is closed already.
-            Told::Close(_, Close::Replaced) => Ok(()),
-            Told::Close(_, cause) => self.close(page, *cause),
-            Told::Gap(_, station, session) => {
+            StoredEntry::Close(_, Close::Replaced) => Ok(()),
+            StoredEntry::Close(_, cause) => self.close(page, *cause),
+            StoredEntry::Gap(_, station, session) => {
                 self.wire.gap(page, self.clock.micros(), *station, *session)
             }
         }
@@ -142,7 +144,8 @@ impl Capture {
         match entry {
             Entry::Line(now, octets) => {
                 self.clock = self.clock.moved(*now);
-                self.wire.hear(page, self.clock.micros(), octets.as_slice())
+                self.wire
+                    .receive_line(page, self.clock.micros(), octets.as_slice())
             }
             Entry::Open(now) => {
                 self.clock = self.clock.moved(*now);

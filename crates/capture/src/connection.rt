@@ -139,9 +139,9 @@ impl Connection {
     {
         let called = self.called();
         called.put_bare(page, packet, micros, false, SYN)?;
-        let heard = Connection { down: 1, ..called };
-        heard.put_bare(page, packet, micros, true, SYN | ACK)?;
-        let opened = Connection { up: 1, ..heard };
+        let arrived = Connection { down: 1, ..called };
+        arrived.put_bare(page, packet, micros, true, SYN | ACK)?;
+        let opened = Connection { up: 1, ..arrived };
         opened.put_bare(page, packet, micros, false, ACK)?;
         Ok(opened)
     }

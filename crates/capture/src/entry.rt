@@ -2,7 +2,7 @@
 ghost use Rattle.std.specs.Prelude.{◌≡◌, ◌==◌, ◌∷◌, [], codes, option_map, IfOk, IfSome};
 ghost use Rattle.std.specs.List.{slice_split};
 ghost use Rattle.std.specs.Option.{option_copied};
-ghost use Rattle.gateway.specs.Entries.{told_of};
+ghost use Rattle.gateway.specs.Entries.{logged_of};
 ghost use Rattle.traces.specs.Event.{bare_in, event_from, valued_in};
 ghost use Rattle.traces.specs.Fields.{decimal_of, parts_after};
 ghost use Rattle.traces.specs.Printed.{cause_numbered, went_at};
@@ -10,17 +10,17 @@ ghost use Rattle.traces.specs.Progress.{came};
 ghost use Rattle.capture.specs.Entries.{FitsPacket};
 ghost use Rattle.capture.specs.Recorded.{action_by, action_from, entry_from, gap_by};
 
-use gateway::{Entry, Told};
+use gateway::{Entry, StoredEntry};
 use session::Close;
 use std::alloc::{AllocError, Global};
 use traces::{cut, read_decimal, read_octets};
 
 /// What a line tells, which is neither empty nor a comment. `None` where it is neither an event nor
 /// an action; an `Err` is want of memory.
-pub(crate) fn read_entry(alloc: Global, line: &[u8]) -> Result<Option<Told>, AllocError>
-    ensures told { IfOk result (λ told. option_map told_of told
+pub(crate) fn read_entry(alloc: Global, line: &[u8]) -> Result<Option<StoredEntry>, AllocError>
+    ensures logged { IfOk result (λ logged. option_map logged_of logged
         ≡ entry_from (slice_split (λ b. b == 32) line.now)) }
-    ensures fits { IfOk result (λ told. IfSome told FitsPacket) }
+    ensures fits { IfOk result (λ logged. IfSome logged FitsPacket) }
 {
     let (moment, rest) = cut(line, b' ');
     let Some(rest) = rest else {
@@ -40,11 +40,11 @@ fn event(
     moment: &[u8],
     kind: &[u8],
     rest: Option<&[u8]>,
-) -> Result<Option<Told>, AllocError>
-    ensures told { IfOk result (λ told. option_map told_of told
+) -> Result<Option<StoredEntry>, AllocError>
+    ensures logged { IfOk result (λ logged. option_map logged_of logged
         ≡ option_map came (event_from (moment.now ∷ kind.now
         ∷ parts_after 32 (option_copied rest.entry)))) }
-    ensures fits { IfOk result (λ told. IfSome told FitsPacket) }
+    ensures fits { IfOk result (λ logged. IfSome logged FitsPacket) }
 {
     let Some(rest) = rest else {
         return Ok(bare(moment, kind));
@@ -60,17 +60,17 @@ fn event(
 }
 
 /// An event without octets.
-fn bare(moment: &[u8], kind: &[u8]) -> Option<Told>
-    ensures told { option_map told_of result ≡ option_map came (bare_in moment.now kind.now) }
+fn bare(moment: &[u8], kind: &[u8]) -> Option<StoredEntry>
+    ensures logged { option_map logged_of result ≡ option_map came (bare_in moment.now kind.now) }
     ensures fits { IfSome result FitsPacket }
 {
     let now = read_decimal(moment)?;
     if kind == b"T".as_slice() {
-        Some(Told::Came(Entry::Tick(now)))
+        Some(StoredEntry::Came(Entry::Tick(now)))
     } else if kind == b"O".as_slice() {
-        Some(Told::Came(Entry::Open(now)))
+        Some(StoredEntry::Came(Entry::Open(now)))
     } else if kind == b"C".as_slice() {
-        Some(Told::Came(Entry::Cut(now)))
+        Some(StoredEntry::Came(Entry::Cut(now)))
     } else {
         None
     }
@@ -82,10 +82,10 @@ fn valued(
     moment: &[u8],
     kind: &[u8],
     text: &[u8],
-) -> Result<Option<Told>, AllocError>
-    ensures told { IfOk result (λ told. option_map told_of told
+) -> Result<Option<StoredEntry>, AllocError>
+    ensures logged { IfOk result (λ logged. option_map logged_of logged
         ≡ option_map came (valued_in moment.now kind.now text.now)) }
-    ensures fits { IfOk result (λ told. IfSome told FitsPacket) }
+    ensures fits { IfOk result (λ logged. IfSome logged FitsPacket) }
 {
     if kind == b"W".as_slice() {
         return Ok(wall(moment, text));
@@ -97,30 +97,34 @@ fn valued(
         return Ok(None);
     };
     if kind == b"S".as_slice() {
-        Ok(Some(Told::Came(Entry::Line(now, octets))))
+        Ok(Some(StoredEntry::Came(Entry::Line(now, octets))))
     } else if kind == b"R".as_slice() {
-        Ok(Some(Told::Came(Entry::Bytes(now, octets))))
+        Ok(Some(StoredEntry::Came(Entry::Bytes(now, octets))))
     } else {
         Ok(None)
     }
 }
 
 /// The wall clock shows a number.
-fn wall(moment: &[u8], text: &[u8]) -> Option<Told>
-    ensures told { option_map told_of result
+fn wall(moment: &[u8], text: &[u8]) -> Option<StoredEntry>
+    ensures logged { option_map logged_of result
         ≡ option_map came (valued_in moment.now (codes "W") text.now) }
     ensures fits { IfSome result FitsPacket }
 {
     let now = read_decimal(moment)?;
     let number = read_decimal(text)?;
-    Some(Told::Came(Entry::Wall(now, number)))
+    Some(StoredEntry::Came(Entry::Wall(now, number)))
 }
 
 /// The action of the fields behind the mark.
-fn action(alloc: Global, moment: &[u8], rest: Option<&[u8]>) -> Result<Option<Told>, AllocError>
-    ensures told { IfOk result (λ told. option_map told_of told ≡ went_at (decimal_of moment.now)
+fn action(
+    alloc: Global,
+    moment: &[u8],
+    rest: Option<&[u8]>,
+) -> Result<Option<StoredEntry>, AllocError>
+    ensures logged { IfOk result (λ logged. option_map logged_of logged ≡ went_at (decimal_of moment.now)
         (action_from (parts_after 32 (option_copied rest.entry)))) }
-    ensures fits { IfOk result (λ told. IfSome told FitsPacket) }
+    ensures fits { IfOk result (λ logged. IfSome logged FitsPacket) }
 {
     let Some(now) = read_decimal(moment) else {
         return Ok(None);
@@ -140,10 +144,15 @@ fn action(alloc: Global, moment: &[u8], rest: Option<&[u8]>) -> Result<Option<To
 }
 
 /// A request, an APDU or a close.
-fn sent(alloc: Global, now: u64, kind: &[u8], text: &[u8]) -> Result<Option<Told>, AllocError>
-    ensures told { IfOk result (λ told. option_map told_of told
+fn sent(
+    alloc: Global,
+    now: u64,
+    kind: &[u8],
+    text: &[u8],
+) -> Result<Option<StoredEntry>, AllocError>
+    ensures logged { IfOk result (λ logged. option_map logged_of logged
         ≡ went_at (Some now) (action_by kind.now text.now)) }
-    ensures fits { IfOk result (λ told. IfSome told FitsPacket) }
+    ensures fits { IfOk result (λ logged. IfSome logged FitsPacket) }
 {
     if kind == b"X".as_slice() {
         return Ok(close(now, text));
@@ -152,22 +161,22 @@ fn sent(alloc: Global, now: u64, kind: &[u8], text: &[u8]) -> Result<Option<Told
         return Ok(None);
     };
     if kind == b"S".as_slice() {
-        Ok(Some(Told::Line(now, octets)))
+        Ok(Some(StoredEntry::Line(now, octets)))
     } else if kind == b"T".as_slice() {
-        Ok(Some(Told::Tcp(now, octets)))
+        Ok(Some(StoredEntry::Tcp(now, octets)))
     } else {
         Ok(None)
     }
 }
 
 /// A close, with the number of its cause.
-fn close(now: u64, text: &[u8]) -> Option<Told>
-    ensures told { option_map told_of result ≡ went_at (Some now) (action_by (codes "X") text.now) }
+fn close(now: u64, text: &[u8]) -> Option<StoredEntry>
+    ensures logged { option_map logged_of result ≡ went_at (Some now) (action_by (codes "X") text.now) }
     ensures fits { IfSome result FitsPacket }
 {
     let number = read_decimal(text)?;
     let cause = cause_of(number)?;
-    Some(Told::Close(now, cause))
+    Some(StoredEntry::Close(now, cause))
 }
 
 /// The cause with this number.
@@ -187,8 +196,8 @@ fn cause_of(number: u64) -> Option<Close>
 }
 
 /// A gap of a station, which is counted from 1.
-fn gap(now: u64, kind: &[u8], station: &[u8], rest: &[u8]) -> Option<Told>
-    ensures told { option_map told_of result ≡ went_at (Some now)
+fn gap(now: u64, kind: &[u8], station: &[u8], rest: &[u8]) -> Option<StoredEntry>
+    ensures logged { option_map logged_of result ≡ went_at (Some now)
         (action_from (kind.now ∷ station.now ∷ slice_split (λ b. b == 32) rest.now)) }
     ensures fits { IfSome result FitsPacket }
 {
@@ -204,5 +213,5 @@ fn gap(now: u64, kind: &[u8], station: &[u8], rest: &[u8]) -> Option<Told>
     let place = read_decimal(station)?;
     let session = read_decimal(session)?;
     let station = place.checked_sub(1)?;
-    Some(Told::Gap(now, station as usize, session))
+    Some(StoredEntry::Gap(now, station as usize, session))
 }

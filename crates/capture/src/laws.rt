@@ -9,7 +9,7 @@ ghost use Rattle.capture.specs.Captures.{segments_in, serial_in, serial_joined, 
 ghost use Rattle.capture.specs.Captures.{whole_capture};
 ghost use Rattle.capture.specs.Clocks.{times_of};
 ghost use Rattle.capture.specs.Connections.{Deed, RunOn, joined, octets_of, sent_in};
-ghost use Rattle.capture.specs.Recorded.{entry_told};
+ghost use Rattle.capture.specs.Recorded.{entry_logged};
 ghost use Rattle.capture.specs.declared.connection.Connection.{Connection};
 
 /// Whatever happens to a connection: the data of all segments that go one way, joined, are the
@@ -49,5 +49,5 @@ pub fn segments_run_on()
 /// a header, the blocks of their packets, and nothing else.
 pub fn lines_are_captured()
     ensures { (size : LinkSize) (lines : List (List ℕ)) → capture_of size lines
-        ≡ file_header ++ flat_map blocks_of (whole_capture size (filter_map entry_told lines)) }
+        ≡ file_header ++ flat_map blocks_of (whole_capture size (filter_map entry_logged lines)) }
 {}

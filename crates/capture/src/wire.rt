@@ -4,7 +4,7 @@ ghost use Rattle.std.specs.Prelude.{length, string_bytes, IfOk, OnOk};
 ghost use Rattle.ft12.specs.Fronts.{front_of};
 ghost use Rattle.capture.specs.Wires.{after_answer, after_request, answer as answer_of, answers};
 ghost use Rattle.capture.specs.Wires.{asked, cut_of, gap as gap_of, gap_comment as comment_of_gap};
-ghost use Rattle.capture.specs.Wires.{heard, no_frame, request_of, serial_block};
+ghost use Rattle.capture.specs.Wires.{arrived, no_frame, request_of, serial_block};
 ghost use Rattle.capture.specs.Wires.{serial_blocks, serial_octets, spoilt_part, begun_part};
 ghost use Rattle.capture.specs.Wires.{still_awaited, way_octets};
 
@@ -224,7 +224,7 @@ impl Wire {
     }
 
     /// Octets came from an outstation, in any piece.
-    pub(crate) fn hear(
+    pub(crate) fn receive_line(
         &mut self,
         page: &mut Page,
         micros: u64,
@@ -232,7 +232,7 @@ impl Wire {
     ) -> Result<(), AllocError>
         requires { length octets.now ≤ 1024 }
         ensures put { OnOk result (page.new
-            ≡ page.old ++ serial_blocks micros (heard self.old octets.now)) }
+            ≡ page.old ++ serial_blocks micros (arrived self.old octets.now)) }
         ensures after { OnOk result (self.new ≡ after_answer self.old octets.now) }
     {
         let mut all = mem::replace(&mut self.pending, Vec::new(self.alloc));

@@ -21,7 +21,7 @@ use Rattle.command.specs.Selection.{advanced, target_of, same_target, same_eleme
 use Rattle.command.specs.Selection.{lasts_from, after_sending, after_acceptance, after_loss}
 use Rattle.command.specs.Selections.{HaveTwoTargets, AreDistinct}
 use Rattle.command.specs.State as state
-use Rattle.command.specs.State.{State, oldest, has_answer_place, first_answer, told}
+use Rattle.command.specs.State.{State, oldest, has_answer_place, first_answer, heeded}
 use Rattle.command.specs.Judging as judging
 use Rattle.command.specs.Judging.{fault, makes_selection, ends_selection, lacks_selection}
 use Rattle.command.specs.Judging.{lacks_place}
@@ -168,12 +168,12 @@ distinct_more (z ∷ zs) y d a =
 abbrev Keeps : State → Type 0
 Keeps s = AreDistinct s.selections
 
-tells : (what : Sign) (s : State) → Keeps s → Keeps (told what s)
-tells what s d = distinct_left s.select_ms what s.selections d
+logs : (what : Sign) (s : State) → Keeps s → Keeps (heeded what s)
+logs what s d = distinct_left s.select_ms what s.selections d
 
 selects : (c : Command) (now : ℕ) (s : State) → Keeps s → Keeps (judging.selected c now s)
 selects c now s d = distinct_more (After s.select_ms (sign.Over (target_of c)) s.selections)
-    (judging.selection_of c now s) (tells (sign.Over (target_of c)) s d)
+    (judging.selection_of c now s) (logs (sign.Over (target_of c)) s d)
     (left_of_over s.select_ms (judging.selection_of c now s) s.selections)
 
 places : (xs : List ℕ) (c : Command) (now : ℕ) (t : State) → Keeps t
@@ -197,7 +197,7 @@ judges xs now wall s d = on_fault (fault s.sizes s.stations s.max_age_ms wall xs
         → Keeps (judging.placed xs (command_at xs) now (if b
         then judging.without_selection (command_at xs) s else s)).1
     on_ends true = places xs (command_at xs) now (judging.without_selection (command_at xs) s)
-        (tells (sign.Over (target_of (command_at xs))) s d)
+        (logs (sign.Over (target_of (command_at xs))) s d)
     on_ends false = places xs (command_at xs) now s d
 
     on_lack : (b : Bool) →
@@ -206,7 +206,7 @@ judges xs now wall s d = on_fault (fault s.sizes s.stations s.max_age_ms wall xs
         else judging.placed xs (command_at xs) now (if ends_selection (command_at xs)
         then judging.without_selection
         (command_at xs) s else s)).1
-    on_lack true = tells (sign.Over (target_of (command_at xs))) s d
+    on_lack true = logs (sign.Over (target_of (command_at xs))) s d
     on_lack false = on_ends (ends_selection (command_at xs))
 
     on_fault : (f : Option ℕ) → Keeps (judging.by_fault f xs now s).1
@@ -215,15 +215,15 @@ judges xs now wall s d = on_fault (fault s.sizes s.stations s.max_age_ms wall xs
 
 all_over : (v : AsduValue) (is : List Info) (s : State) → Keeps s → Keeps (mirrors.all_over v is s)
 all_over v [] s d = d
-all_over v (i ∷ is) s d = all_over v is (told (sign.Over (target_at v i)) s)
-    (tells (sign.Over (target_at v i)) s d)
+all_over v (i ∷ is) s d = all_over v is (heeded (sign.Over (target_at v i)) s)
+    (logs (sign.Over (target_at v i)) s d)
 
-hears : (v : AsduValue) (now : ℕ) (s : State) → Keeps s → Keeps (mirrors.mirrored v now s)
-hears v now s d = by_sign (is_con true v.cause)
+heeds : (v : AsduValue) (now : ℕ) (s : State) → Keeps s → Keeps (mirrors.mirrored v now s)
+heeds v now s d = by_sign (is_con true v.cause)
   where
     confirmed : (e : Option Element) (target : Target) → Keeps (mirrors.confirmed e target now s)
     confirmed None target = d
-    confirmed (Some element) target = tells (sign.Con target element now) s d
+    confirmed (Some element) target = logs (sign.Con target element now) s d
 
     one : (is : List Info) → Keeps (mirrors.one_confirmed v is now s)
     one [] = d
@@ -244,7 +244,7 @@ sends : (k : ℕ) (r : Run) (o : Option Waiting) → oldest k r.state.waiting �
     → Keeps (calls.after_sending o k r).state
 sends k r None e d = d
 sends k r (Some w) e d = subst (λ (o : Option Waiting). Keeps (state.put_out o k r.state)) (sym e)
-    (tells (sign.Sending k) r.state d)
+    (logs (sign.Sending k) r.state d)
 
 gives : (r : Run) (o : Option (List ℕ)) → Keeps r.state → Keeps (after_answer o r).state
 gives r None d = d
@@ -258,14 +258,14 @@ offers octets s false d = d
 step_keeps : (call : Call) (r : Run) → Keeps r.state → Keeps (after_call call r).state
 step_keeps (Judge xs now wall) r d = judges xs now wall r.state d
 step_keeps (PutOnLine k) r d = sends k r (oldest k r.state.waiting) refl d
-step_keeps (Accept k) r d = tells (sign.Acceptance k) r.state d
-step_keeps (Busy k) r d = tells (sign.Loss k) r.state d
-step_keeps (Lose k) r d = tells (sign.Loss k) r.state d
-step_keeps (Mirror v now) r d = hears v now r.state d
+step_keeps (Accept k) r d = logs (sign.Acceptance k) r.state d
+step_keeps (Busy k) r d = logs (sign.Loss k) r.state d
+step_keeps (Lose k) r d = logs (sign.Loss k) r.state d
+step_keeps (Mirror v now) r d = heeds v now r.state d
 step_keeps (Own octets) r d = offers octets r.state (has_answer_place r.state) d
 step_keeps SendOwn r d = gives r (first_answer r.state.answers) d
 step_keeps Cut r d = tt
-step_keeps (Due now) r d = tells (sign.Time now) r.state d
+step_keeps (Due now) r d = logs (sign.Time now) r.state d
 
 pub run_distinct : (stations : List StationInfo) (sizes : Sizes) (ms age : ℕ) (calls : List Call)
     → AreDistinct (run stations sizes ms age calls).state.selections

@@ -42,7 +42,7 @@ use Rattle.command.proofs.Runs.{run_holds, Holds, owned, given_back}
 use Rattle.command.proofs.Passing.{Kept, kept_mapped, kept_append, kept_last, kept_passes, Found}
 use Rattle.command.proofs.Passing.{Waits, Goes, Taken, Lives, Gone, Late, Past, at, After, none_by}
 use Rattle.command.proofs.Passing.{waits_none, sent_at, accepted_found, refused_found, lost_found}
-use Rattle.command.proofs.Passing.{timed_found, moved, offered_found, answered_found, heard}
+use Rattle.command.proofs.Passing.{timed_found, moved, offered_found, answered_found, heeded}
 use Rattle.command.proofs.Passing.{false_is_true, none_is_some, some_is, or_true, confirmed, home}
 
 -- the selects of the history are kept, or their time has passed
@@ -368,17 +368,18 @@ module _ (s : State) (h : History) (before : ℕ)
           record {
             came = omega (arith, old.came, later);
             target = old.target;
-            found = heard s.sizes s.stations s.select_ms s.max_age_ms h before s.selections ys now v
+            found = heeded s.sizes s.stations s.select_ms s.max_age_ms h before s.selections ys now
+                v
                 z
                 (confirms_now z) refl later old.came (stays t z old.target n)
                 (lives t z old.target n) old.found;
           }
 
-      pub hears : Full s.sizes s.stations s.select_ms s.max_age_ms (Mirrored now v ∷ h) now ys
-      hears t z e = by_negation t z (negates t v) refl e
+      pub heeds : Full s.sizes s.stations s.select_ms s.max_age_ms (Mirrored now v ∷ h) now ys
+      heeds t z e = by_negation t z (negates t v) refl e
 
     unchanged : ((z : Select) → confirms z.command v ≡ false) → Mirrors s
-    unchanged never = hears s.selections (λ t z e n st a k. k)
+    unchanged never = heeds s.selections (λ t z e n st a k. k)
         (λ t z e n st a k. false_is_true
         (sym (and_false_right (is_accepted st) (confirms_now z) (rw (never z) refl))
         ∙ a))
@@ -401,7 +402,7 @@ module _ (s : State) (h : History) (before : ℕ)
 
     on_negative : is_con true v.cause ≡ true → Mirrors (mirrors.all_over v v.infos s)
     on_negative p =
-        subst Mirrors (sym (left_is v v.infos s)) (hears (left s.select_ms v v.infos s.selections)
+        subst Mirrors (sym (left_is v v.infos s)) (heeds (left s.select_ms v v.infos s.selections)
         (λ t z e n st a k. kept_left (place z st) v.infos s.selections
         (subst (λ (u : Target). list_any (λ i. same_target u (target_at v i)) v.infos ≡ false)
         (sym e)
@@ -439,7 +440,7 @@ module _ (s : State) (h : History) (before : ℕ)
     on_element n p i one None e =
         unchanged (λ z. rw (n, p, one, e) (and_false_right
         (same_target (target_of z.command) (target_at v i)) false refl))
-    on_element n p i one (Some f) e = hears (con i f)
+    on_element n p i one (Some f) e = heeds (con i f)
         (λ t z same_one off st a k. kept_mapped
         (advanced s.select_ms (sign.Con (target_at v i) f now)) (place z st)
         (place z st) (rw (test_is n p i one f e z st ∙ a) refl) s.selections k)

@@ -265,13 +265,13 @@ admitting xs c now s false e = rw e (let t : State = if ends_selection c then wi
     else s in
     placing xs c now t (lacks_place c t) refl)
 
-told_by : (xs : List ℕ) (now : ℕ) (wall : Option ℕ) (s : State) (f : Option ℕ)
+logged_by : (xs : List ℕ) (now : ℕ) (wall : Option ℕ) (s : State) (f : Option ℕ)
     → is_some (rule_by f xs now wall s) ≡ is_some (by_fault f xs now s).0
-told_by xs now wall s (Some cause) = refl
-told_by xs now wall s None =
+logged_by xs now wall s (Some cause) = refl
+logged_by xs now wall s None =
     admitting xs (command_at xs) now s (lacks_selection (command_at xs) now s) refl
 
 pub rules_are_answers : (xs : List ℕ) (now : ℕ) (wall : Option ℕ) (s : State)
     → is_some (refusal_of xs now wall s) ≡ is_some (judged xs now wall s).0
 rules_are_answers xs now wall s =
-    told_by xs now wall s (fault s.sizes s.stations s.max_age_ms wall xs)
+    logged_by xs now wall s (fault s.sizes s.stations s.max_age_ms wall xs)

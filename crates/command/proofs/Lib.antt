@@ -25,7 +25,7 @@ pub mod OwnAnswers
 pub mod SavedBack
 pub mod Places
 pub mod Wholes
-pub mod Heard
+pub mod Received
 pub mod Glances
 pub mod Outlived
 pub mod Faultless

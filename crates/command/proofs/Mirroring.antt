@@ -47,7 +47,7 @@ left ms v (i ∷ is) zs = left ms v is (filter_map (advanced ms (sign.Over (targ
 pub left_is : (v : AsduValue) (is : List Info) (s : State)
     → mirrors.all_over v is s ≡ record s { selections = left s.select_ms v is s.selections }
 left_is v [] s = refl
-left_is v (i ∷ is) s = left_is v is (state.told (sign.Over (target_at v i)) s)
+left_is v (i ∷ is) s = left_is v is (state.heeded (sign.Over (target_at v i)) s)
 
 other : (P : Selection → Type 0) (v : AsduValue) (i : Info) (z : Selection) (b : Bool)
     → same_target (target_of z.command) (target_at v i) ≡ b → P z →

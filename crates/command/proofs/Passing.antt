@@ -435,7 +435,7 @@ module _ (sizes : Sizes) (stations : List StationInfo) (select_ms max_age_ms : �
   -- ---- a station answered
 
   -- c: the con confirms the select, in time
-  pub heard : (h : History) (latest : ℕ) (zs ys : List Selection) (now : ℕ) (v : AsduValue)
+  pub heeded : (h : History) (latest : ℕ) (zs ys : List Selection) (now : ℕ) (v : AsduValue)
       (z : Select) (c : Bool)
       → (confirms z.command v && nat_lt (now - z.came) select_ms) ≡ c → latest ≤ now
       → z.came ≤ latest →
@@ -443,29 +443,30 @@ module _ (sizes : Sizes) (stations : List StationInfo) (select_ms max_age_ms : �
       → ((st : Stage) → (is_accepted st && c) ≡ true → Kept (at z st) zs
       → Kept (at z (stage.Live now)) ys) →
       Found h latest zs z → Found (Mirrored now v ∷ h) now ys z
-  heard h latest zs ys now v z false e l came stays lives (Waits n p k) = Waits n p (stays _ refl k)
-  heard h latest zs ys now v z false e l came stays lives (Goes p a k) = Goes p a (stays _ refl k)
-  heard h latest zs ys now v z false e l came stays lives (Taken a c k) =
+  heeded h latest zs ys now v z false e l came stays lives (Waits n p k) =
+      Waits n p (stays _ refl k)
+  heeded h latest zs ys now v z false e l came stays lives (Goes p a k) = Goes p a (stays _ refl k)
+  heeded h latest zs ys now v z false e l came stays lives (Taken a c k) =
       Taken a (rw e c) (stays _ refl k)
-  heard h latest zs ys now v z false e l came stays lives (Lives m f c k) =
+  heeded h latest zs ys now v z false e l came stays lives (Lives m f c k) =
       Lives m f (rw e c) (stays _ refl k)
-  heard h latest zs ys now v z false e l came stays lives (Gone below p a) = Gone below p a
-  heard h latest zs ys now v z false e l came stays lives (Late c t) =
+  heeded h latest zs ys now v z false e l came stays lives (Gone below p a) = Gone below p a
+  heeded h latest zs ys now v z false e l came stays lives (Late c t) =
       Late (rw e c) (omega (arith, l, t))
-  heard h latest zs ys now v z false e l came stays lives (Past m f c t) =
+  heeded h latest zs ys now v z false e l came stays lives (Past m f c t) =
       Past m f (rw e c) (omega (arith, l, t))
-  heard h latest zs ys now v z true e l came stays lives (Waits n p k) = Waits n p (stays _ refl k)
-  heard h latest zs ys now v z true e l came stays lives (Goes p a k) = Goes p a (stays _ refl k)
-  heard h latest zs ys now v z true e l came stays lives (Taken a c k) =
+  heeded h latest zs ys now v z true e l came stays lives (Waits n p k) = Waits n p (stays _ refl k)
+  heeded h latest zs ys now v z true e l came stays lives (Goes p a k) = Goes p a (stays _ refl k)
+  heeded h latest zs ys now v z true e l came stays lives (Taken a c k) =
       Lives now (omega (arith, l, came)) (rw (e, a) refl) (lives _ refl k)
-  heard h latest zs ys now v z true e l came stays lives (Lives m f c k) =
+  heeded h latest zs ys now v z true e l came stays lives (Lives m f c k) =
       Lives now (omega (arith, l, came)) (rw (e, confirmed_accepted z m h c) refl) (lives _ refl k)
-  heard h latest zs ys now v z true e l came stays lives (Gone below p a) = Gone below p a
-  heard h latest zs ys now v z true e l came stays lives (Late c t) =
+  heeded h latest zs ys now v z true e l came stays lives (Gone below p a) = Gone below p a
+  heeded h latest zs ys now v z true e l came stays lives (Late c t) =
       absurd (let quick : now - z.came < select_ms = ltb-true (now - z.came) select_ms
       (and_parts (confirms z.command v) (nat_lt (now - z.came) select_ms) e).1 in
       omega (arith, l, t, quick))
-  heard h latest zs ys now v z true e l came stays lives (Past m f c t) =
+  heeded h latest zs ys now v z true e l came stays lives (Past m f c t) =
       absurd (let quick : now - z.came < select_ms = ltb-true (now - z.came) select_ms
       (and_parts (confirms z.command v) (nat_lt (now - z.came) select_ms) e).1 in
       omega (arith, l, t, quick, f))

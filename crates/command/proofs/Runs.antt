@@ -24,7 +24,7 @@ use Rattle.command.specs.Calls.{Cut, Due, Run, after_call, run, after_sending, a
 use Rattle.command.proofs.Sendings.{waiting_for, oldest_is_first, oldest_at, others_wait}
 use Rattle.command.proofs.Sendings.{without_all, octets_for, IsShaped, none_waits}
 use Rattle.command.proofs.Tied.{flip, Tied, all_kept, all_mapped, sending, acceptance, refused}
-use Rattle.command.proofs.Tied.{given_up, in_time, other_told, answer_told}
+use Rattle.command.proofs.Tied.{given_up, in_time, other_logged, answer_logged}
 use Rattle.command.proofs.Keeps.{held, KeepsQueue, Keeps, Same}
 use Rattle.command.proofs.Lines.{done_held, done_used, put_held, put_used, cut_held, cut_used}
 use Rattle.command.proofs.Lines.{free_held, free_used}
@@ -301,7 +301,8 @@ module _ (s : State) (h : History) (ks : Keeps s.sizes s.stations s.select_ms s.
             ∙ append_assoc (own_sent h) s.answers (octets ∷ []);
         kept = (sym e ∙ room_left (own_kept h) (own_sent h) s.answers ks.own.in_turn, ks.own.kept);
       };
-      tied = all_mapped _ _ (λ z t. other_told s.sizes s.stations s.select_ms s.max_age_ms h octets
+      tied =
+          all_mapped _ _ (λ z t. other_logged s.sizes s.stations s.select_ms s.max_age_ms h octets
           true z t)
           s.selections ks.tied;
       executes = ks.executes;
@@ -328,7 +329,8 @@ module _ (s : State) (h : History) (ks : Keeps s.sizes s.stations s.select_ms s.
         in_turn = ks.own.in_turn;
         kept = (sym e ∙ room_left (own_kept h) (own_sent h) s.answers ks.own.in_turn, ks.own.kept);
       };
-      tied = all_mapped _ _ (λ z t. other_told s.sizes s.stations s.select_ms s.max_age_ms h octets
+      tied =
+          all_mapped _ _ (λ z t. other_logged s.sizes s.stations s.select_ms s.max_age_ms h octets
           false z t)
           s.selections ks.tied;
       executes = ks.executes;
@@ -361,7 +363,8 @@ module _ (s : State) (h : History) (ks : Keeps s.sizes s.stations s.select_ms s.
             ∙ sym (append_assoc (own_sent h) (octets ∷ []) (drop 1 s.answers)));
         kept = ks.own.kept;
       };
-      tied = all_mapped _ _ (λ z t. answer_told s.sizes s.stations s.select_ms s.max_age_ms h octets
+      tied =
+          all_mapped _ _ (λ z t. answer_logged s.sizes s.stations s.select_ms s.max_age_ms h octets
           z t) s.selections
           ks.tied;
       executes = ks.executes;

@@ -139,7 +139,7 @@ mirroring_keeps P of_selections v now s p = by_sign (is_con true v.cause)
   where
     all_over : (is : List Info) (t : State) → P t → P (mirrors.all_over v is t)
     all_over [] t q = q
-    all_over (i ∷ is) t q = all_over is (state.told (sign.Over (target_at v i)) t)
+    all_over (i ∷ is) t q = all_over is (state.heeded (sign.Over (target_at v i)) t)
         (of_selections t _ q)
 
     confirmed : (e : Option Element) (target : Target) → P (mirrors.confirmed e target now s)

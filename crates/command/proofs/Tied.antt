@@ -272,9 +272,9 @@ module _ (sizes : Sizes) (stations : List StationInfo) (select_ms max_age_ms : �
   other_stage h octets b k c stage.Accepted a = a
   other_stage h octets b k c (stage.Live since) a = a
 
-  pub other_told : (h : History) (octets : List ℕ) (b : Bool) (z : Selection) → Tied h z
+  pub other_logged : (h : History) (octets : List ℕ) (b : Bool) (z : Selection) → Tied h z
       → Tied (Offered octets b ∷ h) z
-  other_told h octets b z t = record {
+  other_logged h octets b z t = record {
     place = t.place;
     station = t.station;
     stands = t.stands;
@@ -290,9 +290,9 @@ module _ (sizes : Sizes) (stations : List StationInfo) (select_ms max_age_ms : �
   answer_stage h octets k c stage.Accepted a = a
   answer_stage h octets k c (stage.Live since) a = a
 
-  pub answer_told : (h : History) (octets : List ℕ) (z : Selection) → Tied h z
+  pub answer_logged : (h : History) (octets : List ℕ) (z : Selection) → Tied h z
       → Tied (Answered octets ∷ h) z
-  answer_told h octets z t = record {
+  answer_logged h octets z t = record {
     place = t.place;
     station = t.station;
     stands = t.stands;

@@ -22,30 +22,30 @@ use Rattle.command.specs.Standard.{refuses_command, is_for_station, must_be_sele
 use Rattle.command.specs.Standard.{negative_of, cause_of_fault, IsFresh}
 use Rattle.command.specs.declared.station.StationInfo.{StationInfo}
 
-pub data Told : Type 0 where
+pub data HistoryEntry : Type 0 where
   -- at this moment, and at this one of the wall, if that was known, an ASDU came from the control
   -- centre; it was answered so, or forwarded (no answer)
-  Judged : ℕ → Option ℕ → List ℕ → Option (List ℕ) → Told
+  Judged : ℕ → Option ℕ → List ℕ → Option (List ℕ) → HistoryEntry
   -- a command went to the station for the first time, with these octets
-  Sent : ℕ → List ℕ → Told
+  Sent : ℕ → List ℕ → HistoryEntry
   -- the station accepted the command on its line
-  Accepted : ℕ → Told
+  Accepted : ℕ → HistoryEntry
   -- the station was busy, which is answered so or not at all
-  Refused : ℕ → Option (List ℕ) → Told
+  Refused : ℕ → Option (List ℕ) → HistoryEntry
   -- the command on the station's line was given up; whether there was one
-  GivenUp : ℕ → Bool → Told
+  GivenUp : ℕ → Bool → HistoryEntry
   -- at this moment a station answered a command
-  Mirrored : ℕ → AsduValue → Told
+  Mirrored : ℕ → AsduValue → HistoryEntry
   -- an own answer was handed over; whether it was kept
-  Offered : List ℕ → Bool → Told
+  Offered : List ℕ → Bool → HistoryEntry
   -- an own answer went out
-  Answered : List ℕ → Told
+  Answered : List ℕ → HistoryEntry
   -- the connection ended
-  Ended : Told
+  Ended : HistoryEntry
 
 -- the newest first
 abbrev pub History : Type 0
-History = List Told
+History = List HistoryEntry
 
 abbrev pub first : List (List ℕ) → Option (List ℕ)
 first [] = None

@@ -12,7 +12,7 @@ use Rattle.command.specs.Command.{is_permitted, is_deactivation, is_select, is_e
 use Rattle.command.specs.Selection.{advanced, lets_through, target_of}
 use Rattle.command.specs.Tags.{is_stale}
 use Rattle.command.specs.Stations.{is_global, is_addressed, is_known, is_guarded, station_number}
-use Rattle.command.specs.State.{State, told}
+use Rattle.command.specs.State.{State, heeded}
 use Rattle.command.specs.declared.act.Act.{Act}
 use Rattle.command.specs.declared.act.Act.TheVariants.{Forward, Own}
 use Rattle.command.specs.declared.content.Command.{Command}
@@ -75,7 +75,7 @@ abbrev pub ends_selection : Command → Bool
 ends_selection c = is_deactivation c || is_execute c
 
 abbrev pub without_selection : Command → State → State
-without_selection c s = told (sign.Over (target_of c)) s
+without_selection c s = heeded (sign.Over (target_of c)) s
 
 -- an execute that no live selection lets through
 abbrev pub lacks_selection : Command → ℕ → State → Bool

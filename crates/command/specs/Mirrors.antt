@@ -9,7 +9,7 @@ use Rattle.command.specs.declared.content.Target.{Target}
 use Rattle.command.specs.declared.content.Element.{Element}
 use Rattle.command.specs.declared.content.Element.TheVariants.{Octet, SetPoint}
 use Rattle.command.specs.declared.selection.Sign.TheVariants as sign
-use Rattle.command.specs.State.{State, told}
+use Rattle.command.specs.State.{State, heeded}
 use Rattle.command.specs.Tags.{newest_tag}
 
 -- an activation con with this P/N
@@ -30,11 +30,11 @@ target_at v i = record { kind = (row v.kind).code; ca = v.ca; address = i.addres
 -- the selection of each object is over
 abbrev pub all_over : AsduValue → List Info → State → State
 all_over v [] s = s
-all_over v (i ∷ is) s = all_over v is (told (sign.Over (target_at v i)) s)
+all_over v (i ∷ is) s = all_over v is (heeded (sign.Over (target_at v i)) s)
 
 abbrev pub confirmed : Option Element → Target → ℕ → State → State
 confirmed None target now s = s
-confirmed (Some element) target now s = told (sign.Con target element now) s
+confirmed (Some element) target now s = heeded (sign.Con target element now) s
 
 -- a con of one object; with several it says nothing of selections
 abbrev pub one_confirmed : AsduValue → List Info → ℕ → State → State

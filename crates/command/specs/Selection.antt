@@ -93,13 +93,13 @@ advanced select_ms (sign.Time now) z =
 
 -- the sign may change it: it is of its station, which hasn't accepted it yet, or of its target, or
 -- its time has passed
-abbrev pub hears : ℕ → Sign → Selection → Bool
-hears select_ms (sign.Sending station) z = z.station == station && not (is_accepted z.stage)
-hears select_ms (sign.Acceptance station) z = z.station == station && not (is_accepted z.stage)
-hears select_ms (sign.Loss station) z = z.station == station && not (is_accepted z.stage)
-hears select_ms (sign.Over target) z = same_target (target_of z.command) target
-hears select_ms (sign.Con target element now) z = same_target (target_of z.command) target
-hears select_ms (sign.Time now) z = has_passed select_ms now z
+abbrev pub heeds : ℕ → Sign → Selection → Bool
+heeds select_ms (sign.Sending station) z = z.station == station && not (is_accepted z.stage)
+heeds select_ms (sign.Acceptance station) z = z.station == station && not (is_accepted z.stage)
+heeds select_ms (sign.Loss station) z = z.station == station && not (is_accepted z.stage)
+heeds select_ms (sign.Over target) z = same_target (target_of z.command) target
+heeds select_ms (sign.Con target element now) z = same_target (target_of z.command) target
+heeds select_ms (sign.Time now) z = has_passed select_ms now z
 
 -- it is confirmed, less than select_ms ago
 abbrev pub is_live : ℕ → ℕ → Stage → Bool

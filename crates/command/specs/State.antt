@@ -49,8 +49,8 @@ new_state stations sizes select_ms max_age_ms = record {
 }
 
 -- selections hear of a sign
-abbrev pub told : Sign → State → State
-told what s = record s { selections = filter_map (advanced s.select_ms what) s.selections }
+abbrev pub heeded : Sign → State → State
+heeded what s = record s { selections = filter_map (advanced s.select_ms what) s.selections }
 
 -- ---- The line
 
@@ -80,7 +80,8 @@ noted xs s = record s { sendings = with_sending xs s.sendings }
 abbrev pub put_out : Option Waiting → ℕ → State → State
 put_out None station s = s
 put_out (Some w) station s =
-    with_line station (Holds w.received) (noted w.received (record (told (sign.Sending station) s) {
+    with_line station (Holds w.received)
+    (noted w.received (record (heeded (sign.Sending station) s) {
       waiting = without_oldest station s.waiting;
     }))
 
@@ -93,11 +94,11 @@ line_of station s = get_or s.lines station Free
 
 -- the station accepted the command on its line
 abbrev pub accepted : ℕ → State → State
-accepted station s = with_line station Free (told (sign.Acceptance station) s)
+accepted station s = with_line station Free (heeded (sign.Acceptance station) s)
 
 -- the station was busy, or the command on its line is given up
 abbrev pub given_up : ℕ → State → State
-given_up station s = with_line station Free (told (sign.Loss station) s)
+given_up station s = with_line station Free (heeded (sign.Loss station) s)
 
 -- the answer to a command that a busy station refused: a negative one, where its connection is
 -- open
@@ -150,4 +151,4 @@ closed s = record s {
 
 -- selections whose time has passed are over
 abbrev pub timed : ℕ → State → State
-timed now s = told (sign.Time now) s
+timed now s = heeded (sign.Time now) s

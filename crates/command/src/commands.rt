@@ -23,7 +23,7 @@ use crate::judging::{
     negative_cause,
 };
 use crate::keeping::{
-    advance_all, count_others, count_waiting, cut_all, free_lines, is_heard, is_used_at,
+    advance_all, count_others, count_waiting, cut_all, free_lines, is_received, is_used_at,
     kept_stations, place_of, push_copies, refusal_at, station_number,
 };
 use crate::mirrors::{element_of, is_con};
@@ -88,7 +88,7 @@ impl Model for Commands {
 impl Commands {
     ghost use Rattle.command.specs.Restored.{commands_lines, IsSavable, HasSettings, HaveRoom};
     ghost use Rattle.command.specs.Restored.{state_with, are_long};
-    ghost use Rattle.command.specs.State.{State, new_state, told, has_answer_place, offered};
+    ghost use Rattle.command.specs.State.{State, new_state, heeded, has_answer_place, offered};
     ghost use Rattle.command.specs.State.{first_answer, answered, closed, timed, octets_waiting};
     ghost use Rattle.command.specs.State.{with_line, sent as after_sending, noted};
     ghost use Rattle.command.specs.State.{accepted as after_acceptance, given_up, line_of, is_used};
@@ -213,11 +213,11 @@ impl Commands {
     }
 
     /// Selections hear of something.
-    fn tell(&mut self, sign: Sign)
-        ensures { self.new ≡ told sign self.old }
+    fn heed(&mut self, sign: Sign)
+        ensures { self.new ≡ heeded sign self.old }
     {
         // Each event comes by here, and few change a selection.
-        if is_heard(self.selections.as_slice(), self.select_ms, &sign) {
+        if is_received(self.selections.as_slice(), self.select_ms, &sign) {
             self.advance(&sign);
         }
     }
@@ -225,7 +225,7 @@ impl Commands {
     /// Selections hear of something. Apart, since few events do more than look.
     #[inline(never)]
     fn advance(&mut self, sign: &Sign)
-        ensures { self.new ≡ told sign.now self.old }
+        ensures { self.new ≡ heeded sign.now self.old }
     {
         advance_all(&mut self.selections, self.select_ms, sign);
     }
@@ -341,7 +341,7 @@ impl Commands {
         // A deactivation calls the select itself off (docs/DECISIONS.md, "Select and
         // deactivation").
         if command.is_deactivation() || command.is_execute() {
-            self.tell(Sign::Over(command.target()));
+            self.heed(Sign::Over(command.target()));
         }
     }
 
@@ -430,7 +430,7 @@ impl Commands {
         ensures { self.new ≡ selected command now self.old }
     {
         let station = station_number(self.stations.as_slice(), command.ca);
-        self.tell(Sign::Over(command.target()));
+        self.heed(Sign::Over(command.target()));
         self.selections.push(Selection {
             station,
             command,
@@ -468,7 +468,7 @@ impl Commands {
         let Some(place) = place_of(self.waiting.as_slice(), station) else {
             return;
         };
-        self.tell(Sign::Sending(station));
+        self.heed(Sign::Sending(station));
         let Waiting {
             station: _,
             received,
@@ -494,7 +494,7 @@ impl Commands {
     pub fn accepted(&mut self, station: usize)
         ensures { self.new ≡ after_acceptance station self.old }
     {
-        self.tell(Sign::Acceptance(station));
+        self.heed(Sign::Acceptance(station));
         self.set_line(station, Line::Free);
     }
 
@@ -508,7 +508,7 @@ impl Commands {
         ensures state { self.new ≡ given_up station self.old }
     {
         let answer = refusal_at(self.lines.as_slice(), station);
-        self.tell(Sign::Loss(station));
+        self.heed(Sign::Loss(station));
         self.set_line(station, Line::Free);
         answer
     }
@@ -519,7 +519,7 @@ impl Commands {
         ensures state { self.new ≡ given_up station self.old }
     {
         let there = is_used_at(self.lines.as_slice(), station);
-        self.tell(Sign::Loss(station));
+        self.heed(Sign::Loss(station));
         self.set_line(station, Line::Free);
         there
     }
@@ -570,7 +570,7 @@ impl Commands {
     {
         // An end too early costs a second select; one too late may operate a switch.
         for object in asdu.objects() {
-            self.tell(Sign::Over(Target {
+            self.heed(Sign::Over(Target {
                 kind,
                 ca,
                 address: object.address,
@@ -605,7 +605,7 @@ impl Commands {
         ensures { self.new ≡ confirmed (element_in element.now) target now self.old }
     {
         if let Some(element) = element_of(element) {
-            self.tell(Sign::Con(target, element, now));
+            self.heed(Sign::Con(target, element, now));
         }
     }
 
@@ -664,6 +664,6 @@ impl Commands {
     pub fn due(&mut self, now: u64)
         ensures { self.new ≡ timed now self.old }
     {
-        self.tell(Sign::Time(now));
+        self.heed(Sign::Time(now));
     }
 }

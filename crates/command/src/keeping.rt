@@ -5,7 +5,7 @@ ghost use Rattle.std.specs.Prelude.{Some, None, option_map, vec_len, vec_capacit
 ghost use Rattle.std.specs.List.{filter_map, list_any};
 ghost use Rattle.arrayvec.specs.ArrayVec.{array_vec_len};
 ghost use Rattle.command.specs.Command.{command_len, command_at};
-ghost use Rattle.command.specs.Selection.{hears, advanced as next_of};
+ghost use Rattle.command.specs.Selection.{heeds, advanced as next_of};
 ghost use Rattle.command.specs.Stations.{is_addressed, station_number as number_of};
 ghost use Rattle.command.specs.State.{cut_off, free_line, oldest, without_oldest, is_used};
 ghost use Rattle.command.specs.State.{refusal_of};
@@ -26,12 +26,12 @@ use asdu::Sizes;
 use std::alloc::Global;
 
 /// Whether a selection hears of the sign.
-pub(crate) fn is_heard(selections: &[Selection], select_ms: u64, sign: &Sign) -> bool
-    ensures { result ≡ list_any (hears select_ms sign.now) selections.now }
+pub(crate) fn is_received(selections: &[Selection], select_ms: u64, sign: &Sign) -> bool
+    ensures { result ≡ list_any (heeds select_ms sign.now) selections.now }
 {
     selections
         .iter()
-        .any(|selection| selection.hears(select_ms, sign))
+        .any(|selection| selection.heeds(select_ms, sign))
 }
 
 /// Each selection becomes what the sign leaves of it, where it stands.
@@ -42,7 +42,7 @@ pub(crate) fn advance_all(selections: &mut ArrayVec<Selection, 16>, select_ms: u
     let mut place = 0;
     'selections: while place < selections.len() {
         // Most stay as they are, and aren't moved.
-        if !selections[place].hears(select_ms, sign) {
+        if !selections[place].heeds(select_ms, sign) {
             place += 1;
             continue;
         }
@@ -66,7 +66,7 @@ pub(crate) fn count_others(selections: &[Selection], select_ms: u64, target: Tar
     let ends = Sign::Over(target);
     let mut count = 0;
     for selection in selections {
-        if !selection.hears(select_ms, &ends) {
+        if !selection.heeds(select_ms, &ends) {
             count += 1;
         }
     }

@@ -5,7 +5,7 @@ ghost use Rattle.command.specs.Selection.{same_element as are_same_elements, wit
 ghost use Rattle.command.specs.Selection.{after_sending as sending, after_acceptance as acceptance};
 ghost use Rattle.command.specs.Selection.{after_loss as loss, is_accepted as accepted};
 ghost use Rattle.command.specs.Selection.{is_live as live, lasts_from as running_from};
-ghost use Rattle.command.specs.Selection.{has_passed as passed, hears as may_change};
+ghost use Rattle.command.specs.Selection.{has_passed as passed, heeds as may_change};
 ghost use Rattle.command.specs.Selection.{advanced as next_of, lets_through as through, target_of};
 ghost use Rattle.command.specs.declared.selection.Sign.TheVariants.{Con as ConSign};
 ghost use Rattle.command.specs.declared.selection.Sign.TheVariants.{Time as TimeSign};
@@ -144,7 +144,7 @@ impl Selection {
     }
 
     /// Whether the sign may change it.
-    pub(crate) fn hears(&self, select_ms: u64, sign: &Sign) -> bool
+    pub(crate) fn heeds(&self, select_ms: u64, sign: &Sign) -> bool
         ensures { result ≡ may_change select_ms sign.now self.now }
     {
         match sign {

@@ -20,7 +20,7 @@ use Rattle.gateway.specs.Log.{WallIs, LineOut, TcpOut, Closed, GapOut, latest}
 use Rattle.gateway.specs.Streams.{spelled}
 use Rattle.gateway.specs.Connections.{present, received_before}
 use Rattle.gateway.specs.Walls.{wall_on}
-use Rattle.delivery.specs.Arrivals.{present_logs, arrivals_in, Arrival, TellsNoWall, ShowsAt}
+use Rattle.delivery.specs.Arrivals.{present_logs, arrivals_in, Arrival, HasNoWall, ShowsAt}
 use Rattle.delivery.proofs.Frames.{joined_by}
 
 -- `apci`: octets have one front
@@ -182,15 +182,15 @@ arrivals_stay (U u ∷ older) logs more h =
 
 -- an entry that tells no wall clock changes nothing
 further : (entry : LogEntry) (log : Log) (at clock : ℕ)
-    → ((l : Log) → TellsNoWall l → TellsNoWall (entry ∷ l))
+    → ((l : Log) → HasNoWall l → HasNoWall (entry ∷ l))
     → ShowsAt log at clock → ShowsAt (entry ∷ log) at clock
 further entry log at clock none s = record {
   since = entry ∷ s.since;
   now = s.now;
   number = s.number;
   before = s.before;
-  told = ap (λ (l : Log). entry ∷ l) s.told;
-  latest_told = none s.since s.latest_told;
+  logged = ap (λ (l : Log). entry ∷ l) s.logged;
+  latest_logged = none s.since s.latest_logged;
   shows = s.shows;
 }
 
@@ -201,28 +201,28 @@ shown (Came now (WallIs number) ∷ log) at clock h = record {
   now = now;
   number = number;
   before = log;
-  told = refl;
-  latest_told = tt;
+  logged = refl;
+  latest_logged = tt;
   shows = let is : min (number + (at - latest (Came now (WallIs number) ∷ log)))
       18446744073709551615 ≡ clock = cc in
       sym is;
 }
 shown (Came now Opened ∷ log) at clock h =
-    further (Came now Opened) log at clock (λ (l : Log) (t : TellsNoWall l). t)
+    further (Came now Opened) log at clock (λ (l : Log) (t : HasNoWall l). t)
     (shown log at clock h)
 shown (Came now CutOff ∷ log) at clock h =
-    further (Came now CutOff) log at clock (λ (l : Log) (t : TellsNoWall l). t)
+    further (Came now CutOff) log at clock (λ (l : Log) (t : HasNoWall l). t)
     (shown log at clock h)
 shown (Came now (TcpIn octets) ∷ log) at clock h = further (Came now (TcpIn octets)) log at clock
-    (λ (l : Log) (t : TellsNoWall l). t) (shown log at clock h)
+    (λ (l : Log) (t : HasNoWall l). t) (shown log at clock h)
 shown (Came now (LineIn octets) ∷ log) at clock h = further (Came now (LineIn octets)) log at clock
-    (λ (l : Log) (t : TellsNoWall l). t) (shown log at clock h)
+    (λ (l : Log) (t : HasNoWall l). t) (shown log at clock h)
 shown (Came now Ticked ∷ log) at clock h =
-    further (Came now Ticked) log at clock (λ (l : Log) (t : TellsNoWall l). t)
+    further (Came now Ticked) log at clock (λ (l : Log) (t : HasNoWall l). t)
     (shown log at clock h)
 shown (Came now Restarted ∷ log) at clock h =
-    further (Came now Restarted) log at clock (λ (l : Log) (t : TellsNoWall l). t)
+    further (Came now Restarted) log at clock (λ (l : Log) (t : HasNoWall l). t)
     (shown log at clock h)
 shown (Went now action ∷ log) at clock h =
-    further (Went now action) log at clock (λ (l : Log) (t : TellsNoWall l). t)
+    further (Went now action) log at clock (λ (l : Log) (t : HasNoWall l). t)
     (shown log at clock h)

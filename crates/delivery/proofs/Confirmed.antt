@@ -12,9 +12,9 @@ use Rattle.link.specs.declared.answer.Answer.{Answer}
 use Rattle.link.specs.declared.answer.Answer.TheVariants as answer
 use Rattle.link.specs.Exchanges.{Exchange, answer_to}
 use Rattle.link.specs.Delivery.{learnt, learnt_by, commands, first_sending, pending_by}
-use Rattle.gateway.specs.Works.{Works, told_silent}
+use Rattle.gateway.specs.Works.{Works, logged_silent}
 use Rattle.delivery.specs.Commands.{LineStep, Begun, Confirmed, Busy, Lost, said_of, missed_by}
-use Rattle.delivery.specs.Commands.{goes_down, steps_at, steps_in, confirmed_by, steps_told}
+use Rattle.delivery.specs.Commands.{goes_down, steps_at, steps_in, confirmed_by, steps_logged}
 use Rattle.delivery.specs.Commands.{sent_to}
 use Rattle.delivery.proofs.Accepted.{commands-append}
 
@@ -87,17 +87,18 @@ confirmed_learnt s a missed pending (x ∷ xs) =
 
 -- what is still to be told confirms nothing, and sends nothing
 pub confirmed_alike : (k : ℕ) (o : Option ℕ) (w : Works)
-    → confirmed_by (steps_told k w.history) ≡ confirmed_by (steps_told k (told_silent o w))
+    → confirmed_by (steps_logged k w.history) ≡ confirmed_by (steps_logged k (logged_silent o w))
 confirmed_alike k None w = refl
 confirmed_alike k (Some j) w = go (k == j)
   where
-    go : (b : Bool) → confirmed_by (steps_told k w.history)
-        ≡ confirmed_by (if b then steps_told k w.history ++ Lost ∷ [] else steps_told k w.history)
-    go true = sym (confirmed-append (steps_told k w.history) (Lost ∷ [])
-        ∙ append-nil (confirmed_by (steps_told k w.history)))
+    go : (b : Bool) → confirmed_by (steps_logged k w.history)
+        ≡ confirmed_by (if b then steps_logged k w.history ++ Lost ∷ []
+        else steps_logged k w.history)
+    go true = sym (confirmed-append (steps_logged k w.history) (Lost ∷ [])
+        ∙ append-nil (confirmed_by (steps_logged k w.history)))
     go false = refl
 
 pub sent_alike : (k : ℕ) (o : Option ℕ) (w : Works) → sent_to k w.history
-    ≡ sent_to k (told_silent o w)
+    ≡ sent_to k (logged_silent o w)
 sent_alike k None w = refl
 sent_alike k (Some j) w = refl

@@ -15,7 +15,8 @@ use Rattle.asdu.specs.declared.sizes.IoaSize.TheVariants as ioas
 use Rattle.link.specs.declared.service.Asked.TheVariants.{Status}
 use Rattle.link.specs.Outstation.{Turn, Accepted as Done}
 use Rattle.link.specs.Delivery.{Session}
-use Rattle.command.specs.History.{History, Told, Judged, Sent, Accepted, Refused, GivenUp, Ended}
+use Rattle.command.specs.History.{History, HistoryEntry, Judged, Sent, Accepted, Refused, GivenUp}
+use Rattle.command.specs.History.{Ended}
 use Rattle.gateway.specs.Log.{Log, Came, Went, Opened, CutOff, TcpIn, LineIn, LineOut, Ticked}
 use Rattle.gateway.specs.Log.{WallIs, Restarted}
 use Rattle.gateway.specs.Frames.{Connection, new_connection}
@@ -23,9 +24,9 @@ use Rattle.gateway.specs.Reports.{Setup, AreFound, exchanges_with}
 use Rattle.delivery.specs.Merges.{IsSublist}
 use Rattle.delivery.specs.Delivery.{before_sessions, sessions_of}
 use Rattle.delivery.specs.Commands.{LineStep, Begun, Confirmed, Busy, Lost, steps_in}
-use Rattle.delivery.specs.Commands.{first_sendings, steps_told, sent_to, forwarded_in, as_judged}
+use Rattle.delivery.specs.Commands.{first_sendings, steps_logged, sent_to, forwarded_in, as_judged}
 use Rattle.delivery.specs.Commands.{on_line_of, AreCommandsOf}
-use Rattle.delivery.specs.Selections.{AreAt, TellsAtMoments}
+use Rattle.delivery.specs.Selections.{AreAt, LogsAtMoments}
 use Rattle.delivery.specs.Arrivals.{Arrival, arrivals, arrivals_by, ShowsAt}
 
 abbrev example : Setup
@@ -265,24 +266,24 @@ session_is = refl
 
 -- What the course tells
 
-abbrev told : History
-told = Refused 0 None ∷ Sent 0 (2 ∷ []) ∷ Sent 1 (3 ∷ []) ∷ Ended ∷ Accepted 0 ∷ Sent 0 (1 ∷ [])
+abbrev logged : History
+logged = Refused 0 None ∷ Sent 0 (2 ∷ []) ∷ Sent 1 (3 ∷ []) ∷ Ended ∷ Accepted 0 ∷ Sent 0 (1 ∷ [])
     ∷ []
 
-told_of_first : steps_told 0 told ≡ Begun (1 ∷ []) ∷ Confirmed (1 ∷ []) ∷ Begun (2 ∷ [])
+logged_of_first : steps_logged 0 logged ≡ Begun (1 ∷ []) ∷ Confirmed (1 ∷ []) ∷ Begun (2 ∷ [])
     ∷ Busy (2 ∷ []) ∷ []
-told_of_first = refl
+logged_of_first = refl
 
 -- what is given up is told for its own station alone
-told_lost : steps_told 0 (GivenUp 1 true ∷ GivenUp 0 true ∷ Sent 0 (1 ∷ []) ∷ [])
+logged_lost : steps_logged 0 (GivenUp 1 true ∷ GivenUp 0 true ∷ Sent 0 (1 ∷ []) ∷ [])
     ≡ Begun (1 ∷ []) ∷ Lost ∷ []
-told_lost = refl
+logged_lost = refl
 
-told_of_second : steps_told 1 told ≡ Begun (3 ∷ []) ∷ []
-told_of_second = refl
+logged_of_second : steps_logged 1 logged ≡ Begun (3 ∷ []) ∷ []
+logged_of_second = refl
 
 -- An ASDU is told with the moment of its entry of the log, and with no other.
-at_its_moment : TellsAtMoments (Came 9 Ticked ∷ Came 5 (TcpIn []) ∷ [])
+at_its_moment : LogsAtMoments (Came 9 Ticked ∷ Came 5 (TcpIn []) ∷ [])
     (Judged 5 None from_centre None ∷ [])
 at_its_moment = (
   [],
@@ -292,7 +293,7 @@ at_its_moment = (
   (Judged 5 None from_centre None ∷ [], [], refl, (refl, tt), tt),
 )
 
-not_before_it : TellsAtMoments (Came 9 Ticked ∷ []) (Judged 5 None from_centre None ∷ []) → ⊥
+not_before_it : LogsAtMoments (Came 9 Ticked ∷ []) (Judged 5 None from_centre None ∷ []) → ⊥
 not_before_it h = go h.0 h.1 h.2 h.3 h.4
   where
     go : (new older : History) → Judged 5 None from_centre None ∷ [] ≡ new ++ older → AreAt 9 new
@@ -303,10 +304,10 @@ not_before_it h = go h.0 h.1 h.2 h.3 h.4
     go (x ∷ new) older e is all =
         let same : x ≡ Judged 5 None from_centre None = cc in
         let then_9 : AreAt 9 (Judged 5 None from_centre None ∷ new) =
-        subst (λ (y : Told). AreAt 9 (y ∷ new)) same is in
+        subst (λ (y : HistoryEntry). AreAt 9 (y ∷ new)) same is in
         let no : 5 ≡ 9 = then_9.0 in cc
 
-sent_to_first : sent_to 0 told ≡ (1 ∷ []) ∷ (2 ∷ []) ∷ []
+sent_to_first : sent_to 0 logged ≡ (1 ∷ []) ∷ (2 ∷ []) ∷ []
 sent_to_first = refl
 
 -- what is answered isn't forwarded, nor what is for another station
@@ -369,8 +370,8 @@ shows_latest = record {
   now = 4;
   number = 9;
   before = in_pieces;
-  told = refl;
-  latest_told = tt;
+  logged = refl;
+  latest_logged = tt;
   shows =
       refl;
 }

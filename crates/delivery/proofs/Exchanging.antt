@@ -27,11 +27,11 @@ use Rattle.link.specs.Primary.{is_command, outcome_of}
 use Rattle.link.specs.Delivery.{pending_by, pending_after, first_sending}
 use Rattle.command.specs.History.{History, Sent, Accepted, Refused, GivenUp}
 use Rattle.delivery.specs.Commands.{LineStep, Begun, Confirmed, Busy, Lost, said_of, is_silent}
-use Rattle.delivery.specs.Commands.{goes_down, steps_in, first_sendings, last_sent, steps_told}
+use Rattle.delivery.specs.Commands.{goes_down, steps_in, first_sendings, last_sent, steps_logged}
 use Rattle.delivery.specs.Commands.{sent_to}
 use Rattle.delivery.proofs.Steps.{pending_more, missed_after, steps_more, sendings_more, Pends}
 use Rattle.delivery.proofs.Steps.{AreProper, none_said, no_first, Counts, so_far, still_up}
-use Rattle.delivery.proofs.History.{LineTold, line_told}
+use Rattle.delivery.proofs.History.{LineLogged, line_logged}
 
 pub other_place : (a b : ℕ) → (a == b) ≡ false → (b == a) ≡ false
 other_place a b h = go (b == a) refl
@@ -69,45 +69,45 @@ alone i v = if v.station == i then v.exchange ∷ [] else []
 
 -- What is told of a station's line is what its exchanges show; and the command that isn't done was
 -- sent last.
-pub record IsTold (s : LinkSettings) (a : ℕ) (xs : List Exchange) (k : ℕ) (h : History) : Type
+pub record IsLogged (s : LinkSettings) (a : ℕ) (xs : List Exchange) (k : ℕ) (h : History) : Type
     0 where
-  pub steps : steps_told k h ≡ steps_in s a 0 None xs
+  pub steps : steps_logged k h ≡ steps_in s a 0 None xs
   pub last : (asdu : List ℕ) → pending_after a None xs ≡ Some (Command asdu) → last_sent k h ≡ asdu
   pub sent : sent_to k h ≡ first_sendings a None xs
 
-pub stays_told : (s : LinkSettings) (a : ℕ) (xs : List Exchange) (k : ℕ) (h new : History)
-    → line_told k new ≡ line_told k h → IsTold s a xs k h → IsTold s a xs k new
-stays_told s a xs k h new same t = record {
-  steps = ap (λ (l : LineTold). l.steps) same ∙ t.steps;
-  last = λ asdu e. ap (λ (l : LineTold). l.last) same ∙ t.last asdu e;
-  sent = ap (λ (l : LineTold). l.sent) same ∙ t.sent;
+pub stays_logged : (s : LinkSettings) (a : ℕ) (xs : List Exchange) (k : ℕ) (h new : History)
+    → line_logged k new ≡ line_logged k h → IsLogged s a xs k h → IsLogged s a xs k new
+stays_logged s a xs k h new same t = record {
+  steps = ap (λ (l : LineLogged). l.steps) same ∙ t.steps;
+  last = λ asdu e. ap (λ (l : LineLogged). l.last) same ∙ t.last asdu e;
+  sent = ap (λ (l : LineLogged). l.sent) same ∙ t.sent;
 }
 
 abbrev pub lost_if : Bool → List LineStep
 lost_if b = if b then Lost ∷ [] else []
 
 -- another exchange with the same answer in place of the last one
-pub alike_told : (s : LinkSettings) (a k : ℕ) (xs : List Exchange) (request : Asked)
+pub alike_logged : (s : LinkSettings) (a k : ℕ) (xs : List Exchange) (request : Asked)
     (front later : Option Frame)
     (closed over given : Bool) (h new : History) →
     option_and_then (answer_of a request) front ≡ option_and_then (answer_of a request) later →
     goes_down s (missed_after a 0 xs) request closed (option_and_then (answer_of a request) later)
     ≡ goes_down s (missed_after a 0 xs) request over
     (option_and_then (answer_of a request) later) →
-    line_told k new ≡ line_told k h →
-    IsTold s a (xs ++ record {
+    line_logged k new ≡ line_logged k h →
+    IsLogged s a (xs ++ record {
       request = request;
       front = front;
       closed = closed;
       given_up = given;
     } ∷ []) k h
-    → IsTold s a (xs ++ record {
+    → IsLogged s a (xs ++ record {
       request = request;
       front = later;
       closed = over;
       given_up = given;
     } ∷ []) k new
-alike_told s a k xs request front later closed over given h new alike down same t =
+alike_logged s a k xs request front later closed over given h new alike down same t =
     let pending : Option Service = pending_after a None xs in
     let x : Exchange = record {
       request = request;
@@ -122,7 +122,7 @@ alike_told s a k xs request front later closed over given h new alike down same 
       given_up = given;
     } in
     record {
-      steps = ap (λ (l : LineTold). l.steps) same ∙ t.steps ∙ steps_more s a 0 None xs x
+      steps = ap (λ (l : LineLogged). l.steps) same ∙ t.steps ∙ steps_more s a 0 None xs x
           ∙ ap (λ (o : Option Answer). steps_in s a 0 None xs
           ++ (map (λ (asdu : List ℕ). Begun asdu) (first_sending pending request)
           ++ (said_of request o
@@ -132,22 +132,22 @@ alike_told s a k xs request front later closed over given h new alike down same 
           (map (λ (asdu : List ℕ). Begun asdu) (first_sending pending request)
           ++ (said_of request (answer_to a y) ++ lost_if (given || b)))) down
           ∙ sym (steps_more s a 0 None xs y);
-      last = λ asdu e. ap (λ (l : LineTold). l.last) same
+      last = λ asdu e. ap (λ (l : LineLogged). l.last) same
           ∙ t.last asdu (pending_more a None xs x
           ∙ ap (λ (o : Option Answer). pending_by request o pending) alike
           ∙ sym (pending_more a None xs y) ∙ e);
-      sent = ap (λ (l : LineTold). l.sent) same ∙ t.sent ∙ sendings_more a None xs x
+      sent = ap (λ (l : LineLogged). l.sent) same ∙ t.sent ∙ sendings_more a None xs x
           ∙ sym (sendings_more a None xs y);
     }
 
 -- An answer comes
 
 -- what an outcome tells
-abbrev pub told_by : Outcome → History → History
-told_by (outcome.Accepted station) h = Accepted station ∷ h
-told_by (outcome.Busy station) h = Refused station None ∷ h
-told_by (outcome.Down station) h = GivenUp station false ∷ h
-told_by other h = h
+abbrev pub logged_by : Outcome → History → History
+logged_by (outcome.Accepted station) h = Accepted station ∷ h
+logged_by (outcome.Busy station) h = Refused station None ∷ h
+logged_by (outcome.Down station) h = GivenUp station false ∷ h
+logged_by other h = h
 
 -- what is pending after an answer was pending before
 pending_back : (request : Asked) (m : Option Answer) (pending : Option Service) (service : Service)
@@ -218,31 +218,32 @@ module _ (s : LinkSettings) (a k : ℕ) (xs : List Exchange) (request : Asked)
       ∙ sym (pending_more a None xs after_it) ∙ e)
 
   -- nothing is said of a command
-  quiet_told : (m : Option Answer) (h new : History) → answer_to a before_it ≡ None
+  quiet_logged : (m : Option Answer) (h new : History) → answer_to a before_it ≡ None
       → answer_to a after_it ≡ m
       → said_of request m ++ lost_if (goes_down s (missed_after a 0 xs) request over m) ≡ []
-      → line_told k new ≡ line_told k h →
-      IsTold s a (xs ++ before_it ∷ []) k h → IsTold s a (xs ++ after_it ∷ []) k new
-  quiet_told m h new none is nothing same t = record {
-    steps = ap (λ (l : LineTold). l.steps) same ∙ t.steps
+      → line_logged k new ≡ line_logged k h →
+      IsLogged s a (xs ++ before_it ∷ []) k h → IsLogged s a (xs ++ after_it ∷ []) k new
+  quiet_logged m h new none is nothing same t = record {
+    steps = ap (λ (l : LineLogged). l.steps) same ∙ t.steps
         ∙ sym (append-nil (steps_in s a 0 None (xs ++ before_it ∷ [])))
         ∙ ap (λ (l : List LineStep). steps_in s a 0 None (xs ++ before_it ∷ []) ++ l) (sym nothing)
         ∙ sym (grown m none is);
-    last = λ asdu e. ap (λ (l : LineTold). l.last) same
+    last = λ asdu e. ap (λ (l : LineLogged). l.last) same
         ∙ t.last asdu (still_pending m none is (Command asdu) e);
-    sent = ap (λ (l : LineTold). l.sent) same ∙ t.sent ∙ sym same_sendings;
+    sent = ap (λ (l : LineLogged). l.sent) same ∙ t.sent ∙ sym same_sendings;
   }
 
   -- the command that went out last is spoken of
-  spoken_told : (m : Option Answer) (asdu : List ℕ) (step : List ℕ → LineStep) (h new : History)
+  spoken_logged : (m : Option Answer) (asdu : List ℕ) (step : List ℕ → LineStep) (h new : History)
       → answer_to a before_it ≡ None → answer_to a after_it ≡ m →
       said_of request m ++ lost_if (goes_down s (missed_after a 0 xs) request over m)
       ≡ step asdu ∷ []
       → pending_by request None (pending_after a None xs) ≡ Some (Command asdu)
       → pending_by request m (pending_after a None xs) ≡ None →
-      steps_told k new ≡ steps_told k h ++ step (last_sent k h) ∷ [] → sent_to k new ≡ sent_to k h →
-      IsTold s a (xs ++ before_it ∷ []) k h → IsTold s a (xs ++ after_it ∷ []) k new
-  spoken_told m asdu step h new none is says held done steps sent t =
+      steps_logged k new ≡ steps_logged k h ++ step (last_sent k h) ∷ [] → sent_to k new
+      ≡ sent_to k h →
+      IsLogged s a (xs ++ before_it ∷ []) k h → IsLogged s a (xs ++ after_it ∷ []) k new
+  spoken_logged m asdu step h new none is says held done steps sent t =
       let pending : Option Service = pending_after a None xs in
       let it : last_sent k h ≡ asdu = t.last asdu (pending_more a None xs before_it
       ∙ ap (λ (o : Option Answer). pending_by request o pending) none ∙ held) in
@@ -258,27 +259,29 @@ module _ (s : LinkSettings) (a k : ℕ) (xs : List Exchange) (request : Asked)
       }
 
   -- what stands on the line is lost
-  lost_told : (m : Option Answer) (h new : History) → answer_to a before_it ≡ None
+  lost_logged : (m : Option Answer) (h new : History) → answer_to a before_it ≡ None
       → answer_to a after_it ≡ m
       → said_of request m ++ lost_if (goes_down s (missed_after a 0 xs) request over m) ≡ Lost ∷ []
       →
-      line_told k new ≡ line_told k (GivenUp k false ∷ h) → IsTold s a (xs ++ before_it ∷ []) k h
-      → IsTold s a (xs ++ after_it ∷ []) k new
-  lost_told m h new none is says same t = record {
-    steps = ap (λ (l : LineTold). l.steps) same ∙ ap (λ (b : Bool). if b then steps_told k h ++ Lost
-        ∷ [] else steps_told k h) (eq-eqb k k refl)
+      line_logged k new ≡ line_logged k (GivenUp k false ∷ h)
+      → IsLogged s a (xs ++ before_it ∷ []) k h
+      → IsLogged s a (xs ++ after_it ∷ []) k new
+  lost_logged m h new none is says same t = record {
+    steps = ap (λ (l : LineLogged). l.steps) same
+        ∙ ap (λ (b : Bool). if b then steps_logged k h ++ Lost
+        ∷ [] else steps_logged k h) (eq-eqb k k refl)
         ∙ ap (λ (l : List LineStep). l ++ Lost ∷ []) t.steps
         ∙ ap (λ (l : List LineStep). steps_in s a 0 None (xs ++ before_it ∷ []) ++ l) (sym says)
         ∙ sym (grown m none is);
-    last = λ asdu e. ap (λ (l : LineTold). l.last) same
+    last = λ asdu e. ap (λ (l : LineLogged). l.last) same
         ∙ t.last asdu (still_pending m none is (Command asdu) e);
-    sent = ap (λ (l : LineTold). l.sent) same ∙ t.sent ∙ sym same_sendings;
+    sent = ap (λ (l : LineLogged). l.sent) same ∙ t.sent ∙ sym same_sendings;
   }
 
 pub here_is : (k : ℕ) → (k == k) ≡ true
 here_is k = eq-eqb k k refl
 
-pub heard_one : (s : LinkSettings) (a k : ℕ) (xs : List Exchange) (request : Asked)
+pub received_one : (s : LinkSettings) (a k : ℕ) (xs : List Exchange) (request : Asked)
     (front later : Option Frame)
     (m : Option Answer) (h new : History) →
     answer_to a (record { request = request; front = front; closed = false; given_up = false })
@@ -286,189 +289,211 @@ pub heard_one : (s : LinkSettings) (a k : ℕ) (xs : List Exchange) (request : A
     → answer_to a (record { request = request; front = later; closed = false; given_up = false })
     ≡ m
     → AreProper request m →
-    line_told k new ≡ line_told k (told_by (outcome_of k request m) h) →
-    IsTold s a (xs ++ record { request = request; front = front; closed = false; given_up = false }
+    line_logged k new ≡ line_logged k (logged_by (outcome_of k request m) h) →
+    IsLogged s a (xs ++ record {
+      request = request;
+      front = front;
+      closed = false;
+      given_up =
+          false;
+    }
     ∷ []) k h
-    → IsTold s a (xs ++ record {
+    → IsLogged s a (xs ++ record {
       request = request;
       front = later;
       closed = false;
       given_up =
           false;
     } ∷ []) k new
-heard_one s a k xs request front later None h new none is proper same t =
-    quiet_told s a k xs request front later false None h new none is
+received_one s a k xs request front later None h new none is proper same t =
+    quiet_logged s a k xs request front later false None h new none is
     (ap (λ (l : List LineStep). l ++ lost_if (goes_down s (missed_after a 0 xs) request false None))
     (none_said request) ∙ ap lost_if (still_up s (missed_after a 0 xs) request)) same t
-heard_one s a k xs Status front later (Some answer.Ready) h new none is proper same t =
-    quiet_told s a k xs Status front later false (Some answer.Ready) h new none is refl same t
-heard_one s a k xs Status front later (Some answer.Unable) h new none is proper same t =
-    lost_told s a k xs Status front later false (Some answer.Unable) h new none is refl same t
-heard_one s a k xs Status front later (Some answer.Confirmed) h new none is proper same t =
+received_one s a k xs Status front later (Some answer.Ready) h new none is proper same t =
+    quiet_logged s a k xs Status front later false (Some answer.Ready) h new none is refl same t
+received_one s a k xs Status front later (Some answer.Unable) h new none is proper same t =
+    lost_logged s a k xs Status front later false (Some answer.Unable) h new none is refl same t
+received_one s a k xs Status front later (Some answer.Confirmed) h new none is proper same t =
     absurd proper
-heard_one s a k xs Status front later (Some answer.Busy) h new none is proper same t = absurd proper
-heard_one s a k xs Status front later (Some (answer.Report asdu)) h new none is proper same t =
+received_one s a k xs Status front later (Some answer.Busy) h new none is proper same t =
     absurd proper
-heard_one s a k xs Status front later (Some answer.NoData) h new none is proper same t =
+received_one s a k xs Status front later (Some (answer.Report asdu)) h new none is proper same t =
     absurd proper
-heard_one s a k xs Reset front later (Some answer.Confirmed) h new none is proper same t =
-    quiet_told s a k xs Reset front later false (Some answer.Confirmed) h new none is refl same t
-heard_one s a k xs Reset front later (Some answer.Ready) h new none is proper same t = absurd proper
-heard_one s a k xs Reset front later (Some answer.Unable) h new none is proper same t =
+received_one s a k xs Status front later (Some answer.NoData) h new none is proper same t =
     absurd proper
-heard_one s a k xs Reset front later (Some answer.Busy) h new none is proper same t = absurd proper
-heard_one s a k xs Reset front later (Some (answer.Report asdu)) h new none is proper same t =
+received_one s a k xs Reset front later (Some answer.Confirmed) h new none is proper same t =
+    quiet_logged s a k xs Reset front later false (Some answer.Confirmed) h new none is refl same t
+received_one s a k xs Reset front later (Some answer.Ready) h new none is proper same t =
     absurd proper
-heard_one s a k xs Reset front later (Some answer.NoData) h new none is proper same t =
+received_one s a k xs Reset front later (Some answer.Unable) h new none is proper same t =
     absurd proper
-heard_one s a k xs (Counted fcb Class1) front later (Some (answer.Report asdu)) h new none is proper
+received_one s a k xs Reset front later (Some answer.Busy) h new none is proper same t =
+    absurd proper
+received_one s a k xs Reset front later (Some (answer.Report asdu)) h new none is proper same t =
+    absurd proper
+received_one s a k xs Reset front later (Some answer.NoData) h new none is proper same t =
+    absurd proper
+received_one s a k xs (Counted fcb Class1) front later (Some (answer.Report asdu)) h new none is
+    proper
     same t =
-    quiet_told s a k xs (Counted fcb Class1) front later false (Some (answer.Report asdu)) h new
+    quiet_logged s a k xs (Counted fcb Class1) front later false (Some (answer.Report asdu)) h new
     none is refl same t
-heard_one s a k xs (Counted fcb Class1) front later (Some answer.NoData) h new none is proper same
+received_one s a k xs (Counted fcb Class1) front later (Some answer.NoData) h new none is proper
+    same
     t =
-    quiet_told s a k xs (Counted fcb Class1) front later false (Some answer.NoData) h new none is
+    quiet_logged s a k xs (Counted fcb Class1) front later false (Some answer.NoData) h new none is
     refl same t
-heard_one s a k xs (Counted fcb Class1) front later (Some answer.Unable) h new none is proper same
+received_one s a k xs (Counted fcb Class1) front later (Some answer.Unable) h new none is proper
+    same
     t =
-    lost_told s a k xs (Counted fcb Class1) front later false (Some answer.Unable) h new none is
+    lost_logged s a k xs (Counted fcb Class1) front later false (Some answer.Unable) h new none is
     refl same t
-heard_one s a k xs (Counted fcb Class1) front later (Some answer.Ready) h new none is proper same
+received_one s a k xs (Counted fcb Class1) front later (Some answer.Ready) h new none is proper same
     t = absurd proper
-heard_one s a k xs (Counted fcb Class1) front later (Some answer.Confirmed) h new none is proper
+received_one s a k xs (Counted fcb Class1) front later (Some answer.Confirmed) h new none is proper
     same t = absurd proper
-heard_one s a k xs (Counted fcb Class1) front later (Some answer.Busy) h new none is proper same t =
+received_one s a k xs (Counted fcb Class1) front later (Some answer.Busy) h new none is proper same
+    t =
     absurd proper
-heard_one s a k xs (Counted fcb Class2) front later (Some (answer.Report asdu)) h new none is proper
+received_one s a k xs (Counted fcb Class2) front later (Some (answer.Report asdu)) h new none is
+    proper
     same t =
-    quiet_told s a k xs (Counted fcb Class2) front later false (Some (answer.Report asdu)) h new
+    quiet_logged s a k xs (Counted fcb Class2) front later false (Some (answer.Report asdu)) h new
     none is refl same t
-heard_one s a k xs (Counted fcb Class2) front later (Some answer.NoData) h new none is proper same
+received_one s a k xs (Counted fcb Class2) front later (Some answer.NoData) h new none is proper
+    same
     t =
-    quiet_told s a k xs (Counted fcb Class2) front later false (Some answer.NoData) h new none is
+    quiet_logged s a k xs (Counted fcb Class2) front later false (Some answer.NoData) h new none is
     refl same t
-heard_one s a k xs (Counted fcb Class2) front later (Some answer.Unable) h new none is proper same
+received_one s a k xs (Counted fcb Class2) front later (Some answer.Unable) h new none is proper
+    same
     t =
-    lost_told s a k xs (Counted fcb Class2) front later false (Some answer.Unable) h new none is
+    lost_logged s a k xs (Counted fcb Class2) front later false (Some answer.Unable) h new none is
     refl same t
-heard_one s a k xs (Counted fcb Class2) front later (Some answer.Ready) h new none is proper same
+received_one s a k xs (Counted fcb Class2) front later (Some answer.Ready) h new none is proper same
     t = absurd proper
-heard_one s a k xs (Counted fcb Class2) front later (Some answer.Confirmed) h new none is proper
+received_one s a k xs (Counted fcb Class2) front later (Some answer.Confirmed) h new none is proper
     same t = absurd proper
-heard_one s a k xs (Counted fcb Class2) front later (Some answer.Busy) h new none is proper same t =
+received_one s a k xs (Counted fcb Class2) front later (Some answer.Busy) h new none is proper same
+    t =
     absurd proper
-heard_one s a k xs (Counted fcb (Command asdu)) front later (Some answer.Confirmed) h new none is
+received_one s a k xs (Counted fcb (Command asdu)) front later (Some answer.Confirmed) h new none is
     proper same t =
-    spoken_told s a k xs (Counted fcb (Command asdu)) front later false (Some answer.Confirmed) asdu
+    spoken_logged s a k xs (Counted fcb (Command asdu)) front later false (Some answer.Confirmed)
+    asdu
     (λ x. Confirmed x) h new none is refl refl refl
-    (ap (λ (l : LineTold). l.steps) same
-    ∙ ap (λ (b : Bool). if b then steps_told k h ++ Confirmed (last_sent k h)
-    ∷ [] else steps_told k h) (here_is k)) (ap (λ (l : LineTold). l.sent) same) t
-heard_one s a k xs (Counted fcb (Command asdu)) front later (Some answer.Busy) h new none is proper
+    (ap (λ (l : LineLogged). l.steps) same
+    ∙ ap (λ (b : Bool). if b then steps_logged k h ++ Confirmed (last_sent k h)
+    ∷ [] else steps_logged k h) (here_is k)) (ap (λ (l : LineLogged). l.sent) same) t
+received_one s a k xs (Counted fcb (Command asdu)) front later (Some answer.Busy) h new none is
+    proper
     same t =
-    spoken_told s a k xs (Counted fcb (Command asdu)) front later false (Some answer.Busy) asdu
+    spoken_logged s a k xs (Counted fcb (Command asdu)) front later false (Some answer.Busy) asdu
     (λ x. Busy x) h new none is refl refl refl
-    (ap (λ (l : LineTold). l.steps) same
-    ∙ ap (λ (b : Bool). if b then steps_told k h ++ Busy (last_sent k h)
-    ∷ [] else steps_told k h) (here_is k)) (ap (λ (l : LineTold). l.sent) same) t
-heard_one s a k xs (Counted fcb (Command asdu)) front later (Some answer.Unable) h new none is
+    (ap (λ (l : LineLogged). l.steps) same
+    ∙ ap (λ (b : Bool). if b then steps_logged k h ++ Busy (last_sent k h)
+    ∷ [] else steps_logged k h) (here_is k)) (ap (λ (l : LineLogged). l.sent) same) t
+received_one s a k xs (Counted fcb (Command asdu)) front later (Some answer.Unable) h new none is
     proper same t =
-    lost_told s a k xs (Counted fcb (Command asdu)) front later false (Some answer.Unable) h new
+    lost_logged s a k xs (Counted fcb (Command asdu)) front later false (Some answer.Unable) h new
     none is refl same t
-heard_one s a k xs (Counted fcb (Command asdu)) front later (Some answer.Ready) h new none is proper
+received_one s a k xs (Counted fcb (Command asdu)) front later (Some answer.Ready) h new none is
+    proper
     same t =
     absurd proper
-heard_one s a k xs (Counted fcb (Command asdu)) front later (Some (answer.Report report)) h new none
+received_one s a k xs (Counted fcb (Command asdu)) front later (Some (answer.Report report)) h new
+    none
     is proper same t =
     absurd proper
-heard_one s a k xs (Counted fcb (Command asdu)) front later (Some answer.NoData) h new none is
+received_one s a k xs (Counted fcb (Command asdu)) front later (Some answer.NoData) h new none is
     proper same t =
     absurd proper
 
 -- What is told of one station says nothing of another.
 
-accepted_far : (k j : ℕ) (h : History) → (k == j) ≡ false → line_told k (Accepted j ∷ h)
-    ≡ line_told k h
+accepted_far : (k j : ℕ) (h : History) → (k == j) ≡ false → line_logged k (Accepted j ∷ h)
+    ≡ line_logged k h
 accepted_far k j h far =
     ap (λ (t : Bool).
-    let r : LineTold = record {
-      steps = if t then steps_told k h ++ Confirmed (last_sent k h) ∷ [] else steps_told k h;
+    let r : LineLogged = record {
+      steps = if t then steps_logged k h ++ Confirmed (last_sent k h) ∷ [] else steps_logged k h;
       last = last_sent k h;
       sent = sent_to k h;
     } in r) far
 
-busy_far : (k j : ℕ) (h : History) → (k == j) ≡ false → line_told k (Refused j None ∷ h)
-    ≡ line_told k h
+busy_far : (k j : ℕ) (h : History) → (k == j) ≡ false → line_logged k (Refused j None ∷ h)
+    ≡ line_logged k h
 busy_far k j h far =
     ap (λ (t : Bool).
-    let r : LineTold = record {
-      steps = if t then steps_told k h ++ Busy (last_sent k h) ∷ [] else steps_told k h;
+    let r : LineLogged = record {
+      steps = if t then steps_logged k h ++ Busy (last_sent k h) ∷ [] else steps_logged k h;
       last = last_sent k h;
       sent = sent_to k h;
     } in r) far
 
 pub lost_far : (k j : ℕ) (was : Bool) (h : History) → (k == j) ≡ false
-    → line_told k (GivenUp j was ∷ h)
-    ≡ line_told k h
+    → line_logged k (GivenUp j was ∷ h)
+    ≡ line_logged k h
 lost_far k j was h far =
     ap (λ (t : Bool).
-    let r : LineTold = record {
-      steps = if t then steps_told k h ++ Lost ∷ [] else steps_told k h;
+    let r : LineLogged = record {
+      steps = if t then steps_logged k h ++ Lost ∷ [] else steps_logged k h;
       last =
           last_sent k h;
       sent = sent_to k h;
     } in r) far
 
 sent_far : (k j : ℕ) (asdu : List ℕ) (h : History) → (k == j) ≡ false
-    → line_told k (Sent j asdu ∷ h) ≡ line_told k h
-sent_far k j asdu h far = ap (λ (t : Bool). let r : LineTold = record {
-  steps = if t then steps_told k h ++ Begun asdu ∷ [] else steps_told k h;
+    → line_logged k (Sent j asdu ∷ h) ≡ line_logged k h
+sent_far k j asdu h far = ap (λ (t : Bool). let r : LineLogged = record {
+  steps = if t then steps_logged k h ++ Begun asdu ∷ [] else steps_logged k h;
   last = if t then asdu else last_sent k h;
   sent = if t then sent_to k h ++ asdu ∷ [] else sent_to k h;
 } in r) far
 
-pub heard_far : (k j : ℕ) (request : Asked) (m : Option Answer) (h : History) → (k == j) ≡ false
-    → line_told k (told_by (outcome_of j request m) h) ≡ line_told k h
-heard_far k j request None h far = refl
-heard_far k j request (Some answer.Busy) h far = by_request request
+pub received_far : (k j : ℕ) (request : Asked) (m : Option Answer) (h : History) → (k == j) ≡ false
+    → line_logged k (logged_by (outcome_of j request m) h) ≡ line_logged k h
+received_far k j request None h far = refl
+received_far k j request (Some answer.Busy) h far = by_request request
   where
-    by_request : (r : Asked) → line_told k (told_by (outcome_of j r (Some answer.Busy)) h)
-        ≡ line_told k h
+    by_request : (r : Asked) → line_logged k (logged_by (outcome_of j r (Some answer.Busy)) h)
+        ≡ line_logged k h
     by_request Status = busy_far k j h far
     by_request Reset = busy_far k j h far
     by_request (Counted fcb service) = busy_far k j h far
-heard_far k j request (Some answer.Confirmed) h far = by_request request
+received_far k j request (Some answer.Confirmed) h far = by_request request
   where
-    by_request : (r : Asked) → line_told k (told_by (outcome_of j r (Some answer.Confirmed)) h)
-        ≡ line_told k h
+    by_request : (r : Asked) → line_logged k (logged_by (outcome_of j r (Some answer.Confirmed)) h)
+        ≡ line_logged k h
     by_request Status = refl
     by_request Reset = refl
     by_request (Counted fcb service) = accepted_far k j h far
-heard_far k j request (Some answer.Ready) h far = by_request request
+received_far k j request (Some answer.Ready) h far = by_request request
   where
-    by_request : (r : Asked) → line_told k (told_by (outcome_of j r (Some answer.Ready)) h)
-        ≡ line_told k h
+    by_request : (r : Asked) → line_logged k (logged_by (outcome_of j r (Some answer.Ready)) h)
+        ≡ line_logged k h
     by_request Status = refl
     by_request Reset = refl
     by_request (Counted fcb service) = refl
-heard_far k j request (Some (answer.Report asdu)) h far = by_request request
+received_far k j request (Some (answer.Report asdu)) h far = by_request request
   where
-    by_request : (r : Asked) → line_told k (told_by (outcome_of j r (Some (answer.Report asdu))) h)
-        ≡ line_told k h
+    by_request : (r : Asked)
+        → line_logged k (logged_by (outcome_of j r (Some (answer.Report asdu))) h)
+        ≡ line_logged k h
     by_request Status = refl
     by_request Reset = refl
     by_request (Counted fcb service) = refl
-heard_far k j request (Some answer.NoData) h far = by_request request
+received_far k j request (Some answer.NoData) h far = by_request request
   where
-    by_request : (r : Asked) → line_told k (told_by (outcome_of j r (Some answer.NoData)) h)
-        ≡ line_told k h
+    by_request : (r : Asked) → line_logged k (logged_by (outcome_of j r (Some answer.NoData)) h)
+        ≡ line_logged k h
     by_request Status = refl
     by_request Reset = refl
     by_request (Counted fcb service) = refl
-heard_far k j request (Some answer.Unable) h far = by_request request
+received_far k j request (Some answer.Unable) h far = by_request request
   where
-    by_request : (r : Asked) → line_told k (told_by (outcome_of j r (Some answer.Unable)) h)
-        ≡ line_told k h
+    by_request : (r : Asked) → line_logged k (logged_by (outcome_of j r (Some answer.Unable)) h)
+        ≡ line_logged k h
     by_request Status = lost_far k j false h far
     by_request Reset = lost_far k j false h far
     by_request (Counted fcb service) = lost_far k j false h far
@@ -476,12 +501,12 @@ heard_far k j request (Some answer.Unable) h far = by_request request
 -- A request goes out
 
 -- what a request tells that goes out, where it is a command's first sending
-abbrev pub told_asked : Bool → (station : ℕ) → Asked → History → History
-told_asked true station (Counted fcb (Command asdu)) h = Sent station asdu ∷ h
-told_asked first station request h = h
+abbrev pub logged_asked : Bool → (station : ℕ) → Asked → History → History
+logged_asked true station (Counted fcb (Command asdu)) h = Sent station asdu ∷ h
+logged_asked first station request h = h
 
 pub asked_far : (first : Bool) (k j : ℕ) (request : Asked) (h : History) → (k == j) ≡ false
-    → line_told k (told_asked first j request h) ≡ line_told k h
+    → line_logged k (logged_asked first j request h) ≡ line_logged k h
 asked_far true k j Status h far = refl
 asked_far true k j Reset h far = refl
 asked_far true k j (Counted fcb Class1) h far = refl
@@ -525,34 +550,36 @@ module _ (s : LinkSettings) (a k : ℕ) (xs : List Exchange) (request : Asked)
       (λ (o : Option Answer). pending_by request o (pending_after a None xs)) none
 
   -- no command is sent for the first time
-  again_told : (h new : History) → answer_to a new_one ≡ None
+  again_logged : (h new : History) → answer_to a new_one ≡ None
       → first_sending (pending_after a None xs) request ≡ []
       → ((asdu : List ℕ) → pending_by request None (pending_after a None xs) ≡ Some (Command asdu)
       → pending_after a None xs ≡ Some (Command asdu)) →
-      line_told k new ≡ line_told k h → IsTold s a xs k h → IsTold s a (xs ++ new_one ∷ []) k new
-  again_told h new none nothing back same t = record {
-    steps = ap (λ (l : LineTold). l.steps) same ∙ t.steps
+      line_logged k new ≡ line_logged k h → IsLogged s a xs k h
+      → IsLogged s a (xs ++ new_one ∷ []) k new
+  again_logged h new none nothing back same t = record {
+    steps = ap (λ (l : LineLogged). l.steps) same ∙ t.steps
         ∙ sym (append-nil (steps_in s a 0 None xs))
         ∙ sym (asked_steps [] none nothing);
-    last = λ asdu e. ap (λ (l : LineTold). l.last) same
+    last = λ asdu e. ap (λ (l : LineLogged). l.last) same
         ∙ t.last asdu (back asdu (sym (asked_pending none) ∙ e));
-    sent = ap (λ (l : LineTold). l.sent) same ∙ t.sent ∙ sym (append-nil (first_sendings a None xs))
+    sent = ap (λ (l : LineLogged). l.sent) same ∙ t.sent
+        ∙ sym (append-nil (first_sendings a None xs))
         ∙ sym (asked_sendings [] nothing);
   }
 
   -- a command is
-  first_told : (fcb : Bool) (asdu : List ℕ) (h new : History) → answer_to a new_one ≡ None
+  first_logged : (fcb : Bool) (asdu : List ℕ) (h new : History) → answer_to a new_one ≡ None
       → request ≡ Counted fcb (Command asdu) → pending_after a None xs ≡ None →
-      line_told k new ≡ line_told k (Sent k asdu ∷ h) → IsTold s a xs k h
-      → IsTold s a (xs ++ new_one ∷ []) k new
-  first_told fcb asdu h new none is free same t =
+      line_logged k new ≡ line_logged k (Sent k asdu ∷ h) → IsLogged s a xs k h
+      → IsLogged s a (xs ++ new_one ∷ []) k new
+  first_logged fcb asdu h new none is free same t =
       let first : first_sending (pending_after a None xs) request ≡ asdu ∷ [] =
       ap (λ (o : Option Service). first_sending o request) free
       ∙ ap (λ (r : Asked). first_sending None r) is in
       record {
-        steps = ap (λ (l : LineTold). l.steps) same
-            ∙ ap (λ (b : Bool). if b then steps_told k h ++ Begun asdu
-            ∷ [] else steps_told k h) (here_is k)
+        steps = ap (λ (l : LineLogged). l.steps) same
+            ∙ ap (λ (b : Bool). if b then steps_logged k h ++ Begun asdu
+            ∷ [] else steps_logged k h) (here_is k)
             ∙ ap (λ (l : List LineStep). l ++ Begun asdu ∷ []) t.steps
             ∙ sym (asked_steps (asdu ∷ []) none first);
         last = λ other e.
@@ -561,10 +588,11 @@ module _ (s : LinkSettings) (a k : ℕ) (xs : List Exchange) (request : Asked)
             ∙ sym (asked_pending none)
             ∙ e in
             let same_one : asdu ≡ other = cc in
-            ap (λ (l : LineTold). l.last) same
+            ap (λ (l : LineLogged). l.last) same
             ∙ ap (λ (b : Bool). if b then asdu else last_sent k h) (here_is k)
             ∙ same_one;
-        sent = ap (λ (l : LineTold). l.sent) same ∙ ap (λ (b : Bool). if b then sent_to k h ++ asdu
+        sent = ap (λ (l : LineLogged). l.sent) same
+            ∙ ap (λ (b : Bool). if b then sent_to k h ++ asdu
             ∷ [] else sent_to k h) (here_is k)
             ∙ ap (λ (l : List (List ℕ)). l ++ asdu ∷ []) t.sent
             ∙ sym (asked_sendings (asdu ∷ []) first);
@@ -577,10 +605,10 @@ pub asked_one : (s : LinkSettings) (a k : ℕ) (xs : List Exchange) (request : A
     ≡ None
     → MaySend link request
     → Pends link (pending_after a None xs) →
-    line_told k new
-    ≡ line_told k (told_asked (is_command request && not (is_held link)) k request h) →
-    IsTold s a xs k h
-    → IsTold s a (xs ++ record {
+    line_logged k new
+    ≡ line_logged k (logged_asked (is_command request && not (is_held link)) k request h) →
+    IsLogged s a xs k h
+    → IsLogged s a (xs ++ record {
       request = request;
       front = front;
       closed = false;
@@ -588,36 +616,36 @@ pub asked_one : (s : LinkSettings) (a k : ℕ) (xs : List Exchange) (request : A
           false;
     } ∷ []) k new
 asked_one s a k xs Status front link h new none may pends same t =
-    again_told s a k xs Status front h new none
+    again_logged s a k xs Status front h new none
     (no_first (pending_after a None xs) Status (λ fcb asdu e. cc))
     (λ asdu e. e) same t
 asked_one s a k xs Reset front link h new none may pends same t =
-    again_told s a k xs Reset front h new none
+    again_logged s a k xs Reset front h new none
     (no_first (pending_after a None xs) Reset (λ fcb asdu e. cc))
     (λ asdu e. e) same t
 asked_one s a k xs (Counted fcb Class1) front link h new none may pends same t =
-    again_told s a k xs (Counted fcb Class1) front h new none
+    again_logged s a k xs (Counted fcb Class1) front h new none
     (no_first (pending_after a None xs) (Counted fcb Class1) (λ f asdu e. cc)) (λ asdu e. cc) same t
 asked_one s a k xs (Counted fcb Class2) front link h new none may pends same t =
-    again_told s a k xs (Counted fcb Class2) front h new none
+    again_logged s a k xs (Counted fcb Class2) front h new none
     (no_first (pending_after a None xs) (Counted fcb Class2) (λ f asdu e. cc)) (λ asdu e. cc) same t
 asked_one s a k xs (Counted fcb (Command asdu)) front Down h new none may pends same t = absurd may
 asked_one s a k xs (Counted fcb (Command asdu)) front Available h new none may pends same t =
     absurd may
 asked_one s a k xs (Counted fcb (Command asdu)) front (Next due) h new none may pends same t =
-    first_told s a k xs (Counted fcb (Command asdu)) front fcb asdu h new none refl pends same t
+    first_logged s a k xs (Counted fcb (Command asdu)) front fcb asdu h new none refl pends same t
 asked_one s a k xs (Counted fcb (Command asdu)) front (Held due service missed) h new none may pends
     same t =
-    again_told s a k xs (Counted fcb (Command asdu)) front h new none
+    again_logged s a k xs (Counted fcb (Command asdu)) front h new none
     (ap (λ (o : Option Service). first_sending o (Counted fcb (Command asdu))) pends)
     (λ other e. pends ∙ ap (λ (s : Service). Some s) (sym may.1) ∙ e) same t
 
 -- A moment ends an exchange without an answer
 
 -- what silence tells
-abbrev pub told_due : Outcome → History → History
-told_due (outcome.Down station) h = GivenUp station false ∷ h
-told_due other h = h
+abbrev pub logged_due : Outcome → History → History
+logged_due (outcome.Down station) h = GivenUp station false ∷ h
+logged_due other h = h
 
 abbrev down_if : ℕ → Bool → Outcome
 down_if j b = if b then outcome.Down j else outcome.None
@@ -665,15 +693,27 @@ pub closed_one : (s : LinkSettings) (a k : ℕ) (xs : List Exchange) (request : 
     ≡ None
     → MaySend link request
     → Counts s link (missed_after a 0 xs) →
-    line_told k new
-    ≡ line_told k (told_due (silence_outcome k link (after_silence s request true link)) h) →
-    IsTold s a (xs ++ record { request = request; front = front; closed = false; given_up = false }
+    line_logged k new
+    ≡ line_logged k (logged_due (silence_outcome k link (after_silence s request true link)) h) →
+    IsLogged s a (xs ++ record {
+      request = request;
+      front = front;
+      closed = false;
+      given_up =
+          false;
+    }
     ∷ []) k h
-    → IsTold s a (xs ++ record { request = request; front = front; closed = true; given_up = false }
+    → IsLogged s a (xs ++ record {
+      request = request;
+      front = front;
+      closed = true;
+      given_up =
+          false;
+    }
     ∷ []) k new
 closed_one s a k xs request front link h new none may counts same t =
     go (is_silent s (missed_after a 0 xs) request true) refl (same
-    ∙ ap (λ (o : Outcome). line_told k (told_due o h))
+    ∙ ap (λ (o : Outcome). line_logged k (logged_due o h))
     (silence_is s k request link (missed_after a 0 xs) may counts))
   where
     says : (b : Bool) → is_silent s (missed_after a 0 xs) request true ≡ b
@@ -684,23 +724,23 @@ closed_one s a k xs request front link h new none may counts same t =
         (none_said request) ∙ ap lost_if is
 
     go : (b : Bool) → is_silent s (missed_after a 0 xs) request true ≡ b
-        → line_told k new ≡ line_told k (told_due (down_if k b) h)
-        → IsTold s a (xs ++ record {
+        → line_logged k new ≡ line_logged k (logged_due (down_if k b) h)
+        → IsLogged s a (xs ++ record {
           request = request;
           front = front;
           closed = true;
           given_up =
               false;
         } ∷ []) k new
-    go true is same = lost_told s a k xs request front front true None h new none none
+    go true is same = lost_logged s a k xs request front front true None h new none none
         (says true is) same t
-    go false is same = quiet_told s a k xs request front front true None h new none none
+    go false is same = quiet_logged s a k xs request front front true None h new none none
         (says false is) same t
 
 pub closed_far : (k j : ℕ) (before later : Link) (h : History) → (k == j) ≡ false
-    → line_told k (told_due (silence_outcome j before later) h) ≡ line_told k h
+    → line_logged k (logged_due (silence_outcome j before later) h) ≡ line_logged k h
 closed_far k j before later h far = go (is_up before && not (is_up later))
   where
-    go : (b : Bool) → line_told k (told_due (down_if j b) h) ≡ line_told k h
+    go : (b : Bool) → line_logged k (logged_due (down_if j b) h) ≡ line_logged k h
     go true = lost_far k j false h far
     go false = refl

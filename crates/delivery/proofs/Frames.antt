@@ -13,7 +13,7 @@ use Rattle.gateway.specs.Log.{LineOut, TcpOut, Closed, GapOut, latest}
 use Rattle.gateway.specs.Streams.{spelled}
 use Rattle.gateway.specs.Connections.{Channel, present}
 use Rattle.gateway.specs.Reports.{Setup}
-use Rattle.gateway.specs.Course.{Course, came_frames, told_sent, Runs}
+use Rattle.gateway.specs.Course.{Course, came_frames, logged_sent, Runs}
 
 -- No frame has no octets.
 
@@ -67,11 +67,11 @@ none_received (Went now (Closed Replaced) ∷ log) h = none_received log h
 
 -- A frame that goes out is none that came.
 
-pub told_came : (frame : Apdu) (now : ℕ) (h : History) → came_frames (told_sent frame now h)
+pub logged_came : (frame : Apdu) (now : ℕ) (h : History) → came_frames (logged_sent frame now h)
     ≡ came_frames h
-told_came (I ns nr asdu) now h = refl
-told_came (S nr) now h = refl
-told_came (U u) now h = refl
+logged_came (I ns nr asdu) now h = refl
+logged_came (S nr) now h = refl
+logged_came (U u) now h = refl
 
 -- Where no connection is open, none came.
 

@@ -7,8 +7,8 @@ use Rattle.command.specs.History.{Judged, Offered, Answered, Ended, History}
 use Rattle.command.specs.Calls.{Call, Judge, Own, SendOwn, Run, after_call, after_answer}
 use Rattle.gateway.specs.Reports.{Setup}
 use Rattle.gateway.specs.Serial.{kept_until, listed}
-use Rattle.gateway.specs.Works.{Works, tasks_of, told, told_kept, told_judged}
-use Rattle.delivery.specs.Commands.{LineStep, last_sent, steps_told, sent_to, judged_in}
+use Rattle.gateway.specs.Works.{Works, tasks_of, logged, logged_kept, logged_judged}
+use Rattle.delivery.specs.Commands.{LineStep, last_sent, steps_logged, sent_to, judged_in}
 use Rattle.delivery.specs.Joined.{mirrored_in}
 use Rattle.gateway.proofs.Waiting.{AllFitLine, AnswersStay, IsFitCall, call_fits}
 
@@ -19,15 +19,15 @@ pub record Ignores {X : Type 0} (F : History → X) : Type 0 where
   pub ended : (h : History) → F (Ended ∷ h) ≡ F h
 
 -- what is told of the line of station k
-pub record LineTold : Type 0 where
+pub record LineLogged : Type 0 where
   pub steps : List LineStep
   pub last : List ℕ
   pub sent : List (List ℕ)
 
-abbrev pub line_told : ℕ → History → LineTold
-line_told k h = record { steps = steps_told k h; last = last_sent k h; sent = sent_to k h }
+abbrev pub line_logged : ℕ → History → LineLogged
+line_logged k h = record { steps = steps_logged k h; last = last_sent k h; sent = sent_to k h }
 
-pub line_ignores : (k : ℕ) → Ignores (line_told k)
+pub line_ignores : (k : ℕ) → Ignores (line_logged k)
 line_ignores k = record {
   kept = λ octets is_kept h. refl;
   answered = λ octets h. refl;
@@ -53,7 +53,7 @@ judged_ignore = record {
 
 pub keeping : {X : Type 0} (F : History → X) → Ignores F
     → (xs : List (List ℕ)) (s : State) (h : History)
-    → F (told_kept xs s h) ≡ F h
+    → F (logged_kept xs s h) ≡ F h
 keeping {X} F i [] s h = refl
 keeping {X} F i (x ∷ xs) s h = go (has_answer_place s)
     (keeping F i xs (offered x s) (Offered x (has_answer_place s) ∷ h))
@@ -61,14 +61,15 @@ keeping {X} F i (x ∷ xs) s h = go (has_answer_place s)
     one : F (Offered x (has_answer_place s) ∷ h) ≡ F h
     one = i.kept x (has_answer_place s) h
 
-    go : (b : Bool) → F (told_kept xs (offered x s) (Offered x (has_answer_place s) ∷ h))
+    go : (b : Bool) → F (logged_kept xs (offered x s) (Offered x (has_answer_place s) ∷ h))
         ≡ F (Offered x (has_answer_place s) ∷ h) →
-        F (if b then told_kept xs (offered x s) (Offered x (has_answer_place s) ∷ h) else Offered x
+        F (if b then logged_kept xs (offered x s) (Offered x (has_answer_place s) ∷ h)
+        else Offered x
         (has_answer_place s) ∷ h) ≡ F h
     go true ih = ih ∙ one
     go false ih = one
 
-pub sending_own : {X : Type 0} (F : History → X) → Ignores F → (w : Works) → F (told SendOwn w)
+pub sending_own : {X : Type 0} (F : History → X) → Ignores F → (w : Works) → F (logged SendOwn w)
     ≡ F w.history
 sending_own {X} F i w = go (first_answer w.serial.commands.answers)
   where
@@ -78,10 +79,11 @@ sending_own {X} F i w = go (first_answer w.serial.commands.answers)
 
 pub judging : {X : Type 0} (F : History → X) → Ignores F
     → (xs : List ℕ) (now : ℕ) (wall : Option ℕ) (w : Works)
-    → F (told_judged xs now wall w) ≡ F (Judged now wall xs (judged xs now wall w.serial.commands).0
+    → F (logged_judged xs now wall w)
+    ≡ F (Judged now wall xs (judged xs now wall w.serial.commands).0
     ∷ w.history)
 judging {X} F i xs now wall w = keeping F i (listed (judged xs now wall w.serial.commands).0)
-    (judged xs now wall w.serial.commands).1 (told (Judge xs now wall) w)
+    (judged xs now wall w.serial.commands).1 (logged (Judge xs now wall) w)
 
 -- What waits fits the line.
 

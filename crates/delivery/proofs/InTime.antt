@@ -10,7 +10,8 @@ use Rattle.command.specs.State as tasks
 use Rattle.command.specs.State.{has_answer_place, first_answer, oldest_for, line_of, refusal_of}
 use Rattle.command.specs.State.{is_used}
 use Rattle.command.specs.Judging.{judged}
-use Rattle.command.specs.History.{Told, Judged, Sent, Accepted, Refused, GivenUp, Mirrored, Offered}
+use Rattle.command.specs.History.{HistoryEntry, Judged, Sent, Accepted, Refused, GivenUp, Mirrored}
+use Rattle.command.specs.History.{Offered}
 use Rattle.command.specs.History.{Answered, Ended, History}
 use Rattle.command.specs.Calls.{Call, Judge, PutOnLine, Accept, Busy, Lose, Mirror, Own, SendOwn}
 use Rattle.command.specs.Calls.{Cut, Due, Run, after_call, after_answer, after_sending}
@@ -19,10 +20,10 @@ use Rattle.command.specs.Selections.{IsInTime}
 use Rattle.gateway.specs.Log.{Log, latest}
 use Rattle.gateway.specs.Reports.{Setup}
 use Rattle.gateway.specs.Serial.{unless_silent}
-use Rattle.gateway.specs.Works.{told_silent, ready_works, unasked_works}
+use Rattle.gateway.specs.Works.{logged_silent, ready_works, unasked_works}
 use Rattle.gateway.specs.Course.{Course, room_in, Runs}
 use Rattle.gateway.proofs.Called.{IsCalled, IsAt, called_more, silence, all_so, all_made}
-use Rattle.delivery.specs.Selections.{EndInTime, AreAt, TellsAtMoments}
+use Rattle.delivery.specs.Selections.{EndInTime, AreAt, LogsAtMoments}
 
 abbrev pub TimeLaw : Type 0
 TimeLaw = AfterEachDue (λ stations sizes select_ms max_age_ms now s h. (xs : List ℕ)
@@ -46,7 +47,7 @@ end_in_time p law log c r due xs =
     let quiet : Run = record {
       state = (unless_silent c.works.serial.silent c.works.serial).commands;
       history =
-          told_silent c.works.serial.silent c.works;
+          logged_silent c.works.serial.silent c.works;
     } in
     subst
     (λ (b : Bool). AllByRecursion (IsInTime p.sizes p.stations p.select_ms p.max_age_ms (latest log)
@@ -60,7 +61,8 @@ end_in_time p law log c r due xs =
 
 -- What is told bears the log's moments
 
-are_more : (at : ℕ) (e : Told) (h : History) → AreAt at (e ∷ []) → AreAt at h → AreAt at (e ∷ h)
+are_more : (at : ℕ) (e : HistoryEntry) (h : History) → AreAt at (e ∷ []) → AreAt at h
+    → AreAt at (e ∷ h)
 are_more at (Judged now wall xs a) h is all = (is.0, all)
 are_more at (Mirrored now v) h is all = (is.0, all)
 are_more at (Sent k octets) h is all = all
@@ -71,11 +73,11 @@ are_more at (Offered octets is_kept) h is all = all
 are_more at (Answered octets) h is all = all
 are_more at Ended h is all = all
 
-tell_more : (log : Log) (e : Told) (h : History) → AreAt (latest log) (e ∷ [])
-    → TellsAtMoments log h
-    → TellsAtMoments log (e ∷ h)
-tell_more [] e h is t = are_more 0 e h is t
-tell_more (entry ∷ log) e h is t = (
+log_more : (log : Log) (e : HistoryEntry) (h : History) → AreAt (latest log) (e ∷ [])
+    → LogsAtMoments log h
+    → LogsAtMoments log (e ∷ h)
+log_more [] e h is t = are_more 0 e h is t
+log_more (entry ∷ log) e h is t = (
   e ∷ t.0,
   t.1,
   ap (λ (l : History). e ∷ l) t.2,
@@ -87,35 +89,35 @@ tell_more (entry ∷ log) e h is t = (
 pub moment_is : (at now : ℕ) → (at ≤ now) × (now ≤ at) → now ≡ at
 moment_is at now h = le_antisymm h.1 h.0
 
-told_call : (log : Log) (call : Call) (r : Run) → IsAt (latest log) call
-    → TellsAtMoments log r.history
-    → TellsAtMoments log (after_call call r).history
-told_call log (Judge xs now wall) r when t = tell_more log
+logged_call : (log : Log) (call : Call) (r : Run) → IsAt (latest log) call
+    → LogsAtMoments log r.history
+    → LogsAtMoments log (after_call call r).history
+logged_call log (Judge xs now wall) r when t = log_more log
     (Judged now wall xs (judged xs now wall r.state).0) r.history
     (moment_is (latest log) now (when.when (latest log) (le_refl (latest log))), tt) t
-told_call log (Mirror v now) r when t = tell_more log (Mirrored now v) r.history
+logged_call log (Mirror v now) r when t = log_more log (Mirrored now v) r.history
     (moment_is (latest log) now (when.when (latest log) (le_refl (latest log))), tt) t
-told_call log (Accept k) r when t = tell_more log (Accepted k) r.history tt t
-told_call log (Busy k) r when t = tell_more log (Refused k (refusal_of (line_of k r.state)))
+logged_call log (Accept k) r when t = log_more log (Accepted k) r.history tt t
+logged_call log (Busy k) r when t = log_more log (Refused k (refusal_of (line_of k r.state)))
     r.history tt t
-told_call log (Lose k) r when t = tell_more log (GivenUp k (is_used (line_of k r.state))) r.history
+logged_call log (Lose k) r when t = log_more log (GivenUp k (is_used (line_of k r.state))) r.history
     tt t
-told_call log (Own octets) r when t = tell_more log (Offered octets (has_answer_place r.state))
+logged_call log (Own octets) r when t = log_more log (Offered octets (has_answer_place r.state))
     r.history tt t
-told_call log Cut r when t = tell_more log Ended r.history tt t
-told_call log (Due now) r when t = t
-told_call log (PutOnLine k) r when t = go (oldest_for k r.state)
+logged_call log Cut r when t = log_more log Ended r.history tt t
+logged_call log (Due now) r when t = t
+logged_call log (PutOnLine k) r when t = go (oldest_for k r.state)
   where
-    go : (o : Option Waiting) → TellsAtMoments log (after_sending o k r).history
+    go : (o : Option Waiting) → LogsAtMoments log (after_sending o k r).history
     go None = t
-    go (Some x) = tell_more log (Sent k x.octets) r.history tt t
-told_call log SendOwn r when t = go (first_answer r.state.answers)
+    go (Some x) = log_more log (Sent k x.octets) r.history tt t
+logged_call log SendOwn r when t = go (first_answer r.state.answers)
   where
-    go : (o : Option (List ℕ)) → TellsAtMoments log (after_answer o r).history
+    go : (o : Option (List ℕ)) → LogsAtMoments log (after_answer o r).history
     go None = t
-    go (Some octets) = tell_more log (Answered octets) r.history tt t
+    go (Some octets) = log_more log (Answered octets) r.history tt t
 
 pub at_moments : (p : Setup) (log : Log) (c : Course) → Runs p log c
-    → TellsAtMoments log c.works.history
-at_moments p = all_so p (λ log r. TellsAtMoments log r.history) told_call
+    → LogsAtMoments log c.works.history
+at_moments p = all_so p (λ log r. LogsAtMoments log r.history) logged_call
     (λ entry log r t. ([], r.history, refl, tt, t)) tt

@@ -11,13 +11,13 @@ use Rattle.link.specs.declared.service.Service.TheVariants.{Command}
 use Rattle.link.specs.declared.service.Asked.TheVariants.{Counted}
 use Rattle.link.specs.Carried.{commands_given_up}
 use Rattle.link.specs.Counts.{saturated}
-use Rattle.link.specs.Exchanges.{Exchanges, Sending, begun_by, heard_current, timed_current}
+use Rattle.link.specs.Exchanges.{Exchanges, Sending, begun_by, received_current, timed_current}
 use Rattle.link.specs.Exchanges.{reports_of_exchanges}
 use Rattle.link.specs.Procedure.{is_held}
 use Rattle.link.specs.Requests.{request_frame, request_in}
 use Rattle.link.specs.Turns.{station_at}
 use Rattle.link.specs.Primary.{Primary, asked, sending, due_outcome, is_command}
-use Rattle.link.specs.Telling.{Tells}
+use Rattle.link.specs.Matching.{Matches}
 use Rattle.session.specs.declared.kinds.Close.{Close}
 use Rattle.session.specs.declared.kinds.Close.TheVariants.{Grammar, SendNumber, ReceiveNumber}
 use Rattle.session.specs.declared.kinds.Close.TheVariants.{Stopped, Timeout, OwnAnswers, Replaced}
@@ -29,31 +29,32 @@ use Rattle.gateway.specs.Streams.{AllFit}
 use Rattle.gateway.specs.Connections.{present}
 use Rattle.gateway.specs.Reports.{Setup, address_at, sent_to, sending_in, exchanges_of}
 use Rattle.gateway.specs.Traffic.{ActsRightly}
-use Rattle.gateway.specs.Serial.{heard_outcome, is_first_command}
+use Rattle.gateway.specs.Serial.{answer_outcome, is_first_command}
 use Rattle.gateway.specs.Works.{Works, tasks_of, LearnsOf, octets_works, begun_works, cut_works}
 use Rattle.gateway.specs.Works.{gapless_works, ready_works, settled_works, unasked_works}
-use Rattle.gateway.specs.Works.{done_works, told_put, told_silent, asked_works, restarted_works}
+use Rattle.gateway.specs.Works.{done_works, logged_put, logged_silent, asked_works, restarted_works}
 use Rattle.gateway.specs.Course.{Course, with_frames, with_sent, closed_course, with_works, IsLeft}
 use Rattle.gateway.specs.Course.{SendsNext, room_in, Runs}
 use Rattle.delivery.specs.Joined.{IsSetUp, mirrored_in, command_reports, skipped_among, AreValues}
 use Rattle.gateway.proofs.Waiting.{AnswersStay}
-use Rattle.delivery.proofs.History.{line_told, WaitsFit, one_fits}
-use Rattle.delivery.proofs.Exchanging.{exchanges_at, IsTold, stays_told}
-use Rattle.delivery.proofs.Line.{LinkLaws, heard_told, asked_told, timed_told}
-use Rattle.delivery.proofs.Works.{all_told, IsAllTold, told_alike, silent_told, IsLearnt, learnt_of}
-use Rattle.delivery.proofs.Works.{IsQuiet, heard_quiet, heard_line, sent_quiet, sent_line}
-use Rattle.delivery.proofs.Works.{settled_quiet, settled_line, offers_tell, put_told, put_mirrors}
+use Rattle.delivery.proofs.History.{line_logged, WaitsFit, one_fits}
+use Rattle.delivery.proofs.Exchanging.{exchanges_at, IsLogged, stays_logged}
+use Rattle.delivery.proofs.Line.{LinkLaws, received_logged, asked_logged, timed_logged}
+use Rattle.delivery.proofs.Works.{all_logged, IsAllLogged, logged_alike, silent_logged, IsLearnt}
+use Rattle.delivery.proofs.Works.{learnt_of}
+use Rattle.delivery.proofs.Works.{IsQuiet, received_quiet, received_line, sent_quiet, sent_line}
+use Rattle.delivery.proofs.Works.{settled_quiet, settled_line, offers_log, put_logged, put_mirrors}
 use Rattle.delivery.proofs.Works.{put_fits}
 use Rattle.gateway.proofs.Called.{taken_fit}
 use Rattle.delivery.proofs.Restarts.{IsGiven, all_given}
 
 -- the works are what these exchanges make them
 pub record Joins (p : Setup) (e : Exchanges) (w : Works) : Type 0 where
-  pub tells : Tells p.link p.addresses w.serial.line e
-  pub told : (k : ℕ)
-      → IsTold p.link (address_at p.addresses k) (exchanges_at (front_of p.link.size) k e) k
-      (all_told w)
-  pub left : IsAllTold w
+  pub matches : Matches p.link p.addresses w.serial.line e
+  pub logged : (k : ℕ)
+      → IsLogged p.link (address_at p.addresses k) (exchanges_at (front_of p.link.size) k e) k
+      (all_logged w)
+  pub left : IsAllLogged w
   pub mirrors : AreValues p.sizes (mirrored_in w.history)
       (command_reports p.sizes (reports_of_exchanges (front_of p.link.size) (address_at p.addresses)
       e))
@@ -67,14 +68,14 @@ module _ (laws : LinkLaws) (stay : AnswersStay) (p : Setup) where
   abbrev reports_by : Exchanges → List (ℕ × List ℕ)
   reports_by e = reports_of_exchanges (front_of p.link.size) (address_at p.addresses) e
 
-  quiet_joins : (e : Exchanges) (w z : Works) → Tells p.link p.addresses z.serial.line e
+  quiet_joins : (e : Exchanges) (w z : Works) → Matches p.link p.addresses z.serial.line e
       → IsQuiet p w z → Joins p e w
       → Joins p e z
-  quiet_joins e w z tells q j = record {
-    tells = tells;
-    told = λ k. stays_told p.link (address_at p.addresses k)
-        (exchanges_at (front_of p.link.size) k e) k (all_told w)
-        (all_told z) (q.told k) (j.told k);
+  quiet_joins e w z matches q j = record {
+    matches = matches;
+    logged = λ k. stays_logged p.link (address_at p.addresses k)
+        (exchanges_at (front_of p.link.size) k e) k (all_logged w)
+        (all_logged z) (q.logged k) (j.logged k);
     left = q.left j.left;
     mirrors =
         subst (λ (vs : List AsduValue). AreValues p.sizes vs
@@ -95,22 +96,22 @@ module _ (laws : LinkLaws) (stay : AnswersStay) (p : Setup) where
       frames_join frames now wall e c fit.1 j in
       quiet_joins e (with_frames p frames now wall c).works
       (with_frames p (frame ∷ frames) now wall c).works
-      (subst (λ (q : Primary). Tells p.link p.addresses q e)
-      (sym (heard_line frame now wall (with_frames p frames now wall c).works)) before.tells)
-      (heard_quiet stay p frame now wall (with_frames p frames now wall c).works fit.0) before
+      (subst (λ (q : Primary). Matches p.link p.addresses q e)
+      (sym (received_line frame now wall (with_frames p frames now wall c).works)) before.matches)
+      (received_quiet stay p frame now wall (with_frames p frames now wall c).works fit.0) before
 
   sent_joins : (frame : Apdu) (now : ℕ) (e : Exchanges) (c : Course) → Joins p e c.works
       → Joins p e (with_sent frame now c).works
   sent_joins frame now e c j = quiet_joins e c.works (with_sent frame now c).works
-      (subst (λ (q : Primary). Tells p.link p.addresses q e) (sym (sent_line frame c.works))
-      j.tells)
+      (subst (λ (q : Primary). Matches p.link p.addresses q e) (sym (sent_line frame c.works))
+      j.matches)
       (sent_quiet stay p frame c.works) j
 
   cut_joins : (e : Exchanges) (w : Works) → Joins p e w → Joins p e (cut_works w)
   cut_joins e w j =
-      quiet_joins e w (cut_works w) (laws.withdraw p.link p.addresses w.serial.line e j.tells)
+      quiet_joins e w (cut_works w) (laws.withdraw p.link p.addresses w.serial.line e j.matches)
       (record {
-        told = λ k. told_alike k w.serial.silent w (cut_works w) refl;
+        logged = λ k. logged_alike k w.serial.silent w (cut_works w) refl;
         left = λ h. h;
         mirrors = refl;
         fits =
@@ -121,17 +122,17 @@ module _ (laws : LinkLaws) (stay : AnswersStay) (p : Setup) where
   settled_joins : (at : ℕ) (e : Exchanges) (w : Works) → Joins p e w
       → Joins p e (settled_works at w)
   settled_joins at e w j = quiet_joins e w (settled_works at w)
-      (subst (λ (q : Primary). Tells p.link p.addresses q e) (sym (settled_line at w)) j.tells)
+      (subst (λ (q : Primary). Matches p.link p.addresses q e) (sym (settled_line at w)) j.matches)
       (settled_quiet stay p at w) j
 
   ready_joins : (at : ℕ) (e : Exchanges) (w : Works) → Joins p e w → Joins p e (ready_works at w)
   ready_joins at e w j =
       let s : Joins p e (settled_works at w) = settled_joins at e w j in
       quiet_joins e (settled_works at w) (ready_works at w)
-      (offers_tell laws p.link p.addresses e (settled_works at w).serial.commands.waiting
-      (settled_works at w).serial.line s.fits s.tells)
+      (offers_log laws p.link p.addresses e (settled_works at w).serial.commands.waiting
+      (settled_works at w).serial.line s.fits s.matches)
       (record {
-        told = λ k. refl;
+        logged = λ k. refl;
         left = λ h due. refl;
         mirrors = refl;
         fits = λ f. f;
@@ -145,13 +146,13 @@ module _ (laws : LinkLaws) (stay : AnswersStay) (p : Setup) where
       → Joins p (record { ended = e.ended; current = timed_current p.link.answer_ms at e.current })
       (begun_works at w)
   timed_joins at e w none j = record {
-    tells = laws.due p.link p.addresses w.serial.line e at j.tells;
-    told = λ k. timed_told laws p w.serial.line e j.tells at k w.history
-        (all_told (begun_works at w))
-        (silent_told k (due_outcome w.serial.line at) (begun_works at w))
-        (subst (λ (o : Option ℕ). IsTold p.link (address_at p.addresses k)
+    matches = laws.due p.link p.addresses w.serial.line e at j.matches;
+    logged = λ k. timed_logged laws p w.serial.line e j.matches at k w.history
+        (all_logged (begun_works at w))
+        (silent_logged k (due_outcome w.serial.line at) (begun_works at w))
+        (subst (λ (o : Option ℕ). IsLogged p.link (address_at p.addresses k)
         (exchanges_at (front_of p.link.size) k e) k
-        (told_silent o w)) none (j.told k));
+        (logged_silent o w)) none (j.logged k));
     left = λ due. cc;
     mirrors =
         subst (λ (l : List (ℕ × List ℕ)). AreValues p.sizes (mirrored_in w.history)
@@ -163,36 +164,37 @@ module _ (laws : LinkLaws) (stay : AnswersStay) (p : Setup) where
         (sym (laws.due_reports p.link.size (address_at p.addresses) p.link.answer_ms at e));
   }
 
-  heard_joins : (octets : List ℕ) (at : ℕ) (running : Bool) (e : Exchanges) (w z : Works)
-      → LearnsOf p at running (heard_outcome octets w.serial) (octets_works octets w) z
+  received_joins : (octets : List ℕ) (at : ℕ) (running : Bool) (e : Exchanges) (w z : Works)
+      → LearnsOf p at running (answer_outcome octets w.serial) (octets_works octets w) z
       → w.serial.silent ≡ None
       → Joins p e w →
       (z.serial.silent ≡ None)
-      × Joins p (record { ended = e.ended; current = heard_current octets e.current }) z
-  heard_joins octets at running e w z learns none j =
-      let learnt : IsLearnt p (heard_outcome octets w.serial) (octets_works octets w) z =
-      learnt_of stay p at running (heard_outcome octets w.serial) (octets_works octets w) z
+      × Joins p (record { ended = e.ended; current = received_current octets e.current }) z
+  received_joins octets at running e w z learns none j =
+      let learnt : IsLearnt p (answer_outcome octets w.serial) (octets_works octets w) z =
+      learnt_of stay p at running (answer_outcome octets w.serial) (octets_works octets w) z
       learns in
       let quiet : z.serial.silent ≡ None = learnt.silent ∙ none in (
         quiet,
         record {
-          tells = subst (λ (q : Primary). Tells p.link p.addresses q
-              (record { ended = e.ended; current = heard_current octets e.current }))
+          matches = subst (λ (q : Primary). Matches p.link p.addresses q
+              (record { ended = e.ended; current = received_current octets e.current }))
               (sym learnt.line)
-              (laws.octets p.link p.addresses w.serial.line e octets j.tells);
-          told = λ k. heard_told laws p w.serial.line e j.tells octets k w.history (all_told z)
-              (ap (λ (o : Option ℕ). line_told k (told_silent o z)) quiet ∙ learnt.told k)
-              (subst (λ (o : Option ℕ). IsTold p.link (address_at p.addresses k)
-              (exchanges_at (front_of p.link.size) k e) k (told_silent o w)) none (j.told k));
+              (laws.octets p.link p.addresses w.serial.line e octets j.matches);
+          logged = λ k. received_logged laws p w.serial.line e j.matches octets k w.history
+              (all_logged z)
+              (ap (λ (o : Option ℕ). line_logged k (logged_silent o z)) quiet ∙ learnt.logged k)
+              (subst (λ (o : Option ℕ). IsLogged p.link (address_at p.addresses k)
+              (exchanges_at (front_of p.link.size) k e) k (logged_silent o w)) none (j.logged k));
           left = λ due. quiet;
           mirrors = subst (λ (l : List (ℕ × List ℕ)). AreValues p.sizes (mirrored_in z.history)
               (command_reports p.sizes l))
-              (sym (laws.octets_report p.link p.addresses w.serial.line e octets j.tells))
+              (sym (laws.octets_report p.link p.addresses w.serial.line e octets j.matches))
               (learnt.mirrors (reports_by e) j.mirrors);
           fits = learnt.fits j.fits;
           skips = learnt.skips (reports_by e) j.skips ∙ ap
               (λ (l : List (ℕ × List ℕ)). saturated (skipped_among p.sizes l))
-              (sym (laws.octets_report p.link p.addresses w.serial.line e octets j.tells));
+              (sym (laws.octets_report p.link p.addresses w.serial.line e octets j.matches));
         },
       )
 
@@ -204,9 +206,9 @@ module _ (laws : LinkLaws) (stay : AnswersStay) (p : Setup) where
       let g : IsGiven p w (restarted_works w)
       (commands_given_up p.link (front_of p.link.size) p.addresses e) =
       all_given laws stay p w e (record {
-        tells = j.tells;
-        told = λ k. subst (λ (o : Option ℕ). IsTold p.link (address_at p.addresses k)
-            (exchanges_at (front_of p.link.size) k e) k (told_silent o w)) none (j.told k);
+        matches = j.matches;
+        logged = λ k. subst (λ (o : Option ℕ). IsLogged p.link (address_at p.addresses k)
+            (exchanges_at (front_of p.link.size) k e) k (logged_silent o w)) none (j.logged k);
         silent = none;
         fits = j.fits;
         mirrored = refl;
@@ -214,11 +216,11 @@ module _ (laws : LinkLaws) (stay : AnswersStay) (p : Setup) where
       }) in
       let same = laws.given_reports p.link p.link.size p.addresses (address_at p.addresses) e in
       record {
-        tells = g.tells;
-        told = λ k. subst (λ (o : Option ℕ). IsTold p.link (address_at p.addresses k)
+        matches = g.matches;
+        logged = λ k. subst (λ (o : Option ℕ). IsLogged p.link (address_at p.addresses k)
             (exchanges_at (front_of p.link.size) k
             (commands_given_up p.link (front_of p.link.size) p.addresses e)) k
-            (told_silent o (restarted_works w))) (sym g.silent) (g.told k);
+            (logged_silent o (restarted_works w))) (sym g.silent) (g.logged k);
         left = λ due. g.silent;
         mirrors = subst (λ (vs : List AsduValue). AreValues p.sizes vs (command_reports p.sizes
             (reports_by (commands_given_up p.link (front_of p.link.size) p.addresses e))))
@@ -242,12 +244,12 @@ module _ (laws : LinkLaws) (stay : AnswersStay) (p : Setup) where
       unasked is =
           let r : Joins p e (ready_works at w) = ready_joins at e w j in
           quiet_joins e (ready_works at w) (unasked_works at room (ready_works at w))
-          (subst (λ (o : Option Sending). Tells p.link p.addresses
+          (subst (λ (o : Option Sending). Matches p.link p.addresses
           (asked (ready_works at w).serial.line at room)
           (begun_by at o e)) is (laws.next p.link p.addresses (ready_works at w).serial.line e at
-          room r.tells))
+          room r.matches))
           (record {
-            told = λ k. refl;
+            logged = λ k. refl;
             left = λ h due. refl;
             mirrors = refl;
             fits = λ f. f;
@@ -271,7 +273,7 @@ module _ (laws : LinkLaws) (stay : AnswersStay) (p : Setup) where
   -- A request goes out
 
   back : (q : Primary) (e : Exchanges) (may : Bool) (s : Sending) → IsSetUp p
-      → Tells p.link p.addresses q e
+      → Matches p.link p.addresses q e
       → sending q may ≡ Some s
       → sending_in p
       (line.spelling p.link.size (request_frame (address_at p.addresses s.station) s.request))
@@ -296,22 +298,22 @@ module _ (laws : LinkLaws) (stay : AnswersStay) (p : Setup) where
       w.serial.silent ≡ None → Joins p e w
       → Joins p (begun_by at (Some s) e) (asked_works at room s w)
   asked_joins at room s e w is waits none j = record {
-    tells =
-        subst (λ (o : Option Sending). Tells p.link p.addresses (asked w.serial.line at room)
+    matches =
+        subst (λ (o : Option Sending). Matches p.link p.addresses (asked w.serial.line at room)
         (begun_by at o e)) is
-        (laws.next p.link p.addresses w.serial.line e at room j.tells);
-    told = λ k. subst (λ (o : Option ℕ). IsTold p.link (address_at p.addresses k)
+        (laws.next p.link p.addresses w.serial.line e at room j.matches);
+    logged = λ k. subst (λ (o : Option ℕ). IsLogged p.link (address_at p.addresses k)
         (exchanges_at (front_of p.link.size) k (begun_by at (Some s) e)) k
-        (told_silent o (asked_works at room s w)))
+        (logged_silent o (asked_works at room s w)))
         (sym none)
-        (asked_told laws p w.serial.line e j.tells room s at k w.history
-        (told_put (is_first_command w.serial.line s) s.station w) is
-        (put_told (is_first_command w.serial.line s) s.station s.request w k
+        (asked_logged laws p w.serial.line e j.matches room s at k w.history
+        (logged_put (is_first_command w.serial.line s) s.station w) is
+        (put_logged (is_first_command w.serial.line s) s.station s.request w k
         (λ first. (and_parts (is_command s.request)
         (not (is_held (station_at w.serial.line.stations s.station).link)) first).0) waits)
-        (subst (λ (o : Option ℕ). IsTold p.link (address_at p.addresses k)
+        (subst (λ (o : Option ℕ). IsLogged p.link (address_at p.addresses k)
         (exchanges_at (front_of p.link.size) k e) k
-        (told_silent o w)) none (j.told k)));
+        (logged_silent o w)) none (j.logged k)));
     left = λ due. none;
     mirrors = subst (λ (vs : List AsduValue). AreValues p.sizes vs
         (command_reports p.sizes (reports_by (begun_by at (Some s) e))))
@@ -335,7 +337,7 @@ module _ (laws : LinkLaws) (stay : AnswersStay) (p : Setup) where
       let read : sending_in p octets ≡ Some sends.request =
       ap (λ (xs : List ℕ). sending_in p xs) sends.spelled_so
       ∙ back (ready_works (latest log) before.works).serial.line (exchanges_of p log)
-      (room_in p log before) sends.request set ready.tells sends.next in
+      (room_in p log before) sends.request set ready.matches sends.next in
       let made : Joins p (begun_by (latest log) (Some sends.request) (exchanges_of p log))
       (asked_works (latest log) (room_in p log before) sends.request
       (ready_works (latest log) before.works)) =
@@ -372,8 +374,8 @@ module _ (laws : LinkLaws) (stay : AnswersStay) (p : Setup) where
       → Joins p (exchanges_of p log) c.works
   joins set [] c r acts = subst (λ (x : Course). Joins p (exchanges_of p []) x.works) (sym r)
       (record {
-        tells = laws.begins p.link p.addresses set.some set.fit;
-        told = λ k. record { steps = refl; last = λ asdu e. cc; sent = refl };
+        matches = laws.begins p.link p.addresses set.some set.fit;
+        logged = λ k. record { steps = refl; last = λ asdu e. cc; sent = refl };
         left = λ due. refl;
         mirrors = tt;
         fits = tt;
@@ -388,10 +390,10 @@ module _ (laws : LinkLaws) (stay : AnswersStay) (p : Setup) where
       (timed_joins at (record {
         ended = (exchanges_of p log).ended;
         current =
-            heard_current octets (exchanges_of p log).current;
+            received_current octets (exchanges_of p log).current;
       }) r.5.0
-      (heard_joins octets at _ (exchanges_of p log) r.1.works r.5.0 r.5.1 left.0 left.1).0
-      (heard_joins octets at _ (exchanges_of p log) r.1.works r.5.0 r.5.1 left.0 left.1).1)
+      (received_joins octets at _ (exchanges_of p log) r.1.works r.5.0 r.5.1 left.0 left.1).0
+      (received_joins octets at _ (exchanges_of p log) r.1.works r.5.0 r.5.1 left.0 left.1).1)
   joins set (Came now (TcpIn octets) ∷ log) c r acts =
       let at : ℕ = latest (Came now (TcpIn octets) ∷ log) in
       let left : (r.1.works.serial.silent ≡ None) × Joins p (exchanges_of p log) r.1.works =
@@ -442,11 +444,11 @@ module _ (laws : LinkLaws) (stay : AnswersStay) (p : Setup) where
       let before : Joins p (exchanges_of p log) r.0.works = joins set log r.0 r.1 acts.1 in
       subst (λ (x : Course). Joins p (exchanges_of p log) x.works) (sym r.2.is)
       (record {
-        tells = before.tells;
-        told = λ k. stays_told p.link (address_at p.addresses k)
-            (exchanges_at (front_of p.link.size) k (exchanges_of p log)) k (all_told r.0.works)
-            (all_told (gapless_works r.0.works)) (told_alike k r.0.works.serial.silent r.0.works
-            (gapless_works r.0.works) refl) (before.told k);
+        matches = before.matches;
+        logged = λ k. stays_logged p.link (address_at p.addresses k)
+            (exchanges_at (front_of p.link.size) k (exchanges_of p log)) k (all_logged r.0.works)
+            (all_logged (gapless_works r.0.works)) (logged_alike k r.0.works.serial.silent r.0.works
+            (gapless_works r.0.works) refl) (before.logged k);
         left = before.left;
         mirrors = before.mirrors;
         fits =

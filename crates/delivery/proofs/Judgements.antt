@@ -19,7 +19,7 @@ use Rattle.gateway.specs.Streams.{spelled}
 use Rattle.gateway.specs.Frames.{Connection}
 use Rattle.gateway.specs.Connections.{present, received_before}
 use Rattle.gateway.specs.Reports.{Setup}
-use Rattle.gateway.specs.Serial.{heard_outcome, is_first_command}
+use Rattle.gateway.specs.Serial.{answer_outcome, is_first_command}
 use Rattle.gateway.specs.Walls.{wall_on}
 use Rattle.gateway.specs.Works.{Works, octets_works, begun_works, ready_works, unasked_works}
 use Rattle.gateway.specs.Works.{done_works, link_given_up_works, commands_given_up_works_upto}
@@ -31,9 +31,10 @@ use Rattle.delivery.specs.Arrivals.{Arrival, present_logs, past_logs, over_logs,
 use Rattle.delivery.specs.Arrivals.{arrivals_by, arrivals}
 use Rattle.delivery.specs.Commands.{judged_in, as_judged}
 use Rattle.gateway.proofs.Waiting.{AnswersStay}
-use Rattle.delivery.proofs.Works.{learnt_of, judged_by, heard_judged, sent_judged, settled_judged}
+use Rattle.delivery.proofs.Works.{learnt_of, judged_by, received_judged, sent_judged}
+use Rattle.delivery.proofs.Works.{settled_judged}
 use Rattle.delivery.proofs.Works.{put_judged}
-use Rattle.delivery.proofs.Frames.{joined_by, told_came, none_came}
+use Rattle.delivery.proofs.Frames.{joined_by, logged_came, none_came}
 use Rattle.delivery.proofs.Given.{Timed}
 use Rattle.delivery.proofs.Arriving.{HaveOneFront, ends_behind, logs_as_octets, wall_in, came_now}
 use Rattle.delivery.proofs.Arriving.{spelled_grows, arrivals_stay}
@@ -185,7 +186,7 @@ module _ (one : HaveOneFront) (stay : AnswersStay) (p : Setup) where
       (omega (arith, low, high))
       ∙ sym wall in
       let ih : IsJudged log d = frames_judged log at now older c same before wall taken.1 late h in
-      heard_judged frame now (wall_on at now) d.works
+      received_judged frame now (wall_on at now) d.works
       ∙ ap (λ (l : List Timed). l ++ judged_by frame (wall_on at now)) (ih ∙ parted log d)
       ∙ append_assoc (judged_as (arrivals_by d.earlier (past_logs log)))
       (judged_as (arrivals_in came (present_logs log))) (judged_by frame (wall_on at now))
@@ -382,7 +383,7 @@ module _ (one : HaveOneFront) (stay : AnswersStay) (p : Setup) where
   })
   all_so (Came now (LineIn octets) ∷ log) c r =
       let at : ℕ = latest (Came now (LineIn octets) ∷ log) in
-      let learnt = learnt_of stay p at _ (heard_outcome octets r.1.works.serial)
+      let learnt = learnt_of stay p at _ (answer_outcome octets r.1.works.serial)
       (octets_works octets r.1.works) r.5.0 r.5.1 in
       quiet_so log (Came now (LineIn octets) ∷ log) r.0 r.1 c r.3 r.4
       (ap (λ (x : Course). came_frames x.talk) r.5.2)
@@ -452,7 +453,7 @@ module _ (one : HaveOneFront) (stay : AnswersStay) (p : Setup) where
       let before : IsSo log r.0 = all_so log r.0 r.2 in
       let sent : IsSo new r.1 =
       same_so log new r.0 r.1 (ap (λ (x : Course). came_frames x.talk) r.3.put
-      ∙ told_came r.3.frame (latest log) r.0.talk) (ap (λ (x : Course). x.earlier) r.3.put)
+      ∙ logged_came r.3.frame (latest log) r.0.talk) (ap (λ (x : Course). x.earlier) r.3.put)
       (ap (λ (x : Course). judged_of x.works) r.3.put ∙ sent_judged r.3.frame r.0.works) refl refl
       refl before.late
       before in

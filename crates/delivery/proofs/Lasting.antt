@@ -33,11 +33,11 @@ use Rattle.gateway.specs.Log.{Log, LineOut, TcpOut, Closed, GapOut, Came, Went, 
 use Rattle.gateway.specs.Connections.{present}
 use Rattle.gateway.specs.Reports.{Setup}
 use Rattle.gateway.specs.Serial.{is_first_command, unless_silent}
-use Rattle.gateway.specs.Works.{Works, tasks_of, told_silent, settled_works, ready_works}
+use Rattle.gateway.specs.Works.{Works, tasks_of, logged_silent, settled_works, ready_works}
 use Rattle.gateway.specs.Course.{Course, Runs}
 use Rattle.delivery.specs.Selections.{StayInTime, is_asked}
 use Rattle.gateway.proofs.Called.{IsAt, IsCalled, IsMade, all_made, taken_fit}
-use Rattle.gateway.proofs.Called.{called_more, silence, put, send, hear_all, close}
+use Rattle.gateway.proofs.Called.{called_more, silence, put, send, receive_all, close}
 use Rattle.delivery.proofs.InTime.{moment_is, TimeLaw, due_leaves}
 
 -- its time isn't over
@@ -316,7 +316,7 @@ module _ (p : Setup) (stay : SettingLaw) (some : 0 < p.select_ms) where
       let quiet : Run = record {
         state = (unless_silent w.serial.silent w.serial).commands;
         history =
-            told_silent w.serial.silent w;
+            logged_silent w.serial.silent w;
       } in
       let c : IsCalled p at quiet = silence p at (IsCalled p at) (called_more p at) w.serial.silent
       w made in
@@ -341,7 +341,7 @@ module _ (p : Setup) (stay : SettingLaw) (some : 0 < p.select_ms) where
   asked_lasts (Went now (TcpOut octets) ∷ log) c r h =
       let at : ℕ = latest log in
       subst (λ (c : Course). Q at (tasks_of c.works)) (sym r.4.taken)
-      (hear_all p at (Q at) (lasts at) r.4.frames _ r.1
+      (receive_all p at (Q at) (lasts at) r.4.frames _ r.1
       (taken_fit p (Went now (TcpOut octets) ∷ log) at r.4.frames r.1 r.4.each)
       (subst (λ (c : Course). Q at (tasks_of c.works)) (sym r.3.put)
       (send p at (Q at) (lasts at) log r.3.frame at r.0 r.3.next (asked_lasts log r.0 r.2 h))))

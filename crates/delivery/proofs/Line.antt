@@ -17,8 +17,8 @@ use Rattle.link.specs.declared.procedure.Link.{Link}
 use Rattle.link.specs.declared.procedure.Link.TheVariants.{Down}
 use Rattle.link.specs.Answers.{answer_of}
 use Rattle.link.specs.Exchanges.{Exchange, OpenExchange, Exchanges, Sending, IsOutstanding}
-use Rattle.link.specs.Exchanges.{no_exchanges, all_of, answer_to, begun_by, heard_octets}
-use Rattle.link.specs.Exchanges.{heard_current, timed, timed_current, view, views, whole_of}
+use Rattle.link.specs.Exchanges.{no_exchanges, all_of, answer_to, begun_by, received_octets}
+use Rattle.link.specs.Exchanges.{received_current, timed, timed_current, view, views, whole_of}
 use Rattle.link.specs.Exchanges.{with_station, reports_of_exchanges, given_up_at}
 use Rattle.link.specs.Procedure.{MaySend, KeepsFrameCountBit, is_held, link_after, after_silence}
 use Rattle.link.specs.Runs.{silence_outcome}
@@ -33,54 +33,55 @@ use Rattle.link.specs.Primary.{Outstanding, Primary, start, asked, sending, send
 use Rattle.link.specs.Primary.{received_outcome, outcome_from, outcome_of, started, with_gap}
 use Rattle.link.specs.Primary.{timed_out, due_outcome, due_outcome_from, is_command, offered_to}
 use Rattle.link.specs.Primary.{withdrawn}
-use Rattle.link.specs.Telling.{Tells, IsCurrent, IsAwaited, IsHeard, IsOver, AreLinks, past}
-use Rattle.link.specs.Telling.{report_in, IsFittingSending}
+use Rattle.link.specs.Matching.{Matches, IsCurrent, IsAwaited, IsReceived, IsOver, AreLinks, past}
+use Rattle.link.specs.Matching.{report_in, IsFittingSending}
 use Rattle.command.specs.History.{History}
 use Rattle.gateway.specs.Reports.{Setup, address_at}
 use Rattle.delivery.specs.Commands.{goes_down}
 use Rattle.delivery.proofs.Steps.{last_may, front_keeps, pends, answers_proper, missed_after}
 use Rattle.delivery.proofs.Steps.{counts, answered_alike}
-use Rattle.delivery.proofs.History.{line_told}
-use Rattle.delivery.proofs.Exchanging.{exchanges_at, at_append, alone, other_place, IsTold}
-use Rattle.delivery.proofs.Exchanging.{stays_told, alike_told, told_by, heard_one, heard_far}
-use Rattle.delivery.proofs.Exchanging.{told_asked, asked_one, asked_far, told_due, closed_one}
+use Rattle.delivery.proofs.History.{line_logged}
+use Rattle.delivery.proofs.Exchanging.{exchanges_at, at_append, alone, other_place, IsLogged}
+use Rattle.delivery.proofs.Exchanging.{stays_logged, alike_logged, logged_by, received_one}
+use Rattle.delivery.proofs.Exchanging.{received_far}
+use Rattle.delivery.proofs.Exchanging.{logged_asked, asked_one, asked_far, logged_due, closed_one}
 use Rattle.delivery.proofs.Exchanging.{closed_far}
 
 -- what `link` proves of a primary station and the exchanges of its line
 pub record LinkLaws : Type 0 where
   pub begins : (settings : LinkSettings) (addresses : List ℕ) → 0 < length addresses
       → All (FitsAddress settings.size) addresses
-      → Tells settings addresses (start settings addresses) no_exchanges
+      → Matches settings addresses (start settings addresses) no_exchanges
   pub octets : (settings : LinkSettings) (addresses : List ℕ) (q : Primary) (e : Exchanges)
       (octets : List ℕ)
-      → Tells settings addresses q e →
-      Tells settings addresses (received (front_of q.settings.size) q octets)
-      (record { ended = e.ended; current = heard_current octets e.current })
+      → Matches settings addresses q e →
+      Matches settings addresses (received (front_of q.settings.size) q octets)
+      (record { ended = e.ended; current = received_current octets e.current })
   pub due : (settings : LinkSettings) (addresses : List ℕ) (q : Primary) (e : Exchanges) (at : ℕ)
-      → Tells settings addresses q e →
-      Tells settings addresses (timed_out q at) (record {
+      → Matches settings addresses q e →
+      Matches settings addresses (timed_out q at) (record {
         ended = e.ended;
         current =
             timed_current settings.answer_ms at e.current;
       })
   pub next : (settings : LinkSettings) (addresses : List ℕ) (q : Primary) (e : Exchanges) (now : ℕ)
       (may_poll : Bool)
-      → Tells settings addresses q e →
-      Tells settings addresses (asked q now may_poll) (begun_by now (sending q may_poll) e)
+      → Matches settings addresses q e →
+      Matches settings addresses (asked q now may_poll) (begun_by now (sending q may_poll) e)
   pub offer : (settings : LinkSettings) (addresses : List ℕ) (q : Primary) (e : Exchanges)
       (station : ℕ)
       (asdu : List ℕ) →
-      station < length q.stations → IsUserData q.settings.size asdu → Tells settings addresses q e
-      → Tells settings addresses (offered_to q station asdu) e
+      station < length q.stations → IsUserData q.settings.size asdu → Matches settings addresses q e
+      → Matches settings addresses (offered_to q station asdu) e
   pub withdraw : (settings : LinkSettings) (addresses : List ℕ) (q : Primary) (e : Exchanges)
-      → Tells settings addresses q e → Tells settings addresses (withdrawn q) e
+      → Matches settings addresses q e → Matches settings addresses (withdrawn q) e
   pub count : (q : Primary) (i : ℕ) (asdu : List ℕ) → length (offered_to q i asdu).stations
       ≡ length q.stations
   pub octets_report : (settings : LinkSettings) (addresses : List ℕ) (q : Primary) (e : Exchanges)
       (octets : List ℕ)
-      → Tells settings addresses q e →
+      → Matches settings addresses q e →
       reports_of_exchanges (front_of settings.size) (λ i. slice_index addresses i)
-      (record { ended = e.ended; current = heard_current octets e.current })
+      (record { ended = e.ended; current = received_current octets e.current })
       ≡ reports_of_exchanges (front_of settings.size) (λ i. slice_index addresses i) e
       ++ report_in (received_outcome (front_of q.settings.size) q octets)
   pub due_reports : (size : LinkSize) (address : ℕ → ℕ) (answer_ms at : ℕ) (e : Exchanges) →
@@ -96,7 +97,7 @@ pub record LinkLaws : Type 0 where
       ≡ reports_of_exchanges (front_of size) address e
   pub fit : (settings : LinkSettings) (addresses : List ℕ) (q : Primary) (e : Exchanges)
       (may_poll : Bool)
-      (s : Sending) → Tells settings addresses q e →
+      (s : Sending) → Matches settings addresses q e →
       sending q may_poll ≡ Some s → IsFittingSending settings addresses s
   pub back : (size : LinkSize) (address : ℕ) (request : Asked) → FitsAddress size address
       → FitsAsked size request →
@@ -104,16 +105,16 @@ pub record LinkLaws : Type 0 where
   pub answered : (settings : LinkSettings) (addresses : List ℕ) (q : Primary) (e : Exchanges)
       (octets : List ℕ)
       (x : OpenExchange) →
-      Tells settings addresses q e → e.current ≡ Some x →
+      Matches settings addresses q e → e.current ≡ Some x →
       IsOutstanding (slice_index addresses x.station) (view (front_of settings.size) x).exchange →
       received_outcome (front_of settings.size) q octets
       ≡ with_gap (gap_at (front_of settings.size) addresses x.station e)
       (outcome_of x.station x.request (answer_to (slice_index addresses x.station)
-      (view (front_of settings.size) (heard_octets octets x)).exchange))
+      (view (front_of settings.size) (received_octets octets x)).exchange))
   pub silent : (settings : LinkSettings) (addresses : List ℕ) (q : Primary) (e : Exchanges) (at : ℕ)
       (x : OpenExchange)
       →
-      Tells settings addresses q e → e.current ≡ Some x
+      Matches settings addresses q e → e.current ≡ Some x
       → IsOutstanding (slice_index addresses x.station) (view (front_of settings.size) x).exchange →
       (timed settings.answer_ms at x).closed ≡ true →
       due_outcome q at ≡ silence_outcome x.station
@@ -123,11 +124,11 @@ pub record LinkLaws : Type 0 where
       Down
       (with_station x.station (views (front_of settings.size) e.ended))))
   pub awaits : (settings : LinkSettings) (addresses : List ℕ) (q : Primary) (e : Exchanges) (k : ℕ)
-      → Tells settings addresses q e
+      → Matches settings addresses q e
       → awaits_command q k ≡ awaits_command_in settings (front_of settings.size) addresses k e
   pub given_up : (settings : LinkSettings) (addresses : List ℕ) (q : Primary) (e : Exchanges)
-      (k : ℕ) → k < length q.stations → Tells settings addresses q e
-      → Tells settings addresses (given_up k q) (given_up_at k e)
+      (k : ℕ) → k < length q.stations → Matches settings addresses q e
+      → Matches settings addresses (given_up k q) (given_up_at k e)
   pub given_reports : (settings : LinkSettings) (size : LinkSize) (addresses : List ℕ)
       (address : ℕ → ℕ) (e : Exchanges)
       → reports_of_exchanges (front_of size) address
@@ -139,40 +140,41 @@ pub record LinkLaws : Type 0 where
       → line_exchanges front j (given_up_at k e) ≡ line_exchanges front j e
   pub early : (settings : LinkSettings) (addresses : List ℕ) (q : Primary) (e : Exchanges) (at : ℕ)
       (x : OpenExchange) →
-      Tells settings addresses q e → e.current ≡ Some x
+      Matches settings addresses q e → e.current ≡ Some x
       → IsOutstanding (slice_index addresses x.station) (view (front_of settings.size) x).exchange →
       (timed settings.answer_ms at x).closed ≡ false → (timed_out q at ≡ q)
       × (due_outcome q at ≡ outcome.None)
 
 -- of commands a gap tells nothing
-started_tells : (gap : Option ℕ) (station : ℕ) (h : History) → told_by (started station gap) h ≡ h
-started_tells None station h = refl
-started_tells (Some session) station h = refl
+started_matches : (gap : Option ℕ) (station : ℕ) (h : History) → logged_by (started station gap) h
+    ≡ h
+started_matches None station h = refl
+started_matches (Some session) station h = refl
 
-gap_tells_nothing : (gap : Option ℕ) (o : Outcome) (h : History) → told_by (with_gap gap o) h
-    ≡ told_by o h
-gap_tells_nothing gap (outcome.Started station) h = started_tells gap station h
-gap_tells_nothing gap (outcome.StartedGap station session) h = refl
-gap_tells_nothing gap (outcome.Report station asdu) h = refl
-gap_tells_nothing gap (outcome.Accepted station) h = refl
-gap_tells_nothing gap (outcome.Busy station) h = refl
-gap_tells_nothing gap (outcome.Down station) h = refl
-gap_tells_nothing gap (outcome.Empty station) h = refl
-gap_tells_nothing gap outcome.None h = refl
+gap_matches_nothing : (gap : Option ℕ) (o : Outcome) (h : History) → logged_by (with_gap gap o) h
+    ≡ logged_by o h
+gap_matches_nothing gap (outcome.Started station) h = started_matches gap station h
+gap_matches_nothing gap (outcome.StartedGap station session) h = refl
+gap_matches_nothing gap (outcome.Report station asdu) h = refl
+gap_matches_nothing gap (outcome.Accepted station) h = refl
+gap_matches_nothing gap (outcome.Busy station) h = refl
+gap_matches_nothing gap (outcome.Down station) h = refl
+gap_matches_nothing gap (outcome.Empty station) h = refl
+gap_matches_nothing gap outcome.None h = refl
 
 -- an exchange with a station is the latest, or with another one
 at_last : (s : LinkSettings) (a k : ℕ) (xs : List Exchange) (station : ℕ) (x y : Exchange)
     (h new : History) →
-    (station ≡ k → IsTold s a (xs ++ x ∷ []) k h → IsTold s a (xs ++ y ∷ []) k new)
-    → ((k == station) ≡ false → line_told k new ≡ line_told k h) →
-    IsTold s a (xs ++ alone k (record { station = station; exchange = x })) k h
-    → IsTold s a (xs ++ alone k (record { station = station; exchange = y })) k new
+    (station ≡ k → IsLogged s a (xs ++ x ∷ []) k h → IsLogged s a (xs ++ y ∷ []) k new)
+    → ((k == station) ≡ false → line_logged k new ≡ line_logged k h) →
+    IsLogged s a (xs ++ alone k (record { station = station; exchange = x })) k h
+    → IsLogged s a (xs ++ alone k (record { station = station; exchange = y })) k new
 at_last s a k xs station x y h new hit miss t = go (station == k) refl t
   where
-    go : (b : Bool) → (station == k) ≡ b → IsTold s a (xs ++ (if b then x ∷ [] else [])) k h
-        → IsTold s a (xs ++ (if b then y ∷ [] else [])) k new
+    go : (b : Bool) → (station == k) ≡ b → IsLogged s a (xs ++ (if b then x ∷ [] else [])) k h
+        → IsLogged s a (xs ++ (if b then y ∷ [] else [])) k new
     go true e t = hit (eqb-true station k e) t
-    go false e t = stays_told s a (xs ++ []) k h new (miss (other_place station k e)) t
+    go false e t = stays_logged s a (xs ++ []) k h new (miss (other_place station k e)) t
 
 -- An event's octets
 
@@ -207,7 +209,7 @@ as_open request front closed given b is stands =
 same_when_over : (front : List ℕ → Front) (a : ℕ) (octets : List ℕ) (x : OpenExchange)
     → IsOver front a x
     → answer_to a (view front x).exchange
-    ≡ answer_to a (view front (heard_octets octets x)).exchange
+    ≡ answer_to a (view front (received_octets octets x)).exchange
 same_when_over front a octets x (inl closed) =
     sym (ap (λ (b : Bool). option_and_then (answer_of a x.request)
     (whole_of (front (if b || x.given_up then x.octets else x.octets ++ octets)))) closed)
@@ -229,7 +231,7 @@ same_when_over front a octets x (inr (inr over)) = go (x.closed || x.given_up)
     go false = before ∙ sym (over.1 octets)
 
 nothing_said : (front : List ℕ → Front) (a : ℕ) (x : OpenExchange) (o : Option (List ℕ))
-    → IsHeard front a x o
+    → IsReceived front a x o
     → option_and_then (answer_of a x.request) (whole_of (front x.octets)) ≡ None
 nothing_said front a x (Some octets) h =
     ap (λ f. option_and_then (answer_of a x.request) (whole_of f)) h.1
@@ -243,7 +245,7 @@ unfolding front_of
 no_front size = refl
 
 module _ (laws : LinkLaws) (p : Setup) (q : Primary) (e : Exchanges)
-    (tells : Tells p.link p.addresses q e) where
+    (matches : Matches p.link p.addresses q e) where
   abbrev front : List ℕ → Front
   front = front_of p.link.size
 
@@ -255,103 +257,110 @@ module _ (laws : LinkLaws) (p : Setup) (q : Primary) (e : Exchanges)
       ≡ with_station k (views front e.ended) ++ alone k (view front c)
   split k c = at_append front k e.ended (c ∷ [])
 
-  pub heard_told : (octets : List ℕ) (k : ℕ) (h new : History) →
-      line_told k new
-      ≡ line_told k (told_by (received_outcome (front_of q.settings.size) q octets) h) →
-      IsTold p.link (address k) (exchanges_at front k e) k h
-      → IsTold p.link (address k) (exchanges_at front k
-      (record { ended = e.ended; current = heard_current octets e.current })) k new
-  heard_told octets k h new same t = go q.outstanding e.current refl refl tells.current t
+  pub received_logged : (octets : List ℕ) (k : ℕ) (h new : History) →
+      line_logged k new
+      ≡ line_logged k (logged_by (received_outcome (front_of q.settings.size) q octets) h) →
+      IsLogged p.link (address k) (exchanges_at front k e) k h
+      → IsLogged p.link (address k) (exchanges_at front k
+      (record { ended = e.ended; current = received_current octets e.current })) k new
+  received_logged octets k h new same t = go q.outstanding e.current refl refl matches.current t
     where
-      said : line_told k new ≡ line_told k (told_by (received_outcome front q octets) h)
+      said : line_logged k new ≡ line_logged k (logged_by (received_outcome front q octets) h)
       said = same
           ∙ ap
-          (λ (s : LinkSettings). line_told k (told_by (received_outcome (front_of s.size) q octets)
+          (λ (s : LinkSettings). line_logged k
+          (logged_by (received_outcome (front_of s.size) q octets)
           h))
-          tells.settings_are
+          matches.settings_are
 
-      silent : q.outstanding ≡ None → line_told k new ≡ line_told k h
+      silent : q.outstanding ≡ None → line_logged k new ≡ line_logged k h
       silent out = said
-          ∙ ap (λ (o : Option Outstanding). line_told k (told_by (outcome_from front q o octets) h))
+          ∙ ap (λ (o : Option Outstanding). line_logged k (logged_by (outcome_from front q o octets)
+          h))
           out
 
       over : (x : OpenExchange) → q.outstanding ≡ None → IsOver front (address x.station) x
-          → IsTold p.link (address k)
+          → IsLogged p.link (address k)
           (exchanges_at front k (record { ended = e.ended; current = Some x })) k h →
-          IsTold p.link (address k) (exchanges_at front k
-          (record { ended = e.ended; current = Some (heard_octets octets x) })) k new
-      over x out was t = subst (λ (l : List Exchange). IsTold p.link (address k) l k new)
-          (sym (split k (heard_octets octets x)))
+          IsLogged p.link (address k) (exchanges_at front k
+          (record { ended = e.ended; current = Some (received_octets octets x) })) k new
+      over x out was t = subst (λ (l : List Exchange). IsLogged p.link (address k) l k new)
+          (sym (split k (received_octets octets x)))
           (at_last p.link (address k) k (with_station k (views front e.ended)) x.station
           (view front x).exchange
-          (view front (heard_octets octets x)).exchange h new
-          (λ here told. alike_told p.link (address k) k (with_station k (views front e.ended))
+          (view front (received_octets octets x)).exchange h new
+          (λ here logged. alike_logged p.link (address k) k (with_station k (views front e.ended))
           x.request
-          (view front x).exchange.front (view front (heard_octets octets x)).exchange.front x.closed
+          (view front x).exchange.front (view front (received_octets octets x)).exchange.front
+          x.closed
           x.closed x.given_up h new
           (subst (λ (i : ℕ). answer_to (address i) (view front x).exchange
-          ≡ answer_to (address i) (view front (heard_octets octets x)).exchange) here
+          ≡ answer_to (address i) (view front (received_octets octets x)).exchange) here
           (same_when_over front (address x.station) octets x was))
-          refl (silent out) told)
-          (λ far. silent out) (subst (λ (l : List Exchange). IsTold p.link (address k) l k h)
+          refl (silent out) logged)
+          (λ far. silent out) (subst (λ (l : List Exchange). IsLogged p.link (address k) l k h)
           (split k x) t))
 
       awaited : (o : Outstanding) (x : OpenExchange) → e.current ≡ Some x
           → IsAwaited front (address q.turn) q.turn o x
-          → IsTold p.link (address k)
+          → IsLogged p.link (address k)
           (exchanges_at front k (record { ended = e.ended; current = Some x })) k h →
-          IsTold p.link (address k) (exchanges_at front k
-          (record { ended = e.ended; current = Some (heard_octets octets x) })) k new
+          IsLogged p.link (address k) (exchanges_at front k
+          (record { ended = e.ended; current = Some (received_octets octets x) })) k new
       awaited o x is w t =
           let none : answer_to (address x.station) (view front x).exchange ≡ None =
           ap (λ (i : ℕ). answer_to (address i) (view front x).exchange) w.station
-          ∙ nothing_said front (address q.turn) x o.heard w.heard in
-          let told : line_told k new
-          ≡ line_told k
-          (told_by (outcome_of x.station x.request
-          (answer_to (address x.station) (view front (heard_octets octets x)).exchange)) h) =
+          ∙ nothing_said front (address q.turn) x o.arrived w.arrived in
+          let logged : line_logged k new
+          ≡ line_logged k
+          (logged_by (outcome_of x.station x.request
+          (answer_to (address x.station) (view front (received_octets octets x)).exchange)) h) =
           said
-          ∙ ap (λ o. line_told k (told_by o h)) (laws.answered p.link p.addresses q e octets x tells
+          ∙ ap (λ o. line_logged k (logged_by o h)) (laws.answered p.link p.addresses q e octets x
+          matches
           is (
             none,
             w.waits,
             w.stands,
           ))
-          ∙ ap (line_told k) (gap_tells_nothing (gap_at front p.addresses x.station e) _ h) in
-          subst (λ (l : List Exchange). IsTold p.link (address k) l k new)
-          (sym (split k (heard_octets octets x)))
+          ∙ ap (line_logged k) (gap_matches_nothing (gap_at front p.addresses x.station e) _ h) in
+          subst (λ (l : List Exchange). IsLogged p.link (address k) l k new)
+          (sym (split k (received_octets octets x)))
           (at_last p.link (address k) k (with_station k (views front e.ended)) x.station
           (view front x).exchange
-          (view front (heard_octets octets x)).exchange h new
-          (λ here before. subst (λ (y : Exchange). IsTold p.link (address k)
+          (view front (received_octets octets x)).exchange h new
+          (λ here before. subst (λ (y : Exchange). IsLogged p.link (address k)
           (with_station k (views front e.ended) ++ y ∷ []) k new)
-          (sym (as_open x.request (view front (heard_octets octets x)).exchange.front x.closed
+          (sym (as_open x.request (view front (received_octets octets x)).exchange.front x.closed
           x.given_up false w.waits w.stands))
-          (heard_one p.link (address k) k (with_station k (views front e.ended)) x.request
-          (view front x).exchange.front (view front (heard_octets octets x)).exchange.front
-          (answer_to (address k) (view front (heard_octets octets x)).exchange) h new
+          (received_one p.link (address k) k (with_station k (views front e.ended)) x.request
+          (view front x).exchange.front (view front (received_octets octets x)).exchange.front
+          (answer_to (address k) (view front (received_octets octets x)).exchange) h new
           (subst (λ (i : ℕ). answer_to (address i) (view front x).exchange ≡ None) here none) refl
-          (answers_proper (address k) x.request (view front (heard_octets octets x)).exchange.front)
-          (subst (λ (i : ℕ). line_told k new ≡ line_told k
-          (told_by
+          (answers_proper (address k) x.request
+          (view front (received_octets octets x)).exchange.front)
+          (subst (λ (i : ℕ). line_logged k new ≡ line_logged k
+          (logged_by
           (outcome_of i x.request
-          (answer_to (address i) (view front (heard_octets octets x)).exchange))
-          h)) here told)
-          (subst (λ (y : Exchange). IsTold p.link (address k) (with_station k (views front e.ended)
+          (answer_to (address i) (view front (received_octets octets x)).exchange))
+          h)) here logged)
+          (subst (λ (y : Exchange). IsLogged p.link (address k)
+          (with_station k (views front e.ended)
           ++ y ∷ []) k h)
           (as_open x.request (view front x).exchange.front x.closed x.given_up false w.waits
           w.stands) before)))
-          (λ far. told ∙ heard_far k x.station x.request
-          (answer_to (address x.station) (view front (heard_octets octets x)).exchange) h far)
-          (subst (λ (l : List Exchange). IsTold p.link (address k) l k h) (split k x) t))
+          (λ far. logged ∙ received_far k x.station x.request
+          (answer_to (address x.station) (view front (received_octets octets x)).exchange) h far)
+          (subst (λ (l : List Exchange). IsLogged p.link (address k) l k h) (split k x) t))
 
       go : (o : Option Outstanding) (c : Option OpenExchange) → q.outstanding ≡ o → e.current ≡ c
           → IsCurrent front p.addresses q.turn q.outstanding e.current →
-          IsTold p.link (address k) (exchanges_at front k (record { ended = e.ended; current = c }))
+          IsLogged p.link (address k)
+          (exchanges_at front k (record { ended = e.ended; current = c }))
           k h
-          → IsTold p.link (address k) (exchanges_at front k
-          (record { ended = e.ended; current = heard_current octets c })) k new
-      go None None out is w t = stays_told p.link (address k)
+          → IsLogged p.link (address k) (exchanges_at front k
+          (record { ended = e.ended; current = received_current octets c })) k new
+      go None None out is w t = stays_logged p.link (address k)
           (exchanges_at front k (record { ended = e.ended; current = None })) k h new (silent out) t
       go None (Some x) out is w t =
           over x out (subst (IsCurrent front p.addresses q.turn None) is
@@ -372,14 +381,15 @@ module _ (laws : LinkLaws) (p : Setup) (q : Primary) (e : Exchanges)
   fresh_of s =
       record { request = s.request; front = whole_of (front []); closed = false; given_up = false }
 
-  pub asked_told : (may : Bool) (s : Sending) (at k : ℕ) (h new : History) → sending q may ≡ Some s
+  pub asked_logged : (may : Bool) (s : Sending) (at k : ℕ) (h new : History) → sending q may
+      ≡ Some s
       →
-      line_told k new ≡ line_told k (told_asked (is_command s.request
+      line_logged k new ≡ line_logged k (logged_asked (is_command s.request
       && not (is_held (station_at q.stations s.station).link)) s.station s.request h) →
-      IsTold p.link (address k) (exchanges_at front k e) k h
-      → IsTold p.link (address k) (exchanges_at front k (begun_by at (Some s) e)) k new
-  asked_told may s at k h new is same t =
-      subst (λ (l : List Exchange). IsTold p.link (address k) l k new) (sym added)
+      IsLogged p.link (address k) (exchanges_at front k e) k h
+      → IsLogged p.link (address k) (exchanges_at front k (begun_by at (Some s) e)) k new
+  asked_logged may s at k h new is same t =
+      subst (λ (l : List Exchange). IsLogged p.link (address k) l k new) (sym added)
       (at_end (s.station == k) refl)
     where
       added : exchanges_at front k (begun_by at (Some s) e) ≡ exchanges_at front k e
@@ -405,10 +415,10 @@ module _ (laws : LinkLaws) (p : Setup) (q : Primary) (e : Exchanges)
       link_is =
           subst (λ (o : Option Outstanding). AreLinks front p.link p.addresses q.stations
           (past o e))
-          (free q.outstanding refl) tells.links k
+          (free q.outstanding refl) matches.links k
 
       hit : s.station ≡ k → (s.station == k) ≡ true
-          → IsTold p.link (address k) (exchanges_at front k e ++ (fresh_of s)
+          → IsLogged p.link (address k) (exchanges_at front k e ++ (fresh_of s)
           ∷ []) k new
       hit here test =
           let link : Link = link_after p.link (address k) Down (exchanges_at front k e) in
@@ -420,7 +430,7 @@ module _ (laws : LinkLaws) (p : Setup) (q : Primary) (e : Exchanges)
           (exchanges_at front k (begun_by at (Some s) e)) =
           subst (λ (o : Option Sending). KeepsFrameCountBit p.link (address k) Down
           (exchanges_at front k (begun_by at o e))) is
-          ((laws.next p.link p.addresses q e at may tells).keeps k) in
+          ((laws.next p.link p.addresses q e at may matches).keeps k) in
           let may_send : MaySend link s.request =
           last_may p.link (address k) Down (exchanges_at front k e)
           (fresh_of s) (subst (KeepsFrameCountBit p.link (address k) Down) all kept) in
@@ -430,25 +440,27 @@ module _ (laws : LinkLaws) (p : Setup) (q : Primary) (e : Exchanges)
           link h new
           (ap (λ (o : Option Frame). option_and_then (answer_of (address k) s.request) o)
           (no_front p.link.size))
-          may_send (pends p.link (address k) Down None (exchanges_at front k e) (tells.keeps k) tt)
-          (same ∙ ap (λ (l : Link). line_told k (told_asked (is_command s.request
+          may_send (pends p.link (address k) Down None (exchanges_at front k e) (matches.keeps k)
+          tt)
+          (same ∙ ap (λ (l : Link). line_logged k (logged_asked (is_command s.request
           && not (is_held l)) s.station s.request h)) held
           ∙ ap
-          (λ (i : ℕ). line_told k (told_asked (is_command s.request && not (is_held link)) i
+          (λ (i : ℕ). line_logged k (logged_asked (is_command s.request && not (is_held link)) i
           s.request h)) here) t
 
-      at_end : (b : Bool) → (s.station == k) ≡ b → IsTold p.link (address k) (exchanges_at front k e
+      at_end : (b : Bool) → (s.station == k) ≡ b
+          → IsLogged p.link (address k) (exchanges_at front k e
           ++ alone k (record { station = s.station; exchange = (fresh_of s) })) k new
       at_end true test =
-          subst (λ (b : Bool). IsTold p.link (address k) (exchanges_at front k e
+          subst (λ (b : Bool). IsLogged p.link (address k) (exchanges_at front k e
           ++ (if b then (fresh_of s) ∷ [] else [])) k new) (sym test)
           (hit (eqb-true s.station k test) test)
       at_end false test =
-          subst (λ (b : Bool). IsTold p.link (address k) (exchanges_at front k e
+          subst (λ (b : Bool). IsLogged p.link (address k) (exchanges_at front k e
           ++ (if b then (fresh_of s) ∷ [] else [])) k new) (sym test)
-          (subst (λ (l : List Exchange). IsTold p.link (address k) l k new)
+          (subst (λ (l : List Exchange). IsLogged p.link (address k) l k new)
           (sym (append-nil (exchanges_at front k e)))
-          (stays_told p.link (address k) (exchanges_at front k e) k h new (same
+          (stays_logged p.link (address k) (exchanges_at front k e) k h new (same
           ∙ asked_far (is_command s.request && not (is_held (station_at q.stations s.station).link))
           k s.station
           s.request h (other_place s.station k test)) t))
@@ -480,54 +492,56 @@ module _ (laws : LinkLaws) (p : Setup) (q : Primary) (e : Exchanges)
   abbrev timed_exchanges : ℕ → Option OpenExchange → Exchanges
   timed_exchanges at c = record { ended = e.ended; current = timed_current p.link.answer_ms at c }
 
-  pub timed_told : (at k : ℕ) (h new : History) → line_told k new
-      ≡ line_told k (told_due (due_outcome q at) h) →
-      IsTold p.link (address k) (exchanges_at front k e) k h
-      → IsTold p.link (address k) (exchanges_at front k (timed_exchanges at e.current)) k new
-  timed_told at k h new same t = go q.outstanding e.current refl refl tells.current t
+  pub timed_logged : (at k : ℕ) (h new : History) → line_logged k new
+      ≡ line_logged k (logged_due (due_outcome q at) h) →
+      IsLogged p.link (address k) (exchanges_at front k e) k h
+      → IsLogged p.link (address k) (exchanges_at front k (timed_exchanges at e.current)) k new
+  timed_logged at k h new same t = go q.outstanding e.current refl refl matches.current t
     where
-      idle : q.outstanding ≡ None → line_told k new ≡ line_told k h
+      idle : q.outstanding ≡ None → line_logged k new ≡ line_logged k h
       idle out = same
-          ∙ ap (λ (o : Option Outstanding). line_told k (told_due (due_outcome_from q o at) h)) out
+          ∙ ap (λ (o : Option Outstanding). line_logged k (logged_due (due_outcome_from q o at) h))
+          out
 
       over : (x : OpenExchange) → q.outstanding ≡ None → IsOver front (address x.station) x
-          → IsTold p.link (address k)
+          → IsLogged p.link (address k)
           (exchanges_at front k (record { ended = e.ended; current = Some x })) k h →
-          IsTold p.link (address k) (exchanges_at front k (timed_exchanges at (Some x))) k new
-      over x out was t = subst (λ (l : List Exchange). IsTold p.link (address k) l k new)
+          IsLogged p.link (address k) (exchanges_at front k (timed_exchanges at (Some x))) k new
+      over x out was t = subst (λ (l : List Exchange). IsLogged p.link (address k) l k new)
           (sym (split k (timed p.link.answer_ms at x)))
           (at_last p.link (address k) k (with_station k (views front e.ended)) x.station
           (view front x).exchange
           (view front (timed p.link.answer_ms at x)).exchange h new
-          (λ here told. alike_told p.link (address k) k (with_station k (views front e.ended))
+          (λ here logged. alike_logged p.link (address k) k (with_station k (views front e.ended))
           x.request
           (view front x).exchange.front (view front x).exchange.front x.closed
           (timed p.link.answer_ms at x).closed x.given_up h new refl
           (alike_down (address k)
           (missed_after (address k) 0 (with_station k (views front e.ended))) at x
-          (subst (λ (i : ℕ). IsOver front (address i) x) here was)) (idle out) told)
-          (λ far. idle out) (subst (λ (l : List Exchange). IsTold p.link (address k) l k h)
+          (subst (λ (i : ℕ). IsOver front (address i) x) here was)) (idle out) logged)
+          (λ far. idle out) (subst (λ (l : List Exchange). IsLogged p.link (address k) l k h)
           (split k x) t))
 
       none_yet : (o : Outstanding) (x : OpenExchange) → IsAwaited front (address q.turn) q.turn o x
           → answer_to (address x.station) (view front x).exchange ≡ None
       none_yet o x w = ap (λ (i : ℕ). answer_to (address i) (view front x).exchange) w.station
-          ∙ nothing_said front (address q.turn) x o.heard w.heard
+          ∙ nothing_said front (address q.turn) x o.arrived w.arrived
 
       awaited : (o : Outstanding) (x : OpenExchange) (b : Bool)
           → (timed p.link.answer_ms at x).closed ≡ b
           → e.current ≡ Some x → IsAwaited front (address q.turn) q.turn o x →
-          IsTold p.link (address k) (with_station k (views front e.ended) ++ alone k (view front x))
+          IsLogged p.link (address k) (with_station k (views front e.ended)
+          ++ alone k (view front x))
           k h
-          → IsTold p.link (address k) (with_station k (views front e.ended)
+          → IsLogged p.link (address k) (with_station k (views front e.ended)
           ++ alone k (view front (timed p.link.answer_ms at x))) k new
       awaited o x false is cur w t =
           let early : due_outcome q at ≡ outcome.None =
-          (laws.early p.link p.addresses q e at x tells cur (none_yet o x w, w.waits, w.stands)
+          (laws.early p.link p.addresses q e at x matches cur (none_yet o x w, w.waits, w.stands)
           is).1 in
-          let still : line_told k new ≡ line_told k h = same
-          ∙ ap (λ (o : Outcome). line_told k (told_due o h)) early in
-          subst (λ (b : Bool). IsTold p.link (address k) (with_station k (views front e.ended)
+          let still : line_logged k new ≡ line_logged k h = same
+          ∙ ap (λ (o : Outcome). line_logged k (logged_due o h)) early in
+          subst (λ (b : Bool). IsLogged p.link (address k) (with_station k (views front e.ended)
           ++ alone k (record {
             station = x.station;
             exchange = record {
@@ -537,34 +551,35 @@ module _ (laws : LinkLaws) (p : Setup) (q : Primary) (e : Exchanges)
               given_up = x.given_up;
             };
           })) k new)
-          (w.waits ∙ sym is) (stays_told p.link (address k) (with_station k (views front e.ended)
+          (w.waits ∙ sym is) (stays_logged p.link (address k) (with_station k (views front e.ended)
           ++ alone k (view front x)) k h new still t)
       awaited o x true is cur w t =
-          let due : line_told k new
-          ≡ line_told k
-          (told_due (silence_outcome x.station
+          let due : line_logged k new
+          ≡ line_logged k
+          (logged_due (silence_outcome x.station
           (link_after p.link (address x.station) Down
           (with_station x.station (views front e.ended)))
           (after_silence p.link x.request true (link_after p.link (address x.station) Down
           (with_station x.station (views front e.ended))))) h) =
-          same ∙ ap (λ (o : Outcome). line_told k (told_due o h))
-          (laws.silent p.link p.addresses q e at x tells cur (none_yet o x w, w.waits, w.stands)
+          same ∙ ap (λ (o : Outcome). line_logged k (logged_due o h))
+          (laws.silent p.link p.addresses q e at x matches cur (none_yet o x w, w.waits, w.stands)
           is) in
           at_last p.link (address k) k (with_station k (views front e.ended)) x.station
           (view front x).exchange
           (view front (timed p.link.answer_ms at x)).exchange h new
-          (λ here before. subst (λ (y : Exchange). IsTold p.link (address k)
+          (λ here before. subst (λ (y : Exchange). IsLogged p.link (address k)
           (with_station k (views front e.ended) ++ y ∷ []) k new)
           (sym (as_open x.request (view front x).exchange.front
           (timed p.link.answer_ms at x).closed x.given_up true is w.stands))
-          (hit here (subst (λ (i : ℕ). line_told k new
-          ≡ line_told k
-          (told_due
+          (hit here (subst (λ (i : ℕ). line_logged k new
+          ≡ line_logged k
+          (logged_due
           (silence_outcome i
           (link_after p.link (address i) Down (with_station i (views front e.ended)))
           (after_silence p.link x.request true (link_after p.link (address i) Down
           (with_station i (views front e.ended))))) h)) here due)
-          (subst (λ (y : Exchange). IsTold p.link (address k) (with_station k (views front e.ended)
+          (subst (λ (y : Exchange). IsLogged p.link (address k)
+          (with_station k (views front e.ended)
           ++ y ∷ []) k h)
           (as_open x.request (view front x).exchange.front x.closed x.given_up false w.waits
           w.stands) before)))
@@ -573,27 +588,27 @@ module _ (laws : LinkLaws) (p : Setup) (q : Primary) (e : Exchanges)
           (after_silence p.link x.request true (link_after p.link (address x.station) Down
           (with_station x.station (views front e.ended)))) h far) t
         where
-          hit : x.station ≡ k → line_told k new ≡ line_told k
-              (told_due
+          hit : x.station ≡ k → line_logged k new ≡ line_logged k
+              (logged_due
               (silence_outcome k
               (link_after p.link (address k) Down (with_station k (views front e.ended)))
               (after_silence p.link x.request true (link_after p.link (address k) Down
               (with_station k (views front e.ended))))) h) →
-              IsTold p.link (address k) (with_station k (views front e.ended)
+              IsLogged p.link (address k) (with_station k (views front e.ended)
               ++ record {
                 request = x.request;
                 front = (view front x).exchange.front;
                 closed = false;
                 given_up = false;
               } ∷ []) k h →
-              IsTold p.link (address k) (with_station k (views front e.ended)
+              IsLogged p.link (address k) (with_station k (views front e.ended)
               ++ record {
                 request = x.request;
                 front = (view front x).exchange.front;
                 closed = true;
                 given_up = false;
               } ∷ []) k new
-          hit here told before =
+          hit here logged before =
               let ended : List Exchange = with_station k (views front e.ended) in
               let all : exchanges_at front k e ≡ ended ++ (view front x).exchange ∷ [] =
               ap (λ (c : Option OpenExchange). exchanges_at front k
@@ -603,21 +618,22 @@ module _ (laws : LinkLaws) (p : Setup) (q : Primary) (e : Exchanges)
               (eq-eqb x.station k here) in
               let kept : KeepsFrameCountBit p.link (address k) Down
               (ended ++ (view front x).exchange ∷ []) =
-              subst (KeepsFrameCountBit p.link (address k) Down) all (tells.keeps k) in
+              subst (KeepsFrameCountBit p.link (address k) Down) all (matches.keeps k) in
               closed_one p.link (address k) k ended x.request (view front x).exchange.front
               (link_after p.link (address k) Down ended) h new
               (subst (λ (i : ℕ). answer_to (address i) (view front x).exchange ≡ None) here
               (none_yet o x w))
               (last_may p.link (address k) Down ended (view front x).exchange kept)
               (counts p.link (address k) Down 0 ended (front_keeps p.link (address k) Down ended
-              (view front x).exchange kept) tt) told before
+              (view front x).exchange kept) tt) logged before
 
       go : (o : Option Outstanding) (c : Option OpenExchange) → q.outstanding ≡ o → e.current ≡ c
           → IsCurrent front p.addresses q.turn q.outstanding e.current →
-          IsTold p.link (address k) (exchanges_at front k (record { ended = e.ended; current = c }))
+          IsLogged p.link (address k)
+          (exchanges_at front k (record { ended = e.ended; current = c }))
           k h
-          → IsTold p.link (address k) (exchanges_at front k (timed_exchanges at c)) k new
-      go None None out is w t = stays_told p.link (address k)
+          → IsLogged p.link (address k) (exchanges_at front k (timed_exchanges at c)) k new
+      go None None out is w t = stays_logged p.link (address k)
           (exchanges_at front k (record { ended = e.ended; current = None })) k h new (idle out) t
       go None (Some x) out is w t =
           over x out (subst (IsCurrent front p.addresses q.turn None) is
@@ -628,10 +644,10 @@ module _ (laws : LinkLaws) (p : Setup) (q : Primary) (e : Exchanges)
           (subst (λ (o : Option Outstanding). IsCurrent front p.addresses q.turn o e.current) out
           w))
       go (Some o) (Some x) out is w t =
-          subst (λ (l : List Exchange). IsTold p.link (address k) l k new)
+          subst (λ (l : List Exchange). IsLogged p.link (address k) l k new)
           (sym (split k (timed p.link.answer_ms at x)))
           (awaited o x (timed p.link.answer_ms at x).closed refl is
           (subst (IsCurrent front p.addresses q.turn (Some o)) is
           (subst (λ (o : Option Outstanding). IsCurrent front p.addresses q.turn o e.current) out
           w))
-          (subst (λ (l : List Exchange). IsTold p.link (address k) l k h) (split k x) t))
+          (subst (λ (l : List Exchange). IsLogged p.link (address k) l k h) (split k x) t))

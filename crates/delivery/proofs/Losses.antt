@@ -12,22 +12,22 @@ use Rattle.link.specs.Counts.{saturated}
 use Rattle.link.specs.Carried.{commands_given_up}
 use Rattle.link.specs.Exchanges.{Exchanges}
 use Rattle.link.specs.Gaps.{as_numbers, ended_with_gap, gaps_at}
-use Rattle.gateway.specs.Gaps.{gaps_of, gaps_told}
+use Rattle.gateway.specs.Gaps.{gaps_of, gaps_reported}
 use Rattle.gateway.specs.Log.{Log, Came, Went, Opened, LineIn, TcpIn, CutOff, Ticked, WallIs}
 use Rattle.gateway.specs.Log.{Restarted}
 use Rattle.gateway.specs.Reports.{Setup, exchanges_of}
 use Rattle.gateway.specs.Traffic.{HasRested}
 use Rattle.delivery.specs.Sessions.{ended, gaps_in, given_in, taken_in, LosesNone, LosesLastAtMost}
-use Rattle.delivery.specs.Sessions.{LoseAsTold}
+use Rattle.delivery.specs.Sessions.{LoseAsReported}
 
 -- each that ended is told where it has a gap
-as_told : (station number : ℕ) (ss : List Session) → AllByRecursion (λ s. HasReports station s) ss
-    → LoseAsTold station number ss (ended_with_gap station number ss)
-as_told station number [] all = refl
-as_told station number (s ∷ []) all = refl
-as_told station number (s ∷ (next ∷ later)) all =
+as_logged : (station number : ℕ) (ss : List Session) → AllByRecursion (λ s. HasReports station s) ss
+    → LoseAsReported station number ss (ended_with_gap station number ss)
+as_logged station number [] all = refl
+as_logged station number (s ∷ []) all = refl
+as_logged station number (s ∷ (next ∷ later)) all =
     go (is_gap (pending_after station None s.exchanges)) refl
-    (as_told station (suc number) (next ∷ later) all.1)
+    (as_logged station (suc number) (next ∷ later) all.1)
   where
     rest : List ℕ
     rest = ended_with_gap station (suc number) (next ∷ later)
@@ -36,27 +36,28 @@ as_told station number (s ∷ (next ∷ later)) all =
     numbers b = as_numbers (if b then Some (saturated number) else None) ++ rest
 
     go : (b : Bool) → is_gap (pending_after station None s.exchanges) ≡ b
-        → LoseAsTold station (suc number) (next ∷ later) rest →
-        (LosesNone station s × LoseAsTold station (suc number) (next ∷ later)
+        → LoseAsReported station (suc number) (next ∷ later) rest →
+        (LosesNone station s × LoseAsReported station (suc number) (next ∷ later)
         (as_numbers (if b then Some (saturated number) else None) ++ rest))
         ⊎ ((others : List ℕ) × (as_numbers (if b then Some (saturated number) else None) ++ rest
         ≡ saturated number
-        ∷ others) × LosesLastAtMost station s × LoseAsTold station (suc number) (next ∷ later)
+        ∷ others) × LosesLastAtMost station s × LoseAsReported station (suc number) (next ∷ later)
         others)
     go true e ih = inr (rest, refl, all.0.most, ih)
     go false e ih = inl (all.0.all e, ih)
 
-pub told_so : (station : ℕ) (ss : List Session) (told : List ℕ)
+pub logged_so : (station : ℕ) (ss : List Session) (logged : List ℕ)
     → AllByRecursion (λ s. HasReports station s) ss
-    → told ≡ ended_with_gap station 1 ss → LoseAsTold station 1 ss told
-told_so station ss told all is = subst (LoseAsTold station 1 ss) (sym is) (as_told station 1 ss all)
+    → logged ≡ ended_with_gap station 1 ss → LoseAsReported station 1 ss logged
+logged_so station ss logged all is = subst (LoseAsReported station 1 ss) (sym is)
+    (as_logged station 1 ss all)
 
 -- once a step is over each gap is told, and a restart makes none
 pub gaps_rested : (p : Setup) → ((e : Exchanges) (i : ℕ)
     → gaps_at (front_of p.link.size) p.addresses i
     (commands_given_up p.link (front_of p.link.size) p.addresses e)
     ≡ gaps_at (front_of p.link.size) p.addresses i e)
-    → (log : Log) (i : ℕ) → HasRested p log → gaps_told i log ≡ gaps_of p i log
+    → (log : Log) (i : ℕ) → HasRested p log → gaps_reported i log ≡ gaps_of p i log
 gaps_rested p same [] i rests = refl
 gaps_rested p same (Came now Restarted ∷ log) i rests =
     gaps_rested p same log i rests ∙ sym (same (exchanges_of p log) i)

@@ -7,7 +7,8 @@ use Rattle.std.specs.List.{AllByRecursion}
 use Rattle.ft12.specs.declared.frame.Front.{Front}
 use Rattle.ft12.specs.Fronts.{front_of}
 use Rattle.link.specs.Exchanges.{Exchange, OpenExchange, Exchanges, Sending, as_list, all_of}
-use Rattle.link.specs.Exchanges.{heard_current, timed_current, begun_by, view, views, with_station}
+use Rattle.link.specs.Exchanges.{received_current, timed_current, begun_by, view, views}
+use Rattle.link.specs.Exchanges.{with_station}
 use Rattle.gateway.specs.Log.{Log, Came, Went, Opened, LineIn, TcpIn, CutOff, Ticked, WallIs}
 use Rattle.gateway.specs.Log.{Restarted, LineOut, TcpOut, Closed, GapOut, latest}
 use Rattle.gateway.specs.Reports.{Setup, sending_in, exchanges_of, exchanges_with}
@@ -24,10 +25,10 @@ record AllStand (e : Exchanges) : Type 0 where
   ended : Stand e.ended
   current : Stands e.current
 
-heard_stands : (octets : List ℕ) (c : Option OpenExchange) → Stands c
-    → Stands (heard_current octets c)
-heard_stands octets None h = tt
-heard_stands octets (Some x) h = h
+received_stands : (octets : List ℕ) (c : Option OpenExchange) → Stands c
+    → Stands (received_current octets c)
+received_stands octets None h = tt
+received_stands octets (Some x) h = h
 
 timed_stands : (ms at : ℕ) (c : Option OpenExchange) → Stands c → Stands (timed_current ms at c)
 timed_stands ms at None h = tt
@@ -64,8 +65,8 @@ all_stand p (Came now (LineIn octets) ∷ log) one =
     record {
       ended = h.ended;
       current = timed_stands p.link.answer_ms (latest (Came now (LineIn octets) ∷ log))
-          (heard_current octets (exchanges_of p log).current)
-          (heard_stands octets (exchanges_of p log).current h.current);
+          (received_current octets (exchanges_of p log).current)
+          (received_stands octets (exchanges_of p log).current h.current);
     }
 all_stand p (Came now Opened ∷ log) one =
     timed_stand p (latest (Came now Opened ∷ log)) (exchanges_of p log) (all_stand p log one)

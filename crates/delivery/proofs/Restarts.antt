@@ -23,7 +23,7 @@ use Rattle.link.specs.Marks.{latest_given_up}
 use Rattle.link.specs.Procedure.{MaySend, KeepsFrameCountBit, holds_command, missed_so_far}
 use Rattle.link.specs.Procedure.{after_silence, after_outcome, after, link_after}
 use Rattle.link.specs.Delivery.{pending_by, pending_after, first_sending}
-use Rattle.link.specs.Telling.{Tells}
+use Rattle.link.specs.Matching.{Matches}
 use Rattle.command.specs.State.{is_used, line_of}
 use Rattle.command.specs.Calls.{Lose}
 use Rattle.command.specs.History.{History, GivenUp}
@@ -31,12 +31,13 @@ use Rattle.gateway.specs.Reports.{Setup, address_at}
 use Rattle.gateway.specs.Works.{Works, tasks_of, link_given_up_works, command_given_up_works}
 use Rattle.gateway.specs.Works.{commands_given_up_works_upto, restarted_works}
 use Rattle.delivery.specs.Commands.{LineStep, Begun, Lost, said_of, missed_by, is_silent, goes_down}
-use Rattle.delivery.specs.Commands.{steps_at, steps_in, first_sendings, steps_told}
+use Rattle.delivery.specs.Commands.{steps_at, steps_in, first_sendings, steps_logged}
 use Rattle.delivery.specs.Joined.{mirrored_in}
 use Rattle.gateway.proofs.Waiting.{AnswersStay}
-use Rattle.delivery.proofs.History.{LineTold, line_told, WaitsFit, one_fits}
+use Rattle.delivery.proofs.History.{LineLogged, line_logged, WaitsFit, one_fits}
 use Rattle.delivery.proofs.Steps.{Counts, so_far, counts}
-use Rattle.delivery.proofs.Exchanging.{exchanges_at, IsTold, stays_told, lost_if, lost_far, here_is}
+use Rattle.delivery.proofs.Exchanging.{exchanges_at, IsLogged, stays_logged, lost_if, lost_far}
+use Rattle.delivery.proofs.Exchanging.{here_is}
 use Rattle.delivery.proofs.Line.{LinkLaws}
 use Rattle.delivery.proofs.Skipping.{lost_skips}
 
@@ -136,21 +137,22 @@ sendings_given a pending (x ∷ (y ∷ ys)) =
     ap (λ (l : List (List ℕ)). first_sending pending x.request ++ l)
     (sendings_given a (pending_by x.request (answer_to a x) pending) (y ∷ ys))
 
-given_told : (s : LinkSettings) (a k : ℕ) (xs : List Exchange) (h new : History)
+given_logged : (s : LinkSettings) (a k : ℕ) (xs : List Exchange) (h new : History)
     → KeepsFrameCountBit s a Down xs → holds_command (link_after s a Down xs) ≡ true
-    → line_told k new ≡ line_told k (GivenUp k false ∷ h) → IsTold s a xs k h
-    → IsTold s a (latest_given_up xs) k new
-given_told s a k xs h new keeps holds same t = record {
-  steps = ap (λ (l : LineTold). l.steps) same ∙ ap (λ (b : Bool). if b then steps_told k h ++ Lost
-      ∷ [] else steps_told k h) (here_is k)
+    → line_logged k new ≡ line_logged k (GivenUp k false ∷ h) → IsLogged s a xs k h
+    → IsLogged s a (latest_given_up xs) k new
+given_logged s a k xs h new keeps holds same t = record {
+  steps = ap (λ (l : LineLogged). l.steps) same
+      ∙ ap (λ (b : Bool). if b then steps_logged k h ++ Lost
+      ∷ [] else steps_logged k h) (here_is k)
       ∙ ap (λ (l : List LineStep). l ++ Lost ∷ []) t.steps
       ∙ sym (steps_given s a Down 0 None xs keeps tt
       (λ none. let no : holds_command Down ≡ true =
       ap (λ (l : List Exchange). holds_command (link_after s a Down l)) (sym none) ∙ holds in cc)
       holds);
-  last = λ asdu e. ap (λ (l : LineTold). l.last) same
+  last = λ asdu e. ap (λ (l : LineLogged). l.last) same
       ∙ t.last asdu (sym (pending_given a None xs) ∙ e);
-  sent = ap (λ (l : LineTold). l.sent) same ∙ t.sent ∙ sym (sendings_given a None xs);
+  sent = ap (λ (l : LineLogged). l.sent) same ∙ t.sent ∙ sym (sendings_given a None xs);
 }
 
 -- ---- What the course tells
@@ -158,9 +160,9 @@ given_told s a k xs h new keeps holds same t = record {
 -- The works, where some stations' links have been given up: the line is what the exchanges make it,
 -- and what becomes of commands is what they show.
 pub record IsGiven (p : Setup) (w z : Works) (e : Exchanges) : Type 0 where
-  pub tells : Tells p.link p.addresses z.serial.line e
-  pub told : (k : ℕ)
-      → IsTold p.link (address_at p.addresses k) (exchanges_at (front_of p.link.size) k e) k
+  pub matches : Matches p.link p.addresses z.serial.line e
+  pub logged : (k : ℕ)
+      → IsLogged p.link (address_at p.addresses k) (exchanges_at (front_of p.link.size) k e) k
       z.history
   pub silent : z.serial.silent ≡ None
   pub fits : WaitsFit p z.serial.commands
@@ -175,9 +177,9 @@ module _ (laws : LinkLaws) (stay : AnswersStay) (p : Setup) where
       → awaits_command z.serial.line j ≡ true → IsGiven p w z e
       → IsGiven p w (link_given_up_works j z) (given_up_at j e)
   one_given w z e j within awaits g = record {
-    tells = laws.given_up p.link p.addresses z.serial.line e j
-        (subst (λ (n : ℕ). j < n) (sym g.tells.count) within) g.tells;
-    told = λ k. at k (cases_eq k j);
+    matches = laws.given_up p.link p.addresses z.serial.line e j
+        (subst (λ (n : ℕ). j < n) (sym g.matches.count) within) g.matches;
+    logged = λ k. at k (cases_eq k j);
     silent = g.silent;
     fits = one_fits stay p (Lose j) (tasks_of z) tt g.fits;
     mirrored = g.mirrored;
@@ -186,25 +188,25 @@ module _ (laws : LinkLaws) (stay : AnswersStay) (p : Setup) where
     where
       holds : holds_command (link_after p.link (address_at p.addresses j) Down
           (exchanges_at front j e)) ≡ true
-      holds = sym (laws.awaits p.link p.addresses z.serial.line e j g.tells) ∙ awaits
+      holds = sym (laws.awaits p.link p.addresses z.serial.line e j g.matches) ∙ awaits
 
       at : (k : ℕ) → (k ≡ j) ⊎ (k ≡ j → ⊥)
-          → IsTold p.link (address_at p.addresses k) (exchanges_at front k (given_up_at j e)) k
+          → IsLogged p.link (address_at p.addresses k) (exchanges_at front k (given_up_at j e)) k
           (link_given_up_works j z).history
       at k (inl here) =
-          subst (λ (i : ℕ). IsTold p.link (address_at p.addresses i)
+          subst (λ (i : ℕ). IsLogged p.link (address_at p.addresses i)
           (exchanges_at front i (given_up_at j e)) i (link_given_up_works j z).history) (sym here)
-          (subst (λ (xs : List Exchange). IsTold p.link (address_at p.addresses j) xs j
+          (subst (λ (xs : List Exchange). IsLogged p.link (address_at p.addresses j) xs j
           (link_given_up_works j z).history) (sym (laws.itself front j e))
-          (given_told p.link (address_at p.addresses j) j (exchanges_at front j e) z.history
-          (link_given_up_works j z).history (g.tells.keeps j) holds refl (g.told j)))
+          (given_logged p.link (address_at p.addresses j) j (exchanges_at front j e) z.history
+          (link_given_up_works j z).history (g.matches.keeps j) holds refl (g.logged j)))
       at k (inr other) =
-          subst (λ (xs : List Exchange). IsTold p.link (address_at p.addresses k) xs k
+          subst (λ (xs : List Exchange). IsLogged p.link (address_at p.addresses k) xs k
           (link_given_up_works j z).history) (sym (laws.others front j k e other))
-          (stays_told p.link (address_at p.addresses k) (exchanges_at front k e) k z.history
+          (stays_logged p.link (address_at p.addresses k) (exchanges_at front k e) k z.history
           (link_given_up_works j z).history
           (lost_far k j (is_used (line_of j z.serial.commands)) z.history (apart (k == j) refl))
-          (g.told k))
+          (g.logged k))
         where
           apart : (b : Bool) → (k == j) ≡ b → (k == j) ≡ false
           apart false e = e
@@ -216,7 +218,7 @@ module _ (laws : LinkLaws) (stay : AnswersStay) (p : Setup) where
   next_given w z e j within g =
       subst (λ (b : Bool). IsGiven p w (command_given_up_works j z)
       (if b then given_up_at j e else e))
-      (laws.awaits p.link p.addresses z.serial.line e j g.tells)
+      (laws.awaits p.link p.addresses z.serial.line e j g.matches)
       (go (awaits_command z.serial.line j) refl)
     where
       go : (b : Bool) → awaits_command z.serial.line j ≡ b
@@ -239,5 +241,5 @@ module _ (laws : LinkLaws) (stay : AnswersStay) (p : Setup) where
       → IsGiven p w (restarted_works w) (commands_given_up p.link front p.addresses e)
   all_given w e g =
       subst (λ (n : ℕ). IsGiven p w (commands_given_up_works_upto n w)
-      (commands_given_up p.link front p.addresses e)) (sym g.tells.count)
+      (commands_given_up p.link front p.addresses e)) (sym g.matches.count)
       (upto_given w e (length p.addresses) (omega arith) g)

@@ -10,7 +10,8 @@ use Rattle.link.specs.declared.service.Asked.{Asked}
 use Rattle.link.specs.declared.answer.Answer.{Answer}
 use Rattle.link.specs.declared.answer.Answer.TheVariants.{Report, Ready, Confirmed, Busy, NoData}
 use Rattle.link.specs.declared.answer.Answer.TheVariants.{Unable}
-use Rattle.link.specs.Exchanges.{OpenExchange, Exchanges, Sending, as_list, all_of, heard_current}
+use Rattle.link.specs.Exchanges.{OpenExchange, Exchanges, Sending, as_list, all_of}
+use Rattle.link.specs.Exchanges.{received_current}
 use Rattle.link.specs.Exchanges.{timed_current, begun_by, view, views, answer_to, report_by}
 use Rattle.link.specs.Exchanges.{reports_of, marked, has_one_with, latest_marked, given_up_from}
 use Rattle.link.specs.Exchanges.{given_up_at}
@@ -44,10 +45,10 @@ record AreBelow (n : ℕ) (e : Exchanges) : Type 0 where
   ended : AllByRecursion (λ (x : OpenExchange). x.station < n) e.ended
   current : IsBelow n e.current
 
-below_heard : (n : ℕ) (octets : List ℕ) (x : Option OpenExchange) → IsBelow n x
-    → IsBelow n (heard_current octets x)
-below_heard n octets None h = tt
-below_heard n octets (Some x) h = h
+below_received : (n : ℕ) (octets : List ℕ) (x : Option OpenExchange) → IsBelow n x
+    → IsBelow n (received_current octets x)
+below_received n octets None h = tt
+below_received n octets (Some x) h = h
 
 below_timed : (n at ms : ℕ) (x : Option OpenExchange) → IsBelow n x
     → IsBelow n (timed_current ms at x)
@@ -103,17 +104,17 @@ timed_below p at e h = record {
       below_timed (length p.addresses) at p.link.answer_ms e.current h.current;
 }
 
-heard_below : (p : Setup) (octets : List ℕ) (at : ℕ) (e : Exchanges)
+received_below : (p : Setup) (octets : List ℕ) (at : ℕ) (e : Exchanges)
     → AreBelow (length p.addresses) e →
     AreBelow (length p.addresses) (record {
       ended = e.ended;
       current =
-          timed_current p.link.answer_ms at (heard_current octets e.current);
+          timed_current p.link.answer_ms at (received_current octets e.current);
     })
-heard_below p octets at e h = record {
+received_below p octets at e h = record {
   ended = h.ended;
-  current = below_timed (length p.addresses) at p.link.answer_ms (heard_current octets e.current)
-      (below_heard (length p.addresses) octets e.current h.current);
+  current = below_timed (length p.addresses) at p.link.answer_ms (received_current octets e.current)
+      (below_received (length p.addresses) octets e.current h.current);
 }
 
 -- A link that is given up leaves each exchange its station.
@@ -161,7 +162,7 @@ upto_below p (suc k) e h =
 are_below : (p : Setup) (log : Log) → AreBelow (length p.addresses) (exchanges_of p log)
 are_below p [] = record { ended = tt; current = tt }
 are_below p (Came now (LineIn octets) ∷ log) =
-    heard_below p octets (latest (Came now (LineIn octets) ∷ log))
+    received_below p octets (latest (Came now (LineIn octets) ∷ log))
     (exchanges_of p log) (are_below p log)
 are_below p (Came now Opened ∷ log) = timed_below p (latest (Came now Opened ∷ log))
     (exchanges_of p log)

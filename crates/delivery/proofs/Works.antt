@@ -20,7 +20,7 @@ use Rattle.link.specs.Exchanges.{Exchanges}
 use Rattle.link.specs.Requests.{IsUserData}
 use Rattle.link.specs.Primary.{Primary, is_command}
 use Rattle.link.specs.declared.settings.LinkSettings.{LinkSettings}
-use Rattle.link.specs.Telling.{Tells, report_in}
+use Rattle.link.specs.Matching.{Matches, report_in}
 use Rattle.command.specs.declared.waiting.Waiting.{Waiting}
 use Rattle.command.specs.State.{State, octets_waiting, oldest, oldest_for, put_out, given_up}
 use Rattle.command.specs.State.{is_used, line_of}
@@ -32,37 +32,38 @@ use Rattle.gateway.specs.Objects.{has_objects}
 use Rattle.gateway.specs.Reports.{Setup}
 use Rattle.gateway.specs.Serial.{refusals, reported, with_gap, listed, silent_by, unless_silent}
 use Rattle.gateway.specs.Serial.{offered_by, offered_upto, put_on_line}
-use Rattle.gateway.specs.Works.{Works, tasks_of, told, LearnsOf, LearnsReport, is_command_report}
+use Rattle.gateway.specs.Works.{Works, tasks_of, logged, LearnsOf, LearnsReport, is_command_report}
 use Rattle.gateway.specs.Works.{mirrored_works, accepted_works, refused_works, given_up_works}
-use Rattle.gateway.specs.Works.{heard_works, answered_works, sent_works, told_silent, settled_works}
-use Rattle.gateway.specs.Works.{told_put}
+use Rattle.gateway.specs.Works.{received_works, answered_works, sent_works, logged_silent}
+use Rattle.gateway.specs.Works.{settled_works}
+use Rattle.gateway.specs.Works.{logged_put}
 use Rattle.delivery.specs.Commands.{Lost, judged_in}
 use Rattle.delivery.specs.Joined.{mirrored_in, command_reports, skipped_among, AreValues}
 use Rattle.delivery.proofs.Skipping.{skip_one, skip_none, lost_skips}
 use Rattle.gateway.proofs.Waiting.{AnswersStay, AllFitLine, oldest_fits}
-use Rattle.delivery.proofs.History.{LineTold, line_told, line_ignores, mirrors_ignore}
+use Rattle.delivery.proofs.History.{LineLogged, line_logged, line_ignores, mirrors_ignore}
 use Rattle.delivery.proofs.History.{judged_ignore, keeping, sending_own, judging, WaitsFit}
 use Rattle.delivery.proofs.History.{one_fits, kept_fit}
-use Rattle.delivery.proofs.Exchanging.{told_by, told_asked, told_due}
+use Rattle.delivery.proofs.Exchanging.{logged_by, logged_asked, logged_due}
 use Rattle.delivery.proofs.Line.{LinkLaws}
 
 -- The history once all is told
 
-abbrev pub all_told : Works → History
-all_told w = told_silent w.serial.silent w
+abbrev pub all_logged : Works → History
+all_logged w = logged_silent w.serial.silent w
 
 -- where the step is done, nothing is still to be told
-abbrev pub IsAllTold : Works → Type 0
-IsAllTold w = w.is_due ≡ false → w.serial.silent ≡ None
+abbrev pub IsAllLogged : Works → Type 0
+IsAllLogged w = w.is_due ≡ false → w.serial.silent ≡ None
 
 -- what is still to be told makes no difference
-pub told_alike : (k : ℕ) (o : Option ℕ) (w z : Works) → line_told k z.history
-    ≡ line_told k w.history
-    → line_told k (told_silent o z) ≡ line_told k (told_silent o w)
-told_alike k None w z same = same
-told_alike k (Some j) w z same =
-    ap (λ (l : LineTold).
-    let r : LineTold = record {
+pub logged_alike : (k : ℕ) (o : Option ℕ) (w z : Works) → line_logged k z.history
+    ≡ line_logged k w.history
+    → line_logged k (logged_silent o z) ≡ line_logged k (logged_silent o w)
+logged_alike k None w z same = same
+logged_alike k (Some j) w z same =
+    ap (λ (l : LineLogged).
+    let r : LineLogged = record {
       steps = if k == j then l.steps ++ Lost ∷ [] else l.steps;
       last = l.last;
       sent =
@@ -70,16 +71,17 @@ told_alike k (Some j) w z same =
     } in r) same
 
 -- what the line's silence tells
-pub silent_told : (k : ℕ) (o : Outcome) (w : Works) → line_told k (told_silent (silent_by o) w)
-    ≡ line_told k (told_due o w.history)
-silent_told k outcome.None w = refl
-silent_told k (outcome.Started station) w = refl
-silent_told k (outcome.StartedGap station session) w = refl
-silent_told k (outcome.Empty station) w = refl
-silent_told k (outcome.Accepted station) w = refl
-silent_told k (outcome.Busy station) w = refl
-silent_told k (outcome.Down station) w = refl
-silent_told k (outcome.Report station asdu) w = refl
+pub silent_logged : (k : ℕ) (o : Outcome) (w : Works)
+    → line_logged k (logged_silent (silent_by o) w)
+    ≡ line_logged k (logged_due o w.history)
+silent_logged k outcome.None w = refl
+silent_logged k (outcome.Started station) w = refl
+silent_logged k (outcome.StartedGap station session) w = refl
+silent_logged k (outcome.Empty station) w = refl
+silent_logged k (outcome.Accepted station) w = refl
+silent_logged k (outcome.Busy station) w = refl
+silent_logged k (outcome.Down station) w = refl
+silent_logged k (outcome.Report station asdu) w = refl
 
 -- Reports of command types
 
@@ -111,7 +113,7 @@ values_more sizes (x ∷ vs) (y ∷ rs) v r h k = (h.0, values_more sizes vs rs 
 pub record IsLearnt (p : Setup) (o : Outcome) (w z : Works) : Type 0 where
   pub line : z.serial.line ≡ w.serial.line
   pub silent : z.serial.silent ≡ w.serial.silent
-  pub told : (k : ℕ) → line_told k z.history ≡ line_told k (told_by o w.history)
+  pub logged : (k : ℕ) → line_logged k z.history ≡ line_logged k (logged_by o w.history)
   pub fits : WaitsFit p w.serial.commands → WaitsFit p z.serial.commands
   pub mirrors : (rs : List (ℕ × List ℕ))
       → AreValues p.sizes (mirrored_in w.history) (command_reports p.sizes rs)
@@ -137,13 +139,13 @@ no_report sizes vs rs h =
     (sym (append-nil rs)) h
 
 same_learnt : (p : Setup) (o : Outcome) (w z : Works) → report_in o ≡ []
-    → ((h : History) → told_by o h ≡ h) → z ≡ w
+    → ((h : History) → logged_by o h ≡ h) → z ≡ w
     → IsLearnt p o w z
 same_learnt p o w z none quiet is = record {
   line = ap (λ (x : Works). x.serial.line) is;
   silent = ap (λ (x : Works). x.serial.silent) is;
-  told = λ k. ap (λ (x : Works). line_told k x.history) is
-      ∙ ap (λ (h : History). line_told k h) (sym (quiet w.history));
+  logged = λ k. ap (λ (x : Works). line_logged k x.history) is
+      ∙ ap (λ (h : History). line_logged k h) (sym (quiet w.history));
   fits = λ f. subst (λ (x : Works). WaitsFit p x.serial.commands) (sym is) f;
   mirrors = λ rs h. subst (λ (x : Works). AreValues p.sizes (mirrored_in x.history)
       (command_reports p.sizes (rs ++ report_in o))) (sym is)
@@ -162,7 +164,7 @@ gap_learnt : (p : Setup) (station session : ℕ) (w : Works)
 gap_learnt p station session w = record {
   line = refl;
   silent = refl;
-  told = λ k. refl;
+  logged = λ k. refl;
   fits = λ f. f;
   mirrors = λ rs h. no_report p.sizes (mirrored_in w.history) rs h;
   judged = refl;
@@ -174,7 +176,7 @@ accepted_learnt : (stay : AnswersStay) (p : Setup) (station : ℕ) (w : Works)
 accepted_learnt stay p station w = record {
   line = refl;
   silent = refl;
-  told = λ k. refl;
+  logged = λ k. refl;
   fits = λ f. one_fits stay p (Accept station) (tasks_of w) tt f;
   mirrors = λ rs h. no_report p.sizes (mirrored_in w.history) rs h;
   judged = refl;
@@ -186,18 +188,18 @@ busy_learnt : (stay : AnswersStay) (p : Setup) (station : ℕ) (w : Works)
 busy_learnt stay p station w =
     let s : State = given_up station w.serial.commands in
     let own : List (List ℕ) = refusals station w.serial in
-    let tells : History = told (Busy station) w in
+    let matches : History = logged (Busy station) w in
     record {
       line = refl;
       silent = refl;
-      told = λ k. keeping (line_told k) (line_ignores k) own s tells;
+      logged = λ k. keeping (line_logged k) (line_ignores k) own s matches;
       fits = λ f. kept_fit stay p own s (one_fits stay p (Busy station) (tasks_of w) tt f);
       mirrors =
           λ rs h. subst (λ (vs : List AsduValue). AreValues p.sizes vs
           (command_reports p.sizes (rs ++ [])))
-          (sym (keeping mirrored_in mirrors_ignore own s tells))
+          (sym (keeping mirrored_in mirrors_ignore own s matches))
           (no_report p.sizes (mirrored_in w.history) rs h);
-      judged = keeping judged_in judged_ignore own s tells;
+      judged = keeping judged_in judged_ignore own s matches;
       skips = λ rs h. same_skips p.sizes w.serial.counts.skipped w.serial.counts.skipped rs refl h;
     }
 
@@ -206,7 +208,7 @@ down_learnt : (stay : AnswersStay) (p : Setup) (station : ℕ) (w : Works)
 down_learnt stay p station w = record {
   line = refl;
   silent = refl;
-  told = λ k. refl;
+  logged = λ k. refl;
   fits = λ f. one_fits stay p (Lose station) (tasks_of w) tt f;
   mirrors = λ rs h. no_report p.sizes (mirrored_in w.history) rs h;
   judged = refl;
@@ -225,7 +227,7 @@ module _ (stay : AnswersStay) (p : Setup) (at : ℕ) (station : ℕ) (asdu : Arr
   plain_report other = record {
     line = refl;
     silent = refl;
-    told = λ k. refl;
+    logged = λ k. refl;
     fits = λ f. f;
     mirrors = λ rs h. subst (λ (l : List (List ℕ)). AreValues p.sizes (mirrored_in w.history) l)
         (sym (reports_more p.sizes rs (station, asdu.items)
@@ -239,7 +241,7 @@ module _ (stay : AnswersStay) (p : Setup) (at : ℕ) (station : ℕ) (asdu : Arr
       ≡ true
       → IsAsdu p.sizes v asdu.items →
       AreValues p.sizes (mirrored_in w.history) (command_reports p.sizes rs)
-      → AreValues p.sizes (mirrored_in (told (Mirror v at) w))
+      → AreValues p.sizes (mirrored_in (logged (Mirror v at) w))
       (command_reports p.sizes (rs ++ (station, asdu.items) ∷ []))
   more_mirrored v rs command value h =
       subst (λ (l : List (List ℕ)). AreValues p.sizes (mirrored_in w.history ++ v ∷ []) l)
@@ -254,23 +256,23 @@ module _ (stay : AnswersStay) (p : Setup) (at : ℕ) (station : ℕ) (asdu : Arr
       → IsLearnt p said w (mirrored_works at running v pieces w)
   command_report true v pieces command value =
       let s : State = mirrored v at w.serial.commands in
-      let tells : History = told (Mirror v at) w in
+      let matches : History = logged (Mirror v at) w in
       record {
         line = refl;
         silent = refl;
-        told = λ k. keeping (line_told k) (line_ignores k) pieces s tells;
+        logged = λ k. keeping (line_logged k) (line_ignores k) pieces s matches;
         fits = λ f. kept_fit stay p pieces s (one_fits stay p (Mirror v at) (tasks_of w) tt f);
         mirrors = λ rs h. subst (λ (vs : List AsduValue). AreValues p.sizes vs
             (command_reports p.sizes (rs ++ (station, asdu.items) ∷ [])))
-            (sym (keeping mirrored_in mirrors_ignore pieces s tells))
+            (sym (keeping mirrored_in mirrors_ignore pieces s matches))
             (more_mirrored v rs command value h);
-        judged = keeping judged_in judged_ignore pieces s tells;
+        judged = keeping judged_in judged_ignore pieces s matches;
         skips = λ rs h. h ∙ ap saturated (sym (skip_none p.sizes station asdu.items rs command));
       }
   command_report false v pieces command value = record {
     line = refl;
     silent = refl;
-    told = λ k. refl;
+    logged = λ k. refl;
     fits = λ f. one_fits stay p (Mirror v at) (tasks_of w) tt f;
     mirrors = λ rs h. more_mirrored v rs command value h;
     judged = refl;
@@ -311,20 +313,20 @@ learnt_of stay p at running (outcome.Report station asdu) w z h =
 
 -- the same is told of the line, of stations' answers and of what waits
 pub record IsQuiet (p : Setup) (w z : Works) : Type 0 where
-  pub told : (k : ℕ) → line_told k (all_told z) ≡ line_told k (all_told w)
-  pub left : IsAllTold w → IsAllTold z
+  pub logged : (k : ℕ) → line_logged k (all_logged z) ≡ line_logged k (all_logged w)
+  pub left : IsAllLogged w → IsAllLogged z
   pub mirrors : mirrored_in z.history ≡ mirrored_in w.history
   pub fits : WaitsFit p w.serial.commands → WaitsFit p z.serial.commands
   pub skips : z.serial.counts.skipped ≡ w.serial.counts.skipped
 
-pub heard_quiet : (stay : AnswersStay) (p : Setup) (frame : Apdu) (now : ℕ) (wall : Option ℕ)
+pub received_quiet : (stay : AnswersStay) (p : Setup) (frame : Apdu) (now : ℕ) (wall : Option ℕ)
     (w : Works) → Fits frame
-    → IsQuiet p w (heard_works frame now wall w)
-heard_quiet stay p (I ns nr asdu) now wall w fits =
+    → IsQuiet p w (received_works frame now wall w)
+received_quiet stay p (I ns nr asdu) now wall w fits =
     let s : State = w.serial.commands in
     record {
-      told = λ k. told_alike k w.serial.silent w (heard_works (I ns nr asdu) now wall w)
-          (judging (line_told k) (line_ignores k) asdu.items now wall w);
+      logged = λ k. logged_alike k w.serial.silent w (received_works (I ns nr asdu) now wall w)
+          (judging (line_logged k) (line_ignores k) asdu.items now wall w);
       left = λ h. h;
       mirrors = judging mirrored_in mirrors_ignore asdu.items now wall w;
       fits = λ f. kept_fit stay p (listed (judged asdu.items now wall s).0)
@@ -332,16 +334,16 @@ heard_quiet stay p (I ns nr asdu) now wall w fits =
           (one_fits stay p (Judge asdu.items now wall) (tasks_of w) fits.2 f);
       skips = refl;
     }
-heard_quiet stay p (S nr) now wall w fits = record {
-  told = λ k. refl;
+received_quiet stay p (S nr) now wall w fits = record {
+  logged = λ k. refl;
   left = λ h. h;
   mirrors = refl;
   fits =
       λ f. f;
   skips = refl;
 }
-heard_quiet stay p (U u) now wall w fits = record {
-  told = λ k. refl;
+received_quiet stay p (U u) now wall w fits = record {
+  logged = λ k. refl;
   left = λ h. h;
   mirrors = refl;
   fits =
@@ -349,20 +351,21 @@ heard_quiet stay p (U u) now wall w fits = record {
   skips = refl;
 }
 
-pub heard_line : (frame : Apdu) (now : ℕ) (wall : Option ℕ) (w : Works)
-    → (heard_works frame now wall w).serial.line ≡ w.serial.line
-heard_line frame now wall w = refl
+pub received_line : (frame : Apdu) (now : ℕ) (wall : Option ℕ) (w : Works)
+    → (received_works frame now wall w).serial.line ≡ w.serial.line
+received_line frame now wall w = refl
 
 -- the ASDU of an I frame, and what the wall clock shows
 abbrev pub judged_by : Apdu → Option ℕ → List (List ℕ × Option ℕ)
 judged_by (I ns nr asdu) wall = (asdu.items, wall) ∷ []
 judged_by frame wall = []
 
-pub heard_judged : (frame : Apdu) (now : ℕ) (wall : Option ℕ) (w : Works)
-    → judged_in (heard_works frame now wall w).history ≡ judged_in w.history ++ judged_by frame wall
-heard_judged (I ns nr asdu) now wall w = judging judged_in judged_ignore asdu.items now wall w
-heard_judged (S nr) now wall w = sym (append-nil (judged_in w.history))
-heard_judged (U u) now wall w = sym (append-nil (judged_in w.history))
+pub received_judged : (frame : Apdu) (now : ℕ) (wall : Option ℕ) (w : Works)
+    → judged_in (received_works frame now wall w).history ≡ judged_in w.history
+    ++ judged_by frame wall
+received_judged (I ns nr asdu) now wall w = judging judged_in judged_ignore asdu.items now wall w
+received_judged (S nr) now wall w = sym (append-nil (judged_in w.history))
+received_judged (U u) now wall w = sym (append-nil (judged_in w.history))
 
 pub sent_quiet : (stay : AnswersStay) (p : Setup) (frame : Apdu) (w : Works)
     → IsQuiet p w (sent_works frame w)
@@ -370,7 +373,7 @@ sent_quiet stay p (I ns nr asdu) w = go (has_objects asdu.items)
   where
     go : (b : Bool) → IsQuiet p w (if b then w else answered_works w)
     go true = record {
-      told = λ k. refl;
+      logged = λ k. refl;
       left = λ h. h;
       mirrors = refl;
       fits = λ f. f;
@@ -378,8 +381,8 @@ sent_quiet stay p (I ns nr asdu) w = go (has_objects asdu.items)
           refl;
     }
     go false = record {
-      told = λ k. told_alike k w.serial.silent w (answered_works w)
-          (sending_own (line_told k) (line_ignores k) w);
+      logged = λ k. logged_alike k w.serial.silent w (answered_works w)
+          (sending_own (line_logged k) (line_ignores k) w);
       left = λ h. h;
       mirrors =
           sending_own mirrored_in mirrors_ignore w;
@@ -387,7 +390,7 @@ sent_quiet stay p (I ns nr asdu) w = go (has_objects asdu.items)
       skips = refl;
     }
 sent_quiet stay p (S nr) w = record {
-  told = λ k. refl;
+  logged = λ k. refl;
   left = λ h. h;
   mirrors = refl;
   fits =
@@ -395,7 +398,7 @@ sent_quiet stay p (S nr) w = record {
   skips = refl;
 }
 sent_quiet stay p (U u) w = record {
-  told = λ k. refl;
+  logged = λ k. refl;
   left = λ h. h;
   mirrors = refl;
   fits =
@@ -425,7 +428,7 @@ sent_judged (U u) w = refl
 pub settled_quiet : (stay : AnswersStay) (p : Setup) (at : ℕ) (w : Works)
     → IsQuiet p w (settled_works at w)
 settled_quiet stay p at w = record {
-  told = λ k. refl;
+  logged = λ k. refl;
   left = λ h due. refl;
   mirrors = answers w.serial.silent;
   fits =
@@ -433,7 +436,7 @@ settled_quiet stay p at w = record {
   skips = count w.serial.silent;
 }
   where
-    answers : (o : Option ℕ) → mirrored_in (told_silent o w) ≡ mirrored_in w.history
+    answers : (o : Option ℕ) → mirrored_in (logged_silent o w) ≡ mirrored_in w.history
     answers None = refl
     answers (Some station) = refl
 
@@ -457,7 +460,7 @@ pub settled_judged : (at : ℕ) (w : Works) → judged_in (settled_works at w).h
     ≡ judged_in w.history
 settled_judged at w = go w.serial.silent
   where
-    go : (o : Option ℕ) → judged_in (told_silent o w) ≡ judged_in w.history
+    go : (o : Option ℕ) → judged_in (logged_silent o w) ≡ judged_in w.history
     go None = refl
     go (Some station) = refl
 
@@ -476,54 +479,55 @@ module _ (laws : LinkLaws) (settings : LinkSettings) (addresses : List ℕ) (e :
 
   offers_upto : (n : ℕ) (ws : List Waiting) (q : Primary) → n ≤ length q.stations
       → AllFitLine settings.size ws
-      → Tells settings addresses q e → Tells settings addresses (offered_upto n ws q) e
+      → Matches settings addresses q e → Matches settings addresses (offered_upto n ws q) e
   offers_upto zero ws q within fits t = t
   offers_upto (suc k) ws q within fits t = by_oldest (oldest k ws) refl
       (offers_upto k ws q (omega (arith, within)) fits t)
     where
       by_oldest : (o : Option Waiting) → oldest k ws ≡ o
-          → Tells settings addresses (offered_upto k ws q) e
-          → Tells settings addresses (offered_by o k (offered_upto k ws q)) e
+          → Matches settings addresses (offered_upto k ws q) e
+          → Matches settings addresses (offered_by o k (offered_upto k ws q)) e
       by_oldest None is t = t
       by_oldest (Some w) is t = laws.offer settings addresses (offered_upto k ws q) e k w.octets
           (omega (arith, within, count_upto k ws q))
           (subst (λ (s : LinkSettings). IsUserData s.size w.octets) (sym t.settings_are)
           (oldest_fits settings.size k ws w fits is)) t
 
-  pub offers_tell : (ws : List Waiting) (q : Primary) → AllFitLine settings.size ws
-      → Tells settings addresses q e
-      → Tells settings addresses (offered_upto (length q.stations) ws q) e
-  offers_tell ws q fits t = offers_upto (length q.stations) ws q (omega arith) fits t
+  pub offers_log : (ws : List Waiting) (q : Primary) → AllFitLine settings.size ws
+      → Matches settings addresses q e
+      → Matches settings addresses (offered_upto (length q.stations) ws q) e
+  offers_log ws q fits t = offers_upto (length q.stations) ws q (omega arith) fits t
 
 -- A command goes out
 
-pub put_told : (first : Bool) (station : ℕ) (request : Asked) (w : Works) (k : ℕ)
+pub put_logged : (first : Bool) (station : ℕ) (request : Asked) (w : Works) (k : ℕ)
     → (first ≡ true → is_command request ≡ true) →
     ((fcb : Bool) (asdu : List ℕ) → request ≡ Counted fcb (Command asdu) → first ≡ true
     → octets_waiting station w.serial.commands ≡ Some asdu) →
-    line_told k (told_put first station w)
-    ≡ line_told k (told_asked first station request w.history)
-put_told false station request w k command waits = refl
-put_told true station Status w k command waits = let no : is_command Status ≡ true = command refl in
+    line_logged k (logged_put first station w)
+    ≡ line_logged k (logged_asked first station request w.history)
+put_logged false station request w k command waits = refl
+put_logged true station Status w k command waits = let no : is_command Status ≡ true =
+    command refl in
     cc
-put_told true station Reset w k command waits = let no : is_command Reset ≡ true = command refl in
+put_logged true station Reset w k command waits = let no : is_command Reset ≡ true = command refl in
     cc
-put_told true station (Counted fcb Class1) w k command waits =
+put_logged true station (Counted fcb Class1) w k command waits =
     let no : is_command (Counted fcb Class1) ≡ true = command refl in cc
-put_told true station (Counted fcb Class2) w k command waits =
+put_logged true station (Counted fcb Class2) w k command waits =
     let no : is_command (Counted fcb Class2) ≡ true = command refl in cc
-put_told true station (Counted fcb (Command asdu)) w k command waits =
+put_logged true station (Counted fcb (Command asdu)) w k command waits =
     go (oldest_for station w.serial.commands) (waits fcb asdu refl refl)
   where
     go : (o : Option Waiting) → option_map (λ (w : Waiting). w.octets) o ≡ Some asdu
-        → line_told k (after_sending o station (tasks_of w)).history
-        ≡ line_told k (Sent station asdu ∷ w.history)
+        → line_logged k (after_sending o station (tasks_of w)).history
+        ≡ line_logged k (Sent station asdu ∷ w.history)
     go None e = cc
     go (Some x) e = let same : x.octets ≡ asdu = cc in
-        ap (λ (l : List ℕ). line_told k (Sent station l ∷ w.history)) same
+        ap (λ (l : List ℕ). line_logged k (Sent station l ∷ w.history)) same
 
 pub put_mirrors : (first : Bool) (station : ℕ) (w : Works)
-    → mirrored_in (told_put first station w) ≡ mirrored_in w.history
+    → mirrored_in (logged_put first station w) ≡ mirrored_in w.history
 put_mirrors false station w = refl
 put_mirrors true station w = go (oldest_for station w.serial.commands)
   where
@@ -532,7 +536,7 @@ put_mirrors true station w = go (oldest_for station w.serial.commands)
     go None = refl
     go (Some x) = refl
 
-pub put_judged : (first : Bool) (station : ℕ) (w : Works) → judged_in (told_put first station w)
+pub put_judged : (first : Bool) (station : ℕ) (w : Works) → judged_in (logged_put first station w)
     ≡ judged_in w.history
 put_judged false station w = refl
 put_judged true station w = go (oldest_for station w.serial.commands)

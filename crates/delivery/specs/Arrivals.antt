@@ -74,10 +74,10 @@ arrivals log connections = arrivals_by connections (present_logs log ∷ past_lo
 
 -- The wall clock
 
-abbrev pub TellsNoWall : Log → Type 0
-TellsNoWall [] = Unit {0}
-TellsNoWall (Came now (WallIs number) ∷ log) = ⊥
-TellsNoWall (entry ∷ log) = TellsNoWall log
+abbrev pub HasNoWall : Log → Type 0
+HasNoWall [] = Unit {0}
+HasNoWall (Came now (WallIs number) ∷ log) = ⊥
+HasNoWall (entry ∷ log) = HasNoWall log
 
 -- An event of the log told the wall clock, and by the latest such event it shows this at that
 -- moment: the number that the event told and the milliseconds since, in 64 bits.
@@ -86,8 +86,8 @@ pub record ShowsAt (log : Log) (at clock : ℕ) : Type 0 where
   pub now : ℕ
   pub number : ℕ
   pub before : Log
-  pub told : log ≡ since ++ Came now (WallIs number) ∷ before
-  pub latest_told : TellsNoWall since
+  pub logged : log ≡ since ++ Came now (WallIs number) ∷ before
+  pub latest_logged : HasNoWall since
   pub shows : clock
       ≡ min (number + (at - latest (Came now (WallIs number) ∷ before))) (2 ^ 64 - 1)
 

@@ -108,17 +108,17 @@ last_sent k (_ ∷ h) = last_sent k h
 
 -- what became of the commands to station k, and where what stood on its line was given up, the
 -- oldest first
-abbrev pub steps_told : ℕ → History → List LineStep
-steps_told k [] = []
-steps_told k (Sent j octets ∷ h) =
-    if k == j then steps_told k h ++ Begun octets ∷ [] else steps_told k h
-steps_told k (Accepted j ∷ h) =
-    if k == j then steps_told k h ++ Confirmed (last_sent k h) ∷ [] else steps_told k h
-steps_told k (Refused j a ∷ h) =
-    if k == j then steps_told k h ++ Busy (last_sent k h) ∷ [] else steps_told k h
-steps_told k (GivenUp j was ∷ h) =
-    if k == j then steps_told k h ++ Lost ∷ [] else steps_told k h
-steps_told k (_ ∷ h) = steps_told k h
+abbrev pub steps_logged : ℕ → History → List LineStep
+steps_logged k [] = []
+steps_logged k (Sent j octets ∷ h) =
+    if k == j then steps_logged k h ++ Begun octets ∷ [] else steps_logged k h
+steps_logged k (Accepted j ∷ h) =
+    if k == j then steps_logged k h ++ Confirmed (last_sent k h) ∷ [] else steps_logged k h
+steps_logged k (Refused j a ∷ h) =
+    if k == j then steps_logged k h ++ Busy (last_sent k h) ∷ [] else steps_logged k h
+steps_logged k (GivenUp j was ∷ h) =
+    if k == j then steps_logged k h ++ Lost ∷ [] else steps_logged k h
+steps_logged k (_ ∷ h) = steps_logged k h
 
 -- the commands sent to station k for the first time, the oldest first
 abbrev pub sent_to : ℕ → History → List (List ℕ)

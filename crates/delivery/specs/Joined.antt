@@ -8,15 +8,15 @@ use Rattle.asdu.specs.Asdu.{AsduValue, IsAsdu}
 use Rattle.link.specs.Counts.{saturated}
 use Rattle.link.specs.Delivery.{learnt, commands}
 use Rattle.link.specs.Requests.{FitsAddress}
-use Rattle.link.specs.Telling.{Tells}
+use Rattle.link.specs.Matching.{Matches}
 use Rattle.command.specs.History.{History, Mirrored}
 use Rattle.gateway.specs.Log.{Log}
 use Rattle.gateway.specs.Objects.{monitor_objects}
 use Rattle.gateway.specs.Reports.{Setup, AreFound, address_at}
 use Rattle.gateway.specs.Reports.{exchanges_of, exchanges_with, reports_in}
-use Rattle.gateway.specs.Works.{is_command_report, told_silent}
+use Rattle.gateway.specs.Works.{is_command_report, logged_silent}
 use Rattle.gateway.specs.Course.{Course, here_of}
-use Rattle.delivery.specs.Commands.{steps_in, steps_told, confirmed_by, first_sendings, sent_to}
+use Rattle.delivery.specs.Commands.{steps_in, steps_logged, confirmed_by, first_sendings, sent_to}
 use Rattle.delivery.specs.Commands.{judged_in, as_judged}
 use Rattle.delivery.specs.Arrivals.{arrivals}
 
@@ -62,19 +62,19 @@ AreValues sizes _ _ = ⊥
 -- The course of the log says of the line what its exchanges say.
 pub record IsJoined (p : Setup) (log : Log) (c : Course) : Type 0 where
   -- its primary station is what the exchanges make it
-  pub tells : Tells p.link p.addresses c.works.serial.line (exchanges_of p log)
+  pub matches : Matches p.link p.addresses c.works.serial.line (exchanges_of p log)
   -- What it tells of commands on each station's line, which of them was confirmed and which found
   -- the link busy, is what the exchanges show; and what stands on a line is given up exactly where
   -- they show that its link goes down. What silence takes down is told in the same step, once the
   -- event's frames are taken; so this is said of the history with what is still to be told.
-  pub steps : (k : ℕ) → steps_told k (told_silent c.works.serial.silent c.works)
+  pub steps : (k : ℕ) → steps_logged k (logged_silent c.works.serial.silent c.works)
       ≡ steps_in p.link (address_at p.addresses k) 0 None (exchanges_with p k log)
   -- once the step is done, nothing is
-  pub all_told : c.works.is_due ≡ false → c.works.serial.silent ≡ None
+  pub all_logged : c.works.is_due ≡ false → c.works.serial.silent ≡ None
   pub sent : (k : ℕ) → sent_to k c.works.history
       ≡ first_sendings (address_at p.addresses k) None (exchanges_with p k log)
   -- those confirmed are those that the exchanges told of as accepted by the outstation
-  pub confirmed : (k : ℕ) → confirmed_by (steps_told k c.works.history)
+  pub confirmed : (k : ℕ) → confirmed_by (steps_logged k c.works.history)
       ≡ commands (learnt (address_at p.addresses k) (exchanges_with p k log))
   -- the stations' answers to commands are, in order, the reports of command types that were taken
   pub mirrored : AreValues p.sizes (mirrored_in c.works.history)

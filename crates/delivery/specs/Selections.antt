@@ -41,16 +41,16 @@ AreAt at (Mirrored now v ∷ h) = (now ≡ at) × AreAt at h
 AreAt at (_ ∷ h) = AreAt at h
 
 -- What is told with each entry of the log bears the moment of that entry's step.
-abbrev pub TellsAtMoments : Log → History → Type 0
-TellsAtMoments [] h = AreAt 0 h
-TellsAtMoments (entry ∷ log) h =
+abbrev pub LogsAtMoments : Log → History → Type 0
+LogsAtMoments [] h = AreAt 0 h
+LogsAtMoments (entry ∷ log) h =
     (new : History) × (older : History) × (h ≡ new ++ older) × AreAt (latest (entry ∷ log)) new
-    × TellsAtMoments log older
+    × LogsAtMoments log older
 
 -- Selections of the course of a log
 pub record KeepsSelections (p : Setup) (log : Log) (c : Course) : Type 0 where
   -- its history bears the log's moments
-  pub moments : TellsAtMoments log c.works.history
+  pub moments : LogsAtMoments log c.works.history
   -- and by these each execute that was forwarded to a station that asks for selects had its select,
   -- with the latest confirmation less than select_ms before
   pub selected :

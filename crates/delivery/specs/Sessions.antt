@@ -27,13 +27,13 @@ LosesLastAtMost station s =
 -- Of these sessions, the first with this number, each that ended lost no report, or its number is
 -- told as a gap and it lost its last report at most; and no others are told. (A session goes on
 -- until its next answered reset: of the latest nothing is told.)
-abbrev pub LoseAsTold : (station number : ℕ) → List Session → (told : List ℕ) → Type 0
-LoseAsTold station number [] told = told ≡ []
-LoseAsTold station number (session ∷ []) told = told ≡ []
-LoseAsTold station number (session ∷ (next ∷ later)) told =
-    (LosesNone station session × LoseAsTold station (suc number) (next ∷ later) told)
-    ⊎ ((others : List ℕ) × (told ≡ saturated number ∷ others) × LosesLastAtMost station session
-    × LoseAsTold station (suc number) (next ∷ later) others)
+abbrev pub LoseAsReported : (station number : ℕ) → List Session → (logged : List ℕ) → Type 0
+LoseAsReported station number [] logged = logged ≡ []
+LoseAsReported station number (session ∷ []) logged = logged ≡ []
+LoseAsReported station number (session ∷ (next ∷ later)) logged =
+    (LosesNone station session × LoseAsReported station (suc number) (next ∷ later) logged)
+    ⊎ ((others : List ℕ) × (logged ≡ saturated number ∷ others) × LosesLastAtMost station session
+    × LoseAsReported station (suc number) (next ∷ later) others)
 
 -- how many of these have a gap: their latest request with a valid frame count bit is a poll that
 -- wasn't answered that it is served (functions 8 and 9, or the single character)

@@ -9,16 +9,16 @@ ghost use Rattle.link.specs.Delivery.{learnt, reports, HasReports, AcceptsSendin
 ghost use Rattle.link.specs.Delivery.{AcceptsAllSendings};
 ghost use Rattle.gateway.specs.Log.{Log};
 ghost use Rattle.gateway.specs.Reports.{Setup, address_at, exchanges_with};
-ghost use Rattle.gateway.specs.Gaps.{gaps_told};
+ghost use Rattle.gateway.specs.Gaps.{gaps_reported};
 ghost use Rattle.gateway.specs.Traffic.{IsFaithful, HasRested};
 ghost use Rattle.delivery.specs.Delivery.{IsHonest, IsSteady, reports_from, Delivers};
 ghost use Rattle.delivery.specs.Delivery.{before_sessions, sessions_of, IsIdle, IsOneLife};
 ghost use Rattle.delivery.specs.Sessions.{ended, given_in, taken_in, session_counts};
-ghost use Rattle.delivery.specs.Sessions.{LoseAsTold};
+ghost use Rattle.delivery.specs.Sessions.{LoseAsReported};
 
 use crate::commands::each_command_is_given_once;
 use link::{
-    commands_are_accepted, each_service_acts_once, gaps_are_ended_sessions, giving_up_is_told,
+    commands_are_accepted, each_service_acts_once, gaps_are_ended_sessions, giving_up_is_logged,
     reports_are_learnt, sessions_are_known,
 };
 
@@ -75,14 +75,14 @@ pub fn each_session_is_known()
 /// Where reports may be lost the log tells of it: between steps, each session of an honest
 /// outstation's link that ended lost no report, or is told as a gap, by its number from 1, and lost
 /// its last report at most. Nothing else is told as a gap.
-pub fn losses_are_told()
+pub fn losses_are_reported()
     ensures { (p : Setup) (log : Log) (i : ℕ) (turns : List Turn) → IsFaithful p log →
         HasRested p log → i < length p.addresses → IsHonest p log i turns →
-        LoseAsTold (address_at p.addresses i) 1 (sessions_of p log i turns) (gaps_told i log) }
+        LoseAsReported (address_at p.addresses i) 1 (sessions_of p log i turns) (gaps_reported i log) }
 {
     each_session_is_known();
     gaps_are_ended_sessions();
-    giving_up_is_told();
+    giving_up_is_logged();
 }
 
 /// Of the reports that the outstation gave in sessions that ended, at most as many were not taken

@@ -3,7 +3,7 @@
 //!
 //! Laws over every log of a gateway ([`gateway::drive`] promises that its log is faithful), with no
 //! body, since they hold of definitions. Upwards: [`nothing_is_lost`], and
-//! [`each_session_is_known`] for links that are reset on the way, where [`losses_are_told`] as gaps
+//! [`each_session_is_known`] for links that are reset on the way, where [`losses_are_reported`] as gaps
 //! and [`losses_have_gaps`] says how many there are at most. What comes of it to the control centre
 //! is one run, over closes and new connections: [`what_has_come_is_one_run`]. Downwards:
 //! [`each_command_is_given_once`]. Between them: [`the_course_is_the_logs`], that what the
@@ -29,6 +29,7 @@ pub use commands::{
     each_command_is_given_once, selections_end_in_time, settings_are_set_up, the_course_is_the_logs,
 };
 pub use laws::{
-    each_session_is_known, losses_are_told, losses_have_gaps, nothing_is_lost, silence_is_no_reset,
+    each_session_is_known, losses_are_reported, losses_have_gaps, nothing_is_lost,
+    silence_is_no_reset,
 };
 pub use received::what_has_come_is_one_run;

@@ -3,9 +3,9 @@ use Rattle.std.proofs.Common.{◌≡◌, ℕ, ◌+◌, List, [], ◌++◌, lengt
 use Rattle.std.proofs.Common.{ap, subst, IfSome}
 use Rattle.ft12.specs.declared.frame.LinkSize.{LinkSize}
 use Rattle.ft12.specs.declared.frame.Front.TheVariants as front
-use Rattle.ft12.specs.declared.assembling.Heard.{Heard}
-use Rattle.ft12.specs.declared.assembling.Heard.TheVariants as heard
-use Rattle.ft12.specs.Assembly.{Hears}
+use Rattle.ft12.specs.declared.assembling.Received.{Received}
+use Rattle.ft12.specs.declared.assembling.Received.TheVariants as arrived
+use Rattle.ft12.specs.Assembly.{Receives}
 use Rattle.ft12.specs.Reading.{IsProperBeginning}
 use Rattle.std.specs.Option.{option_map, ForSome}
 use Rattle.ft12.specs.declared.stage.Stage.{Stage}
@@ -21,12 +21,12 @@ use Rattle.ft12.proofs.Frames.{spelling_fits}
 use Rattle.ft12.proofs.Exact.{one_front}
 
 -- after nothing, the beginning of a frame isn't heard as anything else
-pub is_more : (size : LinkSize) (octets : List ℕ) (n : ℕ) (h : Heard)
+pub is_more : (size : LinkSize) (octets : List ℕ) (n : ℕ) (h : Received)
     (so_far after : Option (List ℕ))
     → IsProperBeginning size octets → so_far ≡ Some []
-    → IfSome so_far (λ before. Hears size before octets n h after) → h ≡ heard.More
-is_more size octets n h None after is e hears = let bad : ⊥ = cc in absurd bad
-is_more size octets n h (Some before) after is e hears = by h hears
+    → IfSome so_far (λ before. Receives size before octets n h after) → h ≡ arrived.More
+is_more size octets n h None after is e receives = let bad : ⊥ = cc in absurd bad
+is_more size octets n h (Some before) after is e receives = by h receives
   where
     nil : before ≡ []
     nil = cc
@@ -34,19 +34,19 @@ is_more size octets n h (Some before) after is e hears = by h hears
     same : before ++ octets ≡ octets
     same = ap (λ (x : List ℕ). x ++ octets) nil
 
-    by : (h : Heard) → Hears size before octets n h after → h ≡ heard.More
-    by heard.More hears = refl
-    by (heard.Frame f) hears =
+    by : (h : Received) → Receives size before octets n h after → h ≡ arrived.More
+    by arrived.More receives = refl
+    by (arrived.Frame f) receives =
         let P : List ℕ → Type 0 = λ x. IsFront size x (front.Whole f (length before + n)) in
         let bad = one_front size octets front.More (front.Whole f (length before + n)) is
-        (subst P same hears.0) in
+        (subst P same receives.0) in
         let no : ⊥ = cc in absurd no
-    by (heard.Never place why) hears =
+    by (arrived.Never place why) receives =
         let P : List ℕ → Type 0 = λ x. IsFront size x (front.Never place why) in
         let bad = one_front size octets front.More (front.Never place why) is
-        (subst P same hears.0) in
+        (subst P same receives.0) in
         let no : ⊥ = cc in absurd no
-    by heard.Deaf hears = absurd hears
+    by arrived.Deaf receives = absurd receives
 
 pub resumable : (size : LinkSize) (stage : Option Stage) (kept : List ℕ)
     → ForSome stage (λ s. IsStage size s kept)

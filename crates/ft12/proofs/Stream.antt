@@ -65,12 +65,12 @@ joined_at so_far piece x i joined lt =
     ∙ append_assoc so_far (take (i + 1) piece) (drop (i + 1) piece)
     ∙ ap (λ (l : List ℕ). so_far ++ l) (take-append-drop (i + 1) piece)
 
-pub heard_frame : (size : LinkSize) (so_far piece x y : List ℕ) (i : ℕ) (f : Frame) (n : ℕ)
+pub received_frame : (size : LinkSize) (so_far piece x y : List ℕ) (i : ℕ) (f : Frame) (n : ℕ)
     → x ≡ so_far ++ take i piece → i < length piece → IsProperBeginning size x
     → y ≡ x ++ get_or piece i 0 ∷ []
     → IsFront size y (Whole f n)
     → IsFront size (so_far ++ piece) (Whole f (length so_far + (i + 1)))
-heard_frame size so_far piece x y i f n joined lt proper pushed w =
+received_frame size so_far piece x y i f n joined lt proper pushed w =
     let w' : IsFront size (x ++ get_or piece i 0 ∷ []) (Whole f n) =
     subst (λ (l : List ℕ). IsFront size l (Whole f n)) pushed w in
     let n_is : n ≡ length so_far + (i + 1) = omega (
@@ -84,11 +84,11 @@ heard_frame size so_far piece x y i f n joined lt proper pushed w =
     subst (λ (k : ℕ). IsFront size (so_far ++ piece) (Whole f k)) n_is
     (subst (λ (l : List ℕ). IsFront size l (Whole f n)) (joined_at so_far piece x i joined lt) long)
 
-pub heard_never : (size : LinkSize) (so_far piece x y : List ℕ) (i place : ℕ) (why : Why)
+pub received_never : (size : LinkSize) (so_far piece x y : List ℕ) (i place : ℕ) (why : Why)
     → x ≡ so_far ++ take i piece
     → i < length piece → y ≡ x ++ get_or piece i 0 ∷ [] → IsFront size y (Never place why)
     → IsFront size (so_far ++ piece) (Never place why)
-heard_never size so_far piece x y i place why joined lt pushed r =
+received_never size so_far piece x y i place why joined lt pushed r =
     let r' : IsFront size (x ++ get_or piece i 0 ∷ []) (Never place why) =
     subst (λ (l : List ℕ). IsFront size l (Never place why)) pushed r in
     let long = never_longer size (x ++ get_or piece i 0 ∷ []) (drop (i + 1) piece) place why r' in

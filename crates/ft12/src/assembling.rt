@@ -3,8 +3,8 @@
 ghost use Rattle.std.specs.Prelude.{◌≡◌, ◌+◌, ◌-◌, ◌^◌, ◌≤◌, ◌<◌, ◌↔◌, ◌++◌, [], length, min};
 ghost use Rattle.std.specs.Prelude.{slice_index, Some, None, All};
 ghost use Rattle.std.specs.Prelude.{IfSome, IfNone, IsSome, OnOk, IsTrue, true, false};
-ghost use Rattle.ft12.specs.declared.assembling.Heard.TheVariants.{Deaf};
-ghost use Rattle.ft12.specs.Assembly.{Hears, HearsInner, looked_at, so_far_numbers};
+ghost use Rattle.ft12.specs.declared.assembling.Received.TheVariants.{Deaf};
+ghost use Rattle.ft12.specs.Assembly.{Receives, ReceivesInner, looked_at, so_far_numbers};
 ghost use Rattle.ft12.specs.Reading.{IsProperBeginning};
 ghost use Rattle.ft12.specs.Spelling.{IsOctet};
 
@@ -15,9 +15,9 @@ use std::alloc::AllocError;
 use std::marker::Model;
 
 /// What an assembler hears in a piece.
-// The frame is in it, as `apci` has none in its own (docs/DECISIONS.md, "What `Heard` has in it").
+// The frame is in it, as `apci` has none in its own (docs/DECISIONS.md, "What `Received` has in it").
 #[derive(Debug, PartialEq, Eq, Drop)]
-pub enum Heard {
+pub enum Received {
     /// A whole frame.
     Frame(Frame),
     /// The beginning of a frame, or nothing.
@@ -124,7 +124,7 @@ impl Assembler {
         let mut assembler = Assembler::new(size);
         // A whole frame would have been given out, so no assembler that was put has one.
         match assembler.feed(octets).1 {
-            Heard::More => Some(assembler),
+            Received::More => Some(assembler),
             _ => None,
         }
     }
@@ -147,9 +147,9 @@ impl Assembler {
     ///
     /// Where a frame ends in the piece, the octets after it are left to be fed again. Else all are
     /// taken. After `Never` all octets are taken and none is looked at, until `clear`.
-    pub fn feed(&mut self, piece: &[u8]) -> (usize, Heard)
+    pub fn feed(&mut self, piece: &[u8]) -> (usize, Received)
         ensures listening { IfSome self.old.so_far (λ so_far.
-            Hears self.old.size so_far piece.now result.0 result.1 self.new.so_far) }
+            Receives self.old.size so_far piece.now result.0 result.1 self.new.so_far) }
         ensures deaf { IfNone self.old.so_far
             ((result.0 ≡ length piece.now) × (result.1 ≡ Deaf) × (self.new.so_far ≡ None)) }
         ensures size { self.new.size ≡ self.old.size }
@@ -164,7 +164,7 @@ impl Assembler {
         // No frame is sought behind a fault: a station sends its next one only when it is asked
         // again, and the caller then clears.
         let Some(mut stage) = self.stage else {
-            return (piece.len(), Heard::Deaf);
+            return (piece.len(), Received::Deaf);
         };
         for (i, octet) in piece.iter().enumerate() {
             let octet = look(&mut self.looked, octet);
@@ -172,16 +172,16 @@ impl Assembler {
                 Step::More(next) => stage = next,
                 Step::Whole(bare) => {
                     self.stage = Some(Stage::Start);
-                    return (i + 1, Heard::Frame(bare.with_data(&mut self.kept)));
+                    return (i + 1, Received::Frame(bare.with_data(&mut self.kept)));
                 }
                 Step::Never(place, why) => {
                     self.stage = None;
-                    return (piece.len(), Heard::Never(place, why));
+                    return (piece.len(), Received::Never(place, why));
                 }
             }
         }
         self.stage = Some(stage);
-        (piece.len(), Heard::More)
+        (piece.len(), Received::More)
     }
 
     /// Takes octets of a piece up to the one at which the end of a frame is due, and says how many:
@@ -192,7 +192,7 @@ impl Assembler {
     /// Asks that the single character isn't next: `feed` hears that.
     pub fn feed_inner(&mut self, piece: &[u8]) -> usize
         requires { self.old.so_far ≡ Some [] → slice_index piece.now 0 ≡ 0xE5 → ⊥ }
-        ensures listening { IfSome self.old.so_far (λ so_far. HearsInner self.old.size so_far
+        ensures listening { IfSome self.old.so_far (λ so_far. ReceivesInner self.old.size so_far
             piece.now result self.old.looked self.new.looked self.new.so_far) }
         ensures deaf { IfNone self.old.so_far
             ((result ≡ length piece.now) × (self.new.so_far ≡ None)
@@ -209,7 +209,7 @@ impl Assembler {
     /// Takes a piece of one octet where one of data is due that isn't the last one: the commonest
     /// piece of a line that is read octet by octet. Else nothing changes.
     fn take_data(&mut self, piece: &[u8]) -> bool
-        ensures taken { result ≡ true → IfSome self.old.so_far (λ so_far. HearsInner self.old.size
+        ensures taken { result ≡ true → IfSome self.old.so_far (λ so_far. ReceivesInner self.old.size
             so_far piece.now 1 self.old.looked self.new.looked self.new.so_far) }
         ensures one { result ≡ true → length piece.now ≡ 1 }
         ensures listens { result ≡ true → self.old.so_far ≡ None → ⊥ }
@@ -236,7 +236,7 @@ impl Assembler {
     #[inline(always)]
     fn feed_stages(&mut self, piece: &[u8]) -> usize
         requires { self.old.so_far ≡ Some [] → slice_index piece.now 0 ≡ 0xE5 → ⊥ }
-        ensures listening { IfSome self.old.so_far (λ so_far. HearsInner self.old.size so_far
+        ensures listening { IfSome self.old.so_far (λ so_far. ReceivesInner self.old.size so_far
             piece.now result self.old.looked self.new.looked self.new.so_far) }
         ensures deaf { IfNone self.old.so_far
             ((result ≡ length piece.now) × (self.new.so_far ≡ None)

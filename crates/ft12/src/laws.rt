@@ -6,8 +6,8 @@ ghost use Rattle.ft12.specs.declared.frame.LinkSize.{LinkSize};
 ghost use Rattle.ft12.specs.declared.frame.Frame.{Frame};
 ghost use Rattle.ft12.specs.declared.frame.Why.{Why};
 ghost use Rattle.ft12.specs.declared.frame.Front.{Front};
-ghost use Rattle.ft12.specs.declared.assembling.Heard.{Heard};
-ghost use Rattle.ft12.specs.Assembly.{Hears, IsHeardWhole};
+ghost use Rattle.ft12.specs.declared.assembling.Received.{Received};
+ghost use Rattle.ft12.specs.Assembly.{Receives, IsReceivedWhole};
 ghost use Rattle.ft12.specs.Fronts.{front_of};
 ghost use Rattle.ft12.specs.Examples.{IsSpelledSo, IsRefusedSo, spelling_examples};
 ghost use Rattle.ft12.specs.Examples.{refusal_examples};
@@ -74,11 +74,11 @@ pub fn spoilt_lines_are_no_lines()
 /// An assembler that is fed the octets of a frame, with anything behind them, hears that frame,
 /// takes its octets and no more, and listens on: so it hears the frames of a stream one after
 /// another.
-pub fn frames_are_heard_one_after_another()
-    ensures { (size : LinkSize) (frame : Frame) (more : List ℕ) (n : ℕ) (heard : Heard)
+pub fn frames_are_received_one_after_another()
+    ensures { (size : LinkSize) (frame : Frame) (more : List ℕ) (n : ℕ) (arrived : Received)
         (after : Option (List ℕ)) → Fits size frame →
-        Hears size [] (spelling size frame ++ more) n heard after →
-        IsHeardWhole size frame n heard after }
+        Receives size [] (spelling size frame ++ more) n arrived after →
+        IsReceivedWhole size frame n arrived after }
 {}
 
 /// Each frame has these octets, whatever its control octet, address and data are, and however many

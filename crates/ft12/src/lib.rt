@@ -24,10 +24,10 @@ mod reading;
 mod stage;
 mod writing;
 
-pub use assembling::{Assembler, Heard};
+pub use assembling::{Assembler, Received};
 pub use frame::{Frame, FrameRef, Front, FrontRef, LinkSize, Why};
 pub use laws::{
-    frames_are_heard_one_after_another, frames_have_these_octets, front_is_computed,
+    frames_are_received_one_after_another, frames_have_these_octets, front_is_computed,
     no_spelling_begins_another, one_front, one_spelling, spellings_cancel,
     spoilt_lines_are_no_lines, worked_examples_hold,
 };

@@ -6,7 +6,7 @@ use Rattle.std.specs.List.{flat_map}
 use Rattle.std.specs.Bool.{OnTrue}
 use Rattle.std.proofs.Math.Seq.{drop-append_seam}
 use Rattle.events.specs.Queue.{kept}
-use Rattle.gateway.specs.Log.{Log, tell}
+use Rattle.gateway.specs.Log.{Log, with_news}
 use Rattle.gateway.specs.Runs.{UnlessDevice}
 use Rattle.gateway.specs.declared.runs.End.{End}
 use Rattle.gateway.specs.declared.runs.End.TheVariants.{Finished, Turns, Device}
@@ -46,42 +46,44 @@ accounted_at p s log a = record {
         (here_of a.course) s.centre.session s.centre.queue.sent s.centre.queue.unsent a.here.tied
         a.carries
 
-untold : (old : Option Log) → tell old [] ≡ old
-untold None = refl
-untold (Some log) = refl
+unlogged : (old : Option Log) → with_news old [] ≡ old
+unlogged None = refl
+unlogged (Some log) = refl
 
-pub accounted : (p : Setup) (s : State) (told : Option Log) → Follows p s told
-    → IfSome told (IsAccounted p s)
+pub accounted : (p : Setup) (s : State) (logged : Option Log) → Follows p s logged
+    → IfSome logged (IsAccounted p s)
 accounted p s None h = tt
 accounted p s (Some log) h = accounted_at p s log h.0
 
 -- and so after a step, unless the device failed
-pub step_accounted : (result : Bool) (p : Setup) (s : State) (told : Option Log)
-    → OnTrue result (Follows p s told)
-    → OnTrue result (IfSome told (IsAccounted p s))
-step_accounted true p s told h = accounted p s told h
-step_accounted false p s told h = tt
+pub step_accounted : (result : Bool) (p : Setup) (s : State) (logged : Option Log)
+    → OnTrue result (Follows p s logged)
+    → OnTrue result (IfSome logged (IsAccounted p s))
+step_accounted true p s logged h = accounted p s logged h
+step_accounted false p s logged h = tt
 
 -- the actions of each step keep their order
-pub ordered : (p : Setup) (s : State) (told : Option Log)
+pub ordered : (p : Setup) (s : State) (logged : Option Log)
     → ((log : Log) → IsFaithful p log → KeepsOrder log)
-    → Follows p s told → IfSome told KeepsOrder
+    → Follows p s logged → IfSome logged KeepsOrder
 ordered p s None law h = tt
 ordered p s (Some log) law h = law log (faithful p s log [] (resting log) h.0)
 
 -- at the end of a run, where no more has come
 pub ends_accounted : (e : End) (p : Setup) (s : State) (old new : Option Log) (news : Log)
     → Follows p s old
-    → new ≡ tell old news → news ≡ [] → UnlessDevice e (IfSome new (IsAccounted p s))
-ends_accounted Finished p s old new news h told none =
-    accounted p s new (subst (Follows p s) (sym (told ∙ ap (tell old) none ∙ untold old)) h)
-ends_accounted Turns p s old new news h told none = accounted p s new
-    (subst (Follows p s) (sym (told ∙ ap (tell old) none ∙ untold old)) h)
-ends_accounted Device p s old new news h told none = tt
+    → new ≡ with_news old news → news ≡ [] → UnlessDevice e (IfSome new (IsAccounted p s))
+ends_accounted Finished p s old new news h logged none =
+    accounted p s new (subst (Follows p s) (sym (logged ∙ ap (with_news old) none ∙ unlogged old))
+    h)
+ends_accounted Turns p s old new news h logged none = accounted p s new
+    (subst (Follows p s) (sym (logged ∙ ap (with_news old) none ∙ unlogged old)) h)
+ends_accounted Device p s old new news h logged none = tt
 
 -- at the end of a run the log is the one of the last step
-pub told_same : (old new : Option Log) (news : Log) → new ≡ tell old news → news ≡ [] → new ≡ old
-told_same old new news told none = told ∙ ap (tell old) none ∙ untold old
+pub logged_same : (old new : Option Log) (news : Log) → new ≡ with_news old news → news ≡ []
+    → new ≡ old
+logged_same old new news logged none = logged ∙ ap (with_news old) none ∙ unlogged old
 
 pub unless_device : (e : End) (P : Type 0) → P → UnlessDevice e P
 unless_device Finished P h = h

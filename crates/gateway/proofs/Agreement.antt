@@ -38,7 +38,8 @@ use Rattle.gateway.specs.State.{State, with_session, piece_sent, own_sent}
 use Rattle.gateway.specs.Works.{has_lacked_place, Works, answered_works}
 use Rattle.command.specs.State.{oldest}
 use Rattle.command.specs.History as happened
-use Rattle.gateway.specs.Course.{Course, here_of, came_frames, room_by, room_in, kind_of, told_sent}
+use Rattle.gateway.specs.Course.{Course, here_of, came_frames, room_by, room_in, kind_of}
+use Rattle.gateway.specs.Course.{logged_sent}
 use Rattle.gateway.specs.Course.{with_sent, HasSentAll, IsFlushed, IsUntouched, HasBegun}
 use Rattle.gateway.specs.Course.{IsNextData}
 use Rattle.gateway.specs.Course.{IsTouched, HasAsked}
@@ -373,7 +374,7 @@ turn_by p s log unjudged phase a flushing =
     by_phase Crowded f left asks answered = absurd f
     by_phase Timed f left asks answered = absurd f
     by_phase Asked f left asks answered =
-        inr (record { told = asks.2; in_time = answered; none = asks.0 })
+        inr (record { logged = asks.2; in_time = answered; none = asks.0 })
 
 -- no time runs out by what goes out at this moment
 
@@ -405,7 +406,7 @@ second_false true b h = absurd (false≢true (sym h))
 second_false false b h = h
 
 still_early : (t1 now moment : ℕ) (f : Apdu) (h : History) → 0 < t1 → moment ≡ now
-    → has_timed_out t1 now h ≡ false → has_timed_out t1 now (told_sent f moment h) ≡ false
+    → has_timed_out t1 now h ≡ false → has_timed_out t1 now (logged_sent f moment h) ≡ false
 still_early t1 now moment (I ns nr asdu) h some is early =
     let unacknowledged : Bool = talk.has_passed t1 now (talk.moments_of (talk.still_unacknowledged
     h)) in
@@ -431,7 +432,7 @@ still_early t1 now moment (U TestCon) h some is early = early
 -- where a frame goes out no answer is late still
 answered_out : (p : Setup) (phase : Phase) (log new : Log) (c d : Course) (f : Apdu) (moment : ℕ)
     → IsFlushing phase → 0 < p.session.t1 → latest new ≡ latest log → moment ≡ latest log
-    → d.talk ≡ told_sent f moment c.talk → IsAnswered phase p log c → IsAnswered phase p new d
+    → d.talk ≡ logged_sent f moment c.talk → IsAnswered phase p log c → IsAnswered phase p new d
 answered_out p Fresh log new c d f moment flushing some same clock is h = absurd flushing
 answered_out p Taking log new c d f moment flushing some same clock is h = absurd flushing
 answered_out p Judged log new c d f moment flushing some same clock is h = tt
@@ -448,13 +449,13 @@ went_out : (s t : Centre) (octets : Channel) (unjudged : List ℕ) (c : Connecti
     (f : Apdu)
     (h : Presently s octets unjudged c) → Fits f → session.is_open s.session ≡ true
     → session.is_open t.session ≡ session.is_open s.session → t.so_far ≡ s.so_far
-    → t.heard ≡ s.heard →
+    → t.arrived ≡ s.arrived →
     fs ≡ data_frames (f ∷ h.put) → length c.sent_frames ≤ length fs →
     Tied (record { sent_frames = fs; received_frames = c.received_frames }) t.session t.queue.sent
     → IsNumberedFrom 0 fs →
     Presently t (sending octets (spelling f)) unjudged
     (record { sent_frames = fs; received_frames = c.received_frames })
-went_out s t octets unjudged c fs f h fits on same so heard bears more tied numbered = record {
+went_out s t octets unjudged c fs f h fits on same so arrived bears more tied numbered = record {
   link = same ∙ h.link;
   none = λ off. absurd (false≢true (sym off ∙ sym h.link ∙ on));
   put = f ∷ h.put;
@@ -466,7 +467,7 @@ went_out s t octets unjudged c fs f h fits on same so heard bears more tied numb
   sent = bears;
   so_far = h.so_far;
   assembler = so ∙ h.assembler;
-  taken = heard ∙ h.taken;
+  taken = arrived ∙ h.taken;
   waits = h.waits;
   joined = h.joined;
   fit = h.fit;
@@ -748,7 +749,7 @@ after_own p s log unjudged asdu phase a flushing ready may on first fits =
 -- A call of the session leads from this session to that, and this frame goes out.
 pub record GoesOut (s t : Session) (moment : ℕ) (f : Apdu) : Type 0 where
   pub call : Call
-  pub made : (h : History) → after_call call (at s h) ≡ at t (told_sent f moment h)
+  pub made : (h : History) → after_call call (at s h) ≡ at t (logged_sent f moment h)
 
 -- the course once a frame without ASDU has gone out
 abbrev due_course : Apdu → (moment : ℕ) → Course → Course
@@ -820,4 +821,5 @@ after_due p s t log unjudged f phase a flushing next on fits none goes same = re
         a.clock
         (next_plain p log a.course f none next) (placed_in phase log _ flushing a.stands.placed
         (sym a.here.link
-        ∙ on)) (turn_by p s log unjudged phase a flushing) (goes.made a.course.talk) (a.here.so_far ++ unjudged, a.here.joined))
+        ∙ on)) (turn_by p s log unjudged phase a flushing) (goes.made a.course.talk)
+        (a.here.so_far ++ unjudged, a.here.joined))

@@ -89,5 +89,5 @@ between_steps p s log a = record {
       ∙ done_silent (latest log) (room_in p log a.course) a.course.works
       (none_silent p log a.course a.talk.course_runs);
   gap = none_left p s log a;
-  heard = a.here.taken;
+  arrived = a.here.taken;
 }

@@ -32,9 +32,10 @@ use Rattle.gateway.specs.Connections.{present}
 use Rattle.gateway.specs.Reports.{Setup}
 use Rattle.gateway.specs.Serial.{kept_until, listed, refusals, is_first_command, put_on_line}
 use Rattle.gateway.specs.Serial.{unless_silent}
-use Rattle.gateway.specs.Works.{Works, tasks_of, told_kept, is_command_report, mirrored_works}
-use Rattle.gateway.specs.Works.{LearnsReport, LearnsOf, heard_works, answered_works, told_silent}
-use Rattle.gateway.specs.Works.{settled_works, ready_works, unasked_works, done_works, told_put}
+use Rattle.gateway.specs.Works.{Works, tasks_of, logged_kept, is_command_report, mirrored_works}
+use Rattle.gateway.specs.Works.{LearnsReport, LearnsOf, received_works, answered_works}
+use Rattle.gateway.specs.Works.{logged_silent}
+use Rattle.gateway.specs.Works.{settled_works, ready_works, unasked_works, done_works, logged_put}
 use Rattle.gateway.specs.Works.{link_given_up_works, command_given_up_works}
 use Rattle.gateway.specs.Works.{commands_given_up_works_upto, restarted_works}
 use Rattle.link.specs.Carried.{awaits_command}
@@ -94,7 +95,7 @@ module _ (p : Setup) (at : ℕ) (Q : Run → Type 0) (one : (call : Call) (r : R
 
   keep : (xs : List (List ℕ)) (s : tasks.State) (h : History)
       → Q (record { state = s; history = h })
-      → Q (record { state = kept_until xs s; history = told_kept xs s h })
+      → Q (record { state = kept_until xs s; history = logged_kept xs s h })
   keep [] s h c = c
   keep (x ∷ xs) s h c =
       go (has_answer_place s) here (keep xs (tasks.offered x s) (Offered x (has_answer_place s) ∷ h)
@@ -109,12 +110,12 @@ module _ (p : Setup) (at : ℕ) (Q : Run → Type 0) (one : (call : Call) (r : R
           Q (record {
             state = kept_until xs (tasks.offered x s);
             history =
-                told_kept xs (tasks.offered x s) (Offered x (has_answer_place s) ∷ h);
+                logged_kept xs (tasks.offered x s) (Offered x (has_answer_place s) ∷ h);
           }) →
           Q (record {
             state = if b then kept_until xs (tasks.offered x s) else tasks.offered x s;
             history =
-                if b then told_kept xs (tasks.offered x s) (Offered x (has_answer_place s) ∷ h)
+                if b then logged_kept xs (tasks.offered x s) (Offered x (has_answer_place s) ∷ h)
                 else Offered x
                 (has_answer_place s) ∷ h;
           })
@@ -158,22 +159,22 @@ module _ (p : Setup) (at : ℕ) (Q : Run → Type 0) (one : (call : Call) (r : R
 
   -- Frames come and go
 
-  hear : (frame : Apdu) (wall : Option ℕ) (w : Works) → Fits frame → Q (tasks_of w)
-      → Q (tasks_of (heard_works frame at wall w))
-  hear (S nr) wall w fits c = c
-  hear (U u) wall w fits c = c
-  hear (I ns nr asdu) wall w fits c =
+  receive : (frame : Apdu) (wall : Option ℕ) (w : Works) → Fits frame → Q (tasks_of w)
+      → Q (tasks_of (received_works frame at wall w))
+  receive (S nr) wall w fits c = c
+  receive (U u) wall w fits c = c
+  receive (I ns nr asdu) wall w fits c =
       let soon : Run = after_call (Judge asdu.items at wall) (tasks_of w) in
       keep (listed (judged asdu.items at wall w.serial.commands).0) soon.state soon.history
       (one (Judge asdu.items at wall) (tasks_of w) (record { when = now_is; octets = fits.2 }) c)
 
-  pub hear_all : (frames : List Apdu) (wall : Option ℕ) (c : Course) → AllFit frames
+  pub receive_all : (frames : List Apdu) (wall : Option ℕ) (c : Course) → AllFit frames
       → Q (tasks_of c.works)
       → Q (tasks_of (with_frames p frames at wall c).works)
-  hear_all [] wall c fit made = made
-  hear_all (frame ∷ frames) wall c fit made =
-      hear frame wall (with_frames p frames at wall c).works fit.0
-      (hear_all frames wall c fit.1 made)
+  receive_all [] wall c fit made = made
+  receive_all (frame ∷ frames) wall c fit made =
+      receive frame wall (with_frames p frames at wall c).works fit.0
+      (receive_all frames wall c fit.1 made)
 
   answer : (w : Works) (x : List ℕ) → first_answer w.serial.commands.answers ≡ Some x
       → Q (tasks_of w)
@@ -201,7 +202,7 @@ module _ (p : Setup) (at : ℕ) (Q : Run → Type 0) (one : (call : Call) (r : R
   -- A step is done
 
   pub silence : (o : Option ℕ) (w : Works) → Q (tasks_of w)
-      → Q (record { state = (unless_silent o w.serial).commands; history = told_silent o w })
+      → Q (record { state = (unless_silent o w.serial).commands; history = logged_silent o w })
   silence None w c = c
   silence (Some k) w c = one (Lose k) (tasks_of w) (record { when = still; octets = tt }) c
 
@@ -209,7 +210,7 @@ module _ (p : Setup) (at : ℕ) (Q : Run → Type 0) (one : (call : Call) (r : R
   settle w c = one (Due at) (record {
     state = (unless_silent w.serial.silent w.serial).commands;
     history =
-        told_silent w.serial.silent w;
+        logged_silent w.serial.silent w;
   }) (record { when = now_is; octets = tt }) (silence w.serial.silent w c)
 
   pub finish : (room : Bool) (w : Works) → Q (tasks_of w) → Q (tasks_of (done_works at room w))
@@ -220,7 +221,7 @@ module _ (p : Setup) (at : ℕ) (Q : Run → Type 0) (one : (call : Call) (r : R
       go false = c
 
   pub put : (b : Bool) (k : ℕ) (w : Works) → Q (tasks_of w)
-      → Q (record { state = put_on_line b k w.serial.commands; history = told_put b k w })
+      → Q (record { state = put_on_line b k w.serial.commands; history = logged_put b k w })
   put false k w c = c
   put true k w c = subst Q (go (oldest_for k w.serial.commands) refl)
       (one (PutOnLine k) (tasks_of w) (record { when = still; octets = tt }) c)
@@ -305,7 +306,7 @@ module _ (p : Setup) (P : Log → Run → Type 0) (one : (log : Log) (call : Cal
       (left_so log now (LineIn octets) r.0 r.1 r.4 (all_so start log r.0 r.2)))
   all_so start (Came now (TcpIn octets) ∷ log) c r =
       let new : Log = Came now (TcpIn octets) ∷ log in
-      subst (So new) (sym r.5.taken) (hear_all p (latest new) (P new) (one new) r.5.frames _ _
+      subst (So new) (sym r.5.taken) (receive_all p (latest new) (P new) (one new) r.5.frames _ _
       (taken_fit p (Came (latest new) (TcpIn octets) ∷ log) (latest new) r.5.frames _ r.5.each)
       (left_so log now (TcpIn octets) r.0 r.1 r.4 (all_so start log r.0 r.2)))
   all_so start (Came now Opened ∷ log) c r =
@@ -334,7 +335,7 @@ module _ (p : Setup) (P : Log → Run → Type 0) (one : (log : Log) (call : Cal
       subst (So new) (sym r.3.put) (send p (latest new) (P new) (one new) log r.3.frame (latest log)
       r.0 r.3.next
       (next (Went now (TcpOut octets)) log (tasks_of r.0.works) (all_so start log r.0 r.2))) in
-      subst (So new) (sym r.4.taken) (hear_all p (latest new) (P new) (one new) r.4.frames _ r.1
+      subst (So new) (sym r.4.taken) (receive_all p (latest new) (P new) (one new) r.4.frames _ r.1
       (taken_fit p new (latest new) r.4.frames r.1 r.4.each) sent)
   all_so start (Went now (Closed cause) ∷ log) c r =
       let new : Log = Went now (Closed cause) ∷ log in

@@ -12,7 +12,7 @@ use Rattle.session.specs.declared.kinds.Close.TheVariants.{Stopped, Timeout, Own
 use Rattle.link.specs.declared.outcome.Outcome.{Outcome}
 use Rattle.link.specs.declared.outcome.Outcome.TheVariants as outcome
 use Rattle.link.specs.declared.settings.LinkSettings.{LinkSettings}
-use Rattle.link.specs.Exchanges.{Exchanges, Sending, no_exchanges, begun_by, heard_current}
+use Rattle.link.specs.Exchanges.{Exchanges, Sending, no_exchanges, begun_by, received_current}
 use Rattle.link.specs.Exchanges.{timed_current, given_up_at}
 use Rattle.link.specs.Carried.{awaits_command, awaits_command_in, given_up, given_up_upto}
 use Rattle.link.specs.Carried as line
@@ -20,7 +20,7 @@ use Rattle.link.specs.Requests.{IsUserData}
 use Rattle.link.specs.Runs.{Call, Next, Octets, Due, Withdraw, GivesUp, called, exchanged}
 use Rattle.link.specs.Runs.{MayCallAll, called_all, exchanged_all}
 use Rattle.link.specs.Primary.{Primary, asked, sending, withdrawn}
-use Rattle.link.specs.Telling.{Tells}
+use Rattle.link.specs.Matching.{Matches}
 use Rattle.link.specs.LineLaws.{LineLaws}
 use Rattle.command.specs.declared.waiting.Waiting.{Waiting}
 use Rattle.command.specs.State.{octets_waiting, oldest}
@@ -50,14 +50,14 @@ use Rattle.gateway.proofs.Restarting.{restarted_serial, restarted_due, done_due}
 use Rattle.gateway.proofs.Carrying.{IsForOne, line_is}
 use Rattle.gateway.proofs.Stations.{request_back}
 
--- what giving up the link to a station leaves of the exchanges, as `giving_up_is_told` says it
+-- what giving up the link to a station leaves of the exchanges, as `giving_up_is_logged` says it
 pub record GivesUpOne : Type 0 where
   pub awaits : (settings : LinkSettings) (addresses : List ℕ) (q : Primary) (e : Exchanges) (k : ℕ)
-      → Tells settings addresses q e
+      → Matches settings addresses q e
       → awaits_command q k ≡ awaits_command_in settings (front_of settings.size) addresses k e
   pub one : (settings : LinkSettings) (addresses : List ℕ) (q : Primary) (e : Exchanges) (k : ℕ)
-      → k < length q.stations → Tells settings addresses q e
-      → Tells settings addresses (given_up k q) (given_up_at k e)
+      → k < length q.stations → Matches settings addresses q e
+      → Matches settings addresses (given_up k q) (given_up_at k e)
 
 -- what waits is what was forwarded and wasn't sent, as `commands_are_forwarded` says it
 abbrev pub WaitingLaw : Type 0
@@ -94,7 +94,7 @@ pub record Leads (p : Setup) (q : Primary) (e : Exchanges) (calls : List Call) (
   pub may : MayCallAll q calls
   pub line : called_all q calls ≡ r
   pub exchanges : exchanged_all q calls e ≡ d
-  pub tells : Tells p.link p.addresses r d
+  pub matches : Matches p.link p.addresses r d
 
 pub leads_on : (p : Setup) (q r s : Primary) (e d f : Exchanges) (xs ys : List Call)
     → Leads p q e xs r d → Leads p r d ys s f → Leads p q e (xs ++ ys) s f
@@ -104,12 +104,12 @@ leads_on p q r s e d f xs ys h k = record {
   exchanges = exchanged_more q xs ys e
       ∙ ap (λ x. exchanged_all x ys (exchanged_all q xs e)) h.line
       ∙ ap (λ x. exchanged_all r ys x) h.exchanges ∙ k.exchanges;
-  tells = k.tells;
+  matches = k.matches;
 }
 
-leads_nowhere : (p : Setup) (q : Primary) (e : Exchanges) → Tells p.link p.addresses q e
+leads_nowhere : (p : Setup) (q : Primary) (e : Exchanges) → Matches p.link p.addresses q e
     → Leads p q e [] q e
-leads_nowhere p q e t = record { may = tt; line = refl; exchanges = refl; tells = t }
+leads_nowhere p q e t = record { may = tt; line = refl; exchanges = refl; matches = t }
 
 module _ (laws : Laws) (p : Setup) where
   -- What waits fits the line
@@ -135,7 +135,7 @@ module _ (laws : Laws) (p : Setup) where
       → n ≤ length q.stations → AllFitLine p.link.size ws
       → ((k : ℕ) → option_map (λ (w : Waiting). w.octets) (oldest k ws)
       ≡ next_octets p.sizes p.stations p.select_ms p.max_age_ms k h)
-      → Tells p.link p.addresses q e
+      → Matches p.link p.addresses q e
       → Leads p q e (offers p n h) (offered_upto n ws q) e
   offers_lead zero ws h q e within fit waits t = leads_nowhere p q e t
   offers_lead (suc k) ws h q e within fit waits t =
@@ -146,22 +146,22 @@ module _ (laws : Laws) (p : Setup) where
       (offer_of k (next_octets p.sizes p.stations p.select_ms p.max_age_ms k h)) before
       (subst (λ (o : Option (List ℕ)). Leads p so_far e (offer_of k o)
       (offered_by (oldest k ws) k so_far) e) (waits k)
-      (by_oldest so_far (omega (arith, within, count_upto laws.line k ws q)) before.tells
+      (by_oldest so_far (omega (arith, within, count_upto laws.line k ws q)) before.matches
       (oldest k ws) refl))
     where
-      by_oldest : (r : Primary) → k < length r.stations → Tells p.link p.addresses r e
+      by_oldest : (r : Primary) → k < length r.stations → Matches p.link p.addresses r e
           → (o : Option Waiting) → oldest k ws ≡ o
           → Leads p r e (offer_of k (option_map (λ (w : Waiting). w.octets) o)) (offered_by o k r) e
-      by_oldest r less tells None is = leads_nowhere p r e tells
-      by_oldest r less tells (Some w) is =
+      by_oldest r less matches None is = leads_nowhere p r e matches
+      by_oldest r less matches (Some w) is =
           let fits : IsUserData r.settings.size w.octets =
-          subst (λ (s : LinkSettings). IsUserData s.size w.octets) (sym tells.settings_are)
+          subst (λ (s : LinkSettings). IsUserData s.size w.octets) (sym matches.settings_are)
           (oldest_fits p.link.size k ws w fit is) in
           record {
             may = ((less, fits), tt);
             line = refl;
             exchanges = refl;
-            tells = laws.line.offer p.link p.addresses r e k w.octets less fits tells;
+            matches = laws.line.offer p.link p.addresses r e k w.octets less fits matches;
           }
 
   settled_line : (at : ℕ) (w : Works) → (settled_works at w).serial.line ≡ w.serial.line
@@ -205,7 +205,7 @@ module _ (laws : Laws) (p : Setup) where
       by_test false e = full _ _ e
 
   ready_leads : (at : ℕ) (w : Works) (e : Exchanges)
-      → Tells p.link p.addresses w.serial.line e
+      → Matches p.link p.addresses w.serial.line e
       → AllFitLine p.link.size w.serial.commands.waiting
       → ((k : ℕ) → octets_waiting k w.serial.commands
       ≡ next_octets p.sizes p.stations p.select_ms p.max_age_ms k w.history)
@@ -221,7 +221,7 @@ module _ (laws : Laws) (p : Setup) where
       w.serial.line e (omega arith) fit waits t))
 
   asking : (at : ℕ) (room : Bool) (w : Works) (e : Exchanges)
-      → Tells p.link p.addresses w.serial.line e
+      → Matches p.link p.addresses w.serial.line e
       → AllFitLine p.link.size w.serial.commands.waiting
       → ((k : ℕ) → octets_waiting k w.serial.commands
       ≡ next_octets p.sizes p.stations p.select_ms p.max_age_ms k w.history)
@@ -239,7 +239,7 @@ module _ (laws : Laws) (p : Setup) where
         may = (tt, tt);
         line = refl;
         exchanges = refl;
-        tells = laws.line.next p.link p.addresses q e at room ready.tells;
+        matches = laws.line.next p.link p.addresses q e at room ready.matches;
       })
 
   asks : (log : Log) (c : Course) → Runs p log c → HasTakenAll (present log) c.talk
@@ -287,7 +287,7 @@ module _ (laws : Laws) (p : Setup) where
 
   ends : (log : Log) (before after : Course) → Runs p log before
       → HasTakenAll (present log) before.talk → IsLeft p log before after
-      → Tells p.link p.addresses before.works.serial.line (exchanges_of p log)
+      → Matches p.link p.addresses before.works.serial.line (exchanges_of p log)
       → Ends log before.works.serial.line (exchanges_of p log) after.works.serial.line
   ends log before after r all left t =
       subst (λ (d : Course). Ends log before.works.serial.line (exchanges_of p log)
@@ -327,7 +327,7 @@ module _ (laws : Laws) (p : Setup) where
   -- A restart
 
   give_up_leads : (n : ℕ) (q : Primary) (e : Exchanges) → n ≤ length q.stations
-      → Tells p.link p.addresses q e
+      → Matches p.link p.addresses q e
       → (length (line.commands_given_up_upto n q).stations ≡ length q.stations)
       × Leads p q e (give_ups p n e) (line.commands_given_up_upto n q)
       (given_up_upto p.link (front_of p.link.size) p.addresses n e)
@@ -340,8 +340,8 @@ module _ (laws : Laws) (p : Setup) where
       let b : Bool =
       awaits_command_in p.link (front_of p.link.size) p.addresses k shown in
       let same : awaits_command so_far k ≡ b =
-      laws.gives_up.awaits p.link p.addresses so_far shown k before.1.tells in
-      let last = by_awaited so_far shown less before.1.tells b in (
+      laws.gives_up.awaits p.link p.addresses so_far shown k before.1.matches in
+      let last = by_awaited so_far shown less before.1.matches b in (
         ap (λ (c : Bool). length (if c then given_up k so_far else so_far).stations) same
             ∙ last.0 ∙ before.0,
         leads_on p q so_far (if awaits_command so_far k then given_up k so_far else so_far) e shown
@@ -353,20 +353,20 @@ module _ (laws : Laws) (p : Setup) where
       )
     where
       by_awaited : (r : Primary) (d : Exchanges) → k < length r.stations
-          → Tells p.link p.addresses r d → (b : Bool)
+          → Matches p.link p.addresses r d → (b : Bool)
           → (length (if b then given_up k r else r).stations ≡ length r.stations)
           × Leads p r d (if b then GivesUp k ∷ [] else []) (if b then given_up k r else r)
           (if b then given_up_at k d else d)
-      by_awaited r d less tells true = (
+      by_awaited r d less matches true = (
         laws.for_one.number r k,
         record {
           may = (less, tt);
           line = refl;
           exchanges = refl;
-          tells = laws.gives_up.one p.link p.addresses r d k less tells;
+          matches = laws.gives_up.one p.link p.addresses r d k less matches;
         },
       )
-      by_awaited r d less tells false = (refl, leads_nowhere p r d tells)
+      by_awaited r d less matches false = (refl, leads_nowhere p r d matches)
 
   -- An event
 
@@ -394,7 +394,7 @@ module _ (laws : Laws) (p : Setup) where
       ap (λ (x : Works). x.serial.line) h
   learnt_line at running (outcome.Empty station) w z h = ap (λ (x : Works). x.serial.line) h
 
-  due_leads : (at : ℕ) (q : Primary) (e : Exchanges) → Tells p.link p.addresses q e
+  due_leads : (at : ℕ) (q : Primary) (e : Exchanges) → Matches p.link p.addresses q e
       → Leads p q e (Due at ∷ []) (called q (Due at))
       (record { ended = e.ended; current = timed_current p.link.answer_ms at e.current })
   due_leads at q e t = record {
@@ -404,26 +404,26 @@ module _ (laws : Laws) (p : Setup) where
       ended = e.ended;
       current = timed_current s.answer_ms at e.current;
     } in made) t.settings_are;
-    tells = laws.line.due p.link p.addresses q e at t;
+    matches = laws.line.due p.link p.addresses q e at t;
   }
 
-  octets_lead : (octets : List ℕ) (q : Primary) (e : Exchanges) → Tells p.link p.addresses q e
+  octets_lead : (octets : List ℕ) (q : Primary) (e : Exchanges) → Matches p.link p.addresses q e
       → Leads p q e (Octets octets ∷ []) (called q (Octets octets))
-      (record { ended = e.ended; current = heard_current octets e.current })
+      (record { ended = e.ended; current = received_current octets e.current })
   octets_lead octets q e t = record {
     may = (tt, tt);
     line = refl;
     exchanges = refl;
-    tells = laws.line.octets p.link p.addresses q e octets t;
+    matches = laws.line.octets p.link p.addresses q e octets t;
   }
 
-  withdraw_leads : (q : Primary) (e : Exchanges) → Tells p.link p.addresses q e
+  withdraw_leads : (q : Primary) (e : Exchanges) → Matches p.link p.addresses q e
       → Leads p q e (Withdraw ∷ []) (withdrawn q) e
   withdraw_leads q e t = record {
     may = (tt, tt);
     line = refl;
     exchanges = refl;
-    tells = laws.line.withdraw p.link p.addresses q e t;
+    matches = laws.line.withdraw p.link p.addresses q e t;
   }
 
   -- Each log
@@ -436,14 +436,14 @@ module _ (laws : Laws) (p : Setup) where
   come : (log : Log) (now : ℕ) (event : Input) (before left c : Course) → Runs p log before
       → HasTakenAll (present log) before.talk → IsLeft p log before left → Made log before
       → (r : Primary) → c.works.serial.line ≡ r
-      → (Tells p.link p.addresses left.works.serial.line (exchanges_of p log)
+      → (Matches p.link p.addresses left.works.serial.line (exchanges_of p log)
       → Leads p left.works.serial.line (exchanges_of p log)
       (event_calls p (latest (Came now event ∷ log)) event (exchanges_of p log)) r
       (exchanges_of p (Came now event ∷ log)))
       → Made (Came now event ∷ log) c
   come log now event before left c r all l made q is leads =
       let e : Ends log before.works.serial.line (exchanges_of p log) left.works.serial.line =
-      ends log before left r all l made.leads.tells in
+      ends log before left r all l made.leads.matches in
       let events : List Call =
       event_calls p (latest (Came now event ∷ log)) event (exchanges_of p log) in
       record {
@@ -455,10 +455,10 @@ module _ (laws : Laws) (p : Setup) where
             (exchanges_of p (Came now event ∷ log)) (made.calls ++ e.calls) events
             (leads_on p (new_line p) before.works.serial.line left.works.serial.line no_exchanges
             (exchanges_of p log) (exchanges_of p log) made.calls e.calls made.leads e.leads)
-            (leads e.leads.tells));
+            (leads e.leads.matches));
       }
 
-  connection_leads : (at : ℕ) (q : Primary) (e : Exchanges) → Tells p.link p.addresses q e
+  connection_leads : (at : ℕ) (q : Primary) (e : Exchanges) → Matches p.link p.addresses q e
       → Leads p q e (Due at ∷ Withdraw ∷ []) (withdrawn (called q (Due at)))
       (record { ended = e.ended; current = timed_current p.link.answer_ms at e.current })
   connection_leads at q e t =
@@ -468,31 +468,31 @@ module _ (laws : Laws) (p : Setup) where
       } in
       leads_on p q (called q (Due at)) (withdrawn (called q (Due at))) e timed timed (Due at ∷ [])
       (Withdraw ∷ []) (due_leads at q e t)
-      (withdraw_leads (called q (Due at)) timed (due_leads at q e t).tells)
+      (withdraw_leads (called q (Due at)) timed (due_leads at q e t).matches)
 
-  heard_leads : (octets : List ℕ) (at : ℕ) (q : Primary) (e : Exchanges)
-      → Tells p.link p.addresses q e
+  received_leads : (octets : List ℕ) (at : ℕ) (q : Primary) (e : Exchanges)
+      → Matches p.link p.addresses q e
       → Leads p q e (Octets octets ∷ Due at ∷ []) (called (called q (Octets octets)) (Due at))
       (record {
         ended = e.ended;
-        current = timed_current p.link.answer_ms at (heard_current octets e.current);
+        current = timed_current p.link.answer_ms at (received_current octets e.current);
       })
-  heard_leads octets at q e t =
-      let heard : Exchanges = record {
+  received_leads octets at q e t =
+      let arrived : Exchanges = record {
         ended = e.ended;
-        current = heard_current octets e.current;
+        current = received_current octets e.current;
       } in
-      let first : Leads p q e (Octets octets ∷ []) (called q (Octets octets)) heard =
+      let first : Leads p q e (Octets octets ∷ []) (called q (Octets octets)) arrived =
       octets_lead octets q e t in
-      leads_on p q (called q (Octets octets)) (called (called q (Octets octets)) (Due at)) e heard
-      (record { ended = e.ended; current = timed_current p.link.answer_ms at heard.current })
+      leads_on p q (called q (Octets octets)) (called (called q (Octets octets)) (Due at)) e arrived
+      (record { ended = e.ended; current = timed_current p.link.answer_ms at arrived.current })
       (Octets octets ∷ []) (Due at ∷ []) first
-      (due_leads at (called q (Octets octets)) heard first.tells)
+      (due_leads at (called q (Octets octets)) arrived first.matches)
 
   -- a connection is closed
 
   closes : (cause : Close) (is_open : Bool) (at : ℕ) (c : Course) (e : Exchanges)
-      → Tells p.link p.addresses c.works.serial.line e
+      → Matches p.link p.addresses c.works.serial.line e
       → Leads p c.works.serial.line e (action_calls (Closed cause))
       (closed_course p cause is_open at c).works.serial.line e
   closes Grammar is_open at c e t = withdraw_leads c.works.serial.line e t
@@ -522,7 +522,7 @@ module _ (laws : Laws) (p : Setup) where
       subst (λ (q : Primary). Leads p (new_line p) no_exchanges (made.calls ++ []) q
       (exchanges_of p log)) (sym same)
       (go log before [] before.works.serial.line (exchanges_of p log) made
-      (leads_nowhere p before.works.serial.line (exchanges_of p log) made.leads.tells))
+      (leads_nowhere p before.works.serial.line (exchanges_of p log) made.leads.matches))
 
   -- a request goes out
   sent : (found : AreFound p.addresses) (log : Log) (now : ℕ) (octets : List ℕ)
@@ -540,7 +540,7 @@ module _ (laws : Laws) (p : Setup) where
       let read : sending_in p octets ≡ Some sends.request =
       ap (sending_in p) sends.spelled_so
       ∙ request_back laws.line p q log room sends.request found
-      (ready_leads at w e made.leads.tells fit waits).tells sends.next in
+      (ready_leads at w e made.leads.matches fit waits).matches sends.next in
       let same : begun_by now (sending_in p octets) e ≡ begun_by at (sending q room) e =
       ap (λ (n : ℕ). begun_by n (sending_in p octets) e) moment
       ∙ ap (λ (o : Option Sending). begun_by at o e) (read ∙ sym sends.next) in
@@ -552,10 +552,10 @@ module _ (laws : Laws) (p : Setup) where
             (subst (λ (d : Exchanges). Leads p (new_line p) no_exchanges (made.calls ++ calls)
             (asked q at room) d) (sym same)
             (go log before calls (asked q at room) (begun_by at (sending q room) e) made
-            (asking at room w e made.leads.tells fit waits)));
+            (asking at room w e made.leads.matches fit waits)));
       }
 
-  pub makes : AreFound p.addresses → Tells p.link p.addresses (new_line p) no_exchanges
+  pub makes : AreFound p.addresses → Matches p.link p.addresses (new_line p) no_exchanges
       → (log : Log) (c : Course) → Runs p log c → ActsRightly p log → Made log c
   makes found starts [] c r acts = record {
     calls = [];
@@ -570,7 +570,7 @@ module _ (laws : Laws) (p : Setup) where
       (ap (λ (d : Course). d.works.serial.line) r.5.2
       ∙ ap (λ (q : Primary). called q (Due at))
       (learnt_line _ _ _ (octets_works octets r.1.works) r.5.0 r.5.1))
-      (heard_leads octets at r.1.works.serial.line (exchanges_of p log))
+      (received_leads octets at r.1.works.serial.line (exchanges_of p log))
   makes found starts (Came now (TcpIn octets) ∷ log) c r acts =
       let at : ℕ = latest (Came now (TcpIn octets) ∷ log) in
       come log now (TcpIn octets) r.0 r.1 c r.2 r.3 r.4 (makes found starts log r.0 r.2 acts)
@@ -643,5 +643,5 @@ module _ (laws : Laws) (p : Setup) where
             (closed_course p cause (present log).is_open (latest log) r.0).works.serial.line
             (exchanges_of p log) made
             (closes cause (present log).is_open (latest log) r.0 (exchanges_of p log)
-            made.leads.tells));
+            made.leads.matches));
       }

@@ -26,7 +26,7 @@ use Rattle.gateway.specs.Connections.{Channel, no_channel, ends, present, past, 
 use Rattle.gateway.specs.Connections.{IsBehind, BeginsWithFault, IsConnection, AreConnections}
 use Rattle.gateway.specs.Reports.{Setup, address_at, exchanges_of, exchanges_with, taken_objects}
 use Rattle.gateway.specs.Reports.{taken_pieces, reports_in, parts_of_all}
-use Rattle.gateway.specs.Gaps.{gaps_told, gap_for}
+use Rattle.gateway.specs.Gaps.{gaps_reported, gap_for}
 use Rattle.gateway.specs.Traffic.{replaces, IsAtRest}
 use Rattle.command.specs.State as tasks
 use Rattle.gateway.specs.Serial as serial
@@ -43,7 +43,7 @@ use Rattle.link.specs.Turns.{station_at}
 use Rattle.link.specs.Procedure.{holds_command, link_after}
 use Rattle.link.specs.declared.procedure.Link.TheVariants.{Down}
 use Rattle.link.specs.Flags.{clear, flags_after}
-use Rattle.link.specs.Telling as telling
+use Rattle.link.specs.Matching as logging
 use Rattle.ft12.specs.Fronts.{front_of}
 use Rattle.command.specs.State.{octets_waiting, oldest}
 use Rattle.command.specs.declared.waiting.Waiting.{Waiting}
@@ -225,7 +225,7 @@ pub fresh : (s : Centre) (octets : Channel) → s.session.k < 32768 → session.
     ≡ octets.is_open
     → (octets.is_open ≡ false → octets ≡ no_channel) → octets.sent ≡ [] → octets.received ≡ []
     → is_transferring s.session ≡ false → s.session.next_received ≡ 0 → s.session.next_sent ≡ 0
-    → s.session.unacknowledged ≡ [] → s.queue.sent ≡ [] → s.so_far ≡ Some [] → s.heard ≡ None →
+    → s.session.unacknowledged ≡ [] → s.queue.sent ≡ [] → s.so_far ≡ Some [] → s.arrived ≡ None →
     Presently s octets [] new_connection
 fresh s octets small link none sent received stopped first next us queued so taken = record {
   link = link;
@@ -529,15 +529,15 @@ rested laws p s log a spent quiet = record {
   eager = λ on started room. sent_all p s log [] Asked a
       (spent (can (is_transferring s.centre.session) (a.here.tied.transferring
       ∙ started) (omega (arith, room, a.here.tied.unconfirmed.count, a.k))));
-  gaps = λ i. sym (append-nil (gaps_told i log))
-      ∙ ap (λ g. gaps_told i log ++ gap_for i g) (sym all_told) ∙ a.gaps i;
+  gaps = λ i. sym (append-nil (gaps_reported i log))
+      ∙ ap (λ g. gaps_reported i log ++ gap_for i g) (sym all_logged) ∙ a.gaps i;
   line = line_rests laws p s.serial.line log a.course (room_in p log a.course) a.line
       (none_left a.course.works.is_due refl) (here_of a.course ∷ a.course.earlier)
       (λ none. is_full p s log [] Asked a
       (no_room_means s.centre.queue (sym (same_room p s log [] Asked a) ∙ none)))
       served;
   asked = record {
-    told = a.stands.asks.2;
+    logged = a.stands.asks.2;
     in_time = a.stands.answered;
     none = a.stands.asks.0;
   };
@@ -563,8 +563,8 @@ rested laws p s log a spent quiet = record {
     room : Bool
     room = room_in p log a.course
 
-    all_told : s.serial.gap ≡ None
-    all_told = ap (λ (z : Serial). z.gap) a.stands.does ∙ gap_in Asked (latest log) room w
+    all_logged : s.serial.gap ≡ None
+    all_logged = ap (λ (z : Serial). z.gap) a.stands.does ∙ gap_in Asked (latest log) room w
         ∙ a.stands.asks.2
 
     out_none : (o : Option Outstanding) → IsOut o → primary.sending_from w.serial.line o room ≡ None
@@ -653,9 +653,9 @@ rested laws p s log a spent quiet = record {
         (omega (arith, within, a.line.count)) in
         let link : link_after p.link (address_at p.addresses i) Down (exchanges_with p i log)
         ≡ (station_at s.serial.line.stations i).link =
-        subst (λ (o : Option primary.Outstanding). telling.AreLinks
+        subst (λ (o : Option primary.Outstanding). logging.AreLinks
         (front_of p.link.size) p.link p.addresses s.serial.line.stations
-        (telling.past o (exchanges_of p log))) out
+        (logging.past o (exchanges_of p log))) out
         a.line.links i in
         let flags = a.line.flags i in
         let here = left_at_rest s.serial.line i (octets_waiting i s.serial.commands) left
@@ -670,7 +670,7 @@ rested laws p s log a spent quiet = record {
         by_exchanges : link_after p.link (address_at p.addresses i) Down (exchanges_with p i log)
             ≡ (station_at s.serial.line.stations i).link
             → flags_after (address_at p.addresses i) clear (exchanges_with p i log)
-            ≡ telling.flags_of (station_at s.serial.line.stations i) →
+            ≡ logging.flags_of (station_at s.serial.line.stations i) →
             (octets_waiting i s.serial.commands ≡ None) ⊎ ((station_at s.serial.line.stations i).dfc
             ≡ true)
             ⊎ (holds_poll (station_at s.serial.line.stations i).link ≡ true) →

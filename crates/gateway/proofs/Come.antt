@@ -9,26 +9,26 @@ use Rattle.asdu.specs.Asdu.{AsduValue}
 use Rattle.asdu.specs.InformationObjects.{InformationObject}
 use Rattle.asdu.specs.Translation.{parts}
 use Rattle.ft12.specs.Fronts.{front_of}
-use Rattle.link.specs.Exchanges.{heard_current, timed_current}
+use Rattle.link.specs.Exchanges.{received_current, timed_current}
 use Rattle.link.specs.Gaps.{gaps_at}
 use Rattle.link.specs.Offers.{offered_at}
 use Rattle.link.specs.Primary.{Primary, timed_out}
 use Rattle.link.specs.declared.outcome.Outcome.{Outcome}
 use Rattle.link.specs.declared.outcome.Outcome.TheVariants as outcome
-use Rattle.link.specs.Telling.{Tells, report_in, gap_in_outcome}
+use Rattle.link.specs.Matching.{Matches, report_in, gap_in_outcome}
 use Rattle.session.specs.Session.{is_transferring as is_transferring_of}
 use Rattle.gateway.specs.Objects.{objects, has_objects, monitor_objects, parts_of, typed_pieces}
 use Rattle.gateway.specs.Objects.{pieces_of_report}
 use Rattle.gateway.specs.Log.{Log, Input, LineIn, Opened, TcpIn, CutOff, Ticked, WallIs, Restarted}
 use Rattle.gateway.specs.Log.{Came, latest, last_moment}
 use Rattle.gateway.specs.Ports.{IsOfPort}
-use Rattle.gateway.specs.Gaps.{gaps_told}
+use Rattle.gateway.specs.Gaps.{gaps_reported}
 use Rattle.gateway.specs.Frames.{transfers}
 use Rattle.gateway.specs.Connections.{present}
 use Rattle.gateway.specs.Reports.{Setup, exchanges_of, taken_objects, taken_pieces, reports_in}
 use Rattle.gateway.specs.Reports.{parts_of_all}
 use Rattle.gateway.specs.Serial as serial
-use Rattle.gateway.specs.Serial.{Serial, mirrored, heard, heard_outcome}
+use Rattle.gateway.specs.Serial.{Serial, mirrored, arrived, answer_outcome}
 use Rattle.gateway.specs.Centre.{Centre, pushed}
 use Rattle.gateway.specs.State.{State, with_serial, at_moment, line_timed}
 use Rattle.gateway.specs.Works.{Works, has_lacked_place, is_command_report, LearnsOf, octets_works}
@@ -37,14 +37,14 @@ use Rattle.gateway.specs.Course.{Course, came_frames, room_in}
 use Rattle.gateway.specs.Phases.{resting, IsPlaced}
 use Rattle.link.specs.LineLaws.{LineLaws}
 use Rattle.gateway.specs.Steps as steps
-use Rattle.gateway.specs.Steps.{Keeps, Learns, HearsEvent}
-use Rattle.gateway.specs.Agrees.{Agrees, GapsTold, OffersWait, ArePlain}
+use Rattle.gateway.specs.Steps.{Keeps, Learns, ReceivesEvent}
+use Rattle.gateway.specs.Agrees.{Agrees, GapsReported, OffersWait, ArePlain}
 use Rattle.gateway.proofs.Working.{done_placed}
 use Rattle.gateway.proofs.Reached.{IsReached, left_reached}
 use Rattle.gateway.proofs.Offering.{offers_stay}
 use Rattle.gateway.proofs.Stations.{LineGoesOn, taken_grows, pieces_grow, parts_grow, after_octets}
 use Rattle.gateway.proofs.Stations.{after_moment}
-use Rattle.gateway.proofs.Learning.{left_of, at_rest_works, is_left, none_left, all_told, beside}
+use Rattle.gateway.proofs.Learning.{left_of, at_rest_works, is_left, none_left, all_logged, beside}
 use Rattle.gateway.proofs.Learning.{Learnt, learnt}
 
 -- The line's part of an event
@@ -168,26 +168,26 @@ kept p s t (outcome.Empty i) fits same h = kept_nothing p s t s.serial refl h.0
 abbrev pub Worked : Setup → Log → (at : ℕ) → Input → Course → Works → Type 0
 Worked p log at (LineIn octets) c z =
     (y : Works) × LearnsOf p at (transfers (came_frames c.talk))
-    (heard_outcome octets c.works.serial)
+    (answer_outcome octets c.works.serial)
     (octets_works octets c.works) y × (z ≡ begun_works at y)
 Worked p log at event c z = z ≡ begun_works at c.works
 
 -- the line's part has been done, and the log has the event
-pub record Heard (p : Setup) (s t : State) (old : Log) (now : ℕ) (event : Input) (left : Course)
+pub record Received (p : Setup) (s t : State) (old : Log) (now : ℕ) (event : Input) (left : Course)
     (fits : Bool) : Type 0 where
   pub pieces : List (List ℕ)
   pub centre : t.centre ≡ pushed pieces s.centre
   pub sizes : t.sizes ≡ s.sizes
   pub wall : t.wall ≡ s.wall
   pub clock : t.moment ≡ latest (Came now event ∷ old)
-  pub line : Tells p.link p.addresses t.serial.line (exchanges_of p (Came now event ∷ old))
+  pub line : Matches p.link p.addresses t.serial.line (exchanges_of p (Came now event ∷ old))
   pub z : Works
   pub worked : Worked p old (latest (Came now event ∷ old)) event left z
   pub does : t.serial ≡ z.serial
   pub due : z.is_due ≡ true
   pub full : fits ≡ false → has_lacked_place z.history ≡ true
   pub placed : fits ≡ true → has_lacked_place z.history ≡ has_lacked_place left.works.history
-  pub gaps : GapsTold p (Came now event ∷ old) t.serial.gap
+  pub gaps : GapsReported p (Came now event ∷ old) t.serial.gap
   pub offers : OffersWait t.serial.line t.serial.commands
   pub plain : ArePlain t.serial.commands.answers
   pub more : List InformationObject
@@ -200,74 +200,75 @@ pub record Heard (p : Setup) (s t : State) (old : Log) (now : ℕ) (event : Inpu
 
 module _ (p : Setup) (s t : State) (old : Log) (now : ℕ) (event : Input) (left : Course)
     (fits : Bool)
-    (h : Heard p s t old now event left fits) where
-  pub heard_session : t.centre.session ≡ s.centre.session
-  heard_session = ap (λ (c : Centre). c.session) h.centre
+    (h : Received p s t old now event left fits) where
+  pub received_session : t.centre.session ≡ s.centre.session
+  received_session = ap (λ (c : Centre). c.session) h.centre
 
-  pub heard_places : t.centre.queue.places ≡ s.centre.queue.places
-  heard_places = ap (λ (c : Centre). c.queue.places) h.centre
+  pub received_places : t.centre.queue.places ≡ s.centre.queue.places
+  received_places = ap (λ (c : Centre). c.queue.places) h.centre
 
-  pub heard_sent : t.centre.queue.sent ≡ s.centre.queue.sent
-  heard_sent = ap (λ (c : Centre). c.queue.sent) h.centre
+  pub received_sent : t.centre.queue.sent ≡ s.centre.queue.sent
+  received_sent = ap (λ (c : Centre). c.queue.sent) h.centre
 
-  pub heard_unsent : t.centre.queue.unsent ≡ s.centre.queue.unsent ++ h.pieces
-  heard_unsent = ap (λ (c : Centre). c.queue.unsent) h.centre
+  pub received_unsent : t.centre.queue.unsent ≡ s.centre.queue.unsent ++ h.pieces
+  received_unsent = ap (λ (c : Centre). c.queue.unsent) h.centre
 
 moments : (s : State) (log : Log) (now : ℕ) → s.moment ≡ latest log
     → (at_moment s now).moment ≡ max (latest log) (min now last_moment)
 moments s log now e = ap (λ m. max m (min now last_moment)) e
 
-heard_line : (laws : LineLaws) (p : Setup) (s t : State) (log : Log) (now : ℕ) (octets : List ℕ)
+received_line : (laws : LineLaws) (p : Setup) (s t : State) (log : Log) (now : ℕ) (octets : List ℕ)
     (fits : Bool)
     → (a : Agrees p s log [] (resting log)) → steps.Begins s now (LineIn octets) fits t
-    → Heard p s t log now (LineIn octets) (left_of p log a.course) fits
-heard_line laws p s t log now octets fits a b =
+    → Received p s t log now (LineIn octets) (left_of p log a.course) fits
+received_line laws p s t log now octets fits a b =
     let new : Log = Came now (LineIn octets) ∷ log in
     let at : ℕ = latest new in
-    let q : Primary = (heard octets s.serial).line in
-    let o : Outcome = heard_outcome octets s.serial in
-    let first : State = with_serial (heard octets s.serial) (at_moment s now) in
+    let q : Primary = (arrived octets s.serial).line in
+    let o : Outcome = answer_outcome octets s.serial in
+    let first : State = with_serial (arrived octets s.serial) (at_moment s now) in
     let clock : first.moment ≡ at = moments s log now a.clock in
     let left : Course = left_of p log a.course in
     let does : s.serial ≡ left.works.serial = at_rest_works p s log a in
     let transferring : Bool = transfers (came_frames left.talk) in
-    let k : Kept p first b.middle (report_in o) = kept p first b.middle o fits a.sizes b.hears in
+    let k : Kept p first b.middle (report_in o) = kept p first b.middle o fits a.sizes b.receives in
     let reached : IsReached p (beside first left.works.history left.works.is_due) =
-    subst (λ (x : Serial). IsReached p (record left.works { serial = heard octets x })) (sym does)
+    subst (λ (x : Serial). IsReached p (record left.works { serial = arrived octets x })) (sym does)
     (left_reached p log a.course left a.talk.course_runs (is_left p s log a)) in
     let l : Learnt p at transferring o first b.middle fits left.works.history left.works.is_due =
     learnt p at first left.works.history left.works.is_due a.talk.command_laws clock a.sizes reached
-    (none_left p s log a) a.plain transferring o b.middle fits a.here.tied.transferring b.hears in
-    let learns : LearnsOf p at transferring (heard_outcome octets left.works.serial)
+    (none_left p s log a) a.plain transferring o b.middle fits a.here.tied.transferring
+    b.receives in
+    let learns : LearnsOf p at transferring (answer_outcome octets left.works.serial)
     (octets_works octets left.works) l.z =
-    subst (λ (x : Serial). LearnsOf p at transferring (heard_outcome octets x)
-    (record left.works { serial = heard octets x }) l.z) does l.learns in
+    subst (λ (x : Serial). LearnsOf p at transferring (answer_outcome octets x)
+    (record left.works { serial = arrived octets x }) l.z) does l.learns in
     let on = subst (λ m. LineGoesOn p (timed_out q m) log new (report_in o)) (sym clock)
     (after_octets laws p s.serial.line log now octets a.line) in
     let moved : b.middle.moment ≡ at = k.moment ∙ clock in
     let timed : timed_out b.middle.serial.line b.middle.moment ≡ timed_out q at =
     ap (λ x. timed_out x b.middle.moment) k.line ∙ ap (timed_out q) moved in
-    subst (λ x. Heard p s x log now (LineIn octets) left fits) (sym b.times) (record {
+    subst (λ x. Received p s x log now (LineIn octets) left fits) (sym b.times) (record {
       pieces = k.pieces;
       centre = k.centre;
       sizes = k.sizes;
       wall = k.wall;
       clock = moved;
-      line = subst (λ x. Tells p.link p.addresses x (exchanges_of p new)) (ap (timed_out q) clock
-          ∙ sym timed) on.tells;
+      line = subst (λ x. Matches p.link p.addresses x (exchanges_of p new)) (ap (timed_out q) clock
+          ∙ sym timed) on.matches;
       z = begun_works at l.z;
       worked = (l.z, learns, refl);
       does = ap (λ m. serial.timed m b.middle.serial) moved ∙ ap (serial.timed at) l.serial;
       due = refl;
       full = l.full;
       placed = l.placed;
-      gaps = λ i. ap (λ g. gaps_told i log ++ g) (l.gap i)
-          ∙ ap (λ gs. gs ++ gap_in_outcome i o) (all_told p s log a i)
+      gaps = λ i. ap (λ g. gaps_reported i log ++ g) (l.gap i)
+          ∙ ap (λ gs. gs ++ gap_in_outcome i o) (all_logged p s log a i)
           ∙ sym (laws.due_gaps p.link.size p.addresses p.link.answer_ms at
           (record {
             ended = (exchanges_of p log).ended;
             current =
-                heard_current octets (exchanges_of p log).current;
+                received_current octets (exchanges_of p log).current;
           }) i
           ∙ laws.octets_gap p.link p.addresses s.serial.line (exchanges_of p log) octets i a.line);
       offers = offers_stay s.serial.line (timed_out b.middle.serial.line b.middle.moment)
@@ -275,7 +276,7 @@ heard_line laws p s t log now octets fits a b =
           b.middle.serial.commands
           (λ i. laws.timed_offers b.middle.serial.line b.middle.moment i
           ∙ ap (λ x. offered_at x i) k.line
-          ∙ laws.heard_offers (front_of s.serial.line.settings.size) s.serial.line octets i)
+          ∙ laws.received_offers (front_of s.serial.line.settings.size) s.serial.line octets i)
           l.waiting a.offers;
       plain = l.plain;
       more = flat_map (λ (r : ℕ × List ℕ). monitor_objects p.sizes r.1) (report_in o);
@@ -290,7 +291,7 @@ heard_line laws p s t log now octets fits a b =
 
 -- an event that isn't the line's
 abbrev NotOfLine : ℕ → Input → Setup → Log → Type 0
-NotOfLine now event p log = (middle t : State) (fits : Bool) → HearsEvent middle event fits t
+NotOfLine now event p log = (middle t : State) (fits : Bool) → ReceivesEvent middle event fits t
     → (t ≡ middle) × (fits ≡ true)
 
 only_time : (laws : LineLaws) (p : Setup) (s t : State) (log : Log) (now : ℕ) (event : Input)
@@ -303,25 +304,25 @@ only_time : (laws : LineLaws) (p : Setup) (s t : State) (log : Log) (now : ℕ) 
           timed_current p.link.answer_ms (latest (Came now event ∷ log))
           (exchanges_of p log).current;
     }
-    → steps.Begins s now event fits t → Heard p s t log now event (left_of p log a.course) fits
+    → steps.Begins s now event fits t → Received p s t log now event (left_of p log a.course) fits
 only_time laws p s t log now event fits a other works is b =
     let new : Log = Came now event ∷ log in
     let at : ℕ = latest new in
     let clock = moments s log now a.clock in
     let left : Course = left_of p log a.course in
     let first : State = at_moment s now in
-    let none = other first b.middle fits b.hears in
+    let none = other first b.middle fits b.receives in
     let same : t ≡ line_timed first = b.times ∙ ap line_timed none.0 in
     let on = after_moment laws p s.serial.line log new at is a.line in
     let timed : timed_out s.serial.line first.moment ≡ timed_out s.serial.line at =
     ap (timed_out s.serial.line) clock in
-    subst (λ x. Heard p s x log now event left fits) (sym same) (record {
+    subst (λ x. Received p s x log now event left fits) (sym same) (record {
       pieces = [];
       centre = none_pushed s.centre;
       sizes = refl;
       wall = refl;
       clock = clock;
-      line = subst (λ x. Tells p.link p.addresses x (exchanges_of p new)) (sym timed) on.tells;
+      line = subst (λ x. Matches p.link p.addresses x (exchanges_of p new)) (sym timed) on.matches;
       z = begun_works at left.works;
       worked = works at left (begun_works at left.works) refl;
       does = ap (λ m. serial.timed m s.serial) clock
@@ -344,28 +345,29 @@ only_time laws p s t log now event fits a other works is b =
     })
 
 -- the same for each event of a port
-pub heard_event : (laws : LineLaws) (p : Setup) (s t : State) (log : Log) (now : ℕ) (event : Input)
+pub received_event : (laws : LineLaws) (p : Setup) (s t : State) (log : Log) (now : ℕ)
+    (event : Input)
     (fits : Bool)
     → IsOfPort event → (a : Agrees p s log [] (resting log)) → steps.Begins s now event fits t
-    → Heard p s t log now event (left_of p log a.course) fits
-heard_event laws p s t log now (LineIn octets) fits of a b =
-    heard_line laws p s t log now octets fits a b
-heard_event laws p s t log now Opened fits of a b =
+    → Received p s t log now event (left_of p log a.course) fits
+received_event laws p s t log now (LineIn octets) fits of a b =
+    received_line laws p s t log now octets fits a b
+received_event laws p s t log now Opened fits of a b =
     only_time laws p s t log now Opened fits a (λ middle t fits h. h)
     (λ at c z is. is) refl b
-heard_event laws p s t log now (TcpIn octets) fits of a b =
+received_event laws p s t log now (TcpIn octets) fits of a b =
     only_time laws p s t log now (TcpIn octets) fits a (λ middle t fits h. h) (λ at c z is. is) refl
     b
-heard_event laws p s t log now CutOff fits of a b =
+received_event laws p s t log now CutOff fits of a b =
     only_time laws p s t log now CutOff fits a (λ middle t fits h. h)
     (λ at c z is. is) refl b
-heard_event laws p s t log now (WallIs number) fits of a b =
+received_event laws p s t log now (WallIs number) fits of a b =
     only_time laws p s t log now (WallIs number) fits a (λ middle t fits h. h) (λ at c z is. is)
     refl b
-heard_event laws p s t log now Ticked fits of a b =
+received_event laws p s t log now Ticked fits of a b =
     only_time laws p s t log now Ticked fits a (λ middle t fits h. h)
     (λ at c z is. is) refl b
-heard_event laws p s t log now Restarted fits of a b = absurd of
+received_event laws p s t log now Restarted fits of a b = absurd of
 
 -- what found a place before the event
 pub placed_before : (p : Setup) (s : State) (log : Log) (a : Agrees p s log [] (resting log))

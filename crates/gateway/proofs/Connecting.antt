@@ -5,7 +5,7 @@ use Rattle.std.proofs.Common.{length-append}
 use Rattle.std.specs.Prelude.{if◌then◌else◌}
 use Rattle.std.proofs.lemmas.List.{append-nil}
 use Rattle.link.specs.Primary.{withdrawn}
-use Rattle.link.specs.Telling.{Tells}
+use Rattle.link.specs.Matching.{Matches}
 use Rattle.session.specs.declared.kinds.Close.TheVariants.{Replaced}
 use Rattle.session.specs.Session as session
 use Rattle.command.specs.State as tasks
@@ -20,7 +20,7 @@ use Rattle.gateway.specs.Reports.{Setup, exchanges_of, taken_objects, taken_piec
 use Rattle.gateway.specs.Reports.{parts_of_all}
 use Rattle.gateway.specs.Traffic.{HasRested, IsFaithful}
 use Rattle.gateway.specs.declared.walls.Wall.{Wall}
-use Rattle.gateway.specs.Walls.{wall_told}
+use Rattle.gateway.specs.Walls.{last_wall}
 use Rattle.gateway.specs.Serial as serial
 use Rattle.gateway.specs.Centre.{Centre}
 use Rattle.gateway.specs.State.{State, disconnected, connected}
@@ -38,14 +38,15 @@ use Rattle.gateway.proofs.Closing.{Ended, ended, fresh, stands_now}
 use Rattle.gateway.proofs.Agreement.{in_order}
 use Rattle.gateway.proofs.Stations.{keeps_links}
 use Rattle.gateway.proofs.Learning.{left_of, is_left}
-use Rattle.gateway.proofs.Come.{kept, Worked, Heard, heard_sent, heard_unsent, placed_before}
+use Rattle.gateway.proofs.Come.{kept, Worked, Received, received_sent, received_unsent}
+use Rattle.gateway.proofs.Come.{placed_before}
 
 -- The connection's part
 
 -- the pieces kept are carried
 carried : (p : Setup) (s t : State) (old : Log) (now : ℕ) (event : Input) (left : Course)
     (fits : Bool)
-    (earlier : List Connection) (sent : List Sent) → Heard p s t old now event left fits
+    (earlier : List Connection) (sent : List Sent) → Received p s t old now event left fits
     → Carries (taken_objects p old) (parts_of_all p.sizes (reports_in p old)) (taken_pieces p old)
     earlier sent
     s.centre.queue.unsent →
@@ -64,7 +65,7 @@ carried p s t old now event left fits earlier sent h c =
     (subst (λ u. Carries (taken_objects p old ++ h.more)
     (parts_of_all p.sizes (reports_in p old) + length h.pieces) (taken_pieces p old ++ h.pieces)
     earlier sent u)
-    (sym (heard_unsent p s t old now event left fits h))
+    (sym (received_unsent p s t old now event left fits h))
     (carries_more (taken_objects p old) h.more (parts_of_all p.sizes (reports_in p old))
     (taken_pieces p old) earlier
     sent s.centre.queue.unsent h.pieces h.objects_are h.whole c))))
@@ -72,7 +73,7 @@ carried p s t old now event left fits earlier sent h c =
 -- the connection goes on as it was
 goes_on : (p : Setup) (s t : State) (old : Log) (now : ℕ) (event : Input) (left : Course)
     (fits : Bool)
-    (octets : Channel) (unjudged : List ℕ) (c : Connection) → Heard p s t old now event left fits
+    (octets : Channel) (unjudged : List ℕ) (c : Connection) → Received p s t old now event left fits
     → Presently s.centre octets unjudged c → Presently t.centre octets unjudged c
 goes_on p s t old now event left fits octets unjudged c h w =
     subst (λ x. Presently x octets unjudged c) (sym h.centre) (record {
@@ -139,10 +140,10 @@ abbrev pub walled : Option Wall → State → State
 walled wall t = record t { wall = wall }
 
 pub come_other : (p : Setup) (s t : State) (log : Log) (now : ℕ) (event : Input) (fits kept : Bool)
-    (wall : Option Wall) → wall ≡ wall_told (Came now event ∷ log) → Counts kept fits log
+    (wall : Option Wall) → wall ≡ last_wall (Came now event ∷ log) → Counts kept fits log
     → IsAside now event log
     → GoesOn now event log → HasRested p log → (a : Agrees p s log [] (resting log))
-    → (h : Heard p s t log now event (left_of p log a.course) fits) →
+    → (h : Received p s t log now event (left_of p log a.course) fits) →
     Agrees p (walled wall t) (Came now event ∷ log) [] (after_line kept)
 come_other p s t log now event fits kept wall shows counts aside on rest a h =
     let new : Log = Came now event ∷ log in
@@ -199,11 +200,11 @@ come_other p s t log now event fits kept wall shows counts aside on rest a h =
 
 -- with these works
 pub come_course : (p : Setup) (s t : State) (log : Log) (now : ℕ) (event : Input) (fits kept : Bool)
-    (wall : Option Wall) (shows : wall ≡ wall_told (Came now event ∷ log))
+    (wall : Option Wall) (shows : wall ≡ last_wall (Came now event ∷ log))
     (counts : Counts kept fits log)
     (aside : IsAside now event log) (on : GoesOn now event log) (rest : HasRested p log)
     (a : Agrees p s log [] (resting log))
-    → (h : Heard p s t log now event (left_of p log a.course) fits) →
+    → (h : Received p s t log now event (left_of p log a.course) fits) →
     (come_other p s t log now event fits kept wall shows counts aside on rest a h).course
     ≡ with_works h.z (left_of p log a.course)
 unfolding come_other
@@ -212,7 +213,7 @@ come_course p s t log now event fits kept wall shows counts aside on rest a h = 
 -- what the ended connection leaves in the queue, with the pieces kept since
 left_over : (p : Setup) (s t : State) (log : Log) (now : ℕ) (event : Input) (left : Course)
     (fits : Bool)
-    (earlier : List Connection) → Heard p s t log now event left fits
+    (earlier : List Connection) → Received p s t log now event left fits
     → Carries (taken_objects p log) (parts_of_all p.sizes (reports_in p log)) (taken_pieces p log)
     earlier []
     (queue.rewound s.centre.queue).unsent →
@@ -222,8 +223,8 @@ left_over : (p : Setup) (s t : State) (log : Log) (now : ℕ) (event : Input) (l
 left_over p s t log now event left fits earlier h c =
     let all : (queue.rewound t.centre.queue).unsent ≡ (queue.rewound s.centre.queue).unsent
     ++ h.pieces =
-    ap (λ q. q ++ t.centre.queue.unsent) (heard_sent p s t log now event left fits h)
-    ∙ ap (λ u. s.centre.queue.sent ++ u) (heard_unsent p s t log now event left fits h)
+    ap (λ q. q ++ t.centre.queue.unsent) (received_sent p s t log now event left fits h)
+    ∙ ap (λ u. s.centre.queue.sent ++ u) (received_unsent p s t log now event left fits h)
     ∙ sym (append_assoc s.centre.queue.sent s.centre.queue.unsent h.pieces) in
     subst (λ objs. Carries objs (parts_of_all p.sizes (reports_in p (Came now event ∷ log)))
     (taken_pieces p (Came now event ∷ log)) earlier [] (queue.rewound t.centre.queue).unsent)
@@ -246,7 +247,7 @@ left_over p s t log now event left fits earlier h c =
 module _ (laws : LineLaws) (p : Setup) (s t : State) (log : Log) (now : ℕ) (event : Input)
     (fits : Bool)
     (rest : HasRested p log) (a : Agrees p s log [] (resting log))
-    (h : Heard p s t log now event (left_of p log a.course) fits) where
+    (h : Received p s t log now event (left_of p log a.course) fits) where
   abbrev left : Course
   left = left_of p log a.course
 
@@ -269,7 +270,7 @@ module _ (laws : LineLaws) (p : Setup) (s t : State) (log : Log) (now : ℕ) (ev
       (queue.rewound t.centre.queue).unsent
   over_carries = left_over p s t log now event left fits over_course.earlier h over_ended.carries
 
-  over_line : Tells p.link p.addresses (withdrawn t.serial.line)
+  over_line : Matches p.link p.addresses (withdrawn t.serial.line)
       (exchanges_of p (Came now event ∷ log))
   over_line = laws.withdraw p.link p.addresses t.serial.line (exchanges_of p (Came now event ∷ log))
       h.line
@@ -283,7 +284,7 @@ module _ (laws : LineLaws) (p : Setup) (s t : State) (log : Log) (now : ℕ) (ev
 pub come_cut : (laws : LineLaws) (p : Setup) (s t : State) (log : Log) (now : ℕ) (fits : Bool)
     → HasRested p log
     → (a : Agrees p s log [] (resting log))
-    → (h : Heard p s t log now CutOff (left_of p log a.course) fits)
+    → (h : Received p s t log now CutOff (left_of p log a.course) fits)
     → Agrees p (disconnected t) (Came now CutOff ∷ log) [] Idle
 come_cut laws p s t log now fits rest a h =
     let new : Log = Came now CutOff ∷ log in
@@ -343,7 +344,8 @@ come_cut laws p s t log now fits rest a h =
 
 module _ (laws : LineLaws) (p : Setup) (s t : State) (log : Log) (now : ℕ) (fits : Bool)
     (rest : HasRested p log)
-    (a : Agrees p s log [] (resting log)) (h : Heard p s t log now Opened (left_of p log a.course)
+    (a : Agrees p s log [] (resting log))
+    (h : Received p s t log now Opened (left_of p log a.course)
     fits) where
   abbrev opened : Course
   opened = opened_course t.moment (over_course laws p s t log now Opened fits rest a h)
@@ -500,7 +502,7 @@ module _ (laws : LineLaws) (p : Setup) (s t : State) (log : Log) (now : ℕ) (fi
 pub come_bytes : (p : Setup) (s t : State) (log : Log) (now : ℕ) (octets : List ℕ) (fits : Bool)
     → fits ≡ true
     → HasRested p log → (a : Agrees p s log [] (resting log))
-    → Heard p s t log now (TcpIn octets) (left_of p log a.course) fits
+    → Received p s t log now (TcpIn octets) (left_of p log a.course) fits
     → Agrees p t (Came now (TcpIn octets) ∷ log) (if session.is_open t.centre.session then octets
     else []) Taking
 come_bytes p s t log now octets fits settled_fits rest a h =

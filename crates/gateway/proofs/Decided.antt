@@ -28,18 +28,18 @@ use Rattle.gateway.specs.Connections.{present, received_before, ends}
 use Rattle.gateway.specs.Streams.{spelled}
 use Rattle.gateway.specs.Reports.{Setup, address_at, exchanges_of, taken_objects}
 use Rattle.gateway.specs.Works.{has_lacked_place, restarted_works, done_works}
-use Rattle.gateway.specs.Course.{Course, came_frames, told_sent, room_in, sent_objects}
+use Rattle.gateway.specs.Course.{Course, came_frames, logged_sent, room_in, sent_objects}
 use Rattle.gateway.specs.Course.{IsFlushed, IsUntouched, HasBegun, HasNothingDue}
 use Rattle.gateway.specs.Course.{HasAnswered, HasAsked}
 use Rattle.gateway.specs.Course.{MayTake, IsNextData, IsNext, HandsOver, StandsNext, IsCause}
-use Rattle.gateway.specs.Course.{SendsNext, TellsGap, IsLeft, with_works, Runs}
+use Rattle.gateway.specs.Course.{SendsNext, ReportsGap, IsLeft, with_works, Runs}
 use Rattle.gateway.specs.Frames.{acknowledged_count}
 use Rattle.gateway.specs.Phases.{Asked, IsFresh}
 use Rattle.gateway.specs.Traffic.{replaces, GoesOut, ActsRightly, IsAtRest, HasRested}
 use Rattle.gateway.specs.Traffic.{RestsBetweenSteps, IsFaithful}
 use Rattle.gateway.proofs.Working.{answers_in}
 use Rattle.gateway.proofs.Restarting.{restarted_answers}
-use Rattle.gateway.proofs.Restarted.{IsTold}
+use Rattle.gateway.proofs.Restarted.{IsLogged}
 use Rattle.gateway.proofs.Following.{fresh_due}
 use Rattle.gateway.proofs.OneCourse.{Laws, none_whole, hands_none, not_sent_all, stays, one_course}
 use Rattle.gateway.proofs.OneCause.{came_transfers, came_acknowledged, counted, cause_none, kinds}
@@ -65,7 +65,7 @@ of_faithful p log f = record {
 abbrev Needs : Setup → Log → Output → Course → Type 0
 Needs p log (LineOut octets) b = (d : Course) × SendsNext p log octets b d
 Needs p log (TcpOut octets) b = (d : Course) × HandsOver p log octets (latest log) b d
-Needs p log (GapOut station session) b = (d : Course) × TellsGap p log station session b d
+Needs p log (GapOut station session) b = (d : Course) × ReportsGap p log station session b d
 Needs p log (Closed cause) b = IsCause p log cause b × (b.works.is_due ≡ true)
 
 behind : (p : Setup) (log : Log) (now : ℕ) (action : Output) (c : Course)
@@ -133,7 +133,7 @@ module _ (laws : Laws) (p : Setup) (log : Log) (b : Course) where
       ∙ sym k.spelled_so
 
   -- the gap
-  same_gap : (i j m n : ℕ) (c d : Course) → TellsGap p log i m b c → TellsGap p log j n b d
+  same_gap : (i j m n : ℕ) (c d : Course) → ReportsGap p log i m b c → ReportsGap p log j n b d
       → GapOut i m ≡ GapOut j n
   same_gap i j m n c d h k =
       ap (λ (g : Gap). GapOut g.station g.session) (same_some Gap _ _ _ h.gap k.gap)
@@ -191,8 +191,9 @@ module _ (laws : Laws) (p : Setup) (log : Log) (b : Course) where
           (ap first_answer (sym (k.none f)) ∙ h.own e))
       by_objects false false e f = same_some (List ℕ) _ x y (h.own e) (k.own f)
 
-  same_frame : (f g : Apdu) → KeepsRules p.session (told_sent f (latest log) b.talk)
-      → KeepsRules p.session (told_sent g (latest log) b.talk) → IsNext p log f b → IsNext p log g b
+  same_frame : (f g : Apdu) → KeepsRules p.session (logged_sent f (latest log) b.talk)
+      → KeepsRules p.session (logged_sent g (latest log) b.talk) → IsNext p log f b
+      → IsNext p log g b
       → spelling f ≡ spelling g
   same_frame (I ns nr x) (I ms mr y) h k i j =
       ap (λ n. as_octets n nr x.items) (h.0.send_number ∙ sym k.0.send_number)
@@ -231,7 +232,8 @@ module _ (laws : Laws) (p : Setup) (log : Log) (b : Course) where
   none_due f (inl e) quiet = no_both Apdu _ f quiet.confirmed e
   none_due f (inr k) quiet = no_both Apdu _ f quiet.undue k.1
 
-  none_goes : (f : Apdu) → KeepsRules p.session (told_sent f (latest log) b.talk) → IsNext p log f b
+  none_goes : (f : Apdu) → KeepsRules p.session (logged_sent f (latest log) b.talk)
+      → IsNext p log f b
       → HasNothingDue p log b → ⊥
   none_goes (I ns nr x) h i quiet = data_left ns nr x.items h.0 i quiet.flushed
   none_goes (S nr) h i quiet = none_due (S nr) (due (S nr) h.0 i) quiet
@@ -249,12 +251,13 @@ module _ (laws : Laws) (p : Setup) (log : Log) (b : Course) where
       (λ asked. no_both Sending _ h.request (asked.none h.due) h.next)
 
   line_and_gap : (x : List ℕ) (i m : ℕ) (c d : Course) → SendsNext p log x b c
-      → TellsGap p log i m b d → ⊥
-  line_and_gap x i m c d h k = no_both Gap _ _ h.told k.gap
+      → ReportsGap p log i m b d → ⊥
+  line_and_gap x i m c d h k = no_both Gap _ _ h.logged k.gap
 
-  gap_and_tcp : (i m : ℕ) (y : List ℕ) (c d : Course) → TellsGap p log i m b c
+  gap_and_tcp : (i m : ℕ) (y : List ℕ) (c d : Course) → ReportsGap p log i m b c
       → HandsOver p log y (latest log) b d → ⊥
-  gap_and_tcp i m y c d h k = hand_and y d k h.answered (λ asked. no_both Gap _ _ asked.told h.gap)
+  gap_and_tcp i m y c d h k =
+      hand_and y d k h.answered (λ asked. no_both Gap _ _ asked.logged h.gap)
 
   -- What closes the connection is there for no other action.
 
@@ -273,11 +276,11 @@ module _ (laws : Laws) (p : Setup) (log : Log) (b : Course) where
     | inr (inr next) ↦ all_and_next laws.unique p log cause b h.all next
   ]
 
-  gap_and_close : (i m : ℕ) (c : Course) (cause : Close) → TellsGap p log i m b c
+  gap_and_close : (i m : ℕ) (c : Course) (cause : Close) → ReportsGap p log i m b c
       → IsClosing cause → ⊥
   gap_and_close i m c cause h k = elim (kinds p log cause b k.1 k.0) [
     | inl full ↦ open_placed h.placed k.2 full.1
-    | inr (inl late) ↦ no_both Gap _ _ late.1.told h.gap
+    | inr (inl late) ↦ no_both Gap _ _ late.1.logged h.gap
     | inr (inr next) ↦ all_and_next laws.unique p log cause b h.all next
   ]
 
@@ -292,7 +295,7 @@ module _ (laws : Laws) (p : Setup) (log : Log) (b : Course) where
   ]
 
   stands_and_tcp : (f : Apdu) (cause : Close)
-      → KeepsRules p.session (told_sent f (latest log) b.talk)
+      → KeepsRules p.session (logged_sent f (latest log) b.talk)
       → IsNext p log f b → StandsNext p log cause b → ⊥
   stands_and_tcp (I ns nr x) cause h i next = data_left ns nr x.items h.0 i next.flushed
   stands_and_tcp (S nr) cause h i next = due_and_next (S nr) cause (due (S nr) h.0 i) next
@@ -401,7 +404,8 @@ one_action : Laws → (p : Setup) (log : Log) (now moment : ℕ) (a e : Output)
 one_action laws p log now moment a e s t =
     let b = behind p log now a s.course s.runs in
     let d = behind p log moment e t.course t.runs in
-    let before : b.0 ≡ d.0 = one_before laws p log b.0 d.0 b.1 d.1 (settled laws p log a b.0 b.1 b.2)
+    let before : b.0 ≡ d.0 =
+    one_before laws p log b.0 d.0 b.1 d.1 (settled laws p log a b.0 b.1 b.2)
     (settled laws p log e d.0 d.1 d.2) in
     ap (λ n. Went n a) (s.acts.0.moment ∙ sym t.acts.0.moment)
     ∙ ap (Went moment) (same_action laws p log d.0 now moment a e s.acts.0 t.acts.0
@@ -436,11 +440,11 @@ rest_course laws p log b rest r none = one_before laws p log rest.course b rest.
     (λ f may. none_whole laws.unique p log (latest log) f rest.course rest.talk.all may) none
 
 -- no report is taken at a restart
-module _ (told : IsTold) (p : Setup) (now : ℕ) (log : Log) where
+module _ (logged : IsLogged) (p : Setup) (now : ℕ) (log : Log) where
   same_objects : taken_objects p (Came now Restarted ∷ log) ≡ taken_objects p log
   same_objects = ap (λ (rs : List (ℕ × List ℕ)).
       flat_map (λ r. monitor_objects p.sizes r.1) rs)
-      (told.reports p.link p.link.size p.addresses (address_at p.addresses) (exchanges_of p log))
+      (logged.reports p.link p.link.size p.addresses (address_at p.addresses) (exchanges_of p log))
 
   -- what nothing was due before the restart leaves nothing due behind it
   restart_quiet : (c l b : Course) → IsLeft p log c l
@@ -462,18 +466,18 @@ module _ (told : IsTold) (p : Setup) (now : ℕ) (log : Log) where
             (sym same) quiet.undue;
       })
 
-quiet_at : Laws → IsTold → (p : Setup) (log : Log) (b : Course) → HasRested p log → Runs p log b
+quiet_at : Laws → IsLogged → (p : Setup) (log : Log) (b : Course) → HasRested p log → Runs p log b
     → ((f : Apdu) → MayTake p log (latest log) f b → ⊥) → (present log).is_open ≡ true
     → HasNothingDue p log b
-quiet_at laws told p [] b rest r none on = absurd (never on)
+quiet_at laws logged p [] b rest r none on = absurd (never on)
   where
     never : false ≡ true → ⊥
     never e = cc
-quiet_at laws told p (Came now Restarted ∷ log) b rest r none on =
-    restart_quiet told p now log r.0 r.1 b r.4 r.5.1 r.5.0
-    (quiet_at laws told p log r.0 rest r.2
+quiet_at laws logged p (Came now Restarted ∷ log) b rest r none on =
+    restart_quiet logged p now log r.0 r.1 b r.4 r.5.1 r.5.0
+    (quiet_at laws logged p log r.0 rest r.2
     (λ f may. none_whole laws.unique p log (latest log) f r.0 r.3 may) on)
-quiet_at laws told p (entry ∷ log) b rest r none on =
+quiet_at laws logged p (entry ∷ log) b rest r none on =
     subst (HasNothingDue p (entry ∷ log)) (rest_course laws p (entry ∷ log) b rest r none)
     (rest_quiet p (entry ∷ log) rest on)
 
@@ -491,7 +495,7 @@ at_rest_none laws p log now (LineOut x) rest g n =
     no_both Sending _ n.1.request (rest.asked.none n.1.due) n.1.next
 at_rest_none laws p log now (TcpOut x) rest g n =
     none_goes laws p log rest.course n.1.frame n.1.rules n.1.next (rest_quiet p log rest g.may.0)
-at_rest_none laws p log now (GapOut i s) rest g n = no_both Gap _ _ rest.asked.told n.1.gap
+at_rest_none laws p log now (GapOut i s) rest g n = no_both Gap _ _ rest.asked.logged n.1.gap
 at_rest_none laws p log now (Closed x) rest g n = by_kind (replaces (Closed x)) refl
   where
     by_kind : (r : Bool) → replaces (Closed x) ≡ r → ⊥
@@ -505,28 +509,28 @@ at_rest_none laws p log now (Closed x) rest g n = by_kind (replaces (Closed x)) 
         ]
 
 -- where nothing has come, or not since a restart
-fresh_none : Laws → IsTold → (p : Setup) (log : Log) (now : ℕ) (a : Output) (b : Course)
+fresh_none : Laws → IsLogged → (p : Setup) (log : Log) (now : ℕ) (a : Output) (b : Course)
     → IsFresh log
     → HasRested p log → Runs p log b → GoesOut p log now a → Needs p log a b → ⊥
-fresh_none laws told p log now (LineOut x) b fresh rest r g n =
+fresh_none laws logged p log now (LineOut x) b fresh rest r g n =
     not_both _ n.1.due (fresh_due p log b fresh r)
-fresh_none laws told p log now (TcpOut x) b fresh rest r g n =
+fresh_none laws logged p log now (TcpOut x) b fresh rest r g n =
     none_goes laws p log b n.1.frame n.1.rules n.1.next
-    (quiet_at laws told p log b rest r (settled laws p log (TcpOut x) b r n) g.may.0)
-fresh_none laws told p log now (GapOut i s) b fresh rest r g n =
+    (quiet_at laws logged p log b rest r (settled laws p log (TcpOut x) b r n) g.may.0)
+fresh_none laws logged p log now (GapOut i s) b fresh rest r g n =
     not_both _ n.1.due (fresh_due p log b fresh r)
-fresh_none laws told p log now (Closed x) b fresh rest r g n =
+fresh_none laws logged p log now (Closed x) b fresh rest r g n =
     not_both _ n.1 (fresh_due p log b fresh r)
 
-none_more : Laws → IsTold → (p : Setup) (log : Log) (now : ℕ) (a : Output) → HasRested p log
+none_more : Laws → IsLogged → (p : Setup) (log : Log) (now : ℕ) (a : Output) → HasRested p log
     → Stands p (Went now a ∷ log) → ⊥
-none_more laws told p [] now a rest s =
+none_more laws logged p [] now a rest s =
     let b = behind p [] now a s.course s.runs in
-    fresh_none laws told p [] now a b.0 tt rest b.1 s.acts.0 b.2
-none_more laws told p (Came at Restarted ∷ log) now a rest s =
+    fresh_none laws logged p [] now a b.0 tt rest b.1 s.acts.0 b.2
+none_more laws logged p (Came at Restarted ∷ log) now a rest s =
     let b = behind p (Came at Restarted ∷ log) now a s.course s.runs in
-    fresh_none laws told p (Came at Restarted ∷ log) now a b.0 tt rest b.1 s.acts.0 b.2
-none_more laws told p (entry ∷ log) now a rest s =
+    fresh_none laws logged p (Came at Restarted ∷ log) now a b.0 tt rest b.1 s.acts.0 b.2
+none_more laws logged p (entry ∷ log) now a rest s =
     let b = behind p (entry ∷ log) now a s.course s.runs in
     let same : rest.course ≡ b.0 = rest_course laws p (entry ∷ log) b.0 rest b.1
     (settled laws p (entry ∷ log) a b.0 b.1 b.2) in
@@ -591,50 +595,51 @@ last_same (x ∷ xs) (y ∷ ys) u v e =
     (ap (λ z. z ∷ xs) first ∙ ap (λ zs. y ∷ zs) same.0, same.1)
 
 -- where both have done all that they could, they are the same
-both_rested : Laws → IsTold → (p : Setup) (log other : Log) → HasRested p log → HasRested p other
+both_rested : Laws → IsLogged → (p : Setup) (log other : Log) → HasRested p log → HasRested p other
     → Stands p log → Stands p other → GoesOnFrom log other ⊎ GoesOnFrom other log → log ≡ other
-both_rested laws told p log other rest later s t (inl g) = by_actions g.0 g.1
+both_rested laws logged p log other rest later s t (inl g) = by_actions g.0 g.1
   where
     by_actions : (xs : List (ℕ × Output)) → other ≡ put xs log → log ≡ other
     by_actions [] e = sym e
-    by_actions (x ∷ xs) e = absurd (none_more laws told p log x.0 x.1 rest
+    by_actions (x ∷ xs) e = absurd (none_more laws logged p log x.0 x.1 rest
         (before_put p xs (Went x.0 x.1 ∷ log) (subst (Stands p) e t)))
-both_rested laws told p log other rest later s t (inr g) = by_actions g.0 g.1
+both_rested laws logged p log other rest later s t (inr g) = by_actions g.0 g.1
   where
     by_actions : (xs : List (ℕ × Output)) → log ≡ put xs other → log ≡ other
     by_actions [] e = e
-    by_actions (x ∷ xs) e = absurd (none_more laws told p other x.0 x.1 later
+    by_actions (x ∷ xs) e = absurd (none_more laws logged p other x.0 x.1 later
         (before_put p xs (Went x.0 x.1 ∷ other) (subst (Stands p) e s)))
 
-compared : Laws → IsTold → (p : Setup) (log other : Log) → Stands p log → Stands p other
+compared : Laws → IsLogged → (p : Setup) (log other : Log) → Stands p log → Stands p other
     → events_of log ≡ events_of other → GoesOnFrom log other ⊎ GoesOnFrom other log
-compared laws told p [] [] s t e = inl ([], refl)
-compared laws told p [] (Came now event ∷ other) s t e = absurd (omega (
+compared laws logged p [] [] s t e = inl ([], refl)
+compared laws logged p [] (Came now event ∷ other) s t e = absurd (omega (
   arith,
   ap length e,
   length-append (events_of other) (Came now event ∷ []),
 ))
-compared laws told p [] (Went now a ∷ other) s t e =
+compared laws logged p [] (Went now a ∷ other) s t e =
     one_more laws p [] other now a s t
-    (compared laws told p [] other s (fewer p (Went now a) other t) e)
-compared laws told p (Came now event ∷ log) [] s t e = absurd (omega (
+    (compared laws logged p [] other s (fewer p (Went now a) other t) e)
+compared laws logged p (Came now event ∷ log) [] s t e = absurd (omega (
   arith,
   ap length e,
   length-append (events_of log) (Came now event ∷ []),
 ))
-compared laws told p (Came now event ∷ log) (Came at other_event ∷ other) s t e =
-    let same = last_same (events_of log) (events_of other) (Came now event) (Came at other_event) e in
-    let before : log ≡ other = both_rested laws told p log other s.rests.0 t.rests.0
+compared laws logged p (Came now event ∷ log) (Came at other_event ∷ other) s t e =
+    let same = last_same (events_of log) (events_of other) (Came now event) (Came at other_event)
+    e in
+    let before : log ≡ other = both_rested laws logged p log other s.rests.0 t.rests.0
     (fewer p (Came now event) log s) (fewer p (Came at other_event) other t)
-    (compared laws told p log other (fewer p (Came now event) log s)
+    (compared laws logged p log other (fewer p (Came now event) log s)
     (fewer p (Came at other_event) other t) same.0) in
     inl ([], ap (λ l. Came at other_event ∷ l) (sym before) ∙ ap (λ x. x ∷ log) (sym same.1))
-compared laws told p (Came now event ∷ log) (Went at a ∷ other) s t e =
+compared laws logged p (Came now event ∷ log) (Went at a ∷ other) s t e =
     one_more laws p (Came now event ∷ log) other at a s t
-    (compared laws told p (Came now event ∷ log) other s (fewer p (Went at a) other t) e)
-compared laws told p (Went now a ∷ log) other s t e =
+    (compared laws logged p (Came now event ∷ log) other s (fewer p (Went at a) other t) e)
+compared laws logged p (Went now a ∷ log) other s t e =
     swapped _ _ (one_more laws p other log now a t s
-    (swapped _ _ (compared laws told p log other (fewer p (Went now a) log s) t e)))
+    (swapped _ _ (compared laws logged p log other (fewer p (Went now a) log s) t e)))
 
 -- one is a beginning of the other
 drop_put : (xs : List (ℕ × Output)) (log : Log) → drop (length xs) (put xs log) ≡ log
@@ -645,17 +650,18 @@ drop_put (x ∷ xs) log =
     ∙ sym (drop-drop 1 (length xs) (put xs (Went x.0 x.1 ∷ log)))
     ∙ ap (drop 1) (drop_put xs (Went x.0 x.1 ∷ log))
 
-pub so_far : Laws → IsTold → (p : Setup) (log other : Log) → IsFaithful p log → IsFaithful p other
+pub so_far : Laws → IsLogged → (p : Setup) (log other : Log) → IsFaithful p log → IsFaithful p other
     → events_of log ≡ events_of other
     → ((n : ℕ) × (log ≡ drop n other)) ⊎ ((n : ℕ) × (other ≡ drop n log))
-so_far laws told p log other f k e = elim (compared laws told p log other (of_faithful p log f)
+so_far laws logged p log other f k e = elim (compared laws logged p log other (of_faithful p log f)
     (of_faithful p other k) e) [
       | inl g ↦ inl (length g.0, sym (drop_put g.0 log) ∙ ap (drop (length g.0)) (sym g.1))
       | inr g ↦ inr (length g.0, sym (drop_put g.0 other) ∙ ap (drop (length g.0)) (sym g.1))
     ]
 
-pub rested : Laws → IsTold → (p : Setup) (log other : Log) → IsFaithful p log → HasRested p log
+pub rested : Laws → IsLogged → (p : Setup) (log other : Log) → IsFaithful p log → HasRested p log
     → IsFaithful p other → HasRested p other → events_of log ≡ events_of other → log ≡ other
-rested laws told p log other f rest k other_rest e =
-    both_rested laws told p log other rest other_rest (of_faithful p log f) (of_faithful p other k)
-    (compared laws told p log other (of_faithful p log f) (of_faithful p other k) e)
+rested laws logged p log other f rest k other_rest e =
+    both_rested laws logged p log other rest other_rest (of_faithful p log f)
+    (of_faithful p other k)
+    (compared laws logged p log other (of_faithful p log f) (of_faithful p other k) e)

@@ -16,7 +16,7 @@ use Rattle.link.specs.Primary.{Primary, Outstanding, asked, asked_from, after_ch
 use Rattle.link.specs.Primary.{sending, sending_from, sending_by, request_of, is_command}
 use Rattle.link.specs.declared.request.Request.{Request}
 use Rattle.link.specs.Offers.{offered_at}
-use Rattle.link.specs.Telling.{Tells}
+use Rattle.link.specs.Matching.{Matches}
 use Rattle.session.specs.declared.kinds.Close.TheVariants.{OwnAnswers, Replaced}
 use Rattle.command.specs.State.{octets_waiting}
 use Rattle.events.specs.Queue.{free_places}
@@ -25,14 +25,15 @@ use Rattle.session.specs.Ends.{IsInTime}
 use Rattle.session.specs.History.{has_timed_out}
 use Rattle.gateway.proofs.Talking.{kept_talk, talk_on, all_taken, late_by}
 use Rattle.gateway.specs.Log.{Log, Input, Opened, TcpIn, CutOff, Ticked}
-use Rattle.gateway.specs.Log.{WallIs, LineIn, Came, Went, LineOut, Closed, GapOut, latest, tell}
+use Rattle.gateway.specs.Log.{WallIs, LineIn, Came, Went, LineOut, Closed, GapOut, latest}
+use Rattle.gateway.specs.Log.{with_news}
 use Rattle.gateway.specs.Frames.{AreInOrder}
 use Rattle.gateway.specs.Connections.{Channel, receiving, received_before, present}
 use Rattle.gateway.specs.Reports.{Setup, sending_in, exchanges_of, taken_objects, taken_pieces}
 use Rattle.gateway.specs.Reports.{reports_in, parts_of_all}
 use Rattle.link.specs.Leave.{is_poll_request}
 use Rattle.gateway.specs.declared.gaps.Gap.{Gap}
-use Rattle.gateway.specs.Gaps.{gaps_told, gap_for, TellsGaps}
+use Rattle.gateway.specs.Gaps.{gaps_reported, gap_for, ReportsGaps}
 use Rattle.gateway.specs.Polls.{has_room}
 use Rattle.gateway.specs.Serial as serial
 use Rattle.gateway.specs.Serial.{Serial, is_first_command, put_on_line}
@@ -47,7 +48,7 @@ use Rattle.gateway.specs.Traffic.{IsFaithful}
 use Rattle.gateway.specs.declared.walls.Wall.{Wall}
 use Rattle.gateway.specs.State.{State, with_wall, with_serial, at_moment, line_timed, settled}
 use Rattle.gateway.specs.State.{disconnected, connected, after_request as after_next}
-use Rattle.gateway.specs.Steps.{HearsEvent, Begins, MayClose}
+use Rattle.gateway.specs.Steps.{ReceivesEvent, Begins, MayClose}
 use Rattle.gateway.specs.Agrees.{Talks, Agrees, OffersWait, ArePlain, Tracks, Awaits, Leaves}
 use Rattle.gateway.specs.Agrees.{HasCome, Carries, IsClear, IsUndue}
 use Rattle.gateway.specs.Agrees.{pending}
@@ -55,11 +56,11 @@ use Rattle.gateway.proofs.Working.{gap_in, settled_gap, settled_placed, put_plac
 use Rattle.gateway.proofs.Offering.{offers_stay, offers_made, offers_asked, offers_unasked}
 use Rattle.gateway.proofs.Closing.{stands_now, stands_overfull}
 use Rattle.gateway.proofs.Agreement.{has_places, same_room}
-use Rattle.gateway.proofs.Hearing.{now_idle}
-use Rattle.gateway.proofs.Put.{told_faithful}
+use Rattle.gateway.proofs.Receiving.{now_idle}
+use Rattle.gateway.proofs.Put.{logged_faithful}
 use Rattle.gateway.proofs.Stations.{octets_of, taken_grows, pieces_grow, parts_grow, after_request}
 use Rattle.gateway.specs.Ports.{IsOfPort}
-use Rattle.gateway.proofs.Come.{Heard, heard_event, Worked}
+use Rattle.gateway.proofs.Come.{Received, received_event, Worked}
 use Rattle.gateway.proofs.Connecting.{Counts, come_other, come_course, come_open, come_replaced}
 use Rattle.gateway.proofs.Connecting.{come_cut, come_bytes, opened_faithful}
 use Rattle.gateway.proofs.Learning.{left_of}
@@ -67,10 +68,10 @@ use Rattle.gateway.proofs.Learning.{left_of}
 -- The request is asked for, once commands were offered.
 
 -- the state once commands were offered
-pub record IsReady (p : Setup) (s t : State) (told : Option Log) : Type 0 where
+pub record IsReady (p : Setup) (s t : State) (logged : Option Log) : Type 0 where
   pub is : t ≡ with_serial (serial.offered s.serial) s
-  pub tells : (e : Exchanges) → Tells p.link p.addresses s.serial.line e
-      → Tells p.link p.addresses t.serial.line e
+  pub matches : (e : Exchanges) → Matches p.link p.addresses s.serial.line e
+      → Matches p.link p.addresses t.serial.line e
 
 -- and once a request was asked for
 abbrev pub asked_state : State → Option Sending → State
@@ -78,7 +79,7 @@ asked_state s x =
     with_serial (serial.asked s.moment (has_room s.centre.queue) x (serial.offered s.serial)) s
 
 module _ (laws : LineLaws) (p : Setup) (s : State) (log : Log) (a : Agrees p s log [] Timed)
-    (tells : Tells p.link p.addresses (serial.offered s.serial).line (exchanges_of p log))
+    (matches : Matches p.link p.addresses (serial.offered s.serial).line (exchanges_of p log))
     (no_gap : s.serial.gap
     ≡ None) (early : IsInTime s.moment s.centre.session) where
   abbrev at : ℕ
@@ -98,9 +99,9 @@ module _ (laws : LineLaws) (p : Setup) (s : State) (log : Log) (a : Agrees p s l
   none_left = sym (gap_in Timed at (room_in p log a.course) w)
       ∙ ap (λ (z : Serial). z.gap) (sym a.stands.does) ∙ no_gap
 
-  all_told : TellsGaps p log
-  all_told i = sym (append-nil (gaps_told i log))
-      ∙ ap (λ g. gaps_told i log ++ gap_for i g) (sym no_gap) ∙ a.gaps i
+  all_logged : ReportsGaps p log
+  all_logged i = sym (append-nil (gaps_reported i log))
+      ∙ ap (λ g. gaps_reported i log ++ gap_for i g) (sym no_gap) ∙ a.gaps i
 
   -- no answer is late
   in_time : NoAnswerLate p log a.course
@@ -167,8 +168,8 @@ module _ (laws : LineLaws) (p : Setup) (s : State) (log : Log) (a : Agrees p s l
   after_asked x next poll =
       let may : Bool = has_room s.centre.queue in
       let new : Log = Went s.moment (LineOut (octets_of p x)) ∷ log in
-      let goes = after_request laws p q log s.moment may x a.found tells next in
-      let fits = laws.fit p.link p.addresses q (exchanges_of p log) may x tells next in
+      let goes = after_request laws p q log s.moment may x a.found matches next in
+      let fits = laws.fit p.link p.addresses q (exchanges_of p log) may x matches next in
       let same : taken_objects p new ≡ taken_objects p log = taken_grows p log new [] goes.reported
       ∙ append-nil (taken_objects p log) in
       let parts : parts_of_all p.sizes (reports_in p new)
@@ -186,7 +187,7 @@ module _ (laws : LineLaws) (p : Setup) (s : State) (log : Log) (a : Agrees p s l
           in_time = in_time;
           placed = a.stands.placed;
           due = a.stands.asks;
-          told = none_left;
+          logged = none_left;
           request = x;
           next = same_next (Some x) next;
           spelled_so = refl;
@@ -204,7 +205,7 @@ module _ (laws : LineLaws) (p : Setup) (s : State) (log : Log) (a : Agrees p s l
         wall = a.wall;
         settled = refl;
         found = a.found;
-        line = goes.tells;
+        line = goes.matches;
         course = d;
         talk = talk;
         stands = record {
@@ -225,7 +226,7 @@ module _ (laws : LineLaws) (p : Setup) (s : State) (log : Log) (a : Agrees p s l
             ∙ sym (laws.next_gaps p.link.size p.addresses s.moment (sending_in p (octets_of p x))
             (exchanges_of p log) i);
         offers = offers_asked laws a.talk.command_laws q s.serial.commands s.moment may x next
-            (omega (arith, fits.station, tells.count)) offers;
+            (omega (arith, fits.station, matches.count)) offers;
         plain = subst ArePlain (sym (put_answers (is_first_command q x))) a.plain;
         here = a.here;
         left = refl;
@@ -252,10 +253,10 @@ module _ (laws : LineLaws) (p : Setup) (s : State) (log : Log) (a : Agrees p s l
                 within = fits.station;
                 request = x.request;
                 spelled = refl;
-                told = all_told;
+                logged = all_logged;
                 early = a.stands.phase_is;
                 alone = λ z. laws.alone p.link p.addresses q
-                    (exchanges_of p log) may x z.exchange tells next z.latest_is z.waits;
+                    (exchanges_of p log) may x z.exchange matches next z.latest_is z.waits;
                 room = λ polls. record {
                   course = a.course;
                   runs = a.talk.course_runs;
@@ -286,10 +287,10 @@ module _ (laws : LineLaws) (p : Setup) (s : State) (log : Log) (a : Agrees p s l
     wall = a.wall;
     settled = a.settled;
     found = a.found;
-    line = subst (λ o. Tells p.link p.addresses (asked q s.moment (has_room s.centre.queue))
+    line = subst (λ o. Matches p.link p.addresses (asked q s.moment (has_room s.centre.queue))
         (begun_by s.moment o (exchanges_of p log))) none
         (laws.next p.link p.addresses q (exchanges_of p log) s.moment (has_room s.centre.queue)
-        tells);
+        matches);
     course = a.course;
     talk = a.talk;
     stands = record {
@@ -316,77 +317,84 @@ module _ (laws : LineLaws) (p : Setup) (s : State) (log : Log) (a : Agrees p s l
     before = a.before;
   }
 
-ready_state : (s r : State) (p : Setup) (told : Option Log) → IsReady p s r told
+ready_state : (s r : State) (p : Setup) (logged : Option Log) → IsReady p s r logged
     → (x : Option Sending)
     → after_next r x ≡ asked_state s x
-ready_state s r p told ready x = ap (λ (z : State). after_next z x) ready.is
+ready_state s r p logged ready x = ap (λ (z : State). after_next z x) ready.is
 
 -- the same where a port may tell no log: s is the state before commands were offered, r the one
 -- after, t the
 -- one once asked
 
-pub asked_none : (laws : LineLaws) (p : Setup) (told : Option Log) (s r t : State) → s.serial.gap
+pub asked_none : (laws : LineLaws) (p : Setup) (logged : Option Log) (s r t : State) → s.serial.gap
     ≡ None → IsInTime s.moment s.centre.session
-    → IsReady p s r told → sending r.serial.line (has_room r.centre.queue) ≡ None
+    → IsReady p s r logged → sending r.serial.line (has_room r.centre.queue) ≡ None
     → t ≡ after_next r None
-    → Tracks p s told [] Timed → Tracks p t told [] Asked
+    → Tracks p s logged [] Timed → Tracks p t logged [] Asked
 asked_none laws p None s r t no_gap early made none is h = tt
 asked_none laws p (Some log) s r t no_gap early made none is a =
     let same : t ≡ asked_state s None = is ∙ ready_state s r p (Some log) made None in
-    let tells = subst (λ (z : State). Tells p.link p.addresses z.serial.line (exchanges_of p log))
+    let matches =
+    subst (λ (z : State). Matches p.link p.addresses z.serial.line (exchanges_of p log))
     made.is
-    (made.tells (exchanges_of p log) a.line) in
-    subst (λ x. Agrees p x log [] Asked) (sym same) (none_asked laws p s log a tells no_gap early
+    (made.matches (exchanges_of p log) a.line) in
+    subst (λ x. Agrees p x log [] Asked) (sym same) (none_asked laws p s log a matches no_gap early
     (ap (λ (x : State). sending x.serial.line (has_room x.centre.queue)) (sym made.is) ∙ none))
 
-told_asked : (laws : LineLaws) (p : Setup) (told after : Option Log) (s r t : State) (x : Sending)
+logged_asked : (laws : LineLaws) (p : Setup) (logged after : Option Log) (s r t : State)
+    (x : Sending)
     (octets : List ℕ)
-    (now : ℕ) → s.serial.gap ≡ None → IsInTime s.moment s.centre.session → IsReady p s r told
+    (now : ℕ) → s.serial.gap ≡ None → IsInTime s.moment s.centre.session → IsReady p s r logged
     → sending r.serial.line (has_room r.centre.queue) ≡ Some x
     → (is_poll_request x.request ≡ true → 3 ≤ free_places r.centre.queue)
     → octets ≡ (request_of r.serial.line x).octets.items →
-    now ≡ r.moment → t ≡ after_next r (Some x) → after ≡ tell told (Went now (LineOut octets) ∷ [])
-    → Tracks p s told [] Timed → Tracks p t after [] Asked
-told_asked laws p told after s r t x octets now no_gap early made next poll spelled same is e h =
+    now ≡ r.moment → t ≡ after_next r (Some x)
+    → after ≡ with_news logged (Went now (LineOut octets) ∷ [])
+    → Tracks p s logged [] Timed → Tracks p t after [] Asked
+logged_asked laws p logged after s r t x octets now no_gap early made next poll spelled same is e
+    h =
     let moment : now ≡ s.moment = same ∙ ap (λ (x : State). x.moment) made.is in
-    let state : t ≡ asked_state s (Some x) = is ∙ ready_state s r p told made (Some x) in
-    rw (e, moment, state) (by_log told made h)
+    let state : t ≡ asked_state s (Some x) = is ∙ ready_state s r p logged made (Some x) in
+    rw (e, moment, state) (by_log logged made h)
   where
-    by_log : (told : Option Log) → IsReady p s r told → Tracks p s told [] Timed
-        → Tracks p (asked_state s (Some x)) (tell told (Went s.moment (LineOut octets) ∷ [])) []
+    by_log : (logged : Option Log) → IsReady p s r logged → Tracks p s logged [] Timed
+        → Tracks p (asked_state s (Some x)) (with_news logged (Went s.moment (LineOut octets) ∷ []))
+        []
         Asked
     by_log None made h = tt
     by_log (Some log) made a =
-        let tells : Tells p.link p.addresses r.serial.line (exchanges_of p log) =
-        made.tells (exchanges_of p log) a.line in
+        let matches : Matches p.link p.addresses r.serial.line (exchanges_of p log) =
+        made.matches (exchanges_of p log) a.line in
         let written : octets ≡ octets_of p x = spelled
-        ∙ laws.spelled p.link p.addresses r.serial.line (exchanges_of p log) x tells in
+        ∙ laws.spelled p.link p.addresses r.serial.line (exchanges_of p log) x matches in
         subst (λ o. Agrees p (asked_state s (Some x)) (Went s.moment (LineOut o) ∷ log) [] Asked)
         (sym written)
         (after_asked laws p s log a
-        (subst (λ (z : State). Tells p.link p.addresses z.serial.line (exchanges_of p log))
-        made.is tells) no_gap early x
+        (subst (λ (z : State). Matches p.link p.addresses z.serial.line (exchanges_of p log))
+        made.is matches) no_gap early x
         (ap (λ (z : State). sending z.serial.line (has_room z.centre.queue)) (sym made.is)
         ∙ next) (λ polls. subst (λ (z : State). 3 ≤ free_places z.centre.queue) made.is
         (poll polls)))
 
-pub asked_leaves : (laws : LineLaws) (result : Bool) (p : Setup) (told after : Option Log)
+pub asked_leaves : (laws : LineLaws) (result : Bool) (p : Setup) (logged after : Option Log)
     (s r t : State)
     (x : Sending) (octets : List ℕ) (now : ℕ) → s.serial.gap ≡ None
-    → IsInTime s.moment s.centre.session → IsReady p s r told
+    → IsInTime s.moment s.centre.session → IsReady p s r logged
     → sending r.serial.line (has_room r.centre.queue) ≡ Some x
     → (is_poll_request x.request ≡ true → 3 ≤ free_places r.centre.queue)
     → octets ≡ (request_of r.serial.line x).octets.items →
     now ≡ r.moment → t ≡ after_next r (Some x) → after
-    ≡ (if result then tell told (Went now (LineOut octets) ∷ []) else told)
-    → Tracks p s told [] Timed
+    ≡ (if result then with_news logged (Went now (LineOut octets) ∷ []) else logged)
+    → Tracks p s logged [] Timed
     → Leaves result p t after [] Asked
-asked_leaves laws true p told after s r t x octets now no_gap early made next poll spelled same is
+asked_leaves laws true p logged after s r t x octets now no_gap early made next poll spelled same is
     e h =
-    told_asked laws p told after s r t x octets now no_gap early made next poll spelled same is e h
-asked_leaves laws false p told after s r t x octets now no_gap early made next poll spelled same is
+    logged_asked laws p logged after s r t x octets now no_gap early made next poll spelled same is
+    e h
+asked_leaves laws false p logged after s r t x octets now no_gap early made next poll spelled same
+    is
     e h =
-    subst (λ l. IfSome l (IsFaithful p)) (sym e) (told_faithful p told s [] Timed h)
+    subst (λ l. IfSome l (IsFaithful p)) (sym e) (logged_faithful p logged s [] Timed h)
 
 -- what a request says of what is next
 pub next_is : (q : Primary) (o : Option Sending) (r : Request)
@@ -432,7 +440,7 @@ now_settled p s log a = record {
   wall = a.wall;
   settled = a.settled;
   found = a.found;
-  line = subst (λ q. Tells p.link p.addresses q (exchanges_of p log))
+  line = subst (λ q. Matches p.link p.addresses q (exchanges_of p log))
       (sym (same_line s.serial.silent)) a.line;
   course = a.course;
   talk = a.talk;
@@ -444,7 +452,7 @@ now_settled p s log a = record {
     placed = a.stands.placed;
     answered = a.stands.answered;
   };
-  gaps = λ i. ap (λ g. gaps_told i log ++ gap_for i g) (same_gap s.serial.silent) ∙ a.gaps i;
+  gaps = λ i. ap (λ g. gaps_reported i log ++ gap_for i g) (same_gap s.serial.silent) ∙ a.gaps i;
   offers = offers_stay s.serial.line (settled s).serial.line s.serial.commands
       (settled s).serial.commands
       (λ k. ap (λ q. offered_at q k) (same_line s.serial.silent)) (same_waiting s.serial.silent)
@@ -474,16 +482,17 @@ now_settled p s log a = record {
     same_answers None = refl
     same_answers (Some i) = refl
 
-pub told_settled : (p : Setup) (told : Option Log) (s t : State) → t ≡ settled s
-    → Tracks p s told [] Idle
-    → Tracks p t told [] Timed
-told_settled p None s t is h = tt
-told_settled p (Some log) s t is a = subst (λ x. Agrees p x log [] Timed) (sym is)
+pub logged_settled : (p : Setup) (logged : Option Log) (s t : State) → t ≡ settled s
+    → Tracks p s logged [] Idle
+    → Tracks p t logged [] Timed
+logged_settled p None s t is h = tt
+logged_settled p (Some log) s t is a = subst (λ x. Agrees p x log [] Timed) (sym is)
     (now_settled p s log a)
 
 -- and each gap stays told
-pub still_told : (s t : State) → t ≡ settled s → s.serial.gap ≡ None → t.serial.gap ≡ None
-still_told s t is none = ap (λ (x : State). x.serial.gap) is ∙ settled_gap s.moment s.serial ∙ none
+pub still_logged : (s t : State) → t ≡ settled s → s.serial.gap ≡ None → t.serial.gap ≡ None
+still_logged s t is none = ap (λ (x : State). x.serial.gap) is ∙ settled_gap s.moment s.serial
+    ∙ none
 
 -- A gap is told
 
@@ -529,12 +538,12 @@ module _ (p : Setup) (s : State) (log : Log) (a : Agrees p s log [] Idle) (gap :
     undue = h.undue;
   })
 
-  tells_gap : TellsGaps p gap_log
-  tells_gap i = one_more (gap.station == i) (gaps_told i log) gap.session
-      ∙ ap (λ g. gaps_told i log ++ gap_for i g) (sym some) ∙ a.gaps i
+  reports_gap : ReportsGaps p gap_log
+  reports_gap i = one_more (gap.station == i) (gaps_reported i log) gap.session
+      ∙ ap (λ g. gaps_reported i log ++ gap_for i g) (sym some) ∙ a.gaps i
 
-  pub gap_told : Agrees p (with_serial (serial.without_gap s.serial) s) gap_log [] Idle
-  gap_told = record {
+  pub gap_reported : Agrees p (with_serial (serial.without_gap s.serial) s) gap_log [] Idle
+  gap_reported = record {
     k = a.k;
     sizes = a.sizes;
     places = a.places;
@@ -552,7 +561,7 @@ module _ (p : Setup) (s : State) (log : Log) (a : Agrees p s log [] Idle) (gap :
       placed = a.stands.placed;
       answered = gap_answered a.stands.answered;
     };
-    gaps = λ i. append-nil (gaps_told i gap_log) ∙ tells_gap i;
+    gaps = λ i. append-nil (gaps_reported i gap_log) ∙ reports_gap i;
     offers = a.offers;
     plain = a.plain;
     here = a.here;
@@ -563,50 +572,52 @@ module _ (p : Setup) (s : State) (log : Log) (a : Agrees p s log [] Idle) (gap :
       orders = a.before.orders;
       times = (kept_talk p _ _ _ gap_talk, a.before.times);
       acts =
-          (record { moment = a.clock; replaced = sym a.settled; may = tells_gap }, a.before.acts);
+          (record { moment = a.clock; replaced = sym a.settled; may = reports_gap }, a.before.acts);
       rests = a.before.rests;
     };
   }
 
-pub told_gap : (result : Bool) (p : Setup) (told after : Option Log) (s t : State) (gap : Gap)
+pub reported_gap : (result : Bool) (p : Setup) (logged after : Option Log) (s t : State) (gap : Gap)
     (now : ℕ)
     → s.serial.gap ≡ Some gap → now ≡ s.moment → t ≡ with_serial (serial.without_gap s.serial) s
-    → after ≡ (if result then tell told (Went now (GapOut gap.station gap.session) ∷ []) else told)
-    → Tracks p s told [] Idle →
+    → after ≡ (if result then with_news logged (Went now (GapOut gap.station gap.session) ∷ [])
+    else logged)
+    → Tracks p s logged [] Idle →
     Leaves result p t after [] Idle
-told_gap true p told after s t gap now some same is e h = rw (e, same, is) (by_log told h)
+reported_gap true p logged after s t gap now some same is e h = rw (e, same, is) (by_log logged h)
   where
-    by_log : (told : Option Log) → Tracks p s told [] Idle
+    by_log : (logged : Option Log) → Tracks p s logged [] Idle
         → Tracks p (with_serial (serial.without_gap s.serial) s)
-        (tell told (Went s.moment (GapOut gap.station gap.session) ∷ [])) [] Idle
+        (with_news logged (Went s.moment (GapOut gap.station gap.session) ∷ [])) [] Idle
     by_log None h = tt
-    by_log (Some log) a = gap_told p s log a gap some
-told_gap false p told after s t gap now some same is e h =
-    subst (λ l. IfSome l (IsFaithful p)) (sym e) (told_faithful p told s [] Idle h)
+    by_log (Some log) a = gap_reported p s log a gap some
+reported_gap false p logged after s t gap now some same is e h =
+    subst (λ l. IfSome l (IsFaithful p)) (sym e) (logged_faithful p logged s [] Idle h)
 
 -- where there is none nothing changes
-pub no_gap_told : (s t : State) → s.serial.gap ≡ None
+pub no_gap_reported : (s t : State) → s.serial.gap ≡ None
     → t ≡ with_serial (serial.without_gap s.serial) s → t ≡ s
-no_gap_told s t none is = is
+no_gap_reported s t none is = is
     ∙ ap (λ (g : Option Gap). let made : State =
     record s { serial = record s.serial { gap = g } } in made) (sym none)
 
 -- An event comes
 
 pub begins : (s a m t : State) (now : ℕ) (event : Input) (fits : Bool) → a ≡ at_moment s now
-    → HearsEvent a event fits m → t ≡ line_timed m → Begins s now event fits t
-begins s a m t now event fits e hears times = record {
+    → ReceivesEvent a event fits m → t ≡ line_timed m → Begins s now event fits t
+begins s a m t now event fits e receives times = record {
   middle = m;
-  hears =
-      subst (λ x. HearsEvent x event fits m) e hears;
+  receives =
+      subst (λ x. ReceivesEvent x event fits m) e receives;
   times = times;
 }
 
-heard_in : (laws : LineLaws) (p : Setup) (s t : State) (now : ℕ) (event : Input) (fits : Bool)
+received_in : (laws : LineLaws) (p : Setup) (s t : State) (now : ℕ) (event : Input) (fits : Bool)
     (log : Log)
     → IsOfPort event → Begins s now event fits t → (h : HasCome p s now event log)
-    → Heard p s t h.before now event (left_of p h.before h.agrees.course) fits
-heard_in laws p s t now event fits log of b h = heard_event laws p s t h.before now event fits of
+    → Received p s t h.before now event (left_of p h.before h.agrees.course) fits
+received_in laws p s t now event fits log of b h = received_event laws p s t h.before now event fits
+    of
     h.agrees b
 
 as_log : (p : Setup) (t : State) (now : ℕ) (event : Input) (log before : Log) (unjudged : List ℕ)
@@ -624,31 +635,31 @@ on_line : (log : Log) (now : ℕ) (octets : List ℕ) (p : Setup) (c : Course) (
     → Comes p log (latest (Came now (LineIn octets) ∷ log)) (LineIn octets) c (with_works z c)
 on_line log now octets p c z w = (w.0, w.1, ap (λ x. with_works x c) w.2)
 
-pub told_line : (p : Setup) (told : Option Log) (s t : State) (now : ℕ) (octets : List ℕ)
+pub logged_line : (p : Setup) (logged : Option Log) (s t : State) (now : ℕ) (octets : List ℕ)
     (fits : Bool) → LineLaws
     → (is_open t.centre.session ≡ true → fits ≡ true) → Begins s now (LineIn octets) fits t
-    → IfSome told (HasCome p s now (LineIn octets)) → Tracks p t told [] Idle
-told_line p None s t now octets fits laws fit b h = tt
-told_line p (Some log) s t now octets fits laws fit b h =
-    let heard = heard_in laws p s t now (LineIn octets) fits log tt b h in
+    → IfSome logged (HasCome p s now (LineIn octets)) → Tracks p t logged [] Idle
+logged_line p None s t now octets fits laws fit b h = tt
+logged_line p (Some log) s t now octets fits laws fit b h =
+    let arrived = received_in laws p s t now (LineIn octets) fits log tt b h in
     as_log p t now (LineIn octets) log h.before [] Idle h.is
-    (come_other p s t h.before now (LineIn octets) fits true t.wall (heard.wall
-    ∙ h.agrees.wall) (λ yes on. fit (ap (λ (c : Centre). is_open c.session) heard.centre
+    (come_other p s t h.before now (LineIn octets) fits true t.wall (arrived.wall
+    ∙ h.agrees.wall) (λ yes on. fit (ap (λ (c : Centre). is_open c.session) arrived.centre
     ∙ h.agrees.here.link
-    ∙ on)) (refl, refl, refl) (on_line h.before now octets) h.rested h.agrees heard)
+    ∙ on)) (refl, refl, refl) (on_line h.before now octets) h.rested h.agrees arrived)
 
 -- an own answer found no place
-pub told_overfull : (p : Setup) (told : Option Log) (s t : State) (now : ℕ) (octets : List ℕ)
+pub logged_overfull : (p : Setup) (logged : Option Log) (s t : State) (now : ℕ) (octets : List ℕ)
     (fits : Bool) → LineLaws
     → fits ≡ false → is_open t.centre.session ≡ true → Begins s now (LineIn octets) fits t
-    → IfSome told (HasCome p s now (LineIn octets)) → IfSome told (MayClose p t OwnAnswers Idle)
-told_overfull p None s t now octets fits laws off on b h = tt
-told_overfull p (Some log) s t now octets fits laws off on b h =
-    let heard = heard_in laws p s t now (LineIn octets) fits log tt b h in
+    → IfSome logged (HasCome p s now (LineIn octets)) → IfSome logged (MayClose p t OwnAnswers Idle)
+logged_overfull p None s t now octets fits laws off on b h = tt
+logged_overfull p (Some log) s t now octets fits laws off on b h =
+    let arrived = received_in laws p s t now (LineIn octets) fits log tt b h in
     let none : Counts false fits h.before = λ no on. let never : false ≡ true = no in cc in
-    let a = come_other p s t h.before now (LineIn octets) fits false t.wall (heard.wall
+    let a = come_other p s t h.before now (LineIn octets) fits false t.wall (arrived.wall
     ∙ h.agrees.wall) none (refl, refl, refl) (on_line h.before now octets) h.rested h.agrees
-    heard in
+    arrived in
     subst (MayClose p t OwnAnswers Idle) (sym h.is) (record {
       last = refl;
       state = t;
@@ -662,86 +673,91 @@ told_overfull p (Some log) s t now octets fits laws off on b h =
       fault = Some OwnAnswers;
       stands = stands_overfull p t (Came now (LineIn octets) ∷ h.before) [] Crowded a;
       why = subst (λ (c : Course). has_lacked_place c.works.history ≡ true)
-          (sym (come_course p s t h.before now (LineIn octets) fits false t.wall (heard.wall
+          (sym (come_course p s t h.before now (LineIn octets) fits false t.wall (arrived.wall
           ∙ h.agrees.wall) none (refl, refl, refl) (on_line h.before now octets) h.rested h.agrees
-          heard))
-          (heard.full off);
+          arrived))
+          (arrived.full off);
     })
 
-pub told_tick : (p : Setup) (told : Option Log) (s t : State) (now : ℕ) (fits : Bool) → LineLaws
-    → Begins s now Ticked fits t → IfSome told (HasCome p s now Ticked) → Tracks p t told [] Idle
-told_tick p None s t now fits laws b h = tt
-told_tick p (Some log) s t now fits laws b h =
-    let heard = heard_in laws p s t now Ticked fits log tt b h in
+pub logged_tick : (p : Setup) (logged : Option Log) (s t : State) (now : ℕ) (fits : Bool) → LineLaws
+    → Begins s now Ticked fits t → IfSome logged (HasCome p s now Ticked)
+    → Tracks p t logged [] Idle
+logged_tick p None s t now fits laws b h = tt
+logged_tick p (Some log) s t now fits laws b h =
+    let arrived = received_in laws p s t now Ticked fits log tt b h in
     as_log p t now Ticked log h.before [] Idle h.is
-    (come_other p s t h.before now Ticked fits true t.wall (heard.wall
-    ∙ h.agrees.wall) (λ yes on. b.hears.1) (refl, refl, refl)
-    (λ p c z w. ap (λ x. with_works x c) w) h.rested h.agrees heard)
+    (come_other p s t h.before now Ticked fits true t.wall (arrived.wall
+    ∙ h.agrees.wall) (λ yes on. b.receives.1) (refl, refl, refl)
+    (λ p c z w. ap (λ x. with_works x c) w) h.rested h.agrees arrived)
 
 -- what the wall clock shows
-pub told_wall : (p : Setup) (told : Option Log) (s t u : State) (now number : ℕ) (fits : Bool)
+pub logged_wall : (p : Setup) (logged : Option Log) (s t u : State) (now number : ℕ) (fits : Bool)
     → LineLaws
     → Begins s now (WallIs number) fits t → u ≡ with_wall number t
-    → IfSome told (HasCome p s now (WallIs number))
-    → Tracks p u told [] Idle
-told_wall p None s t u now number fits laws b is h = tt
-told_wall p (Some log) s t u now number fits laws b is h =
-    let heard = heard_in laws p s t now (WallIs number) fits log tt b h in
+    → IfSome logged (HasCome p s now (WallIs number))
+    → Tracks p u logged [] Idle
+logged_wall p None s t u now number fits laws b is h = tt
+logged_wall p (Some log) s t u now number fits laws b is h =
+    let arrived = received_in laws p s t now (WallIs number) fits log tt b h in
     let shown : Option Wall = Some (record { moment = t.moment; number = number }) in
     subst (λ x. Agrees p x log [] Idle) (sym is) (as_log p (with_wall number t) now (WallIs number)
     log h.before
     [] Idle h.is
     (come_other p s t h.before now (WallIs number) fits true shown
-    (ap (λ m. let w : Wall = record { moment = m; number = number } in Some w) heard.clock)
-    (λ yes on. b.hears.1)
-    (refl, refl, refl) (λ p c z w. ap (λ x. with_works x c) w) h.rested h.agrees heard))
+    (ap (λ m. let w : Wall = record { moment = m; number = number } in Some w) arrived.clock)
+    (λ yes on. b.receives.1)
+    (refl, refl, refl) (λ p c z w. ap (λ x. with_works x c) w) h.rested h.agrees arrived))
 
-pub told_cut : (p : Setup) (told : Option Log) (s t u : State) (now : ℕ) (fits : Bool) → LineLaws
-    → Begins s now CutOff fits t → u ≡ disconnected t → IfSome told (HasCome p s now CutOff)
-    → Tracks p u told [] Idle
-told_cut p None s t u now fits laws b is h = tt
-told_cut p (Some log) s t u now fits laws b is h = subst (λ x. Agrees p x log [] Idle) (sym is)
+pub logged_cut : (p : Setup) (logged : Option Log) (s t u : State) (now : ℕ) (fits : Bool)
+    → LineLaws
+    → Begins s now CutOff fits t → u ≡ disconnected t → IfSome logged (HasCome p s now CutOff)
+    → Tracks p u logged [] Idle
+logged_cut p None s t u now fits laws b is h = tt
+logged_cut p (Some log) s t u now fits laws b is h = subst (λ x. Agrees p x log [] Idle) (sym is)
     (as_log p (disconnected t) now CutOff log h.before [] Idle h.is
     (come_cut laws p s t h.before now fits h.rested h.agrees
-    (heard_in laws p s t now CutOff fits log tt b h)))
+    (received_in laws p s t now CutOff fits log tt b h)))
 
-pub told_open : (p : Setup) (told : Option Log) (s t u : State) (now : ℕ) (fits : Bool) → LineLaws
+pub logged_open : (p : Setup) (logged : Option Log) (s t u : State) (now : ℕ) (fits : Bool)
+    → LineLaws
     → Begins s now Opened fits t → is_open t.centre.session ≡ false → u ≡ connected (disconnected t)
-    → IfSome told (HasCome p s now Opened) → Tracks p u told [] Idle
-told_open p None s t u now fits laws b off is h = tt
-told_open p (Some log) s t u now fits laws b off is h =
+    → IfSome logged (HasCome p s now Opened) → Tracks p u logged [] Idle
+logged_open p None s t u now fits laws b off is h = tt
+logged_open p (Some log) s t u now fits laws b off is h =
     subst (λ x. Agrees p x log [] Idle) (sym is) (as_log p (connected (disconnected t)) now Opened
     log h.before
     [] Idle h.is (come_open laws p s t h.before now fits h.rested h.agrees
-    (heard_in laws p s t now Opened fits log tt b h) off))
+    (received_in laws p s t now Opened fits log tt b h) off))
 
-pub told_replaced : (p : Setup) (told after : Option Log) (s t u : State) (now moment : ℕ)
+pub logged_replaced : (p : Setup) (logged after : Option Log) (s t u : State) (now moment : ℕ)
     (fits : Bool) → LineLaws
     → Begins s now Opened fits t → is_open t.centre.session ≡ true → u ≡ connected (disconnected t)
-    → after ≡ tell told (Went moment (Closed Replaced) ∷ []) → moment ≡ t.moment
-    → IfSome told (HasCome p s now Opened)
+    → after ≡ with_news logged (Went moment (Closed Replaced) ∷ []) → moment ≡ t.moment
+    → IfSome logged (HasCome p s now Opened)
     → Tracks p u after [] Idle
-told_replaced p told after s t u now moment fits laws b on is e same h =
-    rw (e, same, is) (by_log told h)
+logged_replaced p logged after s t u now moment fits laws b on is e same h =
+    rw (e, same, is) (by_log logged h)
   where
-    by_log : (told : Option Log) → IfSome told (HasCome p s now Opened)
-        → Tracks p (connected (disconnected t)) (tell told (Went t.moment (Closed Replaced) ∷ []))
+    by_log : (logged : Option Log) → IfSome logged (HasCome p s now Opened)
+        → Tracks p (connected (disconnected t))
+        (with_news logged (Went t.moment (Closed Replaced) ∷ []))
         [] Idle
     by_log None h = tt
     by_log (Some log) h =
         subst (λ l. Agrees p (connected (disconnected t)) (Went t.moment (Closed Replaced) ∷ l) []
         Idle) (sym h.is)
         (come_replaced laws p s t h.before now fits h.rested h.agrees
-        (heard_in laws p s t now Opened fits log tt b h) on)
+        (received_in laws p s t now Opened fits log tt b h) on)
 
 -- where the close couldn't be put out
-pub told_unreplaced : (p : Setup) (told : Option Log) (s t : State) (now : ℕ) (fits : Bool)
+pub logged_unreplaced : (p : Setup) (logged : Option Log) (s t : State) (now : ℕ) (fits : Bool)
     → LineLaws
-    → Begins s now Opened fits t → IfSome told (HasCome p s now Opened) → IfSome told (IsFaithful p)
-told_unreplaced p None s t now fits laws b h = tt
-told_unreplaced p (Some log) s t now fits laws b h = subst (IsFaithful p) (sym h.is)
+    → Begins s now Opened fits t → IfSome logged (HasCome p s now Opened)
+    → IfSome logged (IsFaithful p)
+logged_unreplaced p None s t now fits laws b h = tt
+logged_unreplaced p (Some log) s t now fits laws b h = subst (IsFaithful p) (sym h.is)
     (opened_faithful laws p s t h.before now fits h.rested h.agrees
-    (heard_in laws p s t now Opened fits log tt b h))
+    (received_in laws p s t now Opened fits log tt b h))
 
 -- how many octets have been received once more came
 received_by : (b : Bool) (c : Channel) (octets : List ℕ) → c.is_open ≡ b
@@ -763,15 +779,15 @@ received_by false c octets e =
       lacked_place = c.lacked_place;
     } else c).received) e ∙ omega arith
 
-pub told_bytes : (b : Bool) (p : Setup) (told : Option Log) (s t : State) (now : ℕ)
+pub logged_bytes : (b : Bool) (p : Setup) (logged : Option Log) (s t : State) (now : ℕ)
     (octets : List ℕ) (fits : Bool)
     → LineLaws → Begins s now (TcpIn octets) fits t → is_open t.centre.session ≡ b
-    → IfSome told (HasCome p s now (TcpIn octets)) → Awaits p t told (if b then octets else [])
-told_bytes b p None s t now octets fits laws begun is h = tt
-told_bytes b p (Some log) s t now octets fits laws begun is h =
-    let agrees = come_bytes p s t h.before now octets fits begun.hears.1 h.rested h.agrees
-    (heard_in laws p s t now (TcpIn octets) fits log tt begun h) in
-    let same : t ≡ line_timed (at_moment s now) = begun.times ∙ ap line_timed begun.hears.0 in
+    → IfSome logged (HasCome p s now (TcpIn octets)) → Awaits p t logged (if b then octets else [])
+logged_bytes b p None s t now octets fits laws begun is h = tt
+logged_bytes b p (Some log) s t now octets fits laws begun is h =
+    let agrees = come_bytes p s t h.before now octets fits begun.receives.1 h.rested h.agrees
+    (received_in laws p s t now (TcpIn octets) fits log tt begun h) in
+    let same : t ≡ line_timed (at_moment s now) = begun.times ∙ ap line_timed begun.receives.0 in
     let more : List ℕ = if b then octets else [] in
     let open_is : (present h.before).is_open ≡ b = sym h.agrees.here.link
     ∙ sym (ap (λ (x : State). is_open x.centre.session) same) ∙ is in
@@ -789,7 +805,7 @@ told_bytes b p (Some log) s t now octets fits laws begun is h =
           (omega (arith, total)),
     )
 
-pub told_idle : (p : Setup) (told : Option Log) (s : State) → Awaits p s told []
-    → Tracks p s told [] Idle
-told_idle p None s h = tt
-told_idle p (Some log) s h = now_idle p s log h.1 h.2 h.0
+pub logged_idle : (p : Setup) (logged : Option Log) (s : State) → Awaits p s logged []
+    → Tracks p s logged [] Idle
+logged_idle p None s h = tt
+logged_idle p (Some log) s h = now_idle p s log h.1 h.2 h.0

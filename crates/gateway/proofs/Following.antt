@@ -6,12 +6,12 @@ use Rattle.std.specs.Prelude.{IfSome, option_map}
 use Rattle.std.specs.Bool.{OnTrue}
 use Rattle.session.specs.Ends.{IsConfirmed}
 use Rattle.gateway.specs.Log.{Log, LogEntry, events_of, Input, Restarted, latest}
-use Rattle.gateway.specs.Log.{Came, tell}
+use Rattle.gateway.specs.Log.{Came, with_news}
 use Rattle.gateway.specs.Reports.{Setup}
 use Rattle.gateway.specs.Course.{Course, room_in, Runs}
 use Rattle.gateway.specs.Phases.{Fresh, Asked, IsFresh, resting}
 use Rattle.link.specs.LineLaws.{LineLaws}
-use Rattle.gateway.specs.Runs.{events_told, MoreEvents}
+use Rattle.gateway.specs.Runs.{events_logged, MoreEvents}
 use Rattle.gateway.specs.State.{State}
 use Rattle.gateway.specs.Agrees.{Agrees, Tracks, Leaves}
 use Rattle.gateway.specs.Agrees.{Follows, HasCome, Rests, IsClear, IsSpent}
@@ -69,42 +69,44 @@ at_rest p s [] a = started p s [] tt a
 at_rest p s (Came now Restarted ∷ log) a = started p s (Came now Restarted ∷ log) tt a
 at_rest p s (entry ∷ log) a = a
 
-pub follows : (laws : LineLaws) (p : Setup) (told : Option Log) (s : State) → IsClear s
-    → Tracks p s told [] Asked
-    → Follows p s told
+pub follows : (laws : LineLaws) (p : Setup) (logged : Option Log) (s : State) → IsClear s
+    → Tracks p s logged [] Asked
+    → Follows p s logged
 follows laws p None s last h = tt
 follows laws p (Some log) s last a = (at_rest p s log a, last)
 
-pub step_follows : (laws : LineLaws) (p : Setup) (result : Bool) (told : Option Log) (s : State)
+pub step_follows : (laws : LineLaws) (p : Setup) (result : Bool) (logged : Option Log) (s : State)
     → OnTrue result (IsConfirmed s.centre.session) → OnTrue result (IsSpent s)
-    → Leaves result p s told [] Asked
-    → OnTrue result (Follows p s told)
-step_follows laws p true told s last spent h =
-    follows laws p told s (record { confirmed = last; spent = spent }) h
-step_follows laws p false told s last spent h = tt
+    → Leaves result p s logged [] Asked
+    → OnTrue result (Follows p s logged)
+step_follows laws p true logged s last spent h =
+    follows laws p logged s (record { confirmed = last; spent = spent }) h
+step_follows laws p false logged s last spent h = tt
 
 -- an event that a port told has come
-pub come : (p : Setup) (told after : Option Log) (s : State) (now : ℕ) (event : Input)
+pub come : (p : Setup) (logged after : Option Log) (s : State) (now : ℕ) (event : Input)
     (news : List LogEntry)
-    → after ≡ tell told news → news ≡ Came now event ∷ [] → Follows p s told → Rests p told
+    → after ≡ with_news logged news → news ≡ Came now event ∷ [] → Follows p s logged
+    → Rests p logged
     → IfSome after (HasCome p s now event)
 come p None after s now event news e is h rest = subst (λ l. IfSome l (HasCome p s now event))
     (sym e) tt
 come p (Some log) after s now event news e is h rest =
-    subst (λ l. IfSome l (HasCome p s now event)) (sym (e ∙ ap (λ n. tell (Some log) n) is))
+    subst (λ l. IfSome l (HasCome p s now event)) (sym (e ∙ ap (λ n. with_news (Some log) n) is))
     (record { before = log; is = refl; agrees = h.0; clear = h.1; rested = rest })
 
 -- and is one event more
 pub more_events : (n now : ℕ) (event : Input) (news : List LogEntry)
-    (first told after last : Option Log)
-    → MoreEvents n first told → after ≡ tell told news → news ≡ Came now event ∷ []
-    → events_told last ≡ events_told after → MoreEvents (n + 1) first last
-more_events n now event news first told after last h e is same =
-    ap (option_map length) (same ∙ ap events_told (e ∙ ap (tell told) is)) ∙ by_logs first told h
+    (first logged after last : Option Log)
+    → MoreEvents n first logged → after ≡ with_news logged news → news ≡ Came now event ∷ []
+    → events_logged last ≡ events_logged after → MoreEvents (n + 1) first last
+more_events n now event news first logged after last h e is same =
+    ap (option_map length) (same ∙ ap events_logged (e ∙ ap (with_news logged) is))
+    ∙ by_logs first logged h
   where
-    by_logs : (first told : Option Log) → MoreEvents n first told
-        → option_map length (events_told (tell told (Came now event ∷ [])))
-        ≡ option_map (λ (events : List LogEntry). length events + (n + 1)) (events_told first)
+    by_logs : (first logged : Option Log) → MoreEvents n first logged
+        → option_map length (events_logged (with_news logged (Came now event ∷ [])))
+        ≡ option_map (λ (events : List LogEntry). length events + (n + 1)) (events_logged first)
     by_logs None None h = refl
     by_logs None (Some log) h = cc
     by_logs (Some log) None h = cc

@@ -25,11 +25,12 @@ use Rattle.gateway.specs.Log.{Log, LineIn, Opened, TcpIn, CutOff, Ticked, WallIs
 use Rattle.gateway.specs.Log.{Went, LineOut, TcpOut, Closed, GapOut, latest}
 use Rattle.gateway.specs.Connections.{present}
 use Rattle.gateway.specs.Reports.{Setup}
-use Rattle.gateway.specs.Serial.{listed, is_first_command, heard_outcome}
-use Rattle.gateway.specs.Works.{Works, octets_works, tasks_of, told_kept, is_command_report}
-use Rattle.gateway.specs.Works.{LearnsReport, LearnsOf, heard_works, sent_works, answered_works}
-use Rattle.gateway.specs.Works.{told_silent, settled_works, ready_works, unasked_works, done_works}
-use Rattle.gateway.specs.Works.{told_put, asked_works}
+use Rattle.gateway.specs.Serial.{listed, is_first_command, answer_outcome}
+use Rattle.gateway.specs.Works.{Works, octets_works, tasks_of, logged_kept, is_command_report}
+use Rattle.gateway.specs.Works.{LearnsReport, LearnsOf, received_works, sent_works, answered_works}
+use Rattle.gateway.specs.Works.{logged_silent, settled_works, ready_works, unasked_works}
+use Rattle.gateway.specs.Works.{done_works}
+use Rattle.gateway.specs.Works.{logged_put, asked_works}
 use Rattle.gateway.specs.Course.{Course, came_frames, with_frames, closed_course, IsLeft, room_in}
 use Rattle.gateway.specs.Course.{Runs}
 use Rattle.gateway.specs.Frames.{transfers}
@@ -46,7 +47,7 @@ AreGiven h = GivesWhatIsDue h × (due_in h ≡ None)
 
 -- the answer that an entry leaves due is handed over
 one_kept : (o : Option (List ℕ)) (s : tasks.State) (h : History) → GivesWhatIsDue h → due_in h ≡ o
-    → AreGiven (told_kept (listed o) s h)
+    → AreGiven (logged_kept (listed o) s h)
 one_kept None s h g e = (g, e)
 one_kept (Some x) s h g e = by_room (has_answer_place s)
   where
@@ -61,7 +62,7 @@ one_kept (Some x) s h g e = by_room (has_answer_place s)
 -- so are the pieces of a station's answer
 pieces_kept : (xs : List (List ℕ)) (s : tasks.State) (h : History) → AreGiven h → is_passing_on h
     ≡ true
-    → AreGiven (told_kept xs s h)
+    → AreGiven (logged_kept xs s h)
 pieces_kept [] s h g on = g
 pieces_kept (x ∷ xs) s h g on =
     by_room (has_answer_place s) refl
@@ -73,8 +74,9 @@ pieces_kept (x ∷ xs) s h g on =
 
     by_room : (b : Bool) → has_answer_place s ≡ b
         → (has_answer_place s ≡ true
-        → AreGiven (told_kept xs (tasks.offered x s) (Offered x (has_answer_place s) ∷ h)))
-        → AreGiven (if b then told_kept xs (tasks.offered x s) (Offered x (has_answer_place s) ∷ h)
+        → AreGiven (logged_kept xs (tasks.offered x s) (Offered x (has_answer_place s) ∷ h)))
+        → AreGiven (if b then logged_kept xs (tasks.offered x s) (Offered x (has_answer_place s)
+        ∷ h)
         else Offered x
         (has_answer_place s) ∷ h)
     by_room true all more = more all
@@ -82,21 +84,21 @@ pieces_kept (x ∷ xs) s h g on =
 
 -- and they are handed over one after another
 pub handed_over : (xs : List (List ℕ)) (s : tasks.State) (h : History)
-    → AreHandedOver xs h (told_kept xs s h)
+    → AreHandedOver xs h (logged_kept xs s h)
 handed_over [] s h = refl
 handed_over (x ∷ xs) s h =
     by_room (has_answer_place s) refl (handed_over xs (tasks.offered x s) (Offered x true ∷ h))
   where
     by_room : (b : Bool) → has_answer_place s ≡ b
         → AreHandedOver xs (Offered x true ∷ h)
-        (told_kept xs (tasks.offered x s) (Offered x true ∷ h))
+        (logged_kept xs (tasks.offered x s) (Offered x true ∷ h))
         → AreHandedOver (x ∷ xs) h (if b
-        then told_kept xs (tasks.offered x s) (Offered x (has_answer_place s)
+        then logged_kept xs (tasks.offered x s) (Offered x (has_answer_place s)
         ∷ h) else Offered x (has_answer_place s) ∷ h)
     by_room true all more =
         inr
         (subst (λ (b : Bool). AreHandedOver xs (Offered x true ∷ h)
-        (told_kept xs (tasks.offered x s) (Offered x b
+        (logged_kept xs (tasks.offered x s) (Offered x b
         ∷ h))) (sym all) more)
     by_room false none more = inl (ap (λ (b : Bool). Offered x b ∷ h) none)
 
@@ -139,20 +141,20 @@ learnt p at transferring (outcome.Empty station) w z learns g =
 
 -- Frames
 
-heard : (f : Apdu) (now : ℕ) (wall : Option ℕ) (w : Works) → AreGiven w.history
-    → AreGiven (heard_works f now wall w).history
-heard (I ns nr asdu) now wall w g =
+arrived : (f : Apdu) (now : ℕ) (wall : Option ℕ) (w : Works) → AreGiven w.history
+    → AreGiven (received_works f now wall w).history
+arrived (I ns nr asdu) now wall w g =
     let judgement = judged asdu.items now wall w.serial.commands in
     one_kept judgement.0 judgement.1 (Judged now wall asdu.items judgement.0 ∷ w.history) (g.1, g.0)
     refl
-heard (S nr) now wall w g = g
-heard (U u) now wall w g = g
+arrived (S nr) now wall w g = g
+arrived (U u) now wall w g = g
 
 frames : (p : Setup) (fs : List Apdu) (now : ℕ) (wall : Option ℕ) (d : Course)
     → AreGiven d.works.history
     → AreGiven (with_frames p fs now wall d).works.history
 frames p [] now wall d g = g
-frames p (f ∷ fs) now wall d g = heard f now wall (with_frames p fs now wall d).works
+frames p (f ∷ fs) now wall d g = arrived f now wall (with_frames p fs now wall d).works
     (frames p fs now wall d g)
 
 answered : (w : Works) → AreGiven w.history → AreGiven (answered_works w).history
@@ -176,7 +178,7 @@ sent (U u) w g = g
 settled : (at : ℕ) (w : Works) → AreGiven w.history → AreGiven (settled_works at w).history
 settled at w g = by_silent w.serial.silent
   where
-    by_silent : (o : Option ℕ) → AreGiven (told_silent o w)
+    by_silent : (o : Option ℕ) → AreGiven (logged_silent o w)
     by_silent None = g
     by_silent (Some k) = ((g.1, g.0), refl)
 
@@ -189,7 +191,7 @@ done at room w g = by_due w.is_due
     by_due true = settled at w g
     by_due false = g
 
-put : (b : Bool) (k : ℕ) (w : Works) → AreGiven w.history → AreGiven (told_put b k w)
+put : (b : Bool) (k : ℕ) (w : Works) → AreGiven w.history → AreGiven (logged_put b k w)
 put false k w g = g
 put true k w g = by_oldest (oldest_for k w.serial.commands)
   where
@@ -311,12 +313,12 @@ pub stations_given : CommandLaws → (p : Setup) (log : Log) (at : ℕ) (octets 
     → (before : Course) × (left : Course) × Runs p log before × IsLeft p log before left
     × (transfers (came_frames left.talk) ≡ true
     → GivesAnswer p (latest (Came at (LineIn octets) ∷ log))
-    (heard_outcome octets left.works.serial)
+    (answer_outcome octets left.works.serial)
     left.works.history d.works.history)
 stations_given laws p log at octets d r =
     let now : ℕ = latest (Came at (LineIn octets) ∷ log) in
     let w : Works = octets_works octets r.1.works in
-    let o : Outcome = heard_outcome octets r.1.works.serial in (
+    let o : Outcome = answer_outcome octets r.1.works.serial in (
       r.0,
       r.1,
       r.2,

@@ -6,8 +6,8 @@ use Rattle.std.proofs.Common.{Option, Some, None}
 use Rattle.std.specs.Prelude.{IfSome, is_some}
 use Rattle.std.proofs.lemmas.List.{drop_at, drop-drop, take-append-drop, length-drop}
 use Rattle.std.proofs.lemmas.Bool.{cond-true}
-use Rattle.apci.specs.declared.assembling.Heard.TheVariants as hears
-use Rattle.apci.specs.Assembly.{Assembly, Hears}
+use Rattle.apci.specs.declared.assembling.Received.TheVariants as receives
+use Rattle.apci.specs.Assembly.{Assembly, Receives}
 use Rattle.apci.specs.declared.apdu.Apdu.{Apdu}
 use Rattle.apci.specs.Spelling.{spelling, Fits}
 use Rattle.apci.specs.declared.apdu.Front.TheVariants as front
@@ -37,10 +37,11 @@ use Rattle.gateway.specs.Agrees.{Agrees, Tracks, Awaits, Meets, IsClear, IsUndue
 use Rattle.gateway.specs.Steps.{Judged, IsFaulty, IsTaken, MayClose}
 use Rattle.gateway.proofs.Frames.{taken_stays, nothing_waits}
 use Rattle.gateway.proofs.Tied.{no_close, fault_closes, fault_cases}
-use Rattle.gateway.proofs.Working.{heard_overfull}
+use Rattle.gateway.proofs.Working.{received_overfull}
 use Rattle.gateway.proofs.Talking.{confirmed_by}
 use Rattle.gateway.proofs.Agreement.{flushed_by, undue_by}
-use Rattle.gateway.proofs.Hearing.{after_heard, heard_course, after_more, with_so_far, now_idle}
+use Rattle.gateway.proofs.Receiving.{after_received, received_course, after_more, with_so_far}
+use Rattle.gateway.proofs.Receiving.{now_idle}
 use Rattle.gateway.proofs.Closing.{stands_garbled, stands_faulty, stands_overfull, fault_ends}
 use Rattle.gateway.proofs.Closing.{fault_closes_so}
 
@@ -75,19 +76,20 @@ module _ (p : Setup) (s : State) (log : Log) (rest : List ℕ) (f : Apdu)
   whole = ap (λ x. x ++ (spelling f ++ rest)) (nothing_so_far p s log _ a so)
 
   abbrev frame_taken : Agrees p (framed f s) log rest (after_frame kept)
-  frame_taken = after_heard p s log (spelling f ++ rest) rest f a on ready undue past so fits whole
+  frame_taken = after_received p s log (spelling f ++ rest) rest f a on ready undue past so fits
+      whole
       both.0 both.1 kept
       place
 
   taken_course : frame_taken.course ≡ with_frame p f s.moment (wall_on log s.moment) a.course
-  taken_course = heard_course p s log (spelling f ++ rest) rest f a on ready undue past so fits
+  taken_course = received_course p s log (spelling f ++ rest) rest f a on ready undue past so fits
       whole both.0 both.1
       kept place
 
-pub judged_on : (p : Setup) (told : Option Log) (s t : State) (f : Apdu) (rest : List ℕ)
+pub judged_on : (p : Setup) (logged : Option Log) (s t : State) (f : Apdu) (rest : List ℕ)
     → session.is_open s.centre.session ≡ true → Fits f → s.centre.so_far ≡ Some []
     → Judged s f None t
-    → Meets p s told (spelling f ++ rest) rest → Tracks p t told rest phases.Judged
+    → Meets p s logged (spelling f ++ rest) rest → Tracks p t logged rest phases.Judged
 judged_on p None s t f rest on fits so j a = tt
 judged_on p (Some log) s t f rest on fits so j a = subst (λ x. Agrees p x log rest phases.Judged)
     (sym j.after)
@@ -188,18 +190,18 @@ overfull_closes p log s t f rest on fits so j ready undue past a =
       stands = stands_overfull p (framed f s) log rest Crowded b;
       why = subst (λ (c : Course). has_lacked_place c.works.history ≡ true)
           (sym (taken_course p s log rest f a on ready undue past fits so j.passes false j.place))
-          (heard_overfull f s.moment (wall_on log s.moment) a.course.works
+          (received_overfull f s.moment (wall_on log s.moment) a.course.works
           (ap (λ w. has_place f s.moment (wall_of w s.moment) a.course.works.serial.commands)
           (sym a.wall)
           ∙ ap (λ (z : Serial). has_place f s.moment (wall_now s) z.commands) (sym a.stands.does)
           ∙ j.place));
     }
 
-pub judged_closes : (p : Setup) (told : Option Log) (s t : State) (f : Apdu) (cause : Close)
+pub judged_closes : (p : Setup) (logged : Option Log) (s t : State) (f : Apdu) (cause : Close)
     (rest : List ℕ)
     → session.is_open s.centre.session ≡ true → Fits f → s.centre.so_far ≡ Some []
     → Judged s f (Some cause) t
-    → Meets p s told (spelling f ++ rest) rest → IfSome told (MayClose p t cause Idle)
+    → Meets p s logged (spelling f ++ rest) rest → IfSome logged (MayClose p t cause Idle)
 judged_closes p None s t f cause rest on fits so j a = tt
 judged_closes p (Some log) s t f cause rest on fits so (inl j) a =
     faulty_closes p log s t f cause rest on fits so j a.1 a.2 a.0
@@ -225,12 +227,13 @@ fed_undue s log piece unjudged so_far so e (inl h) = inl
     (omega (arith, h, ap (λ x. length (pending x ++ piece)) so, ap length e))
 fed_undue s log piece unjudged so_far so e (inr h) = inr h
 
-pub told_fed : (p : Setup) (told : Option Log) (s t : State) (piece unjudged so_far : List ℕ)
+pub logged_fed : (p : Setup) (logged : Option Log) (s t : State) (piece unjudged so_far : List ℕ)
     (n : ℕ)
     → s.centre.so_far ≡ Some so_far → so_far ++ piece ≡ unjudged → 0 < n → n ≤ length piece
-    → t ≡ with_octets (Some []) s → Awaits p s told piece → Meets p t told unjudged (drop n piece)
-told_fed p None s t piece unjudged so_far n so e some within is h = tt
-told_fed p (Some log) s t piece unjudged so_far n so e some within is a =
+    → t ≡ with_octets (Some []) s → Awaits p s logged piece
+    → Meets p t logged unjudged (drop n piece)
+logged_fed p None s t piece unjudged so_far n so e some within is h = tt
+logged_fed p (Some log) s t piece unjudged so_far n so e some within is a =
     subst (λ x. Agrees p x log unjudged Taking × IsClear x × IsUndue x log unjudged
     × IsPast log (length (drop n piece))) (sym is) (
       fed p s log piece unjudged so_far so e a.0,
@@ -250,12 +253,13 @@ kept_undue s log piece so_far so (inl h) = inl (omega (
 ))
 kept_undue s log piece so_far so (inr h) = inr h
 
-pub told_more : (p : Setup) (told : Option Log) (s t : State) (piece so_far : List ℕ)
+pub logged_more : (p : Setup) (logged : Option Log) (s t : State) (piece so_far : List ℕ)
     → s.centre.so_far ≡ Some so_far
-    → IsMore (so_far ++ piece) → t ≡ with_octets (Some (so_far ++ piece)) s → Awaits p s told piece
-    → Tracks p t told [] Idle
-told_more p None s t piece so_far so more is h = tt
-told_more p (Some log) s t piece so_far so more is both =
+    → IsMore (so_far ++ piece) → t ≡ with_octets (Some (so_far ++ piece)) s
+    → Awaits p s logged piece
+    → Tracks p t logged [] Idle
+logged_more p None s t piece so_far so more is h = tt
+logged_more p (Some log) s t piece so_far so more is both =
     let a = both.0 in
     let same : a.here.so_far ≡ so_far = unfolded s a.here.so_far so_far a.here.assembler so in
     now_idle p t log
@@ -264,10 +268,11 @@ told_more p (Some log) s t piece so_far so more is both =
     (after_more p s t log piece a (subst (λ x. IsMore (x ++ piece)) (sym same) more) (is
     ∙ ap (λ x. with_octets (Some (x ++ piece)) s) (sym same)))
 
-pub garbled_closes : (p : Setup) (told : Option Log) (s t : State) (piece so_far : List ℕ)
+pub garbled_closes : (p : Setup) (logged : Option Log) (s t : State) (piece so_far : List ℕ)
     → session.is_open s.centre.session ≡ true → s.centre.so_far ≡ Some so_far
     → IsRefused (so_far ++ piece)
-    → t ≡ with_octets (Some []) s → Awaits p s told piece → IfSome told (MayClose p t Grammar Idle)
+    → t ≡ with_octets (Some []) s → Awaits p s logged piece
+    → IfSome logged (MayClose p t Grammar Idle)
 garbled_closes p None s t piece so_far on so refused is h = tt
 garbled_closes p (Some log) s t piece so_far on so refused is both =
     let a = both.0 in
@@ -292,7 +297,7 @@ garbled_closes p (Some log) s t piece so_far on so refused is both =
 
 pub found_apdu : (o : Option (List ℕ)) (piece : List ℕ) (n : ℕ) (after : Assembly) → is_some o
     ≡ true
-    → IfSome o (λ x. Hears x piece n hears.Whole after) → (x : List ℕ) × (o ≡ Some x)
+    → IfSome o (λ x. Receives x piece n receives.Whole after) → (x : List ℕ) × (o ≡ Some x)
     × ((f : Apdu) × Fits f × (x ++ piece ≡ spelling f ++ drop n piece) × (after.so_far ≡ Some [])
     × (after.whole ≡ Some f))
 found_apdu None piece n after is h = cc
@@ -315,7 +320,7 @@ found_apdu (Some x) piece n after is h =
 
 pub found_never : (o : Option (List ℕ)) (piece : List ℕ) (n place : ℕ) (why : Why)
     (after : Assembly)
-    → is_some o ≡ true → IfSome o (λ x. Hears x piece n (hears.Never place why) after)
+    → is_some o ≡ true → IfSome o (λ x. Receives x piece n (receives.Never place why) after)
     → (x : List ℕ) × (o ≡ Some x) × IsRefused (x ++ piece)
 found_never None piece n place why after is h = cc
 found_never (Some x) piece n place why after is h = (x, refl, (place, why, h.0))
@@ -336,26 +341,26 @@ found_whole piece n f h = (
     some (suc n) e = omega arith
 
 -- where nothing is left of a frame, there are no octets of one
-pub nothing_left : (s : State) → s.centre.so_far ≡ Some [] → s.centre.heard ≡ None
+pub nothing_left : (s : State) → s.centre.so_far ≡ Some [] → s.centre.arrived ≡ None
     → s ≡ with_octets (Some []) s
 nothing_left s so none =
     ap (λ (o : Option (List ℕ)). let made : State =
     record s { centre = record s.centre { so_far = o } } in made) so
     ∙ ap (λ (h : Option Apdu). let made : State =
-    record s { centre = record s.centre { so_far = Some []; heard = h } }
+    record s { centre = record s.centre { so_far = Some []; arrived = h } }
     in
     made) none
 
 -- the frame that was whole is taken
-pub told_taken : (p : Setup) (told : Option Log) (s t : State) (f g : Apdu) (rest : List ℕ)
-    → s.centre.heard ≡ Some f
-    → s.centre.heard ≡ Some g → s.centre.so_far ≡ Some []
-    → t ≡ with_centre (record s.centre { heard = None }) s
-    → Meets p (with_octets (Some []) s) told (spelling f ++ rest) rest
-    → Meets p t told (spelling g ++ rest) rest
-told_taken p told s t f g rest heard taken so is h =
+pub logged_taken : (p : Setup) (logged : Option Log) (s t : State) (f g : Apdu) (rest : List ℕ)
+    → s.centre.arrived ≡ Some f
+    → s.centre.arrived ≡ Some g → s.centre.so_far ≡ Some []
+    → t ≡ with_centre (record s.centre { arrived = None }) s
+    → Meets p (with_octets (Some []) s) logged (spelling f ++ rest) rest
+    → Meets p t logged (spelling g ++ rest) rest
+logged_taken p logged s t f g rest arrived taken so is h =
     let same : f ≡ g = cc in
     let state : with_octets (Some []) s ≡ t = ap (λ (o : Option (List ℕ)). with_octets o s) (sym so)
     ∙ sym is in
-    subst (λ (x : Apdu). Meets p t told (spelling x ++ rest) rest) same
-    (subst (λ (x : State). Meets p x told (spelling f ++ rest) rest) state h)
+    subst (λ (x : Apdu). Meets p t logged (spelling x ++ rest) rest) same
+    (subst (λ (x : State). Meets p x logged (spelling f ++ rest) rest) state h)

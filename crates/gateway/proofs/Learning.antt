@@ -8,7 +8,7 @@ use Rattle.asdu.specs.Sizes.{tcp}
 use Rattle.asdu.specs.InformationObjects.{monitor_objects_of}
 use Rattle.link.specs.declared.outcome.Outcome.{Outcome}
 use Rattle.link.specs.declared.outcome.Outcome.TheVariants as outcome
-use Rattle.link.specs.Telling.{gap_in_outcome}
+use Rattle.link.specs.Matching.{gap_in_outcome}
 use Rattle.session.specs.Session.{is_transferring as is_transferring_of}
 use Rattle.command.specs.State as tasks
 use Rattle.command.specs.State.{line_of, refusal_of}
@@ -16,12 +16,12 @@ use Rattle.command.specs.History.{History}
 use Rattle.command.specs.Mirrors as mirrors
 use Rattle.command.specs.Calls.{Run, Busy, Mirror}
 use Rattle.gateway.specs.Log.{Log, Restarted, Came, latest}
-use Rattle.gateway.specs.Gaps.{gaps_of, gaps_told, gap_for}
+use Rattle.gateway.specs.Gaps.{gaps_of, gaps_reported, gap_for}
 use Rattle.gateway.specs.Reports.{Setup}
 use Rattle.gateway.specs.Serial as serial
 use Rattle.gateway.specs.Serial.{Serial, refusals, mirrored}
 use Rattle.gateway.specs.State.{State, with_serial}
-use Rattle.gateway.specs.Works.{Works, has_lacked_place, told, is_command_report, mirrored_works}
+use Rattle.gateway.specs.Works.{Works, has_lacked_place, logged, is_command_report, mirrored_works}
 use Rattle.gateway.specs.Works.{LearnsReport, accepted_works, given_up_works, refused_works}
 use Rattle.gateway.specs.Works.{LearnsOf, ready_works, unasked_works, done_works}
 use Rattle.gateway.specs.Course.{Course, room_in, IsLeft}
@@ -57,8 +57,8 @@ fresh_works p s log c does none = does
 
 fresh_left : (p : Setup) (log : Log) (c : Course) → c.works.is_due ≡ false
     → c.works.serial.gap ≡ None → IsLeft p log c (left_of p log c)
-fresh_left p log c none told = record {
-  told = told;
+fresh_left p log c none logged = record {
+  logged = logged;
   none = λ due. let no : false ≡ true = sym none ∙ due in cc;
   is = refl;
 }
@@ -75,18 +75,18 @@ pub is_left : (p : Setup) (s : State) (log : Log) (a : Agrees p s log [] (restin
 is_left p s [] a = fresh_left p [] a.course a.stands.asks.0 a.stands.asks.1
 is_left p s (Came now Restarted ∷ log) a =
     fresh_left p (Came now Restarted ∷ log) a.course a.stands.asks.0 a.stands.asks.1
-is_left p s (entry ∷ log) a = record { told = a.stands.asks.2; none = a.stands.asks.0; is = refl }
+is_left p s (entry ∷ log) a = record { logged = a.stands.asks.2; none = a.stands.asks.0; is = refl }
 
 -- no gap is left of the step before, and each is told
 pub none_left : (p : Setup) (s : State) (log : Log) (a : Agrees p s log [] (resting log))
     → s.serial.gap ≡ None
 none_left p s log a = ap (λ (z : Serial). z.gap) (at_rest_works p s log a)
-    ∙ gap_in Asked (latest log) (room_in p log a.course) a.course.works ∙ (is_left p s log a).told
+    ∙ gap_in Asked (latest log) (room_in p log a.course) a.course.works ∙ (is_left p s log a).logged
 
-pub all_told : (p : Setup) (s : State) (log : Log) (a : Agrees p s log [] (resting log)) (i : ℕ)
-    → gaps_told i log ≡ gaps_of p i log
-all_told p s log a i = sym (append-nil (gaps_told i log))
-    ∙ ap (λ g. gaps_told i log ++ gap_for i g) (sym (none_left p s log a)) ∙ a.gaps i
+pub all_logged : (p : Setup) (s : State) (log : Log) (a : Agrees p s log [] (resting log)) (i : ℕ)
+    → gaps_reported i log ≡ gaps_of p i log
+all_logged p s log a i = sym (append-nil (gaps_reported i log))
+    ∙ ap (λ g. gaps_reported i log ++ gap_for i g) (sym (none_left p s log a)) ∙ a.gaps i
 
 -- What is learnt of an exchange
 
@@ -158,8 +158,8 @@ module _ (p : Setup) (at : ℕ) (s : State) (h : History) (is_due : Bool) (laws 
         learns = refl;
         serial = ap (λ (x : State). x.serial) e.0;
         due = refl;
-        full = λ off. kept_overfull own c (told (Busy i) w) (sym e.1 ∙ off);
-        placed = λ on. kept_placed own c (told (Busy i) w) (sym e.1 ∙ on);
+        full = λ off. kept_overfull own c (logged (Busy i) w) (sym e.1 ∙ off);
+        placed = λ on. kept_placed own c (logged (Busy i) w) (sym e.1 ∙ on);
         gap = λ i. ap (λ (x : State). gap_for i x.serial.gap) e.0 ∙ ap (gap_for i) no_gap;
         waiting = ap (λ (x : State). x.serial.commands.waiting) e.0 ∙ kept_waiting own c;
         plain = subst ArePlain (sym (ap (λ (x : State). x.serial.commands.answers) e.0))
@@ -182,8 +182,8 @@ module _ (p : Setup) (at : ℕ) (s : State) (h : History) (is_due : Bool) (laws 
             (m.v, m.plain, m.pieces, m.passed, m.tagged, refl);
         serial = m.after;
         due = refl;
-        full = λ off. kept_overfull m.pieces c (told (Mirror m.v at) w) (sym m.all ∙ off);
-        placed = λ on. kept_placed m.pieces c (told (Mirror m.v at) w) (sym m.all ∙ on);
+        full = λ off. kept_overfull m.pieces c (logged (Mirror m.v at) w) (sym m.all ∙ off);
+        placed = λ on. kept_placed m.pieces c (logged (Mirror m.v at) w) (sym m.all ∙ on);
         gap = λ i. ap (λ (x : Serial). gap_for i x.gap) m.after ∙ ap (gap_for i) no_gap;
         waiting = ap (λ (x : Serial). x.commands.waiting) m.after ∙ kept_waiting m.pieces c
             ∙ laws.mirrored_waits m.v at s.serial.commands;

@@ -15,7 +15,7 @@ pub mod Offering
 pub mod Serving
 pub mod Talking
 pub mod Agreement
-pub mod Hearing
+pub mod Receiving
 pub mod Closing
 pub mod Stations
 pub mod Learning

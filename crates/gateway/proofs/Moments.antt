@@ -5,7 +5,7 @@ use Rattle.std.specs.Prelude.{◌⊎◌}
 use Rattle.std.specs.List.{AllByRecursion}
 use Rattle.std.proofs.Math.Nat.{le-max_left, le-max_right, max-le, min-le_right, max-eq_left}
 use Rattle.std.proofs.Math.Nat.{max-eq_right}
-use Rattle.std.proofs.lemmas.Bool.Decides.{leb_tells}
+use Rattle.std.proofs.lemmas.Bool.Decides.{leb_matches}
 use Rattle.gateway.specs.Log.{Log, Input, Output, Came, Went, latest, last_moment}
 use Rattle.gateway.specs.Reports.{Setup}
 use Rattle.gateway.specs.Traffic.{ActsRightly}
@@ -19,9 +19,9 @@ later a b h [] all = all
 later a b h (entry ∷ log) all = (le_trans all.0 h, later a b h log all.1)
 
 -- an event comes
-came_told : (now : ℕ) (event : Input) (log : Log) → IsOneOf (latest log) log →
+came_logged : (now : ℕ) (event : Input) (log : Log) → IsOneOf (latest log) log →
     IsOneOf (max (latest log) (min now last_moment)) (Came now event ∷ log)
-came_told now event log old = by_order (leb_tells (latest log) (min now last_moment))
+came_logged now event log old = by_order (leb_matches (latest log) (min now last_moment))
   where
     by_order : ((nat_le (latest log) (min now last_moment) ≡ true)
         × (latest log ≤ min now last_moment))
@@ -40,7 +40,7 @@ came now event log old = record {
     later (latest log) (max (latest log) (min now last_moment))
         (le-max_left (latest log) (min now last_moment)) log old.none_later,
   );
-  told = came_told now event log old.told;
+  logged = came_logged now event log old.logged;
 }
 
 -- an action goes out at the step's moment
@@ -49,11 +49,11 @@ went : (now : ℕ) (action : Output) (log : Log) → now ≡ latest log → IsGr
 went now action log e old = record {
   counts = old.counts;
   none_later = (subst (λ m. m ≤ latest log) (sym e) (le_refl (latest log)), old.none_later);
-  told = old.told;
+  logged = old.logged;
 }
 
 pub latest_is_greatest : (p : Setup) (log : Log) → ActsRightly p log → IsGreatest log (latest log)
-latest_is_greatest p [] acts = record { counts = zero-le; none_later = tt; told = refl }
+latest_is_greatest p [] acts = record { counts = zero-le; none_later = tt; logged = refl }
 latest_is_greatest p (Came now event ∷ log) acts =
     came now event log (latest_is_greatest p log acts)
 latest_is_greatest p (Went now action ∷ log) acts =

@@ -18,7 +18,8 @@ use Rattle.command.specs.declared.waiting.Waiting.{Waiting}
 use Rattle.command.specs.State as tasks
 use Rattle.command.specs.State.{octets_waiting, oldest}
 use Rattle.command.specs.Judging.{judged}
-use Rattle.gateway.specs.Serial.{listed, heard_commands, offered_by, offered_upto, is_first_command}
+use Rattle.gateway.specs.Serial.{listed, received_commands, offered_by, offered_upto}
+use Rattle.gateway.specs.Serial.{is_first_command}
 use Rattle.gateway.specs.Serial.{put_on_line}
 use Rattle.link.specs.LineLaws.{LineLaws}
 use Rattle.command.specs.CommandLaws.{CommandLaws}
@@ -43,22 +44,23 @@ pub offers_stay : (q r : Primary) (s t : tasks.State) → ((k : ℕ) → offered
 offers_stay q r s t same waiting h = offers_keep q r s t same (same_waits s t waiting) h
 
 -- a frame is heard
-heard_waits : (laws : CommandLaws) (f : Apdu) (now : ℕ) (wall : Option ℕ) (s : tasks.State) (k : ℕ)
+received_waits : (laws : CommandLaws) (f : Apdu) (now : ℕ) (wall : Option ℕ) (s : tasks.State)
+    (k : ℕ)
     (x : List ℕ)
-    → octets_waiting k s ≡ Some x → octets_waiting k (heard_commands f now wall s) ≡ Some x
-heard_waits laws (I ns nr asdu) now wall s k x h =
-    same_waits (judged asdu.items now wall s).1 (heard_commands (I ns nr asdu) now wall s)
+    → octets_waiting k s ≡ Some x → octets_waiting k (received_commands f now wall s) ≡ Some x
+received_waits laws (I ns nr asdu) now wall s k x h =
+    same_waits (judged asdu.items now wall s).1 (received_commands (I ns nr asdu) now wall s)
     (kept_waiting (listed (judged asdu.items now wall s).0) (judged asdu.items now wall s).1) k x
     (laws.judged_waits asdu.items now wall k s x h)
-heard_waits laws (S nr) now wall s k x h = h
-heard_waits laws (U u) now wall s k x h = h
+received_waits laws (S nr) now wall s k x h = h
+received_waits laws (U u) now wall s k x h = h
 
-pub offers_heard : (laws : CommandLaws) (q r : Primary) (s t : tasks.State) (f : Apdu) (now : ℕ)
+pub offers_received : (laws : CommandLaws) (q r : Primary) (s t : tasks.State) (f : Apdu) (now : ℕ)
     (wall : Option ℕ)
-    → r ≡ q → t ≡ heard_commands f now wall s → OffersWait q s → OffersWait r t
-offers_heard laws q r s t f now wall same is h =
-    subst (λ c. OffersWait r c) (sym is) (offers_keep q r s (heard_commands f now wall s)
-    (λ k. ap (λ x. offered_at x k) same) (heard_waits laws f now wall s) h)
+    → r ≡ q → t ≡ received_commands f now wall s → OffersWait q s → OffersWait r t
+offers_received laws q r s t f now wall same is h =
+    subst (λ c. OffersWait r c) (sym is) (offers_keep q r s (received_commands f now wall s)
+    (λ k. ap (λ x. offered_at x k) same) (received_waits laws f now wall s) h)
 
 -- the end of a connection
 pub offers_cut : (laws : LineLaws) (q : Primary) (s : tasks.State) → OffersWait (withdrawn q) s
@@ -163,13 +165,13 @@ listed_plain (Some a) h = (h a refl, tt)
 pub no_monitor : (a : List ℕ) → monitor_objects_of tcp a ≡ [] → has_objects a ≡ false
 no_monitor a e = ap (λ (os : List InformationObject). not (length os == 0)) e
 
-pub heard_plain : (laws : CommandLaws) (f : Apdu) (now : ℕ) (wall : Option ℕ) (s : tasks.State)
+pub received_plain : (laws : CommandLaws) (f : Apdu) (now : ℕ) (wall : Option ℕ) (s : tasks.State)
     → Fits f
-    → ArePlain s.answers → ArePlain (heard_commands f now wall s).answers
-heard_plain laws (I ns nr asdu) now wall s fits h =
+    → ArePlain s.answers → ArePlain (received_commands f now wall s).answers
+received_plain laws (I ns nr asdu) now wall s fits h =
     kept_plain (listed (judged asdu.items now wall s).0) (judged asdu.items now wall s).1
     (listed_plain (judged asdu.items now wall s).0 (λ a e. no_monitor a
     (laws.judged_plain asdu.items now wall s a fits.3 (octet_at asdu.items fits.3 fits.2) e)))
     (subst ArePlain (sym (laws.judged_answers asdu.items now wall s)) h)
-heard_plain laws (S nr) now wall s fits h = h
-heard_plain laws (U u) now wall s fits h = h
+received_plain laws (S nr) now wall s fits h = h
+received_plain laws (U u) now wall s fits h = h

@@ -27,7 +27,7 @@ use Rattle.gateway.specs.Reports.{Setup, taken_objects}
 use Rattle.gateway.specs.Works.{has_lacked_place, begun_works, gapless_works, ready_works}
 use Rattle.gateway.specs.Works.{done_works, asked_works}
 use Rattle.gateway.specs.Course.{Course, here_of, came_frames, with_frame, with_frames, with_works}
-use Rattle.gateway.specs.Course.{told_sent, with_sent, room_in, closed_course, sent_objects}
+use Rattle.gateway.specs.Course.{logged_sent, with_sent, room_in, closed_course, sent_objects}
 use Rattle.gateway.specs.Course.{IsFlushed, IsUntouched, HasBegun, HasTakenAll, MayTake, AreTaken}
 use Rattle.gateway.specs.Course.{TakesFrames, IsNext, HandsOver, IsCause, IsLeft, Comes, SendsNext}
 use Rattle.gateway.specs.Course.{Runs}
@@ -225,7 +225,7 @@ by_due u p log c f g may (inr due) (inr next) = elim may.undue
     untouched first (inr all) = none_whole u p log (latest log) f c all may
 
 pub hands_none : AreUnique → (p : Setup) (log : Log) (c : Course) (g f : Apdu)
-    → KeepsRules p.session (told_sent g (latest log) c.talk) → IsNext p log g c
+    → KeepsRules p.session (logged_sent g (latest log) c.talk) → IsNext p log g c
     → MayTake p log (latest log) f c → ⊥
 hands_none u p log c (I ns nr asdu) f rules next may = by_objects (has_objects asdu.items) refl
   where

@@ -19,20 +19,20 @@ rest_is done octets = ap (λ n. take n (drop done octets)) (sym (length-drop don
     ∙ take-length (drop done octets)
 
 -- an APDU is taken from what is left of a piece
-pub goes_from : (p : Setup) (o : Progress) (s t : State) (told after : Option Log) (n done : ℕ)
+pub goes_from : (p : Setup) (o : Progress) (s t : State) (logged after : Option Log) (n done : ℕ)
     (octets : List ℕ)
-    → (Awaits p s told (take (length octets - done) (drop done octets))
+    → (Awaits p s logged (take (length octets - done) (drop done octets))
     → Goes o p t after (drop n (take (length octets - done) (drop done octets))))
-    → Awaits p s told (drop done octets) → Goes o p t after (drop (done + n) octets)
-goes_from p o s t told after n done octets law h =
+    → Awaits p s logged (drop done octets) → Goes o p t after (drop (done + n) octets)
+goes_from p o s t logged after n done octets law h =
     subst (λ rest. Goes o p t after rest) (drop-drop n done octets)
     (subst (λ front. Goes o p t after (drop n front)) (rest_is done octets)
-    (law (subst (λ front. Awaits p s told front) (sym (rest_is done octets)) h)))
+    (law (subst (λ front. Awaits p s logged front) (sym (rest_is done octets)) h)))
 
-pub goes_as : (p : Setup) (o out : Progress) (s : State) (told : Option Log) (rest : List ℕ)
+pub goes_as : (p : Setup) (o out : Progress) (s : State) (logged : Option Log) (rest : List ℕ)
     → o ≡ out
-    → Goes o p s told rest → Goes out p s told rest
-goes_as p o out s told rest is h = subst (λ o. Goes o p s told rest) is h
+    → Goes o p s logged rest → Goes out p s logged rest
+goes_as p o out s logged rest is h = subst (λ o. Goes o p s logged rest) is h
 
 pub onward : (o : Progress) (P : Type 0) → o ≡ On → IsOnward o P → P
 onward o P is h = subst (λ o. IsOnward o P) is h

@@ -30,7 +30,7 @@ use Rattle.gateway.specs.Connections.{IsConnection}
 use Rattle.gateway.specs.Reports.{Setup}
 use Rattle.gateway.specs.Works.{Works, has_lacked_place, answered_works, sent_works, ready_works}
 use Rattle.gateway.specs.Serial.{Serial, is_first_command}
-use Rattle.gateway.specs.Course.{Course, came_frames, with_frames, told_sent, closed_course}
+use Rattle.gateway.specs.Course.{Course, came_frames, with_frames, logged_sent, closed_course}
 use Rattle.gateway.specs.Course.{IsCause, Runs}
 use Rattle.gateway.specs.Conversation.{KeepsRulesSoFar, KeepsRulesThroughout}
 use Rattle.gateway.specs.Traffic.{HasCause, replaces, GoesOut, ActsRightly}
@@ -116,36 +116,37 @@ closed_gap p Timeout is_open at c h = settled_gap at c.works.serial ∙ h
 closed_gap p OwnAnswers is_open at c h = h
 closed_gap p Replaced is_open at c h = h
 
-told_before : (p : Setup) (log : Log) (cause : Close) (c : Course) → IsCause p log cause c
+logged_before : (p : Setup) (log : Log) (cause : Close) (c : Course) → IsCause p log cause c
     → (list_any is_late (step_actions log) ≡ true → c.works.serial.gap ≡ None)
     → list_any is_late (Closed cause ∷ step_actions log) ≡ true → c.works.serial.gap ≡ None
-told_before p log Grammar c why told h = told h
-told_before p log SendNumber c why told h = told h
-told_before p log ReceiveNumber c why told h = told h
-told_before p log Stopped c why told h = told h
-told_before p log Timeout c why told h = why.told
-told_before p log OwnAnswers c why told h = told h
-told_before p log Replaced c why told h = told h
+logged_before p log Grammar c why logged h = logged h
+logged_before p log SendNumber c why logged h = logged h
+logged_before p log ReceiveNumber c why logged h = logged h
+logged_before p log Stopped c why logged h = logged h
+logged_before p log Timeout c why logged h = why.logged
+logged_before p log OwnAnswers c why logged h = logged h
+logged_before p log Replaced c why logged h = logged h
 
 -- once the timers have closed a connection, the step has no gap left to tell
-late_told : (p : Setup) (log : Log) (c : Course) → Runs p log c
+late_logged : (p : Setup) (log : Log) (c : Course) → Runs p log c
     → list_any is_late (step_actions log) ≡ true
     → c.works.serial.gap ≡ None
-late_told p [] c r h = cc
-late_told p (Came now event ∷ log) c r h = cc
-late_told p (Went now (LineOut octets) ∷ log) c r h = ap (λ (d : Course). d.works.serial.gap) r.2.is
-    ∙ settled_gap (latest log) r.0.works.serial ∙ r.2.told
-late_told p (Went now (GapOut station session) ∷ log) c r h =
+late_logged p [] c r h = cc
+late_logged p (Came now event ∷ log) c r h = cc
+late_logged p (Went now (LineOut octets) ∷ log) c r h =
     ap (λ (d : Course). d.works.serial.gap) r.2.is
-late_told p (Went now (TcpOut octets) ∷ log) c r h =
+    ∙ settled_gap (latest log) r.0.works.serial ∙ r.2.logged
+late_logged p (Went now (GapOut station session) ∷ log) c r h =
+    ap (λ (d : Course). d.works.serial.gap) r.2.is
+late_logged p (Went now (TcpOut octets) ∷ log) c r h =
     ap (λ (d : Course). d.works.serial.gap) r.4.taken
     ∙ ap (λ (s : Serial). s.gap) (frames_others p r.4.frames (latest log) _ r.1)
     ∙ ap (λ (d : Course). d.works.serial.gap) r.3.put
-    ∙ ap (λ (s : Serial). s.gap) (sent_others r.3.frame r.0.works) ∙ late_told p log r.0 r.2 h
-late_told p (Went now (Closed cause) ∷ log) c r h =
+    ∙ ap (λ (s : Serial). s.gap) (sent_others r.3.frame r.0.works) ∙ late_logged p log r.0 r.2 h
+late_logged p (Went now (Closed cause) ∷ log) c r h =
     ap (λ (d : Course). d.works.serial.gap) r.2
     ∙ closed_gap p cause (present log).is_open (latest log) r.0
-    (told_before p log cause r.0 r.3 (λ late. late_told p log r.0 r.1 late) h)
+    (logged_before p log cause r.0 r.3 (λ late. late_logged p log r.0 r.1 late) h)
 
 -- A connection that has just been opened
 
@@ -240,7 +241,7 @@ undue p at f some long (inr e) =
     let no : ◌≡◌ {A = Option Apdu} None (Some f) = sym (idle p.w p.t2 p.t3 at some long) ∙ e in cc
 
 unruly : (p : session.Settings) (at : ℕ) (f : Apdu) → 0 < p.w → 0 < p.t3
-    → KeepsRules p (told_sent f at (talk.Opened at ∷ [])) → ⊥
+    → KeepsRules p (logged_sent f at (talk.Opened at ∷ [])) → ⊥
 unruly p at (I ns nr asdu) some long r = let no : false ≡ true = r.0.started in cc
 unruly p at (S nr) some long r = undue p at (S nr) some long r.0
 unruly p at (U u) some long r = undue p at (U u) some long r.0
@@ -254,9 +255,9 @@ unsaid p log now octets some long h k =
     let none : came_frames k.course.talk ≡ [] = no_frames (came_frames k.course.talk) r.4.rest
     (ap (λ (c : Channel). c.received) (sym h.channel) ∙ r.4.joined) in
     let is : k.course ≡ r.1 = none_taken p r.4.frames (latest log) _ r.1 k.course r.4.taken none in
-    let said : k.course.talk ≡ told_sent r.3.frame (latest log) (talk.Opened (latest log) ∷ []) =
+    let said : k.course.talk ≡ logged_sent r.3.frame (latest log) (talk.Opened (latest log) ∷ []) =
     ap (λ (d : Course). d.talk) (is ∙ r.3.put)
-    ∙ ap (told_sent r.3.frame (latest log)) (h.said r.0 r.2) in
+    ∙ ap (logged_sent r.3.frame (latest log)) (h.said r.0 r.2) in
     unruly p.session (latest log) r.3.frame some long (subst (KeepsRules p.session) said k.rules)
 
 -- and nothing closes it
@@ -399,7 +400,7 @@ may_follow p log now (LineOut octets) some long k g acts order = (
 )
 may_follow p log now (GapOut station session) some long k g acts order = (
   not_true (list_any is_late (step_actions log)) (λ h.
-      none_and_some (sym (late_told p log k.runs.0 k.runs.1 h) ∙ k.runs.2.gap)),
+      none_and_some (sym (late_logged p log k.runs.0 k.runs.1 h) ∙ k.runs.2.gap)),
   not_true (list_any is_request (step_actions log)) (λ h.
       let no : false ≡ true = sym (none_due p log k.runs.0 k.runs.1 h) ∙ k.runs.2.due in
       absurd (cc)),

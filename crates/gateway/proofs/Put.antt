@@ -12,10 +12,10 @@ use Rattle.session.specs.declared.kinds.Close.{Close}
 use Rattle.session.specs.Session as session
 use Rattle.session.specs.Session.{Session, may_send, is_transferring}
 use Rattle.gateway.specs.Log.{latest, Log, events_of, Restarted, Came, Went, Output, TcpOut, Closed}
-use Rattle.gateway.specs.Log.{tell}
+use Rattle.gateway.specs.Log.{with_news}
 use Rattle.gateway.specs.Reports.{Setup}
 use Rattle.gateway.specs.Traffic.{IsFaithful}
-use Rattle.gateway.specs.Runs.{events_told}
+use Rattle.gateway.specs.Runs.{events_logged}
 use Rattle.link.specs.LineLaws.{LineLaws}
 use Rattle.session.specs.declared.kinds.Kind.{Kind}
 use Rattle.session.specs.declared.kinds.Kind.TheVariants.{Queue as FromQueue, Own}
@@ -38,45 +38,47 @@ use Rattle.gateway.specs.Serial.{Serial}
 use Rattle.gateway.proofs.Working.{gap_in}
 use Rattle.gateway.proofs.Agreement.{flushed_by, begun_by, GoesOut, faithful, after_piece}
 use Rattle.gateway.proofs.Agreement.{after_own, after_due}
-use Rattle.gateway.proofs.Hearing.{now_taking}
+use Rattle.gateway.proofs.Receiving.{now_taking}
 use Rattle.gateway.proofs.Closing.{stands_now, after_close, rested}
 
 -- The events of a log stay as actions go out.
-pub events_went : (told : Option Log) (now : ℕ) (action : Output)
-    → events_told (tell told (Went now action ∷ [])) ≡ events_told told
+pub events_went : (logged : Option Log) (now : ℕ) (action : Output)
+    → events_logged (with_news logged (Went now action ∷ [])) ≡ events_logged logged
 events_went None now action = refl
 events_went (Some log) now action = refl
 
-pub events_put : (b : Bool) (told after : Option Log) (now : ℕ) (action : Output)
-    → after ≡ (if b then tell told (Went now action ∷ []) else told) → events_told after
-    ≡ events_told told
-events_put true told after now action e = ap events_told e ∙ events_went told now action
-events_put false told after now action e = ap events_told e
+pub events_put : (b : Bool) (logged after : Option Log) (now : ℕ) (action : Output)
+    → after ≡ (if b then with_news logged (Went now action ∷ []) else logged) → events_logged after
+    ≡ events_logged logged
+events_put true logged after now action e = ap events_logged e ∙ events_went logged now action
+events_put false logged after now action e = ap events_logged e
 
-pub told_faithful : (p : Setup) (told : Option Log) (s : State) (unjudged : List ℕ) (phase : Phase)
-    → Tracks p s told unjudged phase → IfSome told (IsFaithful p)
-told_faithful p None s unjudged phase h = tt
-told_faithful p (Some log) s unjudged phase a = faithful p s log unjudged phase a
+pub logged_faithful : (p : Setup) (logged : Option Log) (s : State) (unjudged : List ℕ)
+    (phase : Phase)
+    → Tracks p s logged unjudged phase → IfSome logged (IsFaithful p)
+logged_faithful p None s unjudged phase h = tt
+logged_faithful p (Some log) s unjudged phase a = faithful p s log unjudged phase a
 
-pub told_leaves : (p : Setup) (result : Bool) (told : Option Log) (s : State) (phase : Phase)
-    → Leaves result p s told [] phase → IfSome told (IsFaithful p)
-told_leaves p true told s phase h = told_faithful p told s [] phase h
-told_leaves p false told s phase h = h
+pub logged_leaves : (p : Setup) (result : Bool) (logged : Option Log) (s : State) (phase : Phase)
+    → Leaves result p s logged [] phase → IfSome logged (IsFaithful p)
+logged_leaves p true logged s phase h = logged_faithful p logged s [] phase h
+logged_leaves p false logged s phase h = h
 
 -- in a phase handing this frame to TCP leads from one state to the other
 abbrev pub SendsIn : Setup → List ℕ → Phase → State → Apdu → State → Type 0
 SendsIn p unjudged phase s f t = (log : Log) → Agrees p s log unjudged phase
     → Agrees p t (Went s.moment (TcpOut (spelling f)) ∷ log) unjudged phase
 
-pub told_sent : (p : Setup) (told after : Option Log) (s t : State) (f : Apdu) (now : ℕ)
+pub logged_sent : (p : Setup) (logged after : Option Log) (s t : State) (f : Apdu) (now : ℕ)
     (unjudged : List ℕ)
-    (phase : Phase) → after ≡ tell told (Went now (TcpOut (spelling f)) ∷ []) → now ≡ s.moment
-    → SendsIn p unjudged phase s f t → Tracks p s told unjudged phase
+    (phase : Phase) → after ≡ with_news logged (Went now (TcpOut (spelling f)) ∷ [])
+    → now ≡ s.moment
+    → SendsIn p unjudged phase s f t → Tracks p s logged unjudged phase
     → Tracks p t after unjudged phase
-told_sent p told after s t f now unjudged phase e same sends h = rw (e, same) (by_log told h)
+logged_sent p logged after s t f now unjudged phase e same sends h = rw (e, same) (by_log logged h)
   where
-    by_log : (told : Option Log) → Tracks p s told unjudged phase
-        → Tracks p t (tell told (Went s.moment (TcpOut (spelling f)) ∷ [])) unjudged phase
+    by_log : (logged : Option Log) → Tracks p s logged unjudged phase
+        → Tracks p t (with_news logged (Went s.moment (TcpOut (spelling f)) ∷ [])) unjudged phase
     by_log None h = tt
     by_log (Some log) a = sends log a
 
@@ -351,15 +353,16 @@ pulled_spent r s t e rest spent may =
           ∙ both.1,
     )
 
-pub told_closed : (laws : LineLaws) (p : Setup) (told after : Option Log) (s t : State)
+pub logged_closed : (laws : LineLaws) (p : Setup) (logged after : Option Log) (s t : State)
     (cause : Close) (now : ℕ)
-    (phase : Phase) → after ≡ tell told (Went now (Closed cause) ∷ []) → now ≡ s.moment
+    (phase : Phase) → after ≡ with_news logged (Went now (Closed cause) ∷ []) → now ≡ s.moment
     → t ≡ disconnected s
-    → IfSome told (MayClose p s cause phase) → Tracks p t after [] phase
-told_closed laws p told after s t cause now phase e same is h = rw (e, same, is) (by_log told h)
+    → IfSome logged (MayClose p s cause phase) → Tracks p t after [] phase
+logged_closed laws p logged after s t cause now phase e same is h =
+    rw (e, same, is) (by_log logged h)
   where
-    by_log : (told : Option Log) → IfSome told (MayClose p s cause phase)
-        → Tracks p (disconnected s) (tell told (Went s.moment (Closed cause) ∷ [])) [] phase
+    by_log : (logged : Option Log) → IfSome logged (MayClose p s cause phase)
+        → Tracks p (disconnected s) (with_news logged (Went s.moment (Closed cause) ∷ [])) [] phase
     by_log None h = tt
     by_log (Some log) h =
         let moment : s.moment ≡ h.state.moment = ap (λ (x : State). x.moment) h.same in
@@ -367,46 +370,49 @@ told_closed laws p told after s t cause now phase e same is h = rw (e, same, is)
         h.fault h.agrees
         h.open_is h.last h.timely h.stands h.why)
 
-pub may_close_faithful : (p : Setup) (told : Option Log) (s : State) (cause : Close) (phase : Phase)
-    → IfSome told (MayClose p s cause phase) → IfSome told (IsFaithful p)
+pub may_close_faithful : (p : Setup) (logged : Option Log) (s : State) (cause : Close)
+    (phase : Phase)
+    → IfSome logged (MayClose p s cause phase) → IfSome logged (IsFaithful p)
 may_close_faithful p None s cause phase h = tt
 may_close_faithful p (Some log) s cause phase h = faithful p h.state log h.unjudged h.phase h.agrees
 
 -- A step is done
 
-pub told_rested : (laws : LineLaws) (p : Setup) (told : Option Log) (s : State) → IsSpent s
+pub logged_rested : (laws : LineLaws) (p : Setup) (logged : Option Log) (s : State) → IsSpent s
     → IsQuiet s
-    → Tracks p s told [] Asked → Rests p told
-told_rested laws p None s spent quiet h = tt
-told_rested laws p (Some []) s spent quiet a = tt
-told_rested laws p (Some (Came now Restarted ∷ log)) s spent quiet a = a.before.rests.0
-told_rested laws p (Some (t ∷ log)) s spent quiet a = rested laws p s (t ∷ log) a spent quiet
+    → Tracks p s logged [] Asked → Rests p logged
+logged_rested laws p None s spent quiet h = tt
+logged_rested laws p (Some []) s spent quiet a = tt
+logged_rested laws p (Some (Came now Restarted ∷ log)) s spent quiet a = a.before.rests.0
+logged_rested laws p (Some (t ∷ log)) s spent quiet a = rested laws p s (t ∷ log) a spent quiet
 
 -- t1 is some time
-told_patient : (p : Setup) (told after : Option Log) (log : Log) (s : State) → events_told after
-    ≡ events_told told
-    → after ≡ Some log → Tracks p s told [] Asked → 0 < s.centre.session.t1
-told_patient p None after log s same is a = let e : Some (events_of log) ≡ None =
-    sym (ap events_told is) ∙ same in cc
-told_patient p (Some first) after log s same is a = patient p s.centre.session first a.course a.talk
+logged_patient : (p : Setup) (logged after : Option Log) (log : Log) (s : State)
+    → events_logged after
+    ≡ events_logged logged
+    → after ≡ Some log → Tracks p s logged [] Asked → 0 < s.centre.session.t1
+logged_patient p None after log s same is a = let e : Some (events_of log) ≡ None =
+    sym (ap events_logged is) ∙ same in cc
+logged_patient p (Some first) after log s same is a =
+    patient p s.centre.session first a.course a.talk
 
-pub told_done : (laws : LineLaws) (p : Setup) (result : Bool) (told after : Option Log)
+pub logged_done : (laws : LineLaws) (p : Setup) (result : Bool) (logged after : Option Log)
     (s t : State)
-    → events_told after ≡ events_told told → IsInTime s.moment s.centre.session
-    → Tracks p s told [] Asked →
+    → events_logged after ≡ events_logged logged → IsInTime s.moment s.centre.session
+    → Tracks p s logged [] Asked →
     OnTrue result (IsSpent t) → OnTrue result (IsConfirmed t.centre.session)
     → OnTrue result ((session.pulled t.moment t.centre.session).0 ≡ None)
     → OnTrue result (StaysInTime s t)
     → Leaves result p t after [] Asked → OnTrue result (Rests p after)
-told_done laws p true told None s t same early a spent confirmed pulled stays h = tt
-told_done laws p true told (Some log) s t same early a spent confirmed pulled stays h =
-    told_rested laws p (Some log) t spent (record {
+logged_done laws p true logged None s t same early a spent confirmed pulled stays h = tt
+logged_done laws p true logged (Some log) s t same early a spent confirmed pulled stays h =
+    logged_rested laws p (Some log) t spent (record {
       confirmed = confirmed;
       pulled_all = pulled;
       in_time =
-          (stays (told_patient p told (Some log) log s same refl a) early).0;
+          (stays (logged_patient p logged (Some log) log s same refl a) early).0;
     }) h
-told_done laws p false told after s t same early a spent confirmed pulled stays h = tt
+logged_done laws p false logged after s t same early a spent confirmed pulled stays h = tt
 
 -- a step's answer is late
 
@@ -422,7 +428,7 @@ late_some false cause e = cc
 late_closes : (p : Setup) (s : State) (log : Log) → s.serial.gap ≡ None
     → session.timed_out s.moment s.centre.session ≡ true
     → Agrees p s log [] Timed → MayClose p s Timeout Timed log
-late_closes p s log told late a =
+late_closes p s log logged late a =
     let on : session.is_open s.centre.session ≡ true =
     (and_parts (session.is_open s.centre.session)
     (session.is_late s.moment s.centre.session s.centre.session.unacknowledged
@@ -443,28 +449,28 @@ late_closes p s log told late a =
         all = all_taken log a.course a.here.so_far a.here.joined a.here.waits;
         answered = a.stands.answered;
         placed = a.stands.placed (sym a.here.link ∙ on);
-        told = sym (gap_in Timed (latest log) (room_in p log a.course) a.course.works)
-            ∙ ap (λ (z : Serial). z.gap) (sym a.stands.does) ∙ told;
+        logged = sym (gap_in Timed (latest log) (room_in p log a.course) a.course.works)
+            ∙ ap (λ (z : Serial). z.gap) (sym a.stands.does) ∙ logged;
         late = subst (λ m. has_timed_out p.session.t1 m a.course.talk ≡ true) a.clock
             (sym (late_by p s.centre.session log a.course a.talk s.moment) ∙ late);
       };
     }
 
-pub told_late : (p : Setup) (told : Option Log) (s : State) (cause : Close)
+pub logged_late : (p : Setup) (logged : Option Log) (s : State) (cause : Close)
     → Some cause ≡ (if session.timed_out s.moment s.centre.session then Some Timeout else None)
     → s.serial.gap ≡ None
-    → Tracks p s told [] Timed → IfSome told (MayClose p s cause Timed)
-told_late p None s cause e none h = tt
-told_late p (Some log) s cause e none a =
+    → Tracks p s logged [] Timed → IfSome logged (MayClose p s cause Timed)
+logged_late p None s cause e none h = tt
+logged_late p (Some log) s cause e none a =
     let late = late_some (session.timed_out s.moment s.centre.session) cause e in
     subst (λ x. MayClose p s x Timed log) (sym late.0) (late_closes p s log none late.1 a)
 
 -- Confirmations
 
-pub awaits : (p : Setup) (told : Option Log) (s : State) (unjudged : List ℕ)
+pub awaits : (p : Setup) (logged : Option Log) (s : State) (unjudged : List ℕ)
     → IsConfirmed s.centre.session → IsSpent s
-    → (session.pulled s.moment s.centre.session).0 ≡ None → Tracks p s told unjudged Judged
-    → Awaits p s told unjudged
+    → (session.pulled s.moment s.centre.session).0 ≡ None → Tracks p s logged unjudged Judged
+    → Awaits p s logged unjudged
 awaits p None s unjudged ready spent pulled h = tt
 awaits p (Some log) s unjudged ready spent pulled a = (
   now_taking p s log unjudged a,
@@ -492,23 +498,23 @@ stays_by s t u is early same some h = subst (λ (x : State). IsInTime x.moment x
     × (0 < x.centre.session.t1)) (sym is) (early some h, subst (λ n. 0 < n) (sym same) some)
 
 -- where the frame goes out, and where the device fails
-pub told_put : (result : Bool) (p : Setup) (told after : Option Log) (s t : State) (f : Apdu)
+pub logged_put : (result : Bool) (p : Setup) (logged after : Option Log) (s t : State) (f : Apdu)
     (now : ℕ)
     (unjudged : List ℕ) (phase : Phase)
-    → after ≡ (if result then tell told (Went now (TcpOut (spelling f)) ∷ []) else told)
+    → after ≡ (if result then with_news logged (Went now (TcpOut (spelling f)) ∷ []) else logged)
     → now ≡ s.moment
-    → SendsIn p unjudged phase s f t → Tracks p s told unjudged phase →
+    → SendsIn p unjudged phase s f t → Tracks p s logged unjudged phase →
     Leaves result p t after unjudged phase
-told_put true p told after s t f now unjudged phase e same sends h =
-    told_sent p told after s t f now unjudged phase e same sends h
-told_put false p told after s t f now unjudged phase e same sends h =
-    subst (λ l. IfSome l (IsFaithful p)) (sym e) (told_faithful p told s unjudged phase h)
+logged_put true p logged after s t f now unjudged phase e same sends h =
+    logged_sent p logged after s t f now unjudged phase e same sends h
+logged_put false p logged after s t f now unjudged phase e same sends h =
+    subst (λ l. IfSome l (IsFaithful p)) (sym e) (logged_faithful p logged s unjudged phase h)
 
-pub unsent_faithful : (p : Setup) (told after : Option Log) (s : State) (unjudged : List ℕ)
+pub unsent_faithful : (p : Setup) (logged after : Option Log) (s : State) (unjudged : List ℕ)
     (phase : Phase)
-    → after ≡ told → Tracks p s told unjudged phase → IfSome after (IsFaithful p)
-unsent_faithful p told after s unjudged phase e h = subst (λ l. IfSome l (IsFaithful p)) (sym e)
-    (told_faithful p told s unjudged phase h)
+    → after ≡ logged → Tracks p s logged unjudged phase → IfSome after (IsFaithful p)
+unsent_faithful p logged after s unjudged phase e h = subst (λ l. IfSome l (IsFaithful p)) (sym e)
+    (logged_faithful p logged s unjudged phase h)
 
 pub on_true : (b : Bool) (P : Type 0) → P → OnTrue b P
 on_true true P h = h

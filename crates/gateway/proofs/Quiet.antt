@@ -19,7 +19,7 @@ use Rattle.gateway.specs.Log.{Log, Restarted}
 use Rattle.gateway.specs.Log.{Came, Went, Output, LineOut, TcpOut, Closed, GapOut, latest}
 use Rattle.gateway.specs.Connections.{present}
 use Rattle.gateway.specs.Reports.{Setup, address_at, exchanges_of, reports_in, taken_objects}
-use Rattle.gateway.specs.Course.{Course, room_in, sent_objects, told_sent, IsNext}
+use Rattle.gateway.specs.Course.{Course, room_in, sent_objects, logged_sent, IsNext}
 use Rattle.gateway.specs.Course.{HasSentAll, IsFlushed, HasTakenAll, IsLeft, Runs}
 use Rattle.gateway.specs.Carried.{without_commands}
 use Rattle.gateway.specs.Works.{restarted_works}
@@ -34,7 +34,7 @@ use Rattle.gateway.proofs.OneCause.{came_transfers, came_acknowledged, counted}
 use Rattle.gateway.proofs.Following.{fresh_due}
 use Rattle.gateway.proofs.Carrying as carrying
 use Rattle.gateway.proofs.Carrying.{IsForOne}
-use Rattle.gateway.proofs.Restarted.{IsTold}
+use Rattle.gateway.proofs.Restarted.{IsLogged}
 
 -- The course of a restart
 
@@ -95,10 +95,10 @@ rested_quiet laws p log c r all on h =
     })
 
 -- and a restart leaves it so
-restarted_quiet : IsTold → (p : Setup) (log : Log) (at : ℕ) (c : Course)
+restarted_quiet : IsLogged → (p : Setup) (log : Log) (at : ℕ) (c : Course)
     (r : Runs p (Came at Restarted ∷ log) c) → IsQuietOn p log r.0
     → IsQuietOn p (Came at Restarted ∷ log) c
-restarted_quiet told p log at c r h = record {
+restarted_quiet logged p log at c r h = record {
   confirmed = ap confirmation_of same ∙ h.confirmed;
   none_due = ap (λ m. frame_due p.session.w p.session.t2 p.session.t3 m c.talk) r.5.0
       ∙ ap (frame_due p.session.w p.session.t2 p.session.t3 (latest log)) same ∙ h.none_due;
@@ -120,19 +120,19 @@ restarted_quiet told p log at c r h = record {
     same = ap (λ (d : Course). d.talk) r.5.1 ∙ ap (λ (d : Course). d.talk) r.4.is
 
     reported : reports_in p (Came at Restarted ∷ log) ≡ reports_in p log
-    reported = told.reports p.link p.link.size p.addresses (address_at p.addresses)
+    reported = logged.reports p.link p.link.size p.addresses (address_at p.addresses)
         (exchanges_of p log)
 
     taken : taken_objects p (Came at Restarted ∷ log) ≡ taken_objects p log
     taken = ap (flat_map (λ (r : ℕ × List ℕ). monitor_objects p.sizes r.1)) reported
 
-quiet : Laws → IsTold → (p : Setup) (log : Log) (c : Course) → Runs p log c
+quiet : Laws → IsLogged → (p : Setup) (log : Log) (c : Course) → Runs p log c
     → HasTakenAll (present log) c.talk → (present log).is_open ≡ true → HasRested p log
     → IsQuietOn p log c
-quiet laws told p [] c r all on h = let no : false ≡ true = on in cc
-quiet laws told p (Came at Restarted ∷ log) c r all on h =
-    restarted_quiet told p log at c r (quiet laws told p log r.0 r.2 r.3 on h)
-quiet laws told p (entry ∷ log) c r all on h = rested_quiet laws p (entry ∷ log) c r all on h
+quiet laws logged p [] c r all on h = let no : false ≡ true = on in cc
+quiet laws logged p (Came at Restarted ∷ log) c r all on h =
+    restarted_quiet logged p log at c r (quiet laws logged p log r.0 r.2 r.3 on h)
+quiet laws logged p (entry ∷ log) c r all on h = rested_quiet laws p (entry ∷ log) c r all on h
 
 -- so no frame is due
 undue : (p : Setup) (log : Log) (c : Course) (f : Apdu) → IsQuietOn p log c
@@ -143,7 +143,7 @@ undue p log c f h (inr e) = let no : None ≡ Some f = sym h.none_due ∙ e in c
 
 -- and none may go out
 unsent : (p : Setup) (log : Log) (c : Course) (f : Apdu) → IsQuietOn p log c
-    → KeepsRules p.session (told_sent f (latest log) c.talk) → IsNext p log f c → ⊥
+    → KeepsRules p.session (logged_sent f (latest log) c.talk) → IsNext p log f c → ⊥
 unsent p log c (I ns nr asdu) h rules next = by_objects (has_objects asdu.items) refl
   where
     all : HasSentAll p log c
@@ -161,18 +161,18 @@ unsent p log c (U u) h rules next = undue p log c (U u) h rules.0
 not_due : (b : Bool) → b ≡ false → b ≡ true → ⊥
 not_due b off on = let no : false ≡ true = sym off ∙ on in cc
 
-pub nothing_goes : Laws → IsTold → (p : Setup) (log : Log) (at now : ℕ) (action : Output)
+pub nothing_goes : Laws → IsLogged → (p : Setup) (log : Log) (at now : ℕ) (action : Output)
     → IsFaithful p (Went now action ∷ Came at Restarted ∷ log) → ⊥
-nothing_goes laws told p log at now (LineOut octets) f =
+nothing_goes laws logged p log at now (LineOut octets) f =
     let r = f.course_runs in
     not_due r.0.works.is_due (fresh_due p (Came at Restarted ∷ log) r.0 tt r.1) r.2.due
-nothing_goes laws told p log at now (GapOut station session) f =
+nothing_goes laws logged p log at now (GapOut station session) f =
     let r = f.course_runs in
     not_due r.0.works.is_due (fresh_due p (Came at Restarted ∷ log) r.0 tt r.1) r.2.due
-nothing_goes laws told p log at now (Closed cause) f =
+nothing_goes laws logged p log at now (Closed cause) f =
     let r = f.course_runs in
     not_due r.0.works.is_due (fresh_due p (Came at Restarted ∷ log) r.0 tt r.1) r.4
-nothing_goes laws told p log at now (TcpOut octets) f =
+nothing_goes laws logged p log at now (TcpOut octets) f =
     let r = f.course_runs in
     let new : Log = Came at Restarted ∷ log in
     let before = r.2 in
@@ -180,4 +180,4 @@ nothing_goes laws told p log at now (TcpOut octets) f =
     subst (λ (d : Course). HasTakenAll (present log) d.talk) (sym (before.5.1))
     (subst (λ (d : Course). HasTakenAll (present log) d.talk) (sym before.4.is) before.3) in
     unsent p new r.0 r.3.frame
-    (quiet laws told p new r.0 before all f.acts.0.may.0 f.rests.0) r.3.rules r.3.next
+    (quiet laws logged p new r.0 before all f.acts.0.may.0 f.rests.0) r.3.rules r.3.next

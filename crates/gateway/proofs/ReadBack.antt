@@ -71,19 +71,19 @@ octets_in s sav = by_octets s.so_far sav.whole.listens sav.octets
 -- ---- what is joined is the state that was put
 
 abbrev centre_of : Session → Option (List ℕ) → Option Apdu → Queue → Centre
-centre_of c so_far heard q = record { session = c; so_far = so_far; heard = heard; queue = q }
+centre_of c so_far arrived q = record { session = c; so_far = so_far; arrived = arrived; queue = q }
 
 pub centre_back : (r : Result Centre StateFault) (c : Session) (a : Assembly) (q : Queue)
     (s : Centre) (left : Type 0)
     → MatchResult r (λ d. d ≡ centre_of c a.so_far a.whole q)
     (λ fault. from_queue c.unacknowledged ≡ length q.sent → ⊥)
-    → c ≡ s.session → a.so_far ≡ s.so_far → a.whole ≡ None → q ≡ s.queue → s.heard ≡ None
+    → c ≡ s.session → a.so_far ≡ s.so_far → a.whole ≡ None → q ≡ s.queue → s.arrived ≡ None
     → from_queue s.session.unacknowledged ≡ length s.queue.sent → left
     → MatchResult r (λ d. (d ≡ s) × left) (λ fault. fault ≡ Wrong → ⊥)
 centre_back (Ok d) c a q s left h e f g k none whole rest = (
   h ∙ ap (λ x. centre_of x a.so_far a.whole q) e ∙ ap (λ x. centre_of s.session x a.whole q) f
       ∙ ap (λ x. centre_of s.session s.so_far x q) (g ∙ sym none)
-      ∙ ap (centre_of s.session s.so_far s.heard) k,
+      ∙ ap (centre_of s.session s.so_far s.arrived) k,
   rest,
 )
 centre_back (Err fault) c a q s left h e f g k none whole rest = λ wrong.
@@ -122,17 +122,17 @@ pub joined_between : (r : Result State StateFault) (sizes : Sizes) (clock : Cloc
     (centre : Centre)
     → MatchResult r (λ g. g ≡ state_of serial centre sizes clock)
     (λ fault. HasPlaces serial.line centre.queue → ⊥)
-    → (serial.silent ≡ None) × (serial.gap ≡ None) → centre.heard ≡ None → IfOk r IsBetweenSteps
-joined_between (Ok g) sizes clock serial centre h told taken = record {
-  silent = ap (λ (x : State). x.serial.silent) h ∙ told.0;
-  gap = ap (λ (x : State). x.serial.gap) h ∙ told.1;
-  heard = ap (λ (x : State). x.centre.heard) h ∙ taken;
+    → (serial.silent ≡ None) × (serial.gap ≡ None) → centre.arrived ≡ None → IfOk r IsBetweenSteps
+joined_between (Ok g) sizes clock serial centre h logged taken = record {
+  silent = ap (λ (x : State). x.serial.silent) h ∙ logged.0;
+  gap = ap (λ (x : State). x.serial.gap) h ∙ logged.1;
+  arrived = ap (λ (x : State). x.centre.arrived) h ∙ taken;
 }
-joined_between (Err fault) sizes clock serial centre h told taken = tt
+joined_between (Err fault) sizes clock serial centre h logged taken = tt
 
 pub centre_taken : (r : Result Centre StateFault) (c : Session) (a : Assembly) (q : Queue)
     → MatchResult r (λ d. d ≡ centre_of c a.so_far a.whole q) (λ fault. from_queue c.unacknowledged
     ≡ length q.sent → ⊥)
-    → a.whole ≡ None → IfOk r (λ d. d.heard ≡ None)
-centre_taken (Ok d) c a q h none = ap (λ (x : Centre). x.heard) h ∙ none
+    → a.whole ≡ None → IfOk r (λ d. d.arrived ≡ None)
+centre_taken (Ok d) c a q h none = ap (λ (x : Centre). x.arrived) h ∙ none
 centre_taken (Err fault) c a q h none = tt

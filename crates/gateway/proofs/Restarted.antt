@@ -10,12 +10,12 @@ use Rattle.link.specs.declared.settings.LinkSettings.{LinkSettings}
 use Rattle.link.specs.Exchanges.{Exchanges, reports_of_exchanges}
 use Rattle.link.specs.Gaps.{gaps_at}
 use Rattle.link.specs.Primary.{Primary}
-use Rattle.link.specs.Telling.{Tells}
+use Rattle.link.specs.Matching.{Matches}
 use Rattle.link.specs.Carried as line
 use Rattle.link.specs.Carried.{commands_given_up}
 use Rattle.gateway.specs.Log.{Log, Restarted, Came, latest, last_moment}
 use Rattle.gateway.specs.Frames.{AreInOrder}
-use Rattle.gateway.specs.Gaps.{gaps_told, gap_for}
+use Rattle.gateway.specs.Gaps.{gaps_reported, gap_for}
 use Rattle.gateway.specs.Objects.{monitor_objects, pieces_of_report}
 use Rattle.gateway.specs.Reports.{Setup, address_at, exchanges_of, reports_in, parts_of_all}
 use Rattle.gateway.specs.Serial.{Serial}
@@ -35,11 +35,11 @@ use Rattle.gateway.proofs.Learning.{left_of, at_rest_works, is_left, none_left}
 use Rattle.gateway.proofs.Come.{placed_before}
 use Rattle.gateway.proofs.Carrying.{IsForOne, offered, line_is, gap}
 
--- what giving up commands leaves of the line's exchanges, as `giving_up_is_told` says it
-pub record IsTold : Type 0 where
-  pub tells : (settings : LinkSettings) (addresses : List ℕ) (q : Primary) (e : Exchanges)
-      → Tells settings addresses q e
-      → Tells settings addresses (line.without_commands q)
+-- what giving up commands leaves of the line's exchanges, as `giving_up_is_logged` says it
+pub record IsLogged : Type 0 where
+  pub matches : (settings : LinkSettings) (addresses : List ℕ) (q : Primary) (e : Exchanges)
+      → Matches settings addresses q e
+      → Matches settings addresses (line.without_commands q)
       (commands_given_up settings (front_of settings.size) addresses e)
   pub reports : (settings : LinkSettings) (size : LinkSize) (addresses : List ℕ) (address : ℕ → ℕ)
       (e : Exchanges)
@@ -52,7 +52,7 @@ pub record IsTold : Type 0 where
       (commands_given_up settings (front_of size) addresses e)
       ≡ gaps_at (front_of size) addresses station e
 
-module _ (told : IsTold) (law : IsForOne) (p : Setup) (s : State) (log : Log)
+module _ (logged : IsLogged) (law : IsForOne) (p : Setup) (s : State) (log : Log)
     (rest : HasRested p log) (a : Agrees p s log [] (resting log)) where
   abbrev new : Log
   new = Came s.moment Restarted ∷ log
@@ -91,7 +91,7 @@ module _ (told : IsTold) (law : IsForOne) (p : Setup) (s : State) (log : Log)
       runs
 
   reported : reports_in p new ≡ reports_in p log
-  reported = told.reports p.link p.link.size p.addresses (address_at p.addresses)
+  reported = logged.reports p.link p.link.size p.addresses (address_at p.addresses)
       (exchanges_of p log)
 
   none_due : restarted.works.is_due ≡ false
@@ -119,8 +119,8 @@ module _ (told : IsTold) (law : IsForOne) (p : Setup) (s : State) (log : Log)
     wall = a.wall;
     settled = refl;
     found = a.found;
-    line = subst (λ q. Tells p.link p.addresses q (exchanges_of p new)) (sym (line_is s.serial))
-        (told.tells p.link p.addresses s.serial.line (exchanges_of p log) a.line);
+    line = subst (λ q. Matches p.link p.addresses q (exchanges_of p new)) (sym (line_is s.serial))
+        (logged.matches p.link p.addresses s.serial.line (exchanges_of p log) a.line);
     course = restarted;
     talk = talk;
     stands = record {
@@ -130,8 +130,8 @@ module _ (told : IsTold) (law : IsForOne) (p : Setup) (s : State) (log : Log)
       placed = λ on. restarted_placed left.works ∙ placed_before p s log a on;
       answered = tt;
     };
-    gaps = λ i. ap (λ g. gaps_told i log ++ gap_for i g) (gap s.serial) ∙ a.gaps i
-        ∙ sym (told.gaps p.link p.link.size p.addresses (exchanges_of p log) i);
+    gaps = λ i. ap (λ g. gaps_reported i log ++ gap_for i g) (gap s.serial) ∙ a.gaps i
+        ∙ sym (logged.gaps p.link p.link.size p.addresses (exchanges_of p log) i);
     offers = offers_stay s.serial.line after.serial.line s.serial.commands after.serial.commands
         (offered law s.serial) waiting a.offers;
     plain = subst ArePlain (sym answers) a.plain;

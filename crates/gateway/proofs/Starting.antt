@@ -12,7 +12,7 @@ use Rattle.link.specs.Exchanges.{no_exchanges}
 use Rattle.link.specs.declared.settings.LinkSettings.{LinkSettings}
 use Rattle.link.specs.Requests.{FitsAddress}
 use Rattle.link.specs.Primary.{start}
-use Rattle.link.specs.Telling.{Tells}
+use Rattle.link.specs.Matching.{Matches}
 use Rattle.gateway.specs.declared.settings.Station.{Station}
 use Rattle.gateway.specs.declared.settings.TcpSettings.{TcpSettings}
 use Rattle.gateway.specs.Config.{Settings, IsStation, AreApart, AreDistinct, AreStations}
@@ -73,13 +73,13 @@ first_fits link ca (s ∷ stations) h =
     (omega (arith, h.0.address.1)) (first_fits link ca stations h.1)
 
 -- what `link` says of the start
-abbrev pub StartTells : Type 0
-StartTells = (settings : LinkSettings) (addresses : List ℕ) → 0 < length addresses
+abbrev pub StartMatches : Type 0
+StartMatches = (settings : LinkSettings) (addresses : List ℕ) → 0 < length addresses
     → All (FitsAddress settings.size) addresses
-    → Tells settings addresses (start settings addresses) no_exchanges
+    → Matches settings addresses (start settings addresses) no_exchanges
 
 -- nothing has been told yet
-pub at_first : (c : Settings) → StartTells → SessionLaws → CommandLaws → PassingLaws → LineLaws
+pub at_first : (c : Settings) → StartMatches → SessionLaws → CommandLaws → PassingLaws → LineLaws
     → AreStations c.line.link c.line.sizes.ca c.stations → IsTimely (session_of c.tcp)
     → Agrees (setup_of c) (first_state c) [] [] Fresh
 at_first c starts laws commands passing line_laws rules timely = record {
@@ -147,28 +147,28 @@ timely t = record {
 
 -- at the start, of a port that tells an empty log
 
-pub first_follows : (c : Settings) (s : State) (told : Option Log) → StartTells → SessionLaws
+pub first_follows : (c : Settings) (s : State) (logged : Option Log) → StartMatches → SessionLaws
     → CommandLaws → PassingLaws → LineLaws
     → AreStations c.line.link c.line.sizes.ca c.stations → IsTimely (session_of c.tcp)
     → s ≡ first_state c
-    → told ≡ Some [] → Follows (setup_of c) s told
-first_follows c s told starts laws commands passing line_laws rules timely is e =
+    → logged ≡ Some [] → Follows (setup_of c) s logged
+first_follows c s logged starts laws commands passing line_laws rules timely is e =
     subst (λ o. Follows (setup_of c) s o) (sym e)
     (subst (λ x. Agrees (setup_of c) x [] [] Fresh × IsClear x) (sym is) (
       at_first c starts laws commands passing line_laws rules timely,
       record { confirmed = refl; spent = λ may. (refl, refl) },
     ))
 
-pub told_follows : (p : Setup) (s : State) (told : Option Log) → Follows p s (Some [])
-    → told ≡ Some []
-    → Follows p s told
-told_follows p s told h e = subst (λ o. Follows p s o) (sym e) h
+pub logged_follows : (p : Setup) (s : State) (logged : Option Log) → Follows p s (Some [])
+    → logged ≡ Some []
+    → Follows p s logged
+logged_follows p s logged h e = subst (λ o. Follows p s o) (sym e) h
 
-pub nothing_rests : (p : Setup) (told : Option Log) → told ≡ Some [] → Rests p told
-nothing_rests p told e = subst (Rests p) (sym e) tt
+pub nothing_rests : (p : Setup) (logged : Option Log) → logged ≡ Some [] → Rests p logged
+nothing_rests p logged e = subst (Rests p) (sym e) tt
 
 -- what follows of each log that is told
-pub of_told : (P Q : Log → Type 0) (told : Option Log) → IfSome told P
-    → ((log : Log) → P log → Q log) → IfSome told Q
-of_told P Q None h q = tt
-of_told P Q (Some log) h q = q log h
+pub of_logged : (P Q : Log → Type 0) (logged : Option Log) → IfSome logged P
+    → ((log : Log) → P log → Q log) → IfSome logged Q
+of_logged P Q None h q = tt
+of_logged P Q (Some log) h q = q log h

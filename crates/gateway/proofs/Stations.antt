@@ -11,15 +11,15 @@ use Rattle.ft12.specs.Spelling as line
 use Rattle.asdu.specs.declared.sizes.Sizes.{Sizes}
 use Rattle.link.specs.Answers.{answer_of}
 use Rattle.link.specs.Exchanges.{Exchanges, OpenExchange, Sending, begun_by, whole_of}
-use Rattle.link.specs.Exchanges.{timed_current, heard_current, reports_of_exchanges}
+use Rattle.link.specs.Exchanges.{timed_current, received_current, reports_of_exchanges}
 use Rattle.link.specs.declared.procedure.Link.TheVariants.{Down}
 use Rattle.link.specs.Procedure.{is_up, holds_command, link_after}
 use Rattle.link.specs.Requests.{request_frame, request_in}
 use Rattle.link.specs.Turns.{station_at}
 use Rattle.link.specs.Primary.{Outstanding, Primary, asked, sending, received, received_outcome}
 use Rattle.link.specs.Primary.{timed_out}
-use Rattle.link.specs.Telling.{Tells, report_in, IsAwaited, IsHeard, IsSaid}
-use Rattle.link.specs.Telling as telling
+use Rattle.link.specs.Matching.{Matches, report_in, IsAwaited, IsReceived, IsSaid}
+use Rattle.link.specs.Matching as logging
 use Rattle.gateway.specs.Objects.{monitor_objects, pieces_of_report}
 use Rattle.gateway.specs.Log.{Log, LineIn, Came, Went, LineOut, latest}
 use Rattle.gateway.specs.Frames.{Connection}
@@ -33,7 +33,7 @@ use Rattle.link.specs.LineLaws.{LineLaws}
 
 -- the exchanges keep the procedure
 pub keeps_links : (p : Setup) (q : Primary) (log : Log)
-    → Tells p.link p.addresses q (exchanges_of p log)
+    → Matches p.link p.addresses q (exchanges_of p log)
     → KeepsLinks p log
 keeps_links p q log h = λ i within. h.keeps i
 
@@ -66,24 +66,26 @@ parts_grow p old new reports e = ap (parts_of_all p.sizes) e
 
 pub record LineGoesOn (p : Setup) (q : Primary) (old new : Log) (reports : List (ℕ × List ℕ)) : Type
     0 where
-  pub tells : Tells p.link p.addresses q (exchanges_of p new)
+  pub matches : Matches p.link p.addresses q (exchanges_of p new)
   pub reported : reports_in p new ≡ reports_in p old ++ reports
 
 pub after_octets : (laws : LineLaws) (p : Setup) (q : Primary) (log : Log) (now : ℕ)
     (octets : List ℕ)
-    → Tells p.link p.addresses q (exchanges_of p log) →
+    → Matches p.link p.addresses q (exchanges_of p log) →
     LineGoesOn p (timed_out (received (front_of q.settings.size) q octets)
     (latest (Came now (LineIn octets) ∷ log)))
     log (Came now (LineIn octets) ∷ log)
     (report_in (received_outcome (front_of q.settings.size) q octets))
 after_octets laws p q log now octets h =
     let e : Exchanges = exchanges_of p log in
-    let heard : Exchanges = record { ended = e.ended; current = heard_current octets e.current } in
+    let arrived : Exchanges =
+    record { ended = e.ended; current = received_current octets e.current } in
     let at : ℕ = latest (Came now (LineIn octets) ∷ log) in
     record {
-      tells = laws.due p.link p.addresses (received (front_of q.settings.size) q octets) heard at
+      matches = laws.due p.link p.addresses (received (front_of q.settings.size) q octets) arrived
+          at
           (laws.octets p.link p.addresses q e octets h);
-      reported = laws.due_reports p.link.size (address_at p.addresses) p.link.answer_ms at heard
+      reported = laws.due_reports p.link.size (address_at p.addresses) p.link.answer_ms at arrived
           ∙ laws.octets_report p.link p.addresses q e octets h;
     }
 
@@ -93,12 +95,12 @@ pub after_moment : (laws : LineLaws) (p : Setup) (q : Primary) (log new : Log) (
       ended = (exchanges_of p log).ended;
       current =
           timed_current p.link.answer_ms at (exchanges_of p log).current;
-    } → Tells p.link p.addresses q (exchanges_of p log) →
+    } → Matches p.link p.addresses q (exchanges_of p log) →
     LineGoesOn p (timed_out q at) log new []
 after_moment laws p q log new at is h =
     let e : Exchanges = exchanges_of p log in
     record {
-      tells = subst (Tells p.link p.addresses (timed_out q at)) (sym is)
+      matches = subst (Matches p.link p.addresses (timed_out q at)) (sym is)
           (laws.due p.link p.addresses q e at h);
       reported = ap (reports_of_exchanges (front_of p.link.size) (address_at p.addresses)) is
           ∙ laws.due_reports p.link.size (address_at p.addresses) p.link.answer_ms at e
@@ -115,7 +117,7 @@ octets_of p s =
 -- a request that went out is read back from its octets
 pub request_back : (laws : LineLaws) (p : Setup) (q : Primary) (log : Log) (may : Bool)
     (s : Sending)
-    → AreFound p.addresses → Tells p.link p.addresses q (exchanges_of p log) → sending q may
+    → AreFound p.addresses → Matches p.link p.addresses q (exchanges_of p log) → sending q may
     ≡ Some s
     → sending_in p (octets_of p s) ≡ Some s
 request_back laws p q log may s found h is =
@@ -130,7 +132,7 @@ request_back laws p q log may s found h is =
 
 pub after_request : (laws : LineLaws) (p : Setup) (q : Primary) (log : Log) (now : ℕ) (may : Bool)
     (s : Sending)
-    → AreFound p.addresses → Tells p.link p.addresses q (exchanges_of p log) → sending q may
+    → AreFound p.addresses → Matches p.link p.addresses q (exchanges_of p log) → sending q may
     ≡ Some s →
     LineGoesOn p (asked q now may) log (Went now (LineOut (octets_of p s)) ∷ log) []
 after_request laws p q log now may s found h is =
@@ -139,7 +141,7 @@ after_request laws p q log now may s found h is =
     ap (λ o. begun_by now o (exchanges_of p log)) (request_back laws p q log may s found h is
     ∙ sym is) in
     record {
-      tells = subst (Tells p.link p.addresses (asked q now may)) (sym same)
+      matches = subst (Matches p.link p.addresses (asked q now may)) (sym same)
           (laws.next p.link p.addresses q (exchanges_of p log) now may h);
       reported = ap (reports_of_exchanges (front_of p.link.size) (address_at p.addresses)) same
           ∙ laws.next_reports p.link.size (address_at p.addresses) now (sending q may)
@@ -150,16 +152,17 @@ after_request laws p q log now may s found h is =
 -- Nothing is left to be asked
 
 asks_alone : (laws : LineLaws) (p : Setup) (q : Primary) (log : Log) (course : Course) (may : Bool)
-    → Tells p.link p.addresses q (exchanges_of p log) → q.outstanding ≡ None → sending q may ≡ None
+    → Matches p.link p.addresses q (exchanges_of p log) → q.outstanding ≡ None → sending q may
+    ≡ None
     → (connections : List Connection) → (may ≡ false → IsFull p log connections)
     → ((i : ℕ) → i < length p.addresses → IsServed p log (done_in p log course) i)
     → LacksOnlyRoom p log course connections
 asks_alone laws p q log course may h out none connections full served =
     let link : (i : ℕ) → link_after p.link (address_at p.addresses i) Down (exchanges_with p i log)
     ≡ (station_at q.stations i).link = λ i.
-    subst (λ (o : Option Outstanding). telling.AreLinks (front_of p.link.size) p.link p.addresses
+    subst (λ (o : Option Outstanding). logging.AreLinks (front_of p.link.size) p.link p.addresses
     q.stations
-    (telling.past o (exchanges_of p log))) out h.links i in
+    (logging.past o (exchanges_of p log))) out h.links i in
     record {
       full = full (laws.leave q may h.fits out none);
       up = λ i within. ap is_up (link i)
@@ -170,7 +173,7 @@ asks_alone laws p q log course may h out none connections full served =
     }
 
 nothing_said : (front : List ℕ → Front) (address : ℕ) (x : OpenExchange) (o : Option (List ℕ))
-    → IsHeard front address x o
+    → IsReceived front address x o
     → option_and_then (answer_of address x.request) (whole_of (front x.octets)) ≡ None
 nothing_said front address x (Some octets) h =
     ap (λ f. option_and_then (answer_of address x.request) (whole_of f)) h.1
@@ -179,14 +182,14 @@ nothing_said front address x None h =
     (sym (append-nil x.octets)) ∙ h []
 
 waits_for : (p : Setup) (q : Primary) (log : Log) (o : Outstanding)
-    → Tells p.link p.addresses q (exchanges_of p log)
+    → Matches p.link p.addresses q (exchanges_of p log)
     → q.outstanding ≡ Some o → IsWaiting p log
 waits_for p q log o h out = go (exchanges_of p log).current refl
   where
-    current : telling.IsCurrent (front_of p.link.size) p.addresses q.turn (Some o)
+    current : logging.IsCurrent (front_of p.link.size) p.addresses q.turn (Some o)
         (exchanges_of p log).current
     current =
-        subst (λ (x : Option Outstanding). telling.IsCurrent (front_of p.link.size) p.addresses
+        subst (λ (x : Option Outstanding). logging.IsCurrent (front_of p.link.size) p.addresses
         q.turn x
         (exchanges_of p log).current) out h.current
 
@@ -197,20 +200,20 @@ waits_for p q log o h out = go (exchanges_of p log).current refl
     at_station x w =
         ap (λ i. option_and_then (answer_of (address_at p.addresses i) x.request)
         (whole_of (front_of p.link.size x.octets))) w.station
-        ∙ nothing_said (front_of p.link.size) (address_at p.addresses q.turn) x o.heard w.heard
+        ∙ nothing_said (front_of p.link.size) (address_at p.addresses q.turn) x o.arrived w.arrived
 
     go : (x : Option OpenExchange) → (exchanges_of p log).current ≡ x → IsWaiting p log
     go None is =
-        absurd (subst (telling.IsCurrent (front_of p.link.size) p.addresses q.turn (Some o)) is
+        absurd (subst (logging.IsCurrent (front_of p.link.size) p.addresses q.turn (Some o)) is
         current)
     go (Some x) is =
         let w : IsAwaited (front_of p.link.size) (address_at p.addresses q.turn) q.turn o x =
-        subst (telling.IsCurrent (front_of p.link.size) p.addresses q.turn (Some o)) is current in
+        subst (logging.IsCurrent (front_of p.link.size) p.addresses q.turn (Some o)) is current in
         record { exchange = x; latest_is = is; waits = (at_station x w, w.waits, w.stands) }
 
 pub line_rests : (laws : LineLaws) (p : Setup) (q : Primary) (log : Log) (course : Course)
     (may : Bool)
-    → Tells p.link p.addresses q (exchanges_of p log) → sending q may ≡ None
+    → Matches p.link p.addresses q (exchanges_of p log) → sending q may ≡ None
     → (connections : List Connection)
     → (may ≡ false → IsFull p log connections)
     → (q.outstanding ≡ None → (i : ℕ) → i < length p.addresses

@@ -20,7 +20,8 @@ use Rattle.session.specs.Session.{Session, Due, is_close, outcome_of, may_send, 
 use Rattle.session.specs.Session.{timed_out, refuses}
 use Rattle.session.specs.History as talk
 use Rattle.session.specs.History.{History, confirmation_of, frame_due, has_timed_out}
-use Rattle.session.specs.Runs.{Settings, Call, Take, Send, Confirm, Pull, Open, Cut, Run, run, told}
+use Rattle.session.specs.Runs.{Settings, Call, Take, Send, Confirm, Pull, Open, Cut, Run, run}
+use Rattle.session.specs.Runs.{logged}
 use Rattle.session.specs.Runs.{gone, may_take, after_call}
 use Rattle.session.specs.Rules.{KeepsRules}
 use Rattle.session.specs.Ends.{IsConfirmed, after_confirm, after_pull}
@@ -34,7 +35,8 @@ use Rattle.gateway.specs.Objects.{monitor_objects}
 use Rattle.link.specs.LineLaws.{LineLaws}
 use Rattle.gateway.specs.Reports.{Setup, address_at, exchanges_of, taken_objects}
 use Rattle.gateway.specs.Works.{has_lacked_place}
-use Rattle.gateway.specs.Course.{Course, first_course, came_frames, kind_of, told_sent, with_frame}
+use Rattle.gateway.specs.Course.{Course, first_course, came_frames, kind_of, logged_sent}
+use Rattle.gateway.specs.Course.{with_frame}
 use Rattle.gateway.specs.Course.{with_sent, IsFlushed, IsUntouched, HasBegun, MayTake, TakesFrames}
 use Rattle.gateway.specs.Course.{IsTouched, HasAsked, HasTakenAll, IsNext, Runs}
 use Rattle.gateway.specs.Conversation.{KeepsRulesSoFar}
@@ -123,23 +125,24 @@ runs_more laws p (Went now (GapOut station session) ∷ log) c f takes may k = a
 abbrev pub at : Session → History → Run
 at s h = record { session = s; history = h }
 
-told_came : (o : Taken) (f : Apdu) (now : ℕ) → is_close o ≡ false → told o f now ≡ talk.Came f now
-told_came Nothing f now goes = refl
-told_came Asdu f now goes = refl
-told_came (Closes cause) f now goes = cc
+logged_came : (o : Taken) (f : Apdu) (now : ℕ) → is_close o ≡ false → logged o f now
+    ≡ talk.Came f now
+logged_came Nothing f now goes = refl
+logged_came Asdu f now goes = refl
+logged_came (Closes cause) f now goes = cc
 
 takes : (s : Session) (h : History) (f : Apdu) (now : ℕ) → session.is_open s ≡ true → IsConfirmed s
     → is_close (outcome_of s f) ≡ false → after_call (Take f now) (at s h)
     ≡ at (session.taken f now s) (talk.Came f now ∷ h)
 takes s h f now on ready goes =
-    cond-true (may_take s) (at (session.taken f now s) (told (outcome_of s f) f now ∷ h)) (at s h)
+    cond-true (may_take s) (at (session.taken f now s) (logged (outcome_of s f) f now ∷ h)) (at s h)
     (and_from (session.is_open s) (is_none (confirmed s).0) on (ap is_none ready))
-    ∙ ap (λ x. at (session.taken f now s) (x ∷ h)) (told_came (outcome_of s f) f now goes)
+    ∙ ap (λ x. at (session.taken f now s) (x ∷ h)) (logged_came (outcome_of s f) f now goes)
 
 pub sends : (s : Session) (h : History) (asdu : List ℕ) (kind : Kind) (now : ℕ) → may_send s ≡ true
     → kind_of asdu ≡ kind → after_call (Send kind now) (at s h)
     ≡ at (session.sent kind now s)
-    (told_sent (I s.next_sent s.next_received (record { items = asdu })) now h)
+    (logged_sent (I s.next_sent s.next_received (record { items = asdu })) now h)
 sends s h asdu kind now may is =
     cond-true (may_send s)
     (at (session.sent kind now s) (talk.Sent s.next_sent s.next_received kind now ∷ h))
@@ -151,7 +154,7 @@ sends s h asdu kind now may is =
 abbrev pub HasNoData : Apdu → Type 0
 HasNoData f = (put : List Apdu) → data_frames (f ∷ put) ≡ data_frames put
 
-pub plain : (f : Apdu) (now : ℕ) (h : History) → HasNoData f → told_sent f now h ≡ talk.Went f now
+pub plain : (f : Apdu) (now : ℕ) (h : History) → HasNoData f → logged_sent f now h ≡ talk.Went f now
     ∷ h
 plain (I ns nr asdu) now h none = let no : data_frames (I ns nr asdu ∷ []) ≡ [] = none [] in cc
 plain (S nr) now h none = refl
@@ -169,19 +172,20 @@ next_plain p log c (U u) none h = h
 
 pub confirms : (s t : Session) (h : History) (f : Apdu) (now : ℕ) → HasNoData f
     → ◌≡◌ {A = Due} (Some f, t) (confirmed s) → after_call (Confirm now) (at s h)
-    ≡ at t (told_sent f now h)
+    ≡ at t (logged_sent f now h)
 confirms s t h f now none e = ap (λ (d : Due). gone d now (at s h)) (sym e)
     ∙ ap (at t) (sym (plain f now h none))
 
 pub pulls : (s t : Session) (h : History) (f : Apdu) (now : ℕ) → HasNoData f
     → ◌≡◌ {A = Due} (Some f, t) (pulled now s)
-    → after_call (Pull now) (at s h) ≡ at t (told_sent f now h)
+    → after_call (Pull now) (at s h) ≡ at t (logged_sent f now h)
 pulls s t h f now none e = ap (λ (d : Due). gone d now (at s h)) (sym e)
     ∙ ap (at t) (sym (plain f now h none))
 
 -- The session and the log
 
-pub same_came : (f : Apdu) (now : ℕ) (h : History) → came_frames (told_sent f now h) ≡ came_frames h
+pub same_came : (f : Apdu) (now : ℕ) (h : History) → came_frames (logged_sent f now h)
+    ≡ came_frames h
 same_came (I ns nr asdu) now h = refl
 same_came (S nr) now h = refl
 same_came (U u) now h = refl
@@ -216,7 +220,7 @@ pub talk_out : (p : Setup) (s t : Session) (log : Log) (c : Course) (now moment 
     (call : Call)
     (k : Talks p s log c) → Fits f → moment ≡ latest log → IsNext p log f c
     → has_lacked_place c.works.history ≡ false → IsTouched log c ⊎ HasAsked p log c
-    → after_call call (at s c.talk) ≡ at t (told_sent f moment c.talk) → Begins (present log) c →
+    → after_call call (at s c.talk) ≡ at t (logged_sent f moment c.talk) → Begins (present log) c →
     Talks p t (Went now (TcpOut (spelling f)) ∷ log) (with_sent f moment c)
 talk_out p s t log c now moment f call k fits clock next placed turn made b = record {
   timely = k.timely;
@@ -235,7 +239,7 @@ talk_out p s t log c now moment f call k fits clock next placed turn made b = re
       fits = fits;
       spelled_so = refl;
       rules =
-          ruled p s t log c call (latest log) moment (λ m. told_sent f m c.talk) k clock made;
+          ruled p s t log c call (latest log) moment (λ m. logged_sent f m c.talk) k clock made;
       next = next;
       placed = placed;
       turn = turn;
@@ -253,7 +257,7 @@ talk_out p s t log c now moment f call k fits clock next placed turn made b = re
 }
 
 -- a frame is taken
-pub talk_heard : (p : Setup) (s : Session) (log : Log) (c : Course) (moment : ℕ) (f : Apdu)
+pub talk_received : (p : Setup) (s : Session) (log : Log) (c : Course) (moment : ℕ) (f : Apdu)
     (rest : List ℕ)
     (k : Talks p s log c) → IsTaking log → moment ≡ latest log → session.is_open s ≡ true
     → IsConfirmed s → Fits f
@@ -262,7 +266,8 @@ pub talk_heard : (p : Setup) (s : Session) (log : Log) (c : Course) (moment : �
     ≡ None)
     → (present log).received ≡ spelled (f ∷ came_frames c.talk) ++ rest →
     Talks p (session.taken f moment s) log (with_frame p f moment (wall_on log moment) c)
-talk_heard p s log c moment f rest k taking clock on ready fits goes placed flushed undue joined =
+talk_received p s log c moment f rest k taking clock on ready fits goes placed flushed undue
+    joined =
     record {
       timely = k.timely;
       laws = k.laws;
@@ -436,7 +441,7 @@ call_t1 (Open now) r = refl
 call_t1 Cut r = refl
 call_t1 (Take f now) r =
     either_run (may_take r.session)
-    (at (session.taken f now r.session) (told (outcome_of r.session f) f now
+    (at (session.taken f now r.session) (logged (outcome_of r.session f) f now
     ∷ r.history)) r r.session.t1
     (either_session (refuses r.session f) _ _ r.session.t1 refl (after_frame_t1 f now _)) refl
 call_t1 (Send kind now) r = either_run (may_send r.session)

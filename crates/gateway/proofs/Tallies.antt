@@ -31,10 +31,11 @@ use Rattle.gateway.specs.Connections.{present}
 use Rattle.gateway.specs.Reports.{Setup}
 use Rattle.gateway.specs.Tags.{AreTagged}
 use Rattle.gateway.specs.Serial.{listed, refusals, is_first_command, unless_silent}
-use Rattle.gateway.specs.Works.{Works, tasks_of, told_kept, is_command_by, is_command_report}
-use Rattle.gateway.specs.Works.{IsPassedOn, mirrored_works, LearnsReport, LearnsOf, heard_works}
-use Rattle.gateway.specs.Works.{sent_works, answered_works, told_silent, settled_works, ready_works}
-use Rattle.gateway.specs.Works.{unasked_works, done_works, told_put, asked_works, restarted_works}
+use Rattle.gateway.specs.Works.{Works, tasks_of, logged_kept, is_command_by, is_command_report}
+use Rattle.gateway.specs.Works.{IsPassedOn, mirrored_works, LearnsReport, LearnsOf, received_works}
+use Rattle.gateway.specs.Works.{sent_works, answered_works, logged_silent, settled_works}
+use Rattle.gateway.specs.Works.{ready_works}
+use Rattle.gateway.specs.Works.{unasked_works, done_works, logged_put, asked_works, restarted_works}
 use Rattle.gateway.specs.Course.{Course, with_frames, closed_course, IsLeft, room_in, Runs}
 use Rattle.gateway.specs.Line.{done_in}
 use Rattle.gateway.specs.Tallies.{given_up_in, unpassed_in}
@@ -52,7 +53,7 @@ one_saturated n m e = ap one_more e ∙ omega arith
 
 -- Own answers
 
-lost_kept : (xs : List (List ℕ)) (s : tasks.State) (h : History) → given_up_in (told_kept xs s h)
+lost_kept : (xs : List (List ℕ)) (s : tasks.State) (h : History) → given_up_in (logged_kept xs s h)
     ≡ given_up_in h
 lost_kept [] s h = refl
 lost_kept (x ∷ xs) s h =
@@ -60,9 +61,10 @@ lost_kept (x ∷ xs) s h =
     ∷ h))
   where
     by_room : (b : Bool)
-        → given_up_in (told_kept xs (tasks.offered x s) (Offered x (has_answer_place s) ∷ h))
+        → given_up_in (logged_kept xs (tasks.offered x s) (Offered x (has_answer_place s) ∷ h))
         ≡ given_up_in h →
-        given_up_in (if b then told_kept xs (tasks.offered x s) (Offered x (has_answer_place s) ∷ h)
+        given_up_in (if b then logged_kept xs (tasks.offered x s) (Offered x (has_answer_place s)
+        ∷ h)
         else Offered x
         (has_answer_place s) ∷ h) ≡ given_up_in h
     by_room true e = e
@@ -70,7 +72,7 @@ lost_kept (x ∷ xs) s h =
 
 -- one that is handed over stands behind these
 handed : (x : List ℕ) (xs : List (List ℕ)) (s : tasks.State) (h : History) (b : Bool)
-    → unpassed_in b (told_kept (x ∷ xs) s h) ≡ unpassed_in true h
+    → unpassed_in b (logged_kept (x ∷ xs) s h) ≡ unpassed_in true h
 handed x [] s h b = by_room (has_answer_place s)
   where
     by_room : (c : Bool) → unpassed_in b (if c then Offered x (has_answer_place s)
@@ -82,10 +84,10 @@ handed x (y ∷ ys) s h b = by_room (has_answer_place s)
     (handed y ys (tasks.offered x s) (Offered x (has_answer_place s) ∷ h) b)
   where
     by_room : (c : Bool)
-        → unpassed_in b (told_kept (y ∷ ys) (tasks.offered x s) (Offered x (has_answer_place s)
+        → unpassed_in b (logged_kept (y ∷ ys) (tasks.offered x s) (Offered x (has_answer_place s)
         ∷ h))
         ≡ unpassed_in true h →
-        unpassed_in b (if c then told_kept (y ∷ ys) (tasks.offered x s)
+        unpassed_in b (if c then logged_kept (y ∷ ys) (tasks.offered x s)
         (Offered x (has_answer_place s)
         ∷ h) else Offered x
         (has_answer_place s) ∷ h) ≡ unpassed_in true h
@@ -94,13 +96,13 @@ handed x (y ∷ ys) s h b = by_room (has_answer_place s)
 
 unpassed_kept : (xs : List (List ℕ)) (s : tasks.State) (h : History) → unpassed_in true h
     ≡ unpassed_in false h
-    → unpassed_in false (told_kept xs s h) ≡ unpassed_in false h
+    → unpassed_in false (logged_kept xs s h) ≡ unpassed_in false h
 unpassed_kept [] s h e = refl
 unpassed_kept (x ∷ xs) s h e = handed x xs s h false ∙ e
 
 kept : (xs : List (List ℕ)) (s : tasks.State) (h : History) (t : Tally) → unpassed_in true h
     ≡ unpassed_in false h
-    → AreCounted h t → AreCounted (told_kept xs s h) t
+    → AreCounted h t → AreCounted (logged_kept xs s h) t
 kept xs s h t e c = (
   c.0 ∙ ap saturated (sym (lost_kept xs s h)),
   c.1
@@ -198,19 +200,19 @@ learnt p at transferring (outcome.Empty station) w z learns c = subst IsCounted 
 
 -- Frames
 
-heard : (f : Apdu) (now : ℕ) (wall : Option ℕ) (w : Works) → IsCounted w
-    → IsCounted (heard_works f now wall w)
-heard (I ns nr asdu) now wall w c =
+arrived : (f : Apdu) (now : ℕ) (wall : Option ℕ) (w : Works) → IsCounted w
+    → IsCounted (received_works f now wall w)
+arrived (I ns nr asdu) now wall w c =
     let judgement = judged asdu.items now wall w.serial.commands in
     let h : History = Judged now wall asdu.items judgement.0 ∷ w.history in
     kept (listed judgement.0) judgement.1 h w.serial.counts refl c
-heard (S nr) now wall w c = c
-heard (U u) now wall w c = c
+arrived (S nr) now wall w c = c
+arrived (U u) now wall w c = c
 
 frames : (p : Setup) (fs : List Apdu) (now : ℕ) (wall : Option ℕ) (d : Course) → IsCounted d.works
     → IsCounted (with_frames p fs now wall d).works
 frames p [] now wall d c = c
-frames p (f ∷ fs) now wall d c = heard f now wall (with_frames p fs now wall d).works
+frames p (f ∷ fs) now wall d c = arrived f now wall (with_frames p fs now wall d).works
     (frames p fs now wall d c)
 
 answered : (w : Works) → IsCounted w → IsCounted (answered_works w)
@@ -235,7 +237,7 @@ sent (U u) w c = c
 settled : (at : ℕ) (w : Works) → IsCounted w → IsCounted (settled_works at w)
 settled at w c = by_silent w.serial.silent
   where
-    by_silent : (o : Option ℕ) → AreCounted (told_silent o w) (unless_silent o w.serial).counts
+    by_silent : (o : Option ℕ) → AreCounted (logged_silent o w) (unless_silent o w.serial).counts
     by_silent None = c
     by_silent (Some k) = given_up (is_used (line_of k w.serial.commands)) k w.history
         w.serial.counts c
@@ -247,7 +249,7 @@ done at room w c = by_due w.is_due
     by_due true = settled at w c
     by_due false = c
 
-put : (b : Bool) (k : ℕ) (w : Works) → IsCounted w → AreCounted (told_put b k w) w.serial.counts
+put : (b : Bool) (k : ℕ) (w : Works) → IsCounted w → AreCounted (logged_put b k w) w.serial.counts
 put false k w c = c
 put true k w c = by_oldest (oldest_for k w.serial.commands)
   where

@@ -148,8 +148,8 @@ fault_cases P p2 p3 p4 sent older (S nr) cause e =
 fault_cases P p2 p3 p4 sent older (U u) cause e = cc
 
 -- the connection once it heard one more frame
-abbrev pub heard_more : Apdu → Connection → Connection
-heard_more f c = record { sent_frames = c.sent_frames; received_frames = f ∷ c.received_frames }
+abbrev pub received_more : Apdu → Connection → Connection
+received_more f c = record { sent_frames = c.sent_frames; received_frames = f ∷ c.received_frames }
 
 abbrev pub less : Apdu → Session → List (List ℕ) → List (List ℕ)
 less f s ps = drop (from_queue (take (newly_by f s) s.unacknowledged)) ps
@@ -184,7 +184,7 @@ after f now s =
 
 tied_after : (f : Apdu) (now : ℕ) (c : Connection) (s : Session) (ps : List (List ℕ))
     → session.is_open s ≡ true
-    → Tied c s ps → refuses s f ≡ false → Tied (heard_more f c) (after f now s) (less f s ps)
+    → Tied c s ps → refuses s f ≡ false → Tied (received_more f c) (after f now s) (less f s ps)
 tied_after (I ns nr asdu) now c s ps on h passes =
     let tests = or_parts (not (is_transferring s) || not (ns == s.next_received))
     (not (is_valid nr s))
@@ -279,11 +279,11 @@ acked_after (U TestCon) now s = refl
 pub tied_taken : (f : Apdu) (now : ℕ) (c : Connection) (s : Session) (ps : List (List ℕ))
     → session.is_open s ≡ true
     → Tied c s ps → refuses s f ≡ false
-    → Tied (heard_more f c) (taken f now s) (drop (taken f now s).acked_queue ps)
+    → Tied (received_more f c) (taken f now s) (drop (taken f now s).acked_queue ps)
 tied_taken f now c s ps on h passes =
     let is : taken f now s ≡ after f now s = cond-false (refuses s f) _ (after f now s) passes in
-    subst (λ (x : Session). Tied (heard_more f c) x (drop x.acked_queue ps)) (sym is)
-    (subst (λ n. Tied (heard_more f c) (after f now s) (drop n ps)) (sym (acked_after f now s))
+    subst (λ (x : Session). Tied (received_more f c) x (drop x.acked_queue ps)) (sym is)
+    (subst (λ n. Tied (received_more f c) (after f now s) (drop n ps)) (sym (acked_after f now s))
     (tied_after f now c s ps on h passes))
 
 -- a session whose window is the same

@@ -14,7 +14,7 @@ use Rattle.ft12.specs.Fronts.{front_of}
 use Rattle.apci.specs.declared.apdu.Apdu.{Apdu}
 use Rattle.apci.specs.declared.apdu.Apdu.TheVariants.{I, S, U}
 use Rattle.link.specs.Answers.{answer_of}
-use Rattle.link.specs.Exchanges.{Exchanges, OpenExchange, heard_octets, heard_current}
+use Rattle.link.specs.Exchanges.{Exchanges, OpenExchange, received_octets, received_current}
 use Rattle.link.specs.Exchanges.{whole_of, views, report_by, reports_of}
 use Rattle.link.specs.Exchanges.{reports_of_exchanges}
 use Rattle.link.specs.LineLaws.{LineLaws}
@@ -36,7 +36,7 @@ use Rattle.gateway.specs.GoingOut.{BearWholePieces}
 use Rattle.gateway.proofs.Pieces.{pieces_of-append}
 use Rattle.gateway.proofs.Objects.{run_grows, length-pieces_of}
 use Rattle.gateway.proofs.Stations.{pieces_grow}
-use Rattle.gateway.proofs.Restarted.{IsTold}
+use Rattle.gateway.proofs.Restarted.{IsLogged}
 
 -- What is at the front of octets stays there as more come.
 abbrev pub StaysWhole : Type 0
@@ -46,7 +46,7 @@ StaysWhole = (size : LinkSize) (octets more : List ℕ) (frame : Frame) (n : ℕ
 pub record Laws : Type 0 where
   pub whole : StaysWhole
   pub line : LineLaws
-  pub told : IsTold
+  pub logged : IsLogged
 
 -- Reports taken stay taken
 
@@ -68,9 +68,9 @@ module _ (whole : StaysWhole) (size : LinkSize) (address : ℕ → ℕ) where
       ∙ sym (append_assoc (one y) (reports_of address (views (front_of size) ys)) (one x ++ []))
 
   -- an exchange's octets grow
-  heard_one : (octets : List ℕ) (x : OpenExchange)
-      → (more : List (ℕ × List ℕ)) × (one (heard_octets octets x) ≡ one x ++ more)
-  heard_one octets x = by_front (front_of size x.octets) refl
+  received_one : (octets : List ℕ) (x : OpenExchange)
+      → (more : List (ℕ × List ℕ)) × (one (received_octets octets x) ≡ one x ++ more)
+  received_one octets x = by_front (front_of size x.octets) refl
     where
       stays : (b : Bool) (frame : Frame) (n : ℕ) → front_of size x.octets ≡ Whole frame n
           → front_of size (if b then x.octets else x.octets ++ octets) ≡ Whole frame n
@@ -78,15 +78,15 @@ module _ (whole : StaysWhole) (size : LinkSize) (address : ℕ → ℕ) where
       stays false frame n e = whole size x.octets octets frame n e
 
       none : (front : Front) → front_of size x.octets ≡ front → whole_of front ≡ None
-          → (more : List (ℕ × List ℕ)) × (one (heard_octets octets x) ≡ one x ++ more)
+          → (more : List (ℕ × List ℕ)) × (one (received_octets octets x) ≡ one x ++ more)
       none front e lacks = (
-        one (heard_octets octets x),
-        ap (λ rs. rs ++ one (heard_octets octets x))
+        one (received_octets octets x),
+        ap (λ rs. rs ++ one (received_octets octets x))
             (sym (ap (λ (f : Option Frame). said x f) (ap whole_of e ∙ lacks))),
       )
 
       by_front : (front : Front) → front_of size x.octets ≡ front
-          → (more : List (ℕ × List ℕ)) × (one (heard_octets octets x) ≡ one x ++ more)
+          → (more : List (ℕ × List ℕ)) × (one (received_octets octets x) ≡ one x ++ more)
       by_front (Whole frame n) e = (
         [],
         ap (λ (f : Front). said x (whole_of f))
@@ -96,19 +96,19 @@ module _ (whole : StaysWhole) (size : LinkSize) (address : ℕ → ℕ) where
       by_front More e = none More e refl
       by_front (Never place why) e = none (Never place why) e refl
 
-  heard_reports : (ended : List OpenExchange) (current : Option OpenExchange) (octets : List ℕ)
+  received_reports : (ended : List OpenExchange) (current : Option OpenExchange) (octets : List ℕ)
       → (more : List (ℕ × List ℕ))
       × (reports_of_exchanges (front_of size) address
-      (record { ended = ended; current = heard_current octets current })
+      (record { ended = ended; current = received_current octets current })
       ≡ reports_of_exchanges (front_of size) address
       (record { ended = ended; current = current }) ++ more)
-  heard_reports ended None octets = ([], sym (append-nil _))
-  heard_reports ended (Some x) octets =
+  received_reports ended None octets = ([], sym (append-nil _))
+  received_reports ended (Some x) octets =
       let before : List (ℕ × List ℕ) = reports_of address (views (front_of size) ended) in
-      let grown = heard_one octets x in (
+      let grown = received_one octets x in (
         grown.0,
-        one_more ended (heard_octets octets x)
-            ∙ ap (λ rs. before ++ rs) (append-nil (one (heard_octets octets x)) ∙ grown.1)
+        one_more ended (received_octets octets x)
+            ∙ ap (λ rs. before ++ rs) (append-nil (one (received_octets octets x)) ∙ grown.1)
             ∙ sym (append_assoc before (one x) grown.0)
             ∙ ap (λ rs. rs ++ grown.0) (sym (one_more ended x
             ∙ ap (λ rs. before ++ rs) (append-nil (one x)))),
@@ -125,15 +125,15 @@ grows : Laws → (p : Setup) (entry : LogEntry) (log : Log) → Grows p log (ent
 grows laws p (Came now (LineIn octets)) log =
     let e : Exchanges = exchanges_of p log in
     let at : ℕ = latest (Came now (LineIn octets) ∷ log) in
-    let heard = heard_reports laws.whole p.link.size (address_at p.addresses) e.ended e.current
+    let arrived = received_reports laws.whole p.link.size (address_at p.addresses) e.ended e.current
     octets in (
-      heard.0,
+      arrived.0,
       laws.line.due_reports p.link.size (address_at p.addresses) p.link.answer_ms at
-          (record { ended = e.ended; current = heard_current octets e.current })
-          ∙ heard.1,
+          (record { ended = e.ended; current = received_current octets e.current })
+          ∙ arrived.1,
     )
 grows laws p (Came now Restarted) log = none_more p log (Came now Restarted ∷ log)
-    (laws.told.reports p.link p.link.size p.addresses (address_at p.addresses)
+    (laws.logged.reports p.link p.link.size p.addresses (address_at p.addresses)
     (exchanges_of p log))
 grows laws p (Came now Opened) log = none_more p log (Came now Opened ∷ log)
     (laws.line.due_reports p.link.size (address_at p.addresses) p.link.answer_ms

@@ -16,9 +16,10 @@ use Rattle.command.specs.Calls.{Judge, after_answer, after_sending}
 use Rattle.gateway.specs.Serial as serial
 use Rattle.gateway.specs.Serial.{Serial, kept_until, all_kept, listed, has_place, unless_silent}
 use Rattle.gateway.specs.Serial.{settled, answered, without_gap}
-use Rattle.gateway.specs.Works.{Works, tasks_of, told, told_kept, has_lacked_place, heard_works}
-use Rattle.gateway.specs.Works.{answered_works, told_silent, settled_works, ready_works}
-use Rattle.gateway.specs.Works.{unasked_works, done_works, told_put}
+use Rattle.gateway.specs.Works.{Works, tasks_of, logged, logged_kept, has_lacked_place}
+use Rattle.gateway.specs.Works.{received_works}
+use Rattle.gateway.specs.Works.{answered_works, logged_silent, settled_works, ready_works}
+use Rattle.gateway.specs.Works.{unasked_works, done_works, logged_put}
 use Rattle.gateway.specs.Phases.{Phase, Fresh, Taking, Judged, Idle, Crowded, Timed, Asked}
 use Rattle.gateway.specs.Phases.{works_in, IsAsked}
 use Rattle.gateway.specs.Agrees.{ArePlain}
@@ -27,19 +28,20 @@ use Rattle.gateway.specs.Agrees.{ArePlain}
 
 -- where one finds no place, that shows
 pub kept_overfull : (xs : List (List ℕ)) (s : tasks.State) (h : History) → all_kept xs s ≡ false
-    → has_lacked_place (told_kept xs s h) ≡ true
+    → has_lacked_place (logged_kept xs s h) ≡ true
 kept_overfull [] s h none = cc
 kept_overfull (x ∷ xs) s h none = by_room (has_answer_place s) refl
     (kept_overfull xs (tasks.offered x s) (Offered x (has_answer_place s) ∷ h))
   where
     at_room : Bool → Type 0
     at_room b =
-        has_lacked_place (if b then told_kept xs (tasks.offered x s) (Offered x (has_answer_place s)
+        has_lacked_place (if b
+        then logged_kept xs (tasks.offered x s) (Offered x (has_answer_place s)
         ∷ h) else Offered x
         (has_answer_place s) ∷ h) ≡ true
 
     by_room : (b : Bool) → has_answer_place s ≡ b → (all_kept xs (tasks.offered x s) ≡ false
-        → has_lacked_place (told_kept xs (tasks.offered x s) (Offered x (has_answer_place s) ∷ h))
+        → has_lacked_place (logged_kept xs (tasks.offered x s) (Offered x (has_answer_place s) ∷ h))
         ≡ true)
         → at_room (has_answer_place s)
     by_room true e others =
@@ -49,13 +51,13 @@ kept_overfull (x ∷ xs) s h none = by_room (has_answer_place s) refl
 
 -- and where each finds one
 pub kept_placed : (xs : List (List ℕ)) (s : tasks.State) (h : History) → all_kept xs s ≡ true
-    → has_lacked_place (told_kept xs s h) ≡ has_lacked_place h
+    → has_lacked_place (logged_kept xs s h) ≡ has_lacked_place h
 kept_placed [] s h all = refl
 kept_placed (x ∷ xs) s h all =
     let both = and_parts (has_answer_place s) (all_kept xs (tasks.offered x s)) all in
     ap
     (λ b. has_lacked_place (if b
-    then told_kept xs (tasks.offered x s) (Offered x (has_answer_place s)
+    then logged_kept xs (tasks.offered x s) (Offered x (has_answer_place s)
     ∷ h) else Offered x
     (has_answer_place s) ∷ h)) both.0
     ∙ kept_placed xs (tasks.offered x s) (Offered x (has_answer_place s) ∷ h) both.1
@@ -98,23 +100,23 @@ kept_plain (x ∷ xs) s h k =
 
 -- A frame is heard
 
-pub heard_overfull : (f : Apdu) (now : ℕ) (wall : Option ℕ) (w : Works)
+pub received_overfull : (f : Apdu) (now : ℕ) (wall : Option ℕ) (w : Works)
     → has_place f now wall w.serial.commands ≡ false
-    → has_lacked_place (heard_works f now wall w).history ≡ true
-heard_overfull (I ns nr asdu) now wall w h =
+    → has_lacked_place (received_works f now wall w).history ≡ true
+received_overfull (I ns nr asdu) now wall w h =
     kept_overfull (listed (judged asdu.items now wall w.serial.commands).0)
-    (judged asdu.items now wall w.serial.commands).1 (told (Judge asdu.items now wall) w) h
-heard_overfull (S nr) now wall w h = cc
-heard_overfull (U u) now wall w h = cc
+    (judged asdu.items now wall w.serial.commands).1 (logged (Judge asdu.items now wall) w) h
+received_overfull (S nr) now wall w h = cc
+received_overfull (U u) now wall w h = cc
 
-pub heard_placed : (f : Apdu) (now : ℕ) (wall : Option ℕ) (w : Works)
+pub received_placed : (f : Apdu) (now : ℕ) (wall : Option ℕ) (w : Works)
     → has_place f now wall w.serial.commands ≡ true
-    → has_lacked_place (heard_works f now wall w).history ≡ has_lacked_place w.history
-heard_placed (I ns nr asdu) now wall w h =
+    → has_lacked_place (received_works f now wall w).history ≡ has_lacked_place w.history
+received_placed (I ns nr asdu) now wall w h =
     kept_placed (listed (judged asdu.items now wall w.serial.commands).0)
-    (judged asdu.items now wall w.serial.commands).1 (told (Judge asdu.items now wall) w) h
-heard_placed (S nr) now wall w h = refl
-heard_placed (U u) now wall w h = refl
+    (judged asdu.items now wall w.serial.commands).1 (logged (Judge asdu.items now wall) w) h
+received_placed (S nr) now wall w h = refl
+received_placed (U u) now wall w h = refl
 
 -- The timers
 
@@ -122,7 +124,7 @@ pub settled_placed : (at : ℕ) (w : Works) → has_lacked_place (settled_works 
     ≡ has_lacked_place w.history
 settled_placed at w = by_silent w.serial.silent
   where
-    by_silent : (o : Option ℕ) → has_lacked_place (told_silent o w) ≡ has_lacked_place w.history
+    by_silent : (o : Option ℕ) → has_lacked_place (logged_silent o w) ≡ has_lacked_place w.history
     by_silent None = refl
     by_silent (Some i) = refl
 
@@ -242,7 +244,7 @@ gap_in Asked at room w = by_due w.is_due
 
 -- A request goes out
 
-pub put_placed : (b : Bool) (i : ℕ) (w : Works) → has_lacked_place (told_put b i w)
+pub put_placed : (b : Bool) (i : ℕ) (w : Works) → has_lacked_place (logged_put b i w)
     ≡ has_lacked_place w.history
 put_placed true i w = by_oldest (oldest_for i w.serial.commands)
   where

@@ -9,17 +9,17 @@ use Rattle.link.specs.Primary.{Primary}
 use Rattle.link.specs.Offers.{offered_at}
 use Rattle.command.specs.State as tasks
 use Rattle.command.specs.State.{octets_waiting}
-use Rattle.link.specs.Telling.{Tells}
+use Rattle.link.specs.Matching.{Matches}
 use Rattle.session.specs.Session.{Session, is_open, is_transferring, is_from_queue, may_send}
 use Rattle.session.specs.Session.{pulled}
 use Rattle.session.specs.Runs.{Settings, IsInRange, Call, run}
 use Rattle.session.specs.Ends.{IsConfirmed, IsInTime}
 use Rattle.session.specs.declared.kinds.Unacknowledged.{Unacknowledged}
 use Rattle.gateway.specs.declared.gaps.Gap.{Gap}
-use Rattle.gateway.specs.Gaps.{gaps_of, gaps_told, gap_for}
+use Rattle.gateway.specs.Gaps.{gaps_of, gaps_reported, gap_for}
 use Rattle.gateway.specs.Objects.{objects, has_objects}
 use Rattle.gateway.specs.Log.{Log, Input, Came, latest}
-use Rattle.gateway.specs.Walls.{wall_told}
+use Rattle.gateway.specs.Walls.{last_wall}
 use Rattle.gateway.specs.Streams.{spelled, AllFit, AreFrames}
 use Rattle.gateway.specs.Frames.{Sent, Connection, new_connection, data_frames, transfers, i_frames}
 use Rattle.gateway.specs.Frames.{acknowledged_count, objects_of_frames, first_unacknowledged}
@@ -65,8 +65,8 @@ OffersWait q s = (k : ℕ) (octets : List ℕ) → offered_at q k ≡ Some octet
     octets_waiting k s ≡ Some octets
 
 -- what was told of gaps, and the one that is still to be told, are those of the exchanges
-abbrev pub GapsTold : Setup → Log → Option Gap → Type 0
-GapsTold p log gap = (station : ℕ) → gaps_told station log ++ gap_for station gap
+abbrev pub GapsReported : Setup → Log → Option Gap → Type 0
+GapsReported p log gap = (station : ℕ) → gaps_reported station log ++ gap_for station gap
     ≡ gaps_of p station log
 
 -- own answers have no objects of the queue's
@@ -111,7 +111,7 @@ pub record Presently (s : Centre) (octets : Channel) (unjudged : List ℕ)
   pub so_far : List ℕ
   pub assembler : s.so_far ≡ Some so_far
   -- no whole frame waits to be taken
-  pub taken : s.heard ≡ None
+  pub taken : s.arrived ≡ None
   pub waits : IsMore so_far
   pub joined : octets.received ≡ spelled c.received_frames ++ (so_far ++ unjudged)
   pub fit : AllFit c.received_frames
@@ -175,16 +175,16 @@ pub record Agrees (p : Setup) (s : State) (log : Log) (unjudged : List ℕ)
   pub sizes : s.sizes ≡ p.sizes
   pub places : s.centre.queue.places ≡ p.places
   pub clock : s.moment ≡ latest log
-  pub wall : s.wall ≡ wall_told log
+  pub wall : s.wall ≡ last_wall log
   pub settled : is_replaced log ≡ false
   pub found : AreFound p.addresses
-  pub line : Tells p.link p.addresses s.serial.line (exchanges_of p log)
+  pub line : Matches p.link p.addresses s.serial.line (exchanges_of p log)
   pub course : Course
   pub here : Presently s.centre (present log) unjudged (here_of course)
   pub left : IsLeftIn phase log (pending s.centre.so_far) unjudged
   pub talk : Talks p s.centre.session log course
   pub stands : IsAt p log phase s course
-  pub gaps : GapsTold p log s.serial.gap
+  pub gaps : GapsReported p log s.serial.gap
   pub offers : OffersWait s.serial.line s.serial.commands
   pub plain : ArePlain s.serial.commands.answers
   pub carries : Carries (taken_objects p log) (parts_of_all p.sizes (reports_in p log))
@@ -193,7 +193,7 @@ pub record Agrees (p : Setup) (s : State) (log : Log) (unjudged : List ℕ)
 
 -- the same where the port tells its log
 abbrev pub Tracks : Setup → State → Option Log → List ℕ → Phase → Type 0
-Tracks p s told unjudged phase = IfSome told (λ log. Agrees p s log unjudged phase)
+Tracks p s logged unjudged phase = IfSome logged (λ log. Agrees p s log unjudged phase)
 
 -- nothing can be sent any more
 abbrev pub IsSpent : State → Type 0
@@ -214,24 +214,24 @@ IsUndue s log unjudged =
 
 -- the same where all that may go out has gone out, and these octets of the event are to be judged
 abbrev pub Awaits : Setup → State → Option Log → List ℕ → Type 0
-Awaits p s told unjudged = IfSome told (λ log. Agrees p s log unjudged Taking × IsClear s
+Awaits p s logged unjudged = IfSome logged (λ log. Agrees p s log unjudged Taking × IsClear s
     × IsUndue s log unjudged
     × (length (received_before log) + length unjudged ≤ length (present log).received))
 
 -- the same where a frame stands before this rest of them
 abbrev pub Meets : Setup → State → Option Log → (unjudged rest : List ℕ) → Type 0
-Meets p s told unjudged rest = IfSome told (λ log. Agrees p s log unjudged Taking × IsClear s
+Meets p s logged unjudged rest = IfSome logged (λ log. Agrees p s log unjudged Taking × IsClear s
     × IsUndue s log unjudged × IsPast log (length rest))
 
 -- what is left of the log by a call that puts actions out: all of it went out, or the log is
 -- faithful so far
 abbrev pub Leaves : Bool → Setup → State → Option Log → List ℕ → Phase → Type 0
-Leaves true p s told unjudged phase = Tracks p s told unjudged phase
-Leaves false p s told unjudged phase = IfSome told (IsFaithful p)
+Leaves true p s logged unjudged phase = Tracks p s logged unjudged phase
+Leaves false p s logged unjudged phase = IfSome logged (IsFaithful p)
 
 -- between steps
 abbrev pub Follows : Setup → State → Option Log → Type 0
-Follows p s told = IfSome told (λ log. Agrees p s log [] (resting log) × IsClear s)
+Follows p s logged = IfSome logged (λ log. Agrees p s log [] (resting log) × IsClear s)
 
 -- the log ends with this event, and before it the state agreed with the log and had done all that
 -- it could
@@ -244,7 +244,7 @@ pub record HasCome (p : Setup) (s : State) (now : ℕ) (event : Input) (log : Lo
 
 -- a step has done all that it could
 abbrev pub Rests : Setup → Option Log → Type 0
-Rests p told = IfSome told (HasRested p)
+Rests p logged = IfSome logged (HasRested p)
 
 -- nothing is due on the connection, and no answer is late
 pub record IsQuiet (s : State) : Type 0 where

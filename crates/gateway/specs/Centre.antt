@@ -16,7 +16,7 @@ pub record Centre : Type 0 where
   -- the octets of a frame that isn't whole
   pub so_far : Option (List ℕ)
   -- the frame that came in pieces, is whole and isn't taken yet
-  pub heard : Option Apdu
+  pub arrived : Option Apdu
   -- the pieces that no connection has acknowledged
   pub queue : Queue
 
@@ -30,7 +30,7 @@ first_centre p places =
     record {
       session = session.new_session p.k p.w p.t1 p.t2 p.t3;
       so_far = Some [];
-      heard = None;
+      arrived = None;
       queue = queue.empty places;
     }
 
@@ -39,7 +39,7 @@ abbrev pub closed : Centre → Centre
 closed s = record {
   session = session.closed s.session;
   so_far = Some [];
-  heard = None;
+  arrived = None;
   queue = queue.rewound s.queue;
 }
 

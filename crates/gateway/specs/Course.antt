@@ -34,8 +34,8 @@ use Rattle.gateway.specs.Frames.{monitor_objects_sent, acknowledged_reports, rep
 use Rattle.gateway.specs.Connections.{Channel, present, received_before, is_replaced, IsConnection}
 use Rattle.gateway.specs.Reports.{Setup, address_at, reports_in, parts_of_all, taken_objects}
 use Rattle.gateway.specs.Reports.{taken_pieces}
-use Rattle.gateway.specs.Serial.{is_first_command, heard_outcome}
-use Rattle.gateway.specs.Works.{Works, first_works, has_lacked_place, LearnsOf, heard_works}
+use Rattle.gateway.specs.Serial.{is_first_command, answer_outcome}
+use Rattle.gateway.specs.Works.{Works, first_works, has_lacked_place, LearnsOf, received_works}
 use Rattle.gateway.specs.Works.{sent_works, cut_works, octets_works, begun_works, settled_works}
 use Rattle.gateway.specs.Works.{ready_works, gapless_works, asked_works, done_works}
 use Rattle.gateway.specs.Works.{restarted_works}
@@ -135,7 +135,7 @@ NoAnswerLate p log c = has_timed_out p.session.t1 (latest log) c.talk ≡ false
 -- The step has done what comes before the connection's frames: its gap is told, no answer is late,
 -- and the line's request has gone out, or there is none (profile).
 pub record HasAsked (p : Setup) (log : Log) (c : Course) : Type 0 where
-  pub told : c.works.serial.gap ≡ None
+  pub logged : c.works.serial.gap ≡ None
   pub in_time : NoAnswerLate p log c
   pub none : c.works.is_due ≡ true →
       sending (ready_works (latest log) c.works).serial.line (room_in p log c) ≡ None
@@ -146,7 +146,7 @@ with_frame p frame now wall c =
       talk = talk.Came frame now ∷ c.talk;
       sent = c.sent;
       earlier = c.earlier;
-      works = heard_works frame now wall c.works;
+      works = received_works frame now wall c.works;
     }
 
 -- frames come at a moment, the latest first
@@ -190,9 +190,9 @@ abbrev pub kind_of : List ℕ → Kind
 kind_of asdu = if has_objects asdu then Queue else Own
 
 -- what is said where a frame goes out
-abbrev pub told_sent : Apdu → (now : ℕ) → History → History
-told_sent (I ns nr asdu) now h = talk.Sent ns nr (kind_of asdu.items) now ∷ h
-told_sent frame now h = talk.Went frame now ∷ h
+abbrev pub logged_sent : Apdu → (now : ℕ) → History → History
+logged_sent (I ns nr asdu) now h = talk.Sent ns nr (kind_of asdu.items) now ∷ h
+logged_sent frame now h = talk.Went frame now ∷ h
 
 abbrev pub more_sent : Apdu → List Sent → List Sent
 more_sent (I ns nr asdu) sent = sent ++ record { ns = ns; nr = nr; asdu = asdu.items } ∷ []
@@ -201,7 +201,7 @@ more_sent frame sent = sent
 abbrev pub with_sent : Apdu → (now : ℕ) → Course → Course
 with_sent frame now c =
     record {
-      talk = told_sent frame now c.talk;
+      talk = logged_sent frame now c.talk;
       sent = more_sent frame c.sent;
       earlier = c.earlier;
       works = sent_works frame c.works;
@@ -235,7 +235,7 @@ pub record HandsOver (p : Setup) (log : Log) (octets : List ℕ) (now : ℕ)
   pub frame : Apdu
   pub fits : Fits frame
   pub spelled_so : octets ≡ spelling frame
-  pub rules : KeepsRules p.session (told_sent frame now before.talk)
+  pub rules : KeepsRules p.session (logged_sent frame now before.talk)
   pub next : IsNext p log frame before
   pub placed : has_lacked_place before.works.history ≡ false
   pub turn : IsTouched log before ⊎ HasAsked p log before
@@ -260,7 +260,7 @@ pub record IsLate (p : Setup) (log : Log) (c : Course) : Type 0 where
   pub all : HasTakenAll (present log) c.talk
   pub answered : HasAnswered p log c
   pub placed : has_lacked_place c.works.history ≡ false
-  pub told : c.works.serial.gap ≡ None
+  pub logged : c.works.serial.gap ≡ None
   pub late : has_timed_out p.session.t1 (latest log) c.talk ≡ true
 
 -- Why a connection is closed, where the course is so far: an answer is late; the own answer of the
@@ -300,7 +300,7 @@ closed_course p cause is_open at c = ended_course is_open (works_at cause at c.w
 -- What the step before leaves when an event comes: its timers are done, its gap is told, and no
 -- request is left that may go out. A turn that has none ends.
 pub record IsLeft (p : Setup) (log : Log) (before after : Course) : Type 0 where
-  pub told : before.works.serial.gap ≡ None
+  pub logged : before.works.serial.gap ≡ None
   pub none : before.works.is_due ≡ true →
       sending (ready_works (latest log) before.works).serial.line (room_in p log before) ≡ None
   pub is : after ≡ record {
@@ -318,7 +318,7 @@ with_works w c = record { talk = c.talk; sent = c.sent; earlier = c.earlier; wor
 abbrev pub Comes : Setup → Log → (at : ℕ) → Input → (before after : Course) → Type 0
 Comes p log at (LineIn octets) c d =
     (z : Works)
-    × LearnsOf p at (transfers (came_frames c.talk)) (heard_outcome octets c.works.serial)
+    × LearnsOf p at (transfers (came_frames c.talk)) (answer_outcome octets c.works.serial)
     (octets_works octets c.works) z
     × (d ≡ with_works (begun_works at z) c)
 Comes p log at (TcpIn octets) c d =
@@ -332,7 +332,7 @@ Comes p log at Restarted c d = (at ≡ latest log) × (d ≡ with_works (restart
 
 -- The gap of the session that the event's octets have ended is told, once all that came is taken
 -- and answered, and each own answer found a place, and before the step's timers and its request.
-pub record TellsGap (p : Setup) (log : Log) (station session : ℕ)
+pub record ReportsGap (p : Setup) (log : Log) (station session : ℕ)
     (before after : Course) : Type 0 where
   pub all : HasTakenAll (present log) before.talk
   pub answered : HasAnswered p log before
@@ -351,7 +351,7 @@ pub record SendsNext (p : Setup) (log : Log) (octets : List ℕ)
   pub in_time : NoAnswerLate p log before
   pub placed : (present log).is_open ≡ true → has_lacked_place before.works.history ≡ false
   pub due : before.works.is_due ≡ true
-  pub told : before.works.serial.gap ≡ None
+  pub logged : before.works.serial.gap ≡ None
   pub request : Sending
   pub next : sending (ready_works (latest log) before.works).serial.line (room_in p log before)
       ≡ Some request
@@ -381,7 +381,7 @@ Runs p (Went now (TcpOut octets) ∷ log) c =
 Runs p (Went now (LineOut octets) ∷ log) c = (before : Course) × Runs p log before
     × SendsNext p log octets before c
 Runs p (Went now (GapOut station session) ∷ log) c = (before : Course) × Runs p log before
-    × TellsGap p log station session before c
+    × ReportsGap p log station session before c
 Runs p (Went now (Closed cause) ∷ log) c =
     (before : Course) × Runs p log before × (c
     ≡ closed_course p cause (present log).is_open (latest log) before)

@@ -5,13 +5,13 @@ use Rattle.session.specs.declared.kinds.Close.TheVariants.{Grammar, SendNumber, 
 use Rattle.session.specs.declared.kinds.Close.TheVariants.{Stopped, Timeout, OwnAnswers, Replaced}
 use Rattle.gateway.specs.Log.{Log, LogEntry, Came, Went, LineIn, Opened, TcpIn, CutOff, Ticked}
 use Rattle.gateway.specs.Log.{WallIs, LineOut, TcpOut, Closed, GapOut}
-use Rattle.gateway.specs.Ports.{told_by, FitsBuffer, faults_of}
+use Rattle.gateway.specs.Ports.{logged_by, FitsBuffer, faults_of}
 use Rattle.gateway.specs.declared.ports.Next.{Next}
 use Rattle.gateway.specs.declared.ports.Next.TheVariants.{Done}
 use Rattle.gateway.specs.declared.entries.Entry.{Entry}
 use Rattle.gateway.specs.declared.entries.Entry.TheVariants as entries
-use Rattle.gateway.specs.declared.entries.Told.{Told}
-use Rattle.gateway.specs.declared.entries.Told.TheVariants as told
+use Rattle.gateway.specs.declared.entries.StoredEntry.{StoredEntry}
+use Rattle.gateway.specs.declared.entries.StoredEntry.TheVariants as logged
 
 -- its octets fit a port's buffer
 abbrev pub FitsPort : Entry → Type 0
@@ -29,7 +29,7 @@ event_of (entries.Wall now number) = Came now (WallIs number)
 
 -- an answer of a port tells this entry
 pub record IsAnnounced (entry : Entry) (next : Next) (buf : List ℕ) : Type 0 where
-  pub told : told_by next buf ≡ event_of entry ∷ []
+  pub logged : logged_by next buf ≡ event_of entry ∷ []
   pub fits : FitsBuffer next
   pub healthy : faults_of next ≡ 0
   pub some : next ≡ Done → ⊥
@@ -54,18 +54,18 @@ cause_of n =
     if n == 1 then Grammar else if n == 2 then SendNumber else if n == 3 then ReceiveNumber else
     if n == 4 then Stopped else if n == 5 then Timeout else if n == 6 then OwnAnswers else Replaced
 
-abbrev pub told_of : Told → LogEntry
-told_of (told.Came entry) = event_of entry
-told_of (told.Line now octets) = Went now (LineOut octets.items)
-told_of (told.Tcp now octets) = Went now (TcpOut octets.items)
-told_of (told.Close now cause) = Went now (Closed cause)
-told_of (told.Gap now station session) = Went now (GapOut station session)
+abbrev pub logged_of : StoredEntry → LogEntry
+logged_of (logged.Came entry) = event_of entry
+logged_of (logged.Line now octets) = Went now (LineOut octets.items)
+logged_of (logged.Tcp now octets) = Went now (TcpOut octets.items)
+logged_of (logged.Close now cause) = Went now (Closed cause)
+logged_of (logged.Gap now station session) = Went now (GapOut station session)
 
 -- the log that is stored, before what was there
-abbrev pub stored_log : List Told → Log → Log
+abbrev pub stored_log : List StoredEntry → Log → Log
 stored_log [] log = log
-stored_log (x ∷ xs) log = stored_log xs (told_of x ∷ log)
+stored_log (x ∷ xs) log = stored_log xs (logged_of x ∷ log)
 
 -- the log that is stored: the newest first, where the list has the oldest first
-abbrev pub log_of : List Told → Log
+abbrev pub log_of : List StoredEntry → Log
 log_of xs = stored_log xs []

@@ -15,11 +15,11 @@ StandsFirst so_far piece f n = Fits f × (so_far ++ piece ≡ spelling f ++ drop
 
 abbrev pub FindsAfter : List ℕ → Centre → List ℕ → Found → Centre → Type 0
 FindsAfter so_far s piece (Whole n) t = (f : Apdu) × StandsFirst so_far piece f n
-    × (t ≡ record s { so_far = Some []; heard = Some f })
+    × (t ≡ record s { so_far = Some []; arrived = Some f })
 FindsAfter so_far s piece More t = IsMore (so_far ++ piece)
-    × (t ≡ record s { so_far = Some (so_far ++ piece); heard = None })
+    × (t ≡ record s { so_far = Some (so_far ++ piece); arrived = None })
 FindsAfter so_far s piece Refused t = IsRefused (so_far ++ piece)
-    × (t ≡ record s { so_far = Some []; heard = None })
+    × (t ≡ record s { so_far = Some []; arrived = None })
 
 -- what stands at the front of the octets of a frame so far and those that came
 abbrev pub Finds : Centre → List ℕ → Found → Centre → Type 0
@@ -28,4 +28,4 @@ Finds s piece found t = (so_far : List ℕ) × (s.so_far ≡ Some so_far)
 
 -- a frame stands at the front of octets that came, and nothing is left of those before
 abbrev pub FindsWhole : Centre → List ℕ → Apdu → ℕ → Type 0
-FindsWhole s piece f n = StandsFirst [] piece f n × (s.so_far ≡ Some []) × (s.heard ≡ None)
+FindsWhole s piece f n = StandsFirst [] piece f n × (s.so_far ≡ Some []) × (s.arrived ≡ None)

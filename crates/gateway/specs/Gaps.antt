@@ -14,15 +14,16 @@ abbrev pub gaps_of : Setup → (station : ℕ) → Log → List ℕ
 gaps_of p station log = gaps_at (front_of p.link.size) p.addresses station (exchanges_of p log)
 
 -- the sessions of a station that the log tells as ended with a gap, in order
-abbrev pub gaps_told : (station : ℕ) → Log → List ℕ
-gaps_told station [] = []
-gaps_told station (Went now (GapOut other session) ∷ log) =
-    if other == station then gaps_told station log ++ session ∷ [] else gaps_told station log
-gaps_told station (entry ∷ log) = gaps_told station log
+abbrev pub gaps_reported : (station : ℕ) → Log → List ℕ
+gaps_reported station [] = []
+gaps_reported station (Went now (GapOut other session) ∷ log) =
+    if other == station then gaps_reported station log ++ session ∷ []
+    else gaps_reported station log
+gaps_reported station (entry ∷ log) = gaps_reported station log
 
 -- each gap is told, and nothing else is
-abbrev pub TellsGaps : Setup → Log → Type 0
-TellsGaps p log = (station : ℕ) → gaps_told station log ≡ gaps_of p station log
+abbrev pub ReportsGaps : Setup → Log → Type 0
+ReportsGaps p log = (station : ℕ) → gaps_reported station log ≡ gaps_of p station log
 
 -- the gap that is still to be told, if it is this station's
 abbrev pub gap_for : (station : ℕ) → Option Gap → List ℕ

@@ -10,9 +10,9 @@ use Rattle.gateway.specs.Phases.{Idle}
 use Rattle.gateway.specs.Agrees.{Tracks, Awaits}
 
 abbrev pub Goes : Progress → Setup → State → Option Log → List ℕ → Type 0
-Goes On p s told rest = Awaits p s told rest
-Goes Over p s told rest = Tracks p s told [] Idle
-Goes Failed p s told rest = IfSome told (IsFaithful p)
+Goes On p s logged rest = Awaits p s logged rest
+Goes Over p s logged rest = Tracks p s logged [] Idle
+Goes Failed p s logged rest = IfSome logged (IsFaithful p)
 
 abbrev pub IsOnward : Progress → Type 0 → Type 0
 IsOnward On P = P

@@ -33,9 +33,9 @@ abbrev pub Log : Type 0
 Log = List LogEntry
 
 -- A log with these news. A port that tells no log goes on telling none.
-abbrev pub tell : Option Log → Log → Option Log
-tell None news = None
-tell (Some log) news = Some (news ++ log)
+abbrev pub with_news : Option Log → Log → Option Log
+with_news None news = None
+with_news (Some log) news = Some (news ++ log)
 
 -- the events of a log with their moments, the oldest first
 abbrev pub events_of : Log → List LogEntry

@@ -20,7 +20,7 @@ IsOneOf at (Went now action ∷ log) = IsOneOf at log
 pub record IsGreatest (log : Log) (at : ℕ) : Type 0 where
   pub counts : at ≤ 999999999999999
   pub none_later : AllByRecursion (λ entry. moment_of entry ≤ at) log
-  pub told : IsOneOf at log
+  pub logged : IsOneOf at log
 
 -- and so each action's; so none bears a moment before that of one before it
 abbrev pub BearGreatest : Log → Type 0

@@ -29,15 +29,15 @@ output_of (actions.Close cause) = Closed cause
 output_of (actions.Gap station session) = GapOut station session
 
 -- the event that an answer adds to the log; its octets are the front of the buffer
-abbrev pub told_by : Next → List ℕ → List LogEntry
-told_by (answers.Line now len) buf = Came now (LineIn (take len buf)) ∷ []
-told_by (answers.Open now) buf = Came now Opened ∷ []
-told_by (answers.Bytes now len) buf = Came now (TcpIn (take len buf)) ∷ []
-told_by (answers.Cut now) buf = Came now CutOff ∷ []
-told_by (answers.Tick now) buf = Came now Ticked ∷ []
-told_by (answers.Wall now number) buf = Came now (WallIs number) ∷ []
-told_by answers.Done buf = []
-told_by answers.Fault buf = []
+abbrev pub logged_by : Next → List ℕ → List LogEntry
+logged_by (answers.Line now len) buf = Came now (LineIn (take len buf)) ∷ []
+logged_by (answers.Open now) buf = Came now Opened ∷ []
+logged_by (answers.Bytes now len) buf = Came now (TcpIn (take len buf)) ∷ []
+logged_by (answers.Cut now) buf = Came now CutOff ∷ []
+logged_by (answers.Tick now) buf = Came now Ticked ∷ []
+logged_by (answers.Wall now number) buf = Came now (WallIs number) ∷ []
+logged_by answers.Done buf = []
+logged_by answers.Fault buf = []
 
 -- the octets of an answer are within the buffer
 abbrev pub FitsBuffer : Next → Type 0

@@ -8,7 +8,7 @@ use Rattle.asdu.specs.InformationObjects.{InformationObject}
 use Rattle.link.specs.declared.service.Asked.{Asked}
 use Rattle.link.specs.declared.procedure.Link.TheVariants.{Down}
 use Rattle.link.specs.declared.settings.LinkSettings.{LinkSettings}
-use Rattle.link.specs.Exchanges.{Exchange, Exchanges, Sending, no_exchanges, heard_current}
+use Rattle.link.specs.Exchanges.{Exchange, Exchanges, Sending, no_exchanges, received_current}
 use Rattle.link.specs.Exchanges.{timed_current, begun_by, views, all_of, with_station}
 use Rattle.link.specs.Exchanges.{reports_of_exchanges}
 use Rattle.link.specs.Carried.{commands_given_up}
@@ -66,7 +66,7 @@ exchanges_of p (Came now (LineIn octets) ∷ log) =
     record {
       ended = before.ended;
       current = timed_current p.link.answer_ms (latest (Came now (LineIn octets) ∷ log))
-          (heard_current octets before.current);
+          (received_current octets before.current);
     }
 exchanges_of p (Came now Restarted ∷ log) =
     commands_given_up p.link (front_of p.link.size) p.addresses (exchanges_of p log)

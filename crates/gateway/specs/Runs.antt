@@ -17,13 +17,13 @@ faults_at Turns = 0
 faults_at Device = 1
 
 -- the events that a port has told, the oldest first
-abbrev pub events_told : Option Log → Option (List LogEntry)
-events_told told = option_map events_of told
+abbrev pub events_logged : Option Log → Option (List LogEntry)
+events_logged logged = option_map events_of logged
 
 -- where the log is told, so many more events have come
 abbrev pub MoreEvents : ℕ → Option Log → Option Log → Type 0
-MoreEvents n old new = option_map length (events_told new)
-    ≡ option_map (λ events. length events + n) (events_told old)
+MoreEvents n old new = option_map length (events_logged new)
+    ≡ option_map (λ events. length events + n) (events_logged old)
 
 -- how many failures of the device a part of a step tells
 abbrev pub faults_unless : (went : Bool) → ℕ
@@ -34,6 +34,6 @@ faults_unless went = if went then 0 else 1
 -- times more.
 pub record Puts {S F : Type 0} (log : S → Option Log) (fixed : S → F) (failed : S →
     ℕ) (old new : S) (faults : ℕ) : Type 0 where
-  pub events : events_told (log new) ≡ events_told (log old)
+  pub events : events_logged (log new) ≡ events_logged (log old)
   pub script : fixed new ≡ fixed old
   pub cause : failed new ≡ failed old + faults

@@ -122,11 +122,11 @@ reported sizes report s = record s { counts = counted sizes report s.counts }
 
 -- The ASDU of a frame is judged, at a moment at which the wall clock shows this, where that is
 -- known; and its answer, if it has one, is kept.
-abbrev pub heard_commands : Apdu → (at : ℕ) → (wall : Option ℕ) → tasks.State → tasks.State
-heard_commands (I ns nr asdu) at wall s =
+abbrev pub received_commands : Apdu → (at : ℕ) → (wall : Option ℕ) → tasks.State → tasks.State
+received_commands (I ns nr asdu) at wall s =
     let judgement = judging.judged asdu.items at wall s in
     kept_until (listed judgement.0) judgement.1
-heard_commands frame at wall s = s
+received_commands frame at wall s = s
 
 -- the answer finds a place
 abbrev pub has_place : Apdu → (at : ℕ) → (wall : Option ℕ) → tasks.State → Bool
@@ -136,7 +136,7 @@ has_place (I ns nr asdu) at wall s =
 has_place frame at wall s = true
 
 abbrev pub judged : Apdu → (at : ℕ) → (wall : Option ℕ) → Serial → Serial
-judged frame at wall s = record s { commands = heard_commands frame at wall s.commands }
+judged frame at wall s = record s { commands = received_commands frame at wall s.commands }
 
 -- the oldest own answer has gone out
 abbrev pub answered : Serial → Serial
@@ -148,11 +148,11 @@ cut s = record s { line = withdrawn s.line; commands = tasks.closed s.commands }
 
 -- A step: its event's octets, its moment, its timers, its request
 
-abbrev pub heard : (octets : List ℕ) → Serial → Serial
-heard octets s = record s { line = received (front_of s.line.settings.size) s.line octets }
+abbrev pub arrived : (octets : List ℕ) → Serial → Serial
+arrived octets s = record s { line = received (front_of s.line.settings.size) s.line octets }
 
-abbrev pub heard_outcome : (octets : List ℕ) → Serial → Outcome
-heard_outcome octets s = received_outcome (front_of s.line.settings.size) s.line octets
+abbrev pub answer_outcome : (octets : List ℕ) → Serial → Outcome
+answer_outcome octets s = received_outcome (front_of s.line.settings.size) s.line octets
 
 -- the station that is down
 abbrev pub silent_by : Outcome → Option ℕ

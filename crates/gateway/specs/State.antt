@@ -38,7 +38,7 @@ HasPlaces line q = is_polling line ≡ true → 3 ≤ free_places q
 pub record IsBetweenSteps (s : State) : Type 0 where
   pub silent : s.serial.silent ≡ None
   pub gap : s.serial.gap ≡ None
-  pub heard : s.centre.heard ≡ None
+  pub arrived : s.centre.arrived ≡ None
 
 -- what `counts` answers
 abbrev pub counts_of : State → Counts
@@ -83,7 +83,7 @@ with_session t s = record s { centre = record s.centre { session = t } }
 
 -- with these octets of a frame that isn't whole, and none that is
 abbrev pub with_octets : Option (List ℕ) → State → State
-with_octets so_far s = record s { centre = record s.centre { so_far = so_far; heard = None } }
+with_octets so_far s = record s { centre = record s.centre { so_far = so_far; arrived = None } }
 
 -- no connection
 abbrev pub disconnected : State → State

@@ -21,8 +21,8 @@ use Rattle.gateway.specs.Connections.{ends, present, closed_by, IsConnection}
 use Rattle.gateway.specs.Course.{here_of, IsCause}
 use Rattle.gateway.specs.Reports.{Setup}
 use Rattle.gateway.specs.Serial.{Serial, accepted, given_up, refused, refusal_fits, mirrored}
-use Rattle.gateway.specs.Serial.{mirror_fits, with_gap, reported, answered, has_place, heard}
-use Rattle.gateway.specs.Serial.{heard_outcome}
+use Rattle.gateway.specs.Serial.{mirror_fits, with_gap, reported, answered, has_place, arrived}
+use Rattle.gateway.specs.Serial.{answer_outcome}
 use Rattle.gateway.specs.Centre.{Centre, pushed, next_frame, piece_sent, own_sent}
 use Rattle.gateway.specs.Works.{is_command_report, IsPassedOn}
 use Rattle.gateway.specs.State.{State, with_serial, with_centre, with_sides, wall_now, at_moment}
@@ -76,19 +76,19 @@ Learns s (outcome.StartedGap station session) fits t = (t
 Learns s other fits t = (t ≡ s) × (fits ≡ true)
 
 -- octets of the line came, and what they bring is kept
-abbrev pub Hears : State → List ℕ → (fits : Bool) → State → Type 0
-Hears s octets fits t =
-    Learns (with_serial (heard octets s.serial) s) (heard_outcome octets s.serial) fits t
+abbrev pub Receives : State → List ℕ → (fits : Bool) → State → Type 0
+Receives s octets fits t =
+    Learns (with_serial (arrived octets s.serial) s) (answer_outcome octets s.serial) fits t
 
 -- the line's part of an event
-abbrev pub HearsEvent : State → Input → (fits : Bool) → State → Type 0
-HearsEvent s (LineIn octets) fits t = Hears s octets fits t
-HearsEvent s event fits t = (t ≡ s) × (fits ≡ true)
+abbrev pub ReceivesEvent : State → Input → (fits : Bool) → State → Type 0
+ReceivesEvent s (LineIn octets) fits t = Receives s octets fits t
+ReceivesEvent s event fits t = (t ≡ s) × (fits ≡ true)
 
 -- The line's part of a step: the moment, the event's octets, and the time to answer.
 pub record Begins (s : State) (now : ℕ) (event : Input) (fits : Bool) (t : State) : Type 0 where
   pub middle : State
-  pub hears : HearsEvent (at_moment s now) event fits middle
+  pub receives : ReceivesEvent (at_moment s now) event fits middle
   pub times : t ≡ line_timed middle
 
 -- a frame has a fault

@@ -7,7 +7,7 @@ use Rattle.session.specs.declared.kinds.Close.{Close}
 use Rattle.session.specs.declared.kinds.Close.TheVariants.{Replaced}
 use Rattle.gateway.specs.Log.{Log, Restarted, Came, Went, Output, LineOut, TcpOut, Closed, GapOut}
 use Rattle.gateway.specs.Log.{latest}
-use Rattle.gateway.specs.Gaps.{gaps_of, gaps_told, TellsGaps}
+use Rattle.gateway.specs.Gaps.{gaps_of, gaps_reported, ReportsGaps}
 use Rattle.gateway.specs.Streams.{IsOneFrame}
 use Rattle.gateway.specs.Behind.{GoesBehindFrames}
 use Rattle.gateway.specs.Frames.{transfers, acknowledged_count, AreInOrder}
@@ -30,7 +30,7 @@ pub record IsRequest (p : Setup) (log : Log) (octets : List ℕ) : Type 0 where
   pub spelled : octets
       ≡ spelling p.link.size (request_frame (address_at p.addresses station) request)
   pub alone : IsWaiting p log → ⊥
-  pub told : TellsGaps p log
+  pub logged : ReportsGaps p log
   pub early : GoesBehindFrames log
   pub room : is_poll_request request ≡ true → HasRoom p log
 
@@ -43,7 +43,7 @@ HasCause p cause log = ends cause ≡ true → ((present log).is_open ≡ true) 
 -- reset was answered in this step; and each is told before a request, so none went out since.)
 abbrev pub IsNextGap : Setup → Log → (station session : ℕ) → Type 0
 IsNextGap p log station session = (other : ℕ) →
-    gaps_told other (Went (latest log) (GapOut station session) ∷ log) ≡ gaps_of p other log
+    gaps_reported other (Went (latest log) (GapOut station session) ∷ log) ≡ gaps_of p other log
 
 -- to the line whole requests, to TCP one APDU at a time while a connection is open, a close with
 -- its cause, and a gap once
@@ -84,7 +84,7 @@ pub record IsAtRest (p : Setup) (log : Log) : Type 0 where
       length (here_of course).sent_frames < acknowledged_count (here_of course).received_frames
       + p.session.k → HasSentAll p log course
   pub line : IsLineAtRest p log course (here_of course ∷ course.earlier)
-  pub gaps : TellsGaps p log
+  pub gaps : ReportsGaps p log
   pub asked : HasAsked p log course
   pub talk : IsTalkAtRest p log course
 

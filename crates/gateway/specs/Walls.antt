@@ -5,17 +5,17 @@ use Rattle.gateway.specs.declared.walls.Wall.{Wall}
 use Rattle.gateway.specs.Log.{Log, WallIs, Came, latest}
 
 -- what the latest event of the wall clock told, and its moment
-abbrev pub wall_told : Log → Option Wall
-wall_told [] = None
-wall_told (Came now (WallIs number) ∷ log) =
+abbrev pub last_wall : Log → Option Wall
+last_wall [] = None
+last_wall (Came now (WallIs number) ∷ log) =
     Some (record { moment = latest (Came now (WallIs number) ∷ log); number = number })
-wall_told (entry ∷ log) = wall_told log
+last_wall (entry ∷ log) = last_wall log
 
 -- At a later moment it is that number and the milliseconds since, a number of 64 bits that stays at
 -- its greatest. Nothing is known of it before it was told.
 abbrev pub wall_of : Option Wall → (at : ℕ) → Option ℕ
-wall_of told at = option_map (λ w. min (w.number + (at - w.moment)) 18446744073709551615) told
+wall_of logged at = option_map (λ w. min (w.number + (at - w.moment)) 18446744073709551615) logged
 
 -- as the log tells it, at this moment
 abbrev pub wall_on : Log → (at : ℕ) → Option ℕ
-wall_on log at = wall_of (wall_told log) at
+wall_on log at = wall_of (last_wall log) at

@@ -46,16 +46,17 @@ abbrev pub tasks_of : Works → Run
 tasks_of w = record { state = w.serial.commands; history = w.history }
 
 -- what is told of commands once this is done with them, too
-abbrev pub told : Call → Works → History
-told call w = (after_call call (tasks_of w)).history
+abbrev pub logged : Call → Works → History
+logged call w = (after_call call (tasks_of w)).history
 
 -- Own answers
 
 -- answers are kept, one after another, up to the first that finds no place
-abbrev pub told_kept : List (List ℕ) → tasks.State → History → History
-told_kept [] s h = h
-told_kept (x ∷ xs) s h =
-    if has_answer_place s then told_kept xs (tasks.offered x s) (Offered x (has_answer_place s) ∷ h)
+abbrev pub logged_kept : List (List ℕ) → tasks.State → History → History
+logged_kept [] s h = h
+logged_kept (x ∷ xs) s h =
+    if has_answer_place s then logged_kept xs (tasks.offered x s) (Offered x (has_answer_place s)
+    ∷ h)
     else Offered x (has_answer_place s) ∷ h
 
 -- an own answer of the open connection found no place
@@ -86,18 +87,18 @@ pub record IsPassedOn (sizes : Sizes) (v : AsduValue) (report : List ℕ)
   pub number : length pieces ≡ parts sizes report
 
 -- a station's answer to a command
-abbrev pub told_mirror : (at : ℕ) → (is_transferring : Bool) → AsduValue →
+abbrev pub logged_mirror : (at : ℕ) → (is_transferring : Bool) → AsduValue →
     (pieces : List (List ℕ)) → Works → History
-told_mirror at true v pieces w =
-    told_kept pieces (mirrors.mirrored v at w.serial.commands) (told (Mirror v at) w)
-told_mirror at false v pieces w = told (Mirror v at) w
+logged_mirror at true v pieces w =
+    logged_kept pieces (mirrors.mirrored v at w.serial.commands) (logged (Mirror v at) w)
+logged_mirror at false v pieces w = logged (Mirror v at) w
 
 abbrev pub mirrored_works : (at : ℕ) → (is_transferring : Bool) → AsduValue →
     (pieces : List (List ℕ)) → Works → Works
 mirrored_works at is_transferring v pieces w =
     record w {
       serial = serial.mirrored at is_transferring v pieces w.serial;
-      history = told_mirror at is_transferring v pieces w;
+      history = logged_mirror at is_transferring v pieces w;
     }
 
 abbrev pub LearnsReport : Setup → (at : ℕ) → (is_transferring is_of_command : Bool) → List ℕ →
@@ -112,18 +113,18 @@ LearnsReport p at is_transferring false report w z = z
 
 abbrev pub accepted_works : (station : ℕ) → Works → Works
 accepted_works station w =
-    record w { serial = serial.accepted station w.serial; history = told (Accept station) w }
+    record w { serial = serial.accepted station w.serial; history = logged (Accept station) w }
 
 abbrev pub given_up_works : (station : ℕ) → Works → Works
 given_up_works station w =
-    record w { serial = serial.given_up station w.serial; history = told (Lose station) w }
+    record w { serial = serial.given_up station w.serial; history = logged (Lose station) w }
 
 -- a busy station's command is answered
 abbrev pub refused_works : (station : ℕ) → Works → Works
 refused_works station w = record w {
   serial = serial.refused station w.serial;
-  history = told_kept (refusals station w.serial) (tasks.given_up station w.serial.commands)
-      (told (Busy station) w);
+  history = logged_kept (refusals station w.serial) (tasks.given_up station w.serial.commands)
+      (logged (Busy station) w);
 }
 
 abbrev pub LearnsOf : Setup → (at : ℕ) → (is_transferring : Bool) → Outcome →
@@ -140,25 +141,25 @@ LearnsOf p at is_transferring other w z = z ≡ w
 -- A frame that came, and one that goes out
 
 -- an ASDU of the connection is judged, and its answer, if it has one, is kept
-abbrev pub told_judged : List ℕ → (now : ℕ) → (wall : Option ℕ) → Works → History
-told_judged asdu now wall w =
+abbrev pub logged_judged : List ℕ → (now : ℕ) → (wall : Option ℕ) → Works → History
+logged_judged asdu now wall w =
     let judgement = judged asdu now wall w.serial.commands in
-    told_kept (listed judgement.0) judgement.1 (told (Judge asdu now wall) w)
+    logged_kept (listed judgement.0) judgement.1 (logged (Judge asdu now wall) w)
 
-abbrev pub told_frame : Apdu → (now : ℕ) → (wall : Option ℕ) → Works → History
-told_frame (I ns nr asdu) now wall w = told_judged asdu.items now wall w
-told_frame frame now wall w = w.history
+abbrev pub logged_frame : Apdu → (now : ℕ) → (wall : Option ℕ) → Works → History
+logged_frame (I ns nr asdu) now wall w = logged_judged asdu.items now wall w
+logged_frame frame now wall w = w.history
 
-abbrev pub heard_works : Apdu → (now : ℕ) → (wall : Option ℕ) → Works → Works
-heard_works frame now wall w =
+abbrev pub received_works : Apdu → (now : ℕ) → (wall : Option ℕ) → Works → Works
+received_works frame now wall w =
     record w {
       serial = serial.judged frame now wall w.serial;
-      history = told_frame frame now wall w;
+      history = logged_frame frame now wall w;
     }
 
 -- an own answer has gone out
 abbrev pub answered_works : Works → Works
-answered_works w = record w { serial = serial.answered w.serial; history = told SendOwn w }
+answered_works w = record w { serial = serial.answered w.serial; history = logged SendOwn w }
 
 abbrev pub sent_works : Apdu → Works → Works
 sent_works (I ns nr asdu) w = if has_objects asdu.items then w else answered_works w
@@ -167,14 +168,14 @@ sent_works frame w = w
 -- The end of a connection
 
 abbrev pub cut_works : Works → Works
-cut_works w = record w { serial = serial.cut w.serial; history = told Cut w }
+cut_works w = record w { serial = serial.cut w.serial; history = logged Cut w }
 
 -- A restart
 
 -- the link to a station is given up, and the command that stood on its line is lost
 abbrev pub link_given_up_works : (station : ℕ) → Works → Works
 link_given_up_works station w =
-    record w { serial = link_given_up station w.serial; history = told (Lose station) w }
+    record w { serial = link_given_up station w.serial; history = logged (Lose station) w }
 
 -- a station whose latest service is a command without an answer is given up
 abbrev pub command_given_up_works : (station : ℕ) → Works → Works
@@ -195,20 +196,20 @@ restarted_works w = commands_given_up_works_upto (length w.serial.line.stations)
 
 -- the octets of the line's event, before what came of them is learnt
 abbrev pub octets_works : (octets : List ℕ) → Works → Works
-octets_works octets w = record w { serial = serial.heard octets w.serial }
+octets_works octets w = record w { serial = serial.arrived octets w.serial }
 
 -- an event's moment has come
 abbrev pub begun_works : (at : ℕ) → Works → Works
 begun_works at w = record w { serial = serial.timed at w.serial; is_due = true }
 
 -- what the line's silence ended is told
-abbrev pub told_silent : Option ℕ → Works → History
-told_silent None w = w.history
-told_silent (Some station) w = told (Lose station) w
+abbrev pub logged_silent : Option ℕ → Works → History
+logged_silent None w = w.history
+logged_silent (Some station) w = logged (Lose station) w
 
 abbrev pub settled_works : (at : ℕ) → Works → Works
 settled_works at w =
-    record w { serial = serial.settled at w.serial; history = told_silent w.serial.silent w }
+    record w { serial = serial.settled at w.serial; history = logged_silent w.serial.silent w }
 
 -- all that comes before the step's request: commands are offered to the line
 abbrev pub ready_works : (at : ℕ) → Works → Works
@@ -219,15 +220,15 @@ ready_works at w =
 abbrev pub gapless_works : Works → Works
 gapless_works w = record w { serial = serial.without_gap w.serial }
 
-abbrev pub told_put : (is_first : Bool) → (station : ℕ) → Works → History
-told_put true station w = told (PutOnLine station) w
-told_put false station w = w.history
+abbrev pub logged_put : (is_first : Bool) → (station : ℕ) → Works → History
+logged_put true station w = logged (PutOnLine station) w
+logged_put false station w = w.history
 
 -- a request goes out
 abbrev pub asked_works : (at : ℕ) → (room : Bool) → Sending → Works → Works
 asked_works at room x w = record w {
   serial = serial.asked at room (Some x) w.serial;
-  history = told_put (is_first_command w.serial.line x) x.station w;
+  history = logged_put (is_first_command w.serial.line x) x.station w;
   is_due = false;
 }
 

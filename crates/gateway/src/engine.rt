@@ -32,7 +32,7 @@ use command::{
     Commands, StationInfo, commands_keep_the_rules, faultless_commands_pass, places_come_back,
 };
 use events::{Events, Kept};
-use link::{LinkSettings, Master, line_keeps_the_procedures, master_tells_the_log};
+use link::{LinkSettings, Master, line_keeps_the_procedures, master_matches_the_log};
 use session::{Session, session_keeps_the_standard};
 use std::alloc::Global;
 use std::marker::Model;
@@ -198,7 +198,7 @@ impl Gateway {
         // It may begin with any port that tells an empty log.
         ensures begins { IfOk result (λ s. Follows (setup_of config.now) s (Some [])) }
     {
-        master_tells_the_log();
+        master_matches_the_log();
         line_keeps_the_procedures();
         session_keeps_the_standard();
         commands_keep_the_rules();
@@ -274,7 +274,7 @@ impl Gateway {
     }
 
     /// What the wall clock showed last, if that is known.
-    pub fn wall_told(&self) -> Option<Wall>
+    pub fn last_wall(&self) -> Option<Wall>
         ensures { result ≡ self.now.wall }
     {
         self.wall

@@ -2,7 +2,7 @@
 ghost use Rattle.std.specs.Prelude.{◌≡◌, ◌≤◌, [], ◌∷◌, ◌++◌, length, take, IfOk, OnOk, OnErr};
 ghost use Rattle.gateway.specs.Log.{Went};
 ghost use Rattle.gateway.specs.Ports.{output_of};
-ghost use Rattle.gateway.specs.Entries.{FitsPort, IsAnnounced, number_of, told_of};
+ghost use Rattle.gateway.specs.Entries.{FitsPort, IsAnnounced, number_of, logged_of};
 
 use crate::ports::{Action, Next};
 use session::Close;
@@ -27,7 +27,7 @@ pub enum Entry {
 
 /// An event that came in, or an action that went out, with its moment.
 #[derive(Debug, PartialEq, Eq, Drop)]
-pub enum Told {
+pub enum StoredEntry {
     /// An event came in.
     Came(Entry),
     /// Octets went out to the line: one request.
@@ -41,16 +41,16 @@ pub enum Told {
     Gap(u64, usize, u64),
 }
 
-impl Told {
+impl StoredEntry {
     /// An action that went out at this moment, with octets of its own.
-    pub fn went(alloc: Global, now: u64, action: &Action<'_>) -> Result<Told, AllocError>
-        ensures { IfOk result (λ told. told_of told ≡ Went now (output_of action.now)) }
+    pub fn went(alloc: Global, now: u64, action: &Action<'_>) -> Result<StoredEntry, AllocError>
+        ensures { IfOk result (λ logged. logged_of logged ≡ Went now (output_of action.now)) }
     {
         match action {
-            Action::Line(octets) => Ok(Told::Line(now, Vec::from_slice(alloc, octets)?)),
-            Action::Tcp(octets) => Ok(Told::Tcp(now, Vec::from_slice(alloc, octets)?)),
-            Action::Close(cause) => Ok(Told::Close(now, *cause)),
-            Action::Gap { station, session } => Ok(Told::Gap(now, *station, *session)),
+            Action::Line(octets) => Ok(StoredEntry::Line(now, Vec::from_slice(alloc, octets)?)),
+            Action::Tcp(octets) => Ok(StoredEntry::Tcp(now, Vec::from_slice(alloc, octets)?)),
+            Action::Close(cause) => Ok(StoredEntry::Close(now, *cause)),
+            Action::Gap { station, session } => Ok(StoredEntry::Gap(now, *station, *session)),
         }
     }
 }
@@ -86,11 +86,11 @@ pub fn announce(entry: &Entry, buf: &mut [u8; 1024]) -> Next
 }
 
 /// Adds to a log that is stored.
-pub fn keep(log: &mut Vec<Told>, told: Told) -> Result<(), AllocError>
-    ensures ok { OnOk result (log.new.items ≡ log.old.items ++ told ∷ []) }
+pub fn keep(log: &mut Vec<StoredEntry>, logged: StoredEntry) -> Result<(), AllocError>
+    ensures ok { OnOk result (log.new.items ≡ log.old.items ++ logged ∷ []) }
     ensures err { OnErr result (log.new.items ≡ log.old.items) }
 {
-    log.push(told)?;
+    log.push(logged)?;
     Ok(())
 }
 

@@ -18,7 +18,7 @@ impl Model for History {
 }
 
 impl History {
-    ghost use Rattle.gateway.specs.Ports.{told_by, output_of};
+    ghost use Rattle.gateway.specs.Ports.{logged_by, output_of};
 
     /// A log without entries.
     pub fn new() -> History
@@ -46,7 +46,7 @@ impl History {
     /// The log with the event that a port's answer tells, if it tells one: its octets are the front
     /// of the buffer.
     pub fn came(&self, _next: &Next, _buf: &[u8; 1024]) -> History
-        ensures { result.entries ≡ told_by _next.now _buf.now ++ self.now.entries }
+        ensures { result.entries ≡ logged_by _next.now _buf.now ++ self.now.entries }
     {
         History {}
     }

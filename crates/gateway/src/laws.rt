@@ -20,7 +20,7 @@ ghost use Rattle.gateway.specs.Reports.{Setup};
 ghost use Rattle.gateway.specs.Connections.{Channel, present, ends, IsConnection};
 ghost use Rattle.gateway.specs.Course.{Course, HasTakenAll, IsLeft, Runs, came_frames};
 ghost use Rattle.gateway.specs.Given.{due_in, GivesWhatIsDue, GivesAnswer};
-ghost use Rattle.gateway.specs.Serial.{heard_outcome};
+ghost use Rattle.gateway.specs.Serial.{answer_outcome};
 ghost use Rattle.gateway.specs.Frames.{transfers};
 ghost use Rattle.gateway.specs.Conversation.{KeepsCommands};
 ghost use Rattle.gateway.specs.One.{AreOne};
@@ -95,7 +95,7 @@ pub fn courses_keep_commands()
 /// What is counted of commands (`IsAccounted` speaks of the same numbers) is what became of them in
 /// the course: `lost` are those that stood on a line and were given up, `mirrors` the answers of
 /// stations to commands that weren't passed on. Both stay at the greatest number of 64 bits.
-pub fn counts_tell_commands()
+pub fn counts_match_commands()
     ensures lost { (p : Setup) (log : Log) (c : Course) → Runs p log c →
         (done_in p log c).serial.counts.lost ≡ saturated (given_up_in (done_in p log c).history) }
     ensures mirrors { (p : Setup) (log : Log) (c : Course) → Runs p log c →
@@ -156,7 +156,7 @@ pub fn what_is_due_is_given()
         (before : Course) × (left : Course) × Runs p log before × IsLeft p log before left
         × (transfers (came_frames left.talk) ≡ true →
         GivesAnswer p (latest (Came at (LineIn octets) ∷ log))
-        (heard_outcome octets left.works.serial) left.works.history c.works.history) }
+        (answer_outcome octets left.works.serial) left.works.history c.works.history) }
 {
     commands_keep_the_rules();
 }

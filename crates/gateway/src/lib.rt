@@ -51,7 +51,7 @@ mod walls;
 pub use config::Config;
 pub use counts::Counts;
 pub use engine::{Gateway, LAST_MOMENT, NoMemory};
-pub use entries::{Entry, Told, announce, cause_number, keep};
+pub use entries::{Entry, StoredEntry, announce, cause_number, keep};
 pub use history::History;
 pub use laws::deciding::what_comes_decides_what_goes_out;
 pub use laws::going_on::{
@@ -64,7 +64,7 @@ pub use laws::ordering::{moments_never_fall, steps_keep_their_order};
 pub use laws::restarts::restarts_give_up_commands;
 pub use laws::turning::{logs_keep_turns, one_list_of_calls};
 pub use laws::{
-    counts_tell_commands, courses_keep_commands, one_cause, one_course, one_reading,
+    counts_match_commands, courses_keep_commands, one_cause, one_course, one_reading,
     settings_are_kept, settings_reach_the_promises, steps_leave_nothing_open, what_is_due_is_given,
 };
 pub use ports::{Action, Event, Next, Port};

@@ -1,7 +1,7 @@
 //! What the gateway asks of the outside: events in, actions out.
 ghost use Rattle.std.specs.Prelude.{◌≡◌, ℕ, ◌+◌, ◌<◌, List, [], ◌∷◌, Option, Bool, true};
 ghost use Rattle.std.specs.Prelude.{if◌then◌else◌};
-ghost use Rattle.gateway.specs.Log.{LogEntry, Came, Went, tell};
+ghost use Rattle.gateway.specs.Log.{LogEntry, Came, Went, with_news};
 
 use session::Close;
 
@@ -61,7 +61,7 @@ pub enum Next {
 /// Where events come from and actions go. A port that tells its log adds each event and each action
 /// to it; a call that fails adds nothing.
 pub trait Port {
-    ghost use Rattle.gateway.specs.Ports.{told_by, output_of, FitsBuffer, faults_of};
+    ghost use Rattle.gateway.specs.Ports.{logged_by, output_of, FitsBuffer, faults_of};
 
     /// The log so far, the newest first, where the port tells it.
     ghost log: { Self → Option (List LogEntry) };
@@ -84,7 +84,7 @@ pub trait Port {
     /// The next event. Its octets, at most 1,024, are put at the front of the buffer.
     fn next(&mut self, buf: &mut [u8; 1024]) -> Next
         requires { failed self.old < u64.MAX }
-        ensures told { log self.new ≡ tell (log self.old) (told_by result buf.new) }
+        ensures logged { log self.new ≡ with_news (log self.old) (logged_by result buf.new) }
         ensures fits { FitsBuffer result }
         ensures done { result ≡ Next.Done → ended self.new ≡ true }
         ensures script { script self.new ≡ script self.old }
@@ -93,8 +93,8 @@ pub trait Port {
     /// Puts an action out at a moment. `false` says that the device failed.
     fn put(&mut self, now: u64, action: &Action<'_>) -> bool
         requires { failed self.old < u64.MAX }
-        ensures told { log self.new
-            ≡ (if result then tell (log self.old) (Went now (output_of action.now) ∷ [])
+        ensures logged { log self.new
+            ≡ (if result then with_news (log self.old) (Went now (output_of action.now) ∷ [])
             else log self.old) }
         ensures script { script self.new ≡ script self.old }
         ensures cause { failed self.new ≡ failed self.old + (if result then 0 else 1) };

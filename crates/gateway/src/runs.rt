@@ -3,7 +3,7 @@ ghost use Rattle.std.specs.Prelude.{◌≡◌, ℕ, ◌+◌, ◌<◌, true, fals
 ghost use Rattle.std.specs.Prelude.{IfOk, IfErr, OnOk, OnErr};
 ghost use Rattle.gateway.specs.Config.{Settings};
 ghost use Rattle.gateway.specs.Log.{Came};
-ghost use Rattle.gateway.specs.Ports.{told_by, input_of, FitsBuffer, faults_of};
+ghost use Rattle.gateway.specs.Ports.{logged_by, input_of, FitsBuffer, faults_of};
 ghost use Rattle.gateway.specs.Reports.{Setup};
 ghost use Rattle.gateway.specs.Traffic.{IsFaithful, HasRested};
 ghost use Rattle.gateway.specs.Accounts.{IsAccounted};
@@ -100,9 +100,9 @@ pub fn drive<P: Port>(
 /// The event that a port's answer stands for, or the end of the run.
 fn event_of(next: Next, buf: &[u8; 1024]) -> Result<(u64, Event<'_>), End>
     requires { FitsBuffer next }
-    ensures came { IfOk result (λ come. told_by next buf.now ≡ Came come.0 (input_of come.1) ∷ []) }
+    ensures came { IfOk result (λ come. logged_by next buf.now ≡ Came come.0 (input_of come.1) ∷ []) }
     ensures healthy { OnOk result (faults_of next ≡ 0) }
-    ensures none { OnErr result (told_by next buf.now ≡ []) }
+    ensures none { OnErr result (logged_by next buf.now ≡ []) }
     ensures end { IfErr result (λ end. (faults_of next ≡ faults_at end)
         × (end ≡ End.Finished → next ≡ Next.Done) × (end ≡ End.Turns → ⊥)) }
 {

@@ -8,7 +8,7 @@ ghost use Rattle.apci.specs.Borrowed.{owned};
 ghost use Rattle.apci.specs.Short.{apdu_of};
 ghost use Rattle.session.specs.Session.{is_open, pulled};
 ghost use Rattle.session.specs.Ends.{after_confirm, after_pull, IsConfirmed, IsInTime};
-ghost use Rattle.gateway.specs.Log.{LogEntry, Went, LineIn, TcpOut, Opened, tell};
+ghost use Rattle.gateway.specs.Log.{LogEntry, Went, LineIn, TcpOut, Opened, with_news};
 ghost use Rattle.gateway.specs.Ports.{input_of};
 ghost use Rattle.gateway.specs.Reports.{Setup};
 ghost use Rattle.gateway.specs.Traffic.{IsFaithful};
@@ -16,7 +16,7 @@ ghost use Rattle.gateway.specs.Accounts.{IsAccounted};
 ghost use Rattle.gateway.specs.State.{State, disconnected, connected, with_session, with_octets};
 ghost use Rattle.gateway.specs.Agrees.{IsClear, Tracks, Awaits, Meets, Leaves, Follows, HasCome};
 ghost use Rattle.gateway.specs.Agrees.{Rests, IsSpent, StaysInTime};
-ghost use Rattle.gateway.specs.Steps.{MayClose, HearsEvent, Begins};
+ghost use Rattle.gateway.specs.Steps.{MayClose, ReceivesEvent, Begins};
 ghost use Rattle.gateway.specs.Phases.{Phase, Idle, Timed, Asked, IsFlushing};
 ghost use Rattle.gateway.specs.Judging.{Goes, IsOnward, faults_in};
 ghost use Rattle.gateway.specs.Runs.{Puts, faults_unless};
@@ -42,8 +42,8 @@ impl Gateway {
     /// Hands the octets of an APDU to TCP.
     fn hand<P: Port>(&self, octets: &[u8], port: &mut P) -> bool
         requires { P.failed port.old < u64.MAX }
-        ensures told { P.log port.new ≡ (if result
-            then tell (P.log port.old) (Went self.now.moment (TcpOut octets.now) ∷ [])
+        ensures logged { P.log port.new ≡ (if result
+            then with_news (P.log port.old) (Went self.now.moment (TcpOut octets.now) ∷ [])
             else P.log port.old) }
         ensures puts { Puts P.log P.script P.failed port.old port.new (faults_unless result) }
     {
@@ -54,8 +54,8 @@ impl Gateway {
     fn hand_short<P: Port>(&self, apdu: Short, port: &mut P) -> bool
         requires ready { P.failed port.old < u64.MAX }
         requires fits { Fits (apdu_of apdu) }
-        ensures told { P.log port.new ≡ (if result
-            then tell (P.log port.old)
+        ensures logged { P.log port.new ≡ (if result
+            then with_news (P.log port.old)
             (Went self.now.moment (TcpOut (spelling (apdu_of apdu))) ∷ [])
             else P.log port.old) }
         ensures puts { Puts P.log P.script P.failed port.old port.new (faults_unless result) }
@@ -265,20 +265,20 @@ impl Gateway {
             return (count, self.take_apdu(apdu, port));
         }
         match self.feed(octets) {
-            Found::Whole(count) => (count, self.take_heard(port)),
+            Found::Whole(count) => (count, self.take_received(port)),
             Found::More => (0, Progress::Over),
             Found::Refused => (0, self.shut(Close::Grammar, port)),
         }
     }
 
     /// Takes the APDU that came in pieces and is whole now.
-    fn take_heard<P: Port>(&mut self, port: &mut P) -> Progress
+    fn take_received<P: Port>(&mut self, port: &mut P) -> Progress
         requires ready { P.failed port.old < u64.MAX }
-        requires heard { (frame : Apdu) × (self.old.centre.heard ≡ Some frame) × Fits frame }
+        requires arrived { (frame : Apdu) × (self.old.centre.arrived ≡ Some frame) × Fits frame }
         requires open { is_open self.old.centre.session ≡ true }
         requires whole { self.old.centre.so_far ≡ Some [] }
         ensures kept { (p : Setup) (frame : Apdu) (rest : List ℕ) →
-            self.old.centre.heard ≡ Some frame →
+            self.old.centre.arrived ≡ Some frame →
             Meets p (with_octets (Some []) self.old) (P.log port.old) (spelling frame ++ rest)
             rest →
             Goes result p self.new (P.log port.new) rest }
@@ -372,11 +372,11 @@ impl Gateway {
 
     /// Takes what an event means for the line. `false` says that an own answer found no place.
     #[inline(always)]
-    fn hear_event(&mut self, event: Event<'_>) -> bool
-        ensures { HearsEvent self.old (input_of event.entry) result self.new }
+    fn receive_event(&mut self, event: Event<'_>) -> bool
+        ensures { ReceivesEvent self.old (input_of event.entry) result self.new }
     {
         match event {
-            Event::Line(octets) => self.hear(octets),
+            Event::Line(octets) => self.receive_line(octets),
             Event::Open => true,
             Event::Bytes(_) => true,
             Event::Cut => true,
@@ -451,11 +451,11 @@ impl Gateway {
     }
 
     /// Tells the gap of the session that the event's octets have ended, if there is one.
-    fn tell_gap<P: Port>(&mut self, port: &mut P) -> bool
+    fn report_gap<P: Port>(&mut self, port: &mut P) -> bool
         requires { P.failed port.old < u64.MAX }
         ensures kept { (p : Setup) → Tracks p self.old (P.log port.old) [] Idle →
             Leaves result p self.new (P.log port.new) [] Idle }
-        ensures told { self.new.serial.gap ≡ None }
+        ensures logged { self.new.serial.gap ≡ None }
         ensures puts { Puts P.log P.script P.failed port.old port.new (faults_unless result) }
     {
         match self.take_gap() {
@@ -473,11 +473,11 @@ impl Gateway {
     /// Closes the connection where an answer is late, once each gap is told.
     fn close_if_late<P: Port>(&mut self, port: &mut P) -> bool
         requires ready { P.failed port.old < u64.MAX }
-        requires told { self.old.serial.gap ≡ None }
+        requires logged { self.old.serial.gap ≡ None }
         ensures kept { (p : Setup) → Tracks p self.old (P.log port.old) [] Timed →
             Leaves result p self.new (P.log port.new) [] Timed }
         ensures in_time { OnTrue result (IsInTime self.new.moment self.new.centre.session) }
-        ensures told { OnTrue result (self.new.serial.gap ≡ None) }
+        ensures logged { OnTrue result (self.new.serial.gap ≡ None) }
         ensures puts { Puts P.log P.script P.failed port.old port.new (faults_unless result) }
     {
         match self.late() {
@@ -490,7 +490,7 @@ impl Gateway {
     /// late.
     fn send_request<P: Port>(&mut self, port: &mut P) -> bool
         requires ready { P.failed port.old < u64.MAX }
-        requires told { self.old.serial.gap ≡ None }
+        requires logged { self.old.serial.gap ≡ None }
         requires in_time { IsInTime self.old.moment self.old.centre.session }
         ensures kept { (p : Setup) → Tracks p self.old (P.log port.old) [] Timed →
             Leaves result p self.new (P.log port.new) [] Asked }
@@ -534,7 +534,7 @@ impl Gateway {
     {
         line_keeps_the_procedures();
         self.advance_to(now);
-        let fits = self.hear_event(event);
+        let fits = self.receive_event(event);
         // Behind the octets, which may be the answer, and before any action: in the log the
         // exchange is closed from this event on.
         self.end_late_exchange();
@@ -543,7 +543,7 @@ impl Gateway {
         }
         // Before the timers: the gap follows from the event (docs/DECISIONS.md, "A gap is an
         // action").
-        if !self.tell_gap(port) {
+        if !self.report_gap(port) {
             return false;
         }
         self.run_command_timers();

@@ -1,6 +1,6 @@
 //! What traces say, and what is written, by both ports over a text. Which line of a wrong text is
 //! told is shown by checks/faults.py, and which octets can be given alone by checks/shows.py.
-use gateway::{Action, Entry, Next, Port, Told};
+use gateway::{Action, Entry, Next, Port, StoredEntry};
 use session::Close;
 use std::alloc::Global;
 use std::io;
@@ -229,8 +229,8 @@ fn is_longer_line_refused(alloc: Global) -> Result<bool, Fail> {
 
 /// The lines of actions of a log, and of events of a port.
 fn append_each(alloc: Global, lines: &mut String) -> Result<(), Fail> {
-    append_line(alloc, lines, &Told::Came(Entry::Tick(5)))?;
-    append_line(alloc, lines, &Told::Close(70, Close::Timeout))?;
+    append_line(alloc, lines, &StoredEntry::Came(Entry::Tick(5)))?;
+    append_line(alloc, lines, &StoredEntry::Close(70, Close::Timeout))?;
     let mut buf = [0; 1024];
     buf[0] = 0xE5;
     buf[1] = 0x6A;
@@ -298,14 +298,14 @@ fn fails_where_full(alloc: Global, octets: u64) -> Result<bool, Fail> {
         && port.put(7, &Action::Line(&[0xE5])) == fits
         && port.failures() == if fits { 0 } else { 1 };
     // A port that failed gives nothing more.
-    let is_told = is_put
+    let is_shown = is_put
         && (fits
             || matches!(port.next(&mut buf), Next::Fault)
                 && !port.put(7, &Action::Tcp(&[0x68]))
                 && port.failures() == 3);
     let is_refused = port.refused();
     let _ = port.into_writer();
-    Ok(is_told && !is_refused)
+    Ok(is_shown && !is_refused)
 }
 
 #[test]

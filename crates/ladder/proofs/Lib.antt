@@ -1,3 +1,3 @@
-pub mod Telling
+pub mod Describing
 pub mod Pages
 pub mod Driven

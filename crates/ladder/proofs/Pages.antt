@@ -6,7 +6,7 @@ use Rattle.std.specs.Prelude.{Result, Ok, Err, OnOk}
 use Rattle.std.specs.Result.{is_ok}
 use Rattle.gateway.specs.Log.{Log}
 use Rattle.ladder.specs.Scribing.{IsScribing, Scribing}
-use Rattle.ladder.specs.Told.{IsToldTo, Remembered, TellsNews}
+use Rattle.ladder.specs.Described.{IsLoggedTo, Remembered, LogsNews}
 
 both_so : (a b : Bool) → (a && b) ≡ true → (a ≡ true) × (b ≡ true)
 both_so true true h = (refl, refl)
@@ -21,7 +21,7 @@ at_ok (Err e) P is h = cc
 pub noted_on : {E : Type 0} (s : Scribing) (news : Log) (mind : Remembered) (page : List ℕ)
     (r : Result (Unit {0}) E)
     (noted : Bool) → noted ≡ (s.is_noted && is_ok r)
-    → OnOk r (TellsNews s.style s.remembered news mind s.page page) → IsScribing s
+    → OnOk r (LogsNews s.style s.remembered news mind s.page page) → IsScribing s
     → IsScribing (record s {
       remembered = mind;
       log = news ++ s.log;
@@ -29,9 +29,9 @@ pub noted_on : {E : Type 0} (s : Scribing) (news : Log) (mind : Remembered) (pag
       is_noted =
           noted;
     })
-noted_on s news mind page r noted is told h = record {
+noted_on s news mind page r noted is logged h = record {
   noted = λ so. let two = both_so s.is_noted (is_ok r) (sym is ∙ so) in
-      at_ok r (TellsNews s.style s.remembered news mind s.page page) two.1 told s.log s.told
+      at_ok r (LogsNews s.style s.remembered news mind s.page page) two.1 logged s.log s.logged
       (h.noted two.0);
   poured = h.poured;
   behind = (
@@ -43,11 +43,11 @@ noted_on s news mind page r noted is told h = record {
 
 -- the page is cleared
 pub poured_on : (s : Scribing) → s.is_noted ≡ true → IsScribing s
-    → IsScribing (record s { poured = s.log; told = s.told ++ s.page; page = [] })
+    → IsScribing (record s { poured = s.log; logged = s.logged ++ s.page; page = [] })
 poured_on s noted h = record {
-  noted = λ so. subst (λ (xs : List ℕ). IsToldTo s.style s.log s.remembered xs)
-      (sym (append-nil (s.told ++ s.page))) (h.noted noted);
-  poured = record { mind = s.remembered; told = h.noted noted };
+  noted = λ so. subst (λ (xs : List ℕ). IsLoggedTo s.style s.log s.remembered xs)
+      (sym (append-nil (s.logged ++ s.page))) (h.noted noted);
+  poured = record { mind = s.remembered; logged = h.noted noted };
   behind = ([], refl);
 }
 

@@ -1,3 +1,3 @@
 pub mod Rungs
-pub mod Told
+pub mod Described
 pub mod Scribing

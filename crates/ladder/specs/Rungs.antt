@@ -1,8 +1,8 @@
 -- The lines of a ladder: outstation, gateway, control centre (texts of this gateway's own profile).
 use Rattle.std.specs.Prelude.{◌≡◌, ℕ, ◌+◌, Bool, if◌then◌else◌, codes, List, [], ◌∷◌, ◌++◌}
 use Rattle.std.specs.Fmt.{decimal}
-use Rattle.ft12.specs.declared.assembling.Heard.{Heard as LineHeard}
-use Rattle.ft12.specs.declared.assembling.Heard.TheVariants as line
+use Rattle.ft12.specs.declared.assembling.Received.{Received as LineReceived}
+use Rattle.ft12.specs.declared.assembling.Received.TheVariants as line
 use Rattle.gateway.specs.Log.{Output, LineOut, TcpOut, Closed, GapOut}
 use Rattle.session.specs.declared.kinds.Close.{Close}
 use Rattle.session.specs.declared.kinds.Close.TheVariants.{Grammar, SendNumber, ReceiveNumber}
@@ -105,20 +105,21 @@ abbrev pub late_remark : Bool → List ℕ
 late_remark is_late = if is_late then codes ", late" else []
 
 -- what n octets of a piece of the line bring
-unfoldable pub heard_words : LineSizes → ℕ → LineHeard → List ℕ
-heard_words s n (line.Frame frame) = frame_words s frame
-heard_words s n line.More = cut_off n
-heard_words s n (line.Never place why) = no_frame (fault_of why) place
-heard_words s n line.Deaf = cut_off n
+unfoldable pub received_words : LineSizes → ℕ → LineReceived → List ℕ
+received_words s n (line.Frame frame) = frame_words s frame
+received_words s n line.More = cut_off n
+received_words s n (line.Never place why) = no_frame (fault_of why) place
+received_words s n line.Deaf = cut_off n
 
-abbrev pub heard_remark : Bool → LineHeard → List ℕ
-heard_remark is_late (line.Frame frame) = late_remark is_late
-heard_remark is_late line.More = []
-heard_remark is_late (line.Never place why) = codes ", spoilt"
-heard_remark is_late line.Deaf = codes ", spoilt"
+abbrev pub received_remark : Bool → LineReceived → List ℕ
+received_remark is_late (line.Frame frame) = late_remark is_late
+received_remark is_late line.More = []
+received_remark is_late (line.Never place why) = codes ", spoilt"
+received_remark is_late line.Deaf = codes ", spoilt"
 
-unfoldable pub heard_line : LineSizes → (is_coloured is_late : Bool) → (now n : ℕ) → LineHeard →
+unfoldable pub received_line : LineSizes → (is_coloured is_late : Bool) → (now n : ℕ) → LineReceived
+    →
     List ℕ
-heard_line s is_coloured is_late now n heard =
-    head is_coloured now FromOutstation (heard_remark is_late heard)
-    ++ (heard_words s n heard ++ 10 ∷ [])
+received_line s is_coloured is_late now n arrived =
+    head is_coloured now FromOutstation (received_remark is_late arrived)
+    ++ (received_words s n arrived ++ 10 ∷ [])

@@ -1,7 +1,7 @@
 -- What a scribe has written of a run.
 use Rattle.std.specs.Prelude.{◌≡◌, ℕ, Bool, true, List, ◌++◌}
 use Rattle.gateway.specs.Log.{Log}
-use Rattle.ladder.specs.Told.{IsLadder, IsToldTo, Remembered}
+use Rattle.ladder.specs.Described.{IsLadder, IsLoggedTo, Remembered}
 use Rattle.ladder.specs.declared.rungs.Style.{Style}
 
 -- how lines are written, what is remembered, the log so far, as much of it as was taken off the
@@ -11,14 +11,14 @@ pub record Scribing : Type 0 where
   pub remembered : Remembered
   pub log : Log
   pub poured : Log
-  pub told : List ℕ
+  pub logged : List ℕ
   pub page : List ℕ
   pub is_noted : Bool
 
 -- the page has the lines of the log that weren't taken off it
 pub record IsScribing (s : Scribing) : Type 0 where
-  pub noted : s.is_noted ≡ true → IsToldTo s.style s.log s.remembered (s.told ++ s.page)
-  pub poured : IsLadder s.style s.poured s.told
+  pub noted : s.is_noted ≡ true → IsLoggedTo s.style s.log s.remembered (s.logged ++ s.page)
+  pub poured : IsLadder s.style s.poured s.logged
   pub behind : (news : Log) × (s.log ≡ news ++ s.poured)
 
 -- a port, its scribe, and how often nothing was passed on since a line was missing

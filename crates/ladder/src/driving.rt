@@ -21,7 +21,7 @@ const PART: u64 = 256;
 /// nothing more is printed, and the run goes on to its end: the second answer is whether all was
 /// printed. After `Device`, which says that the port failed or memory was refused to a line, what
 /// was printed are the lines of the run up to some turn before.
-pub fn drive_told<P: Paged + Drop, W: Write>(
+pub fn drive_logged<P: Paged + Drop, W: Write>(
     gateway: &mut Gateway,
     ladder: &mut Ladder<P>,
     turns: u64,
@@ -57,9 +57,9 @@ pub fn drive_told<P: Paged + Drop, W: Write>(
         (P.log ladder.new.port ≡ Some (P.poured ladder.new.port)) }
     ensures noted { UnlessDevice result.0 (ladder.new.scribe.is_noted ≡ true) }
     ensures healthy { UnlessDevice result.0 (P.failed ladder.new.port ≡ 0) }
-    ensures told { (before : Option (List ℕ)) →
-        IsPoured was_whole before (W.contents out.old) ladder.old.scribe.told →
-        IsPoured result.1 before (W.contents out.new) ladder.new.scribe.told }
+    ensures logged { (before : Option (List ℕ)) →
+        IsPoured was_whole before (W.contents out.old) ladder.old.scribe.logged →
+        IsPoured result.1 before (W.contents out.new) ladder.new.scribe.logged }
 {
     let mut is_whole = was_whole;
     let mut done = 0;
@@ -97,9 +97,9 @@ fn pour<P: Paged + Drop, W: Write>(
     ensures ended { P.ended ladder.new.port ≡ P.ended ladder.old.port }
     ensures course { P.course ladder.new.port ≡ P.course ladder.old.port }
     ensures style { ladder.new.scribe.style ≡ ladder.old.scribe.style }
-    ensures told { (before : Option (List ℕ)) →
-        IsPoured is_whole before (W.contents out.old) ladder.old.scribe.told →
-        IsPoured result.1 before (W.contents out.new) ladder.new.scribe.told }
+    ensures logged { (before : Option (List ℕ)) →
+        IsPoured is_whole before (W.contents out.old) ladder.old.scribe.logged →
+        IsPoured result.1 before (W.contents out.new) ladder.new.scribe.logged }
 {
     if let End::Device = end {
         return (End::Device, is_whole);

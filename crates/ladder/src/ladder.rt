@@ -1,7 +1,7 @@
 //! A port that puts what passes it into words.
 ghost use Rattle.std.specs.Prelude.{◌≡◌, ◌++◌, [], true, Some};
 ghost use Rattle.gateway.specs.Log.{Log};
-ghost use Rattle.ladder.specs.Told.{IsLadder};
+ghost use Rattle.ladder.specs.Described.{IsLadder};
 
 use crate::scribe::Scribe;
 use gateway::{Action, Next, Port};
@@ -77,7 +77,7 @@ impl<P: Paged + Drop> Ladder<P> {
     pub fn page(&self) -> &[u8]
         ensures page { result.now ≡ self.now.scribe.page }
         ensures poured { IsLadder self.now.scribe.style self.now.scribe.poured
-            self.now.scribe.told }
+            self.now.scribe.logged }
         ensures log { P.log self.now.port ≡ Some self.now.scribe.log }
         ensures behind { (news : Log) × (self.now.scribe.log ≡ news ++ self.now.scribe.poured) }
     {
@@ -90,7 +90,7 @@ impl<P: Paged + Drop> Ladder<P> {
         requires { self.old.scribe.is_noted ≡ true }
         ensures scribe { self.new.scribe ≡ record self.old.scribe {
           poured = self.old.scribe.log;
-          told = self.old.scribe.told ++ self.old.scribe.page;
+          logged = self.old.scribe.logged ++ self.old.scribe.page;
           page = [];
         } }
         ensures log { P.log self.new.port ≡ P.log self.old.port }
@@ -119,7 +119,7 @@ impl<P: Paged + Drop> Port for Ladder<P> {
     /// What is fixed of the port inside; how lines are written; and what was taken off the page.
     ghost Fixed = { P.Fixed × Style × Log × List ℕ };
 
-    ghost script = { λ l. (P.script l.port, l.scribe.style, l.scribe.poured, l.scribe.told) };
+    ghost script = { λ l. (P.script l.port, l.scribe.style, l.scribe.poured, l.scribe.logged) };
 
     fn next(&mut self, buf: &mut [u8; 1024]) -> Next {
         if !self.scribe.is_noted() {

@@ -1,10 +1,10 @@
 //! What is remembered of a run to put it into words.
 ghost use Rattle.std.specs.Prelude.{◌≡◌, ◌<◌, ◌≤◌, ◌↔◌, [], false, true, not, length, Some, IsTrue};
 ghost use Rattle.std.specs.Prelude.{OnOk};
-ghost use Rattle.ladder.specs.Told.{first_remembered, still_awaited, Listens, ListensTo};
+ghost use Rattle.ladder.specs.Described.{first_remembered, still_awaited, Listens, ListensTo};
 
-use apci::{Apdu, Heard as ApduHeard};
-use ft12::{Heard, LinkSize};
+use apci::{Apdu, Received as ApduReceived};
+use ft12::{LinkSize, Received};
 use std::alloc::{AllocError, Global};
 use std::marker::Model;
 
@@ -22,7 +22,7 @@ pub(crate) struct Memory {
 }
 
 impl Model for Memory {
-    ghost use Rattle.ladder.specs.Told.{Remembered};
+    ghost use Rattle.ladder.specs.Described.{Remembered};
 
     ghost Value = { Remembered };
 
@@ -85,8 +85,8 @@ impl Memory {
 
     /// Takes octets of a piece of the line, up to the end of a frame, and says how many and what
     /// was heard.
-    pub(crate) fn hear_line(&mut self, piece: &[u8]) -> (usize, Heard)
-        ensures heard { Listens self.old.size self.old.line piece.now result.0 result.1
+    pub(crate) fn receive_line(&mut self, piece: &[u8]) -> (usize, Received)
+        ensures arrived { Listens self.old.size self.old.line piece.now result.0 result.1
             self.new.line }
         ensures remembered { self.new ≡ record self.old {
           line = self.new.line;
@@ -95,22 +95,22 @@ impl Memory {
         ensures within { result.0 ≤ length piece.now }
         ensures progress { 0 < length piece.now → 0 < result.0 }
     {
-        let (taken, heard) = self.line.feed(piece);
-        if let Heard::Frame(_) = heard {
+        let (taken, arrived) = self.line.feed(piece);
+        if let Received::Frame(_) = arrived {
             self.is_awaited = false;
         }
-        (taken, heard)
+        (taken, arrived)
     }
 
     /// The same of the connection; an APDU that is whole comes with it.
-    pub(crate) fn hear_connection(&mut self, piece: &[u8]) -> (usize, ApduHeard, Option<Apdu>)
-        ensures heard { ListensTo self.old.centre piece.now result.0 result.1 result.2
+    pub(crate) fn receive_connection(&mut self, piece: &[u8]) -> (usize, ApduReceived, Option<Apdu>)
+        ensures arrived { ListensTo self.old.centre piece.now result.0 result.1 result.2
             self.new.centre }
         ensures remembered { self.new ≡ record self.old { centre = self.new.centre } }
         ensures within { result.0 ≤ length piece.now }
         ensures progress { 0 < length piece.now → 0 < result.0 }
     {
-        let (taken, heard) = self.connection.feed(piece);
-        (taken, heard, self.connection.take())
+        let (taken, arrived) = self.connection.feed(piece);
+        (taken, arrived, self.connection.take())
     }
 }

@@ -1,15 +1,17 @@
 //! The lines of events and actions.
 ghost use Rattle.std.specs.Prelude.{◌≡◌, ◌++◌, ◌∷◌, [], IfOk, OnOk, string_bytes};
 ghost use Rattle.gateway.specs.Log.{Went};
-ghost use Rattle.gateway.specs.Ports.{FitsBuffer, output_of, told_by};
-ghost use Rattle.ladder.specs.Told.{apdu_heard_line, apdu_heard_words, centre_line, wall_line};
-ghost use Rattle.ladder.specs.Told.{whole_words, Adds, AreApdusHeard, AreFramesHeard, IsRemembered};
-ghost use Rattle.ladder.specs.Told.{TellsNews};
+ghost use Rattle.gateway.specs.Ports.{FitsBuffer, output_of, logged_by};
+ghost use Rattle.ladder.specs.Described.{apdu_received_line, apdu_received_words, centre_line};
+ghost use Rattle.ladder.specs.Described.{wall_line};
+ghost use Rattle.ladder.specs.Described.{whole_words, Adds, AreApdusReceived, AreFramesReceived};
+ghost use Rattle.ladder.specs.Described.{IsRemembered};
+ghost use Rattle.ladder.specs.Described.{LogsNews};
 ghost use Rattle.ladder.specs.Rungs.{repeat_remark as repeat_words};
 
 use crate::memory::Memory;
-use crate::rungs::{Style, Way, push_action as push_action_line, push_head, push_heard};
-use apci::{Apdu, Heard as ApduHeard};
+use crate::rungs::{Style, Way, push_action as push_action_line, push_head, push_received};
+use apci::{Apdu, Received as ApduReceived};
 use gateway::{Action, Next};
 use std::alloc::{AllocError, Global};
 use words::{push_apdu, push_apdu_refusal, push_cut_off};
@@ -25,7 +27,7 @@ pub(crate) fn push_event(
     buf: &[u8; 1024],
 ) -> Result<(), AllocError>
     requires { FitsBuffer next }
-    ensures { OnOk result (TellsNews style.now memory.old (told_by next buf.now) memory.new
+    ensures { OnOk result (LogsNews style.now memory.old (logged_by next buf.now) memory.new
         (string_bytes text.old) (string_bytes text.new)) }
 {
     match next {
@@ -53,14 +55,14 @@ fn push_line(
     now: u64,
     octets: &[u8],
 ) -> Result<(), AllocError>
-    ensures { OnOk result (Adds (AreFramesHeard style.now now memory.old octets.now memory.new)
+    ensures { OnOk result (Adds (AreFramesReceived style.now now memory.old octets.now memory.new)
         (string_bytes text.old) (string_bytes text.new)) }
 {
     let mut left = octets;
     'frames: while !left.is_empty() {
         let is_late = memory.is_late();
-        let (taken, heard) = memory.hear_line(left);
-        push_heard(alloc, text, style, is_late, now, taken, &heard)?;
+        let (taken, arrived) = memory.receive_line(left);
+        push_received(alloc, text, style, is_late, now, taken, &arrived)?;
         left = &left[taken..];
     }
     Ok(())
@@ -75,52 +77,52 @@ fn push_bytes(
     now: u64,
     octets: &[u8],
 ) -> Result<(), AllocError>
-    ensures { OnOk result (Adds (AreApdusHeard style.now now memory.old octets.now memory.new)
+    ensures { OnOk result (Adds (AreApdusReceived style.now now memory.old octets.now memory.new)
         (string_bytes text.old) (string_bytes text.new)) }
 {
     let mut left = octets;
     'apdus: while !left.is_empty() {
-        let (taken, heard, whole) = memory.hear_connection(left);
-        push_apdu_heard(alloc, text, style.is_coloured, now, taken, heard, &whole)?;
+        let (taken, arrived, whole) = memory.receive_connection(left);
+        push_apdu_received(alloc, text, style.is_coloured, now, taken, arrived, &whole)?;
         left = &left[taken..];
     }
     Ok(())
 }
 
 /// Appends the line of what so many octets of a piece of the connection bring.
-#[tactic(auto, unfolding(crate::specs::Told::apdu_heard_line))]
-fn push_apdu_heard(
+#[tactic(auto, unfolding(crate::specs::Described::apdu_received_line))]
+fn push_apdu_received(
     alloc: Global,
     text: &mut String,
     is_coloured: bool,
     now: u64,
     octets: usize,
-    heard: ApduHeard,
+    arrived: ApduReceived,
     whole: &Option<Apdu>,
 ) -> Result<(), AllocError>
     ensures { OnOk result (string_bytes text.new ≡ string_bytes text.old
-        ++ apdu_heard_line is_coloured now octets heard whole.now) }
+        ++ apdu_received_line is_coloured now octets arrived whole.now) }
 {
     push_head(text, is_coloured, now, Way::FromCentre, "")?;
-    push_apdu_words(alloc, text, octets, heard, whole)?;
+    push_apdu_words(alloc, text, octets, arrived, whole)?;
     text.push_str("\n")
 }
 
-#[tactic(auto, unfolding(crate::specs::Told::apdu_heard_words))]
+#[tactic(auto, unfolding(crate::specs::Described::apdu_received_words))]
 fn push_apdu_words(
     alloc: Global,
     text: &mut String,
     octets: usize,
-    heard: ApduHeard,
+    arrived: ApduReceived,
     whole: &Option<Apdu>,
 ) -> Result<(), AllocError>
     ensures { OnOk result (string_bytes text.new ≡ string_bytes text.old
-        ++ apdu_heard_words octets heard whole.now) }
+        ++ apdu_received_words octets arrived whole.now) }
 {
-    match heard {
-        ApduHeard::Whole => push_whole(alloc, text, whole),
-        ApduHeard::Never(place, why) => push_apdu_refusal(text, place, why),
-        ApduHeard::More | ApduHeard::Deaf => push_cut_off(text, octets),
+    match arrived {
+        ApduReceived::Whole => push_whole(alloc, text, whole),
+        ApduReceived::Never(place, why) => push_apdu_refusal(text, place, why),
+        ApduReceived::More | ApduReceived::Deaf => push_cut_off(text, octets),
     }
 }
 
@@ -136,7 +138,7 @@ fn push_whole(alloc: Global, text: &mut String, whole: &Option<Apdu>) -> Result<
 }
 
 /// Appends the line of a connection that is opened or cut.
-#[tactic(auto, unfolding(crate::specs::Told::centre_line))]
+#[tactic(auto, unfolding(crate::specs::Described::centre_line))]
 fn push_centre(
     text: &mut String,
     is_coloured: bool,
@@ -152,7 +154,7 @@ fn push_centre(
 }
 
 /// Appends the line of the wall clock.
-#[tactic(auto, unfolding(crate::specs::Told::wall_line))]
+#[tactic(auto, unfolding(crate::specs::Described::wall_line))]
 fn push_wall(text: &mut String, is_coloured: bool, now: u64, wall: u64) -> Result<(), AllocError>
     ensures { OnOk result (string_bytes text.new
         ≡ string_bytes text.old ++ wall_line is_coloured now wall) }
@@ -172,7 +174,7 @@ pub(crate) fn push_action(
     now: u64,
     action: &Action<'_>,
 ) -> Result<(), AllocError>
-    ensures { OnOk result (TellsNews style.now memory.old
+    ensures { OnOk result (LogsNews style.now memory.old
         (Went now (output_of action.now) ∷ []) memory.new
         (string_bytes text.old) (string_bytes text.new)) }
 {

@@ -2,12 +2,13 @@
 ghost use Rattle.std.specs.Prelude.{◌≡◌, ℕ, ◌++◌, ◌∷◌, List, [], IfOk, OnOk, string_bytes};
 ghost use Rattle.gateway.specs.Ports.{output_of};
 ghost use Rattle.ladder.specs.Rungs.{close_text as close_words, colour as colour_of, gap_text};
-ghost use Rattle.ladder.specs.Rungs.{head, heard_line, heard_remark as remark_of, heard_words};
+ghost use Rattle.ladder.specs.Rungs.{head, received_line, received_remark as remark_of};
+ghost use Rattle.ladder.specs.Rungs.{received_words};
 ghost use Rattle.ladder.specs.Rungs.{late_remark as late_of, plain as plain_of, session_text, side};
 ghost use Rattle.ladder.specs.Rungs.{station_text, way_of as way_of_output, way_text as way_words};
 ghost use Rattle.ladder.specs.Rungs.{AreActionWords, IsActionLine};
 
-use ft12::Heard;
+use ft12::Received;
 use gateway::Action;
 use session::Close;
 use show::LineSizes;
@@ -197,54 +198,54 @@ fn late_remark(is_late: bool) -> &'static str
 }
 
 /// A remark on what is heard of the line.
-fn heard_remark(is_late: bool, heard: &Heard) -> &'static str
-    ensures { result.now ≡ remark_of is_late heard.now }
+fn received_remark(is_late: bool, arrived: &Received) -> &'static str
+    ensures { result.now ≡ remark_of is_late arrived.now }
 {
-    match heard {
-        Heard::Frame(_) => late_remark(is_late),
-        Heard::More => "",
-        Heard::Never(..) | Heard::Deaf => ", spoilt",
+    match arrived {
+        Received::Frame(_) => late_remark(is_late),
+        Received::More => "",
+        Received::Never(..) | Received::Deaf => ", spoilt",
     }
 }
 
 /// Appends what so many octets of a piece of the line bring.
-#[tactic(auto, unfolding(crate::specs::Rungs::heard_words))]
-fn push_heard_words(
+#[tactic(auto, unfolding(crate::specs::Rungs::received_words))]
+fn push_received_words(
     alloc: Global,
     text: &mut String,
     style: &Style,
     octets: usize,
-    heard: &Heard,
+    arrived: &Received,
 ) -> Result<(), AllocError>
     ensures { OnOk result (string_bytes text.new
-        ≡ string_bytes text.old ++ heard_words style.now.sizes octets heard.now) }
+        ≡ string_bytes text.old ++ received_words style.now.sizes octets arrived.now) }
 {
-    match heard {
-        Heard::Frame(frame) => {
+    match arrived {
+        Received::Frame(frame) => {
             push_line_frame(alloc, text, style.sizes, frame.lent())?;
             Ok(())
         }
-        Heard::Never(place, why) => push_line_refusal(text, *place, *why),
-        Heard::More | Heard::Deaf => push_cut_off(text, octets),
+        Received::Never(place, why) => push_line_refusal(text, *place, *why),
+        Received::More | Received::Deaf => push_cut_off(text, octets),
     }
 }
 
 /// Appends the line of what so many octets of a piece of the line bring.
-#[tactic(auto, unfolding(crate::specs::Rungs::heard_line))]
-pub(crate) fn push_heard(
+#[tactic(auto, unfolding(crate::specs::Rungs::received_line))]
+pub(crate) fn push_received(
     alloc: Global,
     text: &mut String,
     style: &Style,
     is_late: bool,
     now: u64,
     octets: usize,
-    heard: &Heard,
+    arrived: &Received,
 ) -> Result<(), AllocError>
     ensures { OnOk result (string_bytes text.new ≡ string_bytes text.old
-        ++ heard_line style.now.sizes style.now.is_coloured is_late now octets heard.now) }
+        ++ received_line style.now.sizes style.now.is_coloured is_late now octets arrived.now) }
 {
-    let remark = heard_remark(is_late, heard);
+    let remark = received_remark(is_late, arrived);
     push_head(text, style.is_coloured, now, Way::FromOutstation, remark)?;
-    push_heard_words(alloc, text, style, octets, heard)?;
+    push_received_words(alloc, text, style, octets, arrived)?;
     text.push_str("\n")
 }

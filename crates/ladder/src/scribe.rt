@@ -1,8 +1,8 @@
 //! What puts events and actions into words.
 ghost use Rattle.std.specs.Prelude.{◌≡◌, ◌++◌, ◌∷◌, [], true, string_bytes};
 ghost use Rattle.gateway.specs.Log.{Log, Went};
-ghost use Rattle.gateway.specs.Ports.{FitsBuffer, output_of, told_by};
-ghost use Rattle.ladder.specs.Told.{first_remembered, IsLadder};
+ghost use Rattle.gateway.specs.Ports.{FitsBuffer, output_of, logged_by};
+ghost use Rattle.ladder.specs.Described.{first_remembered, IsLadder};
 
 use crate::memory::Memory;
 use crate::notes::{push_action, push_event};
@@ -38,7 +38,7 @@ impl Model for Scribe {
       remembered = s.memory;
       log = s.history.entries;
       poured = s.poured.entries;
-      told = s.taken.octets;
+      logged = s.taken.octets;
       page = string_bytes s.page.text;
       is_noted = s.is_noted;
     } };
@@ -48,7 +48,7 @@ impl Model for Scribe {
       remembered = s.memory;
       log = s.history.entries;
       poured = s.poured.entries;
-      told = s.taken.octets;
+      logged = s.taken.octets;
       page = string_bytes s.page.text;
       is_noted = s.is_noted;
     }) };
@@ -63,7 +63,7 @@ impl Scribe {
           remembered = first_remembered style.sizes.link;
           log = [];
           poured = [];
-          told = [];
+          logged = [];
           page = [];
           is_noted = true;
         } }
@@ -92,7 +92,7 @@ impl Scribe {
     /// The lines since they were taken off.
     pub fn page(&self) -> &[u8]
         ensures page { result.now ≡ self.now.page }
-        ensures poured { IsLadder self.now.style self.now.poured self.now.told }
+        ensures poured { IsLadder self.now.style self.now.poured self.now.logged }
         ensures behind { (news : Log) × (self.now.log ≡ news ++ self.now.poured) }
     {
         self.page.text.as_bytes()
@@ -103,7 +103,7 @@ impl Scribe {
         requires { self.old.is_noted ≡ true }
         ensures { self.new ≡ record self.old {
           poured = self.old.log;
-          told = self.old.told ++ self.old.page;
+          logged = self.old.logged ++ self.old.page;
           page = [];
         } }
     {
@@ -115,10 +115,10 @@ impl Scribe {
     /// Puts an event into words, whose octets are the front of the buffer.
     pub(crate) fn note_event(&mut self, next: Next, buf: &[u8; 1024])
         requires { FitsBuffer next }
-        ensures log { self.new.log ≡ told_by next buf.now ++ self.old.log }
+        ensures log { self.new.log ≡ logged_by next buf.now ++ self.old.log }
         ensures style { self.new.style ≡ self.old.style }
         ensures poured { self.new.poured ≡ self.old.poured }
-        ensures told { self.new.told ≡ self.old.told }
+        ensures logged { self.new.logged ≡ self.old.logged }
     {
         self.history = self.history.came(&next, buf);
         let alloc = self.alloc;
@@ -138,7 +138,7 @@ impl Scribe {
         ensures log { self.new.log ≡ Went now (output_of action.now) ∷ self.old.log }
         ensures style { self.new.style ≡ self.old.style }
         ensures poured { self.new.poured ≡ self.old.poured }
-        ensures told { self.new.told ≡ self.old.told }
+        ensures logged { self.new.logged ≡ self.old.logged }
     {
         self.history = self.history.went(&now, action);
         let alloc = self.alloc;

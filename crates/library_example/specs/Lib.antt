@@ -1,3 +1,3 @@
 pub mod Carrying
-pub mod Hearing
+pub mod Receiving
 pub mod Points

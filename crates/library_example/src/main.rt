@@ -15,14 +15,14 @@ ghost use Rattle.asdu.specs.Asdu.{IsAsdu};
 ghost use Rattle.asdu.specs.Reading.{value_of};
 
 mod carrying;
-mod hearing;
 mod points;
+mod receiving;
 
 use asdu::{Asdu, CaSize, CauseSize, IoaSize, Sizes};
 use carrying::carry;
 use elements::Verdict;
-use hearing::data_of;
 use points::points_of;
+use receiving::data_of;
 use std::alloc::Global;
 use std::io;
 
@@ -38,14 +38,14 @@ fn main(rt: HostRuntime) -> io::Result<()> {
     let mut sent = 0;
     for line in rt.lines(alloc) {
         let line = line?;
-        sent = hear(&rt, alloc, &line, sent)?;
+        sent = receive(&rt, alloc, &line, sent)?;
     }
     Ok(())
 }
 
 /// Prints what one line has: its frame's report, and the APDUs that carry it, the first numbered
 /// `sent`. Answers the number of the next one. An empty line and a comment have nothing.
-fn hear(rt: &impl Print, alloc: Global, line: &str, sent: u16) -> io::Result<u16>
+fn receive(rt: &impl Print, alloc: Global, line: &str, sent: u16) -> io::Result<u16>
     requires { sent < 2 ^ 15 }
     ensures { IfOk result (λ next. next < 2 ^ 15) }
 {

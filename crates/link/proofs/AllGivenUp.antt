@@ -11,11 +11,11 @@ use Rattle.link.specs.Gaps.{gaps_in, gaps_at}
 use Rattle.link.specs.Procedure.{LinkSettings, holds_command}
 use Rattle.link.specs.Turns.{station_at}
 use Rattle.link.specs.Primary.{Primary, is_sending_command}
-use Rattle.link.specs.Telling.{TellsBy, Tells}
+use Rattle.link.specs.Matching.{MatchesBy, Matches}
 use Rattle.link.specs.Carried.{awaits_command, given_up, command_given_up, commands_given_up_upto}
 use Rattle.link.specs.Carried.{without_commands, awaits_command_in, command_given_up_in}
 use Rattle.link.specs.Carried.{given_up_upto, commands_given_up}
-use Rattle.link.proofs.Called.{give_up_tells}
+use Rattle.link.proofs.Called.{give_up_matches}
 use Rattle.link.proofs.GivenUp.{number}
 use Rattle.link.proofs.Marks.{all_marked, marked_reports, past_mark, given_gaps}
 use Rattle.link.proofs.UnderWay.{not_awaited}
@@ -30,10 +30,10 @@ either false true false e = cc
 either false false true e = cc
 either false false false e = refl
 
-pub awaits_told : (front : List ℕ → Front) (settings : LinkSettings) (addresses : List ℕ)
-    (p : Primary) (e : Exchanges) (k : ℕ) → TellsBy front settings addresses p e
+pub awaits_logged : (front : List ℕ → Front) (settings : LinkSettings) (addresses : List ℕ)
+    (p : Primary) (e : Exchanges) (k : ℕ) → MatchesBy front settings addresses p e
     → awaits_command p k ≡ awaits_command_in settings front addresses k e
-awaits_told front settings addresses p e k t =
+awaits_logged front settings addresses p e k t =
     either (holds_command (station_at p.stations k).link)
     ((p.turn == k) && is_sending_command p.outstanding)
     (awaits_command_in settings front addresses k e)
@@ -53,40 +53,40 @@ upto_number : (count : ℕ) (p : Primary)
 upto_number zero p = refl
 upto_number (suc k) p = one_number k (commands_given_up_upto k p) ∙ upto_number k p
 
-one_tells : (settings : LinkSettings) (addresses : List ℕ) (p : Primary) (e : Exchanges) (k : ℕ)
-    → k < length p.stations → Tells settings addresses p e
-    → Tells settings addresses (command_given_up k p)
+one_matches : (settings : LinkSettings) (addresses : List ℕ) (p : Primary) (e : Exchanges) (k : ℕ)
+    → k < length p.stations → Matches settings addresses p e
+    → Matches settings addresses (command_given_up k p)
     (command_given_up_in settings (front_of settings.size) addresses k e)
-one_tells settings addresses p e k within t =
-    subst (λ (b : Bool). Tells settings addresses (command_given_up k p)
+one_matches settings addresses p e k within t =
+    subst (λ (b : Bool). Matches settings addresses (command_given_up k p)
     (if b then given_up_at k e else e))
-    (awaits_told (front_of settings.size) settings addresses p e k t)
+    (awaits_logged (front_of settings.size) settings addresses p e k t)
     (go (awaits_command p k))
   where
-    go : (b : Bool) → Tells settings addresses (if b then given_up k p else p)
+    go : (b : Bool) → Matches settings addresses (if b then given_up k p else p)
         (if b then given_up_at k e else e)
-    go true = give_up_tells settings addresses p e k within t
+    go true = give_up_matches settings addresses p e k within t
     go false = t
 
-upto_tells : (settings : LinkSettings) (addresses : List ℕ) (p : Primary) (e : Exchanges)
-    (count : ℕ) → count ≤ length p.stations → Tells settings addresses p e
-    → Tells settings addresses (commands_given_up_upto count p)
+upto_matches : (settings : LinkSettings) (addresses : List ℕ) (p : Primary) (e : Exchanges)
+    (count : ℕ) → count ≤ length p.stations → Matches settings addresses p e
+    → Matches settings addresses (commands_given_up_upto count p)
     (given_up_upto settings (front_of settings.size) addresses count e)
-upto_tells settings addresses p e zero within t = t
-upto_tells settings addresses p e (suc k) within t =
-    one_tells settings addresses (commands_given_up_upto k p)
+upto_matches settings addresses p e zero within t = t
+upto_matches settings addresses p e (suc k) within t =
+    one_matches settings addresses (commands_given_up_upto k p)
     (given_up_upto settings (front_of settings.size) addresses k e) k
     (subst (λ (n : ℕ). k < n) (sym (upto_number k p)) (omega (arith, within)))
-    (upto_tells settings addresses p e k (omega (arith, within)) t)
+    (upto_matches settings addresses p e k (omega (arith, within)) t)
 
-pub all_tells : (settings : LinkSettings) (addresses : List ℕ) (p : Primary) (e : Exchanges)
-    → Tells settings addresses p e
-    → Tells settings addresses (without_commands p)
+pub all_matches : (settings : LinkSettings) (addresses : List ℕ) (p : Primary) (e : Exchanges)
+    → Matches settings addresses p e
+    → Matches settings addresses (without_commands p)
     (commands_given_up settings (front_of settings.size) addresses e)
-all_tells settings addresses p e t =
-    subst (λ (n : ℕ). Tells settings addresses (without_commands p)
+all_matches settings addresses p e t =
+    subst (λ (n : ℕ). Matches settings addresses (without_commands p)
     (given_up_upto settings (front_of settings.size) addresses n e)) t.count
-    (upto_tells settings addresses p e (length p.stations) (omega arith) t)
+    (upto_matches settings addresses p e (length p.stations) (omega arith) t)
 
 -- ---- what stays as it was
 

@@ -197,11 +197,11 @@ unknown_after settings (Counted fcb service) true link known =
     go true false e = cc
     go false hold e = cc
 
-pub begun_awaits : (p : Primary) (q : Outstanding) (octets : List ℕ) (heard : Option (List ℕ))
+pub begun_awaits : (p : Primary) (q : Outstanding) (octets : List ℕ) (arrived : Option (List ℕ))
     → p.outstanding ≡ Some q
     → IsBegun p →
-    IsBegun (awaits p (with_octets octets q) heard)
-begun_awaits p q octets heard is b = record {
+    IsBegun (awaits p (with_octets octets q) arrived)
+begun_awaits p q octets arrived is b = record {
   here = subst (λ (o : Option Outstanding). IsAlong o p.phase (station_at p.stations p.turn).link)
       is b.here;
   away = b.away;
@@ -240,12 +240,12 @@ begun_answered p q a frame answer within is says b =
     moved p (station_answered (station_at p.stations p.turn) q.request frame answer)
     (phase_after answer p.phase) p.again p.spoilt within b
     (λ known.
-    let told = known_after a q.request frame answer (station_at p.stations p.turn).link says
+    let outcome_for = known_after a q.request frame answer (station_at p.stations p.turn).link says
     known in
     let along =
     subst (λ (o : Option Outstanding). IsAlong o p.phase (station_at p.stations p.turn).link) is
     b.here in
-    ap (λ (m : Answer). phase_after m p.phase) told.1 ∙ along.0 told.0)
+    ap (λ (m : Answer). phase_after m p.phase) outcome_for.1 ∙ along.0 outcome_for.0)
 
 pub begun_unanswered : (p : Primary) (q : Outstanding) → p.turn < length p.stations → IsBegun p
     → IsBegun (unanswered p q)

@@ -12,8 +12,8 @@ use Rattle.link.specs.Runs.{Call, Octets, Due, Offer, Withdraw, GivesUp, called}
 use Rattle.link.specs.Runs as runs
 use Rattle.link.specs.Bursts.{is_answered}
 use Rattle.link.specs.AtOnce.{latest_after, poll_by, TurnGoesOn, PollIsNext, PollsFollowCommands}
-use Rattle.link.proofs.Repeating.{IsBeforePolls, Follows, waits, ended, Tells, none_out}
-use Rattle.link.proofs.Repeating.{turn_sends, call_tells}
+use Rattle.link.proofs.Repeating.{IsBeforePolls, Follows, waits, ended, Matches, none_out}
+use Rattle.link.proofs.Repeating.{turn_sends, call_matches}
 
 -- what the turn has next: the poll that ACD asks for, or the command that waits
 pub data HasNext (fcb : Bool) (s : StationState) (w : Option Wanted) : Type 0 where
@@ -85,7 +85,7 @@ goes_on p out up is =
       inr (asdu, waiting, turn_sends p true (Counted fcb (Command asdu)) following out e),
     )
 
-follows_it : (p : Primary) (latest : Option Sending) (call : Call) → Tells p latest
+follows_it : (p : Primary) (latest : Option Sending) (call : Call) → Matches p latest
     → PollIsNext p latest call
 follows_it p (Some s) (runs.Next now true) (turn, waits o awaited same once follows new) =
     λ out is up. absurd (none_out p.outstanding o out awaited)
@@ -95,20 +95,20 @@ follows_it p (Some s) (runs.Next now true) (turn, ended free more again_is behin
     subst (λ (i : ℕ). is_answered (station_at p.stations i).link ≡ true) (sym turn) up in
     subst (λ (i : ℕ). TurnGoesOn p i (station_at p.stations i)) turn
     (goes_on p out here (before_polls s.request p.phase is (behind here)))
-follows_it p (Some s) (runs.Next now false) tells = tt
-follows_it p (Some s) (Octets octets) tells = tt
-follows_it p (Some s) (Due now) tells = tt
-follows_it p (Some s) (Offer station asdu) tells = tt
-follows_it p (Some s) Withdraw tells = tt
-follows_it p (Some s) (GivesUp station) tells = tt
-follows_it p None call tells = tt
+follows_it p (Some s) (runs.Next now false) matches = tt
+follows_it p (Some s) (Octets octets) matches = tt
+follows_it p (Some s) (Due now) matches = tt
+follows_it p (Some s) (Offer station asdu) matches = tt
+follows_it p (Some s) Withdraw matches = tt
+follows_it p (Some s) (GivesUp station) matches = tt
+follows_it p None call matches = tt
 
-pub follow_on : (p : Primary) (latest : Option Sending) (calls : List Call) → Tells p latest
+pub follow_on : (p : Primary) (latest : Option Sending) (calls : List Call) → Matches p latest
     → PollsFollowCommands p latest calls
-follow_on p latest [] tells = tt
-follow_on p latest (call ∷ calls) tells = (
-  follows_it p latest call tells,
-  follow_on (called p call) (latest_after p call latest) calls (call_tells p latest call tells),
+follow_on p latest [] matches = tt
+follow_on p latest (call ∷ calls) matches = (
+  follows_it p latest call matches,
+  follow_on (called p call) (latest_after p call latest) calls (call_matches p latest call matches),
 )
 
 pub all_follow : (settings : LinkSettings) (addresses : List ℕ) (calls : List Call)

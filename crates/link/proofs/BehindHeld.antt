@@ -53,8 +53,8 @@ Began p None = Unit {0}
 Began p (Some station) =
     (p.turn ≡ station) × Stays p.outstanding p.phase (station_at p.stations p.turn).link
 
-abbrev pub Tells : Primary → Option ℕ → Type 0
-Tells p began = AgainHas p × Began p began
+abbrev pub Matches : Primary → Option ℕ → Type 0
+Matches p began = AgainHas p × Began p began
 
 -- ---- `next`
 
@@ -129,12 +129,12 @@ begins p c may_poll has (there is) spent =
     (has_repeats p.settings (station_at p.stations c.station).link) spent).0
     (λ e. not_both false e refl) is
 
-asked_tells : (p : Primary) (began : Option ℕ) (now : ℕ) (may_poll : Bool) → Tells p began
-    → Tells (asked p now may_poll) (began_out p p.outstanding may_poll began)
-asked_tells p began now may_poll tells = go p.outstanding refl
+asked_matches : (p : Primary) (began : Option ℕ) (now : ℕ) (may_poll : Bool) → Matches p began
+    → Matches (asked p now may_poll) (began_out p p.outstanding may_poll began)
+asked_matches p began now may_poll matches = go p.outstanding refl
   where
     by : p.outstanding ≡ None → (c : Option Chosen) → choice p may_poll ≡ c
-        → Tells (after_choice p now c) (began_by p (sending_by c))
+        → Matches (after_choice p now c) (began_by p (sending_by c))
     by out None e = ((λ again. absurd (not_both false again refl)), tt)
     by out (Some c) e =
         ((λ again. absurd (not_both false again refl)), mark (is_spent p c.station) refl)
@@ -142,22 +142,22 @@ asked_tells p began now may_poll tells = go p.outstanding refl
         mark : (b : Bool) → is_spent p c.station ≡ b
             → Began (after_choice p now (Some c)) (if b then Some c.station else None)
         mark true is =
-            let it = begins p c may_poll tells.0 (is_chosen p may_poll c e) is in (
+            let it = begins p c may_poll matches.0 (is_chosen p may_poll c e) is in (
               refl,
               waits (record {
                 request = c.wanted.request;
                 since = now;
-                heard = Some [];
+                arrived = Some [];
                 has_octets = false;
               }) refl it.0 it.1,
             )
         mark false is = tt
 
     go : (o : Option Outstanding) → p.outstanding ≡ o
-        → Tells (asked_from p o now may_poll) (began_out p o may_poll began)
-    go (Some o) e = tells
+        → Matches (asked_from p o now may_poll) (began_out p o may_poll began)
+    go (Some o) e = matches
     go None e =
-        subst (λ (s : Option Sending). Tells (after_choice p now (choice p may_poll))
+        subst (λ (s : Option Sending). Matches (after_choice p now (choice p may_poll))
         (began_by p s))
         (sym (ap (λ (o : Option Outstanding). sending_from p o may_poll) e))
         (by e (choice p may_poll) refl)
@@ -182,10 +182,11 @@ phase_stays (Counted fcb asked_for) Unable phase link link' service down is up =
 phase_stays Status Unable phase link link' service down is up = let no : ⊥ = cc in absurd no
 phase_stays Reset Unable phase link link' service down is up = let no : ⊥ = cc in absurd no
 
-answer_tells : (p : Primary) (began : Option ℕ) (o : Outstanding) (frame : Frame) (answer : Answer)
-    → p.outstanding ≡ Some o → Tells p began → Tells (answered p o.request frame answer) began
-answer_tells p began o frame answer e tells =
-    ((λ again. absurd (none_out p.outstanding o (tells.0 again).0 e)), go began tells.1)
+answer_matches : (p : Primary) (began : Option ℕ) (o : Outstanding) (frame : Frame)
+    (answer : Answer)
+    → p.outstanding ≡ Some o → Matches p began → Matches (answered p o.request frame answer) began
+answer_matches p began o frame answer e matches =
+    ((λ again. absurd (none_out p.outstanding o (matches.0 again).0 e)), go began matches.1)
   where
     it : StationState
     it = station_answered (station_at p.stations p.turn) o.request frame answer
@@ -204,16 +205,16 @@ answer_tells p began o frame answer e tells =
           phase),
     )
 
-octets_tell : (front : List ℕ → Front) (p : Primary) (came : List ℕ) (began : Option ℕ)
-    → Tells p began → Tells (received front p came) began
-octets_tell front p came began tells = listen_from p.outstanding refl
+octets_match : (front : List ℕ → Front) (p : Primary) (came : List ℕ) (began : Option ℕ)
+    → Matches p began → Matches (received front p came) began
+octets_match front p came began matches = listen_from p.outstanding refl
   where
-    stays : (o : Outstanding) → p.outstanding ≡ Some o → (heard : Option (List ℕ))
-        → Tells (took p (with_octets came o) heard None) began
-    stays o e heard =
-        ((λ again. absurd (none_out p.outstanding o (tells.0 again).0 e)), go began tells.1)
+    stays : (o : Outstanding) → p.outstanding ≡ Some o → (arrived : Option (List ℕ))
+        → Matches (took p (with_octets came o) arrived None) began
+    stays o e arrived =
+        ((λ again. absurd (none_out p.outstanding o (matches.0 again).0 e)), go began matches.1)
       where
-        go : (b : Option ℕ) → Began p b → Began (took p (with_octets came o) heard None) b
+        go : (b : Option ℕ) → Began p b → Began (took p (with_octets came o) arrived None) b
         go None state = tt
         go (Some station) (turn, ended free phase) = absurd (none_out p.outstanding o free e)
         go (Some station) (turn, waits x awaited service phase) = (
@@ -221,39 +222,39 @@ octets_tell front p came began tells = listen_from p.outstanding refl
           waits (record {
             request = o.request;
             since = o.since;
-            heard = heard;
+            arrived = arrived;
             has_octets = (with_octets came o).has_octets;
           }) refl (ap (λ (y : Outstanding). is_service y.request)
               (sym (same_out x o (sym awaited ∙ e))) ∙ service) phase,
         )
 
     say : (o : Outstanding) → p.outstanding ≡ Some o → (frame : Frame) (m : Option Answer)
-        → Tells (said_by p (with_octets came o) frame m) began
+        → Matches (said_by p (with_octets came o) frame m) began
     say o e frame None = stays o e None
-    say o e frame (Some answer) = answer_tells p began o frame answer e tells
+    say o e frame (Some answer) = answer_matches p began o frame answer e matches
 
     take_it : (o : Outstanding) → p.outstanding ≡ Some o
-        → (heard : Option (List ℕ)) (f : Option Frame)
-        → Tells (took p (with_octets came o) heard f) began
-    take_it o e heard None = stays o e heard
-    take_it o e heard (Some frame) = say o e frame (answer_at p (with_octets came o) frame)
+        → (arrived : Option (List ℕ)) (f : Option Frame)
+        → Matches (took p (with_octets came o) arrived f) began
+    take_it o e arrived None = stays o e arrived
+    take_it o e arrived (Some frame) = say o e frame (answer_at p (with_octets came o) frame)
 
     listen : (o : Outstanding) → p.outstanding ≡ Some o → (h : Option (List ℕ))
-        → Tells (received_after front p (with_octets came o) h came) began
+        → Matches (received_after front p (with_octets came o) h came) began
     listen o e None = stays o e None
     listen o e (Some before) = take_it o e (open_octets (before ++ came) (front (before ++ came)))
         (whole_of (front (before ++ came)))
 
     listen_from : (o : Option Outstanding) → p.outstanding ≡ o
-        → Tells (received_from front p o came) began
-    listen_from None e = tells
-    listen_from (Some o) e = listen o e o.heard
+        → Matches (received_from front p o came) began
+    listen_from None e = matches
+    listen_from (Some o) e = listen o e o.arrived
 
 -- ---- no answer in time
 
-missed_tells : (p : Primary) (began : Option ℕ) (o : Outstanding) → p.outstanding ≡ Some o
-    → Tells p began → Tells (unanswered p o) began
-missed_tells p began o e tells = (repeats, go began tells.1)
+missed_matches : (p : Primary) (began : Option ℕ) (o : Outstanding) → p.outstanding ≡ Some o
+    → Matches p began → Matches (unanswered p o) began
+missed_matches p began o e matches = (repeats, go began matches.1)
   where
     it : StationState
     it = station_unanswered p.settings (station_at p.stations p.turn) o.request
@@ -279,32 +280,32 @@ missed_tells p began o e tells = (repeats, go began tells.1)
           (silent_down p.settings o.request (station_at p.stations p.turn).link) refl))),
     )
 
-due_tells : (p : Primary) (at : ℕ) (began : Option ℕ) → Tells p began
-    → Tells (timed_out p at) began
-due_tells p at began tells = go p.outstanding refl
+due_matches : (p : Primary) (at : ℕ) (began : Option ℕ) → Matches p began
+    → Matches (timed_out p at) began
+due_matches p at began matches = go p.outstanding refl
   where
     late : (o : Outstanding) → p.outstanding ≡ Some o → (b : Bool)
-        → Tells (if b then unanswered p o else p) began
-    late o e true = missed_tells p began o e tells
-    late o e false = tells
+        → Matches (if b then unanswered p o else p) began
+    late o e true = missed_matches p began o e matches
+    late o e false = matches
 
-    go : (o : Option Outstanding) → p.outstanding ≡ o → Tells (due_from p o at) began
-    go None e = tells
+    go : (o : Option Outstanding) → p.outstanding ≡ o → Matches (due_from p o at) began
+    go None e = matches
     go (Some o) e = late o e (is_late p o at)
 
 -- ---- the other calls
 
 -- Only what is offered is another.
-offers_tell : (p : Primary) (stations : List StationState) (began : Option ℕ)
-    → (station_at stations p.turn).link ≡ (station_at p.stations p.turn).link → Tells p began
-    → Tells (record p { stations = stations }) began
-offers_tell p stations began same tells = (
+offers_match : (p : Primary) (stations : List StationState) (began : Option ℕ)
+    → (station_at stations p.turn).link ≡ (station_at p.stations p.turn).link → Matches p began
+    → Matches (record p { stations = stations }) began
+offers_match p stations began same matches = (
   (λ again. (
-    (tells.0 again).0,
+    (matches.0 again).0,
     subst (λ (l : Link). is_held l ≡ true → has_repeats p.settings l ≡ true) (sym same)
-        (tells.0 again).1,
+        (matches.0 again).1,
   )),
-  go began tells.1,
+  go began matches.1,
 )
   where
     go : (b : Option ℕ) → Began p b → Began (record p { stations = stations }) b
@@ -312,25 +313,25 @@ offers_tell p stations began same tells = (
     go (Some station) (turn, state) =
         (turn, subst (λ (l : Link). Stays p.outstanding p.phase l) (sym same) state)
 
-offer_tells : (p : Primary) (i : ℕ) (asdu : List ℕ) (began : Option ℕ) → Tells p began
-    → Tells (offered_to p i asdu) began
-offer_tells p i asdu began tells = go (may_offer p i)
+offer_matches : (p : Primary) (i : ℕ) (asdu : List ℕ) (began : Option ℕ) → Matches p began
+    → Matches (offered_to p i asdu) began
+offer_matches p i asdu began matches = go (may_offer p i)
   where
-    go : (b : Bool) → Tells (if b then record p {
+    go : (b : Bool) → Matches (if b then record p {
       stations = slice_set p.stations i (with_offer (station_at p.stations i) (Some asdu));
     } else p) began
     go true =
-        offers_tell p (slice_set p.stations i (with_offer (station_at p.stations i) (Some asdu)))
+        offers_match p (slice_set p.stations i (with_offer (station_at p.stations i) (Some asdu)))
         began
         (set_view (λ (s : StationState). s.link) p.stations i
         (with_offer (station_at p.stations i) (Some asdu)) refl p.turn)
-        tells
-    go false = tells
+        matches
+    go false = matches
 
 -- Where the link of the station is given up, its request is over.
-give_up_tells : (p : Primary) (k : ℕ) (began : Option ℕ) → Tells p began
-    → Tells (given_up k p) began
-give_up_tells p k began tells = (repeats (p.turn == k) refl, go began tells.1)
+give_up_matches : (p : Primary) (k : ℕ) (began : Option ℕ) → Matches p began
+    → Matches (given_up k p) began
+give_up_matches p k began matches = (repeats (p.turn == k) refl, go began matches.1)
   where
     it : StationState
     it = station_given_up (station_at p.stations k)
@@ -353,9 +354,9 @@ give_up_tells p k began tells = (repeats (p.turn == k) refl, go began tells.1)
         × (is_held link ≡ true → has_repeats p.settings link ≡ true)
     repeats true e again = absurd (not_both false again refl)
     repeats false e again = (
-      (tells.0 again).0,
+      (matches.0 again).0,
       subst (λ (l : Link). is_held l ≡ true → has_repeats p.settings l ≡ true) (sym (same e))
-          (tells.0 again).1,
+          (matches.0 again).1,
     )
 
     stands : Stays p.outstanding p.phase (station_at p.stations p.turn).link → (b : Bool)
@@ -369,20 +370,20 @@ give_up_tells p k began tells = (repeats (p.turn == k) refl, go began tells.1)
     go None state = tt
     go (Some station) (turn, state) = (turn, stands state (p.turn == k) refl)
 
-call_tells : (p : Primary) (began : Option ℕ) (call : Call) → Tells p began
-    → Tells (called p call) (began_after p call began)
-call_tells p began (runs.Next now may_poll) tells = asked_tells p began now may_poll tells
-call_tells p began (Octets octets) tells =
-    octets_tell (front_of p.settings.size) p octets began tells
-call_tells p began (Due now) tells = due_tells p now began tells
-call_tells p began (Offer station asdu) tells = offer_tells p station asdu began tells
-call_tells p began Withdraw tells =
-    offers_tell p (map without_offer p.stations) began (without_links p.stations p.turn) tells
-call_tells p began (GivesUp station) tells = give_up_tells p station began tells
+call_matches : (p : Primary) (began : Option ℕ) (call : Call) → Matches p began
+    → Matches (called p call) (began_after p call began)
+call_matches p began (runs.Next now may_poll) matches = asked_matches p began now may_poll matches
+call_matches p began (Octets octets) matches =
+    octets_match (front_of p.settings.size) p octets began matches
+call_matches p began (Due now) matches = due_matches p now began matches
+call_matches p began (Offer station asdu) matches = offer_matches p station asdu began matches
+call_matches p began Withdraw matches =
+    offers_match p (map without_offer p.stations) began (without_links p.stations p.turn) matches
+call_matches p began (GivesUp station) matches = give_up_matches p station began matches
 
 -- ---- what goes out behind it
 
-goes_behind : (p : Primary) (began : Option ℕ) (call : Call) → Tells p began
+goes_behind : (p : Primary) (began : Option ℕ) (call : Call) → Matches p began
     → TurnIsNext p began call
 goes_behind p (Some station) (runs.Next now true) (has, (turn, waits o awaited service phase)) =
     λ out is. absurd (none_out p.outstanding o out awaited)
@@ -392,20 +393,20 @@ goes_behind p (Some station) (runs.Next now true) (has, (turn, ended free phase)
     subst (λ (i : ℕ). is_answered (station_at p.stations i).link ≡ true) (sym turn) is in
     subst (λ (i : ℕ). TurnGoesOn p i (station_at p.stations i)) turn
     (goes_on p out up (subst (λ (f : Phase). IsBeforePolls f) (sym (phase up)) tt))
-goes_behind p (Some station) (runs.Next now false) tells = tt
-goes_behind p (Some station) (Octets octets) tells = tt
-goes_behind p (Some station) (Due now) tells = tt
-goes_behind p (Some station) (Offer other asdu) tells = tt
-goes_behind p (Some station) Withdraw tells = tt
-goes_behind p (Some station) (GivesUp other) tells = tt
-goes_behind p None call tells = tt
+goes_behind p (Some station) (runs.Next now false) matches = tt
+goes_behind p (Some station) (Octets octets) matches = tt
+goes_behind p (Some station) (Due now) matches = tt
+goes_behind p (Some station) (Offer other asdu) matches = tt
+goes_behind p (Some station) Withdraw matches = tt
+goes_behind p (Some station) (GivesUp other) matches = tt
+goes_behind p None call matches = tt
 
-go_behind : (p : Primary) (began : Option ℕ) (calls : List Call) → Tells p began
+go_behind : (p : Primary) (began : Option ℕ) (calls : List Call) → Matches p began
     → TurnsGoOn p began calls
-go_behind p began [] tells = tt
-go_behind p began (call ∷ calls) tells = (
-  goes_behind p began call tells,
-  go_behind (called p call) (began_after p call began) calls (call_tells p began call tells),
+go_behind p began [] matches = tt
+go_behind p began (call ∷ calls) matches = (
+  goes_behind p began call matches,
+  go_behind (called p call) (began_after p call began) calls (call_matches p began call matches),
 )
 
 pub all_go_on : (settings : LinkSettings) (addresses : List ℕ) (calls : List Call)

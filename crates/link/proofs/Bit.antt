@@ -9,7 +9,7 @@ use Rattle.link.specs.Exchanges.{Exchange, answer_to}
 use Rattle.link.specs.Procedure.{LinkSettings, Link, Down, Available, Next, Held, missed_so_far}
 use Rattle.link.specs.Procedure.{after_answer, after_silence, after_outcome, MaySend, is_up}
 use Rattle.link.specs.Outstation.{Effect, effects_of, Outstation, reset_link, Turn, Serves}
-use Rattle.link.specs.Outstation.{OutstationStep, unheard, unable, heard}
+use Rattle.link.specs.Outstation.{OutstationStep, unreceived, unable, arrived}
 use Rattle.link.specs.Delivery.{learnt_by, IsTrueFront, pending_by, MayOwe, is_reset}
 use Rattle.link.proofs.Refusals.{refused_service, refused_reset}
 
@@ -259,11 +259,11 @@ pub service_step : (settings : LinkSettings) (station : ℕ) (fcb : Bool) (servi
     owed turn.done new
 unfolding sending
 service_step settings station fcb service closed link pending old new turn owed None a
-    (unheard quiet same) front =
+    (unreceived quiet same) front =
     when_silent settings station fcb service closed link pending old new turn owed
     (stays station fcb service old new owed turn.done same (ap (λ (t : Turn). t.done) quiet) a)
 service_step settings station fcb service closed link pending old new turn owed (Some f) a
-    (unheard quiet same) front =
+    (unreceived quiet same) front =
     let none : turn.answer ≡ None = ap (λ (t : Turn). t.answer) quiet in
     cc
 service_step settings station fcb service closed link pending old new turn owed None a
@@ -278,7 +278,7 @@ service_step settings station fcb service closed link pending old new turn owed 
     (refused_service station fcb service frame refuses)
     (owes_service station fcb service old owed a) (ap (λ (t : Turn). t.done) quiet)
 service_step settings station fcb service closed link pending old new turn owed front (inl a)
-    (heard h) true_front =
+    (arrived h) true_front =
     go front true_front (subst (λ (b : Option Bool). Serves station b old fcb service turn new)
     a.bit h)
   where
@@ -318,7 +318,7 @@ service_step settings station fcb service closed link pending old new turn owed 
         (ap (λ (o : Outstation). o.bit) s.1.5)
         (ap (λ (o : List Effect). o ++ turn.done) a.owes ∙ ap (λ (t : Turn). t.done) s.1.4)
 service_step settings station fcb service closed link pending old new turn owed front (inr a)
-    (heard h) true_front =
+    (arrived h) true_front =
     go front true_front (subst (λ (b : Option Bool). Serves station b old fcb service turn new)
     a.bit h)
   where
@@ -357,16 +357,16 @@ service_step settings station fcb service closed link pending old new turn owed 
 pub idle_status : (station : ℕ) (old new : Outstation) (turn : Turn)
     → OutstationStep station old Status turn new
     → turn.done ≡ []
-idle_status station old new turn (unheard quiet same) = ap (λ (t : Turn). t.done) quiet
+idle_status station old new turn (unreceived quiet same) = ap (λ (t : Turn). t.done) quiet
 idle_status station old new turn (unable frame refuses quiet same) = ap (λ (t : Turn). t.done) quiet
-idle_status station old new turn (heard h) = ap (λ (t : Turn). t.done) h.2
+idle_status station old new turn (arrived h) = ap (λ (t : Turn). t.done) h.2
 
 pub idle_reset : (station : ℕ) (old new : Outstation) (turn : Turn)
     → OutstationStep station old Reset turn new
     → turn.done ≡ []
-idle_reset station old new turn (unheard quiet same) = ap (λ (t : Turn). t.done) quiet
+idle_reset station old new turn (unreceived quiet same) = ap (λ (t : Turn). t.done) quiet
 idle_reset station old new turn (unable frame refuses quiet same) = ap (λ (t : Turn). t.done) quiet
-idle_reset station old new turn (heard h) = ap (λ (t : Turn). t.done) h.2
+idle_reset station old new turn (arrived h) = ap (λ (t : Turn). t.done) h.2
 
 -- An outstation whose reset was confirmed is reset.
 pub reset_taken : (station : ℕ) (front : Option Frame) (old new : Outstation) (turn : Turn)
@@ -374,7 +374,7 @@ pub reset_taken : (station : ℕ) (front : Option Frame) (old new : Outstation) 
     IsTrueFront front turn → option_and_then (answer_of station Reset) front ≡ Some Confirmed
     → new ≡ reset_link
 reset_taken station None old new turn step true_front confirmed = cc
-reset_taken station (Some f) old new turn (unheard quiet same) true_front confirmed =
+reset_taken station (Some f) old new turn (unreceived quiet same) true_front confirmed =
     let none : turn.answer ≡ None = ap (λ (t : Turn). t.answer) quiet in cc
 reset_taken station (Some f) old new turn (unable frame refuses quiet same) true_front confirmed =
     let some : turn.answer ≡ Some frame = ap (λ (t : Turn). t.answer) quiet in
@@ -383,7 +383,7 @@ reset_taken station (Some f) old new turn (unable frame refuses quiet same) true
     (sym eq)
     ∙ refused_reset station frame refuses in
     cc
-reset_taken station (Some f) old new turn (heard h) true_front confirmed = h.3
+reset_taken station (Some f) old new turn (arrived h) true_front confirmed = h.3
 
 pub no_more : (owed done : List Effect) → done ≡ [] → owed ++ done ≡ owed
 no_more owed done idle = ap (λ (d : List Effect). owed ++ d) idle ∙ append-nil owed

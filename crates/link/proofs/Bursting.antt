@@ -152,10 +152,10 @@ pub data IsPolling (p : Primary) (station many : ℕ) : Type 0 where
   lost : p.outstanding ≡ None → is_answered (station_at p.stations station).link ≡ false
       → IsPolling p station many
 
-abbrev pub Tells : Primary → Row → Type 0
-Tells p (Polls station many) = (p.turn ≡ station) × IsPolling p station many
-Tells p (Repeat station) = p.turn ≡ station
-Tells p Other = IsNotBegun p.phase
+abbrev pub Matches : Primary → Row → Type 0
+Matches p (Polls station many) = (p.turn ≡ station) × IsPolling p station many
+Matches p (Repeat station) = p.turn ≡ station
+Matches p Other = IsNotBegun p.phase
 
 -- ---- `next`
 
@@ -185,40 +185,40 @@ one_only Polling many one none = one
 one_only Over many one none = one
 
 -- one more poll of class 1, by the row before it
-one_tells : (p p' : Primary) (station many : ℕ) (phase : Phase) (row : Row) → Tells p row
+one_matches : (p p' : Primary) (station many : ℕ) (phase : Phase) (row : Row) → Matches p row
     → is_answered (station_at p.stations station).link ≡ true → OneMore phase many
     → ((station ≡ p.turn) × (phase ≡ p.phase)) ⊎ (phase ≡ Starting)
     → p'.turn ≡ station → p'.phase ≡ Class1Polling many → PollIsOut p'.outstanding
-    → Tells p' (one_more station row)
-one_tells p p' station many phase Other tells up one (inl at) turn follows out = (
+    → Matches p' (one_more station row)
+one_matches p p' station many phase Other matches up one (inl at) turn follows out = (
   turn,
-  going many (let is = one_only phase many one (subst IsNotBegun (sym at.1) tells) in
+  going many (let is = one_only phase many one (subst IsNotBegun (sym at.1) matches) in
       omega (arith, is)) follows out,
 )
-one_tells p p' station many phase Other tells up one (inr e) turn follows out = (
+one_matches p p' station many phase Other matches up one (inr e) turn follows out = (
   turn,
   going many (let is = one_only phase many one (subst IsNotBegun (sym e) tt) in
       omega (arith, is)) follows out,
 )
-one_tells p p' station many phase (Repeat k) tells up one at turn follows out =
+one_matches p p' station many phase (Repeat k) matches up one at turn follows out =
     go (k == station) refl at
   where
     go : (b : Bool) → (k == station) ≡ b → ((station ≡ p.turn) × (phase ≡ p.phase))
         ⊎ (phase ≡ Starting)
-        → Tells p' (if b then Repeat station else Polls station 1)
+        → Matches p' (if b then Repeat station else Polls station 1)
     go true e at = turn
-    go false e (inl at) = absurd (eqb-false k station e (sym tells ∙ sym at.0))
+    go false e (inl at) = absurd (eqb-false k station e (sym matches ∙ sym at.0))
     go false e (inr is) = (
       turn,
       going many (let n = one_only phase many one (subst IsNotBegun (sym is) tt) in
           omega (arith, n)) follows out,
     )
-one_tells p p' station many phase (Polls k n) tells up one at turn follows out =
-    go (k == station) refl at tells.1
+one_matches p p' station many phase (Polls k n) matches up one at turn follows out =
+    go (k == station) refl at matches.1
   where
     go : (b : Bool) → (k == station) ≡ b → ((station ≡ p.turn) × (phase ≡ p.phase))
         ⊎ (phase ≡ Starting) → IsPolling p k n
-        → Tells p' (if b then Polls station (suc n) else Polls station 1)
+        → Matches p' (if b then Polls station (suc n) else Polls station 1)
     go true e (inl at) (going so_far le is poll) =
         (turn, going many (most phase many so_far n one (at.1 ∙ is) le) follows out)
     go true e (inr is) polls = (
@@ -230,7 +230,7 @@ one_tells p p' station many phase (Polls k n) tells up one at turn follows out =
         absurd (not_both (is_answered (station_at p.stations station).link) up
         (ap (λ (i : ℕ). is_answered (station_at p.stations i).link) (sym (eqb-true k station e))
         ∙ down))
-    go false e (inl at) polls = absurd (eqb-false k station e (sym tells.0 ∙ sym at.0))
+    go false e (inl at) polls = absurd (eqb-false k station e (sym matches.0 ∙ sym at.0))
     go false e (inr is) polls = (
       turn,
       going many (let m = one_only phase many one (subst IsNotBegun (sym is) tt) in
@@ -242,61 +242,65 @@ poll_out : (request : Asked) (fcb : Bool) (service : Service) → is_poll servic
     → is_poll_request request ≡ true
 poll_out request fcb service is e = ap is_poll_request e ∙ is
 
-goes_tells : (p p' : Primary) (c : Chosen) (row : Row) (phase : Phase) → Tells p row
+goes_matches : (p p' : Primary) (c : Chosen) (row : Row) (phase : Phase) → Matches p row
     → ((c.station ≡ p.turn) × (phase ≡ p.phase)) ⊎ (phase ≡ Starting)
     → p'.turn ≡ c.station → p'.phase ≡ c.wanted.following
     → ((is_poll_request c.wanted.request ≡ true) → PollIsOut p'.outstanding)
     → Goes (station_at p.stations c.station).link phase c.wanted.request c.wanted.following
-    → Tells p' (row_by_request (is_held (station_at p.stations c.station).link) c.station
+    → Matches p' (row_by_request (is_held (station_at p.stations c.station).link) c.station
     c.wanted.request row)
-goes_tells p p' c row phase tells at turn follows out (repeated held) =
-    subst (λ (b : Bool). Tells p' (row_by_request b c.station c.wanted.request row)) (sym held) turn
-goes_tells p p' c row phase tells at turn follows out (first_class fcb many new up is next one) =
-    subst (λ (b : Bool). Tells p' (row_by_request b c.station c.wanted.request row)) (sym new)
-    (subst (λ (r : Asked). Tells p' (row_by_request false c.station r row)) (sym is)
-    (one_tells p p' c.station many phase row tells up one at turn (follows ∙ next)
+goes_matches p p' c row phase matches at turn follows out (repeated held) =
+    subst (λ (b : Bool). Matches p' (row_by_request b c.station c.wanted.request row)) (sym held)
+    turn
+goes_matches p p' c row phase matches at turn follows out
+    (first_class fcb many new up is next one) =
+    subst (λ (b : Bool). Matches p' (row_by_request b c.station c.wanted.request row)) (sym new)
+    (subst (λ (r : Asked). Matches p' (row_by_request false c.station r row)) (sym is)
+    (one_matches p p' c.station many phase row matches up one at turn (follows ∙ next)
     (out (poll_out c.wanted.request fcb Class1 refl is))))
-goes_tells p p' c row phase tells at turn follows out (second_class fcb new is next) =
-    subst (λ (b : Bool). Tells p' (row_by_request b c.station c.wanted.request row)) (sym new)
-    (subst (λ (r : Asked). Tells p' (row_by_request false c.station r row)) (sym is) (
+goes_matches p p' c row phase matches at turn follows out (second_class fcb new is next) =
+    subst (λ (b : Bool). Matches p' (row_by_request b c.station c.wanted.request row)) (sym new)
+    (subst (λ (r : Asked). Matches p' (row_by_request false c.station r row)) (sym is) (
       turn,
       going 0 (omega arith) (follows
           ∙ next) (out (poll_out c.wanted.request fcb Class2 refl is)),
     ))
-goes_tells p p' c row phase tells at turn follows out (starts new none is) =
-    subst (λ (b : Bool). Tells p' (row_by_request b c.station c.wanted.request row)) (sym new)
-    (subst (λ (r : Row). Tells p' r) (sym (is c.station row)) (subst IsNotBegun (sym follows) none))
+goes_matches p p' c row phase matches at turn follows out (starts new none is) =
+    subst (λ (b : Bool). Matches p' (row_by_request b c.station c.wanted.request row)) (sym new)
+    (subst (λ (r : Row). Matches p' r) (sym (is c.station row))
+    (subst IsNotBegun (sym follows) none))
 
-chosen_tells : (p : Primary) (c : Chosen) (row : Row) (now : ℕ) (may_poll : Bool) → Tells p row
+chosen_matches : (p : Primary) (c : Chosen) (row : Row) (now : ℕ) (may_poll : Bool) → Matches p row
     → IsChosen p may_poll c
-    → Tells (after_choice p now (Some c))
+    → Matches (after_choice p now (Some c))
     (row_by_request (is_held (station_at p.stations c.station).link) c.station c.wanted.request row)
-chosen_tells p c row now may_poll tells (here at is) =
-    goes_tells p (after_choice p now (Some c)) c row p.phase tells (inl (at, refl)) refl refl
+chosen_matches p c row now may_poll matches (here at is) =
+    goes_matches p (after_choice p now (Some c)) c row p.phase matches (inl (at, refl)) refl refl
     (λ h. h)
     (subst (λ (v : Option Wanted). GoesIt (station_at p.stations c.station).link p.phase v) is
     (wanted_goes p.settings.burst may_poll p.again (station_at p.stations c.station)
     (station_at p.stations c.station).link p.phase))
-chosen_tells p c row now may_poll tells (there is) =
-    goes_tells p (after_choice p now (Some c)) c row Starting tells (inr refl) refl refl (λ h. h)
+chosen_matches p c row now may_poll matches (there is) =
+    goes_matches p (after_choice p now (Some c)) c row Starting matches (inr refl) refl refl
+    (λ h. h)
     (subst (λ (v : Option Wanted). GoesIt (station_at p.stations c.station).link Starting v) is
     (wanted_goes p.settings.burst may_poll false (station_at p.stations c.station)
     (station_at p.stations c.station).link Starting))
 
-asked_tells : (p : Primary) (row : Row) (now : ℕ) (may_poll : Bool) → Tells p row
-    → Tells (asked p now may_poll) (row_out p p.outstanding may_poll row)
-asked_tells p row now may_poll tells = go p.outstanding refl
+asked_matches : (p : Primary) (row : Row) (now : ℕ) (may_poll : Bool) → Matches p row
+    → Matches (asked p now may_poll) (row_out p p.outstanding may_poll row)
+asked_matches p row now may_poll matches = go p.outstanding refl
   where
     by : (c : Option Chosen) → choice p may_poll ≡ c
-        → Tells (after_choice p now c) (row_by p (sending_by c) row)
+        → Matches (after_choice p now c) (row_by p (sending_by c) row)
     by None e = tt
-    by (Some c) e = chosen_tells p c row now may_poll tells (is_chosen p may_poll c e)
+    by (Some c) e = chosen_matches p c row now may_poll matches (is_chosen p may_poll c e)
 
     go : (o : Option Outstanding) → p.outstanding ≡ o
-        → Tells (asked_from p o now may_poll) (row_out p o may_poll row)
-    go (Some o) e = tells
+        → Matches (asked_from p o now may_poll) (row_out p o may_poll row)
+    go (Some o) e = matches
     go None e =
-        subst (λ (s : Option Sending). Tells (after_choice p now (choice p may_poll))
+        subst (λ (s : Option Sending). Matches (after_choice p now (choice p may_poll))
         (row_by p s row))
         (sym (ap (λ (o : Option Outstanding). sending_from p o may_poll) e))
         (by (choice p may_poll) refl)
@@ -332,14 +336,14 @@ silent_down settings (Counted fcb service) link =
     go true false = refl
     go false hold = refl
 
-answer_tells : (p : Primary) (row : Row) (o : Outstanding) (frame : Frame) (answer : Answer)
+answer_matches : (p : Primary) (row : Row) (o : Outstanding) (frame : Frame) (answer : Answer)
     → p.outstanding ≡ Some o
-    → Tells p row → Tells (answered p o.request frame answer) row
-answer_tells p Other o frame answer e tells = no_poll_left answer p.phase tells
-answer_tells p (Repeat k) o frame answer e tells = tells
-answer_tells p (Polls k n) o frame answer e (turn, lost free down) =
+    → Matches p row → Matches (answered p o.request frame answer) row
+answer_matches p Other o frame answer e matches = no_poll_left answer p.phase matches
+answer_matches p (Repeat k) o frame answer e matches = matches
+answer_matches p (Polls k n) o frame answer e (turn, lost free down) =
     let no : None ≡ Some o = sym free ∙ e in let bad : ⊥ = cc in absurd bad
-answer_tells p (Polls k n) o frame answer e (turn, going so_far le is poll) = (turn, go answer)
+answer_matches p (Polls k n) o frame answer e (turn, going so_far le is poll) = (turn, go answer)
   where
     go : (answer : Answer) → IsPolling (answered p o.request frame answer) k n
     go Unable = lost refl (subst (λ (i : ℕ). is_answered (station_at (slice_set p.stations p.turn
@@ -356,56 +360,59 @@ answer_tells p (Polls k n) o frame answer e (turn, going so_far le is poll) = (t
     go NoData = going so_far le is tt
 
 -- The request that is out is the same.
-waits_tells : (p p' : Primary) (row : Row) (o : Outstanding) → p.outstanding ≡ Some o
+waits_matches : (p p' : Primary) (row : Row) (o : Outstanding) → p.outstanding ≡ Some o
     → p'.turn ≡ p.turn
     → p'.phase ≡ p.phase → (is_poll_request o.request ≡ true → PollIsOut p'.outstanding)
-    → Tells p row → Tells p' row
-waits_tells p p' Other o e turn phase out tells = subst IsNotBegun (sym phase) tells
-waits_tells p p' (Repeat k) o e turn phase out tells = turn ∙ tells
-waits_tells p p' (Polls k n) o e turn phase out (at, lost free down) =
+    → Matches p row → Matches p' row
+waits_matches p p' Other o e turn phase out matches = subst IsNotBegun (sym phase) matches
+waits_matches p p' (Repeat k) o e turn phase out matches = turn ∙ matches
+waits_matches p p' (Polls k n) o e turn phase out (at, lost free down) =
     let no : None ≡ Some o = sym free ∙ e in let bad : ⊥ = cc in absurd bad
-waits_tells p p' (Polls k n) o e turn phase out (at, going so_far le is poll) =
+waits_matches p p' (Polls k n) o e turn phase out (at, going so_far le is poll) =
     (turn ∙ at, going so_far le (phase ∙ is) (out (subst PollIsOut e poll)))
 
-octets_tell : (front : List ℕ → Front) (p : Primary) (came : List ℕ) (row : Row) → Tells p row
-    → Tells (received front p came) row
-octets_tell front p came row tells = go p.outstanding refl
+octets_match : (front : List ℕ → Front) (p : Primary) (came : List ℕ) (row : Row) → Matches p row
+    → Matches (received front p came) row
+octets_match front p came row matches = go p.outstanding refl
   where
     say : (o : Outstanding) → p.outstanding ≡ Some o → (frame : Frame) (m : Option Answer)
-        → Tells (said_by p (with_octets came o) frame m) row
-    say o e frame None = waits_tells p (said_by p (with_octets came o) frame None) row o e refl refl
-        (λ h. h) tells
-    say o e frame (Some answer) = answer_tells p row o frame answer e tells
+        → Matches (said_by p (with_octets came o) frame m) row
+    say o e frame None = waits_matches p (said_by p (with_octets came o) frame None) row o e refl
+        refl
+        (λ h. h) matches
+    say o e frame (Some answer) = answer_matches p row o frame answer e matches
 
     take_it : (o : Outstanding) → p.outstanding ≡ Some o
-        → (heard : Option (List ℕ)) (f : Option Frame)
-        → Tells (took p (with_octets came o) heard f) row
-    take_it o e heard None = waits_tells p (took p (with_octets came o) heard None) row o e refl
-        refl (λ h. h) tells
-    take_it o e heard (Some frame) = say o e frame (answer_at p o frame)
+        → (arrived : Option (List ℕ)) (f : Option Frame)
+        → Matches (took p (with_octets came o) arrived f) row
+    take_it o e arrived None = waits_matches p (took p (with_octets came o) arrived None) row o e
+        refl
+        refl (λ h. h) matches
+    take_it o e arrived (Some frame) = say o e frame (answer_at p o frame)
 
     listen : (o : Outstanding) → p.outstanding ≡ Some o → (h : Option (List ℕ))
-        → Tells (received_after front p (with_octets came o) h came) row
-    listen o e None = waits_tells p (received_after front p (with_octets came o) None came) row o e
-        refl refl (λ h. h) tells
+        → Matches (received_after front p (with_octets came o) h came) row
+    listen o e None = waits_matches p (received_after front p (with_octets came o) None came) row o
+        e
+        refl refl (λ h. h) matches
     listen o e (Some before) = take_it o e (open_octets (before ++ came) (front (before ++ came)))
         (whole_of (front (before ++ came)))
 
-    go : (o : Option Outstanding) → p.outstanding ≡ o → Tells (received_from front p o came) row
-    go None e = tells
-    go (Some o) e = listen o e o.heard
+    go : (o : Option Outstanding) → p.outstanding ≡ o → Matches (received_from front p o came) row
+    go None e = matches
+    go (Some o) e = listen o e o.arrived
 
-missed_tells : (p : Primary) (row : Row) (o : Outstanding) → Tells p row
-    → Tells (unanswered p o) row
-missed_tells p Other o tells =
+missed_matches : (p : Primary) (row : Row) (o : Outstanding) → Matches p row
+    → Matches (unanswered p o) row
+missed_matches p Other o matches =
     go (has_repeats p.settings (station_unanswered p.settings (station_at p.stations p.turn)
     o.request).link)
   where
     go : (b : Bool) → IsNotBegun (if b then p.phase else Over)
-    go true = tells
+    go true = matches
     go false = tt
-missed_tells p (Repeat k) o tells = tells
-missed_tells p (Polls k n) o (turn, polls) = (
+missed_matches p (Repeat k) o matches = matches
+missed_matches p (Polls k n) o (turn, polls) = (
   turn,
   lost refl (subst (λ (i : ℕ). is_answered (station_at (slice_set p.stations p.turn
       (station_unanswered p.settings (station_at p.stations p.turn) o.request)) i).link ≡ false)
@@ -415,52 +422,52 @@ missed_tells p (Polls k n) o (turn, polls) = (
       (silent_down p.settings o.request (station_at p.stations p.turn).link) refl)),
 )
 
-due_tells : (p : Primary) (at : ℕ) (row : Row) → Tells p row → Tells (timed_out p at) row
-due_tells p at row tells = go p.outstanding
+due_matches : (p : Primary) (at : ℕ) (row : Row) → Matches p row → Matches (timed_out p at) row
+due_matches p at row matches = go p.outstanding
   where
-    late : (o : Outstanding) (b : Bool) → Tells (if b then unanswered p o else p) row
-    late o true = missed_tells p row o tells
-    late o false = tells
+    late : (o : Outstanding) (b : Bool) → Matches (if b then unanswered p o else p) row
+    late o true = missed_matches p row o matches
+    late o false = matches
 
-    go : (o : Option Outstanding) → Tells (due_from p o at) row
-    go None = tells
+    go : (o : Option Outstanding) → Matches (due_from p o at) row
+    go None = matches
     go (Some o) = late o (is_late p o at)
 
 -- Only what is offered is another.
-offers_tell : (p : Primary) (stations : List StationState) (row : Row)
-    → ((i : ℕ) → (station_at stations i).link ≡ (station_at p.stations i).link) → Tells p row
-    → Tells (record p { stations = stations }) row
-offers_tell p stations Other same tells = tells
-offers_tell p stations (Repeat k) same tells = tells
-offers_tell p stations (Polls k n) same (turn, going so_far le is poll) =
+offers_match : (p : Primary) (stations : List StationState) (row : Row)
+    → ((i : ℕ) → (station_at stations i).link ≡ (station_at p.stations i).link) → Matches p row
+    → Matches (record p { stations = stations }) row
+offers_match p stations Other same matches = matches
+offers_match p stations (Repeat k) same matches = matches
+offers_match p stations (Polls k n) same (turn, going so_far le is poll) =
     (turn, going so_far le is poll)
-offers_tell p stations (Polls k n) same (turn, lost free down) =
+offers_match p stations (Polls k n) same (turn, lost free down) =
     (turn, lost free (ap is_answered (same k) ∙ down))
 
-offer_tells : (p : Primary) (i : ℕ) (asdu : List ℕ) (row : Row) → Tells p row
-    → Tells (offered_to p i asdu) row
-offer_tells p i asdu row tells = go (may_offer p i)
+offer_matches : (p : Primary) (i : ℕ) (asdu : List ℕ) (row : Row) → Matches p row
+    → Matches (offered_to p i asdu) row
+offer_matches p i asdu row matches = go (may_offer p i)
   where
-    go : (b : Bool) → Tells (if b then record p {
+    go : (b : Bool) → Matches (if b then record p {
       stations = slice_set p.stations i (with_offer (station_at p.stations i) (Some asdu));
     } else p) row
     go true =
-        offers_tell p (slice_set p.stations i (with_offer (station_at p.stations i) (Some asdu)))
+        offers_match p (slice_set p.stations i (with_offer (station_at p.stations i) (Some asdu)))
         row
         (λ k. set_view (λ (s : StationState). s.link) p.stations i
         (with_offer (station_at p.stations i) (Some asdu)) refl k)
-        tells
-    go false = tells
+        matches
+    go false = matches
 
 -- Where the link of the station is given up, its poll is lost.
-give_up_tells : (p : Primary) (k : ℕ) (row : Row) → Tells p row → Tells (given_up k p) row
-give_up_tells p k Other tells = go (p.turn == k)
+give_up_matches : (p : Primary) (k : ℕ) (row : Row) → Matches p row → Matches (given_up k p) row
+give_up_matches p k Other matches = go (p.turn == k)
   where
     go : (b : Bool) → IsNotBegun (if b then Over else p.phase)
     go true = tt
-    go false = tells
-give_up_tells p k (Repeat j) tells = tells
-give_up_tells p k (Polls j n) (turn, polls) = (turn, go (p.turn == k) refl polls)
+    go false = matches
+give_up_matches p k (Repeat j) matches = matches
+give_up_matches p k (Polls j n) (turn, polls) = (turn, go (p.turn == k) refl polls)
   where
     s : StationState
     s = station_given_up (station_at p.stations k)
@@ -482,15 +489,16 @@ give_up_tells p k (Polls j n) (turn, polls) = (turn, go (p.turn == k) refl polls
         lost (ap (λ (b : Bool). if b then None else p.outstanding) e ∙ free)
         (ap (λ (t : StationState). is_answered t.link) (stays e) ∙ down)
 
-call_tells : (p : Primary) (row : Row) (call : Call) → Tells p row
-    → Tells (called p call) (row_after p call row)
-call_tells p row (runs.Next now may_poll) tells = asked_tells p row now may_poll tells
-call_tells p row (Octets octets) tells = octets_tell (front_of p.settings.size) p octets row tells
-call_tells p row (Due now) tells = due_tells p now row tells
-call_tells p row (Offer station asdu) tells = offer_tells p station asdu row tells
-call_tells p row Withdraw tells = offers_tell p (map without_offer p.stations) row
-    (without_links p.stations) tells
-call_tells p row (GivesUp station) tells = give_up_tells p station row tells
+call_matches : (p : Primary) (row : Row) (call : Call) → Matches p row
+    → Matches (called p call) (row_after p call row)
+call_matches p row (runs.Next now may_poll) matches = asked_matches p row now may_poll matches
+call_matches p row (Octets octets) matches = octets_match (front_of p.settings.size) p octets row
+    matches
+call_matches p row (Due now) matches = due_matches p now row matches
+call_matches p row (Offer station asdu) matches = offer_matches p station asdu row matches
+call_matches p row Withdraw matches = offers_match p (map without_offer p.stations) row
+    (without_links p.stations) matches
+call_matches p row (GivesUp station) matches = give_up_matches p station row matches
 
 -- ---- one more
 
@@ -509,7 +517,7 @@ one_wanted burst many again s Down up acd less = let bad : ⊥ = cc in absurd ba
 one_wanted burst many again s Available up acd less = let bad : ⊥ = cc in absurd bad
 one_wanted burst many again s (Held fcb service missed) up acd less = let bad : ⊥ = cc in absurd bad
 
-goes_on : (p : Primary) (row : Row) (call : Call) → Tells p row → PollsGoOn p row call
+goes_on : (p : Primary) (row : Row) (call : Call) → Matches p row → PollsGoOn p row call
 goes_on p (Polls k n) (runs.Next now true) (turn, lost free down) =
     λ out up acd less. absurd (not_both (is_answered (station_at p.stations k).link) up down)
 goes_on p (Polls k n) (runs.Next now true) (turn, going so_far le is poll) = λ out up acd less.
@@ -527,21 +535,21 @@ goes_on p (Polls k n) (runs.Next now true) (turn, going so_far le is poll) = λ 
           (first_after p.settings.burst true p.stations (length p.stations) p.turn))) there_is
           ∙ ap (λ (i : ℕ). Some (record { station = i; request = Counted one.0 Class1 })) turn,
     )
-goes_on p (Polls k n) (runs.Next now false) tells = tt
-goes_on p (Polls k n) (Octets octets) tells = tt
-goes_on p (Polls k n) (Due now) tells = tt
-goes_on p (Polls k n) (Offer station asdu) tells = tt
-goes_on p (Polls k n) Withdraw tells = tt
-goes_on p (Polls k n) (GivesUp station) tells = tt
-goes_on p (Repeat k) call tells = tt
-goes_on p Other call tells = tt
+goes_on p (Polls k n) (runs.Next now false) matches = tt
+goes_on p (Polls k n) (Octets octets) matches = tt
+goes_on p (Polls k n) (Due now) matches = tt
+goes_on p (Polls k n) (Offer station asdu) matches = tt
+goes_on p (Polls k n) Withdraw matches = tt
+goes_on p (Polls k n) (GivesUp station) matches = tt
+goes_on p (Repeat k) call matches = tt
+goes_on p Other call matches = tt
 
-pub go_on : (p : Primary) (row : Row) (calls : List Call) → Tells p row → BurstsGoOn p row calls
-go_on p row [] tells = tt
-go_on p row (call ∷ calls) tells = (
-  goes_on p row call tells,
+pub go_on : (p : Primary) (row : Row) (calls : List Call) → Matches p row → BurstsGoOn p row calls
+go_on p row [] matches = tt
+go_on p row (call ∷ calls) matches = (
+  goes_on p row call matches,
   go_on (called p call) (row_after p call row) calls
-      (call_tells p row call tells),
+      (call_matches p row call matches),
 )
 
 pub all_go_on : (settings : LinkSettings) (addresses : List ℕ) (calls : List Call)

@@ -3,7 +3,7 @@ use Rattle.std.proofs.Common.{◌≡◌, ◌<◌, ℕ, Bool, List, [], ◌∷◌
 use Rattle.std.proofs.Common.{subst, ◌∙◌, Option}
 use Rattle.ft12.specs.declared.frame.Front.{Front}
 use Rattle.ft12.specs.Fronts.{front_of}
-use Rattle.link.specs.Exchanges.{Exchanges, no_exchanges, heard_current, timed_current, begun_by}
+use Rattle.link.specs.Exchanges.{Exchanges, no_exchanges, received_current, timed_current, begun_by}
 use Rattle.link.specs.Exchanges.{given_up_at}
 use Rattle.link.specs.Procedure.{LinkSettings}
 use Rattle.link.specs.Requests.{IsUserData, FitsAddress}
@@ -12,12 +12,12 @@ use Rattle.link.specs.Primary.{offered_to, withdrawn}
 use Rattle.link.specs.Carried.{given_up}
 use Rattle.link.specs.Runs.{Call, Next, Octets, Due, Offer, Withdraw, GivesUp, called, exchanged}
 use Rattle.link.specs.Runs.{MayCall, MayCallAll, called_all, exchanged_all, AreCalled}
-use Rattle.link.specs.Telling.{IsStable, AreLinks, past, TellsBy, Tells}
-use Rattle.link.proofs.Telling.{SaysBy, says, tells, links_said, hear_says, due_says}
-use Rattle.link.proofs.TellingOffers.{start_says}
-use Rattle.link.proofs.Telling.{ask_says}
-use Rattle.link.proofs.TellingOffers.{offer_says, withdraw_says}
-use Rattle.link.proofs.GivenUpTold.{given_up_says}
+use Rattle.link.specs.Matching.{IsStable, AreLinks, past, MatchesBy, Matches}
+use Rattle.link.proofs.Matching.{SaysBy, says, matches, links_said, receive_says, due_says}
+use Rattle.link.proofs.MatchingOffers.{start_says}
+use Rattle.link.proofs.Matching.{ask_says}
+use Rattle.link.proofs.MatchingOffers.{offer_says, withdraw_says}
+use Rattle.link.proofs.GivenUpMatches.{given_up_says}
 
 -- one call more
 
@@ -57,78 +57,80 @@ one_more settings addresses p e call one c =
           ∙ ap (λ (x : Exchanges). exchanged p call x) c.exchanges;
     }
 
-pub start_tells : (settings : LinkSettings) (addresses : List ℕ) → 0 < length addresses
+pub start_matches : (settings : LinkSettings) (addresses : List ℕ) → 0 < length addresses
     → All (FitsAddress settings.size) addresses
-    → Tells settings addresses (start settings addresses) no_exchanges
-start_tells settings addresses some fit =
-    tells (front_of settings.size) settings addresses (start settings addresses) no_exchanges
+    → Matches settings addresses (start settings addresses) no_exchanges
+start_matches settings addresses some fit =
+    matches (front_of settings.size) settings addresses (start settings addresses) no_exchanges
     (start_says (front_of settings.size) settings addresses some fit)
     (record { calls = []; may = tt; primary = refl; exchanges = refl })
 
-pub ask_tells : (settings : LinkSettings) (addresses : List ℕ) (p : Primary) (e : Exchanges)
+pub ask_matches : (settings : LinkSettings) (addresses : List ℕ) (p : Primary) (e : Exchanges)
     (now : ℕ)
-    (may_poll : Bool) → IsStable (front_of settings.size) → Tells settings addresses p e
-    → Tells settings addresses (asked p now may_poll) (begun_by now (sending p may_poll) e)
-ask_tells settings addresses p e now may_poll stable t =
-    tells (front_of settings.size) settings addresses (asked p now may_poll)
+    (may_poll : Bool) → IsStable (front_of settings.size) → Matches settings addresses p e
+    → Matches settings addresses (asked p now may_poll) (begun_by now (sending p may_poll) e)
+ask_matches settings addresses p e now may_poll stable t =
+    matches (front_of settings.size) settings addresses (asked p now may_poll)
     (begun_by now (sending p may_poll) e)
     (ask_says (front_of settings.size) settings addresses p e now may_poll stable
     (says (front_of settings.size) settings addresses p e t))
     (one_more settings addresses p e (Next now may_poll) tt t.called)
 
-pub hear_tells : (settings : LinkSettings) (addresses : List ℕ) (p : Primary) (e : Exchanges)
+pub receive_matches : (settings : LinkSettings) (addresses : List ℕ) (p : Primary) (e : Exchanges)
     (octets : List ℕ)
-    → IsStable (front_of settings.size) → Tells settings addresses p e
-    → Tells settings addresses (received (front_of p.settings.size) p octets)
-    (record { ended = e.ended; current = heard_current octets e.current })
-hear_tells settings addresses p e octets stable t =
-    let heard : Exchanges = record { ended = e.ended; current = heard_current octets e.current } in
-    tells (front_of settings.size) settings addresses (received (front_of p.settings.size) p octets)
-    heard
+    → IsStable (front_of settings.size) → Matches settings addresses p e
+    → Matches settings addresses (received (front_of p.settings.size) p octets)
+    (record { ended = e.ended; current = received_current octets e.current })
+receive_matches settings addresses p e octets stable t =
+    let arrived : Exchanges =
+    record { ended = e.ended; current = received_current octets e.current } in
+    matches (front_of settings.size) settings addresses
+    (received (front_of p.settings.size) p octets)
+    arrived
     (subst (λ (s : LinkSettings). SaysBy (front_of settings.size) settings addresses
-    (received (front_of s.size) p octets) heard) (sym t.settings_are)
-    (hear_says (front_of settings.size) settings addresses p e.ended e.current octets stable
+    (received (front_of s.size) p octets) arrived) (sym t.settings_are)
+    (receive_says (front_of settings.size) settings addresses p e.ended e.current octets stable
     (says (front_of settings.size) settings addresses p e t)))
     (one_more settings addresses p e (Octets octets) tt t.called)
 
-pub due_tells : (settings : LinkSettings) (addresses : List ℕ) (p : Primary) (e : Exchanges)
+pub due_matches : (settings : LinkSettings) (addresses : List ℕ) (p : Primary) (e : Exchanges)
     (at : ℕ)
-    → Tells settings addresses p e → Tells settings addresses (timed_out p at)
+    → Matches settings addresses p e → Matches settings addresses (timed_out p at)
     (record { ended = e.ended; current = timed_current settings.answer_ms at e.current })
-due_tells settings addresses p e at t =
+due_matches settings addresses p e at t =
     let timed : Exchanges =
     record { ended = e.ended; current = timed_current settings.answer_ms at e.current } in
-    tells (front_of settings.size) settings addresses (timed_out p at) timed
+    matches (front_of settings.size) settings addresses (timed_out p at) timed
     (due_says (front_of settings.size) settings addresses p e.ended e.current at
     (says (front_of settings.size) settings addresses p e t))
     (subst (λ (s : LinkSettings). AreCalled settings addresses (timed_out p at)
     (record { ended = e.ended; current = timed_current s.answer_ms at e.current })) t.settings_are
     (one_more settings addresses p e (Due at) tt t.called))
 
-pub offer_tells : (settings : LinkSettings) (addresses : List ℕ) (p : Primary) (e : Exchanges)
+pub offer_matches : (settings : LinkSettings) (addresses : List ℕ) (p : Primary) (e : Exchanges)
     (station : ℕ)
     (asdu : List ℕ) → station < length p.stations → IsUserData p.settings.size asdu
-    → Tells settings addresses p e
-    → Tells settings addresses (offered_to p station asdu) e
-offer_tells settings addresses p e station asdu within carried t =
-    tells (front_of settings.size) settings addresses (offered_to p station asdu) e
+    → Matches settings addresses p e
+    → Matches settings addresses (offered_to p station asdu) e
+offer_matches settings addresses p e station asdu within carried t =
+    matches (front_of settings.size) settings addresses (offered_to p station asdu) e
     (offer_says (front_of settings.size) settings addresses p e station asdu within carried
     (says (front_of settings.size) settings addresses p e t))
     (one_more settings addresses p e (Offer station asdu) (within, carried) t.called)
 
-pub withdraw_tells : (settings : LinkSettings) (addresses : List ℕ) (p : Primary) (e : Exchanges)
-    → Tells settings addresses p e → Tells settings addresses (withdrawn p) e
-withdraw_tells settings addresses p e t =
-    tells (front_of settings.size) settings addresses (withdrawn p) e
+pub withdraw_matches : (settings : LinkSettings) (addresses : List ℕ) (p : Primary) (e : Exchanges)
+    → Matches settings addresses p e → Matches settings addresses (withdrawn p) e
+withdraw_matches settings addresses p e t =
+    matches (front_of settings.size) settings addresses (withdrawn p) e
     (withdraw_says (front_of settings.size) settings addresses p e
     (says (front_of settings.size) settings addresses p e t))
     (one_more settings addresses p e Withdraw tt t.called)
 
-pub give_up_tells : (settings : LinkSettings) (addresses : List ℕ) (p : Primary) (e : Exchanges)
-    (k : ℕ) → k < length p.stations → Tells settings addresses p e
-    → Tells settings addresses (given_up k p) (given_up_at k e)
-give_up_tells settings addresses p e k within t =
-    tells (front_of settings.size) settings addresses (given_up k p) (given_up_at k e)
+pub give_up_matches : (settings : LinkSettings) (addresses : List ℕ) (p : Primary) (e : Exchanges)
+    (k : ℕ) → k < length p.stations → Matches settings addresses p e
+    → Matches settings addresses (given_up k p) (given_up_at k e)
+give_up_matches settings addresses p e k within t =
+    matches (front_of settings.size) settings addresses (given_up k p) (given_up_at k e)
     (given_up_says (front_of settings.size) settings addresses p e k within
     (says (front_of settings.size) settings addresses p e t))
     (one_more settings addresses p e (GivesUp k) within t.called)
@@ -137,7 +139,7 @@ give_up_tells settings addresses p e k within t =
 pub links_at : (front : List ℕ → Front) (settings : LinkSettings) (addresses : List ℕ) (p : Primary)
     (e : Exchanges)
     (o : Option Outstanding) →
-    p.outstanding ≡ o → TellsBy front settings addresses p e
+    p.outstanding ≡ o → MatchesBy front settings addresses p e
     → AreLinks front settings addresses p.stations (past o e)
 links_at front settings addresses p e o is t =
     links_said front settings addresses p e o is (says front settings addresses p e t)

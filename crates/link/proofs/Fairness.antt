@@ -7,13 +7,13 @@ use Rattle.std.proofs.Common.{subst, ◌∙◌, ◌⊎◌, inl, inr, arith, if�
 use Rattle.std.proofs.lemmas.Nat.{mul-le}
 use Rattle.std.proofs.lemmas.Bool.{cases_lt, cases_eq, lt-ltb, le-ltb, eqb-false}
 use Rattle.ft12.specs.Fronts.{front_of}
-use Rattle.link.specs.Exchanges.{Exchanges, Sending, no_exchanges, all_of, views, heard_current}
+use Rattle.link.specs.Exchanges.{Exchanges, Sending, no_exchanges, all_of, views, received_current}
 use Rattle.link.specs.Exchanges.{begun_by}
 use Rattle.link.specs.Procedure.{LinkSettings}
 use Rattle.link.specs.Requests.{FitsAddress}
 use Rattle.link.specs.Turns.{Starting, station_at, wanted, place_after}
 use Rattle.link.specs.Primary.{Primary, start, asked, sending, received}
-use Rattle.link.specs.Telling.{IsStable, TellsBy, Tells}
+use Rattle.link.specs.Matching.{IsStable, MatchesBy, Matches}
 use Rattle.link.specs.Leave.{IsLeftToPolls}
 use Rattle.link.specs.Runs.{Call, Next, Octets, Due, Offer, Withdraw, GivesUp, called, exchanged}
 use Rattle.link.specs.Runs.{MayCall, MayCallAll, called_all, exchanged_all, nth_after}
@@ -21,10 +21,11 @@ use Rattle.link.specs.Visits.{AreInVisits, most_of_visit}
 use Rattle.link.specs.Waits.{WantsAt, AlwaysWants, station_in, stations_by, stations_asked, waited}
 use Rattle.link.proofs.Choice.{place_fits}
 use Rattle.link.proofs.Resting.{left}
-use Rattle.link.proofs.Running.{call_tells, calls_tell}
-use Rattle.link.proofs.Called.{start_tells}
+use Rattle.link.proofs.Running.{call_matches, calls_match}
+use Rattle.link.proofs.Called.{start_matches}
 use Rattle.link.proofs.VisitRuns.{InVisit, Stays, IsAsked, nothing, goes_on, begins, in_visits}
-use Rattle.link.proofs.VisitRuns.{many_most, asked_visits, heard_visits, due_visits, offer_visits}
+use Rattle.link.proofs.VisitRuns.{many_most, asked_visits, received_visits, due_visits}
+use Rattle.link.proofs.VisitRuns.{offer_visits}
 use Rattle.link.proofs.VisitRuns.{withdraw_visits, start_visits}
 use Rattle.link.proofs.VisitsGiven.{give_up_visits}
 
@@ -34,16 +35,16 @@ use Rattle.link.proofs.VisitsGiven.{give_up_visits}
 abbrev pub HasVisit : LinkSettings → (addresses : List ℕ) → Primary → Exchanges → Type 0
 HasVisit settings addresses p e = (many : ℕ) × InVisit (front_of settings.size) addresses p e many
 
-own_tells : (settings : LinkSettings) (addresses : List ℕ) (p : Primary) (e : Exchanges)
-    → Tells settings addresses p e
+own_matches : (settings : LinkSettings) (addresses : List ℕ) (p : Primary) (e : Exchanges)
+    → Matches settings addresses p e
     →
-    TellsBy (front_of settings.size) p.settings addresses p e
-own_tells settings addresses p e t =
-    subst (λ (s : LinkSettings). TellsBy (front_of settings.size) s addresses p e)
+    MatchesBy (front_of settings.size) p.settings addresses p e
+own_matches settings addresses p e t =
+    subst (λ (s : LinkSettings). MatchesBy (front_of settings.size) s addresses p e)
     (sym t.settings_are) t
 
 burst_there : (settings : LinkSettings) (addresses : List ℕ) (p : Primary) (e : Exchanges)
-    → Tells settings addresses p e → 0 < settings.burst → 0 < p.settings.burst
+    → Matches settings addresses p e → 0 < settings.burst → 0 < p.settings.burst
 burst_there settings addresses p e t some =
     subst (λ (s : LinkSettings). 0 < s.burst) (sym t.settings_are) some
 
@@ -64,14 +65,15 @@ IsOther call = Unit {0}
 stays : (settings : LinkSettings) (addresses : List ℕ) (p : Primary) (e : Exchanges) (many : ℕ)
     (call : Call)
     → IsOther call → MayCall p call →
-    Tells settings addresses p e → InVisit (front_of settings.size) addresses p e many →
+    Matches settings addresses p e → InVisit (front_of settings.size) addresses p e many →
     Stays (front_of settings.size) addresses p.turn (called p call) (exchanged p call e) many
 stays settings addresses p e many (Next now may_poll) other may t v = absurd other
 stays settings addresses p e many (Octets octets) other may t v =
     subst (λ (s : LinkSettings). Stays (front_of settings.size) addresses p.turn
     (received (front_of s.size) p octets)
-    (record { ended = e.ended; current = heard_current octets e.current }) many)
-    (sym t.settings_are) (heard_visits (front_of settings.size) addresses p e.ended e.current octets
+    (record { ended = e.ended; current = received_current octets e.current }) many)
+    (sym t.settings_are) (received_visits (front_of settings.size) addresses p e.ended e.current
+    octets
     many t.fits.turn v)
 stays settings addresses p e many (Due now) other may t v =
     due_visits (front_of settings.size) addresses p e.ended e.current p.settings.answer_ms now many
@@ -86,13 +88,13 @@ stays settings addresses p e many (GivesUp station) other may t v =
 call_visits : (settings : LinkSettings) (addresses : List ℕ) (p : Primary) (e : Exchanges)
     (call : Call)
     → 0 < settings.burst →
-    MayCall p call → Tells settings addresses p e → HasVisit settings addresses p e
+    MayCall p call → Matches settings addresses p e → HasVisit settings addresses p e
     → HasVisit settings addresses (called p call) (exchanged p call e)
 call_visits settings addresses p e (Next now may_poll) some may t v =
     asks_visit settings addresses p _ _ may_poll v.0 _
     (asked_visits (front_of settings.size) addresses p e v.0 now may_poll
     (burst_there settings addresses p e t some)
-    (own_tells settings addresses p e t) v.1)
+    (own_matches settings addresses p e t) v.1)
 call_visits settings addresses p e (Octets octets) some may t v =
     (v.0, (stays settings addresses p e v.0 (Octets octets) tt may t v.1).0)
 call_visits settings addresses p e (Due now) some may t v =
@@ -106,27 +108,27 @@ call_visits settings addresses p e (GivesUp station) some may t v =
 
 calls_visit : (settings : LinkSettings) (addresses : List ℕ) → IsStable (front_of settings.size)
     → (p : Primary) (e : Exchanges) (calls : List Call) → 0 < settings.burst →
-    MayCallAll p calls → Tells settings addresses p e → HasVisit settings addresses p e
+    MayCallAll p calls → Matches settings addresses p e → HasVisit settings addresses p e
     → HasVisit settings addresses (called_all p calls) (exchanged_all p calls e)
 calls_visit settings addresses stable p e [] some may t v = v
 calls_visit settings addresses stable p e (call ∷ calls) some may t v =
     calls_visit settings addresses stable (called p call) (exchanged p call e) calls some may.1
-    (call_tells settings addresses stable p e call may.0 t)
+    (call_matches settings addresses stable p e call may.0 t)
     (call_visits settings addresses p e call some may.0 t v)
 
 abbrev pub after_first : LinkSettings → List ℕ → List Call → Primary
 after_first settings addresses calls = called_all (start settings addresses) calls
 
-pub run_tells_it : (settings : LinkSettings) (addresses : List ℕ)
+pub run_matches_it : (settings : LinkSettings) (addresses : List ℕ)
     → IsStable (front_of settings.size)
     → (calls : List Call) →
     0 < length addresses → All (FitsAddress settings.size) addresses
     → MayCallAll (start settings addresses) calls →
-    Tells settings addresses (after_first settings addresses calls)
+    Matches settings addresses (after_first settings addresses calls)
     (exchanged_all (start settings addresses) calls no_exchanges)
-run_tells_it settings addresses stable calls some fit may =
-    calls_tell settings addresses stable (start settings addresses) no_exchanges calls may
-    (start_tells settings addresses some fit)
+run_matches_it settings addresses stable calls some fit may =
+    calls_match settings addresses stable (start settings addresses) no_exchanges calls may
+    (start_matches settings addresses some fit)
 
 run_visit : (settings : LinkSettings) (addresses : List ℕ) → IsStable (front_of settings.size)
     → (calls : List Call) →
@@ -136,7 +138,7 @@ run_visit : (settings : LinkSettings) (addresses : List ℕ) → IsStable (front
     (exchanged_all (start settings addresses) calls no_exchanges)
 run_visit settings addresses stable calls some fit burst may =
     calls_visit settings addresses stable (start settings addresses) no_exchanges calls burst may
-    (start_tells settings addresses some fit)
+    (start_matches settings addresses some fit)
     (0, start_visits (front_of settings.size) settings addresses)
 
 pub run_visits : (settings : LinkSettings) (addresses : List ℕ) → IsStable (front_of settings.size)
@@ -150,7 +152,7 @@ run_visits settings addresses stable calls some fit burst may =
     subst (λ (s : LinkSettings). AreInVisits s addresses
     (views (front_of settings.size)
     (all_of (exchanged_all (start settings addresses) calls no_exchanges))))
-    (run_tells_it settings addresses stable calls some fit may).settings_are
+    (run_matches_it settings addresses stable calls some fit may).settings_are
     (in_visits (front_of settings.size) addresses _ _ v.0 v.1)
 
 -- ---- round the stations
@@ -376,7 +378,7 @@ Waiting settings addresses k before p e =
 ask_waits : (settings : LinkSettings) (addresses : List ℕ) (p p' : Primary) (e e' : Exchanges)
     (may_poll : Bool)
     (many k before : ℕ) (s : Option Sending) →
-    k < length addresses → Tells settings addresses p e → many ≤ most_of_visit settings →
+    k < length addresses → Matches settings addresses p e → many ≤ most_of_visit settings →
     ((z : Sending) → s ≡ Some z → (may_poll ≡ true)
     ⊎ (IsLeftToPolls (station_at p.stations k) (station_at p.stations k).link → ⊥)) →
     Waits (most_of_visit settings) (length addresses) k before p.turn many →
@@ -432,7 +434,7 @@ ask_waits settings addresses p p' e e' may_poll many k before s there t short wa
 
 short_visit : (settings : LinkSettings) (addresses : List ℕ) (p : Primary) (e : Exchanges)
     (many : ℕ)
-    → Tells settings addresses p e →
+    → Matches settings addresses p e →
     InVisit (front_of settings.size) addresses p e many → many ≤ most_of_visit settings
 short_visit settings addresses p e many t v =
     subst (λ (s : LinkSettings). many ≤ most_of_visit s) t.settings_are
@@ -441,7 +443,7 @@ short_visit settings addresses p e many t v =
 stay_waits : (settings : LinkSettings) (addresses : List ℕ) (p : Primary) (e : Exchanges)
     (many k before : ℕ)
     (call : Call) → IsOther call → MayCall p call →
-    Tells settings addresses p e → InVisit (front_of settings.size) addresses p e many →
+    Matches settings addresses p e → InVisit (front_of settings.size) addresses p e many →
     Waits (most_of_visit settings) (length addresses) k before p.turn many
     → Waiting settings addresses k before (called p call) (exchanged p call e)
 stay_waits settings addresses p e many k before call other may t v w =
@@ -455,7 +457,7 @@ stay_waits settings addresses p e many k before call other may t v w =
 call_waits : (settings : LinkSettings) (addresses : List ℕ) (p : Primary) (e : Exchanges)
     (call : Call) (k before : ℕ)
     → 0 < settings.burst → k < length addresses →
-    MayCall p call → WantsAt p k call → Tells settings addresses p e
+    MayCall p call → WantsAt p k call → Matches settings addresses p e
     → Waiting settings addresses k before p e →
     Waiting settings addresses k (waited k before (stations_by p call)) (called p call)
     (exchanged p call e)
@@ -466,7 +468,7 @@ call_waits settings addresses p e (Next now may_poll) k before some there may wa
     (short_visit settings addresses p e w.0 t w.1) wants w.2
     (asked_visits (front_of settings.size) addresses p e w.0 now may_poll
     (burst_there settings addresses p e t some)
-    (own_tells settings addresses p e t) w.1)
+    (own_matches settings addresses p e t) w.1)
 call_waits settings addresses p e (Octets octets) k before some there may wants t w =
     stay_waits settings addresses p e w.0 k before (Octets octets) tt may t w.1 w.2
 call_waits settings addresses p e (Due now) k before some there may wants t w =
@@ -481,7 +483,7 @@ call_waits settings addresses p e (GivesUp station) k before some there may want
 calls_wait : (settings : LinkSettings) (addresses : List ℕ) → IsStable (front_of settings.size)
     → (p : Primary) (e : Exchanges) (calls : List Call) (k before : ℕ) →
     0 < settings.burst → k < length addresses → MayCallAll p calls → AlwaysWants p k calls
-    → Tells settings addresses p e → Waiting settings addresses k before p e →
+    → Matches settings addresses p e → Waiting settings addresses k before p e →
     waited k before (stations_asked p calls) ≤ most_of_visit settings * (length addresses - 1)
 calls_wait settings addresses stable p e [] k before some there may wants t w =
     waits_short (most_of_visit settings) (length addresses) k before p.turn w.0
@@ -492,7 +494,7 @@ calls_wait settings addresses stable p e (call ∷ calls) k before some there ma
     (sym (waited-append k before (stations_by p call) (stations_asked (called p call) calls)))
     (calls_wait settings addresses stable (called p call) (exchanged p call e) calls k
     (waited k before (stations_by p call)) some there may.1 wants.1
-    (call_tells settings addresses stable p e call may.0 t)
+    (call_matches settings addresses stable p e call may.0 t)
     (call_waits settings addresses p e call k before some there may.0 wants.0 t w))
 
 pub run_waits : (settings : LinkSettings) (addresses : List ℕ) → IsStable (front_of settings.size)
@@ -510,5 +512,5 @@ run_waits settings addresses stable first later k some fit burst there may_first
     calls_wait settings addresses stable (after_first settings addresses first)
     (exchanged_all (start settings addresses) first no_exchanges) later k 0 burst there may_later
     wants
-    (run_tells_it settings addresses stable first some fit may_first)
+    (run_matches_it settings addresses stable first some fit may_first)
     (v.0, v.1, record { here = λ e. refl; away = λ other. omega arith })

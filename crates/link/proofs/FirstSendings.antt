@@ -11,7 +11,7 @@ use Rattle.link.specs.Answers.{Frame, Service, Class1, Class2, Command, Asked, S
 use Rattle.link.specs.Answers.{Counted, Answer, Ready, Confirmed, Busy, Report, NoData, Unable}
 use Rattle.link.specs.Exchanges.{Exchanges, no_exchanges, whole_of}
 use Rattle.link.specs.Requests.{FitsAddress}
-use Rattle.link.specs.Telling.{IsStable, Tells}
+use Rattle.link.specs.Matching.{IsStable, Matches}
 use Rattle.link.specs.Procedure.{LinkSettings, Link, Down, Available, Next, Held, after_answer}
 use Rattle.link.specs.Procedure.{after_silence, missed_so_far, is_held, holds_command, MaySend}
 use Rattle.link.specs.Turns.{StationState, no_station, Chosen, station_at}
@@ -29,8 +29,8 @@ use Rattle.link.specs.Runs.{Call, Octets, Due, Offer, Withdraw, GivesUp, MayCall
 use Rattle.link.specs.Runs.{called}
 use Rattle.link.specs.Runs.{exchanged, Deed, Offered, FirstSent, Withdrawn, first_sent, sent_deeds}
 use Rattle.link.specs.Runs.{deeds, all_deeds, AreInOrder}
-use Rattle.link.proofs.Running.{call_tells}
-use Rattle.link.proofs.Called.{start_tells}
+use Rattle.link.proofs.Running.{call_matches}
+use Rattle.link.proofs.Called.{start_matches}
 use Rattle.link.proofs.Choice.{MayChooseIt, choice_may}
 use Rattle.link.proofs.Known.{IsKnownCommand, IsKnownChoice, choice_known}
 
@@ -250,9 +250,9 @@ octets_leave : (front : List ℕ → Front) (p : Primary) (octets : List ℕ) �
     → Leaves p (received front p octets) (λ i. [])
 octets_leave front p octets alone = go p.outstanding refl
   where
-    waits : (o : Outstanding) → p.outstanding ≡ Some o → (heard : Option (List ℕ))
-        → Leaves p (awaits p (with_octets octets o) heard) (λ i. [])
-    waits o is heard = leaves_same p (awaits p (with_octets octets o) heard)
+    waits : (o : Outstanding) → p.outstanding ≡ Some o → (arrived : Option (List ℕ))
+        → Leaves p (awaits p (with_octets octets o) arrived) (λ i. [])
+    waits o is arrived = leaves_same p (awaits p (with_octets octets o) arrived)
         (record {
           held = alone.held;
           sent = subst (λ (q : Option Outstanding). is_sending_command q ≡ true
@@ -276,10 +276,10 @@ octets_leave front p octets alone = go p.outstanding refl
         (same_offer p p.turn s refl)
 
     take_it : (o : Outstanding) → p.outstanding ≡ Some o
-        → (heard : Option (List ℕ)) (f : Option Frame)
-        → Leaves p (took p (with_octets octets o) heard f) (λ i. [])
-    take_it o is heard None = waits o is heard
-    take_it o is heard (Some frame) = say o is frame (answer_at p o frame)
+        → (arrived : Option (List ℕ)) (f : Option Frame)
+        → Leaves p (took p (with_octets octets o) arrived f) (λ i. [])
+    take_it o is arrived None = waits o is arrived
+    take_it o is arrived (Some frame) = say o is frame (answer_at p o frame)
 
     listen : (o : Outstanding) → p.outstanding ≡ Some o → (h : Option (List ℕ))
         → Leaves p (received_after front p (with_octets octets o) h octets) (λ i. [])
@@ -291,7 +291,7 @@ octets_leave front p octets alone = go p.outstanding refl
     go : (o : Option Outstanding) → p.outstanding ≡ o
         → Leaves p (received_from front p o octets) (λ i. [])
     go None is = leaves_same p p alone (λ i. refl)
-    go (Some o) is = listen o is o.heard
+    go (Some o) is = listen o is o.arrived
 
 -- `due`
 
@@ -484,14 +484,14 @@ call_leaves p (GivesUp station) may fits alone = give_up_leaves p station alone
 -- Each call keeps what fits: so the primary tells some exchanges all the while.
 pub in_order : (settings : LinkSettings) (addresses : List ℕ) → IsStable (front_of settings.size)
     → (p : Primary) (e : Exchanges) (calls : List Call) (station : ℕ) →
-    MayCallAll p calls → Tells settings addresses p e → WaitAlone p
+    MayCallAll p calls → Matches settings addresses p e → WaitAlone p
     → AreInOrder (offer_of p station) (all_deeds p station calls)
 in_order settings addresses stable p e [] station may t alone = tt
 in_order settings addresses stable p e (call ∷ calls) station may t alone =
     let step = call_leaves p call may.0 t.fits alone in
     step.order station (all_deeds (called p call) station calls)
     (in_order settings addresses stable (called p call) (exchanged p call e) calls station may.1
-    (call_tells settings addresses stable p e call may.0 t) step.alone)
+    (call_matches settings addresses stable p e call may.0 t) step.alone)
 
 down_offer : (addresses : List ℕ) (i : ℕ) → (station_at (map station_down addresses) i).offered
     ≡ None
@@ -510,5 +510,5 @@ run_in_order settings addresses stable calls station some fit may =
     (λ (o : Option (List ℕ)). AreInOrder o (all_deeds (start settings addresses) station calls))
     (down_offer addresses station)
     (in_order settings addresses stable (start settings addresses) no_exchanges calls station may
-    (start_tells settings addresses some fit)
+    (start_matches settings addresses some fit)
     (record { held = λ i h. down_offer addresses i; sent = λ is. down_offer addresses 0 }))

@@ -11,7 +11,7 @@ use Rattle.link.specs.Exchanges.{Exchange, OpenExchange, answer_to, with_station
 use Rattle.link.specs.Exchanges.{whole_of}
 use Rattle.link.specs.Flags.{Flags, clear, flags_in, flags_by, flags_after}
 use Rattle.link.specs.Turns.{StationState, no_station, station_at}
-use Rattle.link.specs.Telling.{AreFlags, flags_of}
+use Rattle.link.specs.Matching.{AreFlags, flags_of}
 use Rattle.link.proofs.Links.{with_one}
 
 nil : (xs : List Exchange) → xs ++ [] ≡ xs

@@ -10,7 +10,7 @@ use Rattle.ft12.specs.declared.frame.Front.TheVariants.{Whole}
 use Rattle.ft12.specs.Spelling.{address_len, user, Fits, IsLineFrame, IsOctet}
 use Rattle.ft12.specs.Reading.{IsFront}
 use Rattle.link.specs.Requests.{FitsFrame}
-use Rattle.link.specs.Secondary.{data_frame, Secondary, HearsOctets}
+use Rattle.link.specs.Secondary.{data_frame, Secondary, ReceivesOctets}
 
 length-user : (size : LinkSize) (c a : ℕ) (body : List ℕ)
     → length (user size c a body) ≡ 1 + address_len size + length body
@@ -29,20 +29,20 @@ data_fits size c a body control address octets short = (
 )
 
 -- the front tells each whole frame
-pub told_whole : (size : LinkSize) (octets : List ℕ) (result : Front)
+pub logged_whole : (size : LinkSize) (octets : List ℕ) (result : Front)
     → ((other : Front) → IsFront size octets other → other ≡ result) →
     (frame : Frame) → IsLineFrame size frame octets → Whole frame (length octets) ≡ result
-told_whole size octets result only frame line = only (Whole frame (length octets)) (
+logged_whole size octets result only frame line = only (Whole frame (length octets)) (
   subst (IsLineFrame size frame) (sym (take_all (length octets) octets (omega arith))) line,
   omega arith,
 )
 
-pub not_heard : (s : Secondary) (octets : List ℕ) (result : Front)
+pub not_received : (s : Secondary) (octets : List ℕ) (result : Front)
     → ((other : Front) → IsFront s.size octets other → other ≡ result) →
-    ((frame : Frame) → Whole frame (length octets) ≡ result → ⊥) → HearsOctets s octets None s
-not_heard s octets result only no_whole =
+    ((frame : Frame) → Whole frame (length octets) ≡ result → ⊥) → ReceivesOctets s octets None s
+not_received s octets result only no_whole =
     inr (
-      (λ frame line. no_whole frame (told_whole s.size octets result only frame line)),
+      (λ frame line. no_whole frame (logged_whole s.size octets result only frame line)),
       refl,
       refl,
     )

@@ -11,7 +11,7 @@ use Rattle.link.specs.Procedure.{LinkSettings, Link, Down, Available, Next, Held
 use Rattle.link.specs.Procedure.{after_silence}
 use Rattle.link.specs.Turns.{StationState, no_station, station_at}
 use Rattle.link.specs.Primary.{Primary, Outstanding}
-use Rattle.link.specs.Telling.{IsAllowed}
+use Rattle.link.specs.Matching.{IsAllowed}
 use Rattle.link.specs.declared.seat.Seat.{Seat}
 use Rattle.link.specs.Carried.{station_left, released_from, released, station_carried, seated}
 use Rattle.link.specs.Carried.{reseated, bit_of}

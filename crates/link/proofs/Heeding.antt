@@ -10,7 +10,7 @@ use Rattle.link.specs.Turns.{StationState, Phase, Starting, Commanding, Polling,
 use Rattle.link.specs.Turns.{Over, Wanted, station_at, wants, wanted_poll, polls_from}
 use Rattle.link.specs.Turns.{wanted_command, commands_from, next_of, wanted_by}
 use Rattle.link.specs.Primary.{Primary, sending}
-use Rattle.link.specs.Telling.{TellsBy, flags_of}
+use Rattle.link.specs.Matching.{MatchesBy, flags_of}
 use Rattle.link.specs.Runs.{BeginsTurn}
 use Rattle.link.proofs.Called.{links_at}
 use Rattle.link.proofs.Turning.{present, GoesOn, free_where, either_turn}
@@ -76,7 +76,7 @@ wanted_heeds burst may_poll again s Available phase new = tt
 pub sending_heeds : (front : List ℕ → Front) (settings : LinkSettings) (addresses : List ℕ)
     (p : Primary)
     (e : Exchanges) (may_poll : Bool) (s : Sending) →
-    TellsBy front settings addresses p e → sending p may_poll ≡ Some s
+    MatchesBy front settings addresses p e → sending p may_poll ≡ Some s
     → is_held (link_at settings front addresses s.station e) ≡ false →
     Heeds (flags_at front addresses s.station e) s.request
 sending_heeds front settings addresses p e may_poll s t sent new =

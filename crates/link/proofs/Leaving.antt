@@ -270,18 +270,19 @@ octets front p came poll = go p.outstanding refl poll
     is_taken o e so_far None h = back o e h
     is_taken o e so_far (Some frame) h = said o e frame (answer_at p o frame) refl h
 
-    heard : (o : Outstanding) → p.outstanding ≡ Some o → (before : Option (List ℕ))
+    arrived : (o : Outstanding) → p.outstanding ≡ Some o → (before : Option (List ℕ))
         → is_polling (received_after front p (with_octets came o) before came) ≡ true → is_polling p
         ≡ true
-    heard o e None h = back o e h
-    heard o e (Some before) h = is_taken o e (open_octets (before ++ came) (front (before ++ came)))
+    arrived o e None h = back o e h
+    arrived o e (Some before) h =
+        is_taken o e (open_octets (before ++ came) (front (before ++ came)))
         (whole_of (front (before ++ came))) h
 
     go : (o : Option Outstanding) → p.outstanding ≡ o → is_polling (received_from front p o came)
         ≡ true
         → is_polling p ≡ true
     go None e h = h
-    go (Some o) e h = heard o e o.heard h
+    go (Some o) e h = arrived o e o.arrived h
 
 -- after silence a poll is held only where it was sent
 silent : (settings : LinkSettings) (request : Asked) (link : Link) → is_poll_request request ≡ false
@@ -450,7 +451,8 @@ started_no station None = refl
 started_no station (Some session) = refl
 
 -- A gap is no report.
-gap_no : (gap : Option ℕ) (told : Outcome) → is_report (with_gap gap told) ≡ is_report told
+gap_no : (gap : Option ℕ) (outcome_for : Outcome) → is_report (with_gap gap outcome_for)
+    ≡ is_report outcome_for
 gap_no gap (outcome.Started station) = started_no station gap
 gap_no gap (outcome.StartedGap station session) = refl
 gap_no gap outcome.None = refl
@@ -490,12 +492,12 @@ report front p octets is = go p.outstanding refl is
         said o e frame (answer_at p o frame) refl (sym
         (gap_no (turn_gap p) (outcome_of p.turn o.request (answer_at p o frame))) ∙ h)
 
-    heard : (o : Outstanding) → p.outstanding ≡ Some o → (before : Option (List ℕ))
+    arrived : (o : Outstanding) → p.outstanding ≡ Some o → (before : Option (List ℕ))
         → is_report (outcome_after front p o before octets) ≡ true →
         (is_polling p ≡ true)
         × (is_polling (received_after front p (with_octets octets o) before octets) ≡ false)
-    heard o e None h = cc
-    heard o e (Some before) h =
+    arrived o e None h = cc
+    arrived o e (Some before) h =
         is_taken o e (open_octets (before ++ octets) (front (before ++ octets)))
         (whole_of (front (before ++ octets))) h
 
@@ -503,4 +505,4 @@ report front p octets is = go p.outstanding refl is
         ≡ true →
         (is_polling p ≡ true) × (is_polling (received_from front p o octets) ≡ false)
     go None e h = cc
-    go (Some o) e h = heard o e o.heard h
+    go (Some o) e h = arrived o e o.arrived h

@@ -3,7 +3,7 @@ pub mod Beginning
 pub mod Choice
 pub mod Choosing
 pub mod Controls
-pub mod Hearing
+pub mod Receiving
 pub mod Fitting
 pub mod Links
 pub mod Marks
@@ -15,8 +15,8 @@ pub mod Reports
 pub mod Resets
 pub mod Waiting
 pub mod Spoilt
-pub mod Telling
-pub mod TellingOffers
+pub mod Matching
+pub mod MatchingOffers
 pub mod Bit
 pub mod Commands
 pub mod Refusals
@@ -31,7 +31,7 @@ pub mod Leaving
 pub mod Resting
 pub mod Flagging
 pub mod OneMore
-pub mod GapsTold
+pub mod GapsReported
 pub mod EndedGaps
 pub mod UnderWay
 pub mod Heeding
@@ -53,7 +53,7 @@ pub mod GivenUp
 pub mod GoingOn
 pub mod SessionsOn
 pub mod Called
-pub mod GivenUpTold
+pub mod GivenUpMatches
 pub mod AllGivenUp
 pub mod BitsFollowed
 pub mod Repeated

@@ -11,7 +11,7 @@ use Rattle.link.specs.Exchanges.{Exchange, LineExchange, with_station, OpenExcha
 use Rattle.link.specs.Procedure.{LinkSettings, Link, Down, after, MaySend, KeepsFrameCountBit}
 use Rattle.link.specs.Procedure.{link_after}
 use Rattle.link.specs.Turns.{StationState, no_station, station_at}
-use Rattle.link.specs.Telling.{AreKept, AreLinks}
+use Rattle.link.specs.Matching.{AreKept, AreLinks}
 
 -- a field that one station keeps, all keep
 pub set_view : {A : Type 0} (f : StationState → A) (stations : List StationState) (k : ℕ)

@@ -7,17 +7,17 @@ use Rattle.ft12.specs.declared.frame.Frame.{Frame}
 use Rattle.link.specs.Answers.{Service, Class1, Class2, Command, Asked, Status, Reset, Counted}
 use Rattle.link.specs.Outstation.{Effect, Given, Accepted, Turn, OutstationRun, all_done}
 use Rattle.link.specs.Requests.{Reading, Foreign, Unknown, Asks, reading_of}
-use Rattle.link.specs.Secondary.{Secondary, Served, heard_reading, outstation_of, served}
+use Rattle.link.specs.Secondary.{Secondary, Served, received_reading, outstation_of, served}
 use Rattle.link.specs.Secondary.{served_counted, served_new, served_class1, served_class2}
 use Rattle.link.specs.Secondary.{unchanged, is_same}
-use Rattle.link.specs.Life.{Call, Report1, Report2, Hear, called, after, request_asked}
-use Rattle.link.specs.Life.{requests_heard, turn_asked, turns_in, given1_at, given2_at, given1}
+use Rattle.link.specs.Life.{Call, Report1, Report2, Receive, called, after, request_asked}
+use Rattle.link.specs.Life.{requests_received, turn_asked, turns_in, given1_at, given2_at, given1}
 use Rattle.link.specs.Life.{given2, reported1, reported2, saturated}
 use Rattle.link.specs.Delivery.{reports, commands}
 use Rattle.link.proofs.Serving.{served_step, kept_address, kept_size}
 
 pub life_runs : (s : Secondary) (calls : List Call) →
-    OutstationRun s.address (outstation_of s) (requests_heard s.address calls) (turns_in s calls)
+    OutstationRun s.address (outstation_of s) (requests_received s.address calls) (turns_in s calls)
     (outstation_of (after s calls))
 life_runs s [] = refl
 life_runs s (Report1 true report ∷ calls) =
@@ -26,24 +26,24 @@ life_runs s (Report1 false report ∷ calls) = life_runs s calls
 life_runs s (Report2 true report ∷ calls) =
     life_runs (record s { class2 = s.class2 ++ report ∷ [] }) calls
 life_runs s (Report2 false report ∷ calls) = life_runs s calls
-life_runs s (Hear granted None ∷ calls) = life_runs s calls
-life_runs s (Hear granted (Some frame) ∷ calls) =
+life_runs s (Receive granted None ∷ calls) = life_runs s calls
+life_runs s (Receive granted (Some frame) ∷ calls) =
     go (λ t. life_runs t calls) (reading_of s.address frame)
   where
     go : ((t : Secondary)
-        → OutstationRun t.address (outstation_of t) (requests_heard t.address calls)
+        → OutstationRun t.address (outstation_of t) (requests_received t.address calls)
         (turns_in t calls) (outstation_of (after t calls))) → (reading : Reading)
         → OutstationRun s.address (outstation_of s) (request_asked reading
-        ++ requests_heard s.address calls)
-        (turn_asked granted s reading ++ turns_in (heard_reading granted s reading).state calls)
-        (outstation_of (after (heard_reading granted s reading).state calls))
+        ++ requests_received s.address calls)
+        (turn_asked granted s reading ++ turns_in (received_reading granted s reading).state calls)
+        (outstation_of (after (received_reading granted s reading).state calls))
     go rest Foreign = rest s
     go rest Unknown = rest s
     go rest (Asks request) = (
       outstation_of (served granted s request).state,
       served_step granted s request,
       subst (λ (a : ℕ). OutstationRun a (outstation_of (served granted s request).state)
-          (requests_heard a calls)
+          (requests_received a calls)
           (turns_in (served granted s request).state calls)
           (outstation_of (after (served granted s request).state calls)))
           (kept_address granted s request) (rest (served granted s request).state),
@@ -184,10 +184,12 @@ accounts granted s (Counted fcb service) lt = account_counted granted s s.bit fc
 
 -- what its life does to them
 pub record Ledger (s : Secondary) (calls : List Call) : Type 0 where
-  pub class1 : given1 (requests_heard s.address calls) (turns_in s calls) ++ (after s calls).class1
+  pub class1 : given1 (requests_received s.address calls) (turns_in s calls)
+      ++ (after s calls).class1
       ≡ s.class1
       ++ reported1 calls
-  pub class2 : given2 (requests_heard s.address calls) (turns_in s calls) ++ (after s calls).class2
+  pub class2 : given2 (requests_received s.address calls) (turns_in s calls)
+      ++ (after s calls).class2
       ≡ s.class2
       ++ reported2 calls
   pub accepted : s.accepted ++ commands (all_done (turns_in s calls)) ≡ (after s calls).accepted
@@ -215,11 +217,11 @@ small_count n = omega arith
 after_request : (granted : Bool) (s : Secondary) (request : Asked) (calls : List Call)
     → s.given < 2 ^ 64 →
     ((t : Secondary) → t.given < 2 ^ 64 → Ledger t calls) →
-    (given1 (request ∷ requests_heard s.address calls) ((served granted s request).turn
+    (given1 (request ∷ requests_received s.address calls) ((served granted s request).turn
     ∷ turns_in (served granted s request).state calls)
     ++ (after (served granted s request).state calls).class1
     ≡ s.class1 ++ reported1 calls)
-    × (given2 (request ∷ requests_heard s.address calls) ((served granted s request).turn
+    × (given2 (request ∷ requests_received s.address calls) ((served granted s request).turn
     ∷ turns_in (served granted s request).state calls)
     ++ (after (served granted s request).state calls).class2
     ≡ s.class2 ++ reported2 calls)
@@ -238,17 +240,19 @@ after_request granted s request calls lt rest =
     let turns : List Turn = turns_in by.state calls in
     let end : Secondary = after by.state calls in
     let at : by.state.address ≡ s.address = kept_address granted s request in (
-      append_assoc (given1_at request by.turn) (given1 (requests_heard s.address calls) turns)
+      append_assoc (given1_at request by.turn) (given1 (requests_received s.address calls) turns)
           end.class1
           ∙ ap (λ (l : List (List ℕ)). given1_at request by.turn ++ l)
-          (subst (λ (a : ℕ). given1 (requests_heard a calls) turns ++ end.class1 ≡ by.state.class1
+          (subst (λ (a : ℕ). given1 (requests_received a calls) turns ++ end.class1
+          ≡ by.state.class1
           ++ reported1 calls) at later.class1)
           ∙ sym (append_assoc (given1_at request by.turn) by.state.class1 (reported1 calls))
           ∙ ap (λ (l : List (List ℕ)). l ++ reported1 calls) now.class1,
-      append_assoc (given2_at request by.turn) (given2 (requests_heard s.address calls) turns)
+      append_assoc (given2_at request by.turn) (given2 (requests_received s.address calls) turns)
           end.class2
           ∙ ap (λ (l : List (List ℕ)). given2_at request by.turn ++ l)
-          (subst (λ (a : ℕ). given2 (requests_heard a calls) turns ++ end.class2 ≡ by.state.class2
+          (subst (λ (a : ℕ). given2 (requests_received a calls) turns ++ end.class2
+          ≡ by.state.class2
           ++ reported2 calls) at later.class2)
           ∙ sym (append_assoc (given2_at request by.turn) by.state.class2 (reported2 calls))
           ∙ ap (λ (l : List (List ℕ)). l ++ reported2 calls) now.class2,
@@ -304,7 +308,7 @@ ledger s (Report2 false report ∷ calls) lt =
           rest.accepted;
       given = rest.given;
     }
-ledger s (Hear granted None ∷ calls) lt =
+ledger s (Receive granted None ∷ calls) lt =
     let rest = ledger s calls lt in record {
       class1 = rest.class1;
       class2 = rest.class2;
@@ -312,36 +316,36 @@ ledger s (Hear granted None ∷ calls) lt =
           rest.accepted;
       given = rest.given;
     }
-ledger s (Hear granted (Some frame) ∷ calls) lt =
+ledger s (Receive granted (Some frame) ∷ calls) lt =
     let all = go (λ t small. ledger t calls small) (reading_of s.address frame) in
     record { class1 = all.0; class2 = all.1; accepted = all.2; given = all.3 }
   where
     go : ((t : Secondary) → t.given < 2 ^ 64 → Ledger t calls) → (reading : Reading) →
-        (given1 (request_asked reading ++ requests_heard s.address calls)
+        (given1 (request_asked reading ++ requests_received s.address calls)
         (turn_asked granted s reading
-        ++ turns_in (heard_reading granted s reading).state calls)
-        ++ (after (heard_reading granted s reading).state calls).class1
+        ++ turns_in (received_reading granted s reading).state calls)
+        ++ (after (received_reading granted s reading).state calls).class1
         ≡ s.class1 ++ reported1 calls)
-        × (given2 (request_asked reading ++ requests_heard s.address calls)
+        × (given2 (request_asked reading ++ requests_received s.address calls)
         (turn_asked granted s reading
-        ++ turns_in (heard_reading granted s reading).state calls)
-        ++ (after (heard_reading granted s reading).state calls).class2
+        ++ turns_in (received_reading granted s reading).state calls)
+        ++ (after (received_reading granted s reading).state calls).class2
         ≡ s.class2 ++ reported2 calls)
         × (s.accepted ++ commands (all_done (turn_asked granted s reading
-        ++ turns_in (heard_reading granted s reading).state calls))
-        ≡ (after (heard_reading granted s reading).state calls).accepted)
-        × ((after (heard_reading granted s reading).state calls).given
+        ++ turns_in (received_reading granted s reading).state calls))
+        ≡ (after (received_reading granted s reading).state calls).accepted)
+        × ((after (received_reading granted s reading).state calls).given
         ≡ saturated (s.given + length
         (reports (all_done (turn_asked granted s reading
-        ++ turns_in (heard_reading granted s reading).state calls)))))
+        ++ turns_in (received_reading granted s reading).state calls)))))
     go rest Foreign = let l = rest s lt in (l.class1, l.class2, l.accepted, l.given)
     go rest Unknown = let l = rest s lt in (l.class1, l.class2, l.accepted, l.given)
     go rest (Asks request) = after_request granted s request calls lt rest
 
 -- its address and its size of addresses stay
 reading_stays : (granted : Bool) (s : Secondary) (reading : Reading) →
-    ((heard_reading granted s reading).state.address ≡ s.address)
-    × ((heard_reading granted s reading).state.size ≡ s.size)
+    ((received_reading granted s reading).state.address ≡ s.address)
+    × ((received_reading granted s reading).state.size ≡ s.size)
 reading_stays granted s Foreign = (refl, refl)
 reading_stays granted s Unknown = (refl, refl)
 reading_stays granted s (Asks request) =
@@ -353,8 +357,8 @@ call_stays s (Report1 true report) = (refl, refl)
 call_stays s (Report1 false report) = (refl, refl)
 call_stays s (Report2 true report) = (refl, refl)
 call_stays s (Report2 false report) = (refl, refl)
-call_stays s (Hear granted None) = (refl, refl)
-call_stays s (Hear granted (Some frame)) = reading_stays granted s (reading_of s.address frame)
+call_stays s (Receive granted None) = (refl, refl)
+call_stays s (Receive granted (Some frame)) = reading_stays granted s (reading_of s.address frame)
 
 pub stays : (s : Secondary) (calls : List Call) → ((after s calls).address ≡ s.address)
     × ((after s calls).size ≡ s.size)

@@ -32,10 +32,10 @@ octets_keep front p octets k = go p.outstanding
         same_offer p p.turn (station_answered (station_at p.stations p.turn) o.request frame answer)
         refl k
 
-    take_it : (o : Outstanding) (heard : Option (List ℕ)) (f : Option Frame)
-        → offered_at (took p o heard f) k ≡ offered_at p k
-    take_it o heard None = refl
-    take_it o heard (Some frame) = say o frame (answer_at p o frame)
+    take_it : (o : Outstanding) (arrived : Option (List ℕ)) (f : Option Frame)
+        → offered_at (took p o arrived f) k ≡ offered_at p k
+    take_it o arrived None = refl
+    take_it o arrived (Some frame) = say o frame (answer_at p o frame)
 
     listen : (o : Outstanding) (h : Option (List ℕ))
         → offered_at (received_after front p o h octets) k ≡ offered_at p k
@@ -45,7 +45,7 @@ octets_keep front p octets k = go p.outstanding
 
     go : (o : Option Outstanding) → offered_at (received_from front p o octets) k ≡ offered_at p k
     go None = refl
-    go (Some o) = listen (with_octets octets o) o.heard
+    go (Some o) = listen (with_octets octets o) o.arrived
 
 pub due_keeps : (p : Primary) (at : ℕ) (k : ℕ) → offered_at (timed_out p at) k ≡ offered_at p k
 due_keeps p at k = go p.outstanding

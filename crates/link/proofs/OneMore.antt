@@ -14,7 +14,7 @@ use Rattle.link.specs.Exchanges.{Exchange, OpenExchange, answer_to, with_station
 use Rattle.link.specs.Gaps.{resets_in}
 use Rattle.link.specs.Turns.{StationState, SessionState, no_station, station_at, is_poll}
 use Rattle.link.specs.Primary.{session_asked, session_answered}
-use Rattle.link.specs.Telling.{AreSessions, session_in}
+use Rattle.link.specs.Matching.{AreSessions, session_in}
 use Rattle.link.proofs.Links.{with_one}
 
 pub nil : (xs : List Exchange) → xs ++ [] ≡ xs

@@ -6,7 +6,7 @@ use Rattle.ft12.specs.declared.frame.Front.{Front}
 use Rattle.ft12.specs.declared.frame.Front.TheVariants.{Whole, More, Never}
 use Rattle.link.specs.Answers.{Service, Asked, Status, Reset, Counted, Answer, answer_of}
 use Rattle.link.specs.Exchanges.{OpenExchange, Exchanges, IsOutstanding, answer_to, whole_of, view}
-use Rattle.link.specs.Exchanges.{views, with_station, heard_octets, timed}
+use Rattle.link.specs.Exchanges.{views, with_station, received_octets, timed}
 use Rattle.link.specs.Gaps.{gap_at}
 use Rattle.link.specs.Procedure.{LinkSettings, Link, Down, Available, Next, Held, held, MaySend}
 use Rattle.link.specs.Procedure.{is_up, goes_down, after_silence, link_after}
@@ -16,9 +16,9 @@ use Rattle.link.specs.Primary.{outcome_at, outcome_after, outcome_from, received
 use Rattle.link.specs.Primary.{due_from, timed_out, due_outcome, due_outcome_from, miss_outcome}
 use Rattle.link.specs.Primary.{unanswered, gap_of, turn_gap, with_gap}
 use Rattle.link.specs.declared.outcome.Outcome.TheVariants as outcome
-use Rattle.link.specs.Telling.{IsAllowed, IsHeard, IsAwaited, IsOver, IsCurrent, TellsBy}
+use Rattle.link.specs.Matching.{IsAllowed, IsReceived, IsAwaited, IsOver, IsCurrent, MatchesBy}
 use Rattle.link.specs.Runs.{silence_outcome}
-use Rattle.link.proofs.Telling.{said_now, heard_open}
+use Rattle.link.proofs.Matching.{said_now, received_open}
 use Rattle.link.proofs.Called.{links_at}
 
 -- an exchange that is over isn't outstanding
@@ -31,7 +31,7 @@ over_not front address x (inr (inr a)) out = let now = said_now front address x 
 
 -- nothing is heard yet
 none_yet : (front : List ℕ → Front) (address : ℕ) (x : OpenExchange) (h : Option (List ℕ))
-    → IsHeard front address x h →
+    → IsReceived front address x h →
     option_and_then (answer_of address x.request) (whole_of (front x.octets)) ≡ None
 none_yet front address x (Some octets) m =
     ap (λ (f : Front). option_and_then (answer_of address x.request) (whole_of f)) m.1
@@ -44,7 +44,7 @@ awaited_out : (front : List ℕ → Front) (addresses : List ℕ) (turn : ℕ) (
 awaited_out front addresses turn o x w = (
   ap (λ (i : ℕ). option_and_then (answer_of (slice_index addresses i) x.request)
       (whole_of (front x.octets))) w.station
-      ∙ none_yet front (slice_index addresses turn) x o.heard w.heard,
+      ∙ none_yet front (slice_index addresses turn) x o.arrived w.arrived,
   w.waits,
   w.stands,
 )
@@ -60,16 +60,16 @@ awaited_at front addresses turn None x over out =
     absurd (over_not front (slice_index addresses x.station) x over out)
 awaited_at front addresses turn (Some q) x w out = (q, refl, w)
 
-pub told_octets : (front : List ℕ → Front) (settings : LinkSettings) (addresses : List ℕ)
+pub logged_octets : (front : List ℕ → Front) (settings : LinkSettings) (addresses : List ℕ)
     (p : Primary) (e : Exchanges)
     (octets : List ℕ) (x : OpenExchange) →
-    TellsBy front settings addresses p e → e.current ≡ Some x
+    MatchesBy front settings addresses p e → e.current ≡ Some x
     → IsOutstanding (slice_index addresses x.station) (view front x).exchange →
     received_outcome front p octets
     ≡ with_gap (gap_at front addresses x.station e)
     (outcome_of x.station x.request (answer_to (slice_index addresses x.station)
-    (view front (heard_octets octets x)).exchange))
-told_octets front settings addresses p e octets x t latest out =
+    (view front (received_octets octets x)).exchange))
+logged_octets front settings addresses p e octets x t latest out =
     let a = awaited_at front addresses p.turn p.outstanding x
     (subst (λ (c : Option OpenExchange). IsCurrent front addresses p.turn p.outstanding c) latest
     t.current)
@@ -77,12 +77,12 @@ told_octets front settings addresses p e octets x t latest out =
     ap (λ (o : Option Outstanding). outcome_from front p o octets) a.1 ∙ go a.0 a.2
   where
     go : (q : Outstanding) → IsAwaited front (slice_index addresses p.turn) p.turn q x →
-        outcome_after front p q q.heard octets
+        outcome_after front p q q.arrived octets
         ≡ with_gap (gap_at front addresses x.station e)
         (outcome_of x.station x.request (answer_to (slice_index addresses x.station)
-        (view front (heard_octets octets x)).exchange))
+        (view front (received_octets octets x)).exchange))
     go q w =
-        by_heard q.heard w.heard
+        by_received q.arrived w.arrived
         ∙ ap (λ (g : Option ℕ). with_gap g (outcome_of p.turn x.request
         (option_and_then (answer_of (slice_index addresses p.turn) x.request)
         (whole_of (front (x.octets ++ octets)))))) gap
@@ -92,7 +92,7 @@ told_octets front settings addresses p e octets x t latest out =
         ∙ ap (λ (z : OpenExchange). with_gap (gap_at front addresses x.station e)
         (outcome_of x.station x.request (answer_to (slice_index addresses x.station)
         (view front z).exchange)))
-        (sym (heard_open octets x w.waits w.stands))
+        (sym (received_open octets x w.waits w.stands))
       where
         gap : turn_gap p ≡ gap_at front addresses p.turn e
         gap = ap gap_of (sym (t.sessions p.turn))
@@ -113,15 +113,15 @@ told_octets front settings addresses p e octets x t latest out =
             (outcome_of p.turn r (answer_of (slice_index addresses p.turn) r frame)))
             (sym w.request)
 
-        by_heard : (h : Option (List ℕ)) → IsHeard front (slice_index addresses p.turn) x h →
+        by_received : (h : Option (List ℕ)) → IsReceived front (slice_index addresses p.turn) x h →
             outcome_after front p q h octets
             ≡ with_gap (turn_gap p) (outcome_of p.turn x.request
             (option_and_then (answer_of (slice_index addresses p.turn) x.request)
             (whole_of (front (x.octets ++ octets)))))
-        by_heard None said =
+        by_received None said =
             ap (λ (m : Option Answer). with_gap (turn_gap p) (outcome_of p.turn x.request m))
             (sym (said octets))
-        by_heard (Some before) so =
+        by_received (Some before) so =
             ap (λ (b : List ℕ). outcome_at p q (whole_of (front (b ++ octets)))) so.0
             ∙ by_front (front (x.octets ++ octets))
 
@@ -132,7 +132,7 @@ NoneIsOutstanding front addresses e = (x : OpenExchange) → e.current ≡ Some 
 
 free_then : (front : List ℕ → Front) (settings : LinkSettings) (addresses : List ℕ) (p : Primary)
     (e : Exchanges)
-    → TellsBy front settings addresses p e →
+    → MatchesBy front settings addresses p e →
     NoneIsOutstanding front addresses e → p.outstanding ≡ None
 free_then front settings addresses p e t none = go p.outstanding e.current refl t.current
   where
@@ -146,7 +146,7 @@ free_then front settings addresses p e t none = go p.outstanding e.current refl 
 pub quiet_octets : (front : List ℕ → Front) (settings : LinkSettings) (addresses : List ℕ)
     (p : Primary)
     (e : Exchanges) (octets : List ℕ) →
-    TellsBy front settings addresses p e → NoneIsOutstanding front addresses e
+    MatchesBy front settings addresses p e → NoneIsOutstanding front addresses e
     → (received front p octets ≡ p) × (received_outcome front p octets ≡ outcome.None)
 quiet_octets front settings addresses p e octets t none =
     let free = free_then front settings addresses p e t none in (
@@ -157,7 +157,7 @@ quiet_octets front settings addresses p e octets t none =
 pub quiet_due : (front : List ℕ → Front) (settings : LinkSettings) (addresses : List ℕ)
     (p : Primary) (e : Exchanges)
     (at : ℕ) →
-    TellsBy front settings addresses p e → NoneIsOutstanding front addresses e
+    MatchesBy front settings addresses p e → NoneIsOutstanding front addresses e
     → (timed_out p at ≡ p) × (due_outcome p at ≡ outcome.None)
 quiet_due front settings addresses p e at t none =
     let free = free_then front settings addresses p e t none in (
@@ -169,7 +169,8 @@ quiet_due front settings addresses p e at t none =
 late_so : (front : List ℕ → Front) (settings : LinkSettings) (addresses : List ℕ) (p : Primary)
     (e : Exchanges)
     (at : ℕ) (x : OpenExchange) (q : Outstanding) →
-    TellsBy front settings addresses p e → IsAwaited front (slice_index addresses p.turn) p.turn q x
+    MatchesBy front settings addresses p e → IsAwaited front (slice_index addresses p.turn) p.turn q
+    x
     → is_late p q at ≡ (timed settings.answer_ms at x).closed
 late_so front settings addresses p e at x q t w =
     ap (λ (s : LinkSettings). nat_le (q.since + s.answer_ms) at) t.settings_are
@@ -181,7 +182,7 @@ late_so front settings addresses p e at x q t w =
 pub early_due : (front : List ℕ → Front) (settings : LinkSettings) (addresses : List ℕ)
     (p : Primary) (e : Exchanges)
     (at : ℕ) (x : OpenExchange) →
-    TellsBy front settings addresses p e → e.current ≡ Some x
+    MatchesBy front settings addresses p e → e.current ≡ Some x
     → IsOutstanding (slice_index addresses x.station) (view front x).exchange →
     (timed settings.answer_ms at x).closed ≡ false → (timed_out p at ≡ p)
     × (due_outcome p at ≡ outcome.None)
@@ -233,10 +234,11 @@ falls settings (Counted sent asked) (Next fcb) may = held_falls settings sent se
 falls settings (Counted sent asked) (Held fcb service missed) may =
     held_falls settings sent sent asked asked (suc missed)
 
-pub told_due : (front : List ℕ → Front) (settings : LinkSettings) (addresses : List ℕ) (p : Primary)
+pub logged_due : (front : List ℕ → Front) (settings : LinkSettings) (addresses : List ℕ)
+    (p : Primary)
     (e : Exchanges)
     (at : ℕ) (x : OpenExchange) →
-    TellsBy front settings addresses p e → e.current ≡ Some x
+    MatchesBy front settings addresses p e → e.current ≡ Some x
     → IsOutstanding (slice_index addresses x.station) (view front x).exchange →
     (timed settings.answer_ms at x).closed ≡ true →
     due_outcome p at
@@ -245,7 +247,7 @@ pub told_due : (front : List ℕ → Front) (settings : LinkSettings) (addresses
     (after_silence settings x.request true (link_after settings (slice_index addresses x.station)
     Down
     (with_station x.station (views front e.ended))))
-told_due front settings addresses p e at x t latest out late =
+logged_due front settings addresses p e at x t latest out late =
     let a = awaited_at front addresses p.turn p.outstanding x
     (subst (λ (c : Option OpenExchange). IsCurrent front addresses p.turn p.outstanding c) latest
     t.current)

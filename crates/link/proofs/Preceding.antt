@@ -385,10 +385,10 @@ octets_rest front p octets k = go p.outstanding
     say o frame (Some answer) =
         less_left (p.turn == k) _ _ (answer_rest p.settings.burst answer p.phase)
 
-    take_it : (o : Outstanding) (heard : Option (List ℕ)) (f : Option Frame)
-        → rest_at (took p o heard f) k ≤ rest_at p k
-    take_it o heard None = omega arith
-    take_it o heard (Some frame) = say o frame (answer_at p o frame)
+    take_it : (o : Outstanding) (arrived : Option (List ℕ)) (f : Option Frame)
+        → rest_at (took p o arrived f) k ≤ rest_at p k
+    take_it o arrived None = omega arith
+    take_it o arrived (Some frame) = say o frame (answer_at p o frame)
 
     listen : (o : Outstanding) (h : Option (List ℕ)) → rest_at (received_after front p o h octets) k
         ≤ rest_at p k
@@ -398,7 +398,7 @@ octets_rest front p octets k = go p.outstanding
 
     go : (o : Option Outstanding) → rest_at (received_from front p o octets) k ≤ rest_at p k
     go None = omega arith
-    go (Some o) = listen (with_octets octets o) o.heard
+    go (Some o) = listen (with_octets octets o) o.arrived
 
 due_rest : (p : Primary) (at : ℕ) (k : ℕ) → rest_at (timed_out p at) k ≤ rest_at p k
 due_rest p at k = go p.outstanding

@@ -185,9 +185,9 @@ abbrev pub StateAt : Primary → Asked → Type 0
 StateAt p request =
     State p.settings p.outstanding p.again p.phase (station_at p.stations p.turn).link request
 
-abbrev pub Tells : Primary → Option Sending → Type 0
-Tells p None = (p.outstanding ≡ None) × (p.again ≡ false)
-Tells p (Some s) = (p.turn ≡ s.station) × StateAt p s.request
+abbrev pub Matches : Primary → Option Sending → Type 0
+Matches p None = (p.outstanding ≡ None) × (p.again ≡ false)
+Matches p (Some s) = (p.turn ≡ s.station) × StateAt p s.request
 
 pub none_out : (o : Option Outstanding) (x : Outstanding) → o ≡ None → o ≡ Some x → ⊥
 none_out o x e f = let no : None ≡ Some x = sym e ∙ f in cc
@@ -207,20 +207,26 @@ asks : (p : Primary) (now : ℕ) (c : Chosen) → Follows c.wanted.request c.wan
     → (is_service c.wanted.request ≡ false → is_held (station_at p.stations c.station).link ≡ false)
     → StateAt (after_choice p now (Some c)) c.wanted.request
 asks p now c follows new =
-    waits (record { request = c.wanted.request; since = now; heard = Some []; has_octets = false })
+    waits (record {
+      request = c.wanted.request;
+      since = now;
+      arrived = Some [];
+      has_octets =
+          false;
+    })
     refl refl refl follows
     (λ e. ap is_held (set_view (λ (s : StationState). s.link) p.stations c.station
     (station_asked (station_at p.stations c.station) c.wanted.request) refl c.station) ∙ new e)
 
 -- A repeat is the latest request, and its phase stays.
-repeat_follows : (p : Primary) (latest : Option Sending) (c : Chosen) → Tells p latest
+repeat_follows : (p : Primary) (latest : Option Sending) (c : Chosen) → Matches p latest
     → p.outstanding ≡ None
     → c.station ≡ p.turn → p.again ≡ true
     → is_held (station_at p.stations c.station).link ≡ true
     → c.wanted.request ≡ held_request (station_at p.stations c.station).link
     → c.wanted.following ≡ p.phase → Follows c.wanted.request c.wanted.following
-repeat_follows p None c tells out at again held is stays =
-    absurd (not_both p.again again tells.1)
+repeat_follows p None c matches out at again held is stays =
+    absurd (not_both p.again again matches.1)
 repeat_follows p (Some s) c (turn, waits o awaited same once follows new) out at again held is
     stays =
     absurd (none_out p.outstanding o out awaited)
@@ -233,10 +239,10 @@ repeat_follows p (Some s) c (turn, ended free more again_is go_on) out at again 
     subst (λ (f : Phase). Follows c.wanted.request f) (sym stays)
     (subst (λ (r : Asked). Follows r p.phase) same it.0)
 
-chosen_tells : (p : Primary) (latest : Option Sending) (c : Chosen) (now : ℕ) (may_poll : Bool)
-    → Tells p latest → p.outstanding ≡ None → IsChosen p may_poll c
+chosen_matches : (p : Primary) (latest : Option Sending) (c : Chosen) (now : ℕ) (may_poll : Bool)
+    → Matches p latest → p.outstanding ≡ None → IsChosen p may_poll c
     → StateAt (after_choice p now (Some c)) c.wanted.request
-chosen_tells p latest c now may_poll tells out (here at is) =
+chosen_matches p latest c now may_poll matches out (here at is) =
     by (subst (λ (v : Option Wanted). GoesIt (station_at p.stations c.station).link p.again p.phase
     v) is
     (wanted_goes p.settings.burst may_poll p.again (station_at p.stations c.station)
@@ -247,10 +253,10 @@ chosen_tells p latest c now may_poll tells out (here at is) =
         → StateAt (after_choice p now (Some c)) c.wanted.request
     by (other follows new) = asks p now c follows new
     by (repeated again held same stays) =
-        asks p now c (repeat_follows p latest c tells out at again held same stays)
+        asks p now c (repeat_follows p latest c matches out at again held same stays)
         (λ e. absurd (asks_service (station_at p.stations c.station).link c.wanted.request held same
         e))
-chosen_tells p latest c now may_poll tells out (there is) =
+chosen_matches p latest c now may_poll matches out (there is) =
     by (subst (λ (v : Option Wanted). GoesIt (station_at p.stations c.station).link false Starting
     v) is
     (wanted_goes p.settings.burst may_poll false (station_at p.stations c.station)
@@ -262,21 +268,22 @@ chosen_tells p latest c now may_poll tells out (there is) =
     by (other follows new) = asks p now c follows new
     by (repeated again held same stays) = absurd (not_both false again refl)
 
-asked_tells : (p : Primary) (latest : Option Sending) (now : ℕ) (may_poll : Bool) → Tells p latest
-    → Tells (asked p now may_poll) (latest_by p p.outstanding may_poll latest)
-asked_tells p latest now may_poll tells = go p.outstanding refl
+asked_matches : (p : Primary) (latest : Option Sending) (now : ℕ) (may_poll : Bool)
+    → Matches p latest
+    → Matches (asked p now may_poll) (latest_by p p.outstanding may_poll latest)
+asked_matches p latest now may_poll matches = go p.outstanding refl
   where
     by : p.outstanding ≡ None → (c : Option Chosen) → choice p may_poll ≡ c
-        → Tells (after_choice p now c) (sending_by c)
+        → Matches (after_choice p now c) (sending_by c)
     by out None e = (out, refl)
     by out (Some c) e =
-        (refl, chosen_tells p latest c now may_poll tells out (is_chosen p may_poll c e))
+        (refl, chosen_matches p latest c now may_poll matches out (is_chosen p may_poll c e))
 
     go : (o : Option Outstanding) → p.outstanding ≡ o
-        → Tells (asked_from p o now may_poll) (latest_by p o may_poll latest)
-    go (Some o) e = tells
+        → Matches (asked_from p o now may_poll) (latest_by p o may_poll latest)
+    go (Some o) e = matches
     go None e =
-        subst (λ (s : Option Sending). Tells (after_choice p now (choice p may_poll)) s)
+        subst (λ (s : Option Sending). Matches (after_choice p now (choice p may_poll)) s)
         (sym (ap (λ (o : Option Outstanding). sending_from p o may_poll) e))
         (by e (choice p may_poll) refl)
 
@@ -325,13 +332,13 @@ goes_on_behind Reset Unable phase link link' down follows up = tt
 goes_on_behind (Counted fcb service) Unable phase link link' down follows up =
     absurd (not_both (is_answered link') up (down refl))
 
-answer_tells : (p : Primary) (latest : Option Sending) (o : Outstanding) (frame : Frame)
-    (answer : Answer) → p.outstanding ≡ Some o → Tells p latest
-    → Tells (answered p o.request frame answer) latest
-answer_tells p None o frame answer e tells = absurd (none_out p.outstanding o tells.0 e)
-answer_tells p (Some s) o frame answer e (turn, ended free more again_is go_on) =
+answer_matches : (p : Primary) (latest : Option Sending) (o : Outstanding) (frame : Frame)
+    (answer : Answer) → p.outstanding ≡ Some o → Matches p latest
+    → Matches (answered p o.request frame answer) latest
+answer_matches p None o frame answer e matches = absurd (none_out p.outstanding o matches.0 e)
+answer_matches p (Some s) o frame answer e (turn, ended free more again_is go_on) =
     absurd (none_out p.outstanding o free e)
-answer_tells p (Some s) o frame answer e (turn, waits x awaited same once follows new) = (
+answer_matches p (Some s) o frame answer e (turn, waits x awaited same once follows new) = (
   turn,
   ended refl (λ has. absurd (not_both (has_repeats p.settings link) has
       (no_repeats p.settings link free_of)))
@@ -359,19 +366,19 @@ answer_tells p (Some s) o frame answer e (turn, waits x awaited same once follow
         (λ none. new (ap is_service (sym asked_is) ∙ none))) refl
 
 -- The request that is out is the same.
-waits_tells : (p p' : Primary) (latest : Option Sending) (o o' : Outstanding)
+waits_matches : (p p' : Primary) (latest : Option Sending) (o o' : Outstanding)
     → p.outstanding ≡ Some o
     → p'.turn ≡ p.turn → p'.phase ≡ p.phase → p'.again ≡ p.again → p'.stations ≡ p.stations
-    → p'.outstanding ≡ Some o' → o'.request ≡ o.request → Tells p latest → Tells p' latest
-waits_tells p p' None o o' e turn phase again stations out same tells =
-    absurd (none_out p.outstanding o tells.0 e)
-waits_tells p p' (Some s) o o' e turn phase again stations out same (
+    → p'.outstanding ≡ Some o' → o'.request ≡ o.request → Matches p latest → Matches p' latest
+waits_matches p p' None o o' e turn phase again stations out same matches =
+    absurd (none_out p.outstanding o matches.0 e)
+waits_matches p p' (Some s) o o' e turn phase again stations out same (
   at,
   ended free more again_is
       go_on,
 ) =
     absurd (none_out p.outstanding o free e)
-waits_tells p p' (Some s) o o' e turn phase again stations out same (
+waits_matches p p' (Some s) o o' e turn phase again stations out same (
   at,
   waits x awaited is once
       follows new,
@@ -384,41 +391,41 @@ waits_tells p p' (Some s) o o' e turn phase again stations out same (
       ∙ ap (λ (i : ℕ). is_held (station_at p.stations i).link) turn ∙ new none),
 )
 
-octets_tell : (front : List ℕ → Front) (p : Primary) (came : List ℕ) (latest : Option Sending)
-    → Tells p latest → Tells (received front p came) latest
-octets_tell front p came latest tells = go p.outstanding refl
+octets_match : (front : List ℕ → Front) (p : Primary) (came : List ℕ) (latest : Option Sending)
+    → Matches p latest → Matches (received front p came) latest
+octets_match front p came latest matches = go p.outstanding refl
   where
-    stays : (o : Outstanding) → p.outstanding ≡ Some o → (heard : Option (List ℕ))
-        → Tells (took p (with_octets came o) heard None) latest
-    stays o e heard = waits_tells p (took p (with_octets came o) heard None) latest o
+    stays : (o : Outstanding) → p.outstanding ≡ Some o → (arrived : Option (List ℕ))
+        → Matches (took p (with_octets came o) arrived None) latest
+    stays o e arrived = waits_matches p (took p (with_octets came o) arrived None) latest o
         (record {
           request = o.request;
           since = o.since;
-          heard = heard;
+          arrived = arrived;
           has_octets = (with_octets came o).has_octets;
-        }) e refl refl refl refl refl refl tells
+        }) e refl refl refl refl refl refl matches
 
     say : (o : Outstanding) → p.outstanding ≡ Some o → (frame : Frame) (m : Option Answer)
-        → Tells (said_by p (with_octets came o) frame m) latest
+        → Matches (said_by p (with_octets came o) frame m) latest
     say o e frame None = stays o e None
-    say o e frame (Some answer) = answer_tells p latest o frame answer e tells
+    say o e frame (Some answer) = answer_matches p latest o frame answer e matches
 
     take_it : (o : Outstanding) → p.outstanding ≡ Some o
-        → (heard : Option (List ℕ)) (f : Option Frame)
-        → Tells (took p (with_octets came o) heard f) latest
-    take_it o e heard None = stays o e heard
-    take_it o e heard (Some frame) = say o e frame (answer_at p (with_octets came o) frame)
+        → (arrived : Option (List ℕ)) (f : Option Frame)
+        → Matches (took p (with_octets came o) arrived f) latest
+    take_it o e arrived None = stays o e arrived
+    take_it o e arrived (Some frame) = say o e frame (answer_at p (with_octets came o) frame)
 
     listen : (o : Outstanding) → p.outstanding ≡ Some o → (h : Option (List ℕ))
-        → Tells (received_after front p (with_octets came o) h came) latest
+        → Matches (received_after front p (with_octets came o) h came) latest
     listen o e None = stays o e None
     listen o e (Some before) = take_it o e (open_octets (before ++ came) (front (before ++ came)))
         (whole_of (front (before ++ came)))
 
     go : (o : Option Outstanding) → p.outstanding ≡ o
-        → Tells (received_from front p o came) latest
-    go None e = tells
-    go (Some o) e = listen o e o.heard
+        → Matches (received_from front p o came) latest
+    go None e = matches
+    go (Some o) e = listen o e o.arrived
 
 -- ---- no answer in time
 
@@ -452,12 +459,12 @@ held_is ss k s held = go (cases_lt k (length ss))
         (ap (λ (l : List StationState). is_held (station_at l k).link) (set_past ss k s past)
         ∙ ap (λ (t : StationState). is_held t.link) (get_or_past ss k no_station past)))
 
-missed_tells : (p : Primary) (latest : Option Sending) (o : Outstanding) → p.outstanding ≡ Some o
-    → Tells p latest → Tells (unanswered p o) latest
-missed_tells p None o e tells = absurd (none_out p.outstanding o tells.0 e)
-missed_tells p (Some s) o e (turn, ended free more again_is go_on) =
+missed_matches : (p : Primary) (latest : Option Sending) (o : Outstanding) → p.outstanding ≡ Some o
+    → Matches p latest → Matches (unanswered p o) latest
+missed_matches p None o e matches = absurd (none_out p.outstanding o matches.0 e)
+missed_matches p (Some s) o e (turn, ended free more again_is go_on) =
     absurd (none_out p.outstanding o free e)
-missed_tells p (Some s) o e (turn, waits x awaited same once follows new) =
+missed_matches p (Some s) o e (turn, waits x awaited same once follows new) =
     (turn, ended refl sends repeats answers)
   where
     it : StationState
@@ -498,59 +505,59 @@ missed_tells p (Some s) o e (turn, waits x awaited same once follows new) =
         (set_none (λ (t : StationState). is_answered t.link) p.stations p.turn it
         (silent_down p.settings o.request (station_at p.stations p.turn).link) refl))
 
-due_tells : (p : Primary) (at : ℕ) (latest : Option Sending) → Tells p latest
-    → Tells (timed_out p at) latest
-due_tells p at latest tells = go p.outstanding refl
+due_matches : (p : Primary) (at : ℕ) (latest : Option Sending) → Matches p latest
+    → Matches (timed_out p at) latest
+due_matches p at latest matches = go p.outstanding refl
   where
     late : (o : Outstanding) → p.outstanding ≡ Some o → (b : Bool)
-        → Tells (if b then unanswered p o else p) latest
-    late o e true = missed_tells p latest o e tells
-    late o e false = tells
+        → Matches (if b then unanswered p o else p) latest
+    late o e true = missed_matches p latest o e matches
+    late o e false = matches
 
-    go : (o : Option Outstanding) → p.outstanding ≡ o → Tells (due_from p o at) latest
-    go None e = tells
+    go : (o : Option Outstanding) → p.outstanding ≡ o → Matches (due_from p o at) latest
+    go None e = matches
     go (Some o) e = late o e (is_late p o at)
 
 -- ---- the other calls
 
 -- Only what is offered is another.
-offers_tell : (p : Primary) (stations : List StationState) (latest : Option Sending)
-    → (station_at stations p.turn).link ≡ (station_at p.stations p.turn).link → Tells p latest
-    → Tells (record p { stations = stations }) latest
-offers_tell p stations None same tells = tells
-offers_tell p stations (Some s) same (turn, state) = (
+offers_match : (p : Primary) (stations : List StationState) (latest : Option Sending)
+    → (station_at stations p.turn).link ≡ (station_at p.stations p.turn).link → Matches p latest
+    → Matches (record p { stations = stations }) latest
+offers_match p stations None same matches = matches
+offers_match p stations (Some s) same (turn, state) = (
   turn,
   subst (λ (l : Link). State p.settings p.outstanding p.again p.phase l s.request) (sym same) state,
 )
 
-offer_tells : (p : Primary) (i : ℕ) (asdu : List ℕ) (latest : Option Sending) → Tells p latest
-    → Tells (offered_to p i asdu) latest
-offer_tells p i asdu latest tells = go (may_offer p i)
+offer_matches : (p : Primary) (i : ℕ) (asdu : List ℕ) (latest : Option Sending) → Matches p latest
+    → Matches (offered_to p i asdu) latest
+offer_matches p i asdu latest matches = go (may_offer p i)
   where
-    go : (b : Bool) → Tells (if b then record p {
+    go : (b : Bool) → Matches (if b then record p {
       stations = slice_set p.stations i (with_offer (station_at p.stations i) (Some asdu));
     } else p) latest
     go true =
-        offers_tell p (slice_set p.stations i (with_offer (station_at p.stations i) (Some asdu)))
+        offers_match p (slice_set p.stations i (with_offer (station_at p.stations i) (Some asdu)))
         latest
         (set_view (λ (s : StationState). s.link) p.stations i
         (with_offer (station_at p.stations i) (Some asdu)) refl p.turn)
-        tells
-    go false = tells
+        matches
+    go false = matches
 
 -- Where the link of the station is given up, its request is over.
-give_up_tells : (p : Primary) (k : ℕ) (latest : Option Sending) → Tells p latest
-    → Tells (given_up k p) latest
-give_up_tells p k None tells = (go (p.turn == k), off (p.turn == k))
+give_up_matches : (p : Primary) (k : ℕ) (latest : Option Sending) → Matches p latest
+    → Matches (given_up k p) latest
+give_up_matches p k None matches = (go (p.turn == k), off (p.turn == k))
   where
     go : (b : Bool) → (if b then None else p.outstanding) ≡ None
     go true = refl
-    go false = tells.0
+    go false = matches.0
 
     off : (b : Bool) → (if b then false else p.again) ≡ false
     off true = refl
-    off false = tells.1
-give_up_tells p k (Some s) (turn, state) = (turn, go (p.turn == k) refl)
+    off false = matches.1
+give_up_matches p k (Some s) (turn, state) = (turn, go (p.turn == k) refl)
   where
     it : StationState
     it = station_given_up (station_at p.stations k)
@@ -575,16 +582,16 @@ give_up_tells p k (Some s) (turn, state) = (turn, go (p.turn == k) refl)
         (sym (ap (λ (t : StationState). t.link)
         (get_or-set_other p.stations k p.turn it no_station (eqb-false p.turn k e)))) state
 
-pub call_tells : (p : Primary) (latest : Option Sending) (call : Call) → Tells p latest
-    → Tells (called p call) (latest_after p call latest)
-call_tells p latest (runs.Next now may_poll) tells = asked_tells p latest now may_poll tells
-call_tells p latest (Octets octets) tells =
-    octets_tell (front_of p.settings.size) p octets latest tells
-call_tells p latest (Due now) tells = due_tells p now latest tells
-call_tells p latest (Offer station asdu) tells = offer_tells p station asdu latest tells
-call_tells p latest Withdraw tells =
-    offers_tell p (map without_offer p.stations) latest (without_links p.stations p.turn) tells
-call_tells p latest (GivesUp station) tells = give_up_tells p station latest tells
+pub call_matches : (p : Primary) (latest : Option Sending) (call : Call) → Matches p latest
+    → Matches (called p call) (latest_after p call latest)
+call_matches p latest (runs.Next now may_poll) matches = asked_matches p latest now may_poll matches
+call_matches p latest (Octets octets) matches =
+    octets_match (front_of p.settings.size) p octets latest matches
+call_matches p latest (Due now) matches = due_matches p now latest matches
+call_matches p latest (Offer station asdu) matches = offer_matches p station asdu latest matches
+call_matches p latest Withdraw matches =
+    offers_match p (map without_offer p.stations) latest (without_links p.stations p.turn) matches
+call_matches p latest (GivesUp station) matches = give_up_matches p station latest matches
 
 -- ---- the repeat
 
@@ -619,7 +626,7 @@ turn_sends p may_poll request following out is =
     ∙ ap (λ (w : Option Wanted). sending_by (chosen_or w p.turn
     (first_after p.settings.burst may_poll p.stations (length p.stations) p.turn))) is
 
-repeats : (p : Primary) (latest : Option Sending) (call : Call) → Tells p latest
+repeats : (p : Primary) (latest : Option Sending) (call : Call) → Matches p latest
     → RepeatIsNext p latest call
 repeats p (Some s) (runs.Next now may_poll) (turn, waits o awaited same once follows new) =
     λ out has. absurd (none_out p.outstanding o out awaited)
@@ -638,19 +645,19 @@ repeats p (Some s) (runs.Next now may_poll) (turn, ended free more again_is go_o
     turn_sends p may_poll (held_request (station_at p.stations p.turn).link) p.phase out is
     ∙ ap (λ (r : Asked). Some (record { station = p.turn; request = r })) (sym it.1)
     ∙ ap (λ (i : ℕ). Some (record { station = i; request = s.request })) turn
-repeats p (Some s) (Octets octets) tells = tt
-repeats p (Some s) (Due now) tells = tt
-repeats p (Some s) (Offer station asdu) tells = tt
-repeats p (Some s) Withdraw tells = tt
-repeats p (Some s) (GivesUp station) tells = tt
-repeats p None call tells = tt
+repeats p (Some s) (Octets octets) matches = tt
+repeats p (Some s) (Due now) matches = tt
+repeats p (Some s) (Offer station asdu) matches = tt
+repeats p (Some s) Withdraw matches = tt
+repeats p (Some s) (GivesUp station) matches = tt
+repeats p None call matches = tt
 
-pub repeat_on : (p : Primary) (latest : Option Sending) (calls : List Call) → Tells p latest
+pub repeat_on : (p : Primary) (latest : Option Sending) (calls : List Call) → Matches p latest
     → RepeatsComeAtOnce p latest calls
-repeat_on p latest [] tells = tt
-repeat_on p latest (call ∷ calls) tells = (
-  repeats p latest call tells,
-  repeat_on (called p call) (latest_after p call latest) calls (call_tells p latest call tells),
+repeat_on p latest [] matches = tt
+repeat_on p latest (call ∷ calls) matches = (
+  repeats p latest call matches,
+  repeat_on (called p call) (latest_after p call latest) calls (call_matches p latest call matches),
 )
 
 pub all_repeat : (settings : LinkSettings) (addresses : List ℕ) (calls : List Call)

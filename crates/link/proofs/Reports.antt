@@ -7,7 +7,8 @@ use Rattle.ft12.specs.declared.frame.Front.TheVariants.{Whole, More, Never}
 use Rattle.link.specs.Answers.{Asked, Status, Reset, Counted, Answer, Ready, Confirmed, Busy}
 use Rattle.link.specs.Answers.{Report, NoData, Unable, answer_of}
 use Rattle.link.specs.Exchanges.{LineExchange, OpenExchange, Exchanges, Sending, answer_to, as_list}
-use Rattle.link.specs.Exchanges.{whole_of, view, views, heard_octets, heard_current, timed_current}
+use Rattle.link.specs.Exchanges.{whole_of, view, views, received_octets, received_current}
+use Rattle.link.specs.Exchanges.{timed_current}
 use Rattle.link.specs.Exchanges.{begun_by, report_by, reports_of, reports_of_exchanges}
 use Rattle.link.specs.Procedure.{LinkSettings}
 use Rattle.link.specs.Turns.{station_at}
@@ -15,10 +16,10 @@ use Rattle.link.specs.Primary.{Outstanding, Primary, answer_at, outcome_of, outc
 use Rattle.link.specs.Primary.{outcome_after, outcome_from, received_outcome, Outcome, turn_gap}
 use Rattle.link.specs.Primary.{started, with_gap}
 use Rattle.link.specs.declared.outcome.Outcome.TheVariants as outcome
-use Rattle.link.specs.Telling.{IsHeard, IsCurrent, TellsBy, report_in}
+use Rattle.link.specs.Matching.{IsReceived, IsCurrent, MatchesBy, report_in}
 use Rattle.link.proofs.Links.{views-append}
-use Rattle.link.proofs.Telling.{said_now, grown, heard_open, heard_frozen, neither}
-use Rattle.link.proofs.Telling.{over_said}
+use Rattle.link.proofs.Matching.{said_now, grown, received_open, received_frozen, neither}
+use Rattle.link.proofs.Matching.{over_said}
 
 nil : (xs : List (ℕ × List ℕ)) → xs ++ [] ≡ xs
 nil [] = refl
@@ -50,34 +51,35 @@ reports-push front address xs x =
     (nil (report_by x.station (answer_in front address x)))
 
 -- an outcome bears the report of the answer
-told_report : (station : ℕ) (request : Asked) (m : Option Answer)
+logged_report : (station : ℕ) (request : Asked) (m : Option Answer)
     → report_in (outcome_of station request m) ≡ report_by station m
-told_report station request None = refl
-told_report station Status (Some Ready) = refl
-told_report station Status (Some Confirmed) = refl
-told_report station Status (Some Busy) = refl
-told_report station Status (Some (Report asdu)) = refl
-told_report station Status (Some NoData) = refl
-told_report station Status (Some Unable) = refl
-told_report station Reset (Some Ready) = refl
-told_report station Reset (Some Confirmed) = refl
-told_report station Reset (Some Busy) = refl
-told_report station Reset (Some (Report asdu)) = refl
-told_report station Reset (Some NoData) = refl
-told_report station Reset (Some Unable) = refl
-told_report station (Counted fcb service) (Some Ready) = refl
-told_report station (Counted fcb service) (Some Confirmed) = refl
-told_report station (Counted fcb service) (Some Busy) = refl
-told_report station (Counted fcb service) (Some (Report asdu)) = refl
-told_report station (Counted fcb service) (Some NoData) = refl
-told_report station (Counted fcb service) (Some Unable) = refl
+logged_report station request None = refl
+logged_report station Status (Some Ready) = refl
+logged_report station Status (Some Confirmed) = refl
+logged_report station Status (Some Busy) = refl
+logged_report station Status (Some (Report asdu)) = refl
+logged_report station Status (Some NoData) = refl
+logged_report station Status (Some Unable) = refl
+logged_report station Reset (Some Ready) = refl
+logged_report station Reset (Some Confirmed) = refl
+logged_report station Reset (Some Busy) = refl
+logged_report station Reset (Some (Report asdu)) = refl
+logged_report station Reset (Some NoData) = refl
+logged_report station Reset (Some Unable) = refl
+logged_report station (Counted fcb service) (Some Ready) = refl
+logged_report station (Counted fcb service) (Some Confirmed) = refl
+logged_report station (Counted fcb service) (Some Busy) = refl
+logged_report station (Counted fcb service) (Some (Report asdu)) = refl
+logged_report station (Counted fcb service) (Some NoData) = refl
+logged_report station (Counted fcb service) (Some Unable) = refl
 
 -- A gap bears none.
 start_bears : (station : ℕ) (gap : Option ℕ) → report_in (started station gap) ≡ []
 start_bears station None = refl
 start_bears station (Some session) = refl
 
-gap_bears : (gap : Option ℕ) (told : Outcome) → report_in (with_gap gap told) ≡ report_in told
+gap_bears : (gap : Option ℕ) (outcome_for : Outcome) → report_in (with_gap gap outcome_for)
+    ≡ report_in outcome_for
 gap_bears gap (outcome.Started station) = start_bears station gap
 gap_bears gap (outcome.StartedGap station session) = refl
 gap_bears gap outcome.None = refl
@@ -90,17 +92,17 @@ gap_bears gap (outcome.Down station) = refl
 -- the latest exchange says more
 said_more : (front : List ℕ → Front) (address : ℕ → ℕ) (ended : List OpenExchange)
     (x y : OpenExchange)
-    (told : List (ℕ × List ℕ)) → y.station ≡ x.station →
+    (outcome_for : List (ℕ × List ℕ)) → y.station ≡ x.station →
     report_by y.station (answer_in front address y)
-    ≡ report_by x.station (answer_in front address x) ++ told →
+    ≡ report_by x.station (answer_in front address x) ++ outcome_for →
     reports_of address (views front (ended ++ y ∷ []))
-    ≡ reports_of address (views front (ended ++ x ∷ [])) ++ told
-said_more front address ended x y told station more =
+    ≡ reports_of address (views front (ended ++ x ∷ [])) ++ outcome_for
+said_more front address ended x y outcome_for station more =
     reports-push front address ended y
     ∙ ap (λ (rs : List (ℕ × List ℕ)). reports_of address (views front ended) ++ rs) more
     ∙ sym (append_assoc (reports_of address (views front ended))
-    (report_by x.station (answer_in front address x)) told)
-    ∙ ap (λ (rs : List (ℕ × List ℕ)). rs ++ told) (sym (reports-push front address ended x))
+    (report_by x.station (answer_in front address x)) outcome_for)
+    ∙ ap (λ (rs : List (ℕ × List ℕ)). rs ++ outcome_for) (sym (reports-push front address ended x))
 
 pub due_reports : (front : List ℕ → Front) (address : ℕ → ℕ) (answer_ms at : ℕ) (e : Exchanges) →
     reports_of_exchanges front address
@@ -126,22 +128,22 @@ next_reports front address now (Some s) e nothing =
     nothing
     ∙ nil (reports_of address (views front (e.ended ++ as_list e.current)))
 
-pub hear_reports : (front : List ℕ → Front) (settings : LinkSettings) (addresses : List ℕ)
+pub receive_reports : (front : List ℕ → Front) (settings : LinkSettings) (addresses : List ℕ)
     (p : Primary)
     (ended : List OpenExchange) (cur : Option OpenExchange) (octets : List ℕ) →
-    TellsBy front settings addresses p (record { ended = ended; current = cur }) →
+    MatchesBy front settings addresses p (record { ended = ended; current = cur }) →
     reports_of (λ i. slice_index addresses i)
-    (views front (ended ++ as_list (heard_current octets cur)))
+    (views front (ended ++ as_list (received_current octets cur)))
     ≡ reports_of (λ i. slice_index addresses i) (views front (ended ++ as_list cur))
     ++ report_in (received_outcome front p octets)
-hear_reports front settings addresses p ended cur octets t = go p.outstanding cur t.current
+receive_reports front settings addresses p ended cur octets t = go p.outstanding cur t.current
   where
     address : ℕ → ℕ
     address = λ i. slice_index addresses i
 
     go : (o : Option Outstanding) (c : Option OpenExchange) → IsCurrent front addresses p.turn o c →
         reports_of (λ i. slice_index addresses i)
-        (views front (ended ++ as_list (heard_current octets c)))
+        (views front (ended ++ as_list (received_current octets c)))
         ≡ reports_of (λ i. slice_index addresses i) (views front (ended ++ as_list c))
         ++ report_in (outcome_from front p o octets)
     go None None so =
@@ -152,18 +154,18 @@ hear_reports front settings addresses p ended cur octets t = go p.outstanding cu
       where
         by_frozen : (b : Bool) → (x.closed || x.given_up) ≡ b →
             reports_of (λ i. slice_index addresses i)
-            (views front (ended ++ heard_octets octets x ∷ []))
+            (views front (ended ++ received_octets octets x ∷ []))
             ≡ reports_of (λ i. slice_index addresses i) (views front (ended ++ x ∷ []))
         by_frozen true e =
             ap (λ (z : OpenExchange). reports_of (λ i. slice_index addresses i)
             (views front (ended ++ z ∷ [])))
-            (heard_frozen octets x e)
+            (received_frozen octets x e)
         by_frozen false e =
             let both = neither x.closed x.given_up e in
             let a = over_said front (slice_index addresses x.station) x over e in
             ap (λ (z : OpenExchange). reports_of (λ i. slice_index addresses i)
             (views front (ended ++ z ∷ [])))
-            (heard_open octets x both.0 both.1)
+            (received_open octets x both.0 both.1)
             ∙ reports-push front (λ i. slice_index addresses i) ended (grown x octets)
             ∙ ap (λ (m : Option Answer). reports_of (λ i. slice_index addresses i)
             (views front ended)
@@ -173,9 +175,10 @@ hear_reports front settings addresses p ended cur octets t = go p.outstanding cu
     go (Some q) (Some x) w =
         ap (λ (z : OpenExchange). reports_of (λ i. slice_index addresses i)
         (views front (ended ++ z ∷ [])))
-        (heard_open octets x w.waits w.stands)
+        (received_open octets x w.waits w.stands)
         ∙ said_more front (λ i. slice_index addresses i) ended x (grown x octets)
-        (report_in (outcome_after front p q q.heard octets)) refl (by_heard q.heard w.heard)
+        (report_in (outcome_after front p q q.arrived octets)) refl
+        (by_received q.arrived w.arrived)
       where
         -- by the station whose turn it is
         here : (f : Front) → option_and_then (answer_of (slice_index addresses x.station) x.request)
@@ -212,19 +215,19 @@ hear_reports front settings addresses p ended cur octets t = go p.outstanding cu
             w.request)
             ∙ ap (λ (i : ℕ). report_by i (answer_at p q frame)) w.station
             ∙ sym (gap_bears (turn_gap p) (outcome_of p.turn q.request (answer_at p q frame))
-            ∙ told_report p.turn q.request (answer_at p q frame))
+            ∙ logged_report p.turn q.request (answer_at p q frame))
 
-        by_heard : (h : Option (List ℕ)) → IsHeard front (slice_index addresses p.turn) x h →
+        by_received : (h : Option (List ℕ)) → IsReceived front (slice_index addresses p.turn) x h →
             report_by x.station (answer_in front (λ i. slice_index addresses i) (grown x octets))
             ≡ report_by x.station (answer_in front (λ i. slice_index addresses i) x)
             ++ report_in (outcome_after front p q h octets)
-        by_heard None said =
+        by_received None said =
             ap (λ (m : Option Answer). report_by x.station m) (here (front (x.octets ++ octets))
             ∙ said octets)
             ∙ ap (λ (rs : List (ℕ × List ℕ)). rs ++ [])
             (sym (before (front x.octets) refl (said_now front (slice_index addresses p.turn) x None
             said)))
-        by_heard (Some octets') so =
+        by_received (Some octets') so =
             by_front (front (x.octets ++ octets)) refl
             ∙ ap (λ (b : List ℕ). report_in (outcome_at p q (whole_of (front (b ++ octets)))))
             (sym so.0)

@@ -13,9 +13,11 @@ use Rattle.link.specs.Procedure.{LinkSettings}
 use Rattle.link.specs.Holding.{outstanding_from, Awaited}
 use Rattle.link.specs.declared.master.restoring.Head.{Head}
 use Rattle.link.specs.Restored.{phase_numbers, phase_from, asked_numbers, asked_from, head_numbers}
-use Rattle.link.specs.Restored.{head_from, awaited_numbers, awaited_from, awaited_of, octets_heard}
+use Rattle.link.specs.Restored.{head_from, awaited_numbers, awaited_from, awaited_of}
+use Rattle.link.specs.Restored.{octets_received}
 use Rattle.link.specs.Restored.{FitsSavedPhase, FitsSavedAsked, FitsSavedOutstanding, is_deaf}
-use Rattle.link.specs.Restored.{heard_from, heard_numbers, HeardAreOctets, HeardIsResumable}
+use Rattle.link.specs.Restored.{answered_with, received_numbers, ReceivedAreOctets}
+use Rattle.link.specs.Restored.{ReceivedIsResumable}
 use Rattle.link.specs.Restored.{primary_with}
 use Rattle.link.proofs.Saved.{bit_back, service_back, all_octets}
 
@@ -45,22 +47,23 @@ awaited_back (Some o) fits deaf is = rw (bit_back o.has_octets, asked_back o.req
 
 -- what the program keeps of it is what was outstanding
 pub outstanding_back : (o : Option Outstanding)
-    → outstanding_from (awaited_of o) (Some (octets_heard o)) ≡ o
+    → outstanding_from (awaited_of o) (Some (octets_received o)) ≡ o
 outstanding_back None = refl
-outstanding_back (Some o) = by o o.heard refl
+outstanding_back (Some o) = by o o.arrived refl
   where
-    by : (o : Outstanding) (h : Option (List ℕ)) → o.heard ≡ h
-        → outstanding_from (awaited_of (Some o)) (Some (octets_heard (Some o))) ≡ Some o
+    by : (o : Outstanding) (h : Option (List ℕ)) → o.arrived ≡ h
+        → outstanding_from (awaited_of (Some o)) (Some (octets_received (Some o))) ≡ Some o
     by o None is = rw is refl
     by o (Some octets) is = rw is refl
 
-pub heard_back : (o : Option Outstanding) → HeardAreOctets o
-    → heard_from (heard_numbers o) ≡ Some (is_deaf o, octets_heard o)
-heard_back None are = refl
-heard_back (Some o) are = by o o.heard refl are
+pub received_back : (o : Option Outstanding) → ReceivedAreOctets o
+    → answered_with (received_numbers o) ≡ Some (is_deaf o, octets_received o)
+received_back None are = refl
+received_back (Some o) are = by o o.arrived refl are
   where
-    by : (o : Outstanding) (h : Option (List ℕ)) → o.heard ≡ h → HeardAreOctets (Some o)
-        → heard_from (heard_numbers (Some o)) ≡ Some (is_deaf (Some o), octets_heard (Some o))
+    by : (o : Outstanding) (h : Option (List ℕ)) → o.arrived ≡ h → ReceivedAreOctets (Some o)
+        → answered_with (received_numbers (Some o))
+        ≡ Some (is_deaf (Some o), octets_received (Some o))
     by o None is are = rw is refl
     by o (Some octets) is are = let known = all_octets octets (rw is at are) in rw (is, known) refl
 
@@ -77,11 +80,11 @@ octets_in : Option (Bool × List ℕ) → List ℕ
 octets_in None = []
 octets_in (Some x) = x.1
 
-pub found_is : (b : Bool) (v : List ℕ) (o : Option Outstanding) → HeardAreOctets o
-    → Some (b, v) ≡ heard_from (heard_numbers o) → (b ≡ is_deaf o) × (v ≡ octets_heard o)
+pub found_is : (b : Bool) (v : List ℕ) (o : Option Outstanding) → ReceivedAreOctets o
+    → Some (b, v) ≡ answered_with (received_numbers o) → (b ≡ is_deaf o) × (v ≡ octets_received o)
 unfolding deaf_in octets_in
 found_is b v o are e =
-    let g : Some (b, v) ≡ Some (is_deaf o, octets_heard o) = e ∙ heard_back o are in
+    let g : Some (b, v) ≡ Some (is_deaf o, octets_received o) = e ∙ received_back o are in
     (ap deaf_in g, ap octets_in g)
 
 -- the primary that is made of what was read is the one that was written
@@ -90,7 +93,7 @@ pub restored_same : (p : Primary) (settings : LinkSettings) (h : Head) (a : Opti
     (ss : List StationState) → p.settings ≡ settings
     → h ≡ record { turn = p.turn; again = p.again; spoilt = p.spoilt; phase = p.phase }
     → a ≡ awaited_of p.outstanding
-    → x ≡ octets_heard p.outstanding → ss ≡ p.stations
+    → x ≡ octets_received p.outstanding → ss ≡ p.stations
     → primary_with settings h (outstanding_from a (Some x)) ss ≡ p
 restored_same p settings h a x ss set eh ea ex es =
     let q : Head = record { turn = p.turn; again = p.again; spoilt = p.spoilt; phase = p.phase } in
@@ -104,13 +107,14 @@ restored_same p settings h a x ss set eh ea ex es =
     ∙ ap (λ (ss : List StationState). primary_with p.settings q p.outstanding ss) es
 
 -- what was heard of an answer is the beginning of a frame, or nothing
-pub heard_begins : (p : Primary) (o : Option Outstanding) → HeardIsResumable p o
-    → IsProperBeginning p.settings.size (octets_heard o) ⊎ (octets_heard o ≡ [])
-heard_begins p None is = inr refl
-heard_begins p (Some o) is = by o o.heard refl is
+pub received_begins : (p : Primary) (o : Option Outstanding) → ReceivedIsResumable p o
+    → IsProperBeginning p.settings.size (octets_received o) ⊎ (octets_received o ≡ [])
+received_begins p None is = inr refl
+received_begins p (Some o) is = by o o.arrived refl is
   where
-    by : (o : Outstanding) (h : Option (List ℕ)) → o.heard ≡ h → HeardIsResumable p (Some o)
-        → IsProperBeginning p.settings.size (octets_heard (Some o)) ⊎ (octets_heard (Some o) ≡ [])
+    by : (o : Outstanding) (h : Option (List ℕ)) → o.arrived ≡ h → ReceivedIsResumable p (Some o)
+        → IsProperBeginning p.settings.size (octets_received (Some o))
+        ⊎ (octets_received (Some o) ≡ [])
     by o None e is = inr (rw e refl)
     by o (Some octets) e is = rw e (inl (rw e at is))
 
@@ -126,6 +130,8 @@ none_some r e f = cc
 none_is_none : (x : Bool × List ℕ) (r : Option (Bool × List ℕ)) → r ≡ None → r ≡ Some x → ⊥
 none_is_none x r e f = cc
 
-pub not_none : (o : Option Outstanding) → HeardAreOctets o → None ≡ heard_from (heard_numbers o) → ⊥
-not_none o are e = none_is_none (is_deaf o, octets_heard o) (heard_from (heard_numbers o)) (sym e)
-    (heard_back o are)
+pub not_none : (o : Option Outstanding) → ReceivedAreOctets o
+    → None ≡ answered_with (received_numbers o) → ⊥
+not_none o are e = none_is_none (is_deaf o, octets_received o) (answered_with (received_numbers o))
+    (sym e)
+    (received_back o are)

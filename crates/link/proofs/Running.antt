@@ -6,51 +6,53 @@ use Rattle.link.specs.Exchanges.{timed_current}
 use Rattle.link.specs.Procedure.{LinkSettings, Down, KeepsFrameCountBit}
 use Rattle.link.specs.Requests.{FitsAddress}
 use Rattle.link.specs.Primary.{Primary, start, timed_out}
-use Rattle.link.specs.Telling.{IsStable, AreSpoilt, Tells}
+use Rattle.link.specs.Matching.{IsStable, AreSpoilt, Matches}
 use Rattle.link.specs.Runs.{Call, Next, Octets, Due, Offer, Withdraw, GivesUp, called, exchanged}
 use Rattle.link.specs.Runs.{MayCall, MayCallAll, called_all, exchanged_all}
-use Rattle.link.proofs.Called.{start_tells, hear_tells, due_tells, ask_tells, offer_tells}
-use Rattle.link.proofs.Called.{withdraw_tells, give_up_tells}
+use Rattle.link.proofs.Called.{start_matches, receive_matches, due_matches, ask_matches}
+use Rattle.link.proofs.Called.{offer_matches}
+use Rattle.link.proofs.Called.{withdraw_matches, give_up_matches}
 
-pub call_tells : (settings : LinkSettings) (addresses : List ℕ) → IsStable (front_of settings.size)
+pub call_matches : (settings : LinkSettings) (addresses : List ℕ)
+    → IsStable (front_of settings.size)
     → (p : Primary) (e : Exchanges) (call : Call) →
-    MayCall p call → Tells settings addresses p e
-    → Tells settings addresses (called p call) (exchanged p call e)
-call_tells settings addresses stable p e (Next now may_poll) may t =
-    ask_tells settings addresses p e now may_poll stable t
-call_tells settings addresses stable p e (Octets octets) may t =
-    hear_tells settings addresses p e octets stable t
-call_tells settings addresses stable p e (Due now) may t =
-    subst (λ (s : LinkSettings). Tells settings addresses (timed_out p now)
+    MayCall p call → Matches settings addresses p e
+    → Matches settings addresses (called p call) (exchanged p call e)
+call_matches settings addresses stable p e (Next now may_poll) may t =
+    ask_matches settings addresses p e now may_poll stable t
+call_matches settings addresses stable p e (Octets octets) may t =
+    receive_matches settings addresses p e octets stable t
+call_matches settings addresses stable p e (Due now) may t =
+    subst (λ (s : LinkSettings). Matches settings addresses (timed_out p now)
     (record { ended = e.ended; current = timed_current s.answer_ms now e.current }))
     (sym t.settings_are)
-    (due_tells settings addresses p e now t)
-call_tells settings addresses stable p e (Offer station asdu) may t =
-    offer_tells settings addresses p e station asdu may.0 may.1 t
-call_tells settings addresses stable p e Withdraw may t =
-    withdraw_tells settings addresses p e t
-call_tells settings addresses stable p e (GivesUp station) may t =
-    give_up_tells settings addresses p e station may t
+    (due_matches settings addresses p e now t)
+call_matches settings addresses stable p e (Offer station asdu) may t =
+    offer_matches settings addresses p e station asdu may.0 may.1 t
+call_matches settings addresses stable p e Withdraw may t =
+    withdraw_matches settings addresses p e t
+call_matches settings addresses stable p e (GivesUp station) may t =
+    give_up_matches settings addresses p e station may t
 
-pub calls_tell : (settings : LinkSettings) (addresses : List ℕ) → IsStable (front_of settings.size)
+pub calls_match : (settings : LinkSettings) (addresses : List ℕ) → IsStable (front_of settings.size)
     → (p : Primary) (e : Exchanges) (calls : List Call) →
-    MayCallAll p calls → Tells settings addresses p e
-    → Tells settings addresses (called_all p calls)
+    MayCallAll p calls → Matches settings addresses p e
+    → Matches settings addresses (called_all p calls)
     (exchanged_all p calls e)
-calls_tell settings addresses stable p e [] may t = t
-calls_tell settings addresses stable p e (call ∷ calls) may t =
-    calls_tell settings addresses stable (called p call) (exchanged p call e) calls may.1
-    (call_tells settings addresses stable p e call may.0 t)
+calls_match settings addresses stable p e [] may t = t
+calls_match settings addresses stable p e (call ∷ calls) may t =
+    calls_match settings addresses stable (called p call) (exchanged p call e) calls may.1
+    (call_matches settings addresses stable p e call may.0 t)
 
-run_tells : (settings : LinkSettings) (addresses : List ℕ) → IsStable (front_of settings.size)
+run_matches : (settings : LinkSettings) (addresses : List ℕ) → IsStable (front_of settings.size)
     → (calls : List Call) →
     0 < length addresses → All (FitsAddress settings.size) addresses
     → MayCallAll (start settings addresses) calls →
-    Tells settings addresses (called_all (start settings addresses) calls)
+    Matches settings addresses (called_all (start settings addresses) calls)
     (exchanged_all (start settings addresses) calls no_exchanges)
-run_tells settings addresses stable calls some fit may =
-    calls_tell settings addresses stable (start settings addresses) no_exchanges calls may
-    (start_tells settings addresses some fit)
+run_matches settings addresses stable calls some fit may =
+    calls_match settings addresses stable (start settings addresses) no_exchanges calls may
+    (start_matches settings addresses some fit)
 
 pub run_keeps : (settings : LinkSettings) (addresses : List ℕ) → IsStable (front_of settings.size)
     → (calls : List Call) (station : ℕ) →
@@ -60,7 +62,7 @@ pub run_keeps : (settings : LinkSettings) (addresses : List ℕ) → IsStable (f
     (with_station station (views (front_of settings.size)
     (all_of (exchanged_all (start settings addresses) calls no_exchanges))))
 run_keeps settings addresses stable calls station some fit may =
-    (run_tells settings addresses stable calls some fit may).keeps station
+    (run_matches settings addresses stable calls some fit may).keeps station
 
 pub run_counts : (settings : LinkSettings) (addresses : List ℕ) → IsStable (front_of settings.size)
     → (calls : List Call) →
@@ -70,4 +72,4 @@ pub run_counts : (settings : LinkSettings) (addresses : List ℕ) → IsStable (
     (called_all (start settings addresses) calls).spoilt
     (all_of (exchanged_all (start settings addresses) calls no_exchanges))
 run_counts settings addresses stable calls some fit may =
-    (run_tells settings addresses stable calls some fit may).spoilt
+    (run_matches settings addresses stable calls some fit may).spoilt

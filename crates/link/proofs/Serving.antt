@@ -7,7 +7,7 @@ use Rattle.link.specs.Answers.{Frame, Fixed, Service, Class1, Class2, Command, A
 use Rattle.link.specs.Answers.{Counted, Answer, Ready, Confirmed, Busy, Report, NoData, Unable}
 use Rattle.link.specs.Answers.{Says, code_answer, data_answer}
 use Rattle.link.specs.Control.{is_secondary}
-use Rattle.link.specs.Outstation.{effects_of, Serves, OutstationStep, heard}
+use Rattle.link.specs.Outstation.{effects_of, Serves, OutstationStep, arrived}
 use Rattle.link.specs.Secondary.{Secondary, outstation_of, control_of, short_of, data_frame, Served}
 use Rattle.link.specs.Secondary.{unchanged, served_class1, served_class2, served_command}
 use Rattle.link.specs.Secondary.{served_new, is_same, served_counted, served}
@@ -157,15 +157,15 @@ serves granted s (Some bit) fcb service = go (is_same fcb bit) refl
 pub served_step : (granted : Bool) (s : Secondary) (request : Asked) →
     OutstationStep s.address (outstation_of s) request (served granted s request).turn
     (outstation_of (served granted s request).state)
-served_step granted s Status = heard (
+served_step granted s Status = arrived (
   Fixed (control_of 11 s.class1) s.address,
   status_says s.address s.class1,
   refl,
   refl,
 )
 served_step granted s Reset =
-    heard (short_of 0 s.address s.class1, reset_says s.address s.class1, refl, refl)
-served_step granted s (Counted fcb service) = heard (serves granted s s.bit fcb service)
+    arrived (short_of 0 s.address s.class1, reset_says s.address s.class1, refl, refl)
+served_step granted s (Counted fcb service) = arrived (serves granted s s.bit fcb service)
 
 pub kept_address : (granted : Bool) (s : Secondary) (request : Asked)
     → (served granted s request).state.address ≡ s.address

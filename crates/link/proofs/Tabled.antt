@@ -11,7 +11,7 @@ use Rattle.link.specs.Answers.{data_answer, comes_from, answer_of}
 use Rattle.link.specs.Primary.{outcome_of, acd_of, dfc_of}
 use Rattle.link.specs.declared.outcome.Outcome.TheVariants as outcome
 use Rattle.link.specs.Requests.{short_by, data_by, comes_to, reading_of, Foreign}
-use Rattle.link.specs.Tables.{row, answer_in, told_row, outcome_in, data_row, single_row}
+use Rattle.link.specs.Tables.{row, answer_in, outcome_row, outcome_in, data_row, single_row}
 
 self_comes : (station octet : ℕ) → octet / 64 % 2 ≡ 0 → comes_from station octet station ≡ true
 self_comes station octet e = rw (e, eq-eqb station station refl) refl
@@ -74,26 +74,26 @@ four index request false false true d x y z w = refl
 four index request false false false true x y z w = refl
 four index request false false false false x y z w = refl
 
-told_by : (index : ℕ) (request : Asked) (code : ℕ) →
+logged_by : (index : ℕ) (request : Asked) (code : ℕ) →
     outcome_of index request (answer_in code (row request))
-    ≡ outcome_in code (told_row index request)
-told_by index Status code = three index Status (code == 11) (code == 14) (code == 15) Ready Unable
+    ≡ outcome_in code (outcome_row index request)
+logged_by index Status code = three index Status (code == 11) (code == 14) (code == 15) Ready Unable
     Unable
-told_by index Reset code = chosen index Reset (code == 0) Confirmed None
-told_by index (Counted fcb Class1) code =
+logged_by index Reset code = chosen index Reset (code == 0) Confirmed None
+logged_by index (Counted fcb Class1) code =
     three index (Counted fcb Class1) (code == 9) (code == 14) (code == 15) NoData Unable Unable
-told_by index (Counted fcb Class2) code =
+logged_by index (Counted fcb Class2) code =
     three index (Counted fcb Class2) (code == 9) (code == 14) (code == 15) NoData Unable Unable
-told_by index (Counted fcb (Command asdu)) code =
+logged_by index (Counted fcb (Command asdu)) code =
     four index (Counted fcb (Command asdu)) (code == 0) (code == 1) (code == 14) (code == 15)
     Confirmed Busy Unable Unable
 
-pub told : (index station : ℕ) (request : Asked) (octet : ℕ) → octet / 64 % 2 ≡ 0
+pub outcome_for : (index station : ℕ) (request : Asked) (octet : ℕ) → octet / 64 % 2 ≡ 0
     → outcome_of index request (answer_of station request (Fixed octet station))
-    ≡ outcome_in (octet % 16) (told_row index request)
-told index station request octet e =
+    ≡ outcome_in (octet % 16) (outcome_row index request)
+outcome_for index station request octet e =
     ap (λ (a : Option Answer). outcome_of index request a) (fixed station request octet e)
-    ∙ told_by index request (octet % 16)
+    ∙ logged_by index request (octet % 16)
 
 data_rows : (request : Asked) (asdu : List ℕ) → data_answer request asdu ≡ data_row request asdu
 data_rows Status asdu = refl

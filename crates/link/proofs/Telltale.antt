@@ -8,11 +8,11 @@ use Rattle.link.specs.Flags.{flags_in}
 use Rattle.link.specs.Requests.{Reading, Foreign, Unknown, Asks, reading_of}
 use Rattle.link.specs.Secondary.{Secondary, fresh_station, control_of, short_of, data_frame, Served}
 use Rattle.link.specs.Secondary.{unchanged, served_class1, served_class2, served_command}
-use Rattle.link.specs.Secondary.{served_new, is_same, served_counted, served, heard_reading}
-use Rattle.link.specs.Life.{Call, Report1, Report2, Hear, called, after, request_asked}
-use Rattle.link.specs.Life.{requests_heard, turns_in, given1, given2}
+use Rattle.link.specs.Secondary.{served_new, is_same, served_counted, served, received_reading}
+use Rattle.link.specs.Life.{Call, Report1, Report2, Receive, called, after, request_asked}
+use Rattle.link.specs.Life.{requests_received, turns_in, given1, given2}
 use Rattle.link.specs.Tidings.{bit_by, bit_after, IsNew, IsNewReading, bit_of, answer_after, Wait1}
-use Rattle.link.specs.Tidings.{Wait2, do_wait, TellsFlags, oldest, IsAnsweredBy}
+use Rattle.link.specs.Tidings.{Wait2, do_wait, ShowsFlags, oldest, IsAnsweredBy}
 use Rattle.link.proofs.Lives.{ledger, stays}
 use Rattle.link.proofs.Serving.{kept_address, none1_says, none2_says, data_says}
 
@@ -64,7 +64,7 @@ served_bit granted s (Counted fcb service) = go s.bit refl
         same false is = new service
 
 life_bit : (s : Secondary) (calls : List Call) → (after s calls).bit
-    ≡ bit_after s.bit (requests_heard s.address calls)
+    ≡ bit_after s.bit (requests_received s.address calls)
 life_bit s [] = refl
 life_bit s (Report1 true report ∷ calls) = life_bit (record s { class1 = s.class1 ++ report ∷ [] })
     calls
@@ -72,23 +72,25 @@ life_bit s (Report1 false report ∷ calls) = life_bit s calls
 life_bit s (Report2 true report ∷ calls) = life_bit (record s { class2 = s.class2 ++ report ∷ [] })
     calls
 life_bit s (Report2 false report ∷ calls) = life_bit s calls
-life_bit s (Hear granted None ∷ calls) = life_bit s calls
-life_bit s (Hear granted (Some frame) ∷ calls) =
+life_bit s (Receive granted None ∷ calls) = life_bit s calls
+life_bit s (Receive granted (Some frame) ∷ calls) =
     go (λ t. life_bit t calls) (reading_of s.address frame)
   where
-    go : ((t : Secondary) → (after t calls).bit ≡ bit_after t.bit (requests_heard t.address calls))
+    go : ((t : Secondary) → (after t calls).bit
+        ≡ bit_after t.bit (requests_received t.address calls))
         → (reading : Reading) →
-        (after (heard_reading granted s reading).state calls).bit
-        ≡ bit_after s.bit (request_asked reading ++ requests_heard s.address calls)
+        (after (received_reading granted s reading).state calls).bit
+        ≡ bit_after s.bit (request_asked reading ++ requests_received s.address calls)
     go rest Foreign = rest s
     go rest Unknown = rest s
     go rest (Asks request) =
         rest (served granted s request).state
         ∙ ap
-        (λ (b : Option Bool). bit_after b (requests_heard (served granted s request).state.address
+        (λ (b : Option Bool). bit_after b
+        (requests_received (served granted s request).state.address
         calls))
         (served_bit granted s request)
-        ∙ ap (λ (a : ℕ). bit_after (bit_by s.bit request) (requests_heard a calls))
+        ∙ ap (λ (a : ℕ). bit_after (bit_by s.bit request) (requests_received a calls))
         (kept_address granted s request)
 
 -- ---- one answer
@@ -113,68 +115,71 @@ new_served granted s fcb service new = go s.bit new
         (other_bit fcb old other)
 
 -- an answer that tells what waits after it
-abbrev pub TellsAfter : Served → Type 0
-TellsAfter by = TellsFlags by.turn.answer (do_wait by.state.class1) false
+abbrev pub MatchesAfter : Served → Type 0
+MatchesAfter by = ShowsFlags by.turn.answer (do_wait by.state.class1) false
 
-short_tells : (s : Secondary) (waiting : List (List ℕ))
+short_matches : (s : Secondary) (waiting : List (List ℕ))
     → flags_in (short_of 0 s.address waiting) ≡ record { acd = do_wait waiting; dfc = false }
-short_tells s [] = refl
-short_tells s (r ∷ rs) = refl
+short_matches s [] = refl
+short_matches s (r ∷ rs) = refl
 
-none_tells : (s : Secondary) (waiting : List (List ℕ))
+none_matches : (s : Secondary) (waiting : List (List ℕ))
     → flags_in (short_of 9 s.address waiting) ≡ record { acd = do_wait waiting; dfc = false }
-none_tells s [] = refl
-none_tells s (r ∷ rs) = refl
+none_matches s [] = refl
+none_matches s (r ∷ rs) = refl
 
-data_tells : (s : Secondary) (waiting : List (List ℕ)) (report : List ℕ) →
+data_matches : (s : Secondary) (waiting : List (List ℕ)) (report : List ℕ) →
     flags_in (data_frame (control_of 8 waiting) s.address report)
     ≡ record { acd = do_wait waiting; dfc = false }
-data_tells s [] report = refl
-data_tells s (r ∷ rs) report = refl
+data_matches s [] report = refl
+data_matches s (r ∷ rs) report = refl
 
-new_tells : (granted : Bool) (s : Secondary) (fcb : Bool) (service : Service)
-    → TellsAfter (served_new granted s fcb service)
-new_tells granted s fcb Class1 = go s.class1 refl
+new_matches : (granted : Bool) (s : Secondary) (fcb : Bool) (service : Service)
+    → MatchesAfter (served_new granted s fcb service)
+new_matches granted s fcb Class1 = go s.class1 refl
   where
-    go : (waiting : List (List ℕ)) → s.class1 ≡ waiting → TellsAfter (served_class1 s fcb waiting)
-    go [] e = (short_of 9 s.address s.class1, refl, none_tells s s.class1)
-    go (r ∷ rs) e = (data_frame (control_of 8 rs) s.address r, refl, data_tells s rs r)
-new_tells granted s fcb Class2 = go s.class2
+    go : (waiting : List (List ℕ)) → s.class1 ≡ waiting → MatchesAfter (served_class1 s fcb waiting)
+    go [] e = (short_of 9 s.address s.class1, refl, none_matches s s.class1)
+    go (r ∷ rs) e = (data_frame (control_of 8 rs) s.address r, refl, data_matches s rs r)
+new_matches granted s fcb Class2 = go s.class2
   where
-    go : (waiting : List (List ℕ)) → TellsAfter (served_class2 s fcb waiting)
-    go [] = (short_of 9 s.address s.class1, refl, none_tells s s.class1)
-    go (r ∷ rs) = (data_frame (control_of 8 s.class1) s.address r, refl, data_tells s s.class1 r)
-new_tells true s fcb (Command asdu) = (short_of 0 s.address s.class1, refl, short_tells s s.class1)
-new_tells false s fcb (Command asdu) = (Fixed (control_of 1 s.class1) s.address, refl, go s.class1)
+    go : (waiting : List (List ℕ)) → MatchesAfter (served_class2 s fcb waiting)
+    go [] = (short_of 9 s.address s.class1, refl, none_matches s s.class1)
+    go (r ∷ rs) = (data_frame (control_of 8 s.class1) s.address r, refl, data_matches s s.class1 r)
+new_matches true s fcb (Command asdu) =
+    (short_of 0 s.address s.class1, refl, short_matches s s.class1)
+new_matches false s fcb (Command asdu) =
+    (Fixed (control_of 1 s.class1) s.address, refl, go s.class1)
   where
     go : (waiting : List (List ℕ)) → flags_in (Fixed (control_of 1 waiting) s.address)
         ≡ record { acd = do_wait waiting; dfc = false }
     go [] = refl
     go (r ∷ rs) = refl
 
-served_tells : (granted : Bool) (s : Secondary) (request : Asked) → IsNew s.bit request
-    → TellsAfter (served granted s request)
-served_tells granted s Status new = (Fixed (control_of 11 s.class1) s.address, refl, go s.class1)
+served_matches : (granted : Bool) (s : Secondary) (request : Asked) → IsNew s.bit request
+    → MatchesAfter (served granted s request)
+served_matches granted s Status new = (Fixed (control_of 11 s.class1) s.address, refl, go s.class1)
   where
     go : (waiting : List (List ℕ)) → flags_in (Fixed (control_of 11 waiting) s.address)
         ≡ record { acd = do_wait waiting; dfc = false }
     go [] = refl
     go (r ∷ rs) = refl
-served_tells granted s Reset new = (short_of 0 s.address s.class1, refl, short_tells s s.class1)
-served_tells granted s (Counted fcb service) new =
-    subst TellsAfter (sym (new_served granted s fcb service new))
-    (new_tells granted s fcb service)
+served_matches granted s Reset new = (short_of 0 s.address s.class1, refl, short_matches s s.class1)
+served_matches granted s (Counted fcb service) new =
+    subst MatchesAfter (sym (new_served granted s fcb service new))
+    (new_matches granted s fcb service)
 
-reading_tells : (granted : Bool) (s : Secondary) (reading : Reading) → IsNewReading s.bit reading
-    → TellsAfter (heard_reading granted s reading)
-reading_tells granted s Foreign new = absurd new
-reading_tells granted s Unknown new = (Fixed (control_of 15 s.class1) s.address, refl, go s.class1)
+reading_matches : (granted : Bool) (s : Secondary) (reading : Reading) → IsNewReading s.bit reading
+    → MatchesAfter (received_reading granted s reading)
+reading_matches granted s Foreign new = absurd new
+reading_matches granted s Unknown new =
+    (Fixed (control_of 15 s.class1) s.address, refl, go s.class1)
   where
     go : (waiting : List (List ℕ)) → flags_in (Fixed (control_of 15 waiting) s.address)
         ≡ record { acd = do_wait waiting; dfc = false }
     go [] = refl
     go (r ∷ rs) = refl
-reading_tells granted s (Asks request) new = served_tells granted s request new
+reading_matches granted s (Asks request) new = served_matches granted s request new
 
 class1_says : (s : Secondary) (fcb : Bool) (waiting : List (List ℕ)) →
     IsAnsweredBy (served_class1 s fcb waiting).turn.answer s.address (Counted fcb Class1)
@@ -210,14 +215,16 @@ waits1 : (size : LinkSize) (address : ℕ) (calls : List Call) (waiting : List (
     → Wait1 size address calls waiting →
     (after (fresh_station size address) calls).class1 ≡ waiting
 waits1 size address calls waiting w =
-    cancel (given1 (requests_heard address calls) (turns_in (fresh_station size address) calls)) _ _
+    cancel (given1 (requests_received address calls) (turns_in (fresh_station size address) calls))
+    _ _
     ((ledger (fresh_station size address) calls (omega arith)).class1 ∙ sym w)
 
 waits2 : (size : LinkSize) (address : ℕ) (calls : List Call) (waiting : List (List ℕ))
     → Wait2 size address calls waiting →
     (after (fresh_station size address) calls).class2 ≡ waiting
 waits2 size address calls waiting w =
-    cancel (given2 (requests_heard address calls) (turns_in (fresh_station size address) calls)) _ _
+    cancel (given2 (requests_received address calls) (turns_in (fresh_station size address) calls))
+    _ _
     ((ledger (fresh_station size address) calls (omega arith)).class2 ∙ sym w)
 
 own_bit : (size : LinkSize) (address : ℕ) (calls : List Call)
@@ -228,33 +235,33 @@ own_address : (size : LinkSize) (address : ℕ) (calls : List Call)
     → (after (fresh_station size address) calls).address ≡ address
 own_address size address calls = (stays (fresh_station size address) calls).0
 
-pub tells_flags : (size : LinkSize) (address : ℕ) (calls : List Call) (granted : Bool)
+pub shows_flags : (size : LinkSize) (address : ℕ) (calls : List Call) (granted : Bool)
     (frame : Frame)
     (waiting : List (List ℕ)) →
     IsNewReading (bit_of address calls) (reading_of address frame)
-    → Wait1 size address (calls ++ Hear granted (Some frame) ∷ []) waiting →
-    TellsFlags (answer_after size address calls granted frame) (do_wait waiting) false
-tells_flags size address calls granted frame waiting new w =
+    → Wait1 size address (calls ++ Receive granted (Some frame) ∷ []) waiting →
+    ShowsFlags (answer_after size address calls granted frame) (do_wait waiting) false
+shows_flags size address calls granted frame waiting new w =
     let s : Secondary = after (fresh_station size address) calls in
-    let tells = reading_tells granted s (reading_of address frame)
+    let matches = reading_matches granted s (reading_of address frame)
     (subst (λ (b : Option Bool). IsNewReading b (reading_of address frame))
     (own_bit size address calls) new) in
-    let there : (heard_reading granted s (reading_of address frame)).state.class1 ≡ waiting =
-    ap (λ (a : ℕ). (heard_reading granted s (reading_of a frame)).state.class1)
+    let there : (received_reading granted s (reading_of address frame)).state.class1 ≡ waiting =
+    ap (λ (a : ℕ). (received_reading granted s (reading_of a frame)).state.class1)
     (sym (own_address size address calls))
     ∙ ap (λ (t : Secondary). t.class1)
-    (sym (after-append (fresh_station size address) calls (Hear granted (Some frame) ∷ [])))
-    ∙ waits1 size address (calls ++ Hear granted (Some frame) ∷ []) waiting w in
-    subst (λ (l : List (List ℕ)). TellsFlags (answer_after size address calls granted frame)
+    (sym (after-append (fresh_station size address) calls (Receive granted (Some frame) ∷ [])))
+    ∙ waits1 size address (calls ++ Receive granted (Some frame) ∷ []) waiting w in
+    subst (λ (l : List (List ℕ)). ShowsFlags (answer_after size address calls granted frame)
     (do_wait l) false) there
-    tells
+    matches
 
 asked_counted : (granted : Bool) (s : Secondary) (address : ℕ) (frame : Frame) (fcb : Bool)
     (service : Service) →
     reading_of address frame ≡ Asks (Counted fcb service) → IsNew s.bit (Counted fcb service) →
-    heard_reading granted s (reading_of address frame) ≡ served_new granted s fcb service
+    received_reading granted s (reading_of address frame) ≡ served_new granted s fcb service
 asked_counted granted s address frame fcb service is new =
-    ap (λ (r : Reading). heard_reading granted s r) is ∙ new_served granted s fcb service new
+    ap (λ (r : Reading). received_reading granted s r) is ∙ new_served granted s fcb service new
 
 pub gives_class1 : (size : LinkSize) (address : ℕ) (calls : List Call) (granted : Bool)
     (frame : Frame) (fcb : Bool)

@@ -16,10 +16,10 @@ use Rattle.link.specs.Delivery.{pending_by, pending_after, is_command_pending}
 use Rattle.link.specs.Offers.{is_under_way}
 use Rattle.link.specs.Turns.{station_at}
 use Rattle.link.specs.Primary.{Outstanding, Primary, is_command, is_sending_command, may_offer}
-use Rattle.link.specs.Telling.{IsAllowed, IsAwaited, IsCurrent, AreLinks, TellsBy}
+use Rattle.link.specs.Matching.{IsAllowed, IsAwaited, IsCurrent, AreLinks, MatchesBy}
 use Rattle.link.proofs.Links.{nil, with_one, link_after-push}
 use Rattle.link.proofs.Marks.{by_mark}
-use Rattle.link.proofs.Telling.{unheard}
+use Rattle.link.proofs.Matching.{unreceived}
 use Rattle.link.proofs.Called.{links_at}
 
 -- ---- the link and what is pending
@@ -143,7 +143,7 @@ neither false command = refl
 
 -- no command is on the line or held, exactly where the exchanges leave none held
 pub not_awaited : (front : List ℕ → Front) (settings : LinkSettings) (addresses : List ℕ)
-    (p : Primary) (e : Exchanges) (i : ℕ) → TellsBy front settings addresses p e →
+    (p : Primary) (e : Exchanges) (i : ℕ) → MatchesBy front settings addresses p e →
     (not (holds_command (station_at p.stations i).link)
     && not ((p.turn == i) && is_sending_command p.outstanding))
     ≡ not (holds_command (link_after settings (slice_index addresses i) Down
@@ -160,7 +160,7 @@ not_awaited front settings addresses p e i t = go p.outstanding e.current refl t
     link = (station_at p.stations i).link
 
     go : (o : Option Outstanding) (c : Option OpenExchange) → p.outstanding ≡ o →
-        TellsBy front settings addresses p (record { ended = e.ended; current = c }) →
+        MatchesBy front settings addresses p (record { ended = e.ended; current = c }) →
         (not (holds_command (station_at p.stations i).link)
         && not ((p.turn == i) && is_sending_command o))
         ≡ not (holds_command (link_after settings (slice_index addresses i) Down
@@ -208,7 +208,7 @@ not_awaited front settings addresses p e i t = go p.outstanding e.current refl t
             let none : answer_to a (view front x).exchange ≡ None =
             subst (λ (j : ℕ). answer_to (slice_index addresses j) (view front x).exchange ≡ None)
             turn
-            (unheard front (slice_index addresses p.turn) x q.heard w.heard) in
+            (unreceived front (slice_index addresses p.turn) x q.arrived w.arrived) in
             ap (λ (c : Bool). not (holds_command link) && not (c && is_command q.request))
             (ap (λ (j : ℕ). j == i) (sym w.station) ∙ this)
             ∙ neither (holds_command link) (is_command q.request)
@@ -233,7 +233,7 @@ not_awaited front settings addresses p e i t = go p.outstanding e.current refl t
 pub taken : (front : List ℕ → Front) (settings : LinkSettings) (addresses : List ℕ) (p : Primary)
     (e : Exchanges)
     (i : ℕ) →
-    TellsBy front settings addresses p e →
+    MatchesBy front settings addresses p e →
     may_offer p i
     ≡ (is_none (station_at p.stations i).offered
     && not (is_under_way settings (slice_index addresses i)

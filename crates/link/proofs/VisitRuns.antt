@@ -12,7 +12,7 @@ use Rattle.link.specs.Answers.{Frame}
 use Rattle.link.specs.Answers.{Answer}
 use Rattle.link.specs.Exchanges.{Exchange, LineExchange, OpenExchange, Exchanges, Sending}
 use Rattle.link.specs.Exchanges.{no_exchanges, as_list, all_of, with_station, view, views, whole_of}
-use Rattle.link.specs.Exchanges.{heard_current, timed_current, begun_by}
+use Rattle.link.specs.Exchanges.{received_current, timed_current, begun_by}
 use Rattle.link.specs.Procedure.{LinkSettings, Link, Down, MaySend, after, link_after}
 use Rattle.link.specs.Procedure.{has_repeats}
 use Rattle.link.specs.Turns.{StationState, no_station, station_at, Phase, Starting, Over, Wanted}
@@ -23,7 +23,7 @@ use Rattle.link.specs.Primary.{station_answered, station_unanswered, unanswered,
 use Rattle.link.specs.Primary.{said_by, open_octets, took, with_octets, received_after}
 use Rattle.link.specs.Primary.{received_from, received, is_late, due_from, timed_out, may_offer}
 use Rattle.link.specs.Primary.{with_offer, offered_to, without_offer, withdrawn}
-use Rattle.link.specs.Telling.{TellsBy}
+use Rattle.link.specs.Matching.{MatchesBy}
 use Rattle.link.specs.Visits.{Left, whole_visit, MayFollow, Visit, at_station, line_of, AreVisits}
 use Rattle.link.specs.Visits.{AreInVisits, most_of_visit}
 use Rattle.link.proofs.Beginning.{IsBegun, none_known, begun_choice, begun_none, begun_awaits}
@@ -200,7 +200,7 @@ many_most front addresses p e many v =
 -- while nothing is outstanding, the link that the present visit leaves is the machine's
 link_now : (front : List ℕ → Front) (addresses : List ℕ) (p : Primary) (e : Exchanges) (many : ℕ)
     → (v : InVisit front addresses p e many) →
-    TellsBy front p.settings addresses p e → p.outstanding ≡ None →
+    MatchesBy front p.settings addresses p e → p.outstanding ≡ None →
     link_after p.settings (slice_index addresses p.turn)
     (link_left p.settings addresses v.earlier p.turn) (v.before
     ++ shown front e.current)
@@ -238,7 +238,7 @@ pub data IsAsked (front : List ℕ → Front) (addresses : List ℕ) (p : Primar
 
 may_want : (p : Primary) (e : Exchanges) (front : List ℕ
     → Front) (addresses : List ℕ) (may_poll again : Bool) (place : ℕ) (phase : Phase) (w : Wanted) →
-    TellsBy front p.settings addresses p e → place < length p.stations →
+    MatchesBy front p.settings addresses p e → place < length p.stations →
     wanted p.settings.burst may_poll again (station_at p.stations place) phase ≡ Some w
     → MaySend (station_at p.stations place).link w.request
 may_want p e front addresses may_poll again place phase w t within is =
@@ -249,7 +249,7 @@ may_want p e front addresses may_poll again place phase w t within is =
 on_visit : (front : List ℕ → Front) (addresses : List ℕ) (p : Primary) (e : Exchanges)
     (many now : ℕ) (may_poll : Bool)
     (w : Wanted) → 0 < p.settings.burst →
-    TellsBy front p.settings addresses p e → p.outstanding ≡ None → present p may_poll ≡ Some w
+    MatchesBy front p.settings addresses p e → p.outstanding ≡ None → present p may_poll ≡ Some w
     → InVisit front addresses p e many →
     InVisit front addresses (after_choice p now (Some (record { station = p.turn; wanted = w })))
     (begun_by now (Some (record { station = p.turn; request = w.request })) e) (suc many)
@@ -294,7 +294,7 @@ on_visit front addresses p e many now may_poll w some t free is v =
 new_visit : (front : List ℕ → Front) (addresses : List ℕ) (p : Primary) (e : Exchanges)
     (many now : ℕ)
     (may_poll : Bool) (c : Chosen) → 0 < p.settings.burst →
-    TellsBy front p.settings addresses p e → p.outstanding ≡ None → present p may_poll ≡ None
+    MatchesBy front p.settings addresses p e → p.outstanding ≡ None → present p may_poll ≡ None
     → c.station < length p.stations →
     wanted p.settings.burst may_poll false (station_at p.stations c.station) Starting
     ≡ Some c.wanted
@@ -378,7 +378,7 @@ MayBeThere p (Some c) = c.station < length p.stations
 
 rest_there : (front : List ℕ → Front) (addresses : List ℕ) (p : Primary) (e : Exchanges)
     (may_poll : Bool)
-    → TellsBy front p.settings addresses p e →
+    → MatchesBy front p.settings addresses p e →
     MayBeThere p (first_after p.settings.burst may_poll p.stations (length p.stations) p.turn)
 rest_there front addresses p e may_poll t =
     go (first_after p.settings.burst may_poll p.stations (length p.stations) p.turn)
@@ -393,7 +393,7 @@ rest_there front addresses p e may_poll t =
 pub asked_visits : (front : List ℕ → Front) (addresses : List ℕ) (p : Primary) (e : Exchanges)
     (many now : ℕ)
     (may_poll : Bool) → 0 < p.settings.burst →
-    TellsBy front p.settings addresses p e → InVisit front addresses p e many →
+    MatchesBy front p.settings addresses p e → InVisit front addresses p e many →
     IsAsked front addresses p may_poll many (asked p now may_poll)
     (begun_by now (sending p may_poll) e)
     (sending p may_poll)
@@ -483,12 +483,13 @@ kept front addresses p ended cur cur' many stations phase again outstanding spoi
       refl,
     )
 
-heard_latest : (settings : LinkSettings) (link : Link) (turn : ℕ) (mid now : Left) (octets : List ℕ)
+received_latest : (settings : LinkSettings) (link : Link) (turn : ℕ) (mid now : Left)
+    (octets : List ℕ)
     (cur : Option OpenExchange) →
     IsLatest settings link turn mid now cur
-    → IsLatest settings link turn mid now (heard_current octets cur)
-heard_latest settings link turn mid now octets None latest = latest
-heard_latest settings link turn mid now octets (Some x) latest = latest
+    → IsLatest settings link turn mid now (received_current octets cur)
+received_latest settings link turn mid now octets None latest = latest
+received_latest settings link turn mid now octets (Some x) latest = latest
 
 timed_latest : (settings : LinkSettings) (link : Link) (turn : ℕ) (mid now : Left) (ms at : ℕ)
     (cur : Option OpenExchange) →
@@ -497,21 +498,22 @@ timed_latest : (settings : LinkSettings) (link : Link) (turn : ℕ) (mid now : L
 timed_latest settings link turn mid now ms at None latest = latest
 timed_latest settings link turn mid now ms at (Some x) latest = latest
 
-heard_none : (octets : List ℕ) (cur : Option OpenExchange) → heard_current octets cur ≡ None
+received_none : (octets : List ℕ) (cur : Option OpenExchange) → received_current octets cur ≡ None
     → cur ≡ None
-heard_none octets None none = refl
-heard_none octets (Some x) none = cc
+received_none octets None none = refl
+received_none octets (Some x) none = cc
 
 timed_none : (ms at : ℕ) (cur : Option OpenExchange) → timed_current ms at cur ≡ None
     → cur ≡ None
 timed_none ms at None none = refl
 timed_none ms at (Some x) none = cc
 
-heard_long : (front : List ℕ → Front) (before : List Exchange) (octets : List ℕ)
+received_long : (front : List ℕ → Front) (before : List Exchange) (octets : List ℕ)
     (cur : Option OpenExchange) →
-    length (before ++ shown front (heard_current octets cur)) ≡ length (before ++ shown front cur)
-heard_long front before octets None = refl
-heard_long front before octets (Some x) = one_longer before _ (length before) refl
+    length (before ++ shown front (received_current octets cur))
+    ≡ length (before ++ shown front cur)
+received_long front before octets None = refl
+received_long front before octets (Some x) = one_longer before _ (length before) refl
     ∙ sym (one_longer before _ (length before) refl)
 
 timed_long : (front : List ℕ → Front) (before : List Exchange) (ms at : ℕ)
@@ -521,14 +523,14 @@ timed_long front before ms at None = refl
 timed_long front before ms at (Some x) = one_longer before _ (length before) refl
     ∙ sym (one_longer before _ (length before) refl)
 
-pub heard_visits : (front : List ℕ → Front) (addresses : List ℕ) (p : Primary)
+pub received_visits : (front : List ℕ → Front) (addresses : List ℕ) (p : Primary)
     (ended : List OpenExchange)
     (cur : Option OpenExchange) (octets : List ℕ) (many : ℕ) →
     p.turn < length p.stations → InVisit front addresses p (record { ended = ended; current = cur })
     many →
     Stays front addresses p.turn (received front p octets)
-    (record { ended = ended; current = heard_current octets cur }) many
-heard_visits front addresses p ended cur octets many within v = go p.outstanding refl
+    (record { ended = ended; current = received_current octets cur }) many
+received_visits front addresses p ended cur octets many within v = go p.outstanding refl
   where
     moved : (stations : List StationState) (phase : Phase) (again : Bool)
         (outstanding : Option Outstanding) →
@@ -548,33 +550,33 @@ heard_visits front addresses p ended cur octets many within v = go p.outstanding
               outstanding;
           spoilt = p.spoilt;
         })
-        (record { ended = ended; current = heard_current octets cur }) many
+        (record { ended = ended; current = received_current octets cur }) many
     moved stations phase again outstanding fits begun =
-        kept front addresses p ended cur (heard_current octets cur) many stations phase again
+        kept front addresses p ended cur (received_current octets cur) many stations phase again
         outstanding p.spoilt v
-        (λ link latest. heard_latest p.settings link p.turn v.mid v.now octets cur latest)
-        (heard_none octets cur) (heard_long front v.before octets cur) fits begun
+        (λ link latest. received_latest p.settings link p.turn v.mid v.now octets cur latest)
+        (received_none octets cur) (received_long front v.before octets cur) fits begun
 
     go : (o : Option Outstanding) → p.outstanding ≡ o →
         Stays front addresses p.turn (received_from front p o octets)
-        (record { ended = ended; current = heard_current octets cur }) many
+        (record { ended = ended; current = received_current octets cur }) many
     go None is = moved p.stations p.phase p.again p.outstanding v.fits v.begun
-    go (Some q) is = by_heard q.heard
+    go (Some q) is = by_received q.arrived
       where
         aw : (p.again ≡ false)
             × Awaits p.settings q.request p.phase (station_at p.stations p.turn).link v.now
         aw = subst (λ (o : Option Outstanding). FitsPhase p.settings o p.again p.phase
             (station_at p.stations p.turn).link v.now) is v.fits
 
-        waits : (heard : Option (List ℕ))
-            → Stays front addresses p.turn (awaits p (with_octets octets q) heard)
-            (record { ended = ended; current = heard_current octets cur }) many
-        waits heard =
-            moved p.stations p.phase p.again _ aw (begun_awaits p q octets heard is v.begun)
+        waits : (arrived : Option (List ℕ))
+            → Stays front addresses p.turn (awaits p (with_octets octets q) arrived)
+            (record { ended = ended; current = received_current octets cur }) many
+        waits arrived =
+            moved p.stations p.phase p.again _ aw (begun_awaits p q octets arrived is v.begun)
 
         say : (frame : Frame) (m : Option Answer) → answer_at p q frame ≡ m →
             Stays front addresses p.turn (said_by p (with_octets octets q) frame m)
-            (record { ended = ended; current = heard_current octets cur }) many
+            (record { ended = ended; current = received_current octets cur }) many
         say frame None e = waits None
         say frame (Some answer) e =
             let s : StationState = station_answered (station_at p.stations p.turn) q.request frame
@@ -594,16 +596,16 @@ heard_visits front addresses p ended cur octets many within v = go p.outstanding
         by_front : (before : List ℕ) (f : Front) →
             Stays front addresses p.turn (took p (with_octets octets q) (open_octets before f)
             (whole_of f))
-            (record { ended = ended; current = heard_current octets cur }) many
+            (record { ended = ended; current = received_current octets cur }) many
         by_front before More = waits (Some before)
         by_front before (Never place why) = waits None
         by_front before (Whole frame n) = say frame (answer_at p q frame) refl
 
-        by_heard : (h : Option (List ℕ)) →
+        by_received : (h : Option (List ℕ)) →
             Stays front addresses p.turn (received_after front p (with_octets octets q) h octets)
-            (record { ended = ended; current = heard_current octets cur }) many
-        by_heard None = waits None
-        by_heard (Some before) = by_front (before ++ octets) (front (before ++ octets))
+            (record { ended = ended; current = received_current octets cur }) many
+        by_received None = waits None
+        by_received (Some before) = by_front (before ++ octets) (front (before ++ octets))
 
 pub due_visits : (front : List ℕ → Front) (addresses : List ℕ) (p : Primary)
     (ended : List OpenExchange)

@@ -18,7 +18,7 @@ use Rattle.link.specs.Visits.{Left, whole_visit, IsVisitFrom, Visit, at_station,
 use Rattle.link.specs.Visits.{IsVisit}
 use Rattle.link.specs.Carried.{station_given_up, given_up}
 use Rattle.link.proofs.Beginning.{begun_given_up}
-use Rattle.link.proofs.GivenUpTold.{latest_from}
+use Rattle.link.proofs.GivenUpMatches.{latest_from}
 use Rattle.link.proofs.Visiting.{Leads, over}
 use Rattle.link.proofs.VisitRuns.{shown, link_left, IsLatest, FitsPhase, InVisit, Stays, one_longer}
 

@@ -10,15 +10,15 @@ use Rattle.link.specs.Requests.{request_frame, FitsAddress}
 use Rattle.link.specs.Turns.{Chosen, station_at}
 use Rattle.link.specs.Primary.{Outstanding, Primary, choice, sending_by, sending_from, sending}
 use Rattle.link.specs.Primary.{request_of}
-use Rattle.link.specs.Telling.{IsCurrent, TellsBy, IsFittingSending}
+use Rattle.link.specs.Matching.{IsCurrent, MatchesBy, IsFittingSending}
 use Rattle.link.proofs.Fitting.{station_fits}
 use Rattle.link.proofs.Choice.{MayChooseIt, choice_may}
-use Rattle.link.proofs.Telling.{said_now}
+use Rattle.link.proofs.Matching.{said_now}
 
 pub sending_fits : (front : List ℕ → Front) (settings : LinkSettings) (addresses : List ℕ)
     (p : Primary)
     (e : Exchanges) (may_poll : Bool) (s : Sending) →
-    TellsBy front settings addresses p e → sending p may_poll ≡ Some s
+    MatchesBy front settings addresses p e → sending p may_poll ≡ Some s
     → IsFittingSending settings addresses s
 sending_fits front settings addresses p e may_poll s t is = go p.outstanding is
   where
@@ -45,7 +45,7 @@ sending_fits front settings addresses p e may_poll s t is = go p.outstanding is
 
 pub sending_octets : (front : List ℕ → Front) (settings : LinkSettings) (addresses : List ℕ)
     (p : Primary)
-    (e : Exchanges) (s : Sending) → TellsBy front settings addresses p e →
+    (e : Exchanges) (s : Sending) → MatchesBy front settings addresses p e →
     (request_of p s).octets.items
     ≡ spelling settings.size (request_frame (slice_index addresses s.station) s.request)
 sending_octets front settings addresses p e s t =
@@ -58,7 +58,7 @@ sending_octets front settings addresses p e s t =
 pub sending_alone : (front : List ℕ → Front) (settings : LinkSettings) (addresses : List ℕ)
     (p : Primary)
     (e : Exchanges) (may_poll : Bool) (s : Sending) (x : OpenExchange) →
-    TellsBy front settings addresses p e → sending p may_poll ≡ Some s → e.current ≡ Some x →
+    MatchesBy front settings addresses p e → sending p may_poll ≡ Some s → e.current ≡ Some x →
     IsOutstanding (slice_index addresses x.station) (view front x).exchange → ⊥
 sending_alone front settings addresses p e may_poll s x t is latest out =
     go p.outstanding is

@@ -5,7 +5,7 @@ use Rattle.ft12.specs.declared.frame.LinkSize.TheVariants.{One}
 use Rattle.link.specs.Answers.{Frame}
 use Rattle.link.specs.Procedure.{Link, LinkSettings}
 use Rattle.link.specs.Requests.{reading_of}
-use Rattle.link.specs.Secondary.{Secondary, fresh_station, heard_reading}
+use Rattle.link.specs.Secondary.{Secondary, fresh_station, received_reading}
 use Rattle.link.specs.Turns.{StationState, no_session}
 
 abbrev pub octet : List ℕ
@@ -44,10 +44,10 @@ reset_with class1 class2 = record (unreset_with class1 class2) { bit = Some fals
 
 -- what it answers to a frame, where memory is granted or isn't
 abbrev pub answer_by : (granted : Bool) → Secondary → Frame → Option Frame
-answer_by granted s frame = (heard_reading granted s (reading_of s.address frame)).turn.answer
+answer_by granted s frame = (received_reading granted s (reading_of s.address frame)).turn.answer
 
 -- and what it answers to a frame after another
 abbrev pub answer_behind : Secondary → (first : Frame) → Frame → Option Frame
 answer_behind s first frame =
-    (heard_reading true (heard_reading true s (reading_of s.address first)).state
+    (received_reading true (received_reading true s (reading_of s.address first)).state
     (reading_of s.address frame)).turn.answer

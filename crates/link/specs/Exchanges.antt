@@ -75,8 +75,8 @@ abbrev pub no_exchanges : Exchanges
 no_exchanges = record { ended = []; current = None }
 
 -- Octets come.
-abbrev pub heard_octets : List ℕ → OpenExchange → OpenExchange
-heard_octets octets x = record {
+abbrev pub received_octets : List ℕ → OpenExchange → OpenExchange
+received_octets octets x = record {
   station = x.station;
   request = x.request;
   since = x.since;
@@ -85,9 +85,9 @@ heard_octets octets x = record {
   given_up = x.given_up;
 }
 
-abbrev pub heard_current : List ℕ → Option OpenExchange → Option OpenExchange
-heard_current octets None = None
-heard_current octets (Some x) = Some (heard_octets octets x)
+abbrev pub received_current : List ℕ → Option OpenExchange → Option OpenExchange
+received_current octets None = None
+received_current octets (Some x) = Some (received_octets octets x)
 
 -- A moment comes: it closes the exchange where it is answer_ms past the request.
 abbrev pub timed : (answer_ms at : ℕ) → OpenExchange → OpenExchange

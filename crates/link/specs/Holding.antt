@@ -26,7 +26,7 @@ abbrev pub outstanding_of : Awaited → (so_far : Option (List ℕ)) → Outstan
 outstanding_of a so_far = record {
   request = a.request;
   since = a.since;
-  heard = if a.deaf then None else so_far;
+  arrived = if a.deaf then None else so_far;
   has_octets = a.has_octets;
 }
 
@@ -60,7 +60,7 @@ is_fresh (Some (octet ∷ octets)) = false
 -- a request is outstanding, and nothing of its answer has come
 abbrev pub is_at_front_of : Option Outstanding → Bool
 is_at_front_of None = false
-is_at_front_of (Some o) = is_fresh o.heard
+is_at_front_of (Some o) = is_fresh o.arrived
 
 abbrev pub is_at_front : Primary → Bool
 is_at_front p = is_at_front_of p.outstanding
@@ -72,7 +72,7 @@ noted octets p = record p { outstanding = option_map (with_octets octets) p.outs
 -- the frame at the front of the exchange that octets complete, if they do
 abbrev pub completed_from : (front : List ℕ → Front) → Option Outstanding → List ℕ → Option Frame
 completed_from front None octets = None
-completed_from front (Some o) octets = frame_after front o.heard octets
+completed_from front (Some o) octets = frame_after front o.arrived octets
 
 abbrev pub completed : (front : List ℕ → Front) → Primary → List ℕ → Option Frame
 completed front p octets = completed_from front p.outstanding octets
@@ -86,7 +86,7 @@ abbrev pub gathered_in : (n : ℕ) → List ℕ → Outstanding → Outstanding
 gathered_in n octets o = record {
   request = o.request;
   since = o.since;
-  heard = option_map (λ before. before ++ take n octets) o.heard;
+  arrived = option_map (λ before. before ++ take n octets) o.arrived;
   has_octets = o.has_octets || not (length octets == 0);
 }
 

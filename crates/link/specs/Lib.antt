@@ -5,11 +5,11 @@ pub mod Exchanges
 pub mod Flags
 pub mod Procedure
 pub mod Requests
-pub mod Heard
+pub mod Received
 pub mod Turns
 pub mod Primary
 pub mod Holding
-pub mod Telling
+pub mod Matching
 pub mod Outstation
 pub mod Delivery
 pub mod Gaps

@@ -5,18 +5,19 @@ use Rattle.link.specs.Answers.{Class1, Class2, Asked, Counted}
 use Rattle.link.specs.Outstation.{Turn}
 use Rattle.link.specs.Delivery.{reports}
 use Rattle.link.specs.Requests.{Reading, Foreign, Unknown, Asks, reading_of}
-use Rattle.link.specs.Secondary.{Secondary, heard_reading}
+use Rattle.link.specs.Secondary.{Secondary, received_reading}
 pub use Rattle.link.specs.Counts.{saturated}
 
 -- a call, with what memory allowed; a frame is heard, or octets that are none
 pub data Call : Type 0 where
   Report1 : (granted : Bool) → (report : List ℕ) → Call
   Report2 : (granted : Bool) → (report : List ℕ) → Call
-  Hear : (granted : Bool) → (frame : Option Frame) → Call
+  Receive : (granted : Bool) → (frame : Option Frame) → Call
 
-abbrev pub heard_call : Bool → Secondary → Option Frame → Secondary
-heard_call granted s None = s
-heard_call granted s (Some frame) = (heard_reading granted s (reading_of s.address frame)).state
+abbrev pub received_call : Bool → Secondary → Option Frame → Secondary
+received_call granted s None = s
+received_call granted s (Some frame) =
+    (received_reading granted s (reading_of s.address frame)).state
 
 -- what a call leaves
 abbrev pub called : Secondary → Call → Secondary
@@ -24,7 +25,7 @@ called s (Report1 true report) = record s { class1 = s.class1 ++ report ∷ [] }
 called s (Report1 false report) = s
 called s (Report2 true report) = record s { class2 = s.class2 ++ report ∷ [] }
 called s (Report2 false report) = s
-called s (Hear granted frame) = heard_call granted s frame
+called s (Receive granted frame) = received_call granted s frame
 
 abbrev pub after : Secondary → List Call → Secondary
 after s [] = s
@@ -36,27 +37,28 @@ request_asked Foreign = []
 request_asked Unknown = []
 request_asked (Asks request) = request ∷ []
 
-abbrev pub request_heard : (address : ℕ) → Call → List Asked
-request_heard address (Report1 granted report) = []
-request_heard address (Report2 granted report) = []
-request_heard address (Hear granted None) = []
-request_heard address (Hear granted (Some frame)) = request_asked (reading_of address frame)
+abbrev pub request_received : (address : ℕ) → Call → List Asked
+request_received address (Report1 granted report) = []
+request_received address (Report2 granted report) = []
+request_received address (Receive granted None) = []
+request_received address (Receive granted (Some frame)) = request_asked (reading_of address frame)
 
-abbrev pub requests_heard : (address : ℕ) → List Call → List Asked
-requests_heard address [] = []
-requests_heard address (call ∷ calls) = request_heard address call ++ requests_heard address calls
+abbrev pub requests_received : (address : ℕ) → List Call → List Asked
+requests_received address [] = []
+requests_received address (call ∷ calls) = request_received address call
+    ++ requests_received address calls
 
 -- its turns at them
 abbrev pub turn_asked : Bool → Secondary → Reading → List Turn
 turn_asked granted s Foreign = []
 turn_asked granted s Unknown = []
-turn_asked granted s (Asks request) = (heard_reading granted s (Asks request)).turn ∷ []
+turn_asked granted s (Asks request) = (received_reading granted s (Asks request)).turn ∷ []
 
 abbrev pub turn_in : Secondary → Call → List Turn
 turn_in s (Report1 granted report) = []
 turn_in s (Report2 granted report) = []
-turn_in s (Hear granted None) = []
-turn_in s (Hear granted (Some frame)) = turn_asked granted s (reading_of s.address frame)
+turn_in s (Receive granted None) = []
+turn_in s (Receive granted (Some frame)) = turn_asked granted s (reading_of s.address frame)
 
 abbrev pub turns_in : Secondary → List Call → List Turn
 turns_in s [] = []

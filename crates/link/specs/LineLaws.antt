@@ -8,7 +8,8 @@ use Rattle.ft12.specs.Fronts.{front_of}
 use Rattle.ft12.specs.Spelling.{spelling}
 use Rattle.link.specs.Answers.{Asked, Counted, Command}
 use Rattle.link.specs.Exchanges.{Exchanges, OpenExchange, Sending, IsOutstanding, no_exchanges}
-use Rattle.link.specs.Exchanges.{answer_to, heard_octets, heard_current, timed_current, begun_by}
+use Rattle.link.specs.Exchanges.{answer_to, received_octets, received_current, timed_current}
+use Rattle.link.specs.Exchanges.{begun_by}
 use Rattle.link.specs.Exchanges.{view, reports_of_exchanges}
 use Rattle.link.specs.Gaps.{gap_at, gaps_at}
 use Rattle.link.specs.Holding.{IsFitting}
@@ -19,36 +20,36 @@ use Rattle.link.specs.Primary.{outcome_of, with_gap, received, received_outcome,
 use Rattle.link.specs.Primary.{is_command, may_offer, offered_to, withdrawn}
 use Rattle.link.specs.Procedure.{LinkSettings, is_up, is_held, holds_command}
 use Rattle.link.specs.Requests.{request_frame, request_in, FitsAddress, FitsAsked, IsUserData}
-use Rattle.link.specs.Telling.{Tells, report_in, gap_in_outcome, IsFittingSending}
+use Rattle.link.specs.Matching.{Matches, report_in, gap_in_outcome, IsFittingSending}
 use Rattle.link.specs.Turns.{station_at}
 
 pub record LineLaws : Type 0 where
   -- The state of a primary says of the exchanges what they are: from the start on, by each call.
   pub start : (settings : LinkSettings) (addresses : List ℕ) →
       0 < length addresses → All (FitsAddress settings.size) addresses →
-      Tells settings addresses (new_primary settings addresses) no_exchanges
+      Matches settings addresses (new_primary settings addresses) no_exchanges
   pub octets : (settings : LinkSettings) (addresses : List ℕ) (q : Primary) (e : Exchanges)
-      (octets : List ℕ) → Tells settings addresses q e →
-      Tells settings addresses (received (front_of q.settings.size) q octets)
-      (record { ended = e.ended; current = heard_current octets e.current })
+      (octets : List ℕ) → Matches settings addresses q e →
+      Matches settings addresses (received (front_of q.settings.size) q octets)
+      (record { ended = e.ended; current = received_current octets e.current })
   pub due : (settings : LinkSettings) (addresses : List ℕ) (q : Primary) (e : Exchanges) (at : ℕ) →
-      Tells settings addresses q e →
-      Tells settings addresses (timed_out q at)
+      Matches settings addresses q e →
+      Matches settings addresses (timed_out q at)
       (record { ended = e.ended; current = timed_current settings.answer_ms at e.current })
   pub next : (settings : LinkSettings) (addresses : List ℕ) (q : Primary) (e : Exchanges)
-      (now : ℕ) (may_poll : Bool) → Tells settings addresses q e →
-      Tells settings addresses (asked q now may_poll) (begun_by now (sending q may_poll) e)
+      (now : ℕ) (may_poll : Bool) → Matches settings addresses q e →
+      Matches settings addresses (asked q now may_poll) (begun_by now (sending q may_poll) e)
   pub offer : (settings : LinkSettings) (addresses : List ℕ) (q : Primary) (e : Exchanges)
       (station : ℕ) (asdu : List ℕ) → station < length q.stations →
-      IsUserData q.settings.size asdu → Tells settings addresses q e →
-      Tells settings addresses (offered_to q station asdu) e
+      IsUserData q.settings.size asdu → Matches settings addresses q e →
+      Matches settings addresses (offered_to q station asdu) e
   pub withdraw : (settings : LinkSettings) (addresses : List ℕ) (q : Primary) (e : Exchanges) →
-      Tells settings addresses q e → Tells settings addresses (withdrawn q) e
+      Matches settings addresses q e → Matches settings addresses (withdrawn q) e
   -- The reports of the exchanges grow by those that the outcomes bear.
   pub octets_report : (settings : LinkSettings) (addresses : List ℕ) (q : Primary) (e : Exchanges)
-      (octets : List ℕ) → Tells settings addresses q e →
+      (octets : List ℕ) → Matches settings addresses q e →
       reports_of_exchanges (front_of settings.size) (λ i. slice_index addresses i)
-      (record { ended = e.ended; current = heard_current octets e.current })
+      (record { ended = e.ended; current = received_current octets e.current })
       ≡ reports_of_exchanges (front_of settings.size) (λ i. slice_index addresses i) e
       ++ report_in (received_outcome (front_of q.settings.size) q octets)
   pub due_reports : (size : LinkSize) (address : ℕ → ℕ) (answer_ms at : ℕ) (e : Exchanges) →
@@ -61,9 +62,9 @@ pub record LineLaws : Type 0 where
       ≡ reports_of_exchanges (front_of size) address e
   -- So do the sessions of each station that ended with a gap.
   pub octets_gap : (settings : LinkSettings) (addresses : List ℕ) (q : Primary) (e : Exchanges)
-      (octets : List ℕ) (station : ℕ) → Tells settings addresses q e →
+      (octets : List ℕ) (station : ℕ) → Matches settings addresses q e →
       gaps_at (front_of settings.size) addresses station
-      (record { ended = e.ended; current = heard_current octets e.current })
+      (record { ended = e.ended; current = received_current octets e.current })
       ≡ gaps_at (front_of settings.size) addresses station e
       ++ gap_in_outcome station (received_outcome (front_of q.settings.size) q octets)
   pub due_gaps : (size : LinkSize) (addresses : List ℕ) (answer_ms at : ℕ) (e : Exchanges)
@@ -77,22 +78,22 @@ pub record LineLaws : Type 0 where
       ≡ gaps_at (front_of size) addresses station e
   -- What is told of octets is the answer of the outstanding exchange, if they complete it.
   pub answer : (settings : LinkSettings) (addresses : List ℕ) (q : Primary) (e : Exchanges)
-      (octets : List ℕ) (x : OpenExchange) → Tells settings addresses q e → e.current ≡ Some x →
+      (octets : List ℕ) (x : OpenExchange) → Matches settings addresses q e → e.current ≡ Some x →
       IsOutstanding (slice_index addresses x.station) (view (front_of settings.size) x).exchange →
       received_outcome (front_of settings.size) q octets
       ≡ with_gap (gap_at (front_of settings.size) addresses x.station e)
       (outcome_of x.station x.request (answer_to (slice_index addresses x.station)
-      (view (front_of settings.size) (heard_octets octets x)).exchange))
+      (view (front_of settings.size) (received_octets octets x)).exchange))
   -- A request fits the line, is spelled as the standard has it and read back, and goes out alone.
   pub fit : (settings : LinkSettings) (addresses : List ℕ) (q : Primary) (e : Exchanges)
-      (may_poll : Bool) (s : Sending) → Tells settings addresses q e →
+      (may_poll : Bool) (s : Sending) → Matches settings addresses q e →
       sending q may_poll ≡ Some s → IsFittingSending settings addresses s
   pub spelled : (settings : LinkSettings) (addresses : List ℕ) (q : Primary) (e : Exchanges)
-      (s : Sending) → Tells settings addresses q e →
+      (s : Sending) → Matches settings addresses q e →
       (request_of q s).octets.items
       ≡ spelling settings.size (request_frame (slice_index addresses s.station) s.request)
   pub alone : (settings : LinkSettings) (addresses : List ℕ) (q : Primary) (e : Exchanges)
-      (may_poll : Bool) (s : Sending) (x : OpenExchange) → Tells settings addresses q e →
+      (may_poll : Bool) (s : Sending) (x : OpenExchange) → Matches settings addresses q e →
       sending q may_poll ≡ Some s → e.current ≡ Some x →
       IsOutstanding (slice_index addresses x.station) (view (front_of settings.size) x).exchange →
       ⊥
@@ -114,7 +115,7 @@ pub record LineLaws : Type 0 where
       sending q may_poll ≡ None → (i : ℕ) → i < length q.stations →
       IsLeftToPolls (station_at q.stations i) (station_at q.stations i).link
   -- An offered command waits until it is put on the line or withdrawn.
-  pub heard_offers : (front : List ℕ → Front) (q : Primary) (octets : List ℕ) (k : ℕ) →
+  pub received_offers : (front : List ℕ → Front) (q : Primary) (octets : List ℕ) (k : ℕ) →
       offered_at (received front q octets) k ≡ offered_at q k
   pub timed_offers : (q : Primary) (at : ℕ) (k : ℕ) →
       offered_at (timed_out q at) k ≡ offered_at q k

@@ -66,23 +66,24 @@ Serves station (Some bit) old fcb service turn new =
     × (new ≡ record { bit = Some fcb; last = Some frame }))
 
 -- The outstation hears the request, and is able to serve it.
-abbrev pub Hears : (station : ℕ) → Outstation → Asked → Turn → Outstation → Type 0
-Hears station old Status turn new =
+abbrev pub Receives : (station : ℕ) → Outstation → Asked → Turn → Outstation → Type 0
+Receives station old Status turn new =
     (frame : Frame) × Says station Status Ready frame × (turn ≡ with_answer frame) × (new ≡ old)
-Hears station old Reset turn new =
+Receives station old Reset turn new =
     (frame : Frame) × Says station Reset Confirmed frame × (turn ≡ with_answer frame)
     × (new ≡ reset_link)
-Hears station old (Counted fcb service) turn new = Serves station old.bit old fcb service turn new
+Receives station old (Counted fcb service) turn new = Serves station old.bit old fcb service turn
+    new
 
 -- One request to the outstation.
 pub data OutstationStep (station : ℕ) (old : Outstation) (request : Asked) (turn : Turn)
     (new : Outstation) : Type 0 where
   -- it isn't heard
-  unheard : turn ≡ silent → new ≡ old → OutstationStep station old request turn new
+  unreceived : turn ≡ silent → new ≡ old → OutstationStep station old request turn new
   -- it is heard, and answered that the service isn't functioning or not implemented
   unable : (frame : Frame) → is_refusal station frame ≡ true → turn ≡ with_answer frame →
       new ≡ old → OutstationStep station old request turn new
-  heard : Hears station old request turn new → OutstationStep station old request turn new
+  arrived : Receives station old request turn new → OutstationStep station old request turn new
 
 -- These requests in turn, from one state to another.
 abbrev pub OutstationRun : (station : ℕ) → Outstation → List Asked → List Turn → Outstation → Type 0

@@ -25,7 +25,7 @@ pub use Rattle.link.specs.declared.outcome.Outcome.TheVariants as outcome
 pub record Outstanding : Type 0 where
   pub request : Asked
   pub since : ℕ
-  pub heard : Option (List ℕ)
+  pub arrived : Option (List ℕ)
   pub has_octets : Bool
 
 -- the primary, with the station whose turn it is, what the turn goes on with, whether an unanswered
@@ -103,7 +103,7 @@ after_choice p now (Some c) = record p {
   outstanding = Some (record {
     request = c.wanted.request;
     since = now;
-    heard = Some [];
+    arrived = Some [];
     has_octets = false;
   });
 }
@@ -194,12 +194,12 @@ abbrev pub answer_at : Primary → Outstanding → Frame → Option Answer
 answer_at p o frame = answer_of (station_at p.stations p.turn).address o.request frame
 
 -- the answer is awaited, with these octets so far
-abbrev pub awaits : Primary → Outstanding → (heard : Option (List ℕ)) → Primary
-awaits p o heard = record p {
+abbrev pub awaits : Primary → Outstanding → (arrived : Option (List ℕ)) → Primary
+awaits p o arrived = record p {
   outstanding = Some (record {
     request = o.request;
     since = o.since;
-    heard = heard;
+    arrived = arrived;
     has_octets = o.has_octets;
   });
 }
@@ -216,21 +216,21 @@ open_octets octets (Never place why) = None
 open_octets octets (Whole frame n) = Some []
 
 -- The octets so far are these, or there is a frame at their front.
-abbrev pub took : Primary → Outstanding → (heard : Option (List ℕ)) → Option Frame → Primary
-took p o heard None = awaits p o heard
-took p o heard (Some frame) = said_by p o frame (answer_at p o frame)
+abbrev pub took : Primary → Outstanding → (arrived : Option (List ℕ)) → Option Frame → Primary
+took p o arrived None = awaits p o arrived
+took p o arrived (Some frame) = said_by p o frame (answer_at p o frame)
 
 -- a frame stands at the front of the exchange
-abbrev pub heard_from : Primary → Option Outstanding → Frame → Primary
-heard_from p None frame = p
-heard_from p (Some o) frame = said_by p o frame (answer_at p o frame)
+abbrev pub answered_with : Primary → Option Outstanding → Frame → Primary
+answered_with p None frame = p
+answered_with p (Some o) frame = said_by p o frame (answer_at p o frame)
 
 -- octets come in its exchange
 abbrev pub with_octets : List ℕ → Outstanding → Outstanding
 with_octets octets o = record {
   request = o.request;
   since = o.since;
-  heard = o.heard;
+  arrived = o.arrived;
   has_octets = o.has_octets || not (length octets == 0);
 }
 
@@ -244,7 +244,8 @@ received_after front p o (Some before) octets =
 abbrev pub received_from : (front : List ℕ → Front) → Primary → Option Outstanding → List ℕ →
     Primary
 received_from front p None octets = p
-received_from front p (Some o) octets = received_after front p (with_octets octets o) o.heard octets
+received_from front p (Some o) octets = received_after front p (with_octets octets o) o.arrived
+    octets
 
 -- the primary after `octets`, by a reader of fronts
 abbrev pub received : (front : List ℕ → Front) → Primary → List ℕ → Primary
@@ -285,9 +286,9 @@ outcome_at p o None = outcome.None
 outcome_at p o (Some frame) =
     with_gap (turn_gap p) (outcome_of p.turn o.request (answer_at p o frame))
 
-abbrev pub heard_outcome : Primary → Option Outstanding → Frame → Outcome
-heard_outcome p None frame = outcome.None
-heard_outcome p (Some o) frame =
+abbrev pub answer_outcome : Primary → Option Outstanding → Frame → Outcome
+answer_outcome p None frame = outcome.None
+answer_outcome p (Some o) frame =
     with_gap (turn_gap p) (outcome_of p.turn o.request (answer_at p o frame))
 
 abbrev pub outcome_after : (front : List ℕ → Front) → Primary → Outstanding → Option (List ℕ) →
@@ -297,7 +298,7 @@ outcome_after front p o (Some before) octets = outcome_at p o (whole_of (front (
 
 abbrev pub outcome_from : (front : List ℕ → Front) → Primary → Option Outstanding → List ℕ → Outcome
 outcome_from front p None octets = outcome.None
-outcome_from front p (Some o) octets = outcome_after front p o o.heard octets
+outcome_from front p (Some o) octets = outcome_after front p o o.arrived octets
 
 -- what `octets` answers
 abbrev pub received_outcome : (front : List ℕ → Front) → Primary → List ℕ → Outcome

@@ -38,24 +38,24 @@ abbrev pub awaited_numbers : Option Outstanding → List ℕ
 awaited_numbers None = 0 ∷ []
 awaited_numbers (Some o) = 1 ∷ o.since ∷ bit_number o.has_octets ∷ asked_numbers o.request
 
-abbrev pub heard_numbers : Option Outstanding → List ℕ
-heard_numbers None = 0 ∷ []
-heard_numbers (Some o) = so_far_numbers o.heard
+abbrev pub received_numbers : Option Outstanding → List ℕ
+received_numbers None = 0 ∷ []
+received_numbers (Some o) = so_far_numbers o.arrived
 
 -- the lines of the whole state: its settings and how many stations there are stand elsewhere
 abbrev pub primary_lines : Primary → List (List ℕ)
 primary_lines p =
-    head_numbers p ∷ heard_numbers p.outstanding ∷ awaited_numbers p.outstanding
+    head_numbers p ∷ received_numbers p.outstanding ∷ awaited_numbers p.outstanding
     ∷ lines_of p.stations
 
 -- what came of the answer so far is the beginning of a frame
-abbrev pub HeardIsResumable : Primary → Option Outstanding → Type 0
-HeardIsResumable p None = Unit {0}
-HeardIsResumable p (Some o) = IfSome o.heard (IsProperBeginning p.settings.size)
+abbrev pub ReceivedIsResumable : Primary → Option Outstanding → Type 0
+ReceivedIsResumable p None = Unit {0}
+ReceivedIsResumable p (Some o) = IfSome o.arrived (IsProperBeginning p.settings.size)
 
-abbrev pub HeardAreOctets : Option Outstanding → Type 0
-HeardAreOctets None = Unit {0}
-HeardAreOctets (Some o) = IfSome o.heard (λ octets. All IsOctet octets)
+abbrev pub ReceivedAreOctets : Option Outstanding → Type 0
+ReceivedAreOctets None = Unit {0}
+ReceivedAreOctets (Some o) = IfSome o.arrived (λ octets. All IsOctet octets)
 
 abbrev pub FitsSavedAsked : Asked → Type 0
 FitsSavedAsked Status = Unit {0}
@@ -76,16 +76,16 @@ pub record IsSavable (p : Primary) : Type 0 where
   pub stations : AllByRecursion FitsSavedStation p.stations
   pub phase : FitsSavedPhase p.phase
   pub outstanding : FitsSavedOutstanding p.outstanding
-  pub heard : HeardIsResumable p p.outstanding
-  pub octets : HeardAreOctets p.outstanding
+  pub arrived : ReceivedIsResumable p p.outstanding
+  pub octets : ReceivedAreOctets p.outstanding
 
 -- what was outstanding, with what was heard of its answer
-abbrev pub outstanding_with : Option Outstanding → (heard : Option (List ℕ)) → Option Outstanding
-outstanding_with None heard = None
-outstanding_with (Some o) heard = Some (record {
+abbrev pub outstanding_with : Option Outstanding → (arrived : Option (List ℕ)) → Option Outstanding
+outstanding_with None arrived = None
+outstanding_with (Some o) arrived = Some (record {
   request = o.request;
   since = o.since;
-  heard = heard;
+  arrived = arrived;
   has_octets = o.has_octets;
 })
 
@@ -174,7 +174,7 @@ awaited_from deaf (kind ∷ ns) = awaited_by deaf kind ns
 -- nothing can be heard any more
 abbrev pub is_deaf : Option Outstanding → Bool
 is_deaf None = true
-is_deaf (Some o) = is_none o.heard
+is_deaf (Some o) = is_none o.arrived
 
 -- the same as the program keeps it
 abbrev pub awaited_of : Option Outstanding → Option Awaited
@@ -182,17 +182,17 @@ awaited_of None = None
 awaited_of (Some o) = Some (record {
   request = o.request;
   since = o.since;
-  deaf = is_none o.heard;
+  deaf = is_none o.arrived;
   has_octets = o.has_octets;
 })
 
-abbrev pub heard_octets : Option (List ℕ) → List ℕ
-heard_octets None = []
-heard_octets (Some octets) = octets
+abbrev pub received_octets : Option (List ℕ) → List ℕ
+received_octets None = []
+received_octets (Some octets) = octets
 
-abbrev pub octets_heard : Option Outstanding → List ℕ
-octets_heard None = []
-octets_heard (Some o) = heard_octets o.heard
+abbrev pub octets_received : Option Outstanding → List ℕ
+octets_received None = []
+octets_received (Some o) = received_octets o.arrived
 
 abbrev pub octets_from : List ℕ → Option (List ℕ)
 octets_from ns = if list_all (λ n. nat_lt n 256) ns then Some ns else None
@@ -206,10 +206,10 @@ abbrev pub deaf_by : List ℕ → Option (Bool × List ℕ)
 deaf_by [] = Some (true, [])
 deaf_by (n ∷ ns) = None
 
-abbrev pub heard_by : ℕ → List ℕ → Option (Bool × List ℕ)
-heard_by kind ns =
+abbrev pub received_by : ℕ → List ℕ → Option (Bool × List ℕ)
+received_by kind ns =
     if kind == 0 then deaf_by ns else if kind == 1 then listening (octets_from ns) else None
 
-abbrev pub heard_from : List ℕ → Option (Bool × List ℕ)
-heard_from [] = None
-heard_from (kind ∷ ns) = heard_by kind ns
+abbrev pub answered_with : List ℕ → Option (Bool × List ℕ)
+answered_with [] = None
+answered_with (kind ∷ ns) = received_by kind ns

@@ -4,7 +4,7 @@ use Rattle.std.specs.Prelude.{◌≡◌, ℕ, zero, suc, ◌<◌, ◌==◌, ◌&
 use Rattle.std.specs.Prelude.{◌++◌, length, Option, Some, None, if◌then◌else◌}
 use Rattle.ft12.specs.Fronts.{front_of}
 use Rattle.link.specs.Answers.{Asked, Counted, Command}
-use Rattle.link.specs.Exchanges.{Exchanges, Sending, no_exchanges, heard_current, timed_current}
+use Rattle.link.specs.Exchanges.{Exchanges, Sending, no_exchanges, received_current, timed_current}
 use Rattle.link.specs.Exchanges.{begun_by, given_up_at}
 use Rattle.link.specs.Carried.{given_up}
 use Rattle.link.specs.Procedure.{LinkSettings, Link, is_held, is_up}
@@ -34,7 +34,8 @@ called p (GivesUp station) = given_up station p
 -- the exchanges of its line after the call
 abbrev pub exchanged : Primary → Call → Exchanges → Exchanges
 exchanged p (Next now may_poll) e = begun_by now (sending p may_poll) e
-exchanged p (Octets octets) e = record { ended = e.ended; current = heard_current octets e.current }
+exchanged p (Octets octets) e =
+    record { ended = e.ended; current = received_current octets e.current }
 exchanged p (Due now) e = record {
   ended = e.ended;
   current = timed_current p.settings.answer_ms now e.current;

@@ -169,22 +169,23 @@ IsServed old request answer new =
     × (new ≡ (served granted old request).state)
 
 -- what one frame makes of the station
-abbrev pub heard_reading : (granted : Bool) → Secondary → Reading → Served
-heard_reading granted s Foreign = unchanged s None
-heard_reading granted s Unknown =
+abbrev pub received_reading : (granted : Bool) → Secondary → Reading → Served
+received_reading granted s Foreign = unchanged s None
+received_reading granted s Unknown =
     unchanged s (Some (Fixed (control_of (number function.NotImplemented) s.class1) s.address))
-heard_reading granted s (Asks request) = served granted s request
+received_reading granted s (Asks request) = served granted s request
 
-abbrev pub IsReadingHeard : Secondary → Reading → Option Frame → Secondary → Type 0
-IsReadingHeard old reading answer new =
-    (granted : Bool) × (answer ≡ (heard_reading granted old reading).turn.answer)
-    × (new ≡ (heard_reading granted old reading).state)
+abbrev pub IsReadingReceived : Secondary → Reading → Option Frame → Secondary → Type 0
+IsReadingReceived old reading answer new =
+    (granted : Bool) × (answer ≡ (received_reading granted old reading).turn.answer)
+    × (new ≡ (received_reading granted old reading).state)
 
-abbrev pub IsFrameHeard : Secondary → Frame → Option Frame → Secondary → Type 0
-IsFrameHeard old frame answer new = IsReadingHeard old (reading_of old.address frame) answer new
+abbrev pub IsFrameReceived : Secondary → Frame → Option Frame → Secondary → Type 0
+IsFrameReceived old frame answer new = IsReadingReceived old (reading_of old.address frame) answer
+    new
 
 -- The station hears octets: a whole frame, or nothing.
-abbrev pub HearsOctets : Secondary → List ℕ → Option Frame → Secondary → Type 0
-HearsOctets old octets answer new =
-    ((frame : Frame) × IsLineFrame old.size frame octets × IsFrameHeard old frame answer new)
+abbrev pub ReceivesOctets : Secondary → List ℕ → Option Frame → Secondary → Type 0
+ReceivesOctets old octets answer new =
+    ((frame : Frame) × IsLineFrame old.size frame octets × IsFrameReceived old frame answer new)
     ⊎ (((frame : Frame) → IsLineFrame old.size frame octets → ⊥) × (answer ≡ None) × (new ≡ old))

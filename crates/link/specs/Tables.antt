@@ -25,15 +25,15 @@ answer_in function (entry ∷ entries) =
     if function == entry.0 then Some entry.1 else answer_in function entries
 
 -- what the caller is told, of the station with this index
-abbrev pub told_row : (station : ℕ) → Asked → List (ℕ × Outcome)
-told_row station Status =
+abbrev pub outcome_row : (station : ℕ) → Asked → List (ℕ × Outcome)
+outcome_row station Status =
     (11, outcome.None) ∷ (14, outcome.Down station) ∷ (15, outcome.Down station) ∷ []
-told_row station Reset = (0, outcome.Started station) ∷ []
-told_row station (Counted fcb Class1) =
+outcome_row station Reset = (0, outcome.Started station) ∷ []
+outcome_row station (Counted fcb Class1) =
     (9, outcome.Empty station) ∷ (14, outcome.Down station) ∷ (15, outcome.Down station) ∷ []
-told_row station (Counted fcb Class2) =
+outcome_row station (Counted fcb Class2) =
     (9, outcome.Empty station) ∷ (14, outcome.Down station) ∷ (15, outcome.Down station) ∷ []
-told_row station (Counted fcb (Command asdu)) =
+outcome_row station (Counted fcb (Command asdu)) =
     (0, outcome.Accepted station) ∷ (1, outcome.Busy station) ∷ (14, outcome.Down station)
     ∷ (15, outcome.Down station) ∷ []
 

@@ -7,8 +7,8 @@ use Rattle.ft12.specs.declared.frame.LinkSize.{LinkSize}
 use Rattle.link.specs.Answers.{Frame, Asked, Status, Reset, Counted, Answer, Report, NoData, Says}
 use Rattle.link.specs.Flags.{flags_in}
 use Rattle.link.specs.Requests.{Reading, Foreign, Unknown, Asks, reading_of}
-use Rattle.link.specs.Secondary.{fresh_station, heard_reading}
-use Rattle.link.specs.Life.{Call, after, requests_heard, turns_in, given1, given2, reported1}
+use Rattle.link.specs.Secondary.{fresh_station, received_reading}
+use Rattle.link.specs.Life.{Call, after, requests_received, turns_in, given1, given2, reported1}
 use Rattle.link.specs.Life.{reported2}
 
 -- the frame count bit that a station has after these requests: a reset clears it, and each counted
@@ -39,25 +39,27 @@ IsNewReading bit (Asks request) = IsNew bit request
 
 -- the bit of a station that was called for this
 abbrev pub bit_of : (address : ℕ) → List Call → Option Bool
-bit_of address calls = bit_after None (requests_heard address calls)
+bit_of address calls = bit_after None (requests_received address calls)
 
 -- what a station answers to a frame after these calls
 abbrev pub answer_after : LinkSize → (address : ℕ) → List Call → (granted : Bool) → Frame →
     Option Frame
 answer_after size address calls granted frame =
-    (heard_reading granted (after (fresh_station size address) calls)
+    (received_reading granted (after (fresh_station size address) calls)
     (reading_of address frame)).turn.answer
 
 -- These reports of class 1 wait, in this order: they were handed in, and not given.
 abbrev pub Wait1 : LinkSize → (address : ℕ) → List Call → (waiting : List (List ℕ)) → Type 0
 Wait1 size address calls waiting =
-    given1 (requests_heard address calls) (turns_in (fresh_station size address) calls) ++ waiting
+    given1 (requests_received address calls) (turns_in (fresh_station size address) calls)
+    ++ waiting
     ≡ reported1 calls
 
 -- and these of class 2
 abbrev pub Wait2 : LinkSize → (address : ℕ) → List Call → (waiting : List (List ℕ)) → Type 0
 Wait2 size address calls waiting =
-    given2 (requests_heard address calls) (turns_in (fresh_station size address) calls) ++ waiting
+    given2 (requests_received address calls) (turns_in (fresh_station size address) calls)
+    ++ waiting
     ≡ reported2 calls
 
 -- whether any wait
@@ -66,8 +68,8 @@ do_wait [] = false
 do_wait (report ∷ reports) = true
 
 -- There is an answer, with ACD and DFC so.
-abbrev pub TellsFlags : Option Frame → (acd dfc : Bool) → Type 0
-TellsFlags answer acd dfc = (frame : Frame) × (answer ≡ Some frame) × (flags_in frame ≡ record {
+abbrev pub ShowsFlags : Option Frame → (acd dfc : Bool) → Type 0
+ShowsFlags answer acd dfc = (frame : Frame) × (answer ≡ Some frame) × (flags_in frame ≡ record {
   acd = acd;
   dfc = dfc;
 })

@@ -75,7 +75,7 @@ pub fn answers_by_example()
         × (short_of 9 1 [] ≡ Single) × (short_of 9 1 (octet ∷ []) ≡ Fixed 0x29 1)
         × (control_of 8 [] ≡ 0x08) × (control_of 8 (octet ∷ []) ≡ 0x28)
         × (control_of 11 [] ≡ 0x0B) × (control_of 1 (octet ∷ []) ≡ 0x21) }
-    ensures told { (outcome_by 3 Reset Confirmed ≡ outcome.Started 3)
+    ensures outcome_for { (outcome_by 3 Reset Confirmed ≡ outcome.Started 3)
         × (outcome_by 3 (Counted true (Command octet)) Confirmed ≡ outcome.Accepted 3)
         × (outcome_by 3 (Counted true (Command octet)) Busy ≡ outcome.Busy 3)
         × (outcome_by 3 (Counted true Class1) NoData ≡ outcome.Empty 3)

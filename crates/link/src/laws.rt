@@ -21,7 +21,7 @@ ghost use Rattle.ft12.specs.Fronts.{front_of};
 ghost use Rattle.ft12.specs.Spelling.{spelling};
 ghost use Rattle.link.specs.Answers.{Asked};
 ghost use Rattle.link.specs.Exchanges.{Exchange, Exchanges, OpenExchange, Sending, IsOutstanding};
-ghost use Rattle.link.specs.Exchanges.{no_exchanges, heard_current, timed_current, begun_by};
+ghost use Rattle.link.specs.Exchanges.{no_exchanges, received_current, timed_current, begun_by};
 ghost use Rattle.link.specs.Exchanges.{whole_of, view, reports_of_exchanges};
 ghost use Rattle.link.specs.LineLaws.{LineLaws};
 ghost use Rattle.link.specs.Procedure.{LinkSettings, Down, KeepsFrameCountBit, IsUp, is_service};
@@ -29,10 +29,10 @@ ghost use Rattle.link.specs.Requests.{request_frame, IsUserData, FitsAddress, Fi
 ghost use Rattle.link.specs.Requests.{request_in};
 ghost use Rattle.link.specs.Primary.{Primary, start, asked, sending, request_of, received};
 ghost use Rattle.link.specs.Primary.{received_outcome, timed_out, offered_to, withdrawn};
-ghost use Rattle.link.specs.Telling.{Tells, report_in, IsFittingSending};
+ghost use Rattle.link.specs.Matching.{Matches, report_in, IsFittingSending};
 
 use crate::laws::asking::next_changes_nothing;
-use crate::laws::gaps::gaps_are_told;
+use crate::laws::gaps::gaps_are_reported;
 use crate::laws::leave::rests_mean;
 use crate::laws::offers::offers_wait;
 use crate::laws::runs::outcomes_are_answers;
@@ -53,33 +53,33 @@ pub fn requests_are_read_back()
 
 /// A primary station's state says of the exchanges of its line what they are: from the start on,
 /// and through each call. So its requests keep the frame count bit of each station.
-pub fn master_tells_the_log()
+pub fn master_matches_the_log()
     ensures start { (settings : LinkSettings) (addresses : List ℕ) → 0 < length addresses →
         All (FitsAddress settings.size) addresses →
-        Tells settings addresses (start settings addresses) no_exchanges }
+        Matches settings addresses (start settings addresses) no_exchanges }
     ensures octets { (settings : LinkSettings) (addresses : List ℕ) (p : Primary) (e : Exchanges)
-        (octets : List ℕ) → Tells settings addresses p e →
-        Tells settings addresses (received (front_of p.settings.size) p octets) (record {
+        (octets : List ℕ) → Matches settings addresses p e →
+        Matches settings addresses (received (front_of p.settings.size) p octets) (record {
           ended = e.ended;
-          current = heard_current octets e.current;
+          current = received_current octets e.current;
         }) }
     ensures due { (settings : LinkSettings) (addresses : List ℕ) (p : Primary) (e : Exchanges)
-        (at : ℕ) → Tells settings addresses p e →
-        Tells settings addresses (timed_out p at) (record {
+        (at : ℕ) → Matches settings addresses p e →
+        Matches settings addresses (timed_out p at) (record {
           ended = e.ended;
           current = timed_current settings.answer_ms at e.current;
         }) }
     ensures next { (settings : LinkSettings) (addresses : List ℕ) (p : Primary) (e : Exchanges)
-        (now : ℕ) (may_poll : Bool) → Tells settings addresses p e →
-        Tells settings addresses (asked p now may_poll) (begun_by now (sending p may_poll) e) }
+        (now : ℕ) (may_poll : Bool) → Matches settings addresses p e →
+        Matches settings addresses (asked p now may_poll) (begun_by now (sending p may_poll) e) }
     ensures offer { (settings : LinkSettings) (addresses : List ℕ) (p : Primary) (e : Exchanges)
         (station : ℕ) (asdu : List ℕ) →
         station < length p.stations → IsUserData p.settings.size asdu →
-        Tells settings addresses p e →
-        Tells settings addresses (offered_to p station asdu) e }
+        Matches settings addresses p e →
+        Matches settings addresses (offered_to p station asdu) e }
     ensures withdraw { (settings : LinkSettings) (addresses : List ℕ) (p : Primary)
-        (e : Exchanges) → Tells settings addresses p e →
-        Tells settings addresses (withdrawn p) e }
+        (e : Exchanges) → Matches settings addresses p e →
+        Matches settings addresses (withdrawn p) e }
 {
     front_is_computed();
 }
@@ -88,10 +88,10 @@ pub fn master_tells_the_log()
 /// the outcomes bear.
 pub fn outcomes_bear_the_reports()
     ensures octets { (settings : LinkSettings) (addresses : List ℕ) (p : Primary) (e : Exchanges)
-        (octets : List ℕ) → Tells settings addresses p e →
+        (octets : List ℕ) → Matches settings addresses p e →
         reports_of_exchanges (front_of settings.size) (λ i. slice_index addresses i) (record {
           ended = e.ended;
-          current = heard_current octets e.current;
+          current = received_current octets e.current;
         })
         ≡ reports_of_exchanges (front_of settings.size) (λ i. slice_index addresses i) e
         ++ report_in (received_outcome (front_of p.settings.size) p octets) }
@@ -113,15 +113,15 @@ pub fn outcomes_bear_the_reports()
 /// exchange is outstanding.
 pub fn requests_wait_their_turn()
     ensures fit { (settings : LinkSettings) (addresses : List ℕ) (p : Primary) (e : Exchanges)
-        (may_poll : Bool) (s : Sending) → Tells settings addresses p e →
+        (may_poll : Bool) (s : Sending) → Matches settings addresses p e →
         sending p may_poll ≡ Some s → IsFittingSending settings addresses s }
     ensures octets { (settings : LinkSettings) (addresses : List ℕ) (p : Primary) (e : Exchanges)
-        (s : Sending) → Tells settings addresses p e →
+        (s : Sending) → Matches settings addresses p e →
         (request_of p s).octets.items
         ≡ spelling settings.size (request_frame (slice_index addresses s.station) s.request) }
     ensures alone { (settings : LinkSettings) (addresses : List ℕ) (p : Primary) (e : Exchanges)
         (may_poll : Bool) (s : Sending) (x : OpenExchange) →
-        Tells settings addresses p e → sending p may_poll ≡ Some s → e.current ≡ Some x →
+        Matches settings addresses p e → sending p may_poll ≡ Some s → e.current ≡ Some x →
         IsOutstanding (slice_index addresses x.station) (view (front_of settings.size) x).exchange →
         ⊥ }
 {}
@@ -142,9 +142,9 @@ pub fn services_need_a_station_that_is_up()
 pub fn line_keeps_the_procedures()
     ensures { LineLaws }
 {
-    master_tells_the_log();
+    master_matches_the_log();
     outcomes_bear_the_reports();
-    gaps_are_told();
+    gaps_are_reported();
     outcomes_are_answers();
     requests_wait_their_turn();
     requests_are_read_back();

@@ -12,7 +12,7 @@
 //! [`Station`] on another (`specs/Secondary.antt`). Above them stand laws, as public functions with
 //! no body:
 //! - over every list of calls the exchanges of the line keep the frame count bit of each station
-//!   ([`frame_count_bits_are_kept`], [`master_tells_the_log`]), no request goes out while one is
+//!   ([`frame_count_bits_are_kept`], [`master_matches_the_log`]), no request goes out while one is
 //!   outstanding ([`requests_wait_their_turn`]), turns go round the stations ([`turns_go_round`]),
 //!   a turn ends ([`turns_end`]) and no station starves ([`no_station_starves`]), an unanswered
 //!   service is sent again at once ([`repeats_come_at_once`]) and as often as is set
@@ -26,15 +26,15 @@
 //!   [`outcomes_bear_the_reports`]), and those that closed with octets but no answer are counted
 //!   ([`spoilt_exchanges_are_counted`]);
 //! - a reset that ends a session whose last report may be lost is told, and no other
-//!   ([`gaps_are_told`], [`gaps_are_ended_sessions`]);
+//!   ([`gaps_are_reported`], [`gaps_are_ended_sessions`]);
 //! - where a link is given up at a restart no other station changes
-//!   ([`giving_up_is_for_one_station`]), and the exchanges tell it ([`giving_up_is_told`],
+//!   ([`giving_up_is_for_one_station`]), and the exchanges tell it ([`giving_up_is_logged`],
 //!   [`the_latest_exchange_is_marked`]); where a line goes on with other settings each station that
 //!   goes on keeps its frame count bit ([`frame_count_bits_go_on`]), and what is known of its
 //!   session ([`sessions_go_on`]);
 //! - what the crates above go by is one record ([`line_keeps_the_procedures`]);
 //! - a station runs as an outstation that hears each request to it ([`station_is_an_outstation`]),
-//!   and its answers say what waits there ([`station_tells_what_waits`]);
+//!   and its answers say what waits there ([`answers_show_what_waits`]);
 //! - a control octet is a value ([`Control`], [`controls_are_octets`]);
 //! - each of the sixteen functions of a secondary station is an answer to a request, or none, and
 //!   is told as its table says ([`answers_are_whole`]), each request has one control octet at each
@@ -56,12 +56,12 @@ mod asdu;
 mod awaited;
 mod control;
 mod examples;
-mod heard_request;
 mod laws;
 mod master;
 mod no_memory;
 mod outcome;
 mod procedure;
+mod received_request;
 mod request;
 mod saving;
 mod seat;
@@ -78,7 +78,6 @@ pub use examples::{
     answers_by_example, controls_by_example, outstations_by_example, requests_by_example,
     turns_by_example,
 };
-pub use heard_request::HeardRequest;
 pub use laws::asking::next_changes_nothing;
 pub use laws::at_once::{
     polls_follow_commands, repeats_are_as_many_as_set, repeats_come_at_once,
@@ -86,13 +85,13 @@ pub use laws::at_once::{
 };
 pub use laws::bursts::class_1_polls_go_on;
 pub use laws::carrying::{
-    frame_count_bits_go_on, giving_up_is_for_one_station, giving_up_is_told, sessions_go_on,
+    frame_count_bits_go_on, giving_up_is_for_one_station, giving_up_is_logged, sessions_go_on,
     the_latest_exchange_is_marked,
 };
 pub use laws::flags::flags_are_heeded;
-pub use laws::gaps::{gaps_are_ended_sessions, gaps_are_told};
+pub use laws::gaps::{gaps_are_ended_sessions, gaps_are_reported};
 pub use laws::leave::{polls_wait_for_leave, rests_mean};
-pub use laws::life::{station_is_an_outstation, station_tells_what_waits};
+pub use laws::life::{answers_show_what_waits, station_is_an_outstation};
 pub use laws::offers::{offers_wait, one_command_at_a_time};
 pub use laws::precedence::commands_go_before_polls;
 pub use laws::refinement::{
@@ -106,13 +105,14 @@ pub use laws::runs::{
 pub use laws::tables::{answers_are_whole, requests_are_whole, reserved_bits_are_not_looked_at};
 pub use laws::visits::{no_station_starves, turns_end};
 pub use laws::{
-    line_keeps_the_procedures, master_tells_the_log, outcomes_bear_the_reports,
+    line_keeps_the_procedures, master_matches_the_log, outcomes_bear_the_reports,
     requests_are_read_back, requests_wait_their_turn, services_need_a_station_that_is_up,
 };
 pub use master::Master;
 pub use no_memory::NoMemory;
 pub use outcome::{Outcome, ReportRef};
 pub use procedure::Link;
+pub use received_request::ReceivedRequest;
 pub use request::{Reading, Request, RequestKind, read_request};
 pub use seat::Seat;
 pub use service::{Asked, Service};

@@ -9,7 +9,7 @@ ghost use Rattle.ft12.specs.Fronts.{front_of};
 ghost use Rattle.link.specs.Requests.{IsUserData, FitsAddress, FitsAsked};
 ghost use Rattle.link.specs.Primary.{start, choice, station_asked, after_choice, asked, sending};
 ghost use Rattle.link.specs.Primary.{request_of, acd_of, dfc_of, phase_after, station_answered};
-ghost use Rattle.link.specs.Primary.{heard_from, heard_outcome, received, received_outcome};
+ghost use Rattle.link.specs.Primary.{answered_with, answer_outcome, received, received_outcome};
 ghost use Rattle.link.specs.Primary.{station_unanswered, unanswered, miss_outcome, timed_out};
 ghost use Rattle.link.specs.Primary.{due_outcome, is_sending_command, may_offer, offered_to};
 ghost use Rattle.link.specs.Primary.{without_offer, withdrawn};
@@ -27,14 +27,14 @@ use crate::asdu::CommandOctets;
 use crate::awaited::Awaited;
 use crate::control::{shows_acd, shows_dfc};
 use crate::no_memory::NoMemory;
-use crate::outcome::{Outcome, told};
+use crate::outcome::{Outcome, outcome_for};
 use crate::procedure::Link;
 use crate::request::Request;
 use crate::service::{Asked, Service};
 use crate::session::SessionState;
 use crate::settings::LinkSettings;
 use crate::turn::{Chosen, Phase, Pick, StationState, Wanted, Wish, first_wanted, nth_station};
-use ft12::{Assembler, Frame, FrameRef, FrontRef, Heard, front_is_computed, front_ref};
+use ft12::{Assembler, Frame, FrameRef, FrontRef, Received, front_is_computed, front_ref};
 use std::alloc::Global;
 use std::marker::Model;
 
@@ -191,8 +191,8 @@ fn frame_in(assembler: &mut Assembler, piece: &[u8]) -> Option<Frame>
 {
     front_is_computed();
     match assembler.feed(piece).1 {
-        Heard::Frame(frame) => Some(frame),
-        Heard::More | Heard::Never(_, _) | Heard::Deaf => None,
+        Received::Frame(frame) => Some(frame),
+        Received::More | Received::Never(_, _) | Received::Deaf => None,
     }
 }
 
@@ -455,7 +455,7 @@ impl Master {
     /// those after an answer or after what can't be one, are dropped. A report is lent: from the
     /// octets, where the whole answer stands there, and else from `room`, in which an answer is put
     /// that came in pieces. Who has no room to give for each piece calls the parts of this one:
-    /// `hear_whole`, `gather_inner`, `gather` and `hear`, in this order.
+    /// `receive_whole`, `gather_inner`, `gather` and `receive`, in this order.
     pub fn octets<'a>(&mut self, octets: &'a [u8], room: &'a mut Option<Frame>) -> Outcome<'a>
         ensures state { self.new ≡ received (front_of self.old.settings.size) self.old octets.now }
         ensures outcome { result
@@ -463,7 +463,7 @@ impl Master {
     {
         // A place is filled only by the octet that ends an answer (docs/DECISIONS.md, "A place for
         // an answer").
-        if let Some(outcome) = self.hear_whole(octets) {
+        if let Some(outcome) = self.receive_whole(octets) {
             return outcome;
         }
         let inner = self.gather_inner(octets);
@@ -472,7 +472,7 @@ impl Master {
         }
         *room = self.gather(&octets[inner..]);
         match room {
-            Some(frame) => self.hear(frame.lent()),
+            Some(frame) => self.receive(frame.lent()),
             None => Outcome::None,
         }
     }
@@ -480,7 +480,7 @@ impl Master {
     /// A part of `octets`. Hears octets of the line with a whole frame at their front, where a
     /// request is outstanding and these are the first octets that come: that is its answer. Else
     /// nothing is heard, and nothing changes.
-    pub fn hear_whole<'a>(&mut self, octets: &'a [u8]) -> Option<Outcome<'a>>
+    pub fn receive_whole<'a>(&mut self, octets: &'a [u8]) -> Option<Outcome<'a>>
         ensures whole { IfSome result (λ outcome.
             (self.new ≡ received (front_of self.old.settings.size) self.old octets.now)
             × (outcome
@@ -495,7 +495,7 @@ impl Master {
             return None;
         };
         self.note(octets);
-        Some(self.hear(frame))
+        Some(self.receive(frame))
     }
 
     /// Octets come in the exchange.
@@ -537,13 +537,13 @@ impl Master {
     /// A part of `octets`. Gathers octets of the line, in any pieces, up to the frame that is the
     /// answer: the one at the front of the octets of the exchange. Those that come while no request
     /// is outstanding, and those after an answer or after what can't be one, are dropped. The frame
-    /// is to be heard ([`Master::hear`]).
+    /// is to be heard ([`Master::receive`]).
     #[inline(never)]
     pub fn gather(&mut self, octets: &[u8]) -> Option<Frame>
         ensures frame { result ≡ completed (front_of self.old.settings.size) self.old octets.now }
-        ensures whole { IfSome result (λ frame. (heard_from self.new self.new.outstanding frame
+        ensures whole { IfSome result (λ frame. (answered_with self.new self.new.outstanding frame
             ≡ received (front_of self.old.settings.size) self.old octets.now)
-            × (heard_outcome self.new self.new.outstanding frame
+            × (answer_outcome self.new self.new.outstanding frame
             ≡ received_outcome (front_of self.old.settings.size) self.old octets.now)) }
         ensures none { IfNone result ((self.new
             ≡ received (front_of self.old.settings.size) self.old octets.now)
@@ -560,25 +560,25 @@ impl Master {
     /// A part of `octets`. Hears the frame that is the answer to the outstanding request, and says
     /// what came of the exchange. Asks for at most 253 octets of data.
     #[inline(always)]
-    pub fn hear<'a>(&mut self, frame: FrameRef<'a>) -> Outcome<'a>
+    pub fn receive<'a>(&mut self, frame: FrameRef<'a>) -> Outcome<'a>
         requires { FitsMemory frame }
-        ensures state { self.new ≡ heard_from self.old self.old.outstanding (owned frame.entry) }
-        ensures outcome { result ≡ heard_outcome self.old self.old.outstanding (owned frame.entry) }
+        ensures state { self.new ≡ answered_with self.old self.old.outstanding (owned frame.entry) }
+        ensures outcome { result ≡ answer_outcome self.old self.old.outstanding (owned frame.entry) }
     {
         match self.outstanding.take() {
             None => Outcome::None,
-            Some(awaited) => self.hear_for(awaited, frame),
+            Some(awaited) => self.receive_for(awaited, frame),
         }
     }
 
     #[inline(always)]
-    fn hear_for<'a>(&mut self, awaited: Awaited, frame: FrameRef<'a>) -> Outcome<'a>
+    fn receive_for<'a>(&mut self, awaited: Awaited, frame: FrameRef<'a>) -> Outcome<'a>
         requires none { self.old.outstanding ≡ None }
         requires fits { FitsAsked self.old.settings.size awaited.request }
         requires short { FitsMemory frame }
-        ensures state { heard_from self.old (Some (outstanding_of awaited None))
+        ensures state { answered_with self.old (Some (outstanding_of awaited None))
             (owned frame.entry) ≡ self.new }
-        ensures outcome { result ≡ heard_outcome self.old
+        ensures outcome { result ≡ answer_outcome self.old
             (Some (outstanding_of awaited None)) (owned frame.entry) }
     {
         let place = self.turn;
@@ -601,7 +601,7 @@ impl Master {
             Some(answer) => {
                 self.stations[place].answer(&awaited.request, frame, &answer);
                 self.phase = phase_of(&answer, self.phase);
-                told(place, gap, &awaited.request, answer)
+                outcome_for(place, gap, &awaited.request, answer)
             }
         }
     }

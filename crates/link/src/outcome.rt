@@ -72,7 +72,7 @@ pub enum Outcome<'a> {
 }
 
 /// What an answer to the request is told as, where the station's session has this gap.
-pub(crate) fn told<'a>(
+pub(crate) fn outcome_for<'a>(
     station: usize,
     gap: Option<u64>,
     request: &Asked,

@@ -5,13 +5,13 @@ ghost use Rattle.ft12.specs.Borrowed.{owned};
 ghost use Rattle.ft12.specs.Spelling.{spelling, spelling_len};
 ghost use Rattle.link.specs.Control.{primary_code};
 ghost use Rattle.link.specs.declared.request.Reading.TheVariants as reading;
-ghost use Rattle.link.specs.Heard.{with_data as joined};
+ghost use Rattle.link.specs.Received.{with_data as joined};
 ghost use Rattle.link.specs.Requests.{counted_control, plain_control, request_frame, FitsAddress};
 ghost use Rattle.link.specs.Requests.{FitsAsked, service_kind, kind_of, counted_reading};
 ghost use Rattle.link.specs.Requests.{plain_reading, short_by, data_by, reading_of};
 
 use crate::control::{Control, PrimaryFunction};
-use crate::heard_request::HeardRequest;
+use crate::received_request::ReceivedRequest;
 use crate::service::{Asked, Service};
 use arrayvec::ArrayVec;
 use ft12::{Frame, FrameRef, LinkSize, encode_ref};
@@ -56,7 +56,7 @@ pub enum Reading {
     /// A request that the station doesn't know.
     Unknown,
     /// A request.
-    Asks(HeardRequest),
+    Asks(ReceivedRequest),
 }
 
 impl Service {
@@ -155,7 +155,7 @@ impl Asked {
 fn asks(request: Asked) -> Reading
     ensures { result ≡ reading.Asks (joined [] request) }
 {
-    Reading::Asks(HeardRequest::bare(request))
+    Reading::Asks(ReceivedRequest::bare(request))
 }
 
 fn counted(fcb: bool, function: PrimaryFunction) -> Reading
@@ -198,7 +198,7 @@ fn with_data(fcb: bool, fcv: bool, function: PrimaryFunction, octets: &[u8]) -> 
         return Reading::Unknown;
     }
     match function {
-        PrimaryFunction::UserData if fcv => Reading::Asks(HeardRequest::command(fcb, octets)),
+        PrimaryFunction::UserData if fcv => Reading::Asks(ReceivedRequest::command(fcb, octets)),
         _ => Reading::Unknown,
     }
 }

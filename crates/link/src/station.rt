@@ -5,19 +5,20 @@ ghost use Rattle.std.specs.Bool.{OnTrue, OnFalse};
 ghost use Rattle.ft12.specs.Spelling.{Fits};
 ghost use Rattle.link.specs.declared.service.Asked.TheVariants as Asked;
 ghost use Rattle.link.specs.Requests.{FitsAddress, FitsFrame};
-ghost use Rattle.link.specs.Heard.{service_with};
+ghost use Rattle.link.specs.Received.{service_with};
 ghost use Rattle.link.specs.Control.{secondary_code as number};
 ghost use Rattle.link.specs.declared.control.SecondaryFunction.TheVariants as function;
 ghost use Rattle.link.specs.Life.{Report1, Report2, called};
 ghost use Rattle.link.specs.Secondary.{served_class1, served_class2, served_command, control_of};
 ghost use Rattle.link.specs.Secondary.{short_of, data_frame, one_more_given, is_same, IsServed};
-ghost use Rattle.link.specs.Secondary.{IsCommandServed, IsReadingHeard, with_frame, HearsOctets};
+ghost use Rattle.link.specs.Secondary.{IsCommandServed, IsReadingReceived, with_frame};
+ghost use Rattle.link.specs.Secondary.{ReceivesOctets};
 ghost use Rattle.link.specs.Secondary.{fresh_station};
 
 use crate::asdu::Asdu;
 use crate::control::{Control, SecondaryFunction};
-use crate::heard_request::HeardRequest;
 use crate::no_memory::NoMemory;
+use crate::received_request::ReceivedRequest;
 use crate::request::{Reading, read_request};
 use crate::service::{Asked, Service};
 use arrayvec::ArrayVec;
@@ -257,7 +258,7 @@ impl Station {
     }
 
     /// Answers a request to this station.
-    fn serve(&mut self, request: &HeardRequest) -> Option<Frame>
+    fn serve(&mut self, request: &ReceivedRequest) -> Option<Frame>
         ensures served { IsServed self.old request.now result self.new }
         ensures fits { IfSome result (Fits self.old.size) }
     {
@@ -277,7 +278,7 @@ impl Station {
     }
 
     fn answer(&mut self, reading: &Reading) -> Option<Frame>
-        ensures served { IsReadingHeard self.old reading.now result self.new }
+        ensures served { IsReadingReceived self.old reading.now result self.new }
         ensures fits { IfSome result (Fits self.old.size) }
     {
         match reading {
@@ -296,8 +297,8 @@ impl Station {
     /// oldest report of its class, and a command is accepted, or answered that the station is busy
     /// where memory is refused. Requests that it doesn't know are answered that
     /// they aren't implemented.
-    pub fn hear(&mut self, octets: &[u8]) -> Option<Frame>
-        ensures heard { HearsOctets self.old octets.now result self.new }
+    pub fn receive(&mut self, octets: &[u8]) -> Option<Frame>
+        ensures arrived { ReceivesOctets self.old octets.now result self.new }
         ensures fits { IfSome result (Fits self.old.size) }
     {
         let Front::Whole(frame, len) = front(self.size, octets) else {

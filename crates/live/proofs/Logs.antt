@@ -2,8 +2,8 @@
 use Rattle.std.proofs.Common.{◌≡◌, ℕ, true, false, Bool, List, [], ◌∷◌, ◌++◌, Option, Some, None}
 use Rattle.std.proofs.Common.{refl, sym, ap, subst, ◌∙◌, inl, inr}
 use Rattle.gateway.specs.declared.ports.Next.{Next}
-use Rattle.gateway.specs.Log.{tell, Went, Output, LineOut, TcpOut, Closed, GapOut}
-use Rattle.gateway.specs.Ports.{told_by}
+use Rattle.gateway.specs.Log.{with_news, Went, Output, LineOut, TcpOut, Closed, GapOut}
+use Rattle.gateway.specs.Ports.{logged_by}
 use Rattle.session.specs.declared.kinds.Close.{Close}
 use Rattle.session.specs.declared.kinds.Close.TheVariants as close
 use Rattle.live.specs.Timing.{is_behind}
@@ -54,27 +54,27 @@ puts_same old new moment action p =
 
 -- the event of a turn, once it is logged
 pub next_noted : (old mid new : LiveEnds) (event : Next) (buf : List ℕ) → Turns old event buf mid
-    → new ≡ as_logged (told_by event buf ++ mid.log) mid → Some new.log
-    ≡ tell (Some old.log) (told_by event buf)
+    → new ≡ as_logged (logged_by event buf ++ mid.log) mid → Some new.log
+    ≡ with_news (Some old.log) (logged_by event buf)
 next_noted old mid new event buf t done =
     ap (λ (e : LiveEnds). Some e.log) done
-    ∙ ap (λ l. Some (told_by event buf ++ l)) (turns_same old mid event buf t)
+    ∙ ap (λ l. Some (logged_by event buf ++ l)) (turns_same old mid event buf t)
 
 pub next_logged : (old mid new : LiveEnds) (event : Next) (buf : List ℕ) → Turns old event buf mid
-    → new ≡ as_logged (told_by event buf ++ mid.log) mid → LogsTurn old event buf new
+    → new ≡ as_logged (logged_by event buf ++ mid.log) mid → LogsTurn old event buf new
 next_logged old mid new event buf t done =
     let same = turns_same old mid event buf t in
     let P : LiveEnds → Type 0 = λ e. Turns old event buf e in
     record {
       turns = subst P (sym (ap (as_logged old.log) done ∙ ap (λ l. as_logged l mid) (sym same))) t;
-      logged = ap (λ (e : LiveEnds). e.log) done ∙ ap (λ l. told_by event buf ++ l) same;
+      logged = ap (λ (e : LiveEnds). e.log) done ∙ ap (λ l. logged_by event buf ++ l) same;
     }
 
 -- an action, once it is logged
 pub put_noted : (old mid new : LiveEnds) (moment : ℕ) (action : Output)
     → PutsOut old moment action mid
     → new ≡ as_logged (Went moment action ∷ mid.log) mid → Some new.log
-    ≡ tell (Some old.log) (Went moment action ∷ [])
+    ≡ with_news (Some old.log) (Went moment action ∷ [])
 put_noted old mid new moment action p done =
     ap (λ (e : LiveEnds). Some e.log) done
     ∙ ap (λ l. Some (Went moment action ∷ l)) (puts_same old mid moment action p)

@@ -3,7 +3,7 @@ use Rattle.std.proofs.Common.{◌≡◌, ℕ, ◌+◌, List, [], ◌∷◌, ◌+
 use Rattle.std.proofs.Common.{Bool, Option, Some, None, IfSome, refl, sym, ap, subst, ◌∙◌, inl, inr}
 use Rattle.gateway.specs.declared.ports.Next.{Next}
 use Rattle.gateway.specs.Log.{Log, Went, LineOut, TcpOut, Closed, GapOut, Output}
-use Rattle.gateway.specs.Ports.{told_by}
+use Rattle.gateway.specs.Ports.{logged_by}
 use Rattle.session.specs.declared.kinds.Close.{Close}
 use Rattle.session.specs.declared.kinds.Close.TheVariants as close
 use Rattle.live.specs.OctetStreams.{Happening, Gave, WasQuiet, WasGone, Dropped, Wrote}
@@ -151,7 +151,7 @@ IsUnheld (Some found.Fault) held = Unit {0}
 
 -- what was found, given as of any moment
 LogsFound : ℕ → List ℕ → Log → Option SourceEvent × LiveEnds → Type 0
-LogsFound now buf log p = LogsEnds (told_by (event_at now p.0) buf ++ log) p.1
+LogsFound now buf log p = LogsEnds (logged_by (event_at now p.0) buf ++ log) p.1
     × IsUnheld p.0 p.1.held
 
 -- what goes on from ends that the log has
@@ -302,7 +302,7 @@ turn_logs n buf log g false t a e allowed due front h =
 -- octets that come too late are held
 taken_logs : (n : ℕ) (buf : List ℕ) (log : Log) (b : Bool) (f : Option SourceEvent) (e : LiveEnds)
     → LogsFound n buf log (f, e)
-    → LogsEnds (told_by (event_at n (taken_by b buf f e).0) buf ++ log) (taken_by b buf f e).1
+    → LogsEnds (logged_by (event_at n (taken_by b buf f e).0) buf ++ log) (taken_by b buf f e).1
 unfolding LogsFound IsUnheld
 taken_logs n buf log false f e h = h.0
 taken_logs n buf log true None e h = h.0
@@ -347,17 +347,17 @@ looks_log n log first old now f buf new l h =
 turn_logged : (old new : LiveEnds) (event : Next) (buf : List ℕ) (log : Log)
     → Turns old event buf new
     → LogsEnds log old
-    → LogsEnds (told_by event buf ++ log) new
+    → LogsEnds (logged_by event buf ++ log) new
 unfolding LogsFound
 turn_logged old new event buf log (inl t) h =
-    let P : Next → Type 0 = λ e. LogsEnds (told_by e buf ++ log) new in
+    let P : Next → Type 0 = λ e. LogsEnds (logged_by e buf ++ log) new in
     let Q : LiveEnds → Type 0 = λ e. LogsEnds log e in
     subst P (sym t.given.given) (subst Q (sym t.given.ends) h)
 turn_logged old new event buf log (inr t) h =
     let n = moment_at new.timing t.now in
-    let P : Next → Type 0 = λ e. LogsEnds (told_by e buf ++ log) new in
+    let P : Next → Type 0 = λ e. LogsEnds (logged_by e buf ++ log) new in
     let R : Option SourceEvent × LiveEnds
-    → Type 0 = λ p. LogsEnds (told_by (event_at n p.0) buf ++ log)
+    → Type 0 = λ p. LogsEnds (logged_by (event_at n p.0) buf ++ log)
     p.1 in
     let found = looks_log n log t.first (looking (clock_read_at t.first old)) t.now t.f buf t.found
     t.looks h in

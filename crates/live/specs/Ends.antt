@@ -3,7 +3,7 @@ use Rattle.std.specs.Prelude.{ℕ, ◌+◌, ◌-◌, ◌^◌, ◌≤◌, min, na
 use Rattle.std.specs.Prelude.{take, Bool, true, false, not, ◌&&◌, ◌||◌, Option, Some, None, IfSome}
 use Rattle.std.specs.Prelude.{◌≡◌, nat_lt, if◌then◌else◌}
 use Rattle.gateway.specs.Log.{Log, Went, Output, LineOut, TcpOut, Closed, GapOut}
-use Rattle.gateway.specs.Ports.{told_by}
+use Rattle.gateway.specs.Ports.{logged_by}
 use Rattle.gateway.specs.declared.ports.Next.{Next}
 use Rattle.gateway.specs.declared.ports.Next.TheVariants as next
 use Rattle.session.specs.declared.kinds.Close.{Close}
@@ -361,7 +361,7 @@ as_logged log ends = record ends { log = log }
 -- buffer.
 pub record LogsTurn (old : LiveEnds) (event : Next) (buf : List ℕ) (new : LiveEnds) : Type 0 where
   pub turns : Turns old event buf (as_logged old.log new)
-  pub logged : new.log ≡ told_by event buf ++ old.log
+  pub logged : new.log ≡ logged_by event buf ++ old.log
 
 -- the ends after octets for the connection: they are dropped where there is none, and where a cut
 -- is due

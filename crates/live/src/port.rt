@@ -1,7 +1,7 @@
 //! The port over live ends.
 ghost use Rattle.std.specs.Prelude.{◌≡◌, ◌≢◌, ℕ, ◌+◌, ◌<◌, ◌≤◌, true, false, List, [], ◌∷◌, ◌++◌};
 ghost use Rattle.std.specs.Prelude.{length, take, Some, None, IfSome, option_map};
-ghost use Rattle.gateway.specs.Ports.{FitsBuffer, faults_of, output_of, told_by};
+ghost use Rattle.gateway.specs.Ports.{FitsBuffer, faults_of, output_of, logged_by};
 ghost use Rattle.live.specs.Ends.{LiveEnds, Peer, after, clock_read_at, IsTurn, GivesEvent};
 ghost use Rattle.live.specs.Ends.{GivesWall, Turns};
 ghost use Rattle.live.specs.Ends.{PutsOut, LogsTurn, LogsPut, as_logged, FitsFound, IsWritten};
@@ -9,7 +9,7 @@ ghost use Rattle.live.specs.Ends.{LooksOn, failure_of, faults_in, is_tick_due};
 ghost use Rattle.live.specs.Timing.{is_behind, moment_at};
 ghost use Rattle.live.specs.Looks.{LooksInRound, LooksAt};
 ghost use Rattle.live.specs.Walls.{never_given};
-ghost use Rattle.gateway.specs.Log.{tell, Went};
+ghost use Rattle.gateway.specs.Log.{with_news, Went};
 ghost use Rattle.gateway.specs.declared.ports.Next.TheVariants.{Done};
 
 use crate::allow_list::AllowList;
@@ -493,7 +493,7 @@ impl<S: OctetStream, L: Listener + Drop, C: RunClock + Drop> Live<S, L, C> {
 
     /// The log gets what an event brings. Its octets are the front of the buffer.
     fn log_event(&mut self, event: &Next, buf: &[u8; 1024])
-        ensures { self.new ≡ as_logged (told_by event.now buf.now ++ self.old.log) self.old }
+        ensures { self.new ≡ as_logged (logged_by event.now buf.now ++ self.old.log) self.old }
     {
         self.history = self.history.came(event, buf);
     }
@@ -531,7 +531,7 @@ impl<S: OctetStream, L: Listener + Drop, C: RunClock + Drop> Port for Live<S, L,
     /// has something or a tick is due.
     fn next(&mut self, buf: &mut [u8; 1024]) -> Next
         requires { self.old.failed < u64.MAX }
-        ensures logged { Some self.new.log ≡ tell (Some self.old.log) (told_by result buf.new) }
+        ensures logged { Some self.new.log ≡ with_news (Some self.old.log) (logged_by result buf.new) }
         ensures fits { FitsBuffer result }
         ensures done { result ≡ Done → false ≡ true }
         ensures cause { self.new.failed ≡ self.old.failed + faults_of result }
@@ -548,7 +548,7 @@ impl<S: OctetStream, L: Listener + Drop, C: RunClock + Drop> Port for Live<S, L,
     fn put(&mut self, now: u64, action: &Action<'_>) -> bool
         ensures done { result ≡ true }
         ensures logged { Some self.new.log
-            ≡ tell (Some self.old.log) (Went now (output_of action.now) ∷ []) }
+            ≡ with_news (Some self.old.log) (Went now (output_of action.now) ∷ []) }
         ensures script { fixed_of self.new ≡ fixed_of self.old }
         ensures puts { LogsPut self.old now (output_of action.now) self.new }
     {

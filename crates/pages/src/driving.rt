@@ -10,7 +10,7 @@ ghost use Rattle.pages.specs.Pouring.{IsPoured};
 
 use crate::paged::Paged;
 use crate::printing::print;
-use crate::progress::{blank_if, tell_percent};
+use crate::progress::{blank_if, show_percent};
 use gateway::{End, Gateway, drive_on};
 use std::io::Write;
 
@@ -59,7 +59,7 @@ pub fn drive_printed<P: Paged, W: Write, E: Write>(
     ensures unwatched { is_watched ≡ false → err.new ≡ err.old }
 {
     // `replay` and `sim` share it (docs/DECISIONS.md, "The driver that prints").
-    let is_told = is_watched && turns > STRIDE;
+    let is_shown = is_watched && turns > STRIDE;
     let mut is_whole = was_whole;
     let mut done = 0;
     'parts: while turns - done > PART {
@@ -68,15 +68,15 @@ pub fn drive_printed<P: Paged, W: Write, E: Write>(
         match end {
             End::Turns => done += PART,
             end => {
-                blank_if(is_told, err);
+                blank_if(is_shown, err);
                 return (end, is_whole);
             }
         }
-        tell_after(is_told, done, turns, err);
+        show_after(is_shown, done, turns, err);
     }
     let end = drive_on(gateway, port, turns - done);
     is_whole = pour(port, is_whole, out);
-    blank_if(is_told, err);
+    blank_if(is_shown, err);
     (end, is_whole)
 }
 
@@ -99,12 +99,12 @@ fn pour<P: Paged, W: Write>(port: &mut P, is_whole: bool, out: &mut W) -> bool
 }
 
 /// Tells how far a run has come after each stride, where that is to be told.
-fn tell_after<E: Write>(is_told: bool, done: u64, all: u64, err: &mut E)
+fn show_after<E: Write>(is_shown: bool, done: u64, all: u64, err: &mut E)
     requires within { done ≤ all }
     requires some { 0 < all }
-    ensures { is_told ≡ false → err.new ≡ err.old }
+    ensures { is_shown ≡ false → err.new ≡ err.old }
 {
-    if is_told && done % STRIDE == 0 {
-        let _ = tell_percent(done, all, err);
+    if is_shown && done % STRIDE == 0 {
+        let _ = show_percent(done, all, err);
     }
 }

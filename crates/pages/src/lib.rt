@@ -18,4 +18,4 @@ mod progress;
 pub use driving::drive_printed;
 pub use paged::Paged;
 pub use printing::{print, print_behind};
-pub use progress::{blank_if, tell_percent};
+pub use progress::{blank_if, show_percent};

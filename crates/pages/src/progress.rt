@@ -7,16 +7,16 @@ use std::io;
 use std::io::Write;
 
 /// Takes what was told from the terminal, where something was.
-pub fn blank_if<E: Write>(is_told: bool, err: &mut E)
-    ensures { is_told ≡ false → err.new ≡ err.old }
+pub fn blank_if<E: Write>(is_shown: bool, err: &mut E)
+    ensures { is_shown ≡ false → err.new ≡ err.old }
 {
-    if is_told {
+    if is_shown {
         let _ = blank(err);
     }
 }
 
 /// Tells which part of so many turns, or octets, is done, over what stands on the line.
-pub fn tell_percent<E: Write>(done: u64, all: u64, err: &mut E) -> io::Result<()>
+pub fn show_percent<E: Write>(done: u64, all: u64, err: &mut E) -> io::Result<()>
     requires within { done ≤ all }
     requires some { 0 < all }
     ensures { OnOk result (Appends (E.contents err.old) (E.contents err.new)

@@ -1,7 +1,7 @@
 ghost use Rattle.std.specs.Prelude.{◌≤◌, ◌<◌, length};
 
 use apci::{
-    Apdu, ApduRef, Assembler, Front, FrontRef, Heard, Short, Uf, Why, encode, front, front_ref,
+    Apdu, ApduRef, Assembler, Front, FrontRef, Received, Short, Uf, Why, encode, front, front_ref,
     write_information,
 };
 
@@ -82,7 +82,7 @@ fn is_refused(octets: &[u8], place: usize, why: Why) -> bool {
     {
         return false;
     }
-    Assembler::new().feed(octets) == (octets.len(), Heard::Never(place, why))
+    Assembler::new().feed(octets) == (octets.len(), Received::Never(place, why))
 }
 
 /// Whether all of them are refused so.
@@ -123,36 +123,48 @@ fn apdus_of_each_format_and_refusals(rt: HostRuntime) {
 #[derive(PartialEq, Drop)]
 struct Fed {
     taken: usize,
-    heard: Heard,
+    arrived: Received,
     apdu: Option<Apdu>,
 }
 
 /// What a piece gives where no APDU is whole.
-fn none_whole(taken: usize, heard: Heard) -> Fed {
+fn none_whole(taken: usize, arrived: Received) -> Fed {
     let apdu = None;
-    Fed { taken, heard, apdu }
+    Fed {
+        taken,
+        arrived,
+        apdu,
+    }
 }
 
 /// What a piece gives where this APDU is whole.
 fn one_whole(taken: usize, apdu: Apdu) -> Fed {
-    let heard = Heard::Whole;
+    let arrived = Received::Whole;
     let apdu = Some(apdu);
-    Fed { taken, heard, apdu }
+    Fed {
+        taken,
+        arrived,
+        apdu,
+    }
 }
 
 /// What a piece gives.
 fn feed_and_take(assembler: &mut Assembler, piece: &[u8]) -> Fed {
-    let (taken, heard) = assembler.feed(piece);
+    let (taken, arrived) = assembler.feed(piece);
     let apdu = assembler.take();
-    Fed { taken, heard, apdu }
+    Fed {
+        taken,
+        arrived,
+        apdu,
+    }
 }
 
 /// What a piece gives where `front` answers this.
 fn fed_by(taken: usize, front: Front) -> Fed {
     match front {
         Front::Whole(apdu, _) => one_whole(taken, apdu),
-        Front::More => none_whole(taken, Heard::More),
-        Front::Never(place, why) => none_whole(taken, Heard::Never(place, why)),
+        Front::More => none_whole(taken, Received::More),
+        Front::Never(place, why) => none_whole(taken, Received::Never(place, why)),
     }
 }
 
@@ -258,27 +270,27 @@ fn long_report() -> [u8; 252] {
 
 /// Whether octets that are cut in two here are heard as `front` finds them, each looked at at most
 /// once.
-fn is_heard_alike(octets: &[u8], cut: usize) -> bool
+fn is_received_alike(octets: &[u8], cut: usize) -> bool
     requires { cut ≤ length octets.now }
 {
     let (first, rest) = octets.split_at(cut);
     let mut assembler = Assembler::new();
     let at_first = feed_and_take(&mut assembler, first);
-    let alike = if at_first.heard == Heard::More {
+    let alike = if at_first.arrived == Received::More {
         feed_and_take(&mut assembler, rest) == fed_by(rest.len(), front(octets))
     } else {
         at_first == fed_by(cut, front(octets))
-            && feed_and_take(&mut assembler, rest) == none_whole(rest.len(), Heard::Deaf)
+            && feed_and_take(&mut assembler, rest) == none_whole(rest.len(), Received::Deaf)
     };
     alike && at_first.taken == cut && assembler.looked() <= octets.len() as u64
 }
 
 /// Whether each octet, one after another, is heard as `front` finds those that came.
-fn is_heard_octet_by_octet(octets: &[u8]) -> bool {
+fn is_received_octet_by_octet(octets: &[u8]) -> bool {
     let mut assembler = Assembler::new();
     for (i, octet) in octets.iter().enumerate() {
         let found = feed_and_take(&mut assembler, &[*octet]);
-        let goes_on = found.heard == Heard::More;
+        let goes_on = found.arrived == Received::More;
         if found != fed_by(1, front(&octets[..i + 1])) {
             return false;
         }
@@ -290,9 +302,9 @@ fn is_heard_octet_by_octet(octets: &[u8]) -> bool {
 }
 
 /// Whether octets are heard as `front` finds them, cut in two at each place.
-fn is_heard_alike_at_each_cut(octets: &[u8]) -> bool {
+fn is_received_alike_at_each_cut(octets: &[u8]) -> bool {
     for cut in 0..octets.len() {
-        if !is_heard_alike(octets, cut) {
+        if !is_received_alike(octets, cut) {
             return false;
         }
     }
@@ -300,13 +312,13 @@ fn is_heard_alike_at_each_cut(octets: &[u8]) -> bool {
 }
 
 /// Whether the report is heard octet by octet with any octet at this place.
-fn is_heard_with_each_octet_at(place: usize) -> bool
+fn is_received_with_each_octet_at(place: usize) -> bool
     requires { place < 21 }
 {
     for octet in 0u8..=255 {
         let mut octets = REPORT;
         octets[place] = octet;
-        if !is_heard_octet_by_octet(&octets) {
+        if !is_received_octet_by_octet(&octets) {
             return false;
         }
     }
@@ -314,21 +326,21 @@ fn is_heard_with_each_octet_at(place: usize) -> bool
 }
 
 /// Whether each of the APDUs is heard alike at each cut.
-fn are_heard_alike() -> bool {
+fn are_received_alike() -> bool {
     APDUS
         .iter()
-        .all(|octets| is_heard_alike_at_each_cut(octets))
+        .all(|octets| is_received_alike_at_each_cut(octets))
 }
 
 #[test]
-fn every_cut_is_heard_alike(rt: HostRuntime) {
-    assert!(rt; are_heard_alike());
+fn every_cut_is_received_alike(rt: HostRuntime) {
+    assert!(rt; are_received_alike());
     for (_, control) in FUNCTIONS {
-        assert!(rt; is_heard_alike_at_each_cut(&[0x68, 0x04, control, 0x00, 0x00, 0x00]));
+        assert!(rt; is_received_alike_at_each_cut(&[0x68, 0x04, control, 0x00, 0x00, 0x00]));
     }
-    assert!(rt; is_heard_alike_at_each_cut(&long_report()));
+    assert!(rt; is_received_alike_at_each_cut(&long_report()));
     for place in 0..21 {
-        assert!(rt; is_heard_with_each_octet_at(place));
+        assert!(rt; is_received_with_each_octet_at(place));
     }
 }
 
@@ -358,35 +370,35 @@ fn answers(assembler: &mut Assembler, steps: &[Step]) -> bool {
 fn what_is_left_and_what_is_dropped(rt: HostRuntime) {
     let piece = [0x00, 0x00, 0x00, 0x68, 0x00];
     let steps = [
-        Step::Feed(&[0x68, 0x04, 0x43], none_whole(3, Heard::More)),
+        Step::Feed(&[0x68, 0x04, 0x43], none_whole(3, Received::More)),
         // Octets after an APDU are left.
         Step::Feed(&piece, one_whole(3, Apdu::U(Uf::TestAct))),
-        Step::Feed(&piece[3..], none_whole(2, Heard::Never(1, Why::Length))),
+        Step::Feed(&piece[3..], none_whole(2, Received::Never(1, Why::Length))),
         // It is deaf until it is cleared.
-        Step::Feed(&ACKNOWLEDGE, none_whole(6, Heard::Deaf)),
+        Step::Feed(&ACKNOWLEDGE, none_whole(6, Received::Deaf)),
         Step::Clear,
         Step::Feed(&ACKNOWLEDGE, one_whole(6, Apdu::S { nr: 1 })),
         Step::Looked(14),
         // Half an ASDU is forgotten.
-        Step::Feed(&REPORT[..12], none_whole(12, Heard::More)),
+        Step::Feed(&REPORT[..12], none_whole(12, Received::More)),
         Step::Clear,
         Step::Feed(&REPORT, fed_by(21, front(&REPORT))),
-        Step::Feed(&[0x00], none_whole(1, Heard::Never(0, Why::Start))),
+        Step::Feed(&[0x00], none_whole(1, Received::Never(0, Why::Start))),
         Step::Looked(48),
     ];
     let mut assembler = Assembler::new();
     assert!(rt; answers(&mut assembler, &steps));
     // A flood is taken, and not looked at.
     for _ in 0..10_000u32 {
-        assert!(rt; assembler.feed(&[0x00]) == (1, Heard::Deaf));
+        assert!(rt; assembler.feed(&[0x00]) == (1, Received::Deaf));
     }
     assert!(rt; assembler.looked() == 48);
     // An APDU that isn't taken is dropped.
     assembler.clear();
     assert!(rt;
-        assembler.feed(&ACKNOWLEDGE) == (6, Heard::Whole)
+        assembler.feed(&ACKNOWLEDGE) == (6, Received::Whole)
             && !assembler.is_empty()
-            && assembler.feed(&REPORT) == (21, Heard::Whole)
+            && assembler.feed(&REPORT) == (21, Received::Whole)
             && Front::Whole(assembler.take().unwrap(), 21) == front(&REPORT)
             && assembler.take().is_none()
             && assembler.is_empty()

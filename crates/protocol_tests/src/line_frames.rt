@@ -1,7 +1,7 @@
 //! What no clause says: that the compiled code reads, writes and hears the frames of real lines.
 
 use ft12::{
-    Assembler, Frame, FrameRef, Front, FrontRef, Heard, LinkSize, Why, encode, front, front_ref,
+    Assembler, Frame, FrameRef, Front, FrontRef, LinkSize, Received, Why, encode, front, front_ref,
 };
 
 mod streams;

@@ -118,7 +118,7 @@ fn are_types(rows: &[Row]) -> bool {
 }
 
 /// Whether each type is as its row says.
-fn are_as_told(rows: &[Row]) -> bool {
+fn are_as_logged(rows: &[Row]) -> bool {
     for (_, kind, size, tagged, monitor) in rows {
         if (kind.size(), kind.tagged(), kind.monitor()) != (*size, *tagged, *monitor) {
             return false;
@@ -154,7 +154,7 @@ fn are_judged(changes: &[(usize, u8, Verdict)]) -> bool {
 
 fn are_all_types() -> bool {
     let rows = &TABLE;
-    are_types(rows) && are_as_told(rows)
+    are_types(rows) && are_as_logged(rows)
 }
 
 fn are_all_shown() -> bool {

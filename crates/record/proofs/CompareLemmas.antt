@@ -117,11 +117,11 @@ none_more lines run o is = ap (λ ls. first_difference 1 ls run) (sym (append-ni
 
 module _ (settings : Settings) (lines : List (List ℕ)) (state : State) (h : Halted)
     (standing : Standing) where
-  pub told_level : (ahead : Vec ℕ Global) → standing ≡ Level ahead → (tally : Tally)
+  pub logged_level : (ahead : Vec ℕ Global) → standing ≡ Level ahead → (tally : Tally)
       → tally ≡ h.tally → IsHalted h
       → Stands settings lines state h standing
       → IsComparison lines h.log (Same tally.events tally.actions)
-  told_level ahead is tally same halted stands =
+  logged_level ahead is tally same halted stands =
       let compared : IsCompared lines (whole_lines (lines_of_log h.log)) (Level ahead) =
       subst (IsCompared lines (whole_lines (lines_of_log h.log))) is stands.compared in (
         none_more lines (whole_lines (lines_of_log h.log)) None (compared.0 [] []),
@@ -129,31 +129,32 @@ module _ (settings : Settings) (lines : List (List ℕ)) (state : State) (h : Ha
         ap (λ (t : Tally). t.actions) same ∙ stands.runs.actions,
       )
 
-  pub told_behind : (n : ℕ) (line : Vec ℕ Global) → standing ≡ Behind n line
+  pub logged_behind : (n : ℕ) (line : Vec ℕ Global) → standing ≡ Behind n line
       → Stands settings lines state h standing → IsComparison lines h.log (Comparisons.Differs n)
-  told_behind n line is stands =
+  logged_behind n line is stands =
       let behind : IsBehind 1 lines (whole_lines (lines_of_log h.log)) n line.items =
       subst (IsCompared lines (whole_lines (lines_of_log h.log))) is stands.compared in
       none_more lines (whole_lines (lines_of_log h.log)) (Some n) (behind.goes [] []
       ∙ ap (λ (b : Bool). if b then first_difference (n + 1) (behind.others ++ []) [] else Some n)
       behind.uncut)
 
-  pub told_off : (n : ℕ) → standing ≡ Differs n → Stands settings lines state h standing
+  pub logged_off : (n : ℕ) → standing ≡ Differs n → Stands settings lines state h standing
       → IsComparison lines h.log (Comparisons.Differs n)
-  told_off n is stands =
+  logged_off n is stands =
       let off : IsOff 1 lines (whole_lines (lines_of_log h.log)) n =
       subst (IsCompared lines (whole_lines (lines_of_log h.log))) is stands.compared in
       none_more lines (whole_lines (lines_of_log h.log)) (Some n) (off [] [])
 
 -- A part more
 
-module _ (lines run part : List (List ℕ)) (first : ℕ) (ahead page told : List ℕ)
+module _ (lines run part : List (List ℕ)) (first : ℕ) (ahead page logged : List ℕ)
     (goes : GoesOn 1 lines run (1 + length lines) [] (whole_lines ahead)) (whole : AreWhole ahead)
-    (counted : first ≡ 1 + length lines) (is : told ≡ ahead ++ page) where
-  from_here : (m : ℕ) (left tail : List (List ℕ)) → GoesOn first part (whole_lines told) m left tail
+    (counted : first ≡ 1 + length lines) (is : logged ≡ ahead ++ page) where
+  from_here : (m : ℕ) (left tail : List (List ℕ))
+      → GoesOn first part (whole_lines logged) m left tail
       → GoesOn 1 (lines ++ part) (run ++ whole_lines page) m left tail
   from_here m left tail on =
-      let all : whole_lines told ≡ whole_lines ahead ++ whole_lines page = ap whole_lines is
+      let all : whole_lines logged ≡ whole_lines ahead ++ whole_lines page = ap whole_lines is
       ∙ whole page in
       goes_joined lines run (1 + length lines) m part (whole_lines page) (whole_lines ahead) goes
       tail left
@@ -161,8 +162,8 @@ module _ (lines run part : List (List ℕ)) (first : ℕ) (ahead page told : Lis
       (subst (λ (ls : List (List ℕ)). GoesOn first part ls m left tail) all on))
 
   pub level_on : (rest kept : List ℕ) → AreWhole page
-      → GoesOn first part (whole_lines told) (first + length part) [] (whole_lines rest)
-      × (AreWhole told → AreWhole rest)
+      → GoesOn first part (whole_lines logged) (first + length part) [] (whole_lines rest)
+      × (AreWhole logged → AreWhole rest)
       → kept ≡ rest
       → GoesOn 1 (lines ++ part) (run ++ whole_lines page) (1 + length (lines ++ part)) []
       (whole_lines kept)
@@ -181,7 +182,7 @@ module _ (lines run part : List (List ℕ)) (first : ℕ) (ahead page told : Lis
             (found.1 (subst AreWhole (sym is) (both_whole ahead page whole whole_page))),
       )
 
-  pub behind_on : (n : ℕ) (line kept : List ℕ) → IsBehind first part (whole_lines told) n line
+  pub behind_on : (n : ℕ) (line kept : List ℕ) → IsBehind first part (whole_lines logged) n line
       → kept ≡ line
       → IsBehind 1 (lines ++ part) (run ++ whole_lines page) n kept
   behind_on n line kept found same = subst (IsBehind 1 (lines ++ part) (run ++ whole_lines page) n)
@@ -191,10 +192,10 @@ module _ (lines run part : List (List ℕ)) (first : ℕ) (ahead page told : Lis
         goes = from_here n (line ∷ found.others) [] found.goes;
       })
 
-  pub off_on : (n : ℕ) → IsOff first part (whole_lines told) n
+  pub off_on : (n : ℕ) → IsOff first part (whole_lines logged) n
       → IsOff 1 (lines ++ part) (run ++ whole_lines page) n
   off_on n off more later =
-      let all : whole_lines told ≡ whole_lines ahead ++ whole_lines page = ap whole_lines is
+      let all : whole_lines logged ≡ whole_lines ahead ++ whole_lines page = ap whole_lines is
       ∙ whole page in
       ap (λ ls. first_difference 1 ls ((run ++ whole_lines page) ++ later))
       (append_assoc lines part more)

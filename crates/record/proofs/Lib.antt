@@ -1,5 +1,5 @@
 pub mod Text
-pub mod Hearing
+pub mod Receiving
 pub mod Recorded
 pub mod LineLemmas
 pub mod PassingLemmas

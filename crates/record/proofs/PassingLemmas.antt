@@ -7,13 +7,13 @@ use Rattle.std.proofs.lemmas.List.Sums.{sum_by-cons}
 use Rattle.std.specs.List.{AllByRecursion, count_by, slice_split, cons_option}
 use Rattle.std.specs.Option.{is_none}
 use Rattle.gateway.specs.Log.{LogEntry, Came, LineIn, Opened, TcpIn, CutOff, Ticked, WallIs}
-use Rattle.gateway.specs.Ports.{told_by, FitsBuffer}
+use Rattle.gateway.specs.Ports.{logged_by, FitsBuffer}
 use Rattle.gateway.specs.declared.ports.Next.{Next}
 use Rattle.gateway.specs.declared.ports.Next.TheVariants as answers
 use Rattle.traces.specs.Event.{Event, event_in}
 use Rattle.traces.specs.Fields.{parts_after}
-use Rattle.traces.specs.Progress.{IsFirst, IsRight, came, events_in, tells_event}
-use Rattle.traces.specs.Trace.{is_skipped, is_wrong, lines_of, told}
+use Rattle.traces.specs.Progress.{IsFirst, IsRight, came, events_in, logs_event}
+use Rattle.traces.specs.Trace.{is_skipped, is_wrong, lines_of, logged}
 use Rattle.traces.proofs.JoinedLemmas.{events_joined}
 use Rattle.record.specs.Passing.{IsKind, IsNext, IsOneLine, IsTally, Passes}
 use Rattle.record.specs.Lines.{event_line, event_lines, is_action, is_cut, is_marked}
@@ -58,8 +58,8 @@ kind_cut line buf cut =
       ap is_wrong none,
     )
 
-right_told : (line : List ℕ) (event : Event) → told line ≡ Some event → is_wrong line ≡ false
-right_told line event = by (is_skipped line) (event_in line)
+right_logged : (line : List ℕ) (event : Event) → logged line ≡ Some event → is_wrong line ≡ false
+right_logged line event = by (is_skipped line) (event_in line)
   where
     by : (skipped : Bool) (o : Option Event) → (if skipped then None else o) ≡ Some event
         → (not skipped && is_none o) ≡ false
@@ -71,14 +71,14 @@ right_told line event = by (is_skipped line) (event_in line)
 one_event : (line : List ℕ) (x : LogEntry) (more : List LogEntry) → (x ∷ []) ++ more
     ≡ events_in (line ∷ [])
     → (x ∷ [] ≡ events_in (line ∷ [])) × (is_wrong line ≡ false)
-one_event line x more is = by (told line) refl is
+one_event line x more is = by (logged line) refl is
   where
-    by : (o : Option Event) → told line ≡ o → x ∷ more ≡ map came (cons_option o [])
+    by : (o : Option Event) → logged line ≡ o → x ∷ more ≡ map came (cons_option o [])
         → (x ∷ [] ≡ map came (cons_option o [])) × (is_wrong line ≡ false)
     by None none h = cc
     by (Some event) some h =
         let same : x ≡ came event = cc in
-        (ap (λ e. e ∷ []) same, right_told line event some)
+        (ap (λ e. e ∷ []) same, right_logged line event some)
 
 pub kind_none : (line buf : List ℕ) (left : Option (List ℕ)) → is_cut line ≡ false → is_action line
     ≡ false
@@ -100,17 +100,17 @@ kind_none line buf left uncut plain one first =
 event_with : (line buf : List ℕ) (left : Option (List ℕ)) (next : Next) (x : LogEntry) → is_cut line
     ≡ false
     → is_action line ≡ false → IsOneLine line → IsFirst (lines_of line) left next buf
-    → tells_event next ≡ true
-    → told_by next buf ≡ x ∷ [] → IsKind line buf (kinds.Event next)
-event_with line buf left next x uncut plain one first tells is =
+    → logs_event next ≡ true
+    → logged_by next buf ≡ x ∷ [] → IsKind line buf (kinds.Event next)
+event_with line buf left next x uncut plain one first logs is =
     let whole : event_line line ≡ line = plain_line line uncut plain in
     let both : (x ∷ []) ++ events_in (parts_after 10 left) ≡ events_in (line ∷ []) =
-    ap (λ es. es ++ events_in (parts_after 10 left)) (sym is) ∙ first.told tells
+    ap (λ es. es ++ events_in (parts_after 10 left)) (sym is) ∙ first.logged logs
     ∙ ap events_in one in
     let found = one_event line x (events_in (parts_after 10 left)) both in (
       plain,
       is ∙ found.0 ∙ ap (λ l. events_in (l ∷ [])) (sym whole),
-      tells,
+      logs,
       first.fits,
       ap is_wrong whole ∙ found.1,
     )
@@ -139,21 +139,21 @@ kind_event line buf left answers.Done uncut plain one first some right = absurd 
 kind_event line buf left answers.Fault uncut plain one first some right = absurd (right refl)
 
 -- an answer tells one event
-one_told : (next : Next) (buf : List ℕ) → tells_event next ≡ true → length (told_by next buf) ≡ 1
-one_told (answers.Line now len) buf tells = refl
-one_told (answers.Open now) buf tells = refl
-one_told (answers.Bytes now len) buf tells = refl
-one_told (answers.Cut now) buf tells = refl
-one_told (answers.Tick now) buf tells = refl
-one_told (answers.Wall now number) buf tells = refl
-one_told answers.Done buf tells = cc
-one_told answers.Fault buf tells = cc
+one_logged : (next : Next) (buf : List ℕ) → logs_event next ≡ true → length (logged_by next buf) ≡ 1
+one_logged (answers.Line now len) buf logs = refl
+one_logged (answers.Open now) buf logs = refl
+one_logged (answers.Bytes now len) buf logs = refl
+one_logged (answers.Cut now) buf logs = refl
+one_logged (answers.Tick now) buf logs = refl
+one_logged (answers.Wall now number) buf logs = refl
+one_logged answers.Done buf logs = cc
+one_logged answers.Fault buf logs = cc
 
 -- Lines
 
 pub passes_none : (lines : List (List ℕ)) (tally : Tally) → Passes [] lines tally lines tally
 passes_none lines tally = record {
-  told = refl;
+  logged = refl;
   right = λ all. all;
   counted = refl;
   events = omega arith;
@@ -168,10 +168,10 @@ passes_line : (news : List LogEntry) (lines left rest : List (List ℕ)) (line :
     ≡ now.events + length news
     → after.actions + count_by is_action rest ≡ now.actions + count_by is_action (line ∷ rest)
     → Passes news lines before rest after
-passes_line news lines left rest line before now after h is tells right one some counts = record {
-  told = ap (λ es. es ++ events_in (event_lines rest)) tells
+passes_line news lines left rest line before now after h is logs right one some counts = record {
+  logged = ap (λ es. es ++ events_in (event_lines rest)) logs
       ∙ sym (events_joined (event_line line ∷ []) (event_lines rest))
-      ∙ ap (λ ls. events_in (event_lines ls)) (sym is) ∙ h.told;
+      ∙ ap (λ ls. events_in (event_lines ls)) (sym is) ∙ h.logged;
   right =
       λ all. h.right (subst (λ (ls : List (List ℕ)). AllByRecursion IsRight (event_lines ls))
       (sym is) (right, all));
@@ -215,11 +215,11 @@ module _ (lines left rest : List (List ℕ)) (line : List ℕ) (before : Tally) 
       (count_no a line rest kind.0)
 
   pub passes_event : (next : Next) (buf : List ℕ) → IsKind line buf (kinds.Event next)
-      → Passes (told_by next buf) lines before rest
+      → Passes (logged_by next buf) lines before rest
       (record { lines = n + 1; events = e + 1; actions = a })
   passes_event next buf kind =
-      passes_line (told_by next buf) lines left rest line before _ _ h is kind.1 kind.4 refl
-      (ap (λ k. e + k) (sym (one_told next buf kind.2))) (count_no a line rest kind.0)
+      passes_line (logged_by next buf) lines left rest line before _ _ h is kind.1 kind.4 refl
+      (ap (λ k. e + k) (sym (one_logged next buf kind.2))) (count_no a line rest kind.0)
 
   pub event_next : (next : Next) (buf : List ℕ) (behind : Option (List ℕ))
       → rest ≡ parts_after 10 behind
@@ -227,11 +227,11 @@ module _ (lines left rest : List (List ℕ)) (line : List ℕ) (before : Tally) 
       → IsNext lines before next buf behind (record { lines = n + 1; events = e + 1; actions = a })
   event_next next buf behind same kind few = record {
     passes =
-        subst (λ (ls : List (List ℕ)). Passes (told_by next buf) lines before ls
+        subst (λ (ls : List (List ℕ)). Passes (logged_by next buf) lines before ls
         (record { lines = n + 1; events = e + 1; actions = a }))
         same (passes_event next buf kind);
-    done = λ over. let tells : tells_event next ≡ true = kind.2 in
-        let none : tells_event next ≡ false = ap tells_event over in
+    done = λ over. let logs : logs_event next ≡ true = kind.2 in
+        let none : logs_event next ≡ false = ap logs_event over in
         cc;
     fits = kind.3;
     few = omega (arith, few);

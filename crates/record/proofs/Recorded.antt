@@ -7,19 +7,19 @@ use Rattle.gateway.specs.Log.{Log, Came, Went, Ticked, Closed}
 use Rattle.gateway.specs.declared.ports.Next.TheVariants.{Tick}
 use Rattle.session.specs.declared.kinds.Close.TheVariants.{Stopped}
 use Rattle.record.specs.Examples.{line, recording, begun, with_action}
-use Rattle.record.specs.Recording.{Recording, Hears, Notes, given, held_by, log_of, passed}
+use Rattle.record.specs.Recording.{Recording, Receives, Notes, given, held_by, log_of, passed}
 use Rattle.record.specs.Recording.{unless_over}
 
 -- with memory for the line or without, and the text taken or not
-abbrev pub heard_by : (has_memory taken : Bool) → (now : ℕ) → Recording → Recording
-heard_by has_memory taken now old =
+abbrev pub received_by : (has_memory taken : Bool) → (now : ℕ) → Recording → Recording
+received_by has_memory taken now old =
     unless_over (held_by has_memory (Came now Ticked ∷ []) old)
     (given taken (held_by has_memory (Came now Ticked ∷ []) old))
 
-heard : (old new : Recording) (now : ℕ) (buf : List ℕ) → old.is_over ≡ false
-    → (h : Hears old (Tick now) buf new)
-    → new ≡ heard_by h.notes.has_memory h.gives.taken now old
-heard old new now buf goes h =
+arrived : (old new : Recording) (now : ℕ) (buf : List ℕ) → old.is_over ≡ false
+    → (h : Receives old (Tick now) buf new)
+    → new ≡ received_by h.notes.has_memory h.gives.taken now old
+arrived old new now buf goes h =
     let noted : h.noted ≡ held_by h.notes.has_memory (Came now Ticked ∷ []) old = h.notes.done
     ∙ ap (λ b. if b then passed (Came now Ticked ∷ []) old
     else held_by h.notes.has_memory (Came now Ticked ∷ []) old)
@@ -27,7 +27,7 @@ heard old new now buf goes h =
     let P : Recording → Type 0 = λ r. new ≡ unless_over r (given h.gives.taken r) in
     subst P noted h.gives.done
 
-first : (has_memory taken : Bool) (new : Recording) → new ≡ heard_by has_memory taken 5 begun
+first : (has_memory taken : Bool) (new : Recording) → new ≡ received_by has_memory taken 5 begun
     → new.is_over ≡ false
     → new ≡ recording (line (codes "5 T")) []
 unfolding digits
@@ -37,13 +37,15 @@ first true false new is goes = let no : false ≡ true = sym goes ∙ ap (λ r. 
 first false taken new is goes = let no : false ≡ true = sym goes ∙ ap (λ r. r.is_over) is in
     absurd (cc)
 
-pub first_heard : (new : Recording) (buf : List ℕ) → Hears begun (Tick 5) buf new → new.is_over
+pub first_received : (new : Recording) (buf : List ℕ) → Receives begun (Tick 5) buf new
+    → new.is_over
     ≡ false
     → new ≡ recording (line (codes "5 T")) []
-first_heard new buf h goes =
-    first h.notes.has_memory h.gives.taken new (heard begun new 5 buf refl h) goes
+first_received new buf h goes =
+    first h.notes.has_memory h.gives.taken new (arrived begun new 5 buf refl h) goes
 
-next : (has_memory taken : Bool) (new : Recording) → new ≡ heard_by has_memory taken 6 with_action
+next : (has_memory taken : Bool) (new : Recording)
+    → new ≡ received_by has_memory taken 6 with_action
     → new.is_over ≡ false
     → new ≡ recording (line (codes "5 T") ++ line (codes "5 > X 4") ++ line (codes "6 T")) []
 unfolding digits
@@ -53,17 +55,19 @@ next true false new is goes = let no : false ≡ true = sym goes ∙ ap (λ r. r
 next false taken new is goes = let no : false ≡ true = sym goes ∙ ap (λ r. r.is_over) is in
     absurd (cc)
 
-pub next_heard : (new : Recording) (buf : List ℕ) → Hears with_action (Tick 6) buf new → new.is_over
+pub next_received : (new : Recording) (buf : List ℕ) → Receives with_action (Tick 6) buf new
+    → new.is_over
     ≡ false
     → new ≡ recording (line (codes "5 T") ++ line (codes "5 > X 4") ++ line (codes "6 T")) []
-next_heard new buf h goes =
-    next h.notes.has_memory h.gives.taken new (heard with_action new 6 buf refl h) goes
+next_received new buf h goes =
+    next h.notes.has_memory h.gives.taken new (arrived with_action new 6 buf refl h) goes
 
 -- all that passed, the newest first
 abbrev pub passed_by_6 : Log
 passed_by_6 = Came 6 Ticked ∷ Went 5 (Closed Stopped) ∷ Came 5 Ticked ∷ []
 
-last : (has_memory taken : Bool) (new : Recording) → new ≡ heard_by has_memory taken 6 with_action
+last : (has_memory taken : Bool) (new : Recording)
+    → new ≡ received_by has_memory taken 6 with_action
     → new.is_over ≡ true → (new.taken ≡ Some (line (codes "5 T"))) × (log_of new ≡ Some passed_by_6)
 unfolding digits
 last true true new is ends = let no : true ≡ false = sym ends ∙ ap (λ r. r.is_over) is in
@@ -71,11 +75,12 @@ last true true new is ends = let no : true ≡ false = sym ends ∙ ap (λ r. r.
 last true false new is ends = (ap (λ r. r.taken) is, ap log_of is)
 last false taken new is ends = (ap (λ r. r.taken) is, ap log_of is)
 
-pub last_heard : (new : Recording) (buf : List ℕ) → Hears with_action (Tick 6) buf new → new.is_over
+pub last_received : (new : Recording) (buf : List ℕ) → Receives with_action (Tick 6) buf new
+    → new.is_over
     ≡ true
     → (new.taken ≡ Some (line (codes "5 T"))) × (log_of new ≡ Some passed_by_6)
-last_heard new buf h ends =
-    last h.notes.has_memory h.gives.taken new (heard with_action new 6 buf refl h) ends
+last_received new buf h ends =
+    last h.notes.has_memory h.gives.taken new (arrived with_action new 6 buf refl h) ends
 
 -- the line of an action that went out is held
 noted : (has_memory : Bool) (new : Recording)

@@ -8,7 +8,7 @@ use Rattle.std.specs.Option.{is_none}
 use Rattle.gateway.specs.Agrees.{Follows, Rests}
 use Rattle.gateway.specs.Config.{Settings}
 use Rattle.gateway.specs.Log.{Log, LogEntry, Came, Went, Output, events_of}
-use Rattle.gateway.specs.Ports.{told_by}
+use Rattle.gateway.specs.Ports.{logged_by}
 use Rattle.gateway.specs.Setups.{setup_of}
 use Rattle.gateway.specs.State.{State}
 use Rattle.gateway.specs.Traffic.{HasRested}
@@ -32,27 +32,28 @@ use Rattle.record.specs.declared.audit.passing.Tally.{Tally}
 -- The log
 
 -- an answer comes behind the events before it, and its line behind theirs
-events_told : (next : Next) (buf : List ℕ) (log : Log) → events_of (told_by next buf ++ log)
-    ≡ events_of log ++ told_by next buf
-events_told (answers.Line now len) buf log = refl
-events_told (answers.Open now) buf log = refl
-events_told (answers.Bytes now len) buf log = refl
-events_told (answers.Cut now) buf log = refl
-events_told (answers.Tick now) buf log = refl
-events_told (answers.Wall now number) buf log = refl
-events_told answers.Done buf log = sym (append-nil (events_of log))
-events_told answers.Fault buf log = sym (append-nil (events_of log))
+events_logged : (next : Next) (buf : List ℕ) (log : Log) → events_of (logged_by next buf ++ log)
+    ≡ events_of log ++ logged_by next buf
+events_logged (answers.Line now len) buf log = refl
+events_logged (answers.Open now) buf log = refl
+events_logged (answers.Bytes now len) buf log = refl
+events_logged (answers.Cut now) buf log = refl
+events_logged (answers.Tick now) buf log = refl
+events_logged (answers.Wall now number) buf log = refl
+events_logged answers.Done buf log = sym (append-nil (events_of log))
+events_logged answers.Fault buf log = sym (append-nil (events_of log))
 
-lines_told : (next : Next) (buf : List ℕ) (log : Log)
-    → lines_of_log (told_by next buf ++ log) ≡ lines_of_log log ++ lines_of_log (told_by next buf)
-lines_told (answers.Line now len) buf log = refl
-lines_told (answers.Open now) buf log = refl
-lines_told (answers.Bytes now len) buf log = refl
-lines_told (answers.Cut now) buf log = refl
-lines_told (answers.Tick now) buf log = refl
-lines_told (answers.Wall now number) buf log = refl
-lines_told answers.Done buf log = sym (append-nil (lines_of_log log))
-lines_told answers.Fault buf log = sym (append-nil (lines_of_log log))
+lines_logged : (next : Next) (buf : List ℕ) (log : Log)
+    → lines_of_log (logged_by next buf ++ log) ≡ lines_of_log log
+    ++ lines_of_log (logged_by next buf)
+lines_logged (answers.Line now len) buf log = refl
+lines_logged (answers.Open now) buf log = refl
+lines_logged (answers.Bytes now len) buf log = refl
+lines_logged (answers.Cut now) buf log = refl
+lines_logged (answers.Tick now) buf log = refl
+lines_logged (answers.Wall now number) buf log = refl
+lines_logged answers.Done buf log = sym (append-nil (lines_of_log log))
+lines_logged answers.Fault buf log = sym (append-nil (lines_of_log log))
 
 both_all : {A : Type 0} (P : A → Type 0) (xs ys : List A) → AllByRecursion P xs
     → AllByRecursion P ys → AllByRecursion P (xs ++ ys)
@@ -108,36 +109,37 @@ went r page now action holds printed printable = record {
 pub came : (r : Rerunning) (page : List ℕ) (left : Option (List ℕ)) (tally : Tally) (next : Next)
     (buf : List ℕ)
     → IsRerunning r → IsNext (parts_after 10 r.left) r.now.tally next buf left tally
-    → page ≡ r.page ++ lines_of_log (told_by next buf)
-    → AllByRecursion IsPrintable (told_by next buf)
+    → page ≡ r.page ++ lines_of_log (logged_by next buf)
+    → AllByRecursion IsPrintable (logged_by next buf)
     → IsRerunning (record r {
       left = left;
-      now = record { tally = tally; log = told_by next buf ++ r.now.log };
+      now = record { tally = tally; log = logged_by next buf ++ r.now.log };
       page = page;
     })
 came r page left tally next buf holds found printed printable = record {
   halted = record {
     few = found.few;
     events =
-        let count : length (events_of (told_by next buf ++ r.now.log))
-        ≡ length (events_of r.now.log ++ told_by next buf) =
-        ap length (events_told next buf r.now.log) in
-        let split = length-append (events_of r.now.log) (told_by next buf) in
+        let count : length (events_of (logged_by next buf ++ r.now.log))
+        ≡ length (events_of r.now.log ++ logged_by next buf) =
+        ap length (events_logged next buf r.now.log) in
+        let split = length-append (events_of r.now.log) (logged_by next buf) in
         omega (arith, count, split, found.passes.events, holds.halted.events);
-    printable = both_all IsPrintable (told_by next buf) r.now.log printable holds.halted.printable;
+    printable = both_all IsPrintable (logged_by next buf) r.now.log printable
+        holds.halted.printable;
   };
   whole =
       let rest = events_in (event_lines (parts_after 10 left)) in
-      ap (λ es. es ++ rest) (events_told next buf r.now.log)
-      ∙ append_assoc (events_of r.now.log) (told_by next buf) rest
-      ∙ ap (λ es. events_of r.now.log ++ es) found.passes.told ∙ holds.whole;
+      ap (λ es. es ++ rest) (events_logged next buf r.now.log)
+      ∙ append_assoc (events_of r.now.log) (logged_by next buf) rest
+      ∙ ap (λ es. events_of r.now.log ++ es) found.passes.logged ∙ holds.whole;
   right = λ all. holds.right (found.passes.right all);
   lines = found.passes.counted ∙ holds.lines;
   actions = found.passes.actions ∙ holds.actions;
   page = ap (λ xs. lines_of_log r.start.log ++ xs) printed
-      ∙ sym (append_assoc (lines_of_log r.start.log) r.page (lines_of_log (told_by next buf)))
-      ∙ ap (λ xs. xs ++ lines_of_log (told_by next buf)) holds.page
-      ∙ sym (lines_told next buf r.now.log);
+      ∙ sym (append_assoc (lines_of_log r.start.log) r.page (lines_of_log (logged_by next buf)))
+      ∙ ap (λ xs. xs ++ lines_of_log (logged_by next buf)) holds.page
+      ∙ sym (lines_logged next buf r.now.log);
 }
 
 -- Part by part

@@ -4,14 +4,15 @@ use Rattle.std.proofs.Common.{None, IfSome, refl, sym, ap, subst, ◌∙◌, app
 use Rattle.std.proofs.lemmas.List.{append-nil, reverse-reverse}
 use Rattle.std.specs.List.{AllByRecursion}
 use Rattle.std.specs.Prelude.{is_err, Result, Ok, Err, OnOk}
-use Rattle.gateway.specs.Log.{Log, LogEntry, tell}
-use Rattle.gateway.specs.Ports.{told_by}
+use Rattle.gateway.specs.Log.{Log, LogEntry, with_news}
+use Rattle.gateway.specs.Ports.{logged_by}
 use Rattle.gateway.specs.declared.ports.Next.{Next}
 use Rattle.traces.specs.Printed.{IsPrintable, entries_in, line_of_entry, lines_of_log}
-use Rattle.traces.specs.Progress.{all_told}
+use Rattle.traces.specs.Progress.{all_logged}
 use Rattle.record.specs.Law.{grows_by}
-use Rattle.record.specs.Recording.{Recording, IsKept, Gives, Hears, Notes, added, text_of, log_of}
-use Rattle.record.specs.Recording.{told_behind, unless_over, passed, given, held_by, held_or_over}
+use Rattle.record.specs.Recording.{Recording, IsKept, Gives, Receives, Notes, added, text_of}
+use Rattle.record.specs.Recording.{log_of}
+use Rattle.record.specs.Recording.{logged_behind, unless_over, passed, given, held_by, held_or_over}
 use Rattle.record.specs.Written.{log_in, IsText, IsWritten, AreLines}
 
 -- two texts behind one another
@@ -94,13 +95,13 @@ gave_on old new g goes =
     subst P (sym g.done) (went_on old.is_over g.taken old refl) goes
 
 -- the line of an event that came has been taken, with all that was held
-pub hears_line : (old new : Recording) (next : Next) (buf : List ℕ) → Hears old next buf new
+pub receives_line : (old new : Recording) (next : Next) (buf : List ℕ) → Receives old next buf new
     → new.is_over ≡ false
-    → new.taken ≡ added (text_of old) (lines_of_log (told_by next buf))
-hears_line old new next buf h goes =
-    let grows : grows_by h.noted.is_over old (lines_of_log (told_by next buf)) h.noted
-    = notes_line old h.noted (told_by next buf) h.notes in
-    let P : Bool → Type 0 = λ b. grows_by b old (lines_of_log (told_by next buf)) h.noted in
+    → new.taken ≡ added (text_of old) (lines_of_log (logged_by next buf))
+receives_line old new next buf h goes =
+    let grows : grows_by h.noted.is_over old (lines_of_log (logged_by next buf)) h.noted
+    = notes_line old h.noted (logged_by next buf) h.notes in
+    let P : Bool → Type 0 = λ b. grows_by b old (lines_of_log (logged_by next buf)) h.noted in
     gives_taken h.noted new h.gives goes ∙ subst P (gave_on h.noted new h.gives goes) grows
 
 pub ends : (old new : Recording) (news : Log) → Notes old news new → old.is_over ≡ true
@@ -128,7 +129,8 @@ all_printable (entry ∷ news) log ok all = (ok.0, all_printable news log ok.1 a
 
 log_read : ReadsBack → (log : Log) → AllByRecursion IsPrintable log → log_in (lines_of_log log)
     ≡ log
-log_read reads log all = ap (λ told. reverse (all_told told)) (reads log all) ∙ reverse-reverse log
+log_read reads log all = ap (λ logged. reverse (all_logged logged)) (reads log all)
+    ∙ reverse-reverse log
 
 -- the lines of a log are its text
 log_text : ReadsBack → (log : Log) → AllByRecursion IsPrintable log → IsText (lines_of_log log)
@@ -170,42 +172,45 @@ gave_written t held is = nothing_held (added t held) is
 -- The log
 
 -- what was written and what was missed, and these lines behind it
-told_more : ReadsBack → (t : Option (List ℕ)) (held : List ℕ) (missed : Option Log) (news : Log)
+logged_more : ReadsBack → (t : Option (List ℕ)) (held : List ℕ) (missed : Option Log) (news : Log)
     → AllByRecursion IsPrintable news → IsWritten (added t held) → IfSome missed (λ log. log ≡ [])
-    → told_behind (added t (held ++ lines_of_log news)) missed
-    ≡ tell (told_behind (added t held) missed) news
-told_more reads None held missed news ok is none = refl
-told_more reads (Some text) held None news ok is none = refl
-told_more reads (Some text) held (Some log) news ok is none =
+    → logged_behind (added t (held ++ lines_of_log news)) missed
+    ≡ with_news (logged_behind (added t held) missed) news
+logged_more reads None held missed news ok is none = refl
+logged_more reads (Some text) held None news ok is none = refl
+logged_more reads (Some text) held (Some log) news ok is none =
     rw none (ap Some (ap log_in (sym (append_assoc text held (lines_of_log news)))
     ∙ more_log reads (text ++ held) news ok is))
 
 -- an event or an action was written down
-pub held_told : ReadsBack → (old new : Recording) (news : Log) → AllByRecursion IsPrintable news
+pub held_logged : ReadsBack → (old new : Recording) (news : Log) → AllByRecursion IsPrintable news
     → IsKept old
     → old.is_over ≡ false → new ≡ held_or_over true (lines_of_log news) old → log_of new
-    ≡ tell (log_of old) news
-held_told reads old new news ok kept goes is =
-    ap log_of is ∙ told_more reads old.taken old.held old.missed news ok kept.written
+    ≡ with_news (log_of old) news
+held_logged reads old new news ok kept goes is =
+    ap log_of is ∙ logged_more reads old.taken old.held old.missed news ok kept.written
     (kept.whole goes)
 
-told_missed : (t : Option (List ℕ)) (missed : Option Log) (news : Log)
-    → told_behind t (tell missed news) ≡ tell (told_behind t missed) news
-told_missed None missed news = refl
-told_missed (Some text) None news = refl
-told_missed (Some text) (Some log) news = ap Some (append_assoc news log (log_in text))
+logged_missed : (t : Option (List ℕ)) (missed : Option Log) (news : Log)
+    → logged_behind t (with_news missed news) ≡ with_news (logged_behind t missed) news
+logged_missed None missed news = refl
+logged_missed (Some text) None news = refl
+logged_missed (Some text) (Some log) news = ap Some (append_assoc news log (log_in text))
 
 -- or it passed unwritten
-pub missed_told : (old new : Recording) (news : Log) (missed : Option Log) (over : Bool)
-    → missed ≡ tell old.missed news
-    → new ≡ record old { is_over = over; missed = missed } → log_of new ≡ tell (log_of old) news
-missed_told old new news missed over tells is =
-    ap log_of is ∙ ap (told_behind (text_of old)) tells ∙ told_missed (text_of old) old.missed news
+pub missed_logged : (old new : Recording) (news : Log) (missed : Option Log) (over : Bool)
+    → missed ≡ with_news old.missed news
+    → new ≡ record old { is_over = over; missed = missed } → log_of new
+    ≡ with_news (log_of old) news
+missed_logged old new news missed over logs is =
+    ap log_of is ∙ ap (logged_behind (text_of old)) logs
+    ∙ logged_missed (text_of old) old.missed news
 
 pub gives_log : (old new : Recording) → Gives old new → new.missed ≡ old.missed → log_of new
     ≡ log_of old
 gives_log old new g same =
-    ap (λ t. told_behind t new.missed) (gives_text old new g) ∙ ap (told_behind (text_of old)) same
+    ap (λ t. logged_behind t new.missed) (gives_text old new g)
+    ∙ ap (logged_behind (text_of old)) same
 
 -- what holds where a call succeeds
 pub on_success : {T E : Type 0} (r : Result T E) (P : Type 0) → is_err r ≡ false → OnOk r P → P

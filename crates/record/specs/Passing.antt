@@ -3,11 +3,11 @@ use Rattle.std.specs.Prelude.{◌≡◌, ℕ, ◌+◌, ◌≤◌, true, false, L
 use Rattle.std.specs.Prelude.{None, Option, Some, Result, MatchResult}
 use Rattle.std.specs.List.{AllByRecursion}
 use Rattle.gateway.specs.Log.{LogEntry}
-use Rattle.gateway.specs.Ports.{told_by, FitsBuffer}
+use Rattle.gateway.specs.Ports.{logged_by, FitsBuffer}
 use Rattle.gateway.specs.declared.ports.Next.{Next}
 use Rattle.gateway.specs.declared.ports.Next.TheVariants.{Done}
 use Rattle.traces.specs.Fields.{parts_after}
-use Rattle.traces.specs.Progress.{events_in, IsRight, tells_event}
+use Rattle.traces.specs.Progress.{events_in, IsRight, logs_event}
 use Rattle.traces.specs.Trace.{first_wrong, is_wrong, lines_of}
 use Rattle.traces.specs.declared.reading.TextFault.{TextFault}
 use Rattle.traces.specs.declared.reading.TextFault.TheVariants.{Line, NoMemory}
@@ -24,8 +24,8 @@ IsOneLine line = lines_of line ≡ line ∷ []
 -- told
 abbrev pub IsKind : List ℕ → (buf : List ℕ) → Kind → Type 0
 IsKind line buf (kinds.Event next) =
-    (is_action line ≡ false) × (told_by next buf ≡ events_in (event_line line ∷ []))
-    × (tells_event next ≡ true) × FitsBuffer next × IsRight (event_line line)
+    (is_action line ≡ false) × (logged_by next buf ≡ events_in (event_line line ∷ []))
+    × (logs_event next ≡ true) × FitsBuffer next × IsRight (event_line line)
 IsKind line buf kinds.Action = is_action line ≡ true
 IsKind line buf kinds.Neither =
     (is_action line ≡ false) × (events_in (event_line line ∷ []) ≡ []) × IsRight (event_line line)
@@ -35,7 +35,7 @@ IsKind line buf kinds.Wrong = Unit {0}
 -- left.
 pub record Passes (news : List LogEntry) (lines : List (List ℕ)) (before : Tally)
     (left : List (List ℕ)) (after : Tally) : Type 0 where
-  pub told : news ++ events_in (event_lines left) ≡ events_in (event_lines lines)
+  pub logged : news ++ events_in (event_lines left) ≡ events_in (event_lines lines)
   pub right : AllByRecursion IsRight (event_lines left) → AllByRecursion IsRight (event_lines lines)
   pub counted : after.lines + length left ≡ before.lines + length lines
   pub events : after.events ≡ before.events + length news
@@ -48,7 +48,7 @@ IsTally tally = tally.events + tally.actions ≤ tally.lines
 -- An answer tells the first event of these lines, where it tells one.
 pub record IsNext (lines : List (List ℕ)) (before : Tally) (next : Next) (buf : List ℕ)
     (left : Option (List ℕ)) (after : Tally) : Type 0 where
-  pub passes : Passes (told_by next buf) lines before (parts_after 10 left) after
+  pub passes : Passes (logged_by next buf) lines before (parts_after 10 left) after
   pub done : next ≡ Done → left ≡ None
   pub fits : FitsBuffer next
   pub few : IsTally after

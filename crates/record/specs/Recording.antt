@@ -1,6 +1,6 @@
 -- The text of a record (this gateway's own profile).
-use Rattle.gateway.specs.Log.{Log, tell}
-use Rattle.gateway.specs.Ports.{told_by}
+use Rattle.gateway.specs.Log.{Log, with_news}
+use Rattle.gateway.specs.Ports.{logged_by}
 use Rattle.gateway.specs.declared.ports.Next.{Next}
 use Rattle.traces.specs.Printed.{lines_of_log}
 use Rattle.record.specs.Written.{log_in, IsWritten}
@@ -26,13 +26,13 @@ abbrev pub text_of : Recording → Option (List ℕ)
 text_of r = added r.taken r.held
 
 -- what a text tells, and what passed unwritten, the newest first
-abbrev pub told_behind : Option (List ℕ) → Option Log → Option Log
-told_behind None missed = None
-told_behind (Some text) None = None
-told_behind (Some text) (Some missed) = Some (missed ++ log_in text)
+abbrev pub logged_behind : Option (List ℕ) → Option Log → Option Log
+logged_behind None missed = None
+logged_behind (Some text) None = None
+logged_behind (Some text) (Some missed) = Some (missed ++ log_in text)
 
 abbrev pub log_of : Recording → Option Log
-log_of r = told_behind (text_of r) r.missed
+log_of r = logged_behind (text_of r) r.missed
 
 -- what always holds of a record: its text is the lines of a log, and until it is over nothing
 -- passed unwritten
@@ -41,9 +41,9 @@ pub record IsKept (r : Recording) : Type 0 where
   pub whole : r.is_over ≡ false → IfSome r.missed (λ log. log ≡ [])
 
 -- the first of two logs that is told
-abbrev pub told_first : Option Log → Option Log → Option Log
-told_first None other = other
-told_first (Some log) other = Some log
+abbrev pub logged_first : Option Log → Option Log → Option Log
+logged_first None other = other
+logged_first (Some log) other = Some log
 
 -- nothing is written any more once the record is over
 abbrev pub unless_over : Recording → Recording → Recording
@@ -61,7 +61,7 @@ pub record Gives (old new : Recording) : Type 0 where
 
 -- what passes once the record is over isn't written
 abbrev pub passed : Log → Recording → Recording
-passed news r = record r { missed = tell r.missed news }
+passed news r = record r { missed = with_news r.missed news }
 
 -- lines are held, or there is no memory for them, and the record is over
 abbrev pub held_or_over : (has_memory : Bool) → List ℕ → Recording → Recording
@@ -79,9 +79,9 @@ pub record Notes (old : Recording) (news : Log) (new : Recording) : Type 0 where
   pub done : new ≡ (if old.is_over then passed news old else held_by has_memory news old)
 
 -- an event was written down, and the sheet was given what is held
-pub record Hears (old : Recording) (next : Next) (buf : List ℕ) (new : Recording) : Type 0 where
+pub record Receives (old : Recording) (next : Next) (buf : List ℕ) (new : Recording) : Type 0 where
   pub noted : Recording
-  pub notes : Notes old (told_by next buf) noted
+  pub notes : Notes old (logged_by next buf) noted
   pub gives : Gives noted new
 
 -- an action was written down, where it went out

@@ -3,11 +3,11 @@ use Rattle.gateway.specs.Log.{Log}
 use Rattle.std.specs.List.{AllByRecursion}
 use Rattle.std.specs.Prelude.{◌≡◌, ℕ, List, reverse, Option, IfSome}
 use Rattle.traces.specs.Printed.{IsPrintable, entries_in, lines_of_log}
-use Rattle.traces.specs.Progress.{all_told}
+use Rattle.traces.specs.Progress.{all_logged}
 
 -- what a text tells, the newest first
 abbrev pub log_in : List ℕ → Log
-log_in text = reverse (all_told (entries_in text))
+log_in text = reverse (all_logged (entries_in text))
 
 -- a text is the lines of the log that it tells
 pub record IsText (text : List ℕ) : Type 0 where
@@ -16,7 +16,7 @@ pub record IsText (text : List ℕ) : Type 0 where
 
 -- where a text is told
 abbrev pub IsWritten : Option (List ℕ) → Type 0
-IsWritten told = IfSome told IsText
+IsWritten logged = IfSome logged IsText
 
 -- lines of events and actions that can be printed
 pub record AreLines (lines : List ℕ) : Type 0 where

@@ -4,7 +4,7 @@ ghost use Rattle.gateway.specs.Log.{Came, Went, Opened, CutOff, Ticked, WallIs, 
 ghost use Rattle.gateway.specs.declared.ports.Next.TheVariants.{Tick};
 ghost use Rattle.session.specs.declared.kinds.Close.TheVariants.{Stopped};
 ghost use Rattle.record.specs.Examples.{line, recording, begun, with_action};
-ghost use Rattle.record.specs.Recording.{Recording, Hears, Puts, log_of};
+ghost use Rattle.record.specs.Recording.{Recording, Receives, Puts, log_of};
 ghost use Rattle.record.specs.Written.{log_in};
 
 /// What a text tells (docs/TEXTS.md has its lines in words), the newest first: the lines of events
@@ -26,16 +26,16 @@ pub fn texts_are_read_by_example()
 /// go out has none. Where the sheet takes no more, or memory runs out, what it took stays, and the
 /// log has all that passed.
 pub fn records_by_example()
-    ensures hears { (new : Recording) (buf : List ℕ) → Hears begun (Tick 5) buf new →
+    ensures receives { (new : Recording) (buf : List ℕ) → Receives begun (Tick 5) buf new →
         new.is_over ≡ false → new ≡ recording (line (codes "5 T")) [] }
     ensures puts { (new : Recording) → Puts true (recording (line (codes "5 T")) [])
         (Went 5 (Closed Stopped) ∷ []) new → new.is_over ≡ false → new ≡ with_action }
     ensures refused { (new : Recording) → Puts false (recording (line (codes "5 T")) [])
         (Went 5 (Closed Stopped) ∷ []) new → new ≡ recording (line (codes "5 T")) [] }
-    ensures hears_more { (new : Recording) (buf : List ℕ) → Hears with_action (Tick 6) buf new →
+    ensures receives_more { (new : Recording) (buf : List ℕ) → Receives with_action (Tick 6) buf new →
         new.is_over ≡ false → new
         ≡ recording (line (codes "5 T") ++ line (codes "5 > X 4") ++ line (codes "6 T")) [] }
-    ensures ends { (new : Recording) (buf : List ℕ) → Hears with_action (Tick 6) buf new →
+    ensures ends { (new : Recording) (buf : List ℕ) → Receives with_action (Tick 6) buf new →
         new.is_over ≡ true → (new.taken ≡ Some (line (codes "5 T")))
         × (log_of new ≡ Some (Came 6 Ticked ∷ Went 5 (Closed Stopped) ∷ Came 5 Ticked ∷ [])) }
 {}

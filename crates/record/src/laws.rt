@@ -1,10 +1,10 @@
 //! What holds of every record.
 ghost use Rattle.std.specs.Prelude.{◌≡◌, ℕ, List, true, false};
 ghost use Rattle.gateway.specs.Log.{Log};
-ghost use Rattle.gateway.specs.Ports.{told_by};
+ghost use Rattle.gateway.specs.Ports.{logged_by};
 ghost use Rattle.gateway.specs.declared.ports.Next.{Next};
 ghost use Rattle.record.specs.Law.{grows_by};
-ghost use Rattle.record.specs.Recording.{Recording, Gives, Hears, Notes, added, passed, text_of};
+ghost use Rattle.record.specs.Recording.{Recording, Gives, Receives, Notes, added, passed, text_of};
 ghost use Rattle.traces.specs.Printed.{lines_of_log};
 
 /// The text of a record grows by the line of what passed, and by nothing else. Once the record is
@@ -21,7 +21,7 @@ pub fn a_record_is_the_text_of_what_passed()
         old.is_over ≡ true → new ≡ passed news old }
     ensures over { (old new : Recording) → Gives old new → new.is_over ≡ true →
         new ≡ record old { is_over = true } }
-    ensures hears { (old new : Recording) (next : Next) (buf : List ℕ) → Hears old next buf new →
+    ensures receives { (old new : Recording) (next : Next) (buf : List ℕ) → Receives old next buf new →
         new.is_over ≡ false →
-        new.taken ≡ added (text_of old) (lines_of_log (told_by next buf)) }
+        new.taken ≡ added (text_of old) (lines_of_log (logged_by next buf)) }
 {}

@@ -1,8 +1,8 @@
 //! Lines that are held, and given to a sheet.
 ghost use Rattle.std.specs.Prelude.{◌≡◌, ◌++◌, ◌∷◌, [], true, IfSome, false};
 ghost use Rattle.std.specs.List.{AllByRecursion};
-ghost use Rattle.gateway.specs.Log.{Went, tell};
-ghost use Rattle.gateway.specs.Ports.{FitsBuffer, output_of, told_by};
+ghost use Rattle.gateway.specs.Log.{Went, with_news};
+ghost use Rattle.gateway.specs.Ports.{FitsBuffer, output_of, logged_by};
 ghost use Rattle.record.specs.Recording.{Gives, IsKept, Notes, added, held_or_over, log_of};
 ghost use Rattle.record.specs.Written.{IsWritten};
 ghost use Rattle.traces.specs.Actions.{line_of};
@@ -118,8 +118,8 @@ impl<W: RecordSheet + Drop> Pen<W> {
     fn hold_event(&mut self, next: Next, buf: &[u8; 1024]) -> bool
         requires { FitsBuffer next }
         ensures held { self.new
-            ≡ held_or_over result (lines_of_log (told_by next buf.now)) self.old }
-        ensures printable { result ≡ true → AllByRecursion IsPrintable (told_by next buf.now) }
+            ≡ held_or_over result (lines_of_log (logged_by next buf.now)) self.old }
+        ensures printable { result ≡ true → AllByRecursion IsPrintable (logged_by next buf.now) }
     {
         printed_lines_read_back();
         if print_event(self.alloc, &mut self.held, next, buf).is_err() {
@@ -147,8 +147,8 @@ impl<W: RecordSheet + Drop> Pen<W> {
     /// passes unwritten.
     pub(crate) fn note_event(&mut self, next: Next, buf: &[u8; 1024])
         requires { FitsBuffer next }
-        ensures notes { Notes self.old (told_by next buf.now) self.new }
-        ensures log { log_of self.new ≡ tell (log_of self.old) (told_by next buf.now) }
+        ensures notes { Notes self.old (logged_by next buf.now) self.new }
+        ensures log { log_of self.new ≡ with_news (log_of self.old) (logged_by next buf.now) }
     {
         printed_lines_read_back();
         if self.is_over || !self.hold_event(next, buf) {
@@ -160,7 +160,7 @@ impl<W: RecordSheet + Drop> Pen<W> {
     pub(crate) fn note_action(&mut self, now: u64, action: &Action<'_>)
         ensures notes { Notes self.old (Went now (output_of action.now) ∷ []) self.new }
         ensures log { log_of self.new
-            ≡ tell (log_of self.old) (Went now (output_of action.now) ∷ []) }
+            ≡ with_news (log_of self.old) (Went now (output_of action.now) ∷ []) }
     {
         printed_lines_read_back();
         if self.is_over || !self.hold_action(now, action) {

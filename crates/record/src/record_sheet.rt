@@ -7,8 +7,8 @@ use std::io::{Eprint, Print};
 /// Where a text goes. One that tells what it took adds each text that it took, and one that tells
 /// what passed unwritten adds that.
 pub trait RecordSheet {
-    ghost use Rattle.gateway.specs.Log.{LogEntry, Went, tell};
-    ghost use Rattle.gateway.specs.Ports.{FitsBuffer, output_of, told_by};
+    ghost use Rattle.gateway.specs.Log.{LogEntry, Went, with_news};
+    ghost use Rattle.gateway.specs.Ports.{FitsBuffer, output_of, logged_by};
     ghost use Rattle.record.specs.Recording.{added};
     ghost use Rattle.std.specs.Prelude.{◌≡◌, ℕ, ◌∷◌, [], List, Option, if◌then◌else◌};
 
@@ -33,13 +33,13 @@ pub trait RecordSheet {
     fn miss_event(&mut self, next: Next, buf: &[u8; 1024])
         requires { FitsBuffer next }
         ensures text { taken self.new ≡ taken self.old }
-        ensures missed { missed self.new ≡ tell (missed self.old) (told_by next buf.now) };
+        ensures missed { missed self.new ≡ with_news (missed self.old) (logged_by next buf.now) };
 
     /// An action passes that isn't written.
     fn miss_action(&mut self, now: u64, action: &Action<'_>)
         ensures text { taken self.new ≡ taken self.old }
         ensures missed { missed self.new
-            ≡ tell (missed self.old) (Went now (output_of action.now) ∷ []) };
+            ≡ with_news (missed self.old) (Went now (output_of action.now) ∷ []) };
 }
 
 /// Standard output. Where the record ends before the run a line on standard error tells it.

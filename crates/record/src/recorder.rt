@@ -1,9 +1,9 @@
 //! A port that records what passes it.
 ghost use Rattle.std.specs.Prelude.{◌≡◌, ◌+◌, ◌<◌, ◌∷◌, [], true, if◌then◌else◌};
-ghost use Rattle.gateway.specs.Log.{Went, tell};
-ghost use Rattle.gateway.specs.Ports.{FitsBuffer, faults_of, output_of, told_by};
+ghost use Rattle.gateway.specs.Log.{Went, with_news};
+ghost use Rattle.gateway.specs.Ports.{FitsBuffer, faults_of, output_of, logged_by};
 ghost use Rattle.gateway.specs.declared.ports.Next.TheVariants.{Done};
-ghost use Rattle.record.specs.Recording.{Hears, IsKept, Puts, log_of, told_first};
+ghost use Rattle.record.specs.Recording.{Receives, IsKept, Puts, log_of, logged_first};
 
 use crate::pen::Pen;
 use crate::record_sheet::RecordSheet;
@@ -37,10 +37,10 @@ impl<P: Port + Drop, W: RecordSheet + Drop> Recorder<P, W> {
 }
 
 impl<P: Port + Drop, W: RecordSheet + Drop> Port for Recorder<P, W> {
-    ghost use Rattle.record.specs.Recording.{log_of, told_first};
+    ghost use Rattle.record.specs.Recording.{log_of, logged_first};
 
     /// What it wrote down, where its sheet tells that, or else the log of the port inside.
-    ghost log = { λ r. told_first (log_of r.pen) (P.log r.port) };
+    ghost log = { λ r. logged_first (log_of r.pen) (P.log r.port) };
 
     ghost failed = { λ r. P.failed r.port };
 
@@ -52,17 +52,17 @@ impl<P: Port + Drop, W: RecordSheet + Drop> Port for Recorder<P, W> {
 
     /// The line of the event is given to the sheet, with those of the step before, and only then is
     /// the event passed on: whoever reads the record knows each event that an action came from.
-    #[tactic(auto, using(crate::proofs::Hearing::hears))]
+    #[tactic(auto, using(crate::proofs::Receiving::receives))]
     fn next(&mut self, buf: &mut [u8; 1024]) -> Next
         requires { P.failed self.old.port < u64.MAX }
-        ensures told { told_first (log_of self.new.pen) (P.log self.new.port)
-            ≡ tell (told_first (log_of self.old.pen) (P.log self.old.port))
-            (told_by result buf.new) }
+        ensures logged { logged_first (log_of self.new.pen) (P.log self.new.port)
+            ≡ with_news (logged_first (log_of self.old.pen) (P.log self.old.port))
+            (logged_by result buf.new) }
         ensures fits { FitsBuffer result }
         ensures done { result ≡ Done → P.ended self.new.port ≡ true }
         ensures script { P.script self.new.port ≡ P.script self.old.port }
         ensures cause { P.failed self.new.port ≡ P.failed self.old.port + faults_of result }
-        ensures hears { Hears self.old.pen result buf.new self.new.pen }
+        ensures receives { Receives self.old.pen result buf.new self.new.pen }
     {
         let next = self.port.next(buf);
         self.pen.note_event(next, buf);
@@ -72,10 +72,10 @@ impl<P: Port + Drop, W: RecordSheet + Drop> Port for Recorder<P, W> {
 
     fn put(&mut self, now: u64, action: &Action<'_>) -> bool
         requires { P.failed self.old.port < u64.MAX }
-        ensures told { told_first (log_of self.new.pen) (P.log self.new.port)
-            ≡ (if result then tell (told_first (log_of self.old.pen) (P.log self.old.port))
+        ensures logged { logged_first (log_of self.new.pen) (P.log self.new.port)
+            ≡ (if result then with_news (logged_first (log_of self.old.pen) (P.log self.old.port))
             (Went now (output_of action.now) ∷ [])
-            else told_first (log_of self.old.pen) (P.log self.old.port)) }
+            else logged_first (log_of self.old.pen) (P.log self.old.port)) }
         ensures script { P.script self.new.port ≡ P.script self.old.port }
         ensures cause { P.failed self.new.port
             ≡ P.failed self.old.port + (if result then 0 else 1) }

@@ -267,7 +267,7 @@ text_so g s peer asdu o c why same seen first =
         → option_map words
         (rule_noted (r, glance_of (judged asdu g.moment (wall_now g) s).1) peer o c).refused.last
         ≡ Some (order_words o ++ peer_words peer ++ codes " refused: " ++ why)
-    by None untold = cc
+    by None unlogged = cc
     by (Some rule) is = by_some is
       where
         by_some : Some (rule_words rule) ≡ Some why

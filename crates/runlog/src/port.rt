@@ -1,7 +1,7 @@
 //! A port that logs what passes it.
 ghost use Rattle.std.specs.Prelude.{◌≡◌, ◌+◌, ◌<◌, ◌∷◌, [], true, if◌then◌else◌};
-ghost use Rattle.gateway.specs.Log.{Went, tell};
-ghost use Rattle.gateway.specs.Ports.{FitsBuffer, faults_of, output_of, told_by};
+ghost use Rattle.gateway.specs.Log.{Went, with_news};
+ghost use Rattle.gateway.specs.Ports.{FitsBuffer, faults_of, output_of, logged_by};
 ghost use Rattle.gateway.specs.declared.ports.Next.TheVariants.{Done};
 ghost use Rattle.runlog.specs.Logging.{LogsEvent, PutsGone, Tends, Closes};
 
@@ -81,7 +81,7 @@ impl<P: Watched + Drop, S: LogSink + Drop> Port for RunLog<P, S> {
 
     fn next(&mut self, buf: &mut [u8; 1024]) -> Next
         requires { P.failed self.old.port < u64.MAX }
-        ensures logged { P.log self.new.port ≡ tell (P.log self.old.port) (told_by result buf.new) }
+        ensures logged { P.log self.new.port ≡ with_news (P.log self.old.port) (logged_by result buf.new) }
         ensures fits { FitsBuffer result }
         ensures done { result ≡ Done → P.ended self.new.port ≡ true }
         ensures script { P.script self.new.port ≡ P.script self.old.port }
@@ -98,7 +98,7 @@ impl<P: Watched + Drop, S: LogSink + Drop> Port for RunLog<P, S> {
     fn put(&mut self, now: u64, action: &Action<'_>) -> bool
         requires { P.failed self.old.port < u64.MAX }
         ensures logged { P.log self.new.port
-            ≡ (if result then tell (P.log self.old.port) (Went now (output_of action.now) ∷ [])
+            ≡ (if result then with_news (P.log self.old.port) (Went now (output_of action.now) ∷ [])
             else P.log self.old.port) }
         ensures script { P.script self.new.port ≡ P.script self.old.port }
         ensures cause { P.failed self.new.port

@@ -14,7 +14,7 @@ type File = Fuse<Memory>;
 /// How many events were appended, how many of them a sync or a checkpoint has put on the disk, and
 /// whether a segment was finished.
 #[derive(Clone, Copy, Debug)]
-struct Told {
+struct Written {
     appended: u64,
     synced: u64,
     is_begun: bool,
@@ -24,14 +24,20 @@ struct Told {
 type Next = Result<(Segment<File>, File), (File, File)>;
 
 /// Writes the first segment of a run, whichever of the two files is that of the newest one.
-fn first_segment(alloc: Global, first: File, second: File, number: u64, told: u64) -> Next {
+fn first_segment(
+    alloc: Global,
+    first: File,
+    second: File,
+    number: u64,
+    number_written: u64,
+) -> Next {
     if !first.may_be_used() || !second.may_be_used() {
         return Err((first, second));
     }
     let (mut first, mut second) = (first, second);
     match newest_side(alloc, &mut first, &mut second) {
-        Ok(Side::Log) => segment_beside(alloc, first, second, number, told),
-        Ok(Side::Db) => segment_beside(alloc, second, first, number, told),
+        Ok(Side::Log) => segment_beside(alloc, first, second, number, number_written),
+        Ok(Side::Db) => segment_beside(alloc, second, first, number, number_written),
         Err(_) => Err((first, second)),
     }
 }
@@ -42,14 +48,14 @@ fn next_segment(
     segment: Segment<File>,
     spare: File,
     number: u64,
-    told: u64,
+    number_written: u64,
 ) -> Next {
     if !segment.is_open() || !spare.may_be_used() {
         return Err((segment.into_file(), spare));
     }
     let mut spare = spare;
     match segment.backs(alloc, &mut spare) {
-        Ok(true) => segment_beside(alloc, segment.into_file(), spare, number, told),
+        Ok(true) => segment_beside(alloc, segment.into_file(), spare, number, number_written),
         Ok(false) | Err(_) => Err((segment.into_file(), spare)),
     }
 }
@@ -60,13 +66,13 @@ fn segment_beside<D: Disk + Drop>(
     newest: D,
     spare: D,
     number: u64,
-    told: u64,
+    number_written: u64,
 ) -> Result<(Segment<D>, D), (D, D)>
     requires usable { IsTrue (D.Disk.is_usable spare) }
     requires backed { IsTrue (D.Disk.is_clean newest) → IsTrue (D.Disk.is_clean spare) →
         IsBacked (D.Disk.seen newest) (D.Disk.seen spare) }
 {
-    match segment_in(alloc, spare, &newest, number, told) {
+    match segment_in(alloc, spare, &newest, number, number_written) {
         Ok(segment) => Ok((segment, newest)),
         Err(spare) => Err((newest, spare)),
     }
@@ -78,7 +84,7 @@ fn segment_in<D: Disk + Drop>(
     spare: D,
     newest: &D,
     number: u64,
-    told: u64,
+    number_written: u64,
 ) -> Result<Segment<D>, D>
     requires usable { IsTrue (D.Disk.is_usable spare) }
     requires backed { IsTrue (D.Disk.is_clean newest.now) → IsTrue (D.Disk.is_clean spare) →
@@ -89,7 +95,7 @@ fn segment_in<D: Disk + Drop>(
         Err(Failed { file, .. }) => return Err(file),
     };
     let mut sheet = TextSheet::new(alloc, writer);
-    let is_put = sheet.put(&[told]).is_ok() && sheet.put_octets(b"checkpoint").is_ok();
+    let is_put = sheet.put(&[number_written]).is_ok() && sheet.put_octets(b"checkpoint").is_ok();
     let writer = sheet.into_octets();
     if !is_put {
         return Err(writer.into_file());
@@ -104,18 +110,18 @@ fn segment_in<D: Disk + Drop>(
 fn put_event(
     alloc: Global,
     segment: &mut Segment<File>,
-    told: &mut Told,
+    number_written: &mut Written,
 ) -> Result<bool, AllocError> {
-    let line = format!(in alloc; "event {}\n", told.appended)?;
+    let line = format!(in alloc; "event {}\n", number_written.appended)?;
     if segment.append(line.as_bytes()).is_err() {
         return Ok(false);
     }
-    told.appended = told.appended.saturating_add(1);
-    if told.appended % 2 == 0 {
+    number_written.appended = number_written.appended.saturating_add(1);
+    if number_written.appended % 2 == 0 {
         if segment.sync().is_err() {
             return Ok(false);
         }
-        told.synced = told.appended;
+        number_written.synced = number_written.appended;
     }
     Ok(true)
 }
@@ -125,26 +131,26 @@ fn run(
     alloc: Global,
     first: File,
     second: File,
-    told: &mut Told,
+    number_written: &mut Written,
 ) -> Result<(File, File), AllocError> {
     let (mut segment, mut spare) = match first_segment(alloc, first, second, 1, 0) {
         Ok(next) => next,
         Err(files) => return Ok(files),
     };
-    told.is_begun = true;
+    number_written.is_begun = true;
     for number in 2..5 {
         for _ in 0..5 {
-            if !put_event(alloc, &mut segment, told)? {
+            if !put_event(alloc, &mut segment, number_written)? {
                 return Ok((segment.into_file(), spare));
             }
         }
-        let next = match next_segment(alloc, segment, spare, number, told.appended) {
+        let next = match next_segment(alloc, segment, spare, number, number_written.appended) {
             Ok(next) => next,
             Err(files) => return Ok(files),
         };
         segment = next.0;
         spare = next.1;
-        told.synced = told.appended;
+        number_written.synced = number_written.appended;
     }
     Ok((segment.into_file(), spare))
 }
@@ -237,12 +243,12 @@ fn loses_no_synced_event(rt: HostRuntime) -> Result<(), Fail> {
             let most = 1_000_000;
             let first = Fuse::new(Memory::new(alloc), if is_first { calls } else { most });
             let second = Fuse::new(Memory::new(alloc), if is_first { most } else { calls });
-            let mut told = Told {
+            let mut number_written = Written {
                 appended: 0,
                 synced: 0,
                 is_begun: false,
             };
-            let (mut first, mut second) = run(alloc, first, second, &mut told)?;
+            let (mut first, mut second) = run(alloc, first, second, &mut number_written)?;
             let written = (
                 copy_of(alloc, first.inner().bytes())?,
                 copy_of(alloc, second.inner().bytes())?,
@@ -260,10 +266,10 @@ fn loses_no_synced_event(rt: HostRuntime) -> Result<(), Fail> {
                     ),
                 };
                 match found(alloc, &left.0, &left.1)? {
-                    None => assert!(rt; !told.is_begun, "nothing found at {calls}"),
+                    None => assert!(rt; !number_written.is_begun, "nothing found at {calls}"),
                     Some(count) => {
-                        assert!(rt; told.synced <= count, "lost at {calls}");
-                        assert!(rt; count <= told.appended, "made up at {calls}");
+                        assert!(rt; number_written.synced <= count, "lost at {calls}");
+                        assert!(rt; count <= number_written.appended, "made up at {calls}");
                     }
                 }
                 trials = trials.saturating_add(1);

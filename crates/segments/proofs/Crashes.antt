@@ -31,9 +31,9 @@ use Rattle.segments.proofs.Zeros.{kept_before_zero, others_before_zero}
 
 -- A first line tells its numbers
 
-number_told : (a b : ℕ) → a < 2 ^ 64 → b < 2 ^ 64
+number_logged : (a b : ℕ) → a < 2 ^ 64 → b < 2 ^ 64
     → encode_lower (to_be_bytes w64 a) ≡ encode_lower (to_be_bytes w64 b) → a ≡ b
-number_told a b fits fits' e =
+number_logged a b fits fits' e =
     let read : Ok (to_be_bytes w64 a) ≡ Ok (to_be_bytes w64 b) =
     sym (decode_sized-encode_lower (to_be_bytes w64 a) 8 refl (eight_bytes a))
     ∙ ap (λ (t : List ℕ). decode_sized t 8) e
@@ -42,9 +42,9 @@ number_told a b fits fits' e =
     sym (from_be_bytes-to_be_bytes_8 a fits) ∙ ap (from_be_bytes w64) octets
     ∙ from_be_bytes-to_be_bytes_8 b fits'
 
-sum_told : (a b : ℕ) → a < 2 ^ 32 → b < 2 ^ 32
+sum_logged : (a b : ℕ) → a < 2 ^ 32 → b < 2 ^ 32
     → encode_lower (to_be_bytes w32 a) ≡ encode_lower (to_be_bytes w32 b) → a ≡ b
-sum_told a b fits fits' e =
+sum_logged a b fits fits' e =
     let read : Ok (to_be_bytes w32 a) ≡ Ok (to_be_bytes w32 b) =
     sym (decode_sized-encode_lower (to_be_bytes w32 a) 4 refl (four_bytes a))
     ∙ ap (λ (t : List ℕ). decode_sized t 4) e
@@ -55,11 +55,11 @@ sum_told a b fits fits' e =
 
 same_line : (a b : SegmentHead) → Fits a → Fits b → head_of a ≡ head_of b → a ≡ b
 same_line a b fits fits' e =
-    let number : a.number ≡ b.number = number_told a.number b.number fits.number fits'.number
+    let number : a.number ≡ b.number = number_logged a.number b.number fits.number fits'.number
     (sym (number_at a) ∙ ap (λ (l : List ℕ). take 16 (drop 33 l)) e ∙ number_at b) in
-    let octets : a.octets ≡ b.octets = number_told a.octets b.octets fits.octets fits'.octets
+    let octets : a.octets ≡ b.octets = number_logged a.octets b.octets fits.octets fits'.octets
     (sym (octets_at a) ∙ ap (λ (l : List ℕ). take 16 (drop 57 l)) e ∙ octets_at b) in
-    let sum : a.sum ≡ b.sum = sum_told a.sum b.sum fits.sum fits'.sum
+    let sum : a.sum ≡ b.sum = sum_logged a.sum b.sum fits.sum fits'.sum
     (sym (sum_at a) ∙ ap (λ (l : List ℕ). take 8 (drop 78 l)) e ∙ sum_at b) in
     same_head a.number a.octets a.sum b (ap (λ (n : ℕ). Some n) number)
     (ap (λ (n : ℕ). Some n) octets) (ap (λ (n : ℕ). Some n) sum)

@@ -26,7 +26,7 @@ use Rattle.session.specs.History.{is_started, is_stop_pending, confirmations_due
 use Rattle.session.specs.History.{confirmations_sent, confirmation_owed, unconfirmed_moments}
 use Rattle.session.specs.History.{last_frame, outstanding_test}
 use Rattle.session.specs.Runs.{Settings, IsInRange, Call, Open, Cut, Take, Send, Confirm, Pull, Run}
-use Rattle.session.specs.Runs.{run, told, with_frame, may_take, after_call}
+use Rattle.session.specs.Runs.{run, logged, with_frame, may_take, after_call}
 use Rattle.session.proofs.Counters.{valid_agrees, reached_newly}
 use Rattle.session.proofs.States.{transferring_opens, stopping_transfers_not}
 
@@ -327,7 +327,7 @@ came : (p : Settings) (frame : Apdu) (now : ℕ) (s : Session) (h : History) →
     → (o : Taken) → outcome_of s frame ≡ o
     → Keeps p (cond (is_close o) (session.acknowledged 0 (record s { last_frame = now }))
     (after frame now s))
-    (told o frame now ∷ h)
+    (logged o frame now ∷ h)
 came p frame now s h range keeps connected drained (Close cause) e =
     refused p now s h keeps connected
 came p frame now s h range keeps connected drained Asdu e =
@@ -594,7 +594,7 @@ cut_keeps p s set = record {
 abbrev pub if_taken : Bool → Apdu → ℕ → Run → Run
 if_taken holds frame now r = cond holds (record {
   session = taken frame now r.session;
-  history = told (outcome_of r.session frame) frame now ∷ r.history;
+  history = logged (outcome_of r.session frame) frame now ∷ r.history;
 }) r
 
 abbrev pub if_sent : Bool → Kind → ℕ → Run → Run

@@ -13,8 +13,8 @@ use Rattle.session.specs.Session.{Session, is_close, may_send, outcome_of, taken
 use Rattle.session.specs.History.{History, Sent, is_started, still_unacknowledged, confirmation_of}
 use Rattle.session.specs.History.{frame_due}
 use Rattle.session.specs.Runs.{Settings, IsInRange, Call, Open, Cut, Take, Send, Confirm, Pull, Run}
-use Rattle.session.specs.Runs.{run, told, with_frame, may_take, after_call}
-use Rattle.session.specs.Rules.{IsHeard, KeepsRules}
+use Rattle.session.specs.Runs.{run, logged, with_frame, may_take, after_call}
+use Rattle.session.specs.Rules.{IsReceived, KeepsRules}
 use Rattle.session.proofs.Keeps.{Keeps, if_taken, if_sent, run_keeps}
 use Rattle.session.proofs.Standard.{verdict, confirms, pulls, sends}
 
@@ -22,9 +22,9 @@ none_of : (o : Option Apdu) → is_none o ≡ true → o ≡ None
 none_of None e = refl
 none_of (Some frame) e = absurd cc
 
-heard : (p : Settings) (s : Session) (h : History) → IsInRange p → Keeps p s h → may_take s ≡ true
-    → IsHeard h
-heard p s h range keeps may =
+arrived : (p : Settings) (s : Session) (h : History) → IsInRange p → Keeps p s h → may_take s ≡ true
+    → IsReceived h
+arrived p s h range keeps may =
     let tests = and_parts (session.is_open s) (is_none (confirmed s).0) may in
     record {
       connected = sym keeps.connected ∙ tests.0;
@@ -32,9 +32,9 @@ heard p s h range keeps may =
     }
 
 judged : (p : Settings) (frame : Apdu) (now : ℕ) (s : Session) (h : History) → IsInRange p
-    → Keeps p s h → IsHeard h
+    → Keeps p s h → IsReceived h
     → KeepsRules p h
-    → (o : Taken) → outcome_of s frame ≡ o → KeepsRules p (told o frame now ∷ h)
+    → (o : Taken) → outcome_of s frame ≡ o → KeepsRules p (logged o frame now ∷ h)
 judged p frame now s h range keeps is rules (Close cause) e =
     ((is, (frame, ap is_close (sym (verdict p s h range keeps frame) ∙ e))), rules)
 judged p frame now s h range keeps is rules Asdu e = (
@@ -50,7 +50,8 @@ take_rules : (p : Settings) (frame : Apdu) (now : ℕ) (r : Run) → IsInRange p
     → (b : Bool) → may_take r.session ≡ b
     → KeepsRules p (if_taken b frame now r).history
 take_rules p frame now r range keeps rules true may =
-    judged p frame now r.session r.history range keeps (heard p r.session r.history range keeps may)
+    judged p frame now r.session r.history range keeps (arrived p r.session r.history range keeps
+    may)
     rules
     (outcome_of r.session frame) refl
 take_rules p frame now r range keeps rules false may = rules

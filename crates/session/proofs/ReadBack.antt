@@ -259,7 +259,7 @@ pub record Read (before now : List Unacknowledged) (lines coming : List (List �
   pub frames : List Unacknowledged
   pub count : length frames ≡ n
   pub items : now ≡ before ++ frames
-  pub told : lines ≡ frame_lines frames ++ coming
+  pub logged : lines ≡ frame_lines frames ++ coming
 
 pub none_read : (before : List Unacknowledged) (lines : List (List ℕ))
     → Read before before lines lines 0
@@ -267,7 +267,7 @@ none_read before lines = record {
   frames = [];
   count = refl;
   items = sym (append-nil before);
-  told =
+  logged =
       refl;
 }
 
@@ -280,7 +280,7 @@ one_read before now new lines coming after n f r line e = record {
   count = omega (arith, length_push r.frames f, r.count);
   items = e ∙ ap (λ (l : List Unacknowledged). l ++ f ∷ []) r.items
       ∙ append_assoc before r.frames (f ∷ []);
-  told = r.told ∙ ap (λ (l : List (List ℕ)). frame_lines r.frames ++ l) line
+  logged = r.logged ∙ ap (λ (l : List (List ℕ)). frame_lines r.frames ++ l) line
       ∙ sym (append_assoc (frame_lines r.frames) (frame_line f ∷ []) after)
       ∙ ap (λ (l : List (List ℕ)). l ++ after) (sym (frame_lines-append r.frames (f ∷ [])));
 }

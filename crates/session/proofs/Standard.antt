@@ -24,7 +24,7 @@ use Rattle.session.specs.History.{still_unacknowledged, is_valid_receive_number,
 use Rattle.session.specs.History.{confirmation_of, stop_confirmation_of, acknowledgement_of}
 use Rattle.session.specs.History.{function_of, has_passed, moments_of, moment_of, has_timed_out}
 use Rattle.session.specs.History.{is_acknowledgement_due, frame_due, newly_acknowledged}
-use Rattle.session.specs.Laws.{newly_acknowledged_by, TellsAcknowledged}
+use Rattle.session.specs.Laws.{newly_acknowledged_by, LogsAcknowledged}
 use Rattle.session.specs.Runs.{Settings, IsInRange}
 use Rattle.session.proofs.Keeps.{Keeps, valid_in, reaches, three_tests, one_test, first_moment}
 
@@ -79,10 +79,10 @@ newly_is nr p s h range keeps valid =
     ap (take (newly nr s)) keeps.window.frames ∙ sym (drop-take a (newly nr s) (sent_frames h))
     ∙ ap (λ (n : ℕ). drop a (take n (sent_frames h))) (sym there)
 
-tells : (n : ℕ) (us frames : List Unacknowledged) → n ≤ length us → take n us ≡ frames
+logs : (n : ℕ) (us frames : List Unacknowledged) → n ≤ length us → take n us ≡ frames
     → (from_queue (take n us) ≡ from_queue frames)
     × (n - from_queue (take n us) ≡ length frames - from_queue frames)
-tells n us frames within is =
+logs n us frames within is =
     let len : n ≡ length frames = sym (length-take-le n us within) ∙ ap length is in (
       ap from_queue is,
       ap (λ (xs : List Unacknowledged). n - from_queue xs) is
@@ -93,34 +93,34 @@ abbrev after : Apdu → ℕ → Session → Session
 after frame now s =
     after_frame frame now (session.acknowledged (newly_by frame s) (record s { last_frame = now }))
 
-tells_after : (p : Settings) (s : Session) (h : History) → IsInRange p → Keeps p s h
+logs_after : (p : Settings) (s : Session) (h : History) → IsInRange p → Keeps p s h
     → (frame : Apdu) (now : ℕ)
     → refuses s frame ≡ false
-    → TellsAcknowledged (newly_acknowledged_by frame h) (after frame now s)
-tells_after p s h range keeps (I ns nr asdu) now passes =
-    tells (newly nr s) s.unacknowledged (newly_acknowledged nr h) (omega arith)
+    → LogsAcknowledged (newly_acknowledged_by frame h) (after frame now s)
+logs_after p s h range keeps (I ns nr asdu) now passes =
+    logs (newly nr s) s.unacknowledged (newly_acknowledged nr h) (omega arith)
     (newly_is nr p s h range keeps (three_tests _ _ (is_valid nr s) passes))
-tells_after p s h range keeps (S nr) now passes =
-    tells (newly nr s) s.unacknowledged (newly_acknowledged nr h)
+logs_after p s h range keeps (S nr) now passes =
+    logs (newly nr s) s.unacknowledged (newly_acknowledged nr h)
     (omega arith) (newly_is nr p s h range keeps (one_test (is_valid nr s) passes))
-tells_after p s h range keeps (U StartAct) now passes = (refl, refl)
-tells_after p s h range keeps (U StartCon) now passes = (refl, refl)
-tells_after p s h range keeps (U StopAct) now passes = (refl, refl)
-tells_after p s h range keeps (U StopCon) now passes = (refl, refl)
-tells_after p s h range keeps (U TestAct) now passes = (refl, refl)
-tells_after p s h range keeps (U TestCon) now passes = (refl, refl)
+logs_after p s h range keeps (U StartAct) now passes = (refl, refl)
+logs_after p s h range keeps (U StartCon) now passes = (refl, refl)
+logs_after p s h range keeps (U StopAct) now passes = (refl, refl)
+logs_after p s h range keeps (U StopCon) now passes = (refl, refl)
+logs_after p s h range keeps (U TestAct) now passes = (refl, refl)
+logs_after p s h range keeps (U TestCon) now passes = (refl, refl)
 
 pub acknowledges : (p : Settings) (s : Session) (h : History) → IsInRange p → Keeps p s h
     → (frame : Apdu) (now : ℕ)
     → refuses s frame ≡ false
-    → TellsAcknowledged (newly_acknowledged_by frame h) (taken frame now s)
+    → LogsAcknowledged (newly_acknowledged_by frame h) (taken frame now s)
 acknowledges p s h range keeps frame now passes =
     let is : taken frame now s ≡ after frame now s = ap
     (λ (b : Bool). cond b (session.acknowledged 0 (record s { last_frame = now }))
     (after frame now s)) passes
     in
-    subst (TellsAcknowledged (newly_acknowledged_by frame h)) (sym is)
-    (tells_after p s h range keeps frame now passes)
+    subst (LogsAcknowledged (newly_acknowledged_by frame h)) (sym is)
+    (logs_after p s h range keeps frame now passes)
 
 -- ---- 5.2: t1
 

@@ -19,12 +19,12 @@ newly_acknowledged_by (S nr) h = newly_acknowledged nr h
 newly_acknowledged_by (U function) h = []
 
 -- so many frames of the queue, and so many own ones, are told as acknowledged
-abbrev pub TellsAcknowledged : List Unacknowledged → Session → Type 0
-TellsAcknowledged frames s =
+abbrev pub LogsAcknowledged : List Unacknowledged → Session → Type 0
+LogsAcknowledged frames s =
     (s.acked_queue ≡ from_queue frames) × (s.acked_own ≡ length frames - from_queue frames)
 
 -- a frame that is taken acknowledges what its N(R) counts
 abbrev pub Acknowledges : Session → History → Type 0
 Acknowledges s h =
     (frame : Apdu) (now : ℕ) → refuses s frame ≡ false →
-    TellsAcknowledged (newly_acknowledged_by frame h) (taken frame now s)
+    LogsAcknowledged (newly_acknowledged_by frame h) (taken frame now s)

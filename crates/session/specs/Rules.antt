@@ -9,7 +9,7 @@ use Rattle.session.specs.History.{verdict_on, confirmation_of, frame_due}
 use Rattle.session.specs.Runs.{Settings}
 
 -- A frame is heard on an open connection, once all confirmations are out (5.3).
-pub record IsHeard (older : History) : Type 0 where
+pub record IsReceived (older : History) : Type 0 where
   pub connected : is_open older ≡ true
   pub confirmed : confirmation_of older ≡ None
 
@@ -23,10 +23,10 @@ pub record MaySend (p : Settings) (ns nr : ℕ) (older : History) : Type 0 where
 
 abbrev pub KeepsRule : Settings → Happened → History → Type 0
 KeepsRule p (Opened now) older = older ≡ []
-KeepsRule p (Came frame now) older = IsHeard older × (is_close (verdict_on frame older) ≡ false)
+KeepsRule p (Came frame now) older = IsReceived older × (is_close (verdict_on frame older) ≡ false)
 -- some frame came that closes the connection
 KeepsRule p (Refused now) older =
-    IsHeard older × ((frame : Apdu) × (is_close (verdict_on frame older) ≡ true))
+    IsReceived older × ((frame : Apdu) × (is_close (verdict_on frame older) ≡ true))
 KeepsRule p (Sent ns nr kind now) older = MaySend p ns nr older
 -- a confirmation that was due, or a frame that a timer or the window w asked for
 KeepsRule p (Went frame now) older =

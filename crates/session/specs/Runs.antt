@@ -35,10 +35,10 @@ pub record Run : Type 0 where
   pub history : History
 
 -- how a frame that came is told, by what it led to
-abbrev pub told : Taken → Apdu → ℕ → Happened
-told (Close cause) frame now = Refused now
-told Asdu frame now = Came frame now
-told Nothing frame now = Came frame now
+abbrev pub logged : Taken → Apdu → ℕ → Happened
+logged (Close cause) frame now = Refused now
+logged Asdu frame now = Came frame now
+logged Nothing frame now = Came frame now
 
 abbrev pub with_frame : Option Apdu → ℕ → History → History
 with_frame None now h = h
@@ -60,7 +60,7 @@ after_call (Take frame now) r =
     if may_take r.session
     then record {
       session = taken frame now r.session;
-      history = told
+      history = logged
           (outcome_of r.session frame) frame now ∷ r.history;
     }
     else r

@@ -6,7 +6,7 @@ use Rattle.link.specs.declared.service.Asked.TheVariants.{Status, Reset, Counted
 use Rattle.link.specs.declared.answer.Answer.{Answer}
 use Rattle.link.specs.declared.answer.Answer.TheVariants.{Ready, Confirmed, Busy, Report, NoData}
 use Rattle.link.specs.declared.answer.Answer.TheVariants.{Unable}
-use Rattle.link.specs.Heard.{with_data}
+use Rattle.link.specs.Received.{with_data}
 use Rattle.sim.specs.declared.tally.StationTally.{StationTally}
 use Rattle.sim.specs.Tallies.{tally_asked, tally_answered}
 

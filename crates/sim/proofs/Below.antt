@@ -10,7 +10,7 @@ use Rattle.ft12.specs.Spoiling.{spoilt}
 use Rattle.link.specs.Outstation.{OutstationRun, all_done}
 use Rattle.link.specs.Delivery.{reports, commands}
 use Rattle.link.specs.Secondary.{Secondary, outstation_of}
-use Rattle.link.specs.Life.{Call, after, requests_heard, turns_in, given1, given2, reported1}
+use Rattle.link.specs.Life.{Call, after, requests_received, turns_in, given1, given2, reported1}
 use Rattle.link.specs.Life.{reported2, saturated}
 
 -- whatever it is called for, a station keeps its size of addresses
@@ -31,13 +31,13 @@ pub record Laws : Type 0 where
       → place < length x → IsFront size (spoilt place x ++ rest) (Whole g n) → ⊥
   -- of stations
   pub run : (s : Secondary) (calls : List Call) → OutstationRun s.address (outstation_of s)
-      (requests_heard s.address calls) (turns_in s calls) (outstation_of (after s calls))
+      (requests_received s.address calls) (turns_in s calls) (outstation_of (after s calls))
   pub class1 : (s : Secondary) (calls : List Call) → s.given < 2 ^ 64
-      → given1 (requests_heard s.address calls) (turns_in s calls) ++ (after s calls).class1
+      → given1 (requests_received s.address calls) (turns_in s calls) ++ (after s calls).class1
       ≡ s.class1
       ++ reported1 calls
   pub class2 : (s : Secondary) (calls : List Call) → s.given < 2 ^ 64
-      → given2 (requests_heard s.address calls) (turns_in s calls) ++ (after s calls).class2
+      → given2 (requests_received s.address calls) (turns_in s calls) ++ (after s calls).class2
       ≡ s.class2
       ++ reported2 calls
   pub accepted : (s : Secondary) (calls : List Call) → s.given < 2 ^ 64

@@ -6,8 +6,9 @@ use Rattle.ft12.specs.declared.frame.LinkSize.{LinkSize}
 use Rattle.ft12.specs.Fronts.{front_of}
 use Rattle.link.specs.declared.service.Asked.{Asked}
 use Rattle.link.specs.Delivery.{requests_of}
-use Rattle.link.specs.Exchanges.{Exchange, Exchanges, OpenExchange, as_list, all_of, heard_octets}
-use Rattle.link.specs.Exchanges.{heard_current, timed, timed_current, view, marked, has_one_with}
+use Rattle.link.specs.Exchanges.{Exchange, Exchanges, OpenExchange, as_list, all_of}
+use Rattle.link.specs.Exchanges.{received_octets}
+use Rattle.link.specs.Exchanges.{received_current, timed, timed_current, view, marked, has_one_with}
 use Rattle.link.specs.Exchanges.{latest_marked, given_up_from, given_up_at}
 use Rattle.link.specs.Carried.{awaits_command_in, given_up_upto, commands_given_up}
 use Rattle.gateway.specs.Reports.{Setup}
@@ -51,12 +52,12 @@ pub timed_requests : (size : LinkSize) (i ms at : ℕ) (c : Option OpenExchange)
 timed_requests size i ms at None = refl
 timed_requests size i ms at (Some x) = same_requests size i x (timed ms at x) refl refl
 
-pub heard_requests : (size : LinkSize) (i ms at : ℕ) (octets : List ℕ) (c : Option OpenExchange)
-    → requests_of (its size i (as_list (timed_current ms at (heard_current octets c))))
+pub received_requests : (size : LinkSize) (i ms at : ℕ) (octets : List ℕ) (c : Option OpenExchange)
+    → requests_of (its size i (as_list (timed_current ms at (received_current octets c))))
     ≡ requests_of (its size i (as_list c))
-heard_requests size i ms at octets None = refl
-heard_requests size i ms at octets (Some x) =
-    same_requests size i x (timed ms at (heard_octets octets x)) refl refl
+received_requests size i ms at octets None = refl
+received_requests size i ms at octets (Some x) =
+    same_requests size i x (timed ms at (received_octets octets x)) refl refl
 
 -- a link that is given up leaves them
 

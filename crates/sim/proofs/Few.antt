@@ -8,24 +8,26 @@ use Rattle.link.specs.declared.service.Asked.{Asked}
 use Rattle.link.specs.declared.service.Asked.TheVariants.{Status, Reset, Counted}
 use Rattle.link.specs.Delivery.{requests_of, reports}
 use Rattle.link.specs.Exchanges.{Exchange, Sending}
-use Rattle.link.specs.Outstation.{Outstation, Turn, OutstationStep, OutstationRun, Serves, unheard}
-use Rattle.link.specs.Outstation.{unable, heard, effects_of, all_done}
+use Rattle.link.specs.Outstation.{Outstation, Turn, OutstationStep, OutstationRun, Serves}
+use Rattle.link.specs.Outstation.{unreceived}
+use Rattle.link.specs.Outstation.{unable, arrived, effects_of, all_done}
 use Rattle.gateway.specs.Log.{Log, Came, Went, LineOut, TcpOut, Closed, GapOut}
 use Rattle.gateway.specs.Reports.{Setup, sending_in, exchanges_with}
 use Rattle.sim.specs.declared.directive.Directive.{Directive}
 use Rattle.sim.specs.Losses.{fate_of}
 use Rattle.sim.specs.Lives.{requests_in}
-use Rattle.sim.specs.Outstations.{is_heard, request_to, requests_to}
+use Rattle.sim.specs.Outstations.{is_received, request_to, requests_to}
 use Rattle.sim.proofs.Counting.{effects_one}
 use Rattle.sim.proofs.Honest.{same_asked}
 use Rattle.sim.proofs.Turns.{asked_of, length_more}
 
-one_request : (i : ℕ) (heard_it : Bool) (m : Option Sending) → length (request_to i heard_it m) ≤ 1
-one_request i heard_it None = omega arith
-one_request i heard_it (Some s) = go (s.station == i)
+one_request : (i : ℕ) (received_it : Bool) (m : Option Sending)
+    → length (request_to i received_it m) ≤ 1
+one_request i received_it None = omega arith
+one_request i received_it (Some s) = go (s.station == i)
   where
     one : List (Bool × Asked)
-    one = (heard_it, s.request) ∷ []
+    one = (received_it, s.request) ∷ []
 
     go : (b : Bool) → length (if b then one else []) ≤ 1
     go true = omega arith
@@ -39,9 +41,9 @@ requests_few p ds i (Went now (LineOut octets) ∷ log) =
     omega (
       arith,
       requests_few p ds i log,
-      one_request i (is_heard (fate_of ds (requests_in log + 1))) (sending_in p octets),
+      one_request i (is_received (fate_of ds (requests_in log + 1))) (sending_in p octets),
       length-append (requests_to p ds i log)
-          (request_to i (is_heard (fate_of ds (requests_in log + 1)))
+          (request_to i (is_received (fate_of ds (requests_in log + 1)))
           (sending_in p octets)),
     )
 requests_few p ds i (Went now (TcpOut octets) ∷ log) = omega (arith, requests_few p ds i log)
@@ -85,16 +87,16 @@ served_one station (Some bit) old new fcb service turn (inr h) =
 
 step_one : (station : ℕ) (old new : Outstation) (request : Asked) (turn : Turn)
     → OutstationStep station old request turn new → length (reports turn.done) ≤ 1
-step_one station old new request turn (unheard t n) =
+step_one station old new request turn (unreceived t n) =
     none_by turn (record { answer = None; done = [] }) t (omega arith)
 step_one station old new request turn (unable frame is t n) =
     none_by turn (record { answer = Some frame; done = [] }) t (omega arith)
-step_one station old new Status turn (heard h) =
+step_one station old new Status turn (arrived h) =
     none_by turn (record { answer = Some h.0; done = [] }) h.2
     (omega arith)
-step_one station old new Reset turn (heard h) =
+step_one station old new Reset turn (arrived h) =
     none_by turn (record { answer = Some h.0; done = [] }) h.2 (omega arith)
-step_one station old new (Counted fcb service) turn (heard h) =
+step_one station old new (Counted fcb service) turn (arrived h) =
     served_one station old.bit old new fcb service turn h
 
 pub reports_few : (station : ℕ) (old new : Outstation) (requests : List Asked) (turns : List Turn)

@@ -17,18 +17,19 @@ use Rattle.link.specs.declared.answer.Answer.{Answer}
 use Rattle.link.specs.Answers.{answer_of}
 use Rattle.link.specs.Delivery.{IsTrueFront, AreTrueFronts}
 use Rattle.link.specs.Exchanges.{Exchange, Exchanges, OpenExchange, Sending, as_list, all_of}
-use Rattle.link.specs.Exchanges.{heard_octets, heard_current, timed, timed_current, begun_by}
+use Rattle.link.specs.Exchanges.{received_octets, received_current, timed, timed_current, begun_by}
 use Rattle.link.specs.Exchanges.{whole_of, view, views, with_station}
 use Rattle.link.specs.Outstation.{Turn}
 use Rattle.gateway.specs.Log.{Log}
 use Rattle.gateway.specs.Reports.{Setup, address_at, exchanges_of}
 use Rattle.gateway.specs.Line.{IsWaiting}
 use Rattle.sim.specs.declared.directive.RequestFate.{RequestFate}
-use Rattle.sim.specs.declared.directive.RequestFate.TheVariants.{Unheard, AnswerLost, AnswerSpoilt}
+use Rattle.sim.specs.declared.directive.RequestFate.TheVariants.{RequestLost, AnswerLost}
+use Rattle.sim.specs.declared.directive.RequestFate.TheVariants.{AnswerSpoilt}
 use Rattle.sim.specs.declared.directive.RequestFate.TheVariants.{Answered}
 use Rattle.sim.specs.Lives.{arriving}
 use Rattle.sim.proofs.Below.{Laws}
-use Rattle.sim.proofs.HearingLemmas.{some_spelling}
+use Rattle.sim.proofs.ReceivingLemmas.{some_spelling}
 
 -- An exchange is settled: it takes no more octets, or has a frame at its front.
 abbrev pub IsSettled : LinkSize → OpenExchange → Type 0
@@ -117,10 +118,10 @@ fronts_timed size i ms at e turns waiting h =
 
 -- What waits comes
 
-front_heard : (laws : Laws) (size : LinkSize) (piece : List ℕ) (x : OpenExchange) (turn : Turn)
+front_received : (laws : Laws) (size : LinkSize) (piece : List ℕ) (x : OpenExchange) (turn : Turn)
     → IsTrueFront (whole_of (front_of size x.octets)) turn → MayCome size (Some piece) x turn →
-    IsTrueFront (whole_of (front_of size (heard_octets piece x).octets)) turn
-front_heard laws size piece x turn h may = go (x.closed || x.given_up) refl may
+    IsTrueFront (whole_of (front_of size (received_octets piece x).octets)) turn
+front_received laws size piece x turn h may = go (x.closed || x.given_up) refl may
   where
     go : (b : Bool) → (x.closed || x.given_up) ≡ b → MayCome size (Some piece) x turn
         → IsTrueFront (whole_of (front_of size (if b then x.octets else x.octets ++ piece))) turn
@@ -133,24 +134,25 @@ front_heard laws size piece x turn h may = go (x.closed || x.given_up) refl may
         subst (λ (xs : List ℕ). IsTrueFront (whole_of (front_of size (xs ++ piece))) turn)
         (sym k.0) k.1
 
-pub latest_heard : (laws : Laws) (size : LinkSize) (i : ℕ) (piece : List ℕ)
+pub latest_received : (laws : Laws) (size : LinkSize) (i : ℕ) (piece : List ℕ)
     (c : Option OpenExchange)
     (here : List Turn) → IsLatest size i c here (Some piece)
-    → IsLatest size i (heard_current piece c) here None
-latest_heard laws size i piece None here h = h
-latest_heard laws size i piece (Some x) here h = go (x.station == i) h
+    → IsLatest size i (received_current piece c) here None
+latest_received laws size i piece None here h = h
+latest_received laws size i piece (Some x) here h = go (x.station == i) h
   where
     go : (b : Bool) → IsLatestOf size b x here (Some piece)
-        → IsLatestOf size b (heard_octets piece x) here None
-    go true k = (k.0, k.1, front_heard laws size piece x k.0 k.2 k.3, tt)
+        → IsLatestOf size b (received_octets piece x) here None
+    go true k = (k.0, k.1, front_received laws size piece x k.0 k.2 k.3, tt)
     go false k = k
 
-abbrev pub fronts_heard : (laws : Laws) (size : LinkSize) (i : ℕ) (piece : List ℕ) (e : Exchanges)
+abbrev pub fronts_received : (laws : Laws) (size : LinkSize) (i : ℕ) (piece : List ℕ)
+    (e : Exchanges)
     (turns : List Turn)
     → AreFronts size i e turns (Some piece) →
-    AreFronts size i (record { ended = e.ended; current = heard_current piece e.current }) turns
+    AreFronts size i (record { ended = e.ended; current = received_current piece e.current }) turns
     None
-fronts_heard laws size i piece e turns h =
+fronts_received laws size i piece e turns h =
     record {
       done = h.done;
       here = h.here;
@@ -158,7 +160,7 @@ fronts_heard laws size i piece e turns h =
       long = h.long;
       fronts = h.fronts;
       latest =
-          latest_heard laws size i piece e.current h.here h.latest;
+          latest_received laws size i piece e.current h.here h.latest;
     }
 
 -- All fronts
@@ -357,11 +359,11 @@ pub may_arrive : (laws : Laws) (size : LinkSize) (fate : RequestFate) (answer : 
     (x : OpenExchange) (turn : Turn)
     → IfSome answer (Fits size) → x.octets ≡ [] → turn.answer ≡ answer
     → MayCome size (arriving size fate answer) x turn
-may_arrive laws size Unheard None x turn fits empty e = tt
+may_arrive laws size RequestLost None x turn fits empty e = tt
 may_arrive laws size AnswerLost None x turn fits empty e = tt
 may_arrive laws size (AnswerSpoilt place) None x turn fits empty e = tt
 may_arrive laws size Answered None x turn fits empty e = tt
-may_arrive laws size Unheard (Some frame) x turn fits empty e = tt
+may_arrive laws size RequestLost (Some frame) x turn fits empty e = tt
 may_arrive laws size AnswerLost (Some frame) x turn fits empty e = tt
 may_arrive laws size (AnswerSpoilt place) (Some frame) x turn fits empty e =
     let some : 0 < length (spelling size frame) = some_spelling size frame in

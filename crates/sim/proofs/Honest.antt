@@ -13,12 +13,13 @@ use Rattle.ft12.specs.Spelling.{Fits}
 use Rattle.link.specs.declared.service.Asked.{Asked}
 use Rattle.link.specs.Counts.{saturated}
 use Rattle.link.specs.Delivery.{requests_of, reports}
-use Rattle.link.specs.Life.{Hear}
+use Rattle.link.specs.Life.{Receive}
 use Rattle.link.specs.Exchanges.{Exchange, Exchanges, OpenExchange, Sending, as_list, all_of}
-use Rattle.link.specs.Exchanges.{heard_octets, heard_current, timed, timed_current, begun_by, view}
+use Rattle.link.specs.Exchanges.{received_octets, received_current, timed, timed_current, begun_by}
+use Rattle.link.specs.Exchanges.{view}
 use Rattle.link.specs.Outstation.{Turn, silent, all_done}
 use Rattle.link.specs.Requests.{request_in}
-use Rattle.link.specs.Secondary.{Secondary, HearsOctets, served}
+use Rattle.link.specs.Secondary.{Secondary, ReceivesOctets, served}
 use Rattle.gateway.specs.Log.{Log, Came, Went, LineIn, Opened, TcpIn, CutOff, Ticked, WallIs}
 use Rattle.gateway.specs.Log.{Restarted, LineOut, TcpOut, Closed, GapOut, latest}
 use Rattle.gateway.specs.Ports.{IsOfPort}
@@ -29,60 +30,64 @@ use Rattle.gateway.specs.Traffic.{ActsRightly}
 use Rattle.sim.specs.declared.centre.Centre.{Centre}
 use Rattle.sim.specs.declared.directive.Directive.{Directive}
 use Rattle.sim.specs.declared.directive.RequestFate.{RequestFate}
-use Rattle.sim.specs.declared.directive.RequestFate.TheVariants.{Unheard, AnswerLost, AnswerSpoilt}
+use Rattle.sim.specs.declared.directive.RequestFate.TheVariants.{RequestLost, AnswerLost}
+use Rattle.sim.specs.declared.directive.RequestFate.TheVariants.{AnswerSpoilt}
 use Rattle.sim.specs.declared.directive.RequestFate.TheVariants.{Answered}
 use Rattle.sim.specs.Centres.{start_apdu, acknowledging_apdu, centre_of}
 use Rattle.sim.specs.Losses.{fate_of, ack_of, is_cut_at, sent_at, wall_at}
-use Rattle.sim.specs.Lives.{Plan, HeardByAll, IsPutOut, AreLived, requests_in, arriving, waiting_in}
+use Rattle.sim.specs.Lives.{Plan, ReceivedByAll, IsPutOut, AreLived, requests_in, arriving}
+use Rattle.sim.specs.Lives.{waiting_in}
 use Rattle.sim.specs.Calls.{calls_in, line_event, quiet_event, sending_event, usual_event}
 use Rattle.sim.specs.Calls.{walled_event, event_at, FollowsPlan}
-use Rattle.sim.specs.Outstations.{is_heard, request_to, requests_to, TakesTurn, TakesTurns}
+use Rattle.sim.specs.Outstations.{is_received, request_to, requests_to, TakesTurn, TakesTurns}
 use Rattle.sim.specs.declared.tally.StationTally.{StationTally}
-use Rattle.sim.specs.Tallies.{tally_at, each_asked, each_heard, awaited_in, tallies_of}
+use Rattle.sim.specs.Tallies.{tally_at, each_asked, each_received, awaited_in, tallies_of}
 use Rattle.sim.proofs.Below.{Laws}
-use Rattle.sim.proofs.HearingLemmas.{sizes_out}
-use Rattle.sim.proofs.Requests.{asked_frame, read_from, quiet, hears_asked, heard_at, heard_joint}
+use Rattle.sim.proofs.ReceivingLemmas.{sizes_out}
+use Rattle.sim.proofs.Requests.{asked_frame, read_from, quiet, receives_asked, received_at}
+use Rattle.sim.proofs.Requests.{received_joint}
 use Rattle.sim.proofs.Requests.{address_in, IsNotTo, Whom, nobody, other, this, whom}
 use Rattle.sim.proofs.Turns.{IsReadable, asked_of, takes_more, did, length_more}
-use Rattle.sim.proofs.Fronts.{MayCome, its, AreFronts, fronts_timed, fronts_heard, fronts_settled}
+use Rattle.sim.proofs.Fronts.{MayCome, its, AreFronts, fronts_timed, fronts_received}
+use Rattle.sim.proofs.Fronts.{fronts_settled}
 use Rattle.sim.proofs.Fronts.{fronts_other, fronts_this, begun, may_arrive, settled_now, its-append}
-use Rattle.sim.proofs.Exchanging.{its_requests, after_current, timed_requests, heard_requests}
+use Rattle.sim.proofs.Exchanging.{its_requests, after_current, timed_requests, received_requests}
 use Rattle.sim.proofs.Exchanging.{restarted_requests}
 use Rattle.sim.proofs.Counting.{tally_step}
 use Rattle.sim.proofs.Standing.{event_is_of_port}
-use Rattle.sim.proofs.Tallying.{tally_ended, given_by_turns, IsTallied, tally_timed, tally_heard}
+use Rattle.sim.proofs.Tallying.{tally_ended, given_by_turns, IsTallied, tally_timed, tally_received}
 use Rattle.sim.proofs.Tallying.{tally_all, asked_other, asked_this, length_tallies, fresh_at}
 
 -- The stations keep their addresses and sizes
 
-address_heard : Laws → (octets : List ℕ) (s t : Secondary) (answer : Option Frame)
-    → HearsOctets s octets answer t
+address_received : Laws → (octets : List ℕ) (s t : Secondary) (answer : Option Frame)
+    → ReceivesOctets s octets answer t
     → t.address ≡ s.address
-address_heard laws octets s t answer (inl h) = ap (λ (u : Secondary). u.address) h.2.2
-    ∙ laws.address s (Hear h.2.0 (Some h.0) ∷ [])
-address_heard laws octets s t answer (inr h) = ap (λ (u : Secondary). u.address) h.2
+address_received laws octets s t answer (inl h) = ap (λ (u : Secondary). u.address) h.2.2
+    ∙ laws.address s (Receive h.2.0 (Some h.0) ∷ [])
+address_received laws octets s t answer (inr h) = ap (λ (u : Secondary). u.address) h.2
 
-addresses_heard : Laws → (octets : List ℕ) (ss ts : List Secondary) (answer : Option Frame)
-    → HeardByAll octets ss answer ts → map (λ (s : Secondary). s.address) ts
+addresses_received : Laws → (octets : List ℕ) (ss ts : List Secondary) (answer : Option Frame)
+    → ReceivedByAll octets ss answer ts → map (λ (s : Secondary). s.address) ts
     ≡ map (λ (s : Secondary). s.address) ss
-addresses_heard laws octets [] [] answer h = refl
-addresses_heard laws octets [] (t ∷ ts) answer h = absurd h
-addresses_heard laws octets (s ∷ ss) [] answer h = absurd h
-addresses_heard laws octets (s ∷ ss) (t ∷ ts) answer h =
+addresses_received laws octets [] [] answer h = refl
+addresses_received laws octets [] (t ∷ ts) answer h = absurd h
+addresses_received laws octets (s ∷ ss) [] answer h = absurd h
+addresses_received laws octets (s ∷ ss) (t ∷ ts) answer h =
     ap (λ (a : ℕ). a ∷ map (λ (u : Secondary). u.address) ts)
-    (address_heard laws octets s t h.0 h.2)
-    ∙ ap (λ (l : List ℕ). s.address ∷ l) (addresses_heard laws octets ss ts h.1 h.3)
+    (address_received laws octets s t h.0 h.2)
+    ∙ ap (λ (l : List ℕ). s.address ∷ l) (addresses_received laws octets ss ts h.1 h.3)
 
 addresses_out : Laws → (fate : RequestFate) (octets : List ℕ) (ss ts : List Secondary)
     (answer : Option Frame)
     → IsPutOut fate octets ss answer ts → map (λ (s : Secondary). s.address) ts
     ≡ map (λ (s : Secondary). s.address) ss
-addresses_out laws Unheard octets ss ts answer h =
+addresses_out laws RequestLost octets ss ts answer h =
     ap (λ (us : List Secondary). map (λ (s : Secondary). s.address) us) h.1
-addresses_out laws AnswerLost octets ss ts answer h = addresses_heard laws octets ss ts answer h
+addresses_out laws AnswerLost octets ss ts answer h = addresses_received laws octets ss ts answer h
 addresses_out laws (AnswerSpoilt place) octets ss ts answer h =
-    addresses_heard laws octets ss ts answer h
-addresses_out laws Answered octets ss ts answer h = addresses_heard laws octets ss ts answer h
+    addresses_received laws octets ss ts answer h
+addresses_out laws Answered octets ss ts answer h = addresses_received laws octets ss ts answer h
 
 -- The settings fit the plan: these stations, which are found by their addresses.
 pub record FitsPlan (p : Setup) (plan : Plan) : Type 0 where
@@ -171,15 +176,15 @@ put_quiet laws p fate octets ss ts answer i d these lt never h = go fate h
     at : (i < length ss) × ((get_or ss i d).address ≡ address_at p.addresses i)
     at = address_of p p.link.size ss i d these lt
 
-    all : HeardByAll octets ss answer ts → get_or ts i d ≡ get_or ss i d
+    all : ReceivedByAll octets ss answer ts → get_or ts i d ≡ get_or ss i d
     all k =
-        let one = heard_at octets ss ts answer i d k at.0 in
+        let one = received_at octets ss ts answer i d k at.0 in
         quiet laws p.link.size octets (get_or ss i d) (get_or ts i d) one.0
         (size_of p.link.size ss i d at.0 these.sizes)
         (λ r e. never r (e ∙ ap (λ (a : ℕ). Some (a, r)) at.1)) one.1
 
     go : (f : RequestFate) → IsPutOut f octets ss answer ts → get_or ts i d ≡ get_or ss i d
-    go Unheard k = ap (λ (us : List Secondary). get_or us i d) k.1
+    go RequestLost k = ap (λ (us : List Secondary). get_or us i d) k.1
     go AnswerLost k = all k
     go (AnswerSpoilt place) k = all k
     go Answered k = all k
@@ -189,7 +194,7 @@ record TurnAt (size : LinkSize) (fate : RequestFate) (answer : Option Frame) (s 
     (r : Asked)
     (x : OpenExchange) : Type 0 where
   turn : Turn
-  took : TakesTurn (is_heard fate) s r turn t
+  took : TakesTurn (is_received fate) s r turn t
   may : MayCome size (arriving size fate answer) x turn
 
 put_asked : (laws : Laws) (p : Setup) (fate : RequestFate) (octets : List ℕ)
@@ -206,28 +211,29 @@ put_asked laws p fate octets ss ts answer i d r x found these lt fits empty e h 
     at : (i < length ss) × ((get_or ss i d).address ≡ address_at p.addresses i)
     at = address_of p p.link.size ss i d these lt
 
-    heard_so : HeardByAll octets ss answer ts → (granted : Bool)
+    received_so : ReceivedByAll octets ss answer ts → (granted : Bool)
         × (answer ≡ (served granted (get_or ss i d) r).turn.answer)
         × (get_or ts i d ≡ (served granted (get_or ss i d) r).state)
-    heard_so k =
-        let one = heard_joint laws p.link.size octets (address_at p.addresses i) r ss ts answer i d
+    received_so k =
+        let one = received_joint laws p.link.size octets (address_at p.addresses i) r ss ts answer i
+        d
         e these.sizes
         (others_apart p p.link.size ss i d found these lt) at.0 k in
-        let two = hears_asked laws p.link.size octets r (get_or ss i d) (get_or ts i d) one.0
+        let two = receives_asked laws p.link.size octets r (get_or ss i d) (get_or ts i d) one.0
         (size_of p.link.size ss i d at.0 these.sizes) (e ∙ ap (λ (a : ℕ). Some (a, r)) (sym at.1))
         one.1 in
         (two.0, one.2 ∙ two.1, two.2)
 
     go : (f : RequestFate) → IsPutOut f octets ss answer ts
         → TurnAt p.link.size f answer (get_or ss i d) (get_or ts i d) r x
-    go Unheard k = record {
+    go RequestLost k = record {
       turn = silent;
       took = (refl, ap (λ (us : List Secondary). get_or us i d) k.1);
       may =
-          subst (λ (a : Option Frame). MayCome p.link.size (arriving p.link.size Unheard a) x
+          subst (λ (a : Option Frame). MayCome p.link.size (arriving p.link.size RequestLost a) x
           silent) (sym k.0) tt;
     }
-    go AnswerLost k = let so = heard_so k in
+    go AnswerLost k = let so = received_so k in
         record {
           turn = (served so.0 (get_or ss i d) r).turn;
           took = (so.0, refl, so.2);
@@ -236,7 +242,7 @@ put_asked laws p fate octets ss ts answer i d r x found these lt fits empty e h 
               fits empty
               (sym so.1);
         }
-    go (AnswerSpoilt place) k = let so = heard_so k in
+    go (AnswerSpoilt place) k = let so = received_so k in
         record {
           turn = (served so.0 (get_or ss i d) r).turn;
           took = (so.0, refl, so.2);
@@ -245,7 +251,7 @@ put_asked laws p fate octets ss ts answer i d r x found these lt fits empty e h 
               (served so.0 (get_or ss i d) r).turn fits empty
               (sym so.1);
         }
-    go Answered k = let so = heard_so k in
+    go Answered k = let so = received_so k in
         record {
           turn = (served so.0 (get_or ss i d) r).turn;
           took = (so.0, refl, so.2);
@@ -309,16 +315,16 @@ asked-append : (xs ys : List (Bool × Asked)) → asked_of (xs ++ ys) ≡ asked_
 asked-append [] ys = refl
 asked-append (x ∷ xs) ys = ap (λ (l : List Asked). x.1 ∷ l) (asked-append xs ys)
 
-begun_requests : (size : LinkSize) (i now : ℕ) (heard : Bool) (m : Option Sending) (e : Exchanges)
+begun_requests : (size : LinkSize) (i now : ℕ) (arrived : Bool) (m : Option Sending) (e : Exchanges)
     → requests_of (its size i (all_of (begun_by now m e))) ≡ requests_of (its size i (all_of e))
-    ++ asked_of (request_to i heard m)
-begun_requests size i now heard None e = sym (append-nil (requests_of (its size i (all_of e))))
-begun_requests size i now heard (Some s) e = its_requests size i (all_of e) (begun now s ∷ [])
+    ++ asked_of (request_to i arrived m)
+begun_requests size i now arrived None e = sym (append-nil (requests_of (its size i (all_of e))))
+begun_requests size i now arrived (Some s) e = its_requests size i (all_of e) (begun now s ∷ [])
     ∙ ap (λ (l : List Asked). requests_of (its size i (all_of e)) ++ l) (go (s.station == i))
   where
     go : (b : Bool) → requests_of (if b then (view (front_of size) (begun now s)).exchange ∷ []
         else [])
-        ≡ asked_of (if b then (heard, s.request) ∷ [] else [])
+        ≡ asked_of (if b then (arrived, s.request) ∷ [] else [])
     go true = refl
     go false = refl
 
@@ -329,8 +335,8 @@ same_asked p ds i (Came now (LineIn octets) ∷ log) =
     let e : Exchanges = exchanges_of p log in
     let at : ℕ = latest (Came now (LineIn octets) ∷ log) in
     after_current p.link.size i e.ended e.current
-    (timed_current p.link.answer_ms at (heard_current octets e.current))
-    (heard_requests p.link.size i p.link.answer_ms at octets e.current) ∙ same_asked p ds i log
+    (timed_current p.link.answer_ms at (received_current octets e.current))
+    (received_requests p.link.size i p.link.answer_ms at octets e.current) ∙ same_asked p ds i log
 same_asked p ds i (Came now Opened ∷ log) =
     let e : Exchanges = exchanges_of p log in
     let at : ℕ = latest (Came now Opened ∷ log) in
@@ -359,11 +365,11 @@ same_asked p ds i (Came now (WallIs number) ∷ log) =
 same_asked p ds i (Came now Restarted ∷ log) = restarted_requests p i (exchanges_of p log)
     ∙ same_asked p ds i log
 same_asked p ds i (Went now (LineOut octets) ∷ log) =
-    let heard : Bool = is_heard (fate_of ds (requests_in log + 1)) in
-    begun_requests p.link.size i now heard (sending_in p octets) (exchanges_of p log)
-    ∙ ap (λ (l : List Asked). l ++ asked_of (request_to i heard (sending_in p octets)))
+    let arrived : Bool = is_received (fate_of ds (requests_in log + 1)) in
+    begun_requests p.link.size i now arrived (sending_in p octets) (exchanges_of p log)
+    ∙ ap (λ (l : List Asked). l ++ asked_of (request_to i arrived (sending_in p octets)))
     (same_asked p ds i log)
-    ∙ sym (asked-append (requests_to p ds i log) (request_to i heard (sending_in p octets)))
+    ∙ sym (asked-append (requests_to p ds i log) (request_to i arrived (sending_in p octets)))
 same_asked p ds i (Went now (TcpOut octets) ∷ log) = same_asked p ds i log
 same_asked p ds i (Went now (Closed cause) ∷ log) = same_asked p ds i log
 same_asked p ds i (Went now (GapOut station session) ∷ log) = same_asked p ds i log
@@ -395,30 +401,30 @@ serves_timed p rs e waiting i at first s t h = record {
       (tally_ended p i e.ended h.fronts.done);
 }
 
-serves_heard : (laws : Laws) (p : Setup) (rs : List (Bool × Asked)) (e : Exchanges) (i at : ℕ)
+serves_received : (laws : Laws) (p : Setup) (rs : List (Bool × Asked)) (e : Exchanges) (i at : ℕ)
     (octets : List ℕ)
     (first s : Secondary) (each : List StationTally) → i < length each →
     Serves p rs e (Some octets) i first s (tally_at each i) →
     Serves p rs (record {
       ended = e.ended;
       current = timed_current p.link.answer_ms at
-          (heard_current octets e.current);
+          (received_current octets e.current);
     }) None i first s
-    (tally_at (each_heard p (awaited_in e.current) octets each) i)
-serves_heard laws p rs e i at octets first s each lt h =
+    (tally_at (each_received p (awaited_in e.current) octets each) i)
+serves_received laws p rs e i at octets first s each lt h =
     let done : List Turn = h.fronts.done in
     record {
       turns = h.turns;
       took = h.took;
       readable = h.readable;
       fronts = fronts_timed p.link.size i p.link.answer_ms at
-          (record { ended = e.ended; current = heard_current octets e.current }) h.turns None
-          (fronts_heard laws p.link.size i octets e h.turns h.fronts);
+          (record { ended = e.ended; current = received_current octets e.current }) h.turns None
+          (fronts_received laws p.link.size i octets e h.turns h.fronts);
       given = h.given;
-      tallied = tally_heard laws p i (given_by_turns done) each e.current octets h.fronts.here
+      tallied = tally_received laws p i (given_by_turns done) each e.current octets h.fronts.here
           (tally_ended p i e.ended done) lt h.fronts.latest h.tallied
           ∙ tally_timed p i (given_by_turns done) p.link.answer_ms at
-          (heard_current octets e.current)
+          (received_current octets e.current)
           (tally_ended p i e.ended done);
     }
 
@@ -472,28 +478,29 @@ given_more n m turns turn e f =
 -- one that is
 serves_one : (laws : Laws) (p : Setup) (rs : List (Bool × Asked)) (e : Exchanges)
     (waiting next : Option (List ℕ))
-    (i now : ℕ) (heard : Bool) (r : Asked) (turn : Turn) (first s t : Secondary)
+    (i now : ℕ) (arrived : Bool) (r : Asked) (turn : Turn) (first s t : Secondary)
     (tally : StationTally)
     (stations : List Secondary) (each : List StationTally) (d : Secondary) →
     i < length each → i < length stations → get_or stations i d ≡ s → s.address
     ≡ address_at p.addresses i
     → tally_at each i ≡ tally → Serves p rs e waiting i first s tally →
-    IsReadable (address_at p.addresses i) r → TakesTurn heard s r turn t
+    IsReadable (address_at p.addresses i) r → TakesTurn arrived s r turn t
     → MayCome p.link.size next (begun now (record { station = i; request = r })) turn →
-    Serves p (rs ++ (heard, r) ∷ []) (begun_by now (Some (record { station = i; request = r })) e)
+    Serves p (rs ++ (arrived, r) ∷ []) (begun_by now (Some (record { station = i; request = r })) e)
     next i first t
     (tally_at (each_asked (Some (record { station = i; request = r })) stations each) i)
-serves_one laws p rs e waiting next i now heard r turn first s t tally stations each d lt within is
+serves_one laws p rs e waiting next i now arrived r turn first s t tally stations each d lt within
+    is
     here same h
     readable took may = record {
       turns = h.turns ++ turn ∷ [];
-      took = takes_more first s t rs h.turns heard r turn h.took took;
-      readable = readable_more (address_at p.addresses i) rs (heard, r) h.readable readable;
+      took = takes_more first s t rs h.turns arrived r turn h.took took;
+      readable = readable_more (address_at p.addresses i) rs (arrived, r) h.readable readable;
       fronts = fronts_this laws p.link.size i now (record { station = i; request = r }) e h.turns
           turn waiting next refl
           may h.fronts;
       given = given_more s.given t.given h.turns turn h.given
-          (did laws heard s r turn t (subst (λ (a : ℕ). IsReadable a r) (sym here) readable) small
+          (did laws arrived s r turn t (subst (λ (a : ℕ). IsReadable a r) (sym here) readable) small
           took).given;
       tallied = asked_this laws p i now r stations each d (tally_ended p i (all_of e) h.turns) lt
           within (same
@@ -521,7 +528,7 @@ serves_request : (laws : Laws) (p : Setup) (log : Log) (rs : List (Bool × Asked
     i < length each → AreFound p.addresses → AreThese p p.link.size ss → i < length p.addresses
     → IfSome answer (Fits p.link.size) → (IsWaiting p log → ⊥) → IsPutOut fate octets ss answer ts →
     Serves p rs (exchanges_of p log) waiting i first (get_or ss i d) (tally_at each i) →
-    Serves p (rs ++ request_to i (is_heard fate) (sending_in p octets))
+    Serves p (rs ++ request_to i (is_received fate) (sending_in p octets))
     (begun_by now (sending_in p octets) (exchanges_of p log)) (arriving p.link.size fate answer) i
     first
     (get_or ts i d) (tally_at (each_asked (sending_in p octets) ss each) i)
@@ -530,12 +537,12 @@ serves_request laws p log rs waiting fate octets ss ts answer i now d first each
     go (whom p octets i found lt)
   where
     go : Whom p octets i →
-        Serves p (rs ++ request_to i (is_heard fate) (sending_in p octets))
+        Serves p (rs ++ request_to i (is_received fate) (sending_in p octets))
         (begun_by now (sending_in p octets) (exchanges_of p log)) (arriving p.link.size fate answer)
         i first
         (get_or ts i d) (tally_at (each_asked (sending_in p octets) ss each) i)
     go (nobody e never) =
-        subst (λ (m : Option Sending). Serves p (rs ++ request_to i (is_heard fate) m)
+        subst (λ (m : Option Sending). Serves p (rs ++ request_to i (is_received fate) m)
         (begun_by now m (exchanges_of p log)) (arriving p.link.size fate answer) i first
         (get_or ts i d)
         (tally_at (each_asked m ss each) i)) (sym e)
@@ -546,16 +553,16 @@ serves_request laws p log rs waiting fate octets ss ts answer i now d first each
         (arriving p.link.size fate answer)
         (settled_now p log alone) h.fronts) h.tallied)
     go (other s e apart never) =
-        subst (λ (m : Option Sending). Serves p (rs ++ request_to i (is_heard fate) m)
+        subst (λ (m : Option Sending). Serves p (rs ++ request_to i (is_received fate) m)
         (begun_by now m (exchanges_of p log)) (arriving p.link.size fate answer) i first
         (get_or ts i d)
         (tally_at (each_asked m ss each) i)) (sym e)
-        (serves_none p rs (request_to i (is_heard fate) (Some s)) (exchanges_of p log)
+        (serves_none p rs (request_to i (is_received fate) (Some s)) (exchanges_of p log)
         (begun_by now (Some s) (exchanges_of p log)) waiting (arriving p.link.size fate answer) i
         first
         (get_or ss i d) (get_or ts i d) (tally_at each i) (tally_at (each_asked (Some s) ss each) i)
         h
-        (ap (λ (b : Bool). if b then (is_heard fate, s.request) ∷ [] else []) apart)
+        (ap (λ (b : Bool). if b then (is_received fate, s.request) ∷ [] else []) apart)
         (put_quiet laws p fate octets ss ts answer i d these lt never out)
         (fronts_other p.link.size i now s (exchanges_of p log) h.turns waiting
         (arriving p.link.size fate answer) apart h.fronts)
@@ -572,9 +579,9 @@ serves_request laws p log rs waiting fate octets ss ts answer i now d first each
         fits refl asked out in
         let at : (i < length ss) × ((get_or ss i d).address ≡ address_at p.addresses i) =
         address_of p p.link.size ss i d these lt in
-        let its_own : request_to i (is_heard fate) (Some new) ≡ (is_heard fate, r) ∷ [] =
-        ap (λ (b : Bool). if b then (is_heard fate, r) ∷ [] else []) (eq-eqb i i refl) in
-        subst (λ (m : Option Sending). Serves p (rs ++ request_to i (is_heard fate) m)
+        let its_own : request_to i (is_received fate) (Some new) ≡ (is_received fate, r) ∷ [] =
+        ap (λ (b : Bool). if b then (is_received fate, r) ∷ [] else []) (eq-eqb i i refl) in
+        subst (λ (m : Option Sending). Serves p (rs ++ request_to i (is_received fate) m)
         (begun_by now m (exchanges_of p log)) (arriving p.link.size fate answer) i first
         (get_or ts i d)
         (tally_at (each_asked m ss each) i)) (sym e)
@@ -584,7 +591,8 @@ serves_request laws p log rs waiting fate octets ss ts answer i now d first each
         (tally_at (each_asked (Some new) ss each) i))
         (sym its_own)
         (serves_one laws p rs (exchanges_of p log) waiting (arriving p.link.size fate answer) i now
-        (is_heard fate) r one.turn first (get_or ss i d) (get_or ts i d) (tally_at each i) ss each d
+        (is_received fate) r one.turn first (get_or ss i d) (get_or ts i d) (tally_at each i) ss
+        each d
         few at.0 refl at.1 refl h
         (read.frame, asked_frame read.frame (address_at p.addresses i) r read.asked) one.took
         one.may))
@@ -626,7 +634,7 @@ serves laws plan [] [] stations i d none fits lt lived fit follows acts = record
 serves laws plan [] (a ∷ answers) stations i d none fits lt lived fit follows acts = absurd lived
 serves laws plan (Came now (LineIn octets) ∷ log) answers stations i d none fits lt lived fit
     follows acts =
-    serves_heard laws plan.setup (requests_to plan.setup plan.directives i log)
+    serves_received laws plan.setup (requests_to plan.setup plan.directives i log)
     (exchanges_of plan.setup log) i
     (latest (Came now (LineIn octets) ∷ log)) octets (get_or plan.stations i d)
     (get_or stations i d)
@@ -695,7 +703,7 @@ serves laws plan (Went now (LineOut octets) ∷ log) (a ∷ answers) stations i 
     let each : List StationTally = tallies_of plan log answers lived.0 lived.2 in
     subst (λ (z : LinkSize).
     Serves plan.setup (requests_to plan.setup plan.directives i log
-    ++ request_to i (is_heard fate) (sending_in plan.setup octets))
+    ++ request_to i (is_received fate) (sending_in plan.setup octets))
     (begun_by now (sending_in plan.setup octets) (exchanges_of plan.setup log)) (arriving z fate a)
     i first
     (get_or stations i d)

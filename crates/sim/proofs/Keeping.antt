@@ -8,7 +8,7 @@ use Rattle.ft12.specs.Spelling.{Fits}
 use Rattle.link.specs.Secondary.{Secondary}
 use Rattle.gateway.specs.Log.{Log, LogEntry, Came, Went, Input, LineOut, TcpOut, Closed, GapOut}
 use Rattle.gateway.specs.Log.{last_moment}
-use Rattle.gateway.specs.Ports.{told_by}
+use Rattle.gateway.specs.Ports.{logged_by}
 use Rattle.gateway.specs.declared.ports.Next.{Next}
 use Rattle.gateway.specs.declared.ports.Next.TheVariants as answers
 use Rattle.session.specs.declared.kinds.Close.{Close}
@@ -22,21 +22,21 @@ use Rattle.sim.specs.Calls.{event_at, lasting}
 use Rattle.sim.specs.Played.{Standing, Stands, Simulated, coming, centre_after, moment_at, is_given}
 use Rattle.sim.specs.Tallies.{Tallied, fresh_tally, tallied_after, tallied_asked}
 use Rattle.sim.proofs.Standing.{stands_came, stands_asked, stands_handed, stands_closed}
-use Rattle.sim.proofs.Standing.{stands_told, stands_fresh}
+use Rattle.sim.proofs.Standing.{stands_logged, stands_fresh}
 use Rattle.sim.proofs.Below.{KeepsSize}
-use Rattle.sim.proofs.HearingLemmas.{sizes_out}
+use Rattle.sim.proofs.ReceivingLemmas.{sizes_out}
 
 -- an event has no line
-pub told_lines : (next : Next) (buf : List ℕ) (log : Log)
-    → lines_of_actions (told_by next buf ++ log) ≡ lines_of_actions log
-told_lines (answers.Line now len) buf log = refl
-told_lines (answers.Open now) buf log = refl
-told_lines (answers.Bytes now len) buf log = refl
-told_lines (answers.Cut now) buf log = refl
-told_lines (answers.Tick now) buf log = refl
-told_lines (answers.Wall now number) buf log = refl
-told_lines answers.Done buf log = refl
-told_lines answers.Fault buf log = refl
+pub logged_lines : (next : Next) (buf : List ℕ) (log : Log)
+    → lines_of_actions (logged_by next buf ++ log) ≡ lines_of_actions log
+logged_lines (answers.Line now len) buf log = refl
+logged_lines (answers.Open now) buf log = refl
+logged_lines (answers.Bytes now len) buf log = refl
+logged_lines (answers.Cut now) buf log = refl
+logged_lines (answers.Tick now) buf log = refl
+logged_lines (answers.Wall now number) buf log = refl
+logged_lines answers.Done buf log = refl
+logged_lines answers.Fault buf log = refl
 
 pub entry_is : (s v : Simulated) (event : Input) (now : ℕ) → v ≡ s
     → event ≡ event_at v.plan.directives (v.standing.call + 1) v.standing.centre v.standing.waiting
@@ -107,12 +107,12 @@ pub close_kept : (plan : Plan) (log new : Log) (stations : List Secondary) (at :
 close_kept plan log new stations at now cause centre push c k =
     rw (push, c) (stands_closed plan log stations at now cause k)
 
-pub tell_kept : (plan : Plan) (log new : Log) (stations : List Secondary) (at : Standing)
+pub log_kept : (plan : Plan) (log new : Log) (stations : List Secondary) (at : Standing)
     (now station session : ℕ) → new ≡ Went now (GapOut station session) ∷ log
     → Stands plan log stations at
     → Stands plan new stations at
-tell_kept plan log new stations at now station session push k =
-    rw push (stands_told plan log stations at now station session k)
+log_kept plan log new stations at now station session push k =
+    rw push (stands_logged plan log stations at now station session k)
 
 pub ask_kept : KeepsSize → (plan : Plan) (log new : Log) (stations after written : List Secondary)
     (at : Standing) (now : ℕ) (octets : List ℕ) (answer : Option Frame) (requests : ℕ)

@@ -5,8 +5,8 @@ pub mod Places
 pub mod Counts
 pub mod Standing
 pub mod Spoils
-pub mod HearingLemmas
-pub mod Hearings
+pub mod ReceivingLemmas
+pub mod Receptions
 pub mod Below
 pub mod Requests
 pub mod Turns

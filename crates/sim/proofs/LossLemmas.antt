@@ -22,12 +22,14 @@ use Rattle.sim.specs.declared.directive.Directive.TheVariants.{Turns, Ack, Wall,
 use Rattle.sim.specs.declared.directive.Directive.TheVariants.{LoseRequest, LoseAnswer, SpoilAnswer}
 use Rattle.sim.specs.declared.directive.Directive.TheVariants.{Cut, Send}
 use Rattle.sim.specs.declared.directive.RequestFate.{RequestFate}
-use Rattle.sim.specs.declared.directive.RequestFate.TheVariants.{Unheard, AnswerLost, AnswerSpoilt}
+use Rattle.sim.specs.declared.directive.RequestFate.TheVariants.{RequestLost, AnswerLost}
+use Rattle.sim.specs.declared.directive.RequestFate.TheVariants.{AnswerSpoilt}
 use Rattle.sim.specs.declared.directive.RequestFate.TheVariants.{Answered}
 use Rattle.sim.specs.Directives.{number_of, directive_from, directive_in, losing_by, spoiling_by}
 use Rattle.sim.specs.Directives.{counted_by}
 use Rattle.sim.specs.Fates.{IsFate, WaitsBy, IsByItsLines}
-use Rattle.sim.specs.Lives.{Plan, HeardByAll, IsPutOut, AreLived, requests_in, arriving, waiting_in}
+use Rattle.sim.specs.Lives.{Plan, ReceivedByAll, IsPutOut, AreLived, requests_in, arriving}
+use Rattle.sim.specs.Lives.{waiting_in}
 use Rattle.sim.specs.Losses.{or_else, first_said, loses_request, loses_answer, spoil_said, cuts}
 use Rattle.sim.specs.Losses.{send_said, sent_at, is_cut_at, spoilt_fate, fate_of}
 
@@ -201,9 +203,9 @@ fate_is ds n =
     go (list_any (loses_request n) ds) (list_any (loses_answer n) ds)
     (first_said (spoil_said n) ds) refl refl refl
   where
-    unheard : (list_any (loses_request n) ds ≡ true → Contains ds (LoseRequest n))
+    unreceived : (list_any (loses_request n) ds ≡ true → Contains ds (LoseRequest n))
         × (list_any (loses_request n) ds ≡ false → Contains ds (LoseRequest n) → ⊥)
-    unheard = any_line (loses_request n) (LoseRequest n) (only_request n) (eq-eqb n n refl) ds
+    unreceived = any_line (loses_request n) (LoseRequest n) (only_request n) (eq-eqb n n refl) ds
 
     lost : (list_any (loses_answer n) ds ≡ true → Contains ds (LoseAnswer n))
         × (list_any (loses_answer n) ds ≡ false → Contains ds (LoseAnswer n) → ⊥)
@@ -218,11 +220,11 @@ fate_is ds n =
 
     go : (a b : Bool) (m : Option ℕ) → list_any (loses_request n) ds ≡ a
         → list_any (loses_answer n) ds ≡ b → first_said (spoil_said n) ds ≡ m
-        → IsFate ds n (if a then Unheard else if b then AnswerLost else spoilt_fate m)
-    go true b m f g h = unheard.0 f
-    go false true m f g h = (unheard.1 f, lost.0 g)
-    go false false None f g h = (unheard.1 f, lost.1 g, spoilt_there.1 h)
-    go false false (Some place) f g h = (unheard.1 f, lost.1 g, spoilt_there.0 place h)
+        → IsFate ds n (if a then RequestLost else if b then AnswerLost else spoilt_fate m)
+    go true b m f g h = unreceived.0 f
+    go false true m f g h = (unreceived.1 f, lost.0 g)
+    go false false None f g h = (unreceived.1 f, lost.1 g, spoilt_there.1 h)
+    go false false (Some place) f g h = (unreceived.1 f, lost.1 g, spoilt_there.0 place h)
 
 pub cut_is : (ds : List Directive) (call : ℕ)
     → (is_cut_at ds call ≡ true → Contains ds (Cut call))
@@ -271,16 +273,16 @@ waits size fate (Some given) = (
     same f g e = cc
 
     by : (f : RequestFate) → WaitsBy f (spelling size given) (arriving size f (Some given))
-    by Unheard = refl
+    by RequestLost = refl
     by AnswerLost = refl
     by (AnswerSpoilt place) = refl
     by Answered = refl
 
 put : (fate : RequestFate) (octets : List ℕ) (before : List Secondary) (answer : Option Frame)
     (after : List Secondary) → IsPutOut fate octets before answer after
-    → (fate ≡ Unheard → (answer ≡ None) × (after ≡ before))
-    × (fate ≢ Unheard → HeardByAll octets before answer after)
-put Unheard octets before answer after out = ((λ e. out), λ other. absurd (other refl))
+    → (fate ≡ RequestLost → (answer ≡ None) × (after ≡ before))
+    × (fate ≢ RequestLost → ReceivedByAll octets before answer after)
+put RequestLost octets before answer after out = ((λ e. out), λ other. absurd (other refl))
 put AnswerLost octets before answer after out = ((λ e. cc), λ other. out)
 put (AnswerSpoilt place) octets before answer after out = ((λ e. cc), λ other. out)
 put Answered octets before answer after out = ((λ e. cc), λ other. out)
@@ -304,8 +306,8 @@ by_its_lines plan log answers stations now octets answer lived =
         fate = fate;
         said = subst (λ (n : ℕ). IsFate plan.directives n fate) number
             (fate_is plan.directives (requests_in log + 1));
-        unheard = out.0;
-        heard = out.1;
+        unreceived = out.0;
+        arrived = out.1;
         none = waiting.0;
         comes = waiting.1;
       },

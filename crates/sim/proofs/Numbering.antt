@@ -176,19 +176,19 @@ pub clash_report : (ds : List Directive) (station : ℕ) (class : Class) (octets
 clash_report ds station class octets =
     none_by (Report station class octets) (λ e. report_head e station class octets) ds
 
-unheard_head : (e : Directive) (n : ℕ) → clashes e (LoseRequest n) ≡ false
-unheard_head (Turns m) n = refl
-unheard_head (Ack m) n = refl
-unheard_head (Wall m) n = refl
-unheard_head (Report i c os) n = refl
-unheard_head (LoseRequest m) n = refl
-unheard_head (LoseAnswer m) n = refl
-unheard_head (SpoilAnswer m p) n = refl
-unheard_head (Cut m) n = refl
-unheard_head (Send m os) n = refl
+unreceived_head : (e : Directive) (n : ℕ) → clashes e (LoseRequest n) ≡ false
+unreceived_head (Turns m) n = refl
+unreceived_head (Ack m) n = refl
+unreceived_head (Wall m) n = refl
+unreceived_head (Report i c os) n = refl
+unreceived_head (LoseRequest m) n = refl
+unreceived_head (LoseAnswer m) n = refl
+unreceived_head (SpoilAnswer m p) n = refl
+unreceived_head (Cut m) n = refl
+unreceived_head (Send m os) n = refl
 
-pub clash_unheard : (ds : List Directive) (n : ℕ) → clashes_with ds (LoseRequest n) ≡ false
-clash_unheard ds n = none_by (LoseRequest n) (λ e. unheard_head e n) ds
+pub clash_unreceived : (ds : List Directive) (n : ℕ) → clashes_with ds (LoseRequest n) ≡ false
+clash_unreceived ds n = none_by (LoseRequest n) (λ e. unreceived_head e n) ds
 
 lost_head : (e : Directive) (n : ℕ) → clashes e (LoseAnswer n) ≡ false
 lost_head (Turns m) n = refl
@@ -227,7 +227,7 @@ clash_other ds (Ack n) turns ack wall spoil send = absurd (ack n refl)
 clash_other ds (Wall n) turns ack wall spoil send = absurd (wall n refl)
 clash_other ds (Report station class octets) turns ack wall spoil send =
     clash_report ds station class octets
-clash_other ds (LoseRequest n) turns ack wall spoil send = clash_unheard ds n
+clash_other ds (LoseRequest n) turns ack wall spoil send = clash_unreceived ds n
 clash_other ds (LoseAnswer n) turns ack wall spoil send = clash_lost ds n
 clash_other ds (SpoilAnswer n place) turns ack wall spoil send = absurd (spoil n place refl)
 clash_other ds (Cut n) turns ack wall spoil send = clash_cut ds n
@@ -348,7 +348,7 @@ numbered_more ds new d ts ts2 ks ks2 ws ws2 us us2 ls ls2 cs cs2 ps ps2 ss ss2 p
       turns = t ∙ said_last turns_said ds d ts so.turns;
       ack = k ∙ said_last ack_said ds d ks so.ack;
       wall = w ∙ said_last wall_said ds d ws so.wall;
-      unheard = λ q. u q ∙ (ap (λ b. loses_request q d || b) (so.unheard q)
+      unreceived = λ q. u q ∙ (ap (λ b. loses_request q d || b) (so.unreceived q)
           ∙ sym (any_last (loses_request q) ds d));
       lost = λ q. l q ∙ (ap (λ b. loses_answer q d || b) (so.lost q)
           ∙ sym (any_last (loses_answer q) ds d));

@@ -20,11 +20,11 @@ use Rattle.link.specs.declared.request.Reading.TheVariants.{Foreign, Unknown, As
 use Rattle.link.specs.Exchanges.{Sending}
 use Rattle.link.specs.Requests.{short_reading, data_reading, reading_of, asked_by, asked_in}
 use Rattle.link.specs.Requests.{request_at, request_in}
-use Rattle.link.specs.Secondary.{Secondary, heard_reading, served, HearsOctets}
+use Rattle.link.specs.Secondary.{Secondary, received_reading, served, ReceivesOctets}
 use Rattle.gateway.specs.Reports.{Setup, address_at, index_of, AreFound, sent_to, sending_in}
-use Rattle.sim.specs.Lives.{later, HeardByAll}
+use Rattle.sim.specs.Lives.{later, ReceivedByAll}
 use Rattle.sim.proofs.Below.{Laws}
-use Rattle.sim.proofs.HearingLemmas.{later_none}
+use Rattle.sim.proofs.ReceivingLemmas.{later_none}
 
 -- What a frame asks
 
@@ -141,10 +141,10 @@ read_from laws size octets a r e = go (front_of size octets) (laws.right size oc
 pub quiet : (laws : Laws) (size : LinkSize) (octets : List ℕ) (s t : Secondary)
     (first : Option Frame) → s.size ≡ size
     → ((r : Asked) → request_in size octets ≡ Some (s.address, r) → ⊥) →
-    HearsOctets s octets first t → t ≡ s
+    ReceivesOctets s octets first t → t ≡ s
 quiet laws size octets s t first same never (inl h) = h.2.2 ∙ go (reading_of s.address h.0) refl
   where
-    go : (m : Reading) → reading_of s.address h.0 ≡ m → (heard_reading h.2.0 s m).state ≡ s
+    go : (m : Reading) → reading_of s.address h.0 ≡ m → (received_reading h.2.0 s m).state ≡ s
     go Foreign e = refl
     go Unknown e = refl
     go (Asks r) e = absurd
@@ -159,31 +159,31 @@ silent_other : (laws : Laws) (size : LinkSize) (octets : List ℕ) (a : ℕ) (r 
     (u v : Secondary)
     (first : Option Frame) → u.size ≡ size → request_in size octets ≡ Some (a, r)
     → (u.address ≡ a → ⊥) →
-    HearsOctets u octets first v → first ≡ None
+    ReceivesOctets u octets first v → first ≡ None
 silent_other laws size octets a r u v first same e never (inl h) =
     let asked : asked_in h.0 ≡ Some (a, r) =
     sym (request_is laws size octets h.0 (subst (λ (z : LinkSize). IsLineFrame z h.0 octets) same
     h.1)) ∙ e in
-    h.2.1 ∙ ap (λ (m : Reading). (heard_reading h.2.0 u m).turn.answer)
+    h.2.1 ∙ ap (λ (m : Reading). (received_reading h.2.0 u m).turn.answer)
     (reading_other h.0 a u.address r asked never)
 silent_other laws size octets a r u v first same e never (inr h) = h.1
 
 -- that ask something of it
-pub hears_asked : (laws : Laws) (size : LinkSize) (octets : List ℕ) (r : Asked) (s t : Secondary)
+pub receives_asked : (laws : Laws) (size : LinkSize) (octets : List ℕ) (r : Asked) (s t : Secondary)
     (first : Option Frame) → s.size ≡ size → request_in size octets ≡ Some (s.address, r) →
-    HearsOctets s octets first t → (granted : Bool) × (first ≡ (served granted s r).turn.answer)
+    ReceivesOctets s octets first t → (granted : Bool) × (first ≡ (served granted s r).turn.answer)
     × (t ≡ (served granted s r).state)
-hears_asked laws size octets r s t first same e (inl h) =
+receives_asked laws size octets r s t first same e (inl h) =
     let asked : asked_in h.0 ≡ Some (s.address, r) = sym
     (request_is laws size octets h.0 (subst (λ (z : LinkSize). IsLineFrame z h.0 octets) same h.1))
     ∙ e in
     let reads : reading_of s.address h.0 ≡ Asks r = asked_frame h.0 s.address r asked in (
       h.2.0,
-      h.2.1 ∙ ap (λ (m : Reading). (heard_reading h.2.0 s m).turn.answer) reads,
+      h.2.1 ∙ ap (λ (m : Reading). (received_reading h.2.0 s m).turn.answer) reads,
       h.2.2
-          ∙ ap (λ (m : Reading). (heard_reading h.2.0 s m).state) reads,
+          ∙ ap (λ (m : Reading). (received_reading h.2.0 s m).state) reads,
     )
-hears_asked laws size octets r s t first same e (inr h) =
+receives_asked laws size octets r s t first same e (inr h) =
     let read = read_from laws size octets s.address r e in
     absurd
     (h.0 read.frame (subst (λ (z : LinkSize). IsLineFrame z read.frame octets) (sym same)
@@ -191,22 +191,22 @@ hears_asked laws size octets r s t first same e (inr h) =
 
 -- All hear
 
-pub heard_at : (octets : List ℕ) (ss ts : List Secondary) (answer : Option Frame) (k : ℕ)
+pub received_at : (octets : List ℕ) (ss ts : List Secondary) (answer : Option Frame) (k : ℕ)
     (d : Secondary)
-    → HeardByAll octets ss answer ts → k < length ss →
-    (first : Option Frame) × HearsOctets (get_or ss k d) octets first (get_or ts k d)
-heard_at octets [] ts answer k d h lt = absurd (omega arith)
-heard_at octets (s ∷ ss) [] answer k d h lt = absurd h
-heard_at octets (s ∷ ss) (t ∷ ts) answer zero d h lt = (h.0, h.2)
-heard_at octets (s ∷ ss) (t ∷ ts) answer (suc k) d h lt =
-    heard_at octets ss ts h.1 k d h.3 (omega arith)
+    → ReceivedByAll octets ss answer ts → k < length ss →
+    (first : Option Frame) × ReceivesOctets (get_or ss k d) octets first (get_or ts k d)
+received_at octets [] ts answer k d h lt = absurd (omega arith)
+received_at octets (s ∷ ss) [] answer k d h lt = absurd h
+received_at octets (s ∷ ss) (t ∷ ts) answer zero d h lt = (h.0, h.2)
+received_at octets (s ∷ ss) (t ∷ ts) answer (suc k) d h lt =
+    received_at octets ss ts h.1 k d h.3 (omega arith)
 
 all_silent : (laws : Laws) (size : LinkSize) (octets : List ℕ) (a : ℕ) (r : Asked)
     (ss ts : List Secondary)
     (answer : Option Frame) (d : Secondary) → request_in size octets ≡ Some (a, r) →
     AllByRecursion (λ s. s.size ≡ size) ss → ((j : ℕ) → j < length ss → (get_or ss j d).address ≡ a
     → ⊥)
-    → HeardByAll octets ss answer ts → answer ≡ None
+    → ReceivedByAll octets ss answer ts → answer ≡ None
 all_silent laws size octets a r [] [] answer d e sizes never h = h
 all_silent laws size octets a r [] (t ∷ ts) answer d e sizes never h = absurd h
 all_silent laws size octets a r (s ∷ ss) [] answer d e sizes never h = absurd h
@@ -218,24 +218,24 @@ all_silent laws size octets a r (s ∷ ss) (t ∷ ts) answer d e sizes never h =
     h.4 ∙ ap (λ (x : Option Frame). later x h.1) one ∙ later_none h.1 ∙ rest
 
 -- the one that is asked answers, and no other
-pub heard_joint : (laws : Laws) (size : LinkSize) (octets : List ℕ) (a : ℕ) (r : Asked)
+pub received_joint : (laws : Laws) (size : LinkSize) (octets : List ℕ) (a : ℕ) (r : Asked)
     (ss ts : List Secondary)
     (answer : Option Frame) (k : ℕ) (d : Secondary) → request_in size octets ≡ Some (a, r) →
     AllByRecursion (λ s. s.size ≡ size) ss
     → ((j : ℕ) → j < length ss → (j ≡ k → ⊥) → (get_or ss j d).address ≡ a → ⊥)
-    → k < length ss → HeardByAll octets ss answer ts →
-    (first : Option Frame) × HearsOctets (get_or ss k d) octets first (get_or ts k d)
+    → k < length ss → ReceivedByAll octets ss answer ts →
+    (first : Option Frame) × ReceivesOctets (get_or ss k d) octets first (get_or ts k d)
     × (answer ≡ first)
-heard_joint laws size octets a r [] ts answer k d e sizes never lt h = absurd (omega arith)
-heard_joint laws size octets a r (s ∷ ss) [] answer k d e sizes never lt h = absurd h
-heard_joint laws size octets a r (s ∷ ss) (t ∷ ts) answer zero d e sizes never lt h =
+received_joint laws size octets a r [] ts answer k d e sizes never lt h = absurd (omega arith)
+received_joint laws size octets a r (s ∷ ss) [] answer k d e sizes never lt h = absurd h
+received_joint laws size octets a r (s ∷ ss) (t ∷ ts) answer zero d e sizes never lt h =
     let rest : h.1 ≡ None = all_silent laws size octets a r ss ts h.1 d e sizes.1
     (λ j less. never (suc j) (omega arith) (λ f. omega arith)) h.3 in
     (h.0, h.2, h.4 ∙ ap (λ (x : Option Frame). later h.0 x) rest)
-heard_joint laws size octets a r (s ∷ ss) (t ∷ ts) answer (suc k) d e sizes never lt h =
+received_joint laws size octets a r (s ∷ ss) (t ∷ ts) answer (suc k) d e sizes never lt h =
     let one : h.0 ≡ None = silent_other laws size octets a r s t h.0 sizes.0 e
     (never 0 (omega arith) (λ f. omega arith)) h.2 in
-    let rest = heard_joint laws size octets a r ss ts h.1 k d e sizes.1
+    let rest = received_joint laws size octets a r ss ts h.1 k d e sizes.1
     (λ j less other. never (suc j) (omega arith) (λ f. other (omega arith))) (omega arith) h.3 in
     (rest.0, rest.1, h.4 ∙ ap (λ (x : Option Frame). later x h.1) one ∙ later_none h.1 ∙ rest.2)
 

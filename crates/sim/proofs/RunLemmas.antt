@@ -23,13 +23,14 @@ use Rattle.sim.specs.Outstations.{HaveServed}
 use Rattle.sim.specs.Runs.{IsRun}
 
 -- a run of the plan, with what is counted of it
-record IsTold (plan : Plan) (log : Log) (stations : List Secondary) (answers : List (Option Frame))
+record IsLogged (plan : Plan) (log : Log) (stations : List Secondary)
+    (answers : List (Option Frame))
     (tallies : List StationTally) : Type 0 where
   played : IsPlayed plan log answers stations
   counted : tallies ≡ tallies_of plan log answers stations played.lived
 
 -- the run of which these are the closing lines
-pub told_run : (c : Settings) (ds : List Directive) (s : Simulated) (closing : List ℕ)
+pub logged_run : (c : Settings) (ds : List Directive) (s : Simulated) (closing : List ℕ)
     → s.plan ≡ plan_of c ds →
     calls_in s.log ≡ turns_of ds → IsFaithful (setup_of c) s.log → HasRested (setup_of c) s.log
     → KeepsOrder s.log
@@ -44,11 +45,11 @@ pub told_run : (c : Settings) (ds : List Directive) (s : Simulated) (closing : L
     → connection_lines 1 (counted_in s.log)
     ≡ lines_of_connections (connections_in s.log (here_of d.course) d.course.earlier))
     → IsRun c ds s.log closing
-told_run c ds s closing plan calls faithful rests order lines k delivers serve count =
-    let was : IsTold s.plan s.log s.stations k.answers s.standing.tallied.each =
+logged_run c ds s closing plan calls faithful rests order lines k delivers serve count =
+    let was : IsLogged s.plan s.log s.stations k.answers s.standing.tallied.each =
     record { played = k.played; counted = k.each } in
-    let now : IsTold (plan_of c ds) s.log s.stations k.answers s.standing.tallied.each =
-    subst (λ (q : Plan). IsTold q s.log s.stations k.answers s.standing.tallied.each) plan was in
+    let now : IsLogged (plan_of c ds) s.log s.stations k.answers s.standing.tallied.each =
+    subst (λ (q : Plan). IsLogged q s.log s.stations k.answers s.standing.tallied.each) plan was in
     let small : s.standing.requests < 2 ^ 64 = k.few in
     let few : requests_in s.log < 2 ^ 64 = subst (λ (n : ℕ). n < 2 ^ 64) k.requests small in
     record {

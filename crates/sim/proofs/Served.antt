@@ -45,7 +45,7 @@ use Rattle.sim.specs.Texts.{reports_for}
 use Rattle.sim.specs.Played.{IsPlayed}
 use Rattle.sim.proofs.Below.{Laws}
 use Rattle.sim.proofs.BeginningLemmas.{begun_sizes}
-use Rattle.sim.proofs.HearingLemmas.{length_lived}
+use Rattle.sim.proofs.ReceivingLemmas.{length_lived}
 use Rattle.sim.proofs.Turns.{asked_of, DidAll, did_all}
 use Rattle.sim.proofs.Fronts.{HasFronts, all_fronts}
 use Rattle.sim.proofs.Honest.{FitsPlan, Serves, serves, same_asked}

@@ -171,8 +171,8 @@ willing_served granted s Status h = record { answer = willing_status s.address s
 willing_served granted s Reset h = record { answer = willing_short0 s.address s.class1; last = tt }
 willing_served granted s (Counted fcb service) h = willing_counted granted s s.bit fcb service h
 
-willing_turn : (heard : Bool) (s t : Secondary) (r : Asked) (turn : Turn) → IsWilling s.last
-    → TakesTurn heard s r turn t → IsWilling turn.answer × IsWilling t.last
+willing_turn : (arrived : Bool) (s t : Secondary) (r : Asked) (turn : Turn) → IsWilling s.last
+    → TakesTurn arrived s r turn t → IsWilling turn.answer × IsWilling t.last
 willing_turn false s t r turn h k = (
   subst (λ (v : Turn). IsWilling v.answer) (sym k.0) tt,
   subst (λ (u : Secondary). IsWilling u.last) (sym k.1) h,

@@ -44,7 +44,7 @@ length-events (Went now action ∷ log) = length-events log
 -- after so many more events than none there were so many calls
 turns_calls : (n : ℕ) (log : Log) → MoreEvents n (Some []) (Some log) → calls_in log ≡ n
 turns_calls n log more =
-    let told : Some (length (events_of log)) ≡ Some (0 + n) = more in
+    let logged : Some (length (events_of log)) ≡ Some (0 + n) = more in
     let same : length (events_of log) ≡ 0 + n = cc in
     omega (arith, length-events log)
 

@@ -13,11 +13,12 @@ use Rattle.gateway.specs.Log.{Ticked, WallIs, Restarted, LineOut, TcpOut, Closed
 use Rattle.gateway.specs.Log.{last_moment, latest}
 use Rattle.gateway.specs.Ports.{IsOfPort}
 use Rattle.gateway.specs.Reports.{Setup, sending_in, exchanges_of}
-use Rattle.link.specs.Exchanges.{OpenExchange, Exchanges, Sending, heard_octets, heard_current}
+use Rattle.link.specs.Exchanges.{OpenExchange, Exchanges, Sending, received_octets}
+use Rattle.link.specs.Exchanges.{received_current}
 use Rattle.link.specs.Exchanges.{timed, timed_current, begun_by}
 use Rattle.sim.specs.declared.tally.StationTally.{StationTally}
 use Rattle.sim.specs.declared.tallies.LatestRequest.{LatestRequest}
-use Rattle.sim.specs.Tallies.{Tallied, fresh_tally, each_asked, each_heard, awaited_heard}
+use Rattle.sim.specs.Tallies.{Tallied, fresh_tally, each_asked, each_received, awaited_received}
 use Rattle.sim.specs.Tallies.{awaited_timed, awaited_asked, awaited_with, tallied_at, tallied_asked}
 use Rattle.sim.specs.Tallies.{awaited_in, tallies_of}
 use Rattle.session.specs.declared.kinds.Close.{Close}
@@ -85,19 +86,19 @@ awaits_timed ms now (Some x) = go x.closed x.given_up x.octets (nat_le (x.since 
     go false false (y ∷ ys) false is = refl
 
 -- and octets before it
-awaits_heard : (octets : List ℕ) (c : Option OpenExchange)
-    → awaited_heard octets (awaited_in c) ≡ awaited_in (heard_current octets c)
-awaits_heard [] None = refl
-awaits_heard (o ∷ os) None = refl
-awaits_heard [] (Some x) = go (x.closed || x.given_up) x.octets
+awaits_received : (octets : List ℕ) (c : Option OpenExchange)
+    → awaited_received octets (awaited_in c) ≡ awaited_in (received_current octets c)
+awaits_received [] None = refl
+awaits_received (o ∷ os) None = refl
+awaits_received [] (Some x) = go (x.closed || x.given_up) x.octets
   where
     go : (over : Bool) (xs : List ℕ) → (if over then None else awaited_with xs x)
         ≡ (if over then None
-        else awaited_with (if over then xs else xs ++ []) (heard_octets [] x))
+        else awaited_with (if over then xs else xs ++ []) (received_octets [] x))
     go true xs = refl
     go false [] = refl
     go false (y ∷ ys) = refl
-awaits_heard (o ∷ os) (Some x) = go (x.closed || x.given_up) x.octets
+awaits_received (o ∷ os) (Some x) = go (x.closed || x.given_up) x.octets
   where
     none : Option LatestRequest
     none = None
@@ -105,7 +106,7 @@ awaits_heard (o ∷ os) (Some x) = go (x.closed || x.given_up) x.octets
     go : (over : Bool) (xs : List ℕ)
         → none
         ≡ (if over then None else awaited_with (if over then xs else xs ++ o ∷ os)
-        (heard_octets (o ∷ os) x))
+        (received_octets (o ∷ os) x))
     go true xs = refl
     go false [] = refl
     go false (y ∷ ys) = refl
@@ -116,11 +117,12 @@ awaits_came : (p : Setup) (log : Log) (now : ℕ) (event : Input) (t : Tallied)
     (tallied_at p now event t).awaited ≡ awaited_in (exchanges_of p (Came now event ∷ log)).current
 awaits_came p log now (LineIn octets) t of at is =
     let c : Option OpenExchange = (exchanges_of p log).current in
-    ap (λ (a : Option LatestRequest). awaited_timed p.link.answer_ms now (awaited_heard octets a))
+    ap (λ (a : Option LatestRequest). awaited_timed p.link.answer_ms now
+    (awaited_received octets a))
     is
-    ∙ ap (awaited_timed p.link.answer_ms now) (awaits_heard octets c)
-    ∙ awaits_timed p.link.answer_ms now (heard_current octets c)
-    ∙ ap (λ (n : ℕ). awaited_in (timed_current p.link.answer_ms n (heard_current octets c)))
+    ∙ ap (awaited_timed p.link.answer_ms now) (awaits_received octets c)
+    ∙ awaits_timed p.link.answer_ms now (received_current octets c)
+    ∙ ap (λ (n : ℕ). awaited_in (timed_current p.link.answer_ms n (received_current octets c)))
     (sym at)
 awaits_came p log now Opened t of at is =
     ap (awaited_timed p.link.answer_ms now) is
@@ -165,8 +167,8 @@ counts_came : (plan : Plan) (log : Log) (answers : List (Option Frame)) (station
     (tallied_at plan.setup now event t).each ≡ tallies_of plan (Came now event ∷ log) answers
     stations lived
 counts_came plan log answers stations lived now (LineIn octets) t is each =
-    ap (λ (a : Option LatestRequest). each_heard plan.setup a octets t.each) is
-    ∙ ap (each_heard plan.setup (awaited_in (exchanges_of plan.setup log).current) octets) each
+    ap (λ (a : Option LatestRequest). each_received plan.setup a octets t.each) is
+    ∙ ap (each_received plan.setup (awaited_in (exchanges_of plan.setup log).current) octets) each
 counts_came plan log answers stations lived now Opened t is each = each
 counts_came plan log answers stations lived now (TcpIn octets) t is each = each
 counts_came plan log answers stations lived now CutOff t is each = each
@@ -388,11 +390,11 @@ stands_closed plan log stations at now cause k = record {
 }
 
 -- a gap
-pub stands_told : (plan : Plan) (log : Log) (stations : List Secondary) (at : Standing)
+pub stands_logged : (plan : Plan) (log : Log) (stations : List Secondary) (at : Standing)
     (now station session : ℕ)
     → Stands plan log stations at →
     Stands plan (Went now (GapOut station session) ∷ log) stations at
-stands_told plan log stations at now station session k = record {
+stands_logged plan log stations at now station session k = record {
   answers = k.answers;
   played = record { lived = k.played.lived; fit = k.played.fit; follows = k.played.follows };
   waiting = k.waiting;

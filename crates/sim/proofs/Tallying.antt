@@ -14,8 +14,8 @@ use Rattle.link.specs.declared.service.Asked.{Asked}
 use Rattle.link.specs.Answers.{answer_of}
 use Rattle.link.specs.Counts.{saturated}
 use Rattle.link.specs.Delivery.{reports}
-use Rattle.link.specs.Exchanges.{OpenExchange, Exchanges, Sending, as_list, all_of, heard_octets}
-use Rattle.link.specs.Exchanges.{heard_current, timed_current, whole_of, view}
+use Rattle.link.specs.Exchanges.{OpenExchange, Exchanges, Sending, as_list, all_of, received_octets}
+use Rattle.link.specs.Exchanges.{received_current, timed_current, whole_of, view}
 use Rattle.link.specs.Outstation.{Turn, all_done}
 use Rattle.link.specs.Secondary.{Secondary}
 use Rattle.gateway.specs.Log.{Log, Came, Went, LineIn, Opened, TcpIn, CutOff, Ticked, WallIs}
@@ -25,7 +25,7 @@ use Rattle.sim.specs.declared.tally.StationTally.{StationTally}
 use Rattle.sim.specs.declared.tallies.LatestRequest.{LatestRequest}
 use Rattle.sim.specs.Lives.{Plan, AreLived}
 use Rattle.sim.specs.Tallies.{fresh_tally, tally_asked, tally_after, tally_at, given_at, each_asked}
-use Rattle.sim.specs.Tallies.{each_heard, awaited_with, awaited_in, tallies_of}
+use Rattle.sim.specs.Tallies.{each_received, awaited_with, awaited_in, tallies_of}
 use Rattle.sim.proofs.Below.{Laws}
 use Rattle.sim.proofs.Counting.{tally_step, tally_over, over_snoc}
 use Rattle.sim.proofs.Fronts.{MayCome, IsLatestOf, IsLatest, its, its-append, AreFronts, begun}
@@ -72,16 +72,17 @@ same_step p i given x octets others t e =
     (answer_of (address_at p.addresses i) x.request) f) (tally_asked x.request given t)) e
 
 -- the awaited exchange, where it is this station's
-heard_this : (laws : Laws) (p : Setup) (i given : ℕ) (each : List StationTally) (x : OpenExchange)
+received_this : (laws : Laws) (p : Setup) (i given : ℕ) (each : List StationTally)
+    (x : OpenExchange)
     (octets : List ℕ)
     (turn : Turn) (t : StationTally) → i < length each → x.station ≡ i
     → MayCome p.link.size (Some octets) x turn →
     tally_at each i ≡ tally_step (address_at p.addresses i) (view (front_of p.link.size) x).exchange
     given t →
-    tally_at (each_heard p (awaited_in (Some x)) octets each) i
+    tally_at (each_received p (awaited_in (Some x)) octets each) i
     ≡ tally_step (address_at p.addresses i)
-    (view (front_of p.link.size) (heard_octets octets x)).exchange given t
-heard_this laws p i given each x octets turn t lt here may is =
+    (view (front_of p.link.size) (received_octets octets x)).exchange given t
+received_this laws p i given each x octets turn t lt here may is =
     go (x.closed || x.given_up) x.octets refl refl
   where
     after : (closed : Bool) → List ℕ → StationTally
@@ -114,7 +115,7 @@ heard_this laws p i given each x octets turn t lt here may is =
         nonempty f = cc
 
     go : (over : Bool) (xs : List ℕ) → (x.closed || x.given_up) ≡ over → x.octets ≡ xs →
-        tally_at (each_heard p (if over then None else awaited_with xs x) octets each) i
+        tally_at (each_received p (if over then None else awaited_with xs x) octets each) i
         ≡ tally_after x.request (option_and_then (answer_of (address_at p.addresses i) x.request)
         (whole_of (front_of p.link.size (if over then x.octets else x.octets ++ octets))))
         (tally_asked x.request given t)
@@ -155,13 +156,13 @@ heard_this laws p i given each x octets turn t lt here may is =
         (whole_of (front_of p.link.size (xs ++ octets)))) (tally_asked x.request given t)) (sym e))
 
 -- and where it isn't
-heard_other : (p : Setup) (i : ℕ) (each : List StationTally) (x : OpenExchange) (octets : List ℕ)
+received_other : (p : Setup) (i : ℕ) (each : List StationTally) (x : OpenExchange) (octets : List ℕ)
     → (x.station ≡ i → ⊥)
-    → tally_at (each_heard p (awaited_in (Some x)) octets each) i ≡ tally_at each i
-heard_other p i each x octets apart = go (x.closed || x.given_up) x.octets
+    → tally_at (each_received p (awaited_in (Some x)) octets each) i ≡ tally_at each i
+received_other p i each x octets apart = go (x.closed || x.given_up) x.octets
   where
     go : (over : Bool) (xs : List ℕ)
-        → tally_at (each_heard p (if over then None else awaited_with xs x) octets each) i
+        → tally_at (each_received p (if over then None else awaited_with xs x) octets each) i
         ≡ tally_at each i
     go true xs = refl
     go false (y ∷ ys) = refl
@@ -171,27 +172,28 @@ heard_other p i each x octets apart = go (x.closed || x.given_up) x.octets
         (whole_of (front_of p.link.size octets))) (tally_at each x.station)) fresh_tally
         (λ e. apart (sym e))
 
-pub tally_heard : (laws : Laws) (p : Setup) (i given : ℕ) (each : List StationTally)
+pub tally_received : (laws : Laws) (p : Setup) (i given : ℕ) (each : List StationTally)
     (c : Option OpenExchange)
     (octets : List ℕ) (here : List Turn) (t : StationTally) → i < length each
     → IsLatest p.link.size i c here (Some octets) →
     tally_at each i ≡ tally_latest p i given c t
-    → tally_at (each_heard p (awaited_in c) octets each) i
-    ≡ tally_latest p i given (heard_current octets c) t
-tally_heard laws p i given each None octets here t lt latest is = is
-tally_heard laws p i given each (Some x) octets here t lt latest is =
+    → tally_at (each_received p (awaited_in c) octets each) i
+    ≡ tally_latest p i given (received_current octets c) t
+tally_received laws p i given each None octets here t lt latest is = is
+tally_received laws p i given each (Some x) octets here t lt latest is =
     go (x.station == i) refl latest is
   where
     go : (b : Bool) → (x.station == i) ≡ b → IsLatestOf p.link.size b x here (Some octets)
         → tally_at each i
         ≡ (if b then tally_step (address_at p.addresses i) (view (front_of p.link.size) x).exchange
         given t else t) →
-        tally_at (each_heard p (awaited_in (Some x)) octets each) i
+        tally_at (each_received p (awaited_in (Some x)) octets each) i
         ≡ (if b then tally_step (address_at p.addresses i)
-        (view (front_of p.link.size) (heard_octets octets x)).exchange given t else t)
-    go true same k e = heard_this laws p i given each x octets k.0 t lt (eqb-true x.station i same)
+        (view (front_of p.link.size) (received_octets octets x)).exchange given t else t)
+    go true same k e = received_this laws p i given each x octets k.0 t lt
+        (eqb-true x.station i same)
         k.3 e
-    go false apart k e = heard_other p i each x octets (eqb-false x.station i apart) ∙ e
+    go false apart k e = received_other p i each x octets (eqb-false x.station i apart) ∙ e
 
 -- Requests
 
@@ -278,10 +280,11 @@ asked_this laws p i now r stations each d t lt within is =
 
 -- There is a tally for each station.
 
-length_heard : (p : Setup) (a : Option LatestRequest) (octets : List ℕ) (each : List StationTally)
-    → length (each_heard p a octets each) ≡ length each
-length_heard p None octets each = refl
-length_heard p (Some a) octets each =
+length_received : (p : Setup) (a : Option LatestRequest) (octets : List ℕ)
+    (each : List StationTally)
+    → length (each_received p a octets each) ≡ length each
+length_received p None octets each = refl
+length_received p (Some a) octets each =
     length-set each a.station
     (tally_after a.request (option_and_then (answer_of (address_at p.addresses a.station) a.request)
     (whole_of (front_of p.link.size octets))) (tally_at each a.station))
@@ -299,7 +302,7 @@ pub length_tallies : (plan : Plan) (log : Log) (answers : List (Option Frame))
     ≡ length plan.stations
 length_tallies plan [] answers stations lived = length-replicate (length plan.stations) fresh_tally
 length_tallies plan (Came now (LineIn octets) ∷ log) answers stations lived =
-    length_heard plan.setup (awaited_in (exchanges_of plan.setup log).current) octets
+    length_received plan.setup (awaited_in (exchanges_of plan.setup log).current) octets
     (tallies_of plan log answers stations lived) ∙ length_tallies plan log answers stations lived
 length_tallies plan (Came now Opened ∷ log) answers stations lived =
     length_tallies plan log answers stations lived

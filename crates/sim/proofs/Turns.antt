@@ -10,12 +10,12 @@ use Rattle.link.specs.declared.service.Asked.TheVariants.{Status, Reset, Counted
 use Rattle.link.specs.declared.request.Reading.{Reading}
 use Rattle.link.specs.declared.request.Reading.TheVariants.{Asks}
 use Rattle.link.specs.Delivery.{reports, commands, given_by, accepted_by}
-use Rattle.link.specs.Life.{Call, Hear, request_asked, turn_asked, given1_at, given2_at, given1}
+use Rattle.link.specs.Life.{Call, Receive, request_asked, turn_asked, given1_at, given2_at, given1}
 use Rattle.link.specs.Life.{given2, saturated}
-use Rattle.link.specs.Outstation.{Effect, Turn, silent, OutstationStep, OutstationRun, unheard}
+use Rattle.link.specs.Outstation.{Effect, Turn, silent, OutstationStep, OutstationRun, unreceived}
 use Rattle.link.specs.Outstation.{all_done}
 use Rattle.link.specs.Requests.{reading_of}
-use Rattle.link.specs.Secondary.{Secondary, outstation_of, heard_reading, served}
+use Rattle.link.specs.Secondary.{Secondary, outstation_of, received_reading, served}
 use Rattle.sim.specs.Outstations.{TakesTurn, TakesTurns}
 use Rattle.sim.proofs.Below.{Laws}
 
@@ -34,7 +34,7 @@ pub record Did (s : Secondary) (request : Asked) (turn : Turn) (t : Secondary) :
 
 did_nothing : (s : Secondary) (request : Asked) → s.given < 2 ^ 64 → Did s request silent s
 did_nothing s Status lt = record {
-  step = unheard refl refl;
+  step = unreceived refl refl;
   address = refl;
   class1 = refl;
   class2 = refl;
@@ -43,7 +43,7 @@ did_nothing s Status lt = record {
   given = omega arith;
 }
 did_nothing s Reset lt = record {
-  step = unheard refl refl;
+  step = unreceived refl refl;
   address = refl;
   class1 = refl;
   class2 = refl;
@@ -52,7 +52,7 @@ did_nothing s Reset lt = record {
   given = omega arith;
 }
 did_nothing s (Counted fcb Class1) lt = record {
-  step = unheard refl refl;
+  step = unreceived refl refl;
   address = refl;
   class1 = refl;
   class2 =
@@ -61,7 +61,7 @@ did_nothing s (Counted fcb Class1) lt = record {
   given = omega arith;
 }
 did_nothing s (Counted fcb Class2) lt = record {
-  step = unheard refl refl;
+  step = unreceived refl refl;
   address = refl;
   class1 = refl;
   class2 =
@@ -70,7 +70,7 @@ did_nothing s (Counted fcb Class2) lt = record {
   given = omega arith;
 }
 did_nothing s (Counted fcb (Command asdu)) lt = record {
-  step = unheard refl refl;
+  step = unreceived refl refl;
   address = refl;
   class1 =
       refl;
@@ -84,33 +84,33 @@ did_served : (laws : Laws) (s : Secondary) (request : Asked) (granted : Bool)
     → s.given < 2 ^ 64 →
     Did s request (served granted s request).turn (served granted s request).state
 did_served laws s request granted readable lt =
-    let calls : List Call = Hear granted (Some readable.0) ∷ [] in
+    let calls : List Call = Receive granted (Some readable.0) ∷ [] in
     let turn : Turn = (served granted s request).turn in
     let t : Secondary = (served granted s request).state in
     let run : OutstationRun s.address (outstation_of s) (request ∷ []) (turn ∷ [])
     (outstation_of t) =
     subst (λ (m : Reading). OutstationRun s.address (outstation_of s) (request_asked m ++ [])
     (turn_asked granted s m
-    ++ []) (outstation_of (heard_reading granted s m).state)) readable.1 (laws.run s calls) in
+    ++ []) (outstation_of (received_reading granted s m).state)) readable.1 (laws.run s calls) in
     let first : given1 (request ∷ []) (turn ∷ []) ++ t.class1 ≡ s.class1 ++ [] =
     subst (λ (m : Reading). given1 (request_asked m ++ []) (turn_asked granted s m ++ [])
-    ++ (heard_reading granted s m).state.class1 ≡ s.class1 ++ []) readable.1
+    ++ (received_reading granted s m).state.class1 ≡ s.class1 ++ []) readable.1
     (laws.class1 s calls lt) in
     let second : given2 (request ∷ []) (turn ∷ []) ++ t.class2 ≡ s.class2 ++ [] =
     subst (λ (m : Reading). given2 (request_asked m ++ []) (turn_asked granted s m ++ [])
-    ++ (heard_reading granted s m).state.class2 ≡ s.class2 ++ []) readable.1
+    ++ (received_reading granted s m).state.class2 ≡ s.class2 ++ []) readable.1
     (laws.class2 s calls lt) in
     let accepts : s.accepted ++ commands (turn.done ++ []) ≡ t.accepted =
     subst (λ (m : Reading). s.accepted ++ commands (all_done (turn_asked granted s m ++ []))
-    ≡ (heard_reading granted s m).state.accepted) readable.1 (laws.accepted s calls lt) in
+    ≡ (received_reading granted s m).state.accepted) readable.1 (laws.accepted s calls lt) in
     let gives : t.given ≡ saturated (s.given + length (reports (turn.done ++ []))) =
-    subst (λ (m : Reading). (heard_reading granted s m).state.given
+    subst (λ (m : Reading). (received_reading granted s m).state.given
     ≡ saturated (s.given + length (reports (all_done (turn_asked granted s m ++ []))))) readable.1
     (laws.given s calls lt) in
     record {
       step = subst (λ o. OutstationStep s.address (outstation_of s) request turn o) (sym run.2)
           run.1;
-      address = subst (λ (m : Reading). (heard_reading granted s m).state.address ≡ s.address)
+      address = subst (λ (m : Reading). (received_reading granted s m).state.address ≡ s.address)
           readable.1
           (laws.address s calls);
       class1 = ap (λ (l : List (List ℕ)). l ++ t.class1) (sym (append-nil (given1_at request turn)))
@@ -125,9 +125,9 @@ did_served laws s request granted readable lt =
           (append-nil turn.done);
     }
 
-pub did : (laws : Laws) (heard : Bool) (s : Secondary) (request : Asked) (turn : Turn)
+pub did : (laws : Laws) (arrived : Bool) (s : Secondary) (request : Asked) (turn : Turn)
     (t : Secondary)
-    → IsReadable s.address request → s.given < 2 ^ 64 → TakesTurn heard s request turn t
+    → IsReadable s.address request → s.given < 2 ^ 64 → TakesTurn arrived s request turn t
     → Did s request turn t
 did laws false s request turn t readable lt h =
     subst (λ (u : Secondary). Did s request turn u) (sym h.1)
@@ -225,16 +225,17 @@ did_all laws s t (r ∷ rs) (turn ∷ turns) lt readable h =
     one.given) onward h.2)
 
 -- one more request
-pub takes_more : (s mid t : Secondary) (rs : List (Bool × Asked)) (turns : List Turn) (heard : Bool)
+pub takes_more : (s mid t : Secondary) (rs : List (Bool × Asked)) (turns : List Turn)
+    (arrived : Bool)
     (request : Asked)
-    (turn : Turn) → TakesTurns s rs turns mid → TakesTurn heard mid request turn t →
-    TakesTurns s (rs ++ (heard, request) ∷ []) (turns ++ turn ∷ []) t
-takes_more s mid t [] [] heard request turn h one = (
+    (turn : Turn) → TakesTurns s rs turns mid → TakesTurn arrived mid request turn t →
+    TakesTurns s (rs ++ (arrived, request) ∷ []) (turns ++ turn ∷ []) t
+takes_more s mid t [] [] arrived request turn h one = (
   t,
-  subst (λ (u : Secondary). TakesTurn heard u request turn t) h one,
+  subst (λ (u : Secondary). TakesTurn arrived u request turn t) h one,
   refl,
 )
-takes_more s mid t [] (v ∷ turns) heard request turn h one = absurd h
-takes_more s mid t (r ∷ rs) [] heard request turn h one = absurd h
-takes_more s mid t (r ∷ rs) (v ∷ turns) heard request turn h one =
-    (h.0, h.1, takes_more h.0 mid t rs turns heard request turn h.2 one)
+takes_more s mid t [] (v ∷ turns) arrived request turn h one = absurd h
+takes_more s mid t (r ∷ rs) [] arrived request turn h one = absurd h
+takes_more s mid t (r ∷ rs) (v ∷ turns) arrived request turn h one =
+    (h.0, h.1, takes_more h.0 mid t rs turns arrived request turn h.2 one)

@@ -8,13 +8,14 @@ use Rattle.link.specs.Secondary.{Secondary}
 use Rattle.sim.specs.declared.directive.Directive.{Directive}
 use Rattle.sim.specs.declared.directive.Directive.TheVariants.{LoseRequest, LoseAnswer, SpoilAnswer}
 use Rattle.sim.specs.declared.directive.RequestFate.{RequestFate}
-use Rattle.sim.specs.declared.directive.RequestFate.TheVariants.{Unheard, AnswerLost, AnswerSpoilt}
+use Rattle.sim.specs.declared.directive.RequestFate.TheVariants.{RequestLost, AnswerLost}
+use Rattle.sim.specs.declared.directive.RequestFate.TheVariants.{AnswerSpoilt}
 use Rattle.sim.specs.declared.directive.RequestFate.TheVariants.{Answered}
-use Rattle.sim.specs.Lives.{Plan, HeardByAll}
+use Rattle.sim.specs.Lives.{Plan, ReceivedByAll}
 
 -- The script has no line that loses the request with this number, and none that loses its answer.
-abbrev pub IsHeardBy : List Directive → (request : ℕ) → Type 0
-IsHeardBy ds request = Contains ds (LoseRequest request) → ⊥
+abbrev pub IsReceivedBy : List Directive → (request : ℕ) → Type 0
+IsReceivedBy ds request = Contains ds (LoseRequest request) → ⊥
 
 abbrev pub IsNotLostBy : List Directive → (request : ℕ) → Type 0
 IsNotLostBy ds request = Contains ds (LoseAnswer request) → ⊥
@@ -23,17 +24,17 @@ IsNotLostBy ds request = Contains ds (LoseAnswer request) → ⊥
 -- line `lose answer` has it, or else spoilt where a line `spoil answer` has it. Where no line has
 -- it, its answer comes.
 abbrev pub IsFate : List Directive → (request : ℕ) → RequestFate → Type 0
-IsFate ds request Unheard = Contains ds (LoseRequest request)
-IsFate ds request AnswerLost = IsHeardBy ds request × Contains ds (LoseAnswer request)
+IsFate ds request RequestLost = Contains ds (LoseRequest request)
+IsFate ds request AnswerLost = IsReceivedBy ds request × Contains ds (LoseAnswer request)
 IsFate ds request (AnswerSpoilt place) =
-    IsHeardBy ds request × IsNotLostBy ds request × Contains ds (SpoilAnswer request place)
+    IsReceivedBy ds request × IsNotLostBy ds request × Contains ds (SpoilAnswer request place)
 IsFate ds request Answered =
-    IsHeardBy ds request × IsNotLostBy ds request
+    IsReceivedBy ds request × IsNotLostBy ds request
     × ((place : ℕ) → Contains ds (SpoilAnswer request place) → ⊥)
 
 -- what waits for the gateway of an answer with these octets
 abbrev pub WaitsBy : RequestFate → List ℕ → Option (List ℕ) → Type 0
-WaitsBy Unheard octets waiting = waiting ≡ None
+WaitsBy RequestLost octets waiting = waiting ≡ None
 WaitsBy AnswerLost octets waiting = waiting ≡ None
 WaitsBy (AnswerSpoilt place) octets waiting =
     waiting ≡ Some (spoilt (place % length octets) octets)
@@ -46,8 +47,8 @@ pub record IsByItsLines (plan : Plan) (request : ℕ) (octets : List ℕ) (befor
     (answer : Option Frame) (after : List Secondary) (waiting : Option (List ℕ)) : Type 0 where
   pub fate : RequestFate
   pub said : IsFate plan.directives request fate
-  pub unheard : fate ≡ Unheard → (answer ≡ None) × (after ≡ before)
-  pub heard : fate ≢ Unheard → HeardByAll octets before answer after
+  pub unreceived : fate ≡ RequestLost → (answer ≡ None) × (after ≡ before)
+  pub arrived : fate ≢ RequestLost → ReceivedByAll octets before answer after
   pub none : answer ≡ None → waiting ≡ None
   pub comes : (frame : Frame) → answer ≡ Some frame →
       WaitsBy fate (spelling plan.size frame) waiting

@@ -6,7 +6,7 @@ use Rattle.ft12.specs.declared.frame.LinkSize.{LinkSize}
 use Rattle.ft12.specs.declared.frame.Frame.{Frame}
 use Rattle.ft12.specs.Spelling.{spelling}
 use Rattle.ft12.specs.Spoiling.{spoilt}
-use Rattle.link.specs.Secondary.{Secondary, fresh_station, HearsOctets}
+use Rattle.link.specs.Secondary.{Secondary, fresh_station, ReceivesOctets}
 use Rattle.gateway.specs.declared.settings.Station.{Station}
 use Rattle.gateway.specs.Config.{Settings}
 use Rattle.gateway.specs.Reports.{Setup}
@@ -15,7 +15,8 @@ use Rattle.gateway.specs.Log.{Log, Came, Went, LineIn, LineOut}
 use Rattle.sim.specs.declared.directive.Class.TheVariants.{One, Two}
 use Rattle.sim.specs.declared.directive.Directive.{Directive}
 use Rattle.sim.specs.declared.directive.RequestFate.{RequestFate}
-use Rattle.sim.specs.declared.directive.RequestFate.TheVariants.{Unheard, AnswerLost, AnswerSpoilt}
+use Rattle.sim.specs.declared.directive.RequestFate.TheVariants.{RequestLost, AnswerLost}
+use Rattle.sim.specs.declared.directive.RequestFate.TheVariants.{AnswerSpoilt}
 use Rattle.sim.specs.declared.directive.RequestFate.TheVariants.{Answered}
 use Rattle.sim.specs.Losses.{fate_of, report_said}
 
@@ -55,17 +56,17 @@ later a (Some frame) = Some frame
 
 -- Each station hears the octets. What comes is what the last one that answers says (only the one
 -- that is asked answers).
-abbrev pub HeardByAll : List ℕ → List Secondary → Option Frame → List Secondary → Type 0
-HeardByAll octets [] answer [] = answer ≡ None
-HeardByAll octets (s ∷ ss) answer (t ∷ ts) =
-    (first : Option Frame) × (others : Option Frame) × HearsOctets s octets first t
-    × HeardByAll octets ss others ts × (answer ≡ later first others)
-HeardByAll octets ss answer ts = ⊥
+abbrev pub ReceivedByAll : List ℕ → List Secondary → Option Frame → List Secondary → Type 0
+ReceivedByAll octets [] answer [] = answer ≡ None
+ReceivedByAll octets (s ∷ ss) answer (t ∷ ts) =
+    (first : Option Frame) × (others : Option Frame) × ReceivesOctets s octets first t
+    × ReceivedByAll octets ss others ts × (answer ≡ later first others)
+ReceivedByAll octets ss answer ts = ⊥
 
 -- a request that is lost is heard by none, any other by all
 abbrev pub IsPutOut : RequestFate → List ℕ → List Secondary → Option Frame → List Secondary → Type 0
-IsPutOut Unheard octets before answer stations = (answer ≡ None) × (stations ≡ before)
-IsPutOut fate octets before answer stations = HeardByAll octets before answer stations
+IsPutOut RequestLost octets before answer stations = (answer ≡ None) × (stations ≡ before)
+IsPutOut fate octets before answer stations = ReceivedByAll octets before answer stations
 
 -- how many requests went out
 abbrev pub requests_in : Log → ℕ
@@ -88,7 +89,7 @@ AreLived plan (entry ∷ log) answers stations = AreLived plan log answers stati
 -- spoilt
 abbrev pub arriving : LinkSize → RequestFate → Option Frame → Option (List ℕ)
 arriving size fate None = None
-arriving size Unheard (Some frame) = None
+arriving size RequestLost (Some frame) = None
 arriving size AnswerLost (Some frame) = None
 arriving size (AnswerSpoilt place) (Some frame) =
     Some (spoilt (place % length (spelling size frame)) (spelling size frame))

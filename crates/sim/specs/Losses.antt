@@ -9,7 +9,8 @@ use Rattle.sim.specs.declared.directive.Directive.TheVariants.{Turns, Ack, Wall,
 use Rattle.sim.specs.declared.directive.Directive.TheVariants.{LoseRequest, LoseAnswer, SpoilAnswer}
 use Rattle.sim.specs.declared.directive.Directive.TheVariants.{Cut, Send}
 use Rattle.sim.specs.declared.directive.RequestFate.{RequestFate}
-use Rattle.sim.specs.declared.directive.RequestFate.TheVariants.{Unheard, AnswerLost, AnswerSpoilt}
+use Rattle.sim.specs.declared.directive.RequestFate.TheVariants.{RequestLost, AnswerLost}
+use Rattle.sim.specs.declared.directive.RequestFate.TheVariants.{AnswerSpoilt}
 use Rattle.sim.specs.declared.directive.RequestFate.TheVariants.{Answered}
 
 -- the first of the lines that says something, by what each says
@@ -87,7 +88,7 @@ spoilt_fate (Some place) = AnswerSpoilt place
 -- spoilt
 abbrev pub fate_of : List Directive → (request : ℕ) → RequestFate
 fate_of ds request =
-    if list_any (loses_request request) ds then Unheard
+    if list_any (loses_request request) ds then RequestLost
     else if list_any (loses_answer request) ds then AnswerLost
     else spoilt_fate (first_said (spoil_said request) ds)
 

@@ -23,7 +23,7 @@ pub record IsNumbered (ds : List Directive) (ts ks ws : Option ℕ) (us ls cs : 
   pub turns : ts ≡ first_said turns_said ds
   pub ack : ks ≡ first_said ack_said ds
   pub wall : ws ≡ wall_of ds
-  pub unheard : (request : ℕ) → contains nat_cmp us request ≡ list_any (loses_request request) ds
+  pub unreceived : (request : ℕ) → contains nat_cmp us request ≡ list_any (loses_request request) ds
   pub lost : (request : ℕ) → contains nat_cmp ls request ≡ list_any (loses_answer request) ds
   pub cut : (call : ℕ) → contains nat_cmp cs call ≡ is_cut_at ds call
   pub spoilt : (request : ℕ) → get nat_cmp ps request ≡ first_said (spoil_said request) ds

@@ -20,35 +20,36 @@ use Rattle.sim.specs.declared.tally.StationTally.{StationTally}
 use Rattle.sim.specs.declared.directive.Class.TheVariants.{One, Two}
 use Rattle.sim.specs.declared.directive.Directive.{Directive}
 use Rattle.sim.specs.declared.directive.RequestFate.{RequestFate}
-use Rattle.sim.specs.declared.directive.RequestFate.TheVariants.{Unheard, AnswerLost, AnswerSpoilt}
+use Rattle.sim.specs.declared.directive.RequestFate.TheVariants.{RequestLost, AnswerLost}
+use Rattle.sim.specs.declared.directive.RequestFate.TheVariants.{AnswerSpoilt}
 use Rattle.sim.specs.declared.directive.RequestFate.TheVariants.{Answered}
 use Rattle.sim.specs.Losses.{fate_of, report_said}
 use Rattle.sim.specs.Lives.{requests_in}
 use Rattle.sim.specs.Texts.{reports_for}
 
 -- a request is heard unless it is lost
-abbrev pub is_heard : RequestFate → Bool
-is_heard Unheard = false
-is_heard AnswerLost = true
-is_heard (AnswerSpoilt place) = true
-is_heard Answered = true
+abbrev pub is_received : RequestFate → Bool
+is_received RequestLost = false
+is_received AnswerLost = true
+is_received (AnswerSpoilt place) = true
+is_received Answered = true
 
 -- a request, where it is one to the station with this index, and whether it is heard
-abbrev pub request_to : (index : ℕ) → (heard : Bool) → Option Sending → List (Bool × Asked)
-request_to index heard None = []
-request_to index heard (Some s) = if s.station == index then (heard, s.request) ∷ [] else []
+abbrev pub request_to : (index : ℕ) → (arrived : Bool) → Option Sending → List (Bool × Asked)
+request_to index arrived None = []
+request_to index arrived (Some s) = if s.station == index then (arrived, s.request) ∷ [] else []
 
 -- the requests of a log to the station with this index, the oldest first, and whether it heard each
 abbrev pub requests_to : Setup → List Directive → (index : ℕ) → Log → List (Bool × Asked)
 requests_to p ds index [] = []
 requests_to p ds index (Went now (LineOut octets) ∷ log) =
     requests_to p ds index log
-    ++ request_to index (is_heard (fate_of ds (requests_in log + 1))) (sending_in p octets)
+    ++ request_to index (is_received (fate_of ds (requests_in log + 1))) (sending_in p octets)
 requests_to p ds index (entry ∷ log) = requests_to p ds index log
 
 -- At a request that it doesn't hear a station does nothing. At any other it does what `link`'s
 -- station does, where it had memory or not.
-abbrev pub TakesTurn : (heard : Bool) → (old : Secondary) → Asked → Turn → (new : Secondary)
+abbrev pub TakesTurn : (arrived : Bool) → (old : Secondary) → Asked → Turn → (new : Secondary)
     → Type 0
 TakesTurn false old request turn new = (turn ≡ silent) × (new ≡ old)
 TakesTurn true old request turn new =

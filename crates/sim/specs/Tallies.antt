@@ -98,16 +98,16 @@ answer_in p a octets =
     option_and_then (answer_of (address_at p.addresses a.station) a.request)
     (whole_of (front_of p.link.size octets))
 
-abbrev pub each_heard : Setup → Option LatestRequest → List ℕ → List StationTally
+abbrev pub each_received : Setup → Option LatestRequest → List ℕ → List StationTally
     → List StationTally
-each_heard p None octets each = each
-each_heard p (Some a) octets each =
+each_received p None octets each = each
+each_received p (Some a) octets each =
     slice_set each a.station
     (tally_after a.request (answer_in p a octets) (tally_at each a.station))
 
-abbrev pub awaited_heard : List ℕ → Option LatestRequest → Option LatestRequest
-awaited_heard [] awaited = awaited
-awaited_heard (octet ∷ octets) awaited = None
+abbrev pub awaited_received : List ℕ → Option LatestRequest → Option LatestRequest
+awaited_received [] awaited = awaited
+awaited_received (octet ∷ octets) awaited = None
 
 -- A moment comes: the time to answer may be over.
 abbrev pub awaited_timed : (answer_ms now : ℕ) → Option LatestRequest → Option LatestRequest
@@ -115,17 +115,17 @@ awaited_timed answer_ms now None = None
 awaited_timed answer_ms now (Some a) = if nat_le (a.since + answer_ms) now then None else Some a
 
 -- what octets of the line, and then any event, make of them
-abbrev pub tallied_heard : Setup → List ℕ → Tallied → Tallied
-tallied_heard p octets t = record {
-  awaited = awaited_heard octets t.awaited;
-  each = each_heard p t.awaited octets t.each;
+abbrev pub tallied_received : Setup → List ℕ → Tallied → Tallied
+tallied_received p octets t = record {
+  awaited = awaited_received octets t.awaited;
+  each = each_received p t.awaited octets t.each;
 }
 
 abbrev pub tallied_timed : Setup → (now : ℕ) → Tallied → Tallied
 tallied_timed p now t = record t { awaited = awaited_timed p.link.answer_ms now t.awaited }
 
 abbrev pub tallied_at : Setup → (now : ℕ) → Input → Tallied → Tallied
-tallied_at p now (LineIn octets) t = tallied_timed p now (tallied_heard p octets t)
+tallied_at p now (LineIn octets) t = tallied_timed p now (tallied_received p octets t)
 tallied_at p now event t = tallied_timed p now t
 
 abbrev pub tallied_after : Setup → LogEntry → Tallied → Tallied
@@ -157,7 +157,7 @@ abbrev pub tallies_of : (plan : Plan) (log : Log) (answers : List (Option Frame)
     (stations : List Secondary) → AreLived plan log answers stations → List StationTally
 tallies_of plan [] answers stations lived = replicate (length plan.stations) fresh_tally
 tallies_of plan (Came now (LineIn octets) ∷ log) answers stations lived =
-    each_heard plan.setup (awaited_in (exchanges_of plan.setup log).current) octets
+    each_received plan.setup (awaited_in (exchanges_of plan.setup log).current) octets
     (tallies_of plan log answers stations lived)
 tallies_of plan (Came now event ∷ log) answers stations lived =
     tallies_of plan log answers stations lived

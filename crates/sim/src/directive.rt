@@ -19,7 +19,7 @@ pub enum Class {
 #[derive(Clone, Copy, Debug, PartialEq, Eq)]
 pub enum RequestFate {
     /// No station hears it.
-    Unheard,
+    RequestLost,
     /// It is heard, and its answer is lost.
     AnswerLost,
     /// In its answer the octet at this place, modulo its length, is changed in all eight bits.

@@ -12,7 +12,7 @@ ghost use Rattle.sim.specs.declared.directive.Class.TheVariants as class;
 ghost use Rattle.sim.specs.declared.directive.Directive.TheVariants.{Turns, Ack, Wall, Report};
 ghost use Rattle.sim.specs.declared.directive.Directive.TheVariants.{LoseRequest, LoseAnswer};
 ghost use Rattle.sim.specs.declared.directive.Directive.TheVariants.{SpoilAnswer, Cut, Send};
-ghost use Rattle.sim.specs.declared.directive.RequestFate.TheVariants.{Unheard, AnswerLost};
+ghost use Rattle.sim.specs.declared.directive.RequestFate.TheVariants.{RequestLost, AnswerLost};
 ghost use Rattle.sim.specs.declared.directive.RequestFate.TheVariants.{AnswerSpoilt};
 ghost use Rattle.sim.specs.declared.directive.RequestFate.TheVariants.{Answered};
 ghost use Rattle.sim.specs.Calls.{calls_in, moment_of, event_at, lasting, next_moment};
@@ -94,7 +94,7 @@ pub fn scripts_by_example()
 /// What a script has become of a request, of an answer and of a call, and what it says where it has
 /// no such line.
 pub fn losses_by_example()
-    ensures fates { (fate_of (SpoilAnswer 1 4 ∷ LoseAnswer 1 ∷ LoseRequest 1 ∷ []) 1 ≡ Unheard)
+    ensures fates { (fate_of (SpoilAnswer 1 4 ∷ LoseAnswer 1 ∷ LoseRequest 1 ∷ []) 1 ≡ RequestLost)
         × (fate_of (SpoilAnswer 1 4 ∷ LoseAnswer 1 ∷ []) 1 ≡ AnswerLost)
         × (fate_of (SpoilAnswer 1 4 ∷ []) 1 ≡ AnswerSpoilt 4)
         × (fate_of (SpoilAnswer 2 4 ∷ LoseAnswer 2 ∷ LoseRequest 2 ∷ []) 1 ≡ Answered) }
@@ -107,7 +107,7 @@ pub fn losses_by_example()
         × (arriving One (AnswerSpoilt 8) (Some (Fixed 0x0B 1))
         ≡ Some (0x10 ∷ 0x0B ∷ 0x01 ∷ 0xF3 ∷ 0x16 ∷ []))
         × (arriving One AnswerLost (Some Single) ≡ None)
-        × (arriving One Unheard (Some Single) ≡ None) × (arriving One Answered None ≡ None)
+        × (arriving One RequestLost (Some Single) ≡ None) × (arriving One Answered None ≡ None)
         × (later (Some Single) None ≡ Some Single)
         × (later None (Some Single) ≡ Some Single) }
     ensures numbers { (turns_of (Ack 5 ∷ Turns 9 ∷ []) ≡ 9) × (turns_of [] ≡ 0)
@@ -139,12 +139,12 @@ pub fn losses_by_example()
 /// link is confirmed, here by `E5`): a request that isn't lost is heard by all and answered by the
 /// one whose address it has, whatever becomes of that answer. Octets that are no frame are heard by
 /// none.
-pub fn hearings_by_example()
-    ensures heard { Leaves Answered reset_of_1 (Some Single) (was_reset 1 ∷ unreset 2 ∷ [])
+pub fn receptions_by_example()
+    ensures arrived { Leaves Answered reset_of_1 (Some Single) (was_reset 1 ∷ unreset 2 ∷ [])
         × Leaves Answered reset_of_2 (Some Single) (unreset 1 ∷ was_reset 2 ∷ [])
         × Leaves AnswerLost reset_of_1 (Some Single) (was_reset 1 ∷ unreset 2 ∷ [])
         × Leaves (AnswerSpoilt 1) reset_of_2 (Some Single) (unreset 1 ∷ was_reset 2 ∷ []) }
-    ensures unheard { Leaves Unheard reset_of_1 None two_stations
+    ensures unreceived { Leaves RequestLost reset_of_1 None two_stations
         × Leaves Answered spoilt_reset None two_stations }
     ensures lived { (plan : Plan) (answers : List (Option Frame)) (stations : List Secondary) →
         AreLived (with_two_stations plan (LoseRequest 2 ∷ []))

@@ -33,7 +33,7 @@
 //!
 //! Worked examples have literal texts and octets: of scripts ([`scripts_by_example`]), of what they
 //! do to requests and answers ([`losses_by_example`]), of what stations hear
-//! ([`hearings_by_example`]), of calls ([`calls_by_example`]) and of closing lines
+//! ([`receptions_by_example`]), of calls ([`calls_by_example`]) and of closing lines
 //! ([`closing_lines_by_example`]).
 //!
 //! Not proved: that a report is ever asked for, or that a port whose device fails wanted memory (it
@@ -48,12 +48,12 @@ mod due;
 mod ending;
 mod examples;
 mod fault;
-mod hearing;
 mod laws;
 mod line;
 mod numbered;
 mod paged;
 mod reading;
+mod receiving;
 mod script;
 mod sim;
 mod simulating;
@@ -64,17 +64,17 @@ mod text;
 pub use beginning::begin;
 pub use directive::{Class, Directive, RequestFate};
 pub use examples::{
-    calls_by_example, closing_lines_by_example, hearings_by_example, losses_by_example,
+    calls_by_example, closing_lines_by_example, losses_by_example, receptions_by_example,
     scripts_by_example,
 };
 pub use fault::SimFault;
-pub use hearing::{arriving, put_out};
 pub use laws::{
     connections_are_counted, each_line_is_about_its_number, each_request_fares_by_its_lines,
     stations_are_honest,
 };
 pub use line::read_line;
 pub use reading::read_script;
+pub use receiving::{arriving, put_out};
 pub use script::Script;
 pub use sim::Sim;
 pub use simulating::{simulate, simulate_watched};

@@ -26,7 +26,7 @@ pub struct Numbered {
     turns: Option<u64>,
     ack: Option<u64>,
     wall: Option<u64>,
-    unheard: BTreeSet<u64>,
+    unreceived: BTreeSet<u64>,
     lost: BTreeSet<u64>,
     cut: BTreeSet<u64>,
     spoilt: BTreeMap<u64, u64>,
@@ -43,16 +43,16 @@ impl Model for Numbered {
     ghost view = { λ a. a.directives.items };
 
     ghost invariant = { λ a. IsNumbered a.directives.items a.turns a.ack a.wall
-        a.unheard a.lost a.cut a.spoilt a.sends };
+        a.unreceived a.lost a.cut a.spoilt a.sends };
 }
 
 /// Keeps the number of a request that isn't heard.
-fn note_unheard(unheard: &mut BTreeSet<u64>, directive: &Directive) -> Result<(), AllocError>
-    ensures { OnOk result ((q : ℕ) → contains nat_cmp unheard.new q
-        ≡ (loses_request q directive.now || contains nat_cmp unheard.old q)) }
+fn note_unreceived(unreceived: &mut BTreeSet<u64>, directive: &Directive) -> Result<(), AllocError>
+    ensures { OnOk result ((q : ℕ) → contains nat_cmp unreceived.new q
+        ≡ (loses_request q directive.now || contains nat_cmp unreceived.old q)) }
 {
     if let Directive::LoseRequest(n) = directive {
-        unheard.insert(*n)?;
+        unreceived.insert(*n)?;
     }
     Ok(())
 }
@@ -115,7 +115,7 @@ impl Numbered {
             turns: None,
             ack: None,
             wall: None,
-            unheard: BTreeSet::new(alloc),
+            unreceived: BTreeSet::new(alloc),
             lost: BTreeSet::new(alloc),
             cut: BTreeSet::new(alloc),
             spoilt: BTreeMap::new(alloc),
@@ -133,7 +133,7 @@ impl Numbered {
             turns,
             ack,
             wall,
-            mut unheard,
+            mut unreceived,
             mut lost,
             mut cut,
             mut spoilt,
@@ -142,7 +142,7 @@ impl Numbered {
         let turns = turns.or(directive.turns());
         let ack = ack.or(directive.ack());
         let wall = wall.or(directive.wall());
-        note_unheard(&mut unheard, &directive)?;
+        note_unreceived(&mut unreceived, &directive)?;
         note_lost(&mut lost, &directive)?;
         note_cut(&mut cut, &directive)?;
         note_spoilt(&mut spoilt, &directive)?;
@@ -153,7 +153,7 @@ impl Numbered {
             turns,
             ack,
             wall,
-            unheard,
+            unreceived,
             lost,
             cut,
             spoilt,
@@ -232,8 +232,8 @@ impl Numbered {
         ensures { result ≡ fate_of self.now request }
     {
         // Lost before spoilt (docs/DECISIONS.md, "A request both lost and spoilt").
-        if self.unheard.contains(&request) {
-            RequestFate::Unheard
+        if self.unreceived.contains(&request) {
+            RequestFate::RequestLost
         } else if self.lost.contains(&request) {
             RequestFate::AnswerLost
         } else {

@@ -3,8 +3,8 @@ ghost use Rattle.std.specs.Prelude.{◌≡◌, ℕ, ◌+◌, ◌<◌, ◌≤◌,
 ghost use Rattle.std.specs.Prelude.{◌∷◌, ◌++◌, IfOk, IfSome, OnOk, OnErr, Option, Some, None};
 ghost use Rattle.std.specs.Prelude.{if◌then◌else◌, option_map, nat_le};
 ghost use Rattle.gateway.specs.Log.{Log, LogEntry, Came, Went, LineOut, TcpOut, Closed, GapOut};
-ghost use Rattle.gateway.specs.Log.{Input, tell, last_moment};
-ghost use Rattle.gateway.specs.Ports.{told_by, output_of, FitsBuffer, faults_of};
+ghost use Rattle.gateway.specs.Log.{Input, with_news, last_moment};
+ghost use Rattle.gateway.specs.Ports.{logged_by, output_of, FitsBuffer, faults_of};
 ghost use Rattle.gateway.specs.Entries.{FitsPort, event_of};
 ghost use Rattle.traces.specs.Actions.{lines_of_actions};
 ghost use Rattle.sim.specs.Lives.{Plan, plan_of};
@@ -18,7 +18,7 @@ use crate::centre::Centre;
 use crate::connections::Connections;
 use crate::directive::Directive;
 use crate::due::Due;
-use crate::hearing::{arriving, put_out};
+use crate::receiving::{arriving, put_out};
 use crate::script::Script;
 use crate::tallies::Tallies;
 use crate::tally::StationTally;
@@ -255,8 +255,8 @@ impl<'a> Sim<'a> {
         requires open { self.old.standing.call < turns_of self.old.plan.directives }
         requires few { self.old.standing.call < u64.MAX }
         requires event { event_of entry.now ≡ coming self.old.plan self.old.standing }
-        requires told { told_by next.now buf.now ≡ event_of entry.now ∷ [] }
-        ensures ok { OnOk result (self.new.log ≡ told_by next.now buf.now ++ self.old.log) }
+        requires logged { logged_by next.now buf.now ≡ event_of entry.now ∷ [] }
+        ensures ok { OnOk result (self.new.log ≡ logged_by next.now buf.now ++ self.old.log) }
         ensures err { OnErr result (self.new.log ≡ self.old.log) }
         ensures plan { self.new.plan ≡ self.old.plan }
         ensures poured { self.new.poured ≡ self.old.poured }
@@ -330,7 +330,7 @@ impl<'a> Sim<'a> {
     }
 
     /// A gap is told: nobody on the line or at the control centre hears of it.
-    fn tell(&mut self, now: u64, station: usize, session: u64) -> Result<(), AllocError>
+    fn put_gap(&mut self, now: u64, station: usize, session: u64) -> Result<(), AllocError>
         ensures ok { OnOk result (self.new.log ≡ Went now (GapOut station session) ∷ self.old.log) }
         ensures err { OnErr result (self.new.log ≡ self.old.log) }
         ensures plan { self.new.plan ≡ self.old.plan }
@@ -345,7 +345,7 @@ impl<'a> Sim<'a> {
     fn give(&mut self, buf: &mut [u8; 1024]) -> Result<Next, AllocError>
         requires open { self.old.standing.call < turns_of self.old.plan.directives }
         requires few { self.old.standing.call < u64.MAX }
-        ensures told { IfOk result (λ next. self.new.log ≡ told_by next buf.new ++ self.old.log) }
+        ensures logged { IfOk result (λ next. self.new.log ≡ logged_by next buf.new ++ self.old.log) }
         ensures fits { IfOk result FitsBuffer }
         ensures healthy { IfOk result (λ next. faults_of next ≡ 0) }
         ensures some { IfOk result (λ next. next ≡ Next.Done → ⊥) }
@@ -396,13 +396,13 @@ impl<'a> Port for Sim<'a> {
     }
 
     fn put(&mut self, now: u64, action: &Action<'_>) -> bool {
-        let told = match action {
+        let logged = match action {
             Action::Line(octets) => self.ask(now, octets),
             Action::Tcp(octets) => self.hand(now, octets),
             Action::Close(cause) => self.close(now, *cause),
-            Action::Gap { station, session } => self.tell(now, *station, *session),
+            Action::Gap { station, session } => self.put_gap(now, *station, *session),
         };
-        match told {
+        match logged {
             Ok(()) => true,
             Err(_) => {
                 self.fail();

@@ -5,13 +5,13 @@ ghost use Rattle.gateway.specs.Entries.{event_of};
 ghost use Rattle.gateway.specs.Reports.{address_at, index_of, sending_in};
 ghost use Rattle.gateway.specs.Setups.{setup_of};
 ghost use Rattle.sim.specs.Tallies.{fresh_tally, tally_at, given_at, sending_of, answer_in};
-ghost use Rattle.sim.specs.Tallies.{awaited_timed, tallied_heard, tallied_after, tallied_asked};
+ghost use Rattle.sim.specs.Tallies.{awaited_timed, tallied_received, tallied_after, tallied_asked};
 
 use crate::sim::moment_at;
 use crate::tally::StationTally;
 use ft12::{Frame, Front, FrontRef, LinkSize, front, front_is_computed, front_ref};
 use gateway::{Config, Entry};
-use link::{Answer, HeardRequest, NoMemory, Reading, Station, read_request};
+use link::{Answer, NoMemory, Reading, ReceivedRequest, Station, read_request};
 use std::alloc::Global;
 use std::marker::Model;
 
@@ -21,7 +21,7 @@ pub struct LatestRequest {
     /// The index of its station.
     pub station: usize,
     /// What it asks for.
-    pub request: HeardRequest,
+    pub request: ReceivedRequest,
     /// When it went out, in milliseconds.
     pub since: u64,
 }
@@ -42,7 +42,7 @@ impl Model for Tallies {
 }
 
 /// The address in a request's frame, and what it asks for.
-fn asked_in(frame: &Frame) -> Option<(u16, HeardRequest)>
+fn asked_in(frame: &Frame) -> Option<(u16, ReceivedRequest)>
     ensures { result ≡ asked_in frame.now }
 {
     let address = match frame {
@@ -56,7 +56,7 @@ fn asked_in(frame: &Frame) -> Option<(u16, HeardRequest)>
 }
 
 /// The address and the request of the frame that the octets are.
-fn request_in(size: LinkSize, octets: &[u8]) -> Option<(u16, HeardRequest)>
+fn request_in(size: LinkSize, octets: &[u8]) -> Option<(u16, ReceivedRequest)>
     ensures { result ≡ request_in size octets.now }
 {
     front_is_computed();
@@ -80,7 +80,7 @@ fn index_of(address: u16, stations: &[gateway::Station]) -> Option<usize>
 }
 
 /// The index of the station that octets ask, and what they ask for.
-fn sending_in(config: &Config, octets: &[u8]) -> Option<(usize, HeardRequest)>
+fn sending_in(config: &Config, octets: &[u8]) -> Option<(usize, ReceivedRequest)>
     ensures { option_map sending_of result ≡ sending_in (setup_of config.now) octets.now }
 {
     let (address, request) = request_in(config.line().link, octets)?;
@@ -180,8 +180,8 @@ impl Tallies {
     }
 
     /// Octets come from the line.
-    fn hear(&mut self, config: &Config, octets: &[u8])
-        ensures { self.new ≡ tallied_heard (setup_of config.now) octets.now self.old }
+    fn receive(&mut self, config: &Config, octets: &[u8])
+        ensures { self.new ≡ tallied_received (setup_of config.now) octets.now self.old }
     {
         if let Some(awaited) = &self.awaited {
             if let Some(answer) = answer_in(config, awaited, octets) {
@@ -214,7 +214,7 @@ impl Tallies {
         ensures { self.new ≡ tallied_after (setup_of config.now) (event_of entry.now) self.old }
     {
         if let Entry::Line(_, octets) = entry {
-            self.hear(config, octets);
+            self.receive(config, octets);
         }
         self.wait(config.line().answer_ms, moment_at(entry));
     }

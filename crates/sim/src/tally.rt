@@ -4,7 +4,7 @@ ghost use Rattle.link.specs.Turns.{is_poll};
 ghost use Rattle.sim.specs.Tallies.{fresh_tally, tally_asked, tally_reset, tally_served};
 ghost use Rattle.sim.specs.Tallies.{tally_answered};
 
-use link::{Answer, Asked, HeardRequest, Service};
+use link::{Answer, Asked, ReceivedRequest, Service};
 
 /// What is counted of a station: of its link's sessions, each from one answered reset to the next,
 /// and of its reports. No count goes past `u64::MAX`.
@@ -50,7 +50,7 @@ impl StationTally {
     }
 
     /// A request goes out to the station, which has given so many reports.
-    pub(crate) fn asked(self, request: &HeardRequest, given: u64) -> StationTally
+    pub(crate) fn asked(self, request: &ReceivedRequest, given: u64) -> StationTally
         ensures { result ≡ tally_asked request.now given self }
     {
         self.asked_bare(request.asked(), given)
@@ -113,7 +113,7 @@ impl StationTally {
     }
 
     /// The request that went out last is answered.
-    pub(crate) fn answered(self, request: &HeardRequest, answer: &Answer<'_>) -> StationTally
+    pub(crate) fn answered(self, request: &ReceivedRequest, answer: &Answer<'_>) -> StationTally
         ensures { result ≡ tally_answered request.now answer.now self }
     {
         self.answered_bare(request.asked(), answer)

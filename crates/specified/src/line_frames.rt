@@ -1,6 +1,6 @@
 //! Frames of the line: the crate `ft12` (IEC 60870-5-1, 6.2.4.2).
 use ft12::{
-    Assembler, Frame, FrameRef, Front, FrontRef, Heard, LinkSize, Why, encode, front, front_ref,
+    Assembler, Frame, FrameRef, Front, FrontRef, LinkSize, Received, Why, encode, front, front_ref,
 };
 
 /// A class 2 poll of station 1, with FCB and FCV.
@@ -25,15 +25,18 @@ fn frames_of_the_line(rt: HostRuntime) {
         encode(LinkSize::Two, &status).as_slice() == [0x10, 0x49, 0x02, 0x01, 0x4C, 0x16].as_slice()
     );
     let mut assembler = Assembler::new(LinkSize::One);
-    assert_eq!(rt; assembler.feed(&POLL[..2]), (2, Heard::More));
+    assert_eq!(rt; assembler.feed(&POLL[..2]), (2, Received::More));
     let poll = Frame::Fixed { c: 0x7B, a: 1 };
-    assert_eq!(rt; assembler.feed(&POLL[2..]), (3, Heard::Frame(poll)));
+    assert_eq!(rt; assembler.feed(&POLL[2..]), (3, Received::Frame(poll)));
     assert_eq!(rt;
         assembler.feed(&[0x00, 0x00]),
-        (2, Heard::Never(0, Why::Start))
+        (2, Received::Never(0, Why::Start))
     );
-    assert_eq!(rt; assembler.feed(&POLL), (5, Heard::Deaf));
+    assert_eq!(rt; assembler.feed(&POLL), (5, Received::Deaf));
     assert_eq!(rt; assembler.looked(), 6);
     assembler.clear();
-    assert_eq!(rt; assembler.feed(&[0xE5]), (1, Heard::Frame(Frame::Single)));
+    assert_eq!(rt;
+        assembler.feed(&[0xE5]),
+        (1, Received::Frame(Frame::Single))
+    );
 }

@@ -112,18 +112,24 @@ fn an_outstation(rt: HostRuntime) -> Result<(), NoMemory> {
 /// It gives a report of each class and takes a command.
 fn answers(rt: &impl Abort, station: &mut Station) {
     // A poll before a reset isn't answered. ACD is set while class 1 waits.
-    assert!(rt; station.hear(&POLL).is_none());
-    assert_eq!(rt; station.hear(&STATUS), Some(Frame::Fixed { c: 0x2B, a: 1 }));
-    assert_eq!(rt; station.hear(&RESET), Some(Frame::Fixed { c: 0x20, a: 1 }));
-    assert!(rt; gives(station.hear(&[0x10, 0x7A, 0x01, 0x7B, 0x16]), &[7]));
+    assert!(rt; station.receive(&POLL).is_none());
+    assert_eq!(rt;
+        station.receive(&STATUS),
+        Some(Frame::Fixed { c: 0x2B, a: 1 })
+    );
+    assert_eq!(rt;
+        station.receive(&RESET),
+        Some(Frame::Fixed { c: 0x20, a: 1 })
+    );
+    assert!(rt; gives(station.receive(&[0x10, 0x7A, 0x01, 0x7B, 0x16]), &[7]));
     // The bit changes with each new service; a repeat gets the same answer.
     let class2 = [0x10, 0x5B, 0x01, 0x5C, 0x16];
-    assert!(rt; gives(station.hear(&class2), &[1, 2, 3]));
-    assert!(rt; gives(station.hear(&class2), &[1, 2, 3]));
+    assert!(rt; gives(station.receive(&class2), &[1, 2, 3]));
+    assert!(rt; gives(station.receive(&class2), &[1, 2, 3]));
     let command = [
         0x68, 0x09, 0x09, 0x68, 0x73, 0x01, 0x2D, 0x01, 0x06, 0x01, 0x0A, 0x00, 0x01, 0xB4, 0x16,
     ];
-    assert_eq!(rt; station.hear(&command), Some(Frame::Single));
+    assert_eq!(rt; station.receive(&command), Some(Frame::Single));
     assert!(rt; matches!(station.accepted(), [asdu] if asdu.as_slice() == EXECUTE.as_slice()));
     assert_eq!(rt; station.given(), 2);
 }

@@ -75,9 +75,9 @@ fn a_script_is_simulated(rt: HostRuntime) -> Result<(), Fail> {
     simulate(alloc, &config, &script, &mut out)?;
     assert!(rt; out.as_slice() == SIMULATED);
     // A run of one stride tells nothing.
-    let (mut watched, mut told) = (Vec::new(alloc), Vec::new(alloc));
-    simulate_watched(alloc, &config, &script, &mut watched, &mut told)?;
-    assert!(rt; watched.as_slice() == SIMULATED && told.is_empty());
+    let (mut watched, mut logged) = (Vec::new(alloc), Vec::new(alloc));
+    simulate_watched(alloc, &config, &script, &mut watched, &mut logged)?;
+    assert!(rt; watched.as_slice() == SIMULATED && logged.is_empty());
     // `Write` comes where a write failed, and only there.
     let all = SIMULATED.len() as u64;
     assert!(rt; simulated(alloc, all)? == Ok(()));

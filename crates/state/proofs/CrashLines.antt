@@ -22,9 +22,9 @@ use Rattle.traces.specs.Event.{Event}
 use Rattle.traces.specs.Printed.{IsFirstOf, line_of_entry, lines_of_log}
 use Rattle.traces.specs.Progress.{came}
 use Rattle.traces.specs.Trace.{lines_of}
-use Rattle.traces.proofs.ReadingBack.{event_told}
+use Rattle.traces.proofs.ReadingBack.{event_logged}
 use Rattle.state.specs.Beginnings.{AreLinesRead}
-use Rattle.state.specs.Crashed.{AreLeft, HasLog, IsWritable, TellAll}
+use Rattle.state.specs.Crashed.{AreLeft, HasLog, IsWritable, LogAll}
 use Rattle.state.specs.Replays.{AreRead, before_those, events_in_front, whole_lines, whole_parts}
 use Rattle.state.proofs.EventTexts.{parts_read}
 
@@ -38,7 +38,7 @@ HasNoFeed text = All (λ b. (b == 10) ≡ false) text
 
 -- the first line of a text tells this event, and the others are those of this text
 record IsAhead (event : LogEntry) (whole text : List ℕ) : Type 0 where
-  told : events_in_front (whole_lines whole) ≡ event ∷ events_in_front (whole_lines text)
+  logged : events_in_front (whole_lines whole) ≡ event ∷ events_in_front (whole_lines text)
   count : length (whole_lines whole) ≡ 1 + length (whole_lines text)
 
 ahead : (event : Event) (whole text : List ℕ) → IsFirstOf event whole text
@@ -49,16 +49,16 @@ ahead event whole text first =
     ap whole_parts first.lines ∙ parts_read first.line (lines_of text)
     (omega (arith, length-slice_split (λ (b : ℕ). b == 10) text)) in
     record {
-      told = ap events_in_front cut
-          ∙ ap (λ told. before_those told (events_in_front (whole_lines text))) first.told;
+      logged = ap events_in_front cut
+          ∙ ap (λ logged. before_those logged (events_in_front (whole_lines text))) first.logged;
       count = omega (arith, ap (λ (l : List (List ℕ)). length l) cut);
     }
 
 line_ahead : (event : LogEntry) (text : List ℕ) → IsWritable event
     → IsAhead event (line_of_entry event ++ text) text
-line_ahead event text (told, fits, is) =
+line_ahead event text (logged, fits, is) =
     subst (λ e. IsAhead e (line_of_entry e ++ text) text) (sym is)
-    (ahead told (line_of_entry (came told) ++ text) text (event_told told text fits))
+    (ahead logged (line_of_entry (came logged) ++ text) text (event_logged logged text fits))
 
 -- a text that is cut at a line feed behind this row alone
 no_feed : (row : List ℕ) → slice_split (λ b. b == 10) (row ++ 10 ∷ []) ≡ row ∷ [] ∷ []
@@ -100,11 +100,11 @@ record IsOneLine (line : List ℕ) : Type 0 where
   none : HasNoFeed row
 
 one_line : (event : LogEntry) → IsWritable event → IsOneLine (line_of_entry event)
-one_line event (told, fits, is) =
+one_line event (logged, fits, is) =
     subst (λ e. IsOneLine (line_of_entry e)) (sym is)
-    (by (line_of_entry (came told)) (event_told told [] fits))
+    (by (line_of_entry (came logged)) (event_logged logged [] fits))
   where
-    by : (line : List ℕ) → IsFirstOf told (line ++ []) [] → IsOneLine line
+    by : (line : List ℕ) → IsFirstOf logged (line ++ []) [] → IsOneLine line
     by line first =
         let cut : slice_split (λ b. b == 10) line ≡ first.line ∷ [] ∷ [] =
         ap lines_of (sym (append-nil line)) ∙ first.lines in
@@ -125,12 +125,12 @@ front_none row n le none k d less =
 -- The lines of a log
 
 record AreAhead (log : Log) (whole text : List ℕ) : Type 0 where
-  told : events_in_front (whole_lines whole) ≡ reverse log ++ events_in_front (whole_lines text)
+  logged : events_in_front (whole_lines whole) ≡ reverse log ++ events_in_front (whole_lines text)
   count : length (whole_lines whole) ≡ length log + length (whole_lines text)
 
 all_ahead : (log : Log) (text : List ℕ) → AllByRecursion IsWritable log
     → AreAhead log (lines_of_log log ++ text) text
-all_ahead [] text all = record { told = refl; count = omega arith }
+all_ahead [] text all = record { logged = refl; count = omega arith }
 all_ahead (event ∷ log) text all =
     let first = line_ahead event text all.0 in
     let others = all_ahead log (line_of_entry event ++ text) all.1 in
@@ -140,26 +140,26 @@ all_ahead (event ∷ log) text all =
     ∙ append_assoc (reverse log) (event ∷ []) (events_in_front (whole_lines text)) in
     subst (λ whole. AreAhead (event ∷ log) whole text)
     (sym (append_assoc (lines_of_log log) (line_of_entry event) text)) (record {
-      told = others.told ∙ ap (λ (l : Log). reverse log ++ l) first.told ∙ sym turned;
+      logged = others.logged ∙ ap (λ (l : Log). reverse log ++ l) first.logged ∙ sym turned;
       count = omega (arith, others.count, first.count);
     })
 
 -- behind them half a line may stand
-half_told : (log : Log) (half : List ℕ) → AllByRecursion IsWritable log → HasNoFeed half
-    → TellAll (whole_lines (lines_of_log log ++ half)) log
+half_logged : (log : Log) (half : List ℕ) → AllByRecursion IsWritable log → HasNoFeed half
+    → LogAll (whole_lines (lines_of_log log ++ half)) log
 unfolding whole_lines
-half_told log half all none =
+half_logged log half all none =
     let ahead = all_ahead log half all in
     let nothing : whole_lines half ≡ [] =
     ap whole_parts (slice_split_none (λ b. b == 10) half none) in
-    let told : events_in_front (whole_lines (lines_of_log log ++ half)) ≡ reverse log =
-    ahead.told ∙ ap (λ (l : List (List ℕ)). reverse log ++ events_in_front l) nothing
+    let logged : events_in_front (whole_lines (lines_of_log log ++ half)) ≡ reverse log =
+    ahead.logged ∙ ap (λ (l : List (List ℕ)). reverse log ++ events_in_front l) nothing
     ∙ append-nil (reverse log) in
     record {
-      told = told;
+      logged = logged;
       each = omega (
         arith,
-        ap (λ (l : Log). length l) told,
+        ap (λ (l : Log). length l) logged,
         length-reverse log,
         ahead.count,
         ap (λ (l : List (List ℕ)). length l) nothing,
@@ -169,19 +169,19 @@ half_told log half all none =
 nothing_in : HasNoFeed []
 nothing_in k d less = absurd (omega (arith, less))
 
-whole_told : (log : Log) (n : ℕ) → AllByRecursion IsWritable log → length (lines_of_log log) ≤ n
-    → TellAll (whole_lines (take n (lines_of_log log))) log
-whole_told log n all le =
-    subst (λ text. TellAll (whole_lines text) log)
+whole_logged : (log : Log) (n : ℕ) → AllByRecursion IsWritable log → length (lines_of_log log) ≤ n
+    → LogAll (whole_lines (take n (lines_of_log log))) log
+whole_logged log n all le =
+    subst (λ text. LogAll (whole_lines text) log)
     (append-nil (lines_of_log log) ∙ sym (take_all n (lines_of_log log) le))
-    (half_told log [] all nothing_in)
+    (half_logged log [] all nothing_in)
 
 -- so many octets of the lines, all that are synced among them
 cut_off : (waiting synced : Log) (n : ℕ) → AllByRecursion IsWritable (waiting ++ synced)
     → length (lines_of_log synced) ≤ n
     → AreLeft waiting synced (whole_lines (take n (lines_of_log (waiting ++ synced))))
 cut_off [] synced n all least =
-    record { lost = []; left = []; split = refl; tell = whole_told synced n all least }
+    record { lost = []; left = []; split = refl; with_news = whole_logged synced n all least }
 cut_off (event ∷ waiting) synced n all least =
     by (one_line event all.0) (cut_off waiting synced n all.1 least) (cases_lt (length before) n)
     (cases_lt n (length before + length line))
@@ -202,7 +202,7 @@ cut_off (event ∷ waiting) synced n all least =
           lost = event ∷ rest.lost;
           left = rest.left;
           split = ap (λ (l : Log). event ∷ l) rest.split;
-          tell = rest.tell;
+          with_news = rest.with_news;
         })
     by one rest (inl beyond) (inl short) =
         let long = ap (λ (l : List ℕ). length l) one.is ∙ length-append one.row (10 ∷ []) in
@@ -218,14 +218,14 @@ cut_off (event ∷ waiting) synced n all least =
           lost = event ∷ [];
           left = waiting;
           split = refl;
-          tell = half_told (waiting ++ synced) (take (n - length before) one.row) all.1
+          with_news = half_logged (waiting ++ synced) (take (n - length before) one.row) all.1
               (front_none one.row (n - length before) le one.none);
         })
     by one rest (inl beyond) (inr whole) = record {
       lost = [];
       left = event ∷ waiting;
       split = refl;
-      tell = whole_told (event ∷ (waiting ++ synced)) n all
+      with_news = whole_logged (event ∷ (waiting ++ synced)) n all
           (omega (arith, whole, length-append before line));
     }
 
@@ -257,4 +257,4 @@ module _ (outcomes : List ℕ → Type 0) (number : ℕ) (body : List ℕ) (wait
       one_segment c head (head_for number body) text body fits has.survives.fits found
       (whole_left outcomes number body lines least c has.survives is) in
       subst (λ text. AreRead (whole_lines (lines_behind text c))) (sym same)
-      lines_left.tell.each
+      lines_left.with_news.each

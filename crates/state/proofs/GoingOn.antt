@@ -11,26 +11,29 @@ use Rattle.gateway.specs.State.{State}
 use Rattle.segments.specs.Starts.{before_zero}
 use Rattle.state.specs.Beginnings.{GoesOnBy, GoesOnFrom, IsHeadOf, IsMoved, IsRead}
 use Rattle.state.specs.Beginnings.{MovedOn, WentOn, given_up}
-use Rattle.state.specs.Replays.{ToldGap}
+use Rattle.state.specs.Replays.{ReportedGap}
 
 pub went_on : (c : Settings) (log : Log) (lines : List (List ℕ)) (events : List ℕ)
-    (gap other : Option ToldGap) (heard whole : Log) (left s : State)
-    → IsRead c log lines events gap heard left → other ≡ gap → s ≡ given_up left
-    → whole ≡ Came left.moment Restarted ∷ heard
-    → ((p : Setup) → Follows p left (Some heard) → Rests p (Some heard) → Follows p s (Some whole))
+    (gap other : Option ReportedGap) (arrived whole : Log) (left s : State)
+    → IsRead c log lines events gap arrived left → other ≡ gap → s ≡ given_up left
+    → whole ≡ Came left.moment Restarted ∷ arrived
+    → ((p : Setup) → Follows p left (Some arrived) → Rests p (Some arrived)
+    → Follows p s (Some whole))
     → WentOn c log lines events other whole s
-went_on c log lines events gap other heard whole left s read same given restarted follows = record {
-  left = left;
-  heard = heard;
-  read = subst (λ (g : Option ToldGap). IsRead c log lines events g heard left) (sym same) read;
-  given = given;
-  restarted = restarted;
-  follows = λ first rest are savable before rests.
-      let replayed = read first rest are savable before rests in (
-        follows (setup_of c) replayed.follows replayed.rests,
-        subst (λ (l : Log). Rests (setup_of c) (Some l)) (sym restarted) replayed.rests,
-      );
-}
+went_on c log lines events gap other arrived whole left s read same given restarted follows =
+    record {
+      left = left;
+      arrived = arrived;
+      read = subst (λ (g : Option ReportedGap). IsRead c log lines events g arrived left) (sym same)
+          read;
+      given = given;
+      restarted = restarted;
+      follows = λ first rest are savable before rests.
+          let replayed = read first rest are savable before rests in (
+            follows (setup_of c) replayed.follows replayed.rests,
+            subst (λ (l : Log). Rests (setup_of c) (Some l)) (sym restarted) replayed.rests,
+          );
+    }
 
 moved_by : (is_same : Bool) (written text : List ℕ) → (is_same ≡ true → written ≡ text)
     → (is_same ≡ false → written ≡ text → ⊥) → IsMoved written text (not is_same)
@@ -46,7 +49,7 @@ by_moved true true other = other refl
 -- it was moved
 pub moved_from : (trusted is_same is_moved : Bool) (c : Settings) (text : List ℕ) (log : Log)
     (file : List ℕ) (begins : ℕ)
-    (written : List ℕ) (lines : List (List ℕ)) (gap : Option ToldGap) (whole : Log) (s : State)
+    (written : List ℕ) (lines : List (List ℕ)) (gap : Option ReportedGap) (whole : Log) (s : State)
     → IsHeadOf file begins written lines → (is_same ≡ true → written ≡ text)
     → (is_same ≡ false → written ≡ text → ⊥)
     → (trusted ≡ true → is_same ≡ false) → is_moved ≡ not is_same

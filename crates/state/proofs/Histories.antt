@@ -1,7 +1,7 @@
 -- What holds of each history, deed by deed.
 use Rattle.std.proofs.Common.{◌≡◌, Bool, true, false, [], ◌∷◌, ◌++◌, refl, ap, inl, inr}
 use Rattle.gateway.specs.Log.{LogEntry}
-use Rattle.state.specs.Deeds.{Deed, Deeds, AreRight, IsAllOnDisk, IsSafe, MayBe, Heard, Appended}
+use Rattle.state.specs.Deeds.{Deed, Deeds, AreRight, IsAllOnDisk, IsSafe, MayBe, Received, Appended}
 use Rattle.state.specs.Deeds.{Synced, Begun, GivenUp, PutOut, appended, on_disk, waiting}
 use Rattle.state.specs.Stores.{led_to_head, safe, written}
 
@@ -34,7 +34,7 @@ put_strictly later earlier action right =
 
 pub all_appended : (deeds : Deeds) → appended deeds ≡ written deeds ++ led_to_head deeds
 all_appended [] = refl
-all_appended (Heard event ∷ deeds) = all_appended deeds
+all_appended (Received event ∷ deeds) = all_appended deeds
 all_appended (Appended event ∷ deeds) = ap (λ log. event ∷ log) (all_appended deeds)
 all_appended (Synced ∷ deeds) = all_appended deeds
 all_appended (Begun state ∷ deeds) = refl
@@ -43,7 +43,7 @@ all_appended (PutOut action ∷ deeds) = all_appended deeds
 
 pub all_on_disk : (deeds : Deeds) → on_disk deeds ≡ safe deeds ++ led_to_head deeds
 all_on_disk [] = refl
-all_on_disk (Heard event ∷ deeds) = all_on_disk deeds
+all_on_disk (Received event ∷ deeds) = all_on_disk deeds
 all_on_disk (Appended event ∷ deeds) = all_on_disk deeds
 all_on_disk (Synced ∷ deeds) = all_appended deeds
 all_on_disk (Begun state ∷ deeds) = refl
@@ -52,7 +52,7 @@ all_on_disk (PutOut action ∷ deeds) = all_on_disk deeds
 
 pub all_written : (deeds : Deeds) → written deeds ≡ waiting deeds ++ safe deeds
 all_written [] = refl
-all_written (Heard event ∷ deeds) = all_written deeds
+all_written (Received event ∷ deeds) = all_written deeds
 all_written (Appended event ∷ deeds) = ap (λ log. event ∷ log) (all_written deeds)
 all_written (Synced ∷ deeds) = refl
 all_written (Begun state ∷ deeds) = refl

@@ -6,9 +6,9 @@ use Rattle.gateway.specs.Log.{LogEntry}
 use Rattle.gateway.specs.Ports.{faults_of}
 use Rattle.gateway.specs.declared.ports.Next.{Next}
 use Rattle.gateway.specs.declared.ports.Next.TheVariants as answers
-use Rattle.state.specs.Deeds.{Deeds, AreRight, IsInTime, MayBe, Heard, PutOut, waiting}
+use Rattle.state.specs.Deeds.{Deeds, AreRight, IsInTime, MayBe, Received, PutOut, waiting}
 use Rattle.state.specs.Keeping.{IsOrderly}
-use Rattle.state.specs.Standings.{HasHeard, IsSettled, IsStanding, is_stopped, since_of}
+use Rattle.state.specs.Standings.{HasReceived, IsSettled, IsStanding, is_stopped, since_of}
 use Rattle.state.specs.declared.standing.Standing.{Standing}
 use Rattle.state.specs.declared.standing.Standing.TheVariants.{Synced, Waiting, Lost}
 use Rattle.state.specs.declared.loss.Loss.TheVariants.{Marked, Unmarked}
@@ -21,24 +21,24 @@ some_waits deeds moment since none =
 
 -- events are heard
 
-in_time : (news : Log) (deeds : Deeds) → IsInTime deeds → IsInTime (map Heard news ++ deeds)
+in_time : (news : Log) (deeds : Deeds) → IsInTime deeds → IsInTime (map Received news ++ deeds)
 in_time [] deeds time = time
 in_time (event ∷ news) deeds time = in_time news deeds time
 
-pub heard_right : (bears : Bool) (news : Log) (old new : Deeds) → new ≡ map Heard news ++ old
+pub received_right : (bears : Bool) (news : Log) (old new : Deeds) → new ≡ map Received news ++ old
     → IsInTime old
     → AreRight bears old → AreRight bears new
-heard_right bears news old new is time right = subst (AreRight bears) (sym is) (all news)
+received_right bears news old new is time right = subst (AreRight bears) (sym is) (all news)
   where
-    all : (news : Log) → AreRight bears (map Heard news ++ old)
+    all : (news : Log) → AreRight bears (map Received news ++ old)
     all [] = right
     all (event ∷ news) = (in_time news old time, all news)
 
 -- it stood so before they were heard
-pub heard_stands : (s : Standing) (news : Log) (old new : Deeds) → IsStanding s old
-    → new ≡ map Heard news ++ old
-    → HasHeard s news new
-heard_stands s news old new stands is = record { earlier = old; stood = stands; heard = is }
+pub received_stands : (s : Standing) (news : Log) (old new : Deeds) → IsStanding s old
+    → new ≡ map Received news ++ old
+    → HasReceived s news new
+received_stands s news old new stands is = record { earlier = old; stood = stands; arrived = is }
 
 pub few_faults : (n : Next) → faults_of n ≤ 1
 few_faults (answers.Line now len) = omega arith

@@ -7,7 +7,7 @@ use Rattle.segments.specs.Head.{whole_text}
 use Rattle.segments.proofs.HeadLemmas.{whole_behind}
 use Rattle.statetext.specs.Text.{lines_in}
 use Rattle.statetext.proofs.TextLemmas.{no_text}
-use Rattle.state.specs.Logs.{IsHeaded, told_by}
+use Rattle.state.specs.Logs.{IsHeaded, logged_by}
 
 pub all_taken : (text : List ℕ) (n : ℕ) → n ≡ length text → take n text ≡ text
 all_taken text n is = take_all n text (omega (arith, is))
@@ -15,10 +15,10 @@ all_taken text n is = take_all n text (omega (arith, is))
 none_left : (text : List ℕ) (n : ℕ) → n ≡ length text → drop n text ≡ []
 none_left text n is = drop_of_length-le text {i = n} (omega (arith, is))
 
-pub begun_told : (settings : List ℕ) (lines : List (List ℕ)) (head durable : ℕ) (text : List ℕ)
+pub begun_logged : (settings : List ℕ) (lines : List (List ℕ)) (head durable : ℕ) (text : List ℕ)
     → IsHeaded settings lines text → head ≡ length text → durable ≡ length text
-    → told_by head durable text ≡ record { head = settings ∷ lines; text = []; safe = [] }
-begun_told settings lines head durable text headed is synced =
+    → logged_by head durable text ≡ record { head = settings ∷ lines; text = []; safe = [] }
+begun_logged settings lines head durable text headed is synced =
     let says : lines_in (drop 87 (take head text)) ≡ settings ∷ lines =
     ap (λ (l : List ℕ). lines_in (drop 87 l)) (all_taken text head is ∙ headed.is)
     ∙ ap lines_in (whole_behind headed.number headed.body) ∙ headed.says in
@@ -27,13 +27,13 @@ begun_told settings lines head durable text headed is synced =
     ∙ none in
     rw (says, none, safe) refl
 
-pub appended_told : (head durable : ℕ) (text more new : List ℕ) → new ≡ text ++ more
+pub appended_logged : (head durable : ℕ) (text more new : List ℕ) → new ≡ text ++ more
     → head ≤ durable → durable ≤ length text
-    → told_by head durable new ≡ record (told_by head durable text) {
+    → logged_by head durable new ≡ record (logged_by head durable text) {
       text =
           drop head text ++ more;
     }
-appended_told head durable text more new is le within =
+appended_logged head durable text more new is le within =
     let front : take head new ≡ take head text = ap (take head) is
     ∙ take-append-le head text more (omega (arith, le, within)) in
     let kept : take durable new ≡ take durable text = ap (take durable) is
@@ -42,9 +42,9 @@ appended_told head durable text more new is le within =
     ∙ drop-append-le head text more (omega (arith, le, within)) in
     rw (front, kept, behind) refl
 
-pub synced_told : (head old durable : ℕ) (text new : List ℕ) → new ≡ text → durable ≡ length new
-    → told_by head durable new ≡ record (told_by head old text) { safe = drop head text }
-synced_told head old durable text new is synced =
+pub synced_logged : (head old durable : ℕ) (text new : List ℕ) → new ≡ text → durable ≡ length new
+    → logged_by head durable new ≡ record (logged_by head old text) { safe = drop head text }
+synced_logged head old durable text new is synced =
     let all : take durable new ≡ text = all_taken new durable synced ∙ is in
     rw (all, is) refl
 

@@ -10,7 +10,7 @@ use Rattle.gateway.specs.Agrees.{Follows, Rests}
 use Rattle.gateway.specs.Entries.{IsAnnounced}
 use Rattle.gateway.specs.Entries.{event_of as entry_event}
 use Rattle.gateway.specs.Log.{Log, LogEntry, events_of}
-use Rattle.gateway.specs.Ports.{told_by}
+use Rattle.gateway.specs.Ports.{logged_by}
 use Rattle.gateway.specs.Reports.{Setup}
 use Rattle.gateway.specs.State.{State}
 use Rattle.gateway.specs.declared.entries.Entry.{Entry}
@@ -18,8 +18,8 @@ use Rattle.gateway.specs.declared.entries.Entry.TheVariants.{Line, Open, Bytes, 
 use Rattle.gateway.specs.declared.ports.Next.{Next}
 use Rattle.traces.specs.Event.{Event, event_of, event_in, line, opening, received, cut, tick, wall}
 use Rattle.traces.specs.Progress.{came}
-use Rattle.traces.specs.Trace.{lines_of, told, is_skipped, is_wrong, first_wrong}
-use Rattle.state.specs.Replays.{IsFirst, IsRepeating, IsReplayed, IsTold, Replaying, ToldGap}
+use Rattle.traces.specs.Trace.{lines_of, logged, is_skipped, is_wrong, first_wrong}
+use Rattle.state.specs.Replays.{IsFirst, IsRepeating, IsReplayed, IsLogged, Replaying, ReportedGap}
 use Rattle.state.specs.Replays.{before_those, events_in_front, events_left, last_gap, log_of}
 
 -- A line
@@ -40,31 +40,31 @@ one_of : (f : List ℕ → Option Event) (text : List ℕ) (event : Event) → f
     → filter_map f (text ∷ []) ≡ event ∷ []
 one_of f text event is = rw is
 
-told_first : (f : List ℕ → Option Event) (text : List ℕ) (found : Option Event) → f text ≡ found
+logged_first : (f : List ℕ → Option Event) (text : List ℕ) (found : Option Event) → f text ≡ found
     → (event : Event) (events : List Event) → event ∷ events ≡ filter_map f (text ∷ [])
     → found ≡ Some event
-told_first f text None is event events all =
+logged_first f text None is event events all =
     let no : event ∷ events ≡ [] = all ∙ none_of f text is in absurd (cc)
-told_first f text (Some other) is event events all =
+logged_first f text (Some other) is event events all =
     let one : event ∷ events ≡ other ∷ [] = all ∙ one_of f text other is in cc
 
-told_nothing : (f : List ℕ → Option Event) (text : List ℕ) (found : Option Event) → f text ≡ found
+logged_nothing : (f : List ℕ → Option Event) (text : List ℕ) (found : Option Event) → f text ≡ found
     → [] ≡ filter_map f (text ∷ []) → found ≡ None
-told_nothing f text None is all = refl
-told_nothing f text (Some other) is all =
+logged_nothing f text None is all = refl
+logged_nothing f text (Some other) is all =
     let no : [] ≡ other ∷ [] = all ∙ one_of f text other is in absurd (cc)
 
 -- the first of the entries is the event that the line tells
 announced : (text : List ℕ) (entries others : List Entry) (entry : Entry) (next : Next)
     (buf : List ℕ)
-    → lines_of text ≡ text ∷ [] → map event_of entries ≡ filter_map told (lines_of text)
-    → entries ≡ entry ∷ others → IsAnnounced entry next buf → IsTold (told text) (Some next) buf
+    → lines_of text ≡ text ∷ [] → map event_of entries ≡ filter_map logged (lines_of text)
+    → entries ≡ entry ∷ others → IsAnnounced entry next buf → IsLogged (logged text) (Some next) buf
 announced text entries others entry next buf one are is a =
-    let all : event_of entry ∷ map event_of others ≡ filter_map told (text ∷ []) =
-    sym (ap (map event_of) is) ∙ are ∙ ap (filter_map told) one in
-    subst (λ found. IsTold found (Some next) buf)
-    (sym (told_first told text (told text) refl _ _ all)) (record {
-      told = a.told ∙ ap (λ event. event ∷ []) (sym (came_entry entry));
+    let all : event_of entry ∷ map event_of others ≡ filter_map logged (text ∷ []) =
+    sym (ap (map event_of) is) ∙ are ∙ ap (filter_map logged) one in
+    subst (λ found. IsLogged found (Some next) buf)
+    (sym (logged_first logged text (logged text) refl _ _ all)) (record {
+      logged = a.logged ∙ ap (λ event. event ∷ []) (sym (came_entry entry));
       fits = a.fits;
       healthy = a.healthy;
       some = a.some;
@@ -73,20 +73,20 @@ announced text entries others entry next buf one are is a =
 pub announced_first : (text : List ℕ) (entries : List Entry) (entry : Entry) (next : Next)
     (buf : List ℕ)
     → 1 ≤ length entries → entry ≡ get_or entries 0 entry → lines_of text ≡ text ∷ []
-    → map event_of entries ≡ filter_map told (lines_of text) → IsAnnounced entry next buf
-    → IsTold (told text) (Some next) buf
+    → map event_of entries ≡ filter_map logged (lines_of text) → IsAnnounced entry next buf
+    → IsLogged (logged text) (Some next) buf
 announced_first text [] entry next buf some is one are a = absurd (omega arith)
 announced_first text (first ∷ others) entry next buf some is one are a =
     announced text (first ∷ others) others entry next buf one are (ap (λ e. e ∷ others) (sym is)) a
 
 -- without entries it tells none
 pub unannounced : (text : List ℕ) (entries : List Entry) (buf : List ℕ) → lines_of text ≡ text ∷ []
-    → map event_of entries ≡ filter_map told (lines_of text) → entries ≡ []
-    → IsTold (told text) None buf
+    → map event_of entries ≡ filter_map logged (lines_of text) → entries ≡ []
+    → IsLogged (logged text) None buf
 unannounced text entries buf one are is =
-    subst (λ found. IsTold found None buf)
-    (sym (told_nothing told text (told text) refl (sym (ap (map event_of) is) ∙ are
-    ∙ ap (filter_map told) one))) refl
+    subst (λ found. IsLogged found None buf)
+    (sym (logged_nothing logged text (logged text) refl (sym (ap (map event_of) is) ∙ are
+    ∙ ap (filter_map logged) one))) refl
 
 unless_skipped : (skipped : Bool) (event : Option Event) → (not skipped && is_none event) ≡ true
     → (if skipped then None else event) ≡ None
@@ -99,12 +99,12 @@ by_number true n is = refl
 by_number false n is = absurd (cc)
 
 -- a wrong line tells none
-pub wrongly_told : (text : List ℕ) (n : ℕ) (buf : List ℕ) → lines_of text ≡ text ∷ []
-    → first_wrong 1 (lines_of text) ≡ Some n → IsTold (told text) None buf
-wrongly_told text n buf one wrong =
+pub wrongly_logged : (text : List ℕ) (n : ℕ) (buf : List ℕ) → lines_of text ≡ text ∷ []
+    → first_wrong 1 (lines_of text) ≡ Some n → IsLogged (logged text) None buf
+wrongly_logged text n buf one wrong =
     let is : is_wrong text ≡ true = by_number (is_wrong text) n (sym (ap (first_wrong 1) one)
     ∙ wrong) in
-    subst (λ found. IsTold found None buf)
+    subst (λ found. IsLogged found None buf)
     (sym (unless_skipped (is_skipped text) (event_in text) is)) refl
 
 -- A replay
@@ -118,60 +118,61 @@ came_events (cut now) log = refl
 came_events (tick now) log = refl
 came_events (wall now number) log = refl
 
-by_told : (found : Option Event) (next : Next) (buf : List ℕ) → IsTold found (Some next) buf
+by_logged : (found : Option Event) (next : Next) (buf : List ℕ) → IsLogged found (Some next) buf
     → (log : Log) (events : List LogEntry)
-    → events_of (told_by next buf ++ log) ++ events ≡ events_of log ++ before_those found events
-by_told None next buf is log events = absurd (cc)
-by_told (Some event) next buf is log events =
-    ap (λ news. events_of (news ++ log) ++ events) is.told
+    → events_of (logged_by next buf ++ log) ++ events ≡ events_of log ++ before_those found events
+by_logged None next buf is log events = absurd (cc)
+by_logged (Some event) next buf is log events =
+    ap (λ news. events_of (news ++ log) ++ events) is.logged
     ∙ ap (λ es. es ++ events) (came_events event log)
     ∙ append_assoc (events_of log) (came event ∷ []) events
 
 more_events : (lines others : List (List ℕ)) (next : Next) (buf : List ℕ)
     → IsFirst lines others (Some next) buf
-    → (log : Log) → events_of (told_by next buf ++ log) ++ events_in_front others
+    → (log : Log) → events_of (logged_by next buf ++ log) ++ events_in_front others
     ≡ events_of log ++ events_in_front lines
 more_events [] others next buf first log = absurd (cc)
 more_events (text ∷ lines) others next buf first log =
-    ap (λ ls. events_of (told_by next buf ++ log) ++ events_in_front ls) first.1
-    ∙ by_told (told text) next buf first.0 log (events_in_front lines)
+    ap (λ ls. events_of (logged_by next buf ++ log) ++ events_in_front ls) first.1
+    ∙ by_logged (logged text) next buf first.0 log (events_in_front lines)
 
-nothing_told : (found : Option Event) (buf : List ℕ) (events : List LogEntry)
-    → IsTold found None buf
+nothing_logged : (found : Option Event) (buf : List ℕ) (events : List LogEntry)
+    → IsLogged found None buf
     → before_those found events ≡ []
-nothing_told None buf events is = refl
-nothing_told (Some event) buf events is = absurd is
+nothing_logged None buf events is = refl
+nothing_logged (Some event) buf events is = absurd is
 
 none_left : (lines others : List (List ℕ)) (buf : List ℕ) → IsFirst lines others None buf
     → events_in_front lines ≡ []
 none_left [] others buf first = refl
-none_left (text ∷ lines) others buf first = nothing_told (told text) buf (events_in_front lines)
+none_left (text ∷ lines) others buf first = nothing_logged (logged text) buf (events_in_front lines)
     first.0
 
 -- behind an event no gap was told yet
-no_gap_by : (found : Option Event) (next : Next) (buf : List ℕ) → IsTold found (Some next) buf
+no_gap_by : (found : Option Event) (next : Next) (buf : List ℕ) → IsLogged found (Some next) buf
     → (log : Log)
-    → last_gap (told_by next buf ++ log) ≡ None
+    → last_gap (logged_by next buf ++ log) ≡ None
 no_gap_by None next buf is log = absurd (cc)
-no_gap_by (Some (line now octets)) next buf is log = ap (λ news. last_gap (news ++ log)) is.told
-no_gap_by (Some (opening now)) next buf is log = ap (λ news. last_gap (news ++ log)) is.told
-no_gap_by (Some (received now octets)) next buf is log = ap (λ news. last_gap (news ++ log)) is.told
-no_gap_by (Some (cut now)) next buf is log = ap (λ news. last_gap (news ++ log)) is.told
-no_gap_by (Some (tick now)) next buf is log = ap (λ news. last_gap (news ++ log)) is.told
-no_gap_by (Some (wall now number)) next buf is log = ap (λ news. last_gap (news ++ log)) is.told
+no_gap_by (Some (line now octets)) next buf is log = ap (λ news. last_gap (news ++ log)) is.logged
+no_gap_by (Some (opening now)) next buf is log = ap (λ news. last_gap (news ++ log)) is.logged
+no_gap_by (Some (received now octets)) next buf is log =
+    ap (λ news. last_gap (news ++ log)) is.logged
+no_gap_by (Some (cut now)) next buf is log = ap (λ news. last_gap (news ++ log)) is.logged
+no_gap_by (Some (tick now)) next buf is log = ap (λ news. last_gap (news ++ log)) is.logged
+no_gap_by (Some (wall now number)) next buf is log = ap (λ news. last_gap (news ++ log)) is.logged
 
 no_gap_yet : (lines others : List (List ℕ)) (next : Next) (buf : List ℕ)
     → IsFirst lines others (Some next) buf
-    → (log : Log) → last_gap (told_by next buf ++ log) ≡ None
+    → (log : Log) → last_gap (logged_by next buf ++ log) ≡ None
 no_gap_yet [] others next buf first log = absurd (cc)
-no_gap_yet (text ∷ lines) others next buf first log = no_gap_by (told text) next buf first.0 log
+no_gap_yet (text ∷ lines) others next buf first log = no_gap_by (logged text) next buf first.0 log
 
 -- an event was heard
 pub one_more : (events : List LogEntry) (coming others : List (List ℕ)) (is_over : Bool)
     (news more earlier : Log)
-    (failed : ℕ) (gap : Option ToldGap) (next : Next) (buf : List ℕ)
+    (failed : ℕ) (gap : Option ReportedGap) (next : Next) (buf : List ℕ)
     → IsFirst coming others (Some next) buf → is_over ≡ false
-    → more ≡ told_by next buf ++ news
+    → more ≡ logged_by next buf ++ news
     → IsRepeating events (record {
       coming = coming;
       is_over = is_over;
@@ -196,7 +197,7 @@ one_more events coming others is_over news more earlier failed gap next buf firs
           ap (λ over. events_of (more ++ earlier) ++ events_left over others) goes
           ∙ ap (λ news. events_of (news ++ earlier) ++ events_in_front others) is
           ∙ ap (λ log. events_of log ++ events_in_front others)
-          (append_assoc (told_by next buf) news earlier)
+          (append_assoc (logged_by next buf) news earlier)
           ∙ more_events coming others next buf first (news ++ earlier)
           ∙ ap (λ over. events_of (news ++ earlier) ++ events_left over coming) (sym goes)
           ∙ repeating.whole healthy;
@@ -206,7 +207,8 @@ one_more events coming others is_over news more earlier failed gap next buf firs
 -- none comes any more
 pub no_more : (events : List LogEntry) (coming others : List (List ℕ)) (is_over : Bool)
     (news earlier : Log)
-    (failed : ℕ) (gap : Option ToldGap) (buf : List ℕ) → IsFirst coming others None buf → is_over
+    (failed : ℕ) (gap : Option ReportedGap) (buf : List ℕ) → IsFirst coming others None buf
+    → is_over
     ≡ false
     → IsRepeating events (record {
       coming = coming;
@@ -235,20 +237,21 @@ no_more events coming others is_over news earlier failed gap buf first goes repe
 }
 
 -- the gateway follows the log of the replay
-pub replayed : (p : Setup) (log : Log) (events : List LogEntry) (gap : Option ToldGap) (whole : Log)
+pub replayed : (p : Setup) (log : Log) (events : List LogEntry) (gap : Option ReportedGap)
+    (whole : Log)
     (s : State)
     (end : Replaying) → Follows p s (Some (log_of end)) → Rests p (Some (log_of end))
     → IsRepeating events end
     → end.failed ≡ 0 → end.is_over ≡ true → end.earlier ≡ log → gap ≡ end.gap → whole ≡ log_of end
     → IsReplayed p log events gap whole s
-replayed p log events gap whole s end follows rests known healthy over earlier told is =
+replayed p log events gap whole s end follows rests known healthy over earlier logged is =
     subst (λ log. IsReplayed p log events gap whole s) earlier (record {
       news = end.news;
       behind = is;
-      last = told ∙ known.gap;
+      last = logged ∙ known.gap;
       follows = subst (λ l. Follows p s (Some l)) (sym is) follows;
       rests = subst (λ l. Rests p (Some l)) (sym is) rests;
-      heard = ap events_of is ∙ sym (append-nil (events_of (log_of end)))
+      arrived = ap events_of is ∙ sym (append-nil (events_of (log_of end)))
           ∙ ap (λ is_over. events_of (log_of end) ++ events_left is_over end.coming) (sym over)
           ∙ known.whole healthy;
     })

@@ -22,7 +22,7 @@ use Rattle.state.specs.Beginnings.{has_past, is_trusted}
 use Rattle.state.specs.Crashed.{IsKeptIn}
 use Rattle.state.specs.Deeds.{Deeds}
 use Rattle.state.specs.Origins.{IsMarkedBy}
-use Rattle.state.specs.Replays.{ToldGap, events_in_front, whole_lines}
+use Rattle.state.specs.Replays.{ReportedGap, events_in_front, whole_lines}
 use Rattle.state.specs.Returns.{HasReturned, IsBegunOver}
 use Rattle.state.specs.Stores.{head, safe}
 use Rattle.state.specs.declared.beginning.Origin.{Origin}
@@ -56,7 +56,7 @@ same_head file begins begins' settings settings' lines lines' one two =
 
 -- a log whose settings are the same wasn't moved
 went : (is_moved : Bool) (c : Settings) (written text : List ℕ) (log : Log)
-    (lines : List (List ℕ)) (events : List ℕ) (gap : Option ToldGap) (whole : Log) (s : State)
+    (lines : List (List ℕ)) (events : List ℕ) (gap : Option ReportedGap) (whole : Log) (s : State)
     → IsMoved written text is_moved → written ≡ text
     → GoesOnBy (true && not is_moved) true c written log lines events gap whole s
     → WentOn c log lines events gap whole s
@@ -137,19 +137,19 @@ module _ {D : Type 0} (g : Ghosts D) (settings : List ℕ) (deeds : Deeds) (file
       let lines : goes.lines ≡ state_lines kept.state ++ [] =
       same.state ∙ sym (append-nil (state_lines kept.state)) in
       let replayed = on.read kept.state [] lines savable follows rests in
-      let told : events_in_front (whole_lines (before_zero (drop goes.begins file)))
+      let logged : events_in_front (whole_lines (before_zero (drop goes.begins file)))
       ≡ reverse (kept.left.left ++ safe deeds) =
       ap (λ (n : ℕ). events_in_front (whole_lines (before_zero (drop n file)))) same.place
-      ∙ kept.left.tell.told in
+      ∙ kept.left.with_news.logged in
       record {
         lost = kept.left.lost;
         left = kept.left.left;
         split = kept.left.split;
         moment = on.left.moment;
-        heard =
+        arrived =
             ap events_of on.restarted
             ∙ ap (λ (l : List LogEntry). l ++ Came on.left.moment Restarted ∷ [])
-            (replayed.heard ∙ ap (λ (l : List LogEntry). events_of log ++ l) told);
+            (replayed.arrived ∙ ap (λ (l : List LogEntry). events_of log ++ l) logged);
         follows = (on.follows kept.state [] lines savable follows rests).0;
       }
 

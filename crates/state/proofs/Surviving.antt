@@ -8,7 +8,7 @@ use Rattle.std.specs.List.{AllByRecursion}
 use Rattle.std.proofs.lemmas.List.{length-drop, length-take-le, take-append-drop}
 use Rattle.sqlite_disk.specs.declared.Disk.{Ghosts}
 use Rattle.gateway.specs.Log.{Log}
-use Rattle.gateway.specs.Ports.{FitsBuffer, told_by}
+use Rattle.gateway.specs.Ports.{FitsBuffer, logged_by}
 use Rattle.gateway.specs.Restored.{state_lines}
 use Rattle.gateway.specs.State.{State}
 use Rattle.gateway.specs.declared.ports.Next.{Next}
@@ -24,9 +24,9 @@ use Rattle.traces.specs.Printed.{FitsTrace, IsPrintable, lines_of_log}
 use Rattle.traces.specs.Progress.{came}
 use Rattle.traces.proofs.ReadingBack.{log_above}
 use Rattle.state.specs.Crashed.{FitsLine, HasLog, IsKeptIn, IsWritable}
-use Rattle.state.specs.Deeds.{Deeds, Heard, Appended, Synced, Begun, GivenUp, PutOut, is_kept}
+use Rattle.state.specs.Deeds.{Deeds, Received, Appended, Synced, Begun, GivenUp, PutOut, is_kept}
 use Rattle.state.specs.Deeds.{waiting}
-use Rattle.state.specs.Logs.{SurvivesAsTold, leaves_in, stored_in}
+use Rattle.state.specs.Logs.{SurvivesAsLogged, leaves_in, stored_in}
 use Rattle.state.specs.Stores.{IsStored, Stored, head, lines_of_head, safe, written}
 use Rattle.state.specs.declared.opened.Current.{Current}
 use Rattle.state.specs.declared.opened.Opened.{Opened}
@@ -37,8 +37,8 @@ use Rattle.state.proofs.Histories.{all_written}
 -- Events that a line can tell
 
 pub writable : (next : Next) (buf : List ℕ) → FitsBuffer next → FitsLine next
-    → 1024 ≤ length buf → AllByRecursion IsPrintable (told_by next buf)
-    → AllByRecursion IsWritable (told_by next buf)
+    → 1024 ≤ length buf → AllByRecursion IsPrintable (logged_by next buf)
+    → AllByRecursion IsWritable (logged_by next buf)
 writable (answers.Line now len) buf fits line long all =
     let count = length-take-le len buf (omega (arith, fits, long)) in (
       (
@@ -71,15 +71,15 @@ pub written_more : (news : Log) (deeds : Deeds) → AllByRecursion IsWritable ne
 written_more [] deeds all before = before
 written_more (event ∷ news) deeds all before = (all.0, written_more news deeds all.1 before)
 
-pub written_heard : (news : Log) (deeds : Deeds) → AllByRecursion IsWritable (written deeds)
-    → AllByRecursion IsWritable (written (map Heard news ++ deeds))
-written_heard [] deeds before = before
-written_heard (event ∷ news) deeds before = written_heard news deeds before
+pub written_received : (news : Log) (deeds : Deeds) → AllByRecursion IsWritable (written deeds)
+    → AllByRecursion IsWritable (written (map Received news ++ deeds))
+written_received [] deeds before = before
+written_received (event ∷ news) deeds before = written_received news deeds before
 
 small : (now : ℕ) → now ≤ 999999999999999 → now < 2 ^ 64
 small now le = omega arith
 
-printable : (told : Event) → FitsTrace told → IsPrintable (came told)
+printable : (logged : Event) → FitsTrace logged → IsPrintable (came logged)
 printable (events.line now octets) fits = (small now fits.0, fits.1)
 printable (events.opening now) fits = (small now fits, tt)
 printable (events.received now octets) fits = (small now fits.0, fits.1)
@@ -90,8 +90,8 @@ printable (events.wall now number) fits = (small now fits.0, small number fits.1
 all_printable : (log : Log) → AllByRecursion IsWritable log → AllByRecursion IsPrintable log
 all_printable [] all = tt
 all_printable (event ∷ log) all =
-    let (told, fits, is) = all.0 in
-    (subst IsPrintable (sym is) (printable told fits), all_printable log all.1)
+    let (logged, fits, is) = all.0 in
+    (subst IsPrintable (sym is) (printable logged fits), all_printable log all.1)
 
 pub no_zero : (log : Log) → AllByRecursion IsWritable log → HasNoZero (lines_of_log log)
 no_zero log all i lt zero =
@@ -102,16 +102,16 @@ no_zero log all i lt zero =
 
 has_head : (deeds : Deeds) → is_kept deeds ≡ true → (state : State) × (head deeds ≡ Some state)
 has_head [] kept = absurd (cc)
-has_head (Heard event ∷ deeds) kept = has_head deeds kept
+has_head (Received event ∷ deeds) kept = has_head deeds kept
 has_head (Appended event ∷ deeds) kept = has_head deeds kept
 has_head (Synced ∷ deeds) kept = has_head deeds kept
 has_head (Begun state ∷ deeds) kept = (state, refl)
 has_head (GivenUp loss ∷ deeds) kept = absurd (cc)
 has_head (PutOut action ∷ deeds) kept = has_head deeds kept
 
-some_head : (settings : List ℕ) (lines told : List (List ℕ)) → told ≡ settings ∷ lines
-    → told ≡ [] → ⊥
-some_head settings lines told is none = let no : [] ≡ settings ∷ lines = sym none ∙ is in
+some_head : (settings : List ℕ) (lines logged : List (List ℕ)) → logged ≡ settings ∷ lines
+    → logged ≡ [] → ⊥
+some_head settings lines logged is none = let no : [] ≡ settings ∷ lines = sym none ∙ is in
     absurd (cc)
 
 -- The file of a log
@@ -126,7 +126,7 @@ module _ {D : Type 0} {g : Ghosts D} where
       (durable_of current.segment - length (whole_text number body)))
       → (AreMixing g → HasNoOther (outcomes_of current.segment) (text_of current.segment))
       → HasNoZero (drop current.head (text_of current.segment))
-      → SurvivesAsTold (opens.Current current)
+      → SurvivesAsLogged (opens.Current current)
   current_survives current within survives mixed none =
       let text : List ℕ = text_of current.segment in
       let body : List ℕ = drop 87 (take current.head text) in
@@ -160,7 +160,7 @@ module _ {D : Type 0} {g : Ghosts D} where
 
   -- a log that takes no lines tells no head
   pub none_survives : (opened : Opened D g) → (stored_in opened).head ≡ []
-      → ((stored_in opened).head ≡ [] → ⊥) → SurvivesAsTold opened
+      → ((stored_in opened).head ≡ [] → ⊥) → SurvivesAsLogged opened
   none_survives opened none some = absurd (some none)
 
   -- What a start reads there
@@ -172,7 +172,7 @@ module _ {D : Type 0} {g : Ghosts D} where
       → (stored_in opened).text ≡ lines_of_log (waiting deeds ++ safe deeds)
       → (stored_in opened).safe ≡ lines_of_log (safe deeds)
       → AllByRecursion IsWritable (waiting deeds ++ safe deeds)
-      → AreMixing g → SurvivesAsTold opened → leaves_in opened file
+      → AreMixing g → SurvivesAsLogged opened → leaves_in opened file
       → IsKeptIn settings deeds file
   kept_so opened settings deeds state file begun opening text synced all mixing s left =
       let lines : List ℕ = lines_of_log (waiting deeds ++ safe deeds) in
@@ -208,7 +208,7 @@ module _ {D : Type 0} {g : Ghosts D} where
   pub kept_in : (opened : Opened D g) (settings : List ℕ) (deeds : Deeds)
       → IsStored settings deeds (stored_in opened) → AllByRecursion IsWritable (written deeds)
       → (((stored_in opened).head ≡ [] → ⊥) → HasNoZero (stored_in opened).text
-      → SurvivesAsTold opened)
+      → SurvivesAsLogged opened)
       → is_kept deeds ≡ true → AreMixing g → (file : List ℕ) → leaves_in opened file
       → IsKeptIn settings deeds file
   kept_in opened settings deeds stored all survives kept mixing file left =

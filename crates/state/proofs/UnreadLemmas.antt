@@ -177,7 +177,7 @@ module _ {D : Type 0} (g : Ghosts D) where
       (unread_none c text (g.seen newest) (g.seen other) (wins clean) (none clean).0 (doubt clean)))
 
   -- one was found, and its head couldn't be read
-  pub unread_from : (c : Settings) (text told : List ℕ) (one two new old other : D)
+  pub unread_from : (c : Settings) (text logged : List ℕ) (one two new old other : D)
       (o : Option FoundHead) (at : ℕ) → one ≡ new
       → two ≡ other → g.seen new ≡ g.seen old → (IsTrue (g.is_clean new) → IsTrue (g.is_clean old))
       → is_some o ≡ true
@@ -185,13 +185,13 @@ module _ {D : Type 0} (g : Ghosts D) where
       → IsFoundIn (g.seen old) f.head f.text.items))
       → (IsTrue (g.is_clean old) × IsTrue (g.is_clean other)
       → IsBacked (g.seen old) (g.seen other))
-      → told ≡ text
-      → (is_some o ≡ true → IsTrue (g.is_clean new) → HasState c told (g.seen new) → ⊥)
+      → logged ≡ text
+      → (is_some o ≡ true → IsTrue (g.is_clean new) → HasState c logged (g.seen new) → ⊥)
       → IsTrue (g.is_clean one) → IsTrue (g.is_clean two)
       → IsUnread c text (g.seen one) (g.seen two)
-  unread_from c text told one two new old other None at is same seen clean some stands wins alike
+  unread_from c text logged one two new old other None at is same seen clean some stands wins alike
       wrong first second = absurd (cc)
-  unread_from c text told one two new old other (Some f) at is same seen clean some stands wins
+  unread_from c text logged one two new old other (Some f) at is same seen clean some stands wins
       alike wrong first second =
       let here : IsTrue (g.is_clean new) = subst (λ (d : D). IsTrue (g.is_clean d)) is first in
       let there : IsTrue (g.is_clean other) =
@@ -199,8 +199,8 @@ module _ {D : Type 0} (g : Ghosts D) where
       subst (λ (d : D). IsUnread c text (g.seen d) (g.seen two)) (sym is)
       (subst (λ (d : D). IsUnread c text (g.seen new) (g.seen d)) (sym same)
       (subst (λ (t : List ℕ). IsUnread c t (g.seen new) (g.seen other)) alike
-      (subst (λ (file : List ℕ). IsUnread c told file (g.seen other)) (sym seen)
-      (unread_found c told (g.seen old) (g.seen other) f.head f.text.items
+      (subst (λ (file : List ℕ). IsUnread c logged file (g.seen other)) (sym seen)
+      (unread_found c logged (g.seen old) (g.seen other) f.head f.text.items
       (wins (clean here, there))
       ((stands f refl).1 (clean here))
-      (λ state. wrong some here (subst (HasState c told) (sym seen) state))))))
+      (λ state. wrong some here (subst (HasState c logged) (sym seen) state))))))

@@ -14,7 +14,7 @@ use Rattle.segments.specs.Starts.{IsFoundIn, before_zero}
 use Rattle.segments.specs.declared.head.SegmentHead.{SegmentHead}
 use Rattle.settings.specs.Settings.{IsReadOfText}
 use Rattle.statetext.specs.Text.{lines_in}
-use Rattle.state.specs.Replays.{AreRead, IsReplayed, ToldGap, events_in_front, whole_lines}
+use Rattle.state.specs.Replays.{AreRead, IsReplayed, ReportedGap, events_in_front, whole_lines}
 use Rattle.state.specs.declared.start.Beginning.{Beginning}
 use Rattle.state.specs.declared.start.Beginning.TheVariants as beginnings
 
@@ -49,7 +49,7 @@ HasRead c log lines s =
 -- The gateway has heard these events behind the state that some lines say, whose log was this one;
 -- the whole log has them too.
 abbrev pub IsRead : Settings → (log : Log) → (lines : List (List ℕ)) → (events : List ℕ)
-    → Option ToldGap → (whole : Log) → State → Type 0
+    → Option ReportedGap → (whole : Log) → State → Type 0
 IsRead c log lines events gap whole s =
     (first : State) (rest : List (List ℕ)) → lines ≡ state_lines first ++ rest → IsSavable first
     → Follows (setup_of c) first (Some log) → Rests (setup_of c) (Some log)
@@ -90,17 +90,17 @@ GoesOnWith c log lines whole s =
 -- It has heard the events behind the state that these lines say, and has then given up each command
 -- without an answer. The whole log has this restart at its end, and the gateway follows it.
 pub record WentOn (c : Settings) (log : Log) (lines : List (List ℕ)) (events : List ℕ)
-    (gap : Option ToldGap) (whole : Log) (s : State) : Type 0 where
+    (gap : Option ReportedGap) (whole : Log) (s : State) : Type 0 where
   pub left : State
-  pub heard : Log
-  pub read : IsRead c log lines events gap heard left
+  pub arrived : Log
+  pub read : IsRead c log lines events gap arrived left
   pub given : s ≡ given_up left
-  pub restarted : whole ≡ Came left.moment Restarted ∷ heard
+  pub restarted : whole ≡ Came left.moment Restarted ∷ arrived
   pub follows : GoesOnWith c log lines whole s
 
 -- It went on so under the settings that wrote the log, and was then moved to these.
 pub record MovedOn (trusted : Bool) (c : Settings) (written : List ℕ) (log : Log)
-    (lines : List (List ℕ)) (events : List ℕ) (gap : Option ToldGap) (whole : Log) (s : State) :
+    (lines : List (List ℕ)) (events : List ℕ) (gap : Option ReportedGap) (whole : Log) (s : State) :
     Type 0 where
   pub wrote : Settings
   pub read : IsReadOfText written (Ok wrote)
@@ -110,7 +110,7 @@ pub record MovedOn (trusted : Bool) (c : Settings) (written : List ℕ) (log : L
 
 -- under the same settings with each link, or else moved
 abbrev pub GoesOnBy : (is_same : Bool) → (trusted : Bool) → Settings → (written : List ℕ)
-    → (log : Log) → (lines : List (List ℕ)) → (events : List ℕ) → Option ToldGap → (whole : Log)
+    → (log : Log) → (lines : List (List ℕ)) → (events : List ℕ) → Option ReportedGap → (whole : Log)
     → State → Type 0
 GoesOnBy true trusted c written log lines events gap whole s =
     WentOn c log lines events gap whole s
@@ -126,7 +126,7 @@ IsMoved written text false = written ≡ text
 -- the log there was written under another text it is moved, and also where its links aren't
 -- trusted: then each of them is reset.
 pub record GoesOnFrom (trusted : Bool) (c : Settings) (text : List ℕ) (log : Log) (file : List ℕ)
-    (is_moved : Bool) (gap : Option ToldGap) (whole : Log) (s : State) : Type 0 where
+    (is_moved : Bool) (gap : Option ReportedGap) (whole : Log) (s : State) : Type 0 where
   pub begins : ℕ
   pub written : List ℕ
   pub lines : List (List ℕ)

@@ -20,7 +20,7 @@ use Rattle.state.specs.Stores.{head, safe}
 
 -- an event that the line of a trace can tell
 abbrev pub IsWritable : LogEntry → Type 0
-IsWritable event = (told : Event) × FitsTrace told × (event ≡ came told)
+IsWritable event = (logged : Event) × FitsTrace logged × (event ≡ came logged)
 
 -- it can tell the event of a port's answer, whose octets fit the buffer
 abbrev pub FitsLine : Next → Type 0
@@ -45,8 +45,8 @@ pub record HasLog (outcomes : List ℕ → Type 0) (number : ℕ) (body : List �
   pub mixed : HasNoOther outcomes (whole_text number body ++ lines_of_log (waiting ++ synced))
 
 -- these lines tell these events, the oldest first, and each line tells one
-pub record TellAll (lines : List (List ℕ)) (events : Log) : Type 0 where
-  pub told : events_in_front lines ≡ reverse events
+pub record LogAll (lines : List (List ℕ)) (events : Log) : Type 0 where
+  pub logged : events_in_front lines ≡ reverse events
   pub each : AreRead lines
 
 -- These lines tell all events that were synced, and the oldest of those that waited; the others are
@@ -55,7 +55,7 @@ pub record AreLeft (waiting synced : Log) (lines : List (List ℕ)) : Type 0 whe
   pub lost : Log
   pub left : Log
   pub split : waiting ≡ lost ++ left
-  pub tell : TellAll lines (left ++ synced)
+  pub with_news : LogAll lines (left ++ synced)
 
 -- A start reads this of a file: at the head of its log the settings, and the state with which that
 -- was begun; behind it all events that were synced, and the oldest of those that waited. No other

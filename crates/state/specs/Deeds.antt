@@ -5,7 +5,7 @@ use Rattle.std.specs.Prelude.{◌≡◌, ℕ, ◌-◌, ◌<◌, ◌⊎◌, Bool,
 use Rattle.std.specs.Prelude.{Some, None}
 use Rattle.std.specs.Option.{is_some}
 use Rattle.gateway.specs.Log.{Log, LogEntry, Came, Went}
-use Rattle.gateway.specs.Ports.{told_by, output_of}
+use Rattle.gateway.specs.Ports.{logged_by, output_of}
 use Rattle.gateway.specs.State.{State}
 use Rattle.state.specs.declared.loss.Loss.{Loss}
 use Rattle.state.specs.declared.loss.Loss.TheVariants.{Marked}
@@ -14,7 +14,7 @@ use Rattle.state.specs.declared.trail.Done.TheVariants as done
 
 pub data Deed : Type 0 where
   -- the gateway is about to hear an event
-  Heard : (event : LogEntry) → Deed
+  Received : (event : LogEntry) → Deed
   -- the line of an event was appended to the log
   Appended : (event : LogEntry) → Deed
   -- all that was appended is on the disk
@@ -31,19 +31,19 @@ abbrev pub Deeds : Type 0
 Deeds = List Deed
 
 -- the events that were heard
-abbrev pub heard : Deeds → Log
-heard [] = []
-heard (Heard event ∷ deeds) = event ∷ heard deeds
-heard (Appended event ∷ deeds) = heard deeds
-heard (Synced ∷ deeds) = heard deeds
-heard (Begun state ∷ deeds) = heard deeds
-heard (GivenUp loss ∷ deeds) = heard deeds
-heard (PutOut action ∷ deeds) = heard deeds
+abbrev pub arrived : Deeds → Log
+arrived [] = []
+arrived (Received event ∷ deeds) = event ∷ arrived deeds
+arrived (Appended event ∷ deeds) = arrived deeds
+arrived (Synced ∷ deeds) = arrived deeds
+arrived (Begun state ∷ deeds) = arrived deeds
+arrived (GivenUp loss ∷ deeds) = arrived deeds
+arrived (PutOut action ∷ deeds) = arrived deeds
 
 -- what passed at the port: the events that were heard, and the actions that were handed out
 abbrev pub passed : Deeds → Log
 passed [] = []
-passed (Heard event ∷ deeds) = event ∷ passed deeds
+passed (Received event ∷ deeds) = event ∷ passed deeds
 passed (Appended event ∷ deeds) = passed deeds
 passed (Synced ∷ deeds) = passed deeds
 passed (Begun state ∷ deeds) = passed deeds
@@ -53,27 +53,27 @@ passed (PutOut action ∷ deeds) = action ∷ passed deeds
 -- the events that the log has, and before them those that led to the state at its head
 abbrev pub appended : Deeds → Log
 appended [] = []
-appended (Heard event ∷ deeds) = appended deeds
+appended (Received event ∷ deeds) = appended deeds
 appended (Appended event ∷ deeds) = event ∷ appended deeds
 appended (Synced ∷ deeds) = appended deeds
-appended (Begun state ∷ deeds) = heard deeds
+appended (Begun state ∷ deeds) = arrived deeds
 appended (GivenUp loss ∷ deeds) = appended deeds
 appended (PutOut action ∷ deeds) = appended deeds
 
 -- those of them that are on the disk
 abbrev pub on_disk : Deeds → Log
 on_disk [] = []
-on_disk (Heard event ∷ deeds) = on_disk deeds
+on_disk (Received event ∷ deeds) = on_disk deeds
 on_disk (Appended event ∷ deeds) = on_disk deeds
 on_disk (Synced ∷ deeds) = appended deeds
-on_disk (Begun state ∷ deeds) = heard deeds
+on_disk (Begun state ∷ deeds) = arrived deeds
 on_disk (GivenUp loss ∷ deeds) = on_disk deeds
 on_disk (PutOut action ∷ deeds) = on_disk deeds
 
 -- those of them that aren't
 abbrev pub waiting : Deeds → Log
 waiting [] = []
-waiting (Heard event ∷ deeds) = waiting deeds
+waiting (Received event ∷ deeds) = waiting deeds
 waiting (Appended event ∷ deeds) = event ∷ waiting deeds
 waiting (Synced ∷ deeds) = []
 waiting (Begun state ∷ deeds) = []
@@ -83,7 +83,7 @@ waiting (PutOut action ∷ deeds) = waiting deeds
 -- a log was begun, and the store hasn't failed since
 abbrev pub is_kept : Deeds → Bool
 is_kept [] = false
-is_kept (Heard event ∷ deeds) = is_kept deeds
+is_kept (Received event ∷ deeds) = is_kept deeds
 is_kept (Appended event ∷ deeds) = is_kept deeds
 is_kept (Synced ∷ deeds) = is_kept deeds
 is_kept (Begun state ∷ deeds) = true
@@ -93,7 +93,7 @@ is_kept (PutOut action ∷ deeds) = is_kept deeds
 -- that the store has failed, if no log was begun since
 abbrev pub loss_of : Deeds → Option Loss
 loss_of [] = None
-loss_of (Heard event ∷ deeds) = loss_of deeds
+loss_of (Received event ∷ deeds) = loss_of deeds
 loss_of (Appended event ∷ deeds) = loss_of deeds
 loss_of (Synced ∷ deeds) = loss_of deeds
 loss_of (Begun state ∷ deeds) = None
@@ -116,7 +116,7 @@ span (event ∷ log) = moment_of event - oldest event log
 
 -- all events that were heard are on the disk
 abbrev pub IsAllOnDisk : Deeds → Type 0
-IsAllOnDisk deeds = (is_kept deeds ≡ true) × (on_disk deeds ≡ heard deeds)
+IsAllOnDisk deeds = (is_kept deeds ≡ true) × (on_disk deeds ≡ arrived deeds)
 
 -- an action may go out: all events that were heard are on the disk, or the state there is marked as
 -- stale
@@ -134,7 +134,7 @@ IsInTime deeds = (is_some (loss_of deeds) ≡ true) ⊎ (span (waiting deeds) < 
 abbrev pub MayBe : (bears : Bool) → Deed → Deeds → Type 0
 MayBe bears (PutOut action) deeds =
     IsAllOnDisk deeds ⊎ ((loss_of deeds ≡ Some Marked) × (bears ≡ true))
-MayBe bears (Heard event) deeds = IsInTime deeds
+MayBe bears (Received event) deeds = IsInTime deeds
 MayBe bears (Appended event) deeds = is_kept deeds ≡ true
 MayBe bears Synced deeds = (is_kept deeds ≡ true) × (waiting deeds ≡ [] → ⊥)
 MayBe bears (Begun state) deeds = Unit {0}
@@ -147,8 +147,8 @@ AreRight bears (deed ∷ deeds) = MayBe bears deed deeds × AreRight bears deeds
 
 -- what a deed that was done adds to the history
 abbrev pub deeds_of : Done → Deeds
-deeds_of (done.Heard next buf) = map Heard (told_by next buf.now)
-deeds_of (done.Appended next buf) = map Appended (told_by next buf.now)
+deeds_of (done.Received next buf) = map Received (logged_by next buf.now)
+deeds_of (done.Appended next buf) = map Appended (logged_by next buf.now)
 deeds_of done.Synced = Synced ∷ []
 deeds_of (done.Begun gateway) = Begun gateway.now ∷ []
 deeds_of (done.GivenUp loss) = GivenUp loss ∷ []

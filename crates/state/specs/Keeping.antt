@@ -49,7 +49,7 @@ pub record HasTended {E : Type 0} (deeds : E → Deeds) (old : Keeping E) (state
     (new : Keeping E) (notice : Option Notice) : Type 0 where
   pub looked : Keeping E
   pub looks : HasLooked deeds old state looked
-  pub tells : notice ≡ notice_of (is_lost looked.standing) looked.patience
+  pub logs : notice ≡ notice_of (is_lost looked.standing) looked.patience
   pub after : new ≡ record looked { patience = after_notice notice looked.patience }
 
 -- What has failed, where the run was stopped so often since its store had failed: the state, and

@@ -18,8 +18,8 @@ pub record IsHeaded (settings : List ℕ) (lines : List (List ℕ)) (text : List
   pub says : lines_in body ≡ settings ∷ lines
 
 -- what a text tells of which so many octets come before the events, and so many are on the disk
-abbrev pub told_by : (head durable : ℕ) → List ℕ → Stored
-told_by head durable text = record {
+abbrev pub logged_by : (head durable : ℕ) → List ℕ → Stored
+logged_by head durable text = record {
   head = lines_in (drop 87 (take head text));
   text = drop head text;
   safe = drop head (take durable text);
@@ -29,7 +29,7 @@ module _ {D : Type 0} {g : Ghosts D} where
   abbrev pub stored_in : Opened D g → Stored
   stored_in opens.Neither = record { head = []; text = []; safe = [] }
   stored_in (opens.Both newest spare) = record { head = []; text = []; safe = [] }
-  stored_in (opens.Current c) = told_by c.head (durable_of c.segment) (text_of c.segment)
+  stored_in (opens.Current c) = logged_by c.head (durable_of c.segment) (text_of c.segment)
 
   -- of a log that takes no lines yet, this holds of the file of the newest segment
   abbrev pub NewestIs : (D → Type 0) → Opened D g → Type 0
@@ -60,7 +60,7 @@ module _ {D : Type 0} {g : Ghosts D} where
   -- Whatever a crash leaves of that file: the segment with the head that the log tells, and behind
   -- it the log's lines, as far as they are synced. Where a crash leaves each octet old or new, each
   -- octet there is one of the log, or 0.
-  pub record SurvivesAsTold (opened : Opened D g) : Type 0 where
+  pub record SurvivesAsLogged (opened : Opened D g) : Type 0 where
     pub number : ℕ
     pub body : List ℕ
     pub says : lines_in body ≡ (stored_in opened).head

@@ -28,14 +28,14 @@ is_try_due p = has_passed 10000 p.tried p.moment
 -- once it was told
 abbrev pub again : Option ℕ → Option Notice
 again None = None
-again (Some told) = Some KeptAgain
+again (Some logged) = Some KeptAgain
 
 -- it is told at once and then each minute, and told once when the state is kept again
 abbrev pub notice_of : (is_given_up : Bool) → Patience → Option Notice
-notice_of true p = if has_passed 60000 p.told p.moment then Some NotKept else None
-notice_of false p = again p.told
+notice_of true p = if has_passed 60000 p.logged p.moment then Some NotKept else None
+notice_of false p = again p.logged
 
 abbrev pub after_notice : Option Notice → Patience → Patience
 after_notice None p = p
-after_notice (Some NotKept) p = record p { told = Some p.moment }
-after_notice (Some KeptAgain) p = record p { told = None }
+after_notice (Some NotKept) p = record p { logged = Some p.moment }
+after_notice (Some KeptAgain) p = record p { logged = None }

@@ -4,18 +4,18 @@ use Rattle.std.specs.Prelude.{length}
 use Rattle.gateway.specs.Agrees.{Follows, Rests}
 use Rattle.gateway.specs.Log.{Log, LogEntry, Came, Went, Output, LineOut, TcpOut, Closed, GapOut}
 use Rattle.gateway.specs.Log.{events_of}
-use Rattle.gateway.specs.Ports.{FitsBuffer, faults_of, told_by}
+use Rattle.gateway.specs.Ports.{FitsBuffer, faults_of, logged_by}
 use Rattle.gateway.specs.Reports.{Setup}
 use Rattle.gateway.specs.State.{State}
 use Rattle.gateway.specs.declared.ports.Next.{Next}
 use Rattle.gateway.specs.declared.ports.Next.TheVariants.{Done}
 use Rattle.traces.specs.Event.{Event}
 use Rattle.traces.specs.Progress.{came}
-use Rattle.traces.specs.Trace.{lines_of, told}
+use Rattle.traces.specs.Trace.{lines_of, logged}
 
 -- a port's answer tells this event
 pub record IsEvent (event : LogEntry) (next : Next) (buf : List ℕ) : Type 0 where
-  pub told : told_by next buf ≡ event ∷ []
+  pub logged : logged_by next buf ≡ event ∷ []
   pub fits : FitsBuffer next
   pub healthy : faults_of next ≡ 0
   pub some : next ≡ Done → ⊥
@@ -38,26 +38,26 @@ before_those (Some event) events = came event ∷ events
 -- the events that lines tell, up to the first line that tells none
 abbrev pub events_in_front : List (List ℕ) → List LogEntry
 events_in_front [] = []
-events_in_front (line ∷ lines) = before_those (told line) (events_in_front lines)
+events_in_front (line ∷ lines) = before_those (logged line) (events_in_front lines)
 
 -- each of these lines tells an event
 abbrev pub AreRead : List (List ℕ) → Type 0
 AreRead lines = length (events_in_front lines) ≡ length lines
 
 -- a port's answer tells this event, if there is one
-abbrev pub IsTold : Option Event → Option Next → (buf : List ℕ) → Type 0
-IsTold None found buf = found ≡ None
-IsTold (Some event) None buf = ⊥
-IsTold (Some event) (Some next) buf = IsEvent (came event) next buf
+abbrev pub IsLogged : Option Event → Option Next → (buf : List ℕ) → Type 0
+IsLogged None found buf = found ≡ None
+IsLogged (Some event) None buf = ⊥
+IsLogged (Some event) (Some next) buf = IsEvent (came event) next buf
 
 -- the answer of a port that has the event of the first line, if that tells one; the others follow
 abbrev pub IsFirst : (lines others : List (List ℕ)) → Option Next → (buf : List ℕ) → Type 0
 IsFirst [] others found buf = found ≡ None
-IsFirst (line ∷ lines) others found buf = IsTold (told line) found buf × (others ≡ lines)
+IsFirst (line ∷ lines) others found buf = IsLogged (logged line) found buf × (others ≡ lines)
 
 -- a gap that was told: the station by its place, and the session
-abbrev pub ToldGap : Type 0
-ToldGap = ℕ × ℕ
+abbrev pub ReportedGap : Type 0
+ReportedGap = ℕ × ℕ
 
 -- how far a replay has come: the lines that are still to come, unless it is over; what was heard
 -- and done in it, the newest first; the log before it; and how often a line couldn't be read
@@ -68,7 +68,7 @@ pub record Replaying : Type 0 where
   pub earlier : Log
   pub failed : ℕ
   -- the gap that the latest step told
-  pub gap : Option ToldGap
+  pub gap : Option ReportedGap
 
 abbrev pub events_left : (is_over : Bool) → List (List ℕ) → List LogEntry
 events_left true coming = []
@@ -78,19 +78,19 @@ abbrev pub log_of : Replaying → Log
 log_of r = r.news ++ r.earlier
 
 -- the gap that an action tells
-abbrev pub gap_of : Output → Option ToldGap
+abbrev pub gap_of : Output → Option ReportedGap
 gap_of (LineOut octets) = None
 gap_of (TcpOut octets) = None
 gap_of (Closed cause) = None
 gap_of (GapOut station session) = Some (station, session)
 
 -- one gap, or else another
-abbrev pub or_gap : Option ToldGap → Option ToldGap → Option ToldGap
+abbrev pub or_gap : Option ReportedGap → Option ReportedGap → Option ReportedGap
 or_gap None gap = gap
 or_gap (Some newest) gap = Some newest
 
 -- the latest gap that was told behind the latest event
-abbrev pub last_gap : Log → Option ToldGap
+abbrev pub last_gap : Log → Option ReportedGap
 last_gap [] = None
 last_gap (Came now event ∷ log) = None
 last_gap (Went now action ∷ log) = or_gap (gap_of action) (last_gap log)
@@ -105,11 +105,11 @@ pub record IsRepeating (events : List LogEntry) (r : Replaying) : Type 0 where
 -- The gateway has heard these events behind this log: it follows a whole log that goes on from this
 -- one with these events, and with the actions of their steps; and the last of these has told this
 -- gap.
-pub record IsReplayed (p : Setup) (log : Log) (events : List LogEntry) (gap : Option ToldGap)
+pub record IsReplayed (p : Setup) (log : Log) (events : List LogEntry) (gap : Option ReportedGap)
     (whole : Log) (s : State) : Type 0 where
   pub news : Log
   pub behind : whole ≡ news ++ log
   pub last : gap ≡ last_gap news
   pub follows : Follows p s (Some whole)
   pub rests : Rests p (Some whole)
-  pub heard : events_of whole ≡ events_of log ++ events
+  pub arrived : events_of whole ≡ events_of log ++ events

@@ -42,6 +42,6 @@ pub record HasReturned (c : Settings) (log : Log) (deeds : Deeds) (o : Origin) :
   pub left : Log
   pub split : waiting deeds ≡ lost ++ left
   pub moment : ℕ
-  pub heard : events_of o.before.entries
+  pub arrived : events_of o.before.entries
       ≡ (events_of log ++ reverse (left ++ safe deeds)) ++ Came moment Restarted ∷ []
   pub follows : Follows (setup_of c) o.gateway (Some o.before.entries)

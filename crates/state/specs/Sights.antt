@@ -7,7 +7,7 @@ use Rattle.segments.specs.Starts.{ArePlaced, HasNoNewer, IsNewest, IsShut, IsSou
 use Rattle.segments.specs.declared.start.Side.{Side}
 use Rattle.settings.specs.Settings.{IsReadOfText}
 use Rattle.state.specs.Beginnings.{AreLinesRead, BearsNumber, IsHeadOf, IsRead, has_past}
-use Rattle.state.specs.Replays.{ToldGap, events_in_front, whole_lines}
+use Rattle.state.specs.Replays.{ReportedGap, events_in_front, whole_lines}
 use Rattle.state.specs.Unread.{IsUnread}
 use Rattle.state.specs.declared.looking.Seen.{Seen}
 use Rattle.state.specs.declared.looking.Sight.{Sight}
@@ -16,7 +16,7 @@ use Rattle.state.specs.declared.start.Beginning.TheVariants as beginnings
 
 -- how many of these lines tell an event, up to the first that tells none, and how many there are
 pub record AreCounted (lines : List (List ℕ)) (events all : ℕ) : Type 0 where
-  pub told : events ≡ length (events_in_front lines)
+  pub logged : events ≡ length (events_in_front lines)
   pub whole : all ≡ length lines
 
 -- A file has this log, behind what passed before: the settings at its head are a file of settings
@@ -30,7 +30,7 @@ pub record IsSeen (log : Log) (file : List ℕ) (s : Seen) : Type 0 where
   pub wrote : Settings
   pub readable : IsReadOfText s.settings.items (Ok wrote)
   pub counted : AreCounted (whole_lines (before_zero (drop begins file))) s.events s.lines
-  pub gap : Option ToldGap
+  pub gap : Option ReportedGap
   pub whole : Log
   pub read : IsRead wrote log lines (before_zero (drop begins file)) gap whole s.gateway
 

@@ -3,7 +3,8 @@ use Rattle.std.specs.Prelude.{◌≡◌, ℕ, Bool, true, false, not, [], ◌∷
 use Rattle.std.specs.Prelude.{None, ◌⊎◌}
 use Rattle.gateway.specs.Log.{Log}
 use Rattle.gateway.specs.State.{State}
-use Rattle.state.specs.Deeds.{Deeds, Begun, GivenUp, Heard, IsAllOnDisk, appended, heard, is_kept}
+use Rattle.state.specs.Deeds.{Deeds, Begun, GivenUp, Received, IsAllOnDisk, appended, arrived}
+use Rattle.state.specs.Deeds.{is_kept}
 use Rattle.state.specs.Deeds.{loss_of, moment_of, oldest, waiting}
 use Rattle.state.specs.declared.loss.Loss.{Loss}
 use Rattle.state.specs.declared.loss.Loss.TheVariants.{Marked, Unmarked}
@@ -18,13 +19,13 @@ since_of (event ∷ log) = Some (oldest event log)
 -- the log has all events that were heard, and some wait for the disk since this moment
 pub record IsWaiting (moment : ℕ) (deeds : Deeds) : Type 0 where
   pub kept : is_kept deeds ≡ true
-  pub whole : appended deeds ≡ heard deeds
+  pub whole : appended deeds ≡ arrived deeds
   pub since : since_of (waiting deeds) ≡ Some moment
 
 -- all of them are on the disk
 pub record IsSynced (deeds : Deeds) : Type 0 where
   pub disk : IsAllOnDisk deeds
-  pub whole : appended deeds ≡ heard deeds
+  pub whole : appended deeds ≡ arrived deeds
   pub none : waiting deeds ≡ []
 
 abbrev pub IsStanding : Standing → Deeds → Type 0
@@ -56,15 +57,15 @@ IsMomentOf (Some now) [] = ⊥
 IsMomentOf (Some now) (event ∷ news) = (moment_of event ≡ now) × (news ≡ [])
 
 -- it stood so, and then these events were heard
-pub record HasHeard (standing : Standing) (news : Log) (deeds : Deeds) : Type 0 where
+pub record HasReceived (standing : Standing) (news : Log) (deeds : Deeds) : Type 0 where
   pub earlier : Deeds
   pub stood : IsStanding standing earlier
-  pub heard : deeds ≡ map Heard news ++ earlier
+  pub arrived : deeds ≡ map Received news ++ earlier
 
 -- what a call on the store leaves of the port beside it
 pub record IsPortLeft {S F : Type 0} (log : S → Option Log) (failed : S → ℕ) (ended : S → Bool)
     (script : S → F) (old new : S) : Type 0 where
-  pub told : log new ≡ log old
+  pub logged : log new ≡ log old
   pub cause : failed new ≡ failed old
   pub over : ended new ≡ ended old
   pub fixed : script new ≡ script old

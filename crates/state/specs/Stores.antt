@@ -4,14 +4,14 @@ use Rattle.gateway.specs.Log.{Log}
 use Rattle.gateway.specs.Restored.{state_lines}
 use Rattle.gateway.specs.State.{State}
 use Rattle.traces.specs.Printed.{lines_of_log}
-use Rattle.state.specs.Deeds.{Deeds, Heard, Appended, Synced, Begun, GivenUp, PutOut, heard}
+use Rattle.state.specs.Deeds.{Deeds, Received, Appended, Synced, Begun, GivenUp, PutOut, arrived}
 use Rattle.state.specs.Deeds.{is_kept, loss_of}
 use Rattle.state.specs.declared.loss.Loss.TheVariants.{Marked}
 
 -- the state at the head of the log
 abbrev pub head : Deeds → Option State
 head [] = None
-head (Heard event ∷ deeds) = head deeds
+head (Received event ∷ deeds) = head deeds
 head (Appended event ∷ deeds) = head deeds
 head (Synced ∷ deeds) = head deeds
 head (Begun state ∷ deeds) = Some state
@@ -21,17 +21,17 @@ head (PutOut action ∷ deeds) = head deeds
 -- the events that led to it
 abbrev pub led_to_head : Deeds → Log
 led_to_head [] = []
-led_to_head (Heard event ∷ deeds) = led_to_head deeds
+led_to_head (Received event ∷ deeds) = led_to_head deeds
 led_to_head (Appended event ∷ deeds) = led_to_head deeds
 led_to_head (Synced ∷ deeds) = led_to_head deeds
-led_to_head (Begun state ∷ deeds) = heard deeds
+led_to_head (Begun state ∷ deeds) = arrived deeds
 led_to_head (GivenUp loss ∷ deeds) = led_to_head deeds
 led_to_head (PutOut action ∷ deeds) = led_to_head deeds
 
 -- the events behind it
 abbrev pub written : Deeds → Log
 written [] = []
-written (Heard event ∷ deeds) = written deeds
+written (Received event ∷ deeds) = written deeds
 written (Appended event ∷ deeds) = event ∷ written deeds
 written (Synced ∷ deeds) = written deeds
 written (Begun state ∷ deeds) = []
@@ -41,7 +41,7 @@ written (PutOut action ∷ deeds) = written deeds
 -- those of them that are on the disk
 abbrev pub safe : Deeds → Log
 safe [] = []
-safe (Heard event ∷ deeds) = safe deeds
+safe (Received event ∷ deeds) = safe deeds
 safe (Appended event ∷ deeds) = safe deeds
 safe (Synced ∷ deeds) = written deeds
 safe (Begun state ∷ deeds) = []

@@ -23,7 +23,7 @@ ghost use Rattle.state.specs.Unread.{AreStateOf, HasState, IsUnread, WasAside};
 use crate::disk_store::DiskStore;
 use crate::event_text::EventText;
 use crate::folder::{Folder, FolderFault};
-use crate::replaying::{EventLines, Lineage, Replayed, ToldGap, are_read, replay};
+use crate::replaying::{EventLines, Lineage, Replayed, ReportedGap, are_read, replay};
 use crate::start::{Beginning, Found, beginning_of};
 use checkpoint::{Lines, StateFault};
 use gateway::{Config, Gateway, History, NoMemory};
@@ -44,7 +44,7 @@ pub struct Origin {
     /// What was made of what was found.
     pub beginning: Beginning,
     /// The gap that the last step before the end told, if it did: it may not have been seen.
-    pub gap: Option<ToldGap>,
+    pub gap: Option<ReportedGap>,
     /// What passed in the lives before, as far as the directory tells it.
     pub before: History,
     /// The state was kept under other settings.
@@ -63,7 +63,7 @@ pub struct Begun<F: Folder + Drop> {
 pub(crate) struct Resumed {
     pub(crate) gateway: Gateway,
     /// The gap that its last step told, if it did.
-    gap: Option<ToldGap>,
+    gap: Option<ReportedGap>,
     /// What passed before.
     before: History,
     /// It was kept under other settings.

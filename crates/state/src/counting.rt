@@ -25,14 +25,14 @@ pub(crate) fn count_all<L: EventLines + Drop>(alloc: Global, lines: L) -> Result
 }
 
 /// How many lines tell an event, up to the first that tells none.
-pub(crate) fn count_told<L: EventLines + Drop>(alloc: Global, lines: L) -> Result<u64, StateFault>
-    ensures told { IfOk result (λ n. n ≡ length (events_in_front (L.coming lines))) }
+pub(crate) fn count_logged<L: EventLines + Drop>(alloc: Global, lines: L) -> Result<u64, StateFault>
+    ensures logged { IfOk result (λ n. n ≡ length (events_in_front (L.coming lines))) }
     ensures fault { IfErr result (λ fault. fault ≡ StateFault.Wrong → ⊥) }
 {
     let mut lines = lines;
     let mut line = Vec::new(alloc);
     for number in 0..u64::MAX {
-        match tells_next(alloc, &mut lines, &mut line) {
+        match logs_next(alloc, &mut lines, &mut line) {
             Ok(true) => {}
             Ok(false) => return Ok(number),
             Err(fault) => return Err(broken_off(fault)),
@@ -43,15 +43,15 @@ pub(crate) fn count_told<L: EventLines + Drop>(alloc: Global, lines: L) -> Resul
 }
 
 /// Whether a line comes next that tells an event.
-fn tells_next<L: EventLines>(
+fn logs_next<L: EventLines>(
     alloc: Global,
     lines: &mut L,
     line: &mut Vec<u8>,
 ) -> Result<bool, StateFault>
-    ensures told { IfOk result (λ tells. tells ≡ true →
+    ensures logged { IfOk result (λ logs. logs ≡ true →
         length (events_in_front (L.coming lines.old))
         ≡ 1 + length (events_in_front (L.coming lines.new))) }
-    ensures none { IfOk result (λ tells. tells ≡ false →
+    ensures none { IfOk result (λ logs. logs ≡ false →
         events_in_front (L.coming lines.old) ≡ []) }
 {
     let mut buf = [0; 1024];

@@ -44,7 +44,7 @@ pub struct DiskStore<F: Folder + Drop> {
 impl<F: Folder + Drop> DiskStore<F> {
     ghost use Rattle.segments.specs.Starts.{IsBacked};
     ghost use Rattle.segments.specs.Crashes.{HasNoZero};
-    ghost use Rattle.state.specs.Logs.{Bears, SpareIs, SurvivesAsTold, stored_in};
+    ghost use Rattle.state.specs.Logs.{Bears, SpareIs, SurvivesAsLogged, stored_in};
 
     /// One over a directory whose files aren't open. The next segment has this number.
     pub(crate) fn new(alloc: Global, folder: F, settings: Vec<u8>, number: u64) -> DiskStore<F>
@@ -152,7 +152,7 @@ impl<F: Folder + Drop> DiskStore<F> {
     #[tactic(auto, using(crate::proofs::Surviving::none_survives))]
     pub fn survives(&self)
         ensures { ((stored_in self.now.opened).head ≡ [] → ⊥) →
-            HasNoZero (stored_in self.now.opened).text → SurvivesAsTold self.now.opened }
+            HasNoZero (stored_in self.now.opened).text → SurvivesAsLogged self.now.opened }
     {
         if let Opened::Current(current) = &self.opened {
             current.segment.survives();

@@ -6,11 +6,11 @@ use live::EndsSight;
 
 /// A port and a store, with one history of what is done at both.
 pub trait Ends {
-    ghost use Rattle.gateway.specs.Log.{LogEntry, Went, tell};
-    ghost use Rattle.gateway.specs.Ports.{FitsBuffer, faults_of, output_of, told_by};
+    ghost use Rattle.gateway.specs.Log.{LogEntry, Went, with_news};
+    ghost use Rattle.gateway.specs.Ports.{FitsBuffer, faults_of, output_of, logged_by};
     ghost use Rattle.gateway.specs.declared.ports.Next.TheVariants.{Done};
     ghost use Rattle.live.specs.declared.watched.Failure.{Failure};
-    ghost use Rattle.state.specs.Deeds.{Appended, Begun, Deed, GivenUp, Heard, IsSafe, PutOut};
+    ghost use Rattle.state.specs.Deeds.{Appended, Begun, Deed, GivenUp, Received, IsSafe, PutOut};
     ghost use Rattle.state.specs.Deeds.{Synced, is_kept};
     ghost use Rattle.state.specs.Renewals.{is_renewal_due};
     ghost use Rattle.state.specs.Standings.{IsPortLeft};
@@ -35,8 +35,8 @@ pub trait Ends {
     /// The next event of the port.
     fn next(&mut self, buf: &mut [u8; 1024]) -> Next
         requires { failed self.old < u64.MAX }
-        ensures heard { deeds self.new ≡ map Heard (told_by result buf.new) ++ deeds self.old }
-        ensures told { log self.new ≡ tell (log self.old) (told_by result buf.new) }
+        ensures arrived { deeds self.new ≡ map Received (logged_by result buf.new) ++ deeds self.old }
+        ensures logged { log self.new ≡ with_news (log self.old) (logged_by result buf.new) }
         ensures fits { FitsBuffer result }
         ensures done { result ≡ Done → ended self.new ≡ true }
         ensures script { script self.new ≡ script self.old }
@@ -49,8 +49,8 @@ pub trait Ends {
         ensures put { deeds self.new
             ≡ (if result then PutOut (Went now (output_of action.now)) ∷ [] else [])
             ++ deeds self.old }
-        ensures told { log self.new
-            ≡ (if result then tell (log self.old) (Went now (output_of action.now) ∷ [])
+        ensures logged { log self.new
+            ≡ (if result then with_news (log self.old) (Went now (output_of action.now) ∷ [])
             else log self.old) }
         ensures script { script self.new ≡ script self.old }
         ensures cause { failed self.new ≡ failed self.old + (if result then 0 else 1) };
@@ -73,7 +73,7 @@ pub trait Ends {
         requires kept { is_kept (deeds self.old) ≡ true }
         requires fits { FitsBuffer next }
         ensures appended { MatchResult result
-            (λ _. deeds self.new ≡ map Appended (told_by next buf.now) ++ deeds self.old)
+            (λ _. deeds self.new ≡ map Appended (logged_by next buf.now) ++ deeds self.old)
             (λ loss. deeds self.new ≡ GivenUp loss ∷ deeds self.old) }
         ensures port { IsPortLeft log failed ended script self.old self.new };
 

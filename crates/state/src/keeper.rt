@@ -2,8 +2,8 @@
 ghost use Rattle.std.specs.Prelude.{◌≡◌, ◌+◌, ◌<◌, ◌≤◌, ◌∷◌, [], ◌++◌, ◌⊎◌, true, false};
 ghost use Rattle.std.specs.Prelude.{if◌then◌else◌, nat_lt};
 ghost use Rattle.std.specs.Option.{is_some};
-ghost use Rattle.gateway.specs.Log.{Went, tell};
-ghost use Rattle.gateway.specs.Ports.{FitsBuffer, faults_of, output_of, told_by};
+ghost use Rattle.gateway.specs.Log.{Went, with_news};
+ghost use Rattle.gateway.specs.Ports.{FitsBuffer, faults_of, output_of, logged_by};
 ghost use Rattle.gateway.specs.declared.ports.Next.TheVariants.{Done};
 ghost use Rattle.state.specs.Deeds.{passed};
 ghost use Rattle.state.specs.Keeping.{IsOrderly, failure_of};
@@ -194,16 +194,16 @@ impl<E: Ends + Drop> Port for Keeper<E> {
     /// came are on the disk.
     fn next(&mut self, buf: &mut [u8; 1024]) -> Next
         requires { E.failed self.old.ends + self.old.stops < u64.MAX }
-        ensures told { E.log self.new.ends ≡ tell (E.log self.old.ends) (told_by result buf.new) }
+        ensures logged { E.log self.new.ends ≡ with_news (E.log self.old.ends) (logged_by result buf.new) }
         ensures passes { passed (E.deeds self.new.ends)
-            ≡ told_by result buf.new ++ passed (E.deeds self.old.ends) }
+            ≡ logged_by result buf.new ++ passed (E.deeds self.old.ends) }
         ensures fits { FitsBuffer result }
         ensures done { result ≡ Done → E.ended self.new.ends ≡ true }
         ensures script { E.script self.new.ends ≡ E.script self.old.ends }
         ensures cause { E.failed self.new.ends + self.new.stops
             ≡ E.failed self.old.ends + self.old.stops + faults_of result }
         ensures moment { self.new.patience ≡ record self.old.patience {
-          moment = moment_after (told_by result buf.new) self.old.patience.moment;
+          moment = moment_after (logged_by result buf.new) self.old.patience.moment;
         } }
         // The port is asked unless the store has failed, and that isn't borne.
         ensures asks { is_stopped self.old.standing self.old.bears_loss ≡ false →
@@ -214,7 +214,7 @@ impl<E: Ends + Drop> Port for Keeper<E> {
             return Next::Fault;
         }
         let next = self.ends.next(buf);
-        self.patience.hear(next);
+        self.patience.receive(next);
         self.standing = keep(&mut self.ends, self.standing, next, buf);
         next
     }
@@ -222,8 +222,8 @@ impl<E: Ends + Drop> Port for Keeper<E> {
     /// Whatever waits is synced first.
     fn put(&mut self, now: u64, action: &Action<'_>) -> bool
         requires { E.failed self.old.ends + self.old.stops < u64.MAX }
-        ensures told { E.log self.new.ends
-            ≡ (if result then tell (E.log self.old.ends) (Went now (output_of action.now) ∷ [])
+        ensures logged { E.log self.new.ends
+            ≡ (if result then with_news (E.log self.old.ends) (Went now (output_of action.now) ∷ [])
             else E.log self.old.ends) }
         ensures passes { passed (E.deeds self.new.ends)
             ≡ (if result then Went now (output_of action.now) ∷ [] else [])

@@ -1,9 +1,9 @@
 //! What is appended and when it is synced.
 ghost use Rattle.std.specs.Prelude.{◌≡◌, ℕ, Bool, false, List};
-ghost use Rattle.gateway.specs.Ports.{FitsBuffer, told_by};
+ghost use Rattle.gateway.specs.Ports.{FitsBuffer, logged_by};
 ghost use Rattle.state.specs.Deeds.{AreRight, IsSafe, passed};
 ghost use Rattle.state.specs.Keeping.{IsOrderly};
-ghost use Rattle.state.specs.Standings.{HasHeard, IsMomentOf, IsPortLeft, IsSettled, IsStanding};
+ghost use Rattle.state.specs.Standings.{HasReceived, IsMomentOf, IsPortLeft, IsSettled, IsStanding};
 ghost use Rattle.state.specs.Standings.{is_stopped};
 
 use crate::ends::Ends;
@@ -16,7 +16,7 @@ const LONGEST_WAIT_MS: u64 = 1_000;
 
 /// The moment of an event, if a port has one.
 fn moment_of(next: Next) -> Option<u64>
-    ensures { (buf : List ℕ) → IsMomentOf result (told_by next buf) }
+    ensures { (buf : List ℕ) → IsMomentOf result (logged_by next buf) }
 {
     match next {
         Next::Line(now, _) | Next::Bytes(now, _) | Next::Wall(now, _) => Some(now),
@@ -54,7 +54,7 @@ pub(crate) fn keep<E: Ends>(
     next: Next,
     buf: &[u8; 1024],
 ) -> Standing
-    requires heard { HasHeard standing (told_by next buf.now) (E.deeds ends.old) }
+    requires arrived { HasReceived standing (logged_by next buf.now) (E.deeds ends.old) }
     requires fits { FitsBuffer next }
     ensures orderly { (bears : Bool) → AreRight bears (E.deeds ends.old) →
         IsOrderly bears result (E.deeds ends.new) }

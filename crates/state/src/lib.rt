@@ -35,7 +35,7 @@ pub use looking::{Seen, Sight, look};
 pub use loss::Loss;
 pub use pair::Pair;
 pub use renewal::{Patience, is_renewal_due};
-pub use replaying::{EventLines, Lineage, Replayed, ToldGap, replay};
+pub use replaying::{EventLines, Lineage, Replayed, ReportedGap, replay};
 pub use standing::Standing;
 pub use start::{Beginning, Found, beginning_of};
 pub use store::Store;

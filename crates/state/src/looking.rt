@@ -15,7 +15,7 @@ ghost use Rattle.state.specs.Unread.{AreStateOf, HasState};
 use crate::beginning::{
     Opening, found_in, lines_of, may_go_on, read_opening, replayed, unread, with_past,
 };
-use crate::counting::{count_all, count_told};
+use crate::counting::{count_all, count_logged};
 use crate::folder::FolderFault;
 use crate::replaying::Lineage;
 use crate::start::{Beginning, beginning_of};
@@ -219,7 +219,7 @@ fn see_behind<K: Lineage, D: Disk + Drop>(
         side,
         settings,
         lines: count.all,
-        events: count.told,
+        events: count.logged,
         gateway: resumed.gateway,
     })
 }
@@ -227,7 +227,7 @@ fn see_behind<K: Lineage, D: Disk + Drop>(
 /// How many lines stand behind the head.
 #[derive(Clone, Copy)]
 struct LineCount {
-    told: u64,
+    logged: u64,
     all: u64,
 }
 
@@ -235,12 +235,12 @@ struct LineCount {
 fn count<D: Disk + Drop>(alloc: Global, start: &mut Start<D>) -> Result<LineCount, StateFault>
     requires honest { (file : D) → IsTrue (D.Disk.is_clean file) }
     ensures counted { IfOk result (λ n.
-        AreCounted (whole_lines (events_in start.old)) n.told n.all) }
+        AreCounted (whole_lines (events_in start.old)) n.logged n.all) }
     ensures fault { IfErr result (λ fault. fault ≡ StateFault.Wrong → ⊥) }
 {
     let lines = lines_of(alloc, start)?;
-    let told = count_told(alloc, lines)?;
+    let logged = count_logged(alloc, lines)?;
     let lines = lines_of(alloc, start)?;
     let all = count_all(alloc, lines)?;
-    Ok(LineCount { told, all })
+    Ok(LineCount { logged, all })
 }

@@ -1,7 +1,7 @@
 //! A port, and a store beside it.
 ghost use Rattle.std.specs.Prelude.{◌≡◌, ◌++◌, ℕ, List, true, [], length};
 ghost use Rattle.std.specs.List.{AllByRecursion};
-ghost use Rattle.gateway.specs.Ports.{FitsBuffer, told_by};
+ghost use Rattle.gateway.specs.Ports.{FitsBuffer, logged_by};
 ghost use Rattle.state.specs.Crashed.{FitsLine, IsWritable};
 ghost use Rattle.traces.specs.Printed.{lines_of_log};
 
@@ -105,9 +105,9 @@ fn is_writable(next: Next) -> bool
 fn take<S: Store>(alloc: Global, store: &mut S, next: Next, buf: &[u8; 1024]) -> bool
     requires { FitsBuffer next }
     ensures taken { result ≡ true → S.stored store.new ≡ record (S.stored store.old) {
-      text = (S.stored store.old).text ++ lines_of_log (told_by next buf.now);
+      text = (S.stored store.old).text ++ lines_of_log (logged_by next buf.now);
     } }
-    ensures writable { result ≡ true → AllByRecursion IsWritable (told_by next buf.now) }
+    ensures writable { result ≡ true → AllByRecursion IsWritable (logged_by next buf.now) }
     ensures mark { S.mark store.new ≡ S.mark store.old }
     ensures settings { S.settings store.new ≡ S.settings store.old }
 {
@@ -141,7 +141,7 @@ impl<P: Watched + Drop, S: Store + Drop> Ends for Pair<P, S> {
 
     fn next(&mut self, buf: &mut [u8; 1024]) -> Next {
         let next = self.port.next(buf);
-        self.trail = self.trail.with(&Done::Heard(next, buf));
+        self.trail = self.trail.with(&Done::Received(next, buf));
         next
     }
 

@@ -2,7 +2,7 @@
 ghost use Rattle.std.specs.Prelude.{◌≡◌, ℕ, List};
 ghost use Rattle.state.specs.Renewals.{after_notice, has_passed, is_renewal_due, is_try_due};
 ghost use Rattle.state.specs.Renewals.{moment_after, notice_of};
-ghost use Rattle.gateway.specs.Ports.{told_by};
+ghost use Rattle.gateway.specs.Ports.{logged_by};
 
 use gateway::Next;
 use live::Notice;
@@ -15,7 +15,7 @@ const MOST_OCTETS: u64 = 3_900_000;
 const RETRY_MS: u64 = 10_000;
 
 /// How long it takes until it is told again that the state isn't kept, in ms.
-const TELL_MS: u64 = 60_000;
+const NOTICE_MS: u64 = 60_000;
 
 /// Whether a log is begun anew, whose events have so many octets.
 pub fn is_renewal_due(events: u64) -> bool
@@ -32,7 +32,7 @@ pub struct Patience {
     /// When a new log was tried last, and couldn't be begun.
     pub tried: Option<u64>,
     /// When it was told last that the state isn't kept.
-    pub told: Option<u64>,
+    pub logged: Option<u64>,
 }
 
 /// Whether so many ms have passed since, or it never was.
@@ -50,13 +50,13 @@ impl Patience {
     pub const NEW: Patience = Patience {
         moment: 0,
         tried: None,
-        told: None,
+        logged: None,
     };
 
     /// An event came, if this tells one.
-    pub(crate) fn hear(&mut self, next: Next)
+    pub(crate) fn receive(&mut self, next: Next)
         ensures { (buf : List ℕ) → self.new ≡ record self.old {
-          moment = moment_after (told_by next buf) self.old.moment;
+          moment = moment_after (logged_by next buf) self.old.moment;
         } }
     {
         match next {
@@ -79,16 +79,16 @@ impl Patience {
         ensures after { self.new ≡ after_notice result self.old }
     {
         if is_given_up {
-            if !has_passed(TELL_MS, self.told, self.moment) {
+            if !has_passed(NOTICE_MS, self.logged, self.moment) {
                 return None;
             }
-            self.told = Some(self.moment);
+            self.logged = Some(self.moment);
             return Some(Notice::NotKept);
         }
-        match self.told {
+        match self.logged {
             None => None,
             Some(_) => {
-                self.told = None;
+                self.logged = None;
                 Some(Notice::KeptAgain)
             }
         }

@@ -4,9 +4,9 @@ ghost use Rattle.gateway.specs.Log.{LogEntry};
 ghost use Rattle.gateway.specs.Agrees.{Follows, Rests};
 ghost use Rattle.gateway.specs.Reports.{Setup};
 ghost use Rattle.gateway.specs.Ports.{output_of};
-ghost use Rattle.state.specs.Replays.{AreRead, IsFirst, IsRepeating, IsReplayed, IsTold};
+ghost use Rattle.state.specs.Replays.{AreRead, IsFirst, IsRepeating, IsReplayed, IsLogged};
 ghost use Rattle.state.specs.Replays.{events_in_front, gap_of};
-ghost use Rattle.traces.specs.Trace.{lines_of, told};
+ghost use Rattle.traces.specs.Trace.{lines_of, logged};
 
 use checkpoint::StateFault;
 use gateway::{Action, End, Gateway, History, Next, Port, announce, drive_on};
@@ -63,19 +63,19 @@ impl Script for Brand {
 
 /// A gap that was told: the station by its place among the settings, from 0, and the session
 /// numbered from 1.
-pub type ToldGap = (usize, u64);
+pub type ReportedGap = (usize, u64);
 
 /// What a replay leaves.
 #[derive(Drop)]
 pub struct Replayed {
     /// The gap that its last step told, if it did.
-    pub gap: Option<ToldGap>,
+    pub gap: Option<ReportedGap>,
     /// The log before it, with the events of the replay and what the gateway did on them.
     pub log: History,
 }
 
 /// The gap that an action tells, if it is one.
-fn gap_of(action: &Action<'_>) -> Option<ToldGap>
+fn gap_of(action: &Action<'_>) -> Option<ReportedGap>
     ensures { result ≡ gap_of (output_of action.now) }
 {
     match action {
@@ -95,7 +95,7 @@ struct Repeater<K: Script, L: EventLines + Drop> {
     is_over: bool,
     history: History,
     /// The gap that the latest step told, if it did.
-    gap: Option<ToldGap>,
+    gap: Option<ReportedGap>,
     fault: StateFault,
     failures: u64,
     of: PhantomData<K>,
@@ -135,14 +135,14 @@ fn known(_news: &History) -> History
 
 /// Gives the event that a line tells, if it tells one, as a port does: its octets are put at the
 /// front of the buffer.
-#[tactic(auto, using(crate::proofs::Repeated::unannounced, crate::proofs::Repeated::wrongly_told))]
+#[tactic(auto, using(crate::proofs::Repeated::unannounced, crate::proofs::Repeated::wrongly_logged))]
 fn announce_line(
     alloc: Global,
     line: &[u8],
     buf: &mut [u8; 1024],
 ) -> Result<Option<Next>, StateFault>
     requires { lines_of line.now ≡ line.now ∷ [] }
-    ensures { IfOk result (λ found. IsTold (told line.now) found buf.new) }
+    ensures { IfOk result (λ found. IsLogged (logged line.now) found buf.new) }
 {
     match read_trace(alloc, line) {
         Ok(entries) => match entries.as_slice() {
@@ -221,7 +221,7 @@ impl<K: Script, L: EventLines + Drop> Repeater<K, L> {
     }
 
     /// The gap that the latest step told, if it did.
-    fn gap(&self) -> Option<ToldGap>
+    fn gap(&self) -> Option<ReportedGap>
         ensures { result ≡ self.now.gap }
     {
         self.gap

@@ -11,7 +11,7 @@ use std::marker::Model;
 #[derive(Clone, Copy)]
 pub enum Done<'a> {
     /// A port gave this answer, whose octets are the front of the buffer.
-    Heard(Next, &'a [u8; 1024]),
+    Received(Next, &'a [u8; 1024]),
     /// The line of that event was appended.
     Appended(Next, &'a [u8; 1024]),
     /// All that was appended is on the disk.

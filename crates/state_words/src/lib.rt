@@ -1,9 +1,9 @@
 //! What is told of a state that is kept: the notes of a start, and lines for who looks at its
 //! directory.
 //!
-//! [`tell_state`] puts into lines what `state::look` has found: how a run would begin, in the words
+//! [`describe_state`] puts into lines what `state::look` has found: how a run would begin, in the words
 //! that it would log then; the segment that counts; and how the links stand behind its events.
-//! Proved: the text is this function of what was found ([`tell_state`]'s contract), and the link of
+//! Proved: the text is this function of what was found ([`describe_state`]'s contract), and the link of
 //! a station is shown as a request without an answer so far leaves it.
 #![tactic(auto)]
 
@@ -12,4 +12,4 @@ mod stations;
 mod text;
 
 pub use notes::{note_of, note_of_queue, note_of_settings};
-pub use text::tell_state;
+pub use text::describe_state;

@@ -132,7 +132,7 @@ fn push_gateway(text: &mut String, gateway: &Gateway) -> Result<(), AllocError>
 {
     let moment = gateway.moment();
     write!(text, "moment in ms {moment}")?;
-    push_wall(text, gateway.wall_told())?;
+    push_wall(text, gateway.last_wall())?;
     push_stations(text, gateway.line())
 }
 
@@ -201,7 +201,7 @@ fn is_moved(given: Option<&[u8]>, seen: &Seen) -> bool
 /// The lines for who looks at a directory in which this was found, with whether a run has it,
 /// whether it is marked as stale, and the file of settings that a run is to have, if one is given.
 /// Only want of memory is answered by an `Err`.
-pub fn tell_state(
+pub fn describe_state(
     alloc: Global,
     is_held: bool,
     is_stale: bool,

@@ -23,7 +23,7 @@ use Rattle.std.specs.Option.{option_and_then}
 use Rattle.hex.specs.Hex.{IsBytes, encode_lower, is_hex_digit, decode_of}
 use Rattle.hex.proofs.HexLemmas.{decode_of-encode_lower, decode_of-ok}
 use Rattle.statetext.specs.Text.{text_behind, text_of_numbers, text_of_octets, with_digit, before}
-use Rattle.statetext.specs.Text.{numbers_behind, octets_told, line_in, before_lines, lines_of_parts}
+use Rattle.statetext.specs.Text.{numbers_behind, octets_read, line_in, before_lines, lines_of_parts}
 use Rattle.statetext.specs.Text.{lines_in, IsWhole}
 
 -- a text without line feeds
@@ -165,7 +165,7 @@ numbers_row (n ∷ ns) are =
 -- Octets
 
 pub octets_line : (octets : List ℕ) → IsBytes octets → line_in (text_of_octets octets) ≡ Some octets
-octets_line octets bytes = ap octets_told (decode_of-encode_lower octets bytes)
+octets_line octets bytes = ap octets_read (decode_of-encode_lower octets bytes)
 
 hex_row : (c : ℕ) → is_hex_digit c ≡ true → (c == 10) ≡ false
 hex_row c is = go (nat_le 65 c && nat_le c 70) (nat_le 97 c && nat_le c 102)

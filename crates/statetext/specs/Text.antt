@@ -47,14 +47,14 @@ numbers_behind number (c ∷ cs) =
     else option_and_then (λ n. numbers_behind (Some n) cs) (with_digit number c)
 
 -- octets that are spelled in hexadecimal
-abbrev pub octets_told : Result (List ℕ) FromHexError → Option (List ℕ)
-octets_told (Ok octets) = Some octets
-octets_told (Err fault) = None
+abbrev pub octets_read : Result (List ℕ) FromHexError → Option (List ℕ)
+octets_read (Ok octets) = Some octets
+octets_read (Err fault) = None
 
 -- what a line says, if it is one of numbers or of octets; the empty one has no number
 abbrev pub line_in : List ℕ → Option (List ℕ)
 line_in [] = Some []
-line_in (c ∷ cs) = if c == 120 then octets_told (decode_of cs) else numbers_behind None (c ∷ cs)
+line_in (c ∷ cs) = if c == 120 then octets_read (decode_of cs) else numbers_behind None (c ∷ cs)
 
 -- a line before others, if it is one
 abbrev pub before_lines : Option (List ℕ) → List (List ℕ) → List (List ℕ)

@@ -5,7 +5,7 @@ ghost use Rattle.std.specs.Prelude.{Err};
 ghost use Rattle.checkpoint.specs.Octets.{IsOctetLine};
 ghost use Rattle.checkpoint.specs.declared.StateFault.TheVariants.{Wrong, NoMemory};
 ghost use Rattle.statetext.specs.Text.{lines_in, line_in, before_lines, numbers_behind, with_digit};
-ghost use Rattle.statetext.specs.Text.{octets_told};
+ghost use Rattle.statetext.specs.Text.{octets_read};
 ghost use Rattle.hex.specs.Hex.{decode_of};
 
 use checkpoint::{Lines, StateFault};
@@ -94,8 +94,8 @@ fn read_numbers(text: &[u8], line: &mut Vec<u64>) -> Result<(), StateFault>
 
 /// Reads octets in hexadecimal in place of a line.
 fn read_octets(text: &[u8], line: &mut Vec<u8>) -> Result<(), StateFault>
-    ensures some { OnOk result (octets_told (decode_of text.now) ≡ Some line.new.items) }
-    ensures none { result ≡ Err Wrong → octets_told (decode_of text.now) ≡ None }
+    ensures some { OnOk result (octets_read (decode_of text.now) ≡ Some line.new.items) }
+    ensures none { result ≡ Err Wrong → octets_read (decode_of text.now) ≡ None }
 {
     line.clear();
     if line.resize(text.len() / 2, 0).is_err() {

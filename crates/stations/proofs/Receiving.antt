@@ -5,10 +5,10 @@ use Rattle.std.specs.Prelude.{IfSome, unwrap_or, ◌⊎◌}
 use Rattle.std.proofs.lemmas.List.Folds.{list_all-append}
 use Rattle.std.specs.List.{list_all}
 use Rattle.std.specs.Option.{is_none}
-use Rattle.ft12.specs.Assembly.{Hears}
+use Rattle.ft12.specs.Assembly.{Receives}
 use Rattle.ft12.specs.Reading.{IsFront}
-use Rattle.ft12.specs.declared.assembling.Heard.{Heard}
-use Rattle.ft12.specs.declared.assembling.Heard.TheVariants as received
+use Rattle.ft12.specs.declared.assembling.Received.{Received}
+use Rattle.ft12.specs.declared.assembling.Received.TheVariants as received
 use Rattle.ft12.specs.declared.frame.Why.{Why}
 use Rattle.ft12.specs.declared.frame.Frame.{Frame}
 use Rattle.ft12.specs.declared.frame.Front.TheVariants.{Whole}
@@ -292,22 +292,23 @@ comes_back_so view now e request back new c =
     subst (λ (s : OutstationsState). ComesBack s request back new) e c
 
 -- what an assembler says that listens
-received_by : (size : LinkSize) (o : Option (List ℕ)) (so_far octets : List ℕ) (n : ℕ) (h : Heard)
+received_by : (size : LinkSize) (o : Option (List ℕ)) (so_far octets : List ℕ) (n : ℕ)
+    (h : Received)
     (after : Option (List ℕ)) → o ≡ Some so_far →
-    IfSome o (λ (s : List ℕ). Hears size s octets n h after) →
-    Hears size so_far octets n h after
+    IfSome o (λ (s : List ℕ). Receives size s octets n h after) →
+    Receives size so_far octets n h after
 received_by size o so_far octets n h after e all =
-    let on : IfSome (Some so_far) (λ (s : List ℕ). Hears size s octets n h after) =
-    subst (λ (x : Option (List ℕ)). IfSome x (λ (s : List ℕ). Hears size s octets n h after)) e
+    let on : IfSome (Some so_far) (λ (s : List ℕ). Receives size s octets n h after) =
+    subst (λ (x : Option (List ℕ)). IfSome x (λ (s : List ℕ). Receives size s octets n h after)) e
     all in
     on
 
 -- a whole frame was received, and answered
 pub front_received : (view now new : OutstationsState) → view ≡ now → (octets : List ℕ)
     (before after : StreamHistory) (n : ℕ) (result is_taken : Bool) → result ≡ is_taken →
-    (request : Frame) (h : Heard) → h ≡ received.Frame request →
+    (request : Frame) (h : Received) → h ≡ received.Frame request →
     (o next : Option (List ℕ)) → o ≡ Some view.so_far → (size : LinkSize) → size ≡ view.size →
-    IfSome o (λ (s : List ℕ). Hears size s octets n h next) →
+    IfSome o (λ (s : List ℕ). Receives size s octets n h next) →
     (answer : Option (List ℕ))
     × IsRequestAnswered (record view { so_far = unwrap_or next [] }) request answer new
     × (after ≡ answer_written before answer result)
@@ -316,9 +317,9 @@ pub front_received : (view now new : OutstationsState) → view ≡ now → (oct
 front_received view now new e octets before after n result is_taken t request h f o next l size z
     all
     a =
-    let received_now : Hears view.size view.so_far octets n (received.Frame request) next =
-    subst (λ (s : LinkSize). Hears s view.so_far octets n (received.Frame request) next) z
-    (subst (λ (x : Heard). Hears size view.so_far octets n x next) f
+    let received_now : Receives view.size view.so_far octets n (received.Frame request) next =
+    subst (λ (s : LinkSize). Receives s view.so_far octets n (received.Frame request) next) z
+    (subst (λ (x : Received). Receives size view.so_far octets n x next) f
     (received_by size o view.so_far octets n h next l all)) in
     let empty : unwrap_or next [] ≡ [] = ap (λ (x : Option (List ℕ)). unwrap_or x [])
     received_now.1 in
@@ -341,14 +342,14 @@ front_received view now new e octets before after n result is_taken t request h 
 -- octets that begin a frame
 pub begun_kept : (view now : OutstationsState) → view ≡ now
     → (octets : List ℕ) (before : StreamHistory) (n : ℕ)
-    (h : Heard) → h ≡ received.More → (o next : Option (List ℕ)) → o ≡ Some view.so_far →
+    (h : Received) → h ≡ received.More → (o next : Option (List ℕ)) → o ≡ Some view.so_far →
     (size : LinkSize) → size ≡ view.size →
-    IfSome o (λ (s : List ℕ). Hears size s octets n h next) →
+    IfSome o (λ (s : List ℕ). Receives size s octets n h next) →
     IsRestKept now octets before before (record view { so_far = unwrap_or next [] })
 begun_kept view now e octets before n h f o next l size z all =
-    let received_now : Hears view.size view.so_far octets n received.More next =
-    subst (λ (s : LinkSize). Hears s view.so_far octets n received.More next) z
-    (subst (λ (x : Heard). Hears size view.so_far octets n x next) f
+    let received_now : Receives view.size view.so_far octets n received.More next =
+    subst (λ (s : LinkSize). Receives s view.so_far octets n received.More next) z
+    (subst (λ (x : Received). Receives size view.so_far octets n x next) f
     (received_by size o view.so_far octets n h next l all)) in
     let kept : unwrap_or next [] ≡ view.so_far ++ octets =
     ap (λ (x : Option (List ℕ)). unwrap_or x []) received_now.2 in
@@ -365,15 +366,15 @@ begun_kept view now e octets before n h f o next l size z all =
 -- octets that begin none
 pub spoilt_kept : (view now : OutstationsState) → view ≡ now
     → (octets : List ℕ) (before : StreamHistory)
-    (n place : ℕ) (why : Why) (h : Heard) → h ≡ received.Never place why →
+    (n place : ℕ) (why : Why) (h : Received) → h ≡ received.Never place why →
     (o next cleared : Option (List ℕ)) → o ≡ Some view.so_far → cleared ≡ Some [] →
     (size : LinkSize) → size ≡ view.size →
-    IfSome o (λ (s : List ℕ). Hears size s octets n h next) →
+    IfSome o (λ (s : List ℕ). Receives size s octets n h next) →
     IsRestKept now octets before before (record view { so_far = unwrap_or cleared [] })
 spoilt_kept view now e octets before n place why h f o next cleared l c size z all =
-    let received_now : Hears view.size view.so_far octets n (received.Never place why) next =
-    subst (λ (s : LinkSize). Hears s view.so_far octets n (received.Never place why) next) z
-    (subst (λ (x : Heard). Hears size view.so_far octets n x next) f
+    let received_now : Receives view.size view.so_far octets n (received.Never place why) next =
+    subst (λ (s : LinkSize). Receives s view.so_far octets n (received.Never place why) next) z
+    (subst (λ (x : Received). Receives size view.so_far octets n x next) f
     (received_by size o view.so_far octets n h next l all)) in
     let kept : unwrap_or cleared [] ≡ [] =
     ap (λ (x : Option (List ℕ)). unwrap_or x []) c in
@@ -391,16 +392,17 @@ spoilt_kept view now e octets before n place why h f o next cleared l c size z a
 -- and an assembler that listens isn't deaf
 pub none_kept : (view now : OutstationsState) → view ≡ now
     → (octets : List ℕ) (before : StreamHistory) (n : ℕ)
-    (h : Heard) → ((place : ℕ) × (why : Why) × (h ≡ received.Never place why)) ⊎ (h ≡ received.Deaf)
+    (h : Received) → ((place : ℕ) × (why : Why) × (h ≡ received.Never place why))
+    ⊎ (h ≡ received.Deaf)
     →
     (o next cleared : Option (List ℕ)) → o ≡ Some view.so_far → cleared ≡ Some [] →
     (size : LinkSize) → size ≡ view.size →
-    IfSome o (λ (s : List ℕ). Hears size s octets n h next) →
+    IfSome o (λ (s : List ℕ). Receives size s octets n h next) →
     IsRestKept now octets before before (record view { so_far = unwrap_or cleared [] })
 none_kept view now e octets before n h (inl f) o next cleared l c size z all =
     spoilt_kept view now e octets before n f.0 f.1 h f.2 o next cleared l c size z all
 none_kept view now e octets before n h (inr f) o next cleared l c size z all =
-    let none : Hears size view.so_far octets n received.Deaf next =
-    subst (λ (x : Heard). Hears size view.so_far octets n x next) f
+    let none : Receives size view.so_far octets n received.Deaf next =
+    subst (λ (x : Received). Receives size view.so_far octets n x next) f
     (received_by size o view.so_far octets n h next l all) in
     absurd none

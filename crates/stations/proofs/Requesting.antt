@@ -9,7 +9,7 @@ use Rattle.ft12.specs.declared.frame.LinkSize.{LinkSize}
 use Rattle.link.specs.Requests.{reading_of}
 use Rattle.link.specs.declared.request.Reading.{Reading}
 use Rattle.link.specs.declared.request.Reading.TheVariants.{Foreign}
-use Rattle.link.specs.Secondary.{Secondary, HearsOctets, IsReadingHeard}
+use Rattle.link.specs.Secondary.{Secondary, ReceivesOctets, IsReadingReceived}
 use Rattle.stations.specs.Exchanges.{Brings, RequestExchange, requests_joined}
 
 pub brought_joined : (size : LinkSize) (so_far octets : List ℕ) (xs : List RequestExchange)
@@ -33,15 +33,15 @@ SpellingsCancel = (size : LinkSize) (f g : Frame) (x y : List ℕ) →
     spelling size f ++ x ≡ spelling size g ++ y → (f ≡ g) × (x ≡ y)
 
 foreign_received : (old new : Secondary) (reading : Reading) (answer : Option Frame) →
-    reading ≡ Foreign → IsReadingHeard old reading answer new → (answer ≡ None) × (new ≡ old)
+    reading ≡ Foreign → IsReadingReceived old reading answer new → (answer ≡ None) × (new ≡ old)
 foreign_received old new reading answer e h =
-    let same : IsReadingHeard old Foreign answer new =
-    subst (λ (r : Reading). IsReadingHeard old r answer new) e h in
+    let same : IsReadingReceived old Foreign answer new =
+    subst (λ (r : Reading). IsReadingReceived old r answer new) e h in
     (same.1, same.2)
 
 pub foreign_unread : SpellingsCancel → (old new : Secondary) (frame : Frame)
     (answer : Option Frame) → reading_of old.address frame ≡ Foreign →
-    HearsOctets old (spelling old.size frame) answer new → (answer ≡ None) × (new ≡ old)
+    ReceivesOctets old (spelling old.size frame) answer new → (answer ≡ None) × (new ≡ old)
 foreign_unread cancel old new frame answer e (inl h) =
     let same : frame ≡ h.0 =
     (cancel old.size frame h.0 [] [] (ap (λ (l : List ℕ). l ++ []) h.1.spelled)).0 in

@@ -6,7 +6,7 @@ ghost use Rattle.ft12.specs.declared.frame.Frame.{Frame};
 ghost use Rattle.ft12.specs.declared.frame.LinkSize.{LinkSize};
 ghost use Rattle.link.specs.Requests.{reading_of};
 ghost use Rattle.link.specs.declared.request.Reading.TheVariants.{Foreign};
-ghost use Rattle.link.specs.Secondary.{Secondary, HearsOctets};
+ghost use Rattle.link.specs.Secondary.{Secondary, ReceivesOctets};
 ghost use Rattle.stations.specs.Cues.{AreInPeriods, IsOneFrom, given_moments};
 ghost use Rattle.stations.specs.Exchanges.{Brings, ComesBack, RequestExchange, IsRequestAnswered};
 ghost use Rattle.stations.specs.Exchanges.{OutstationsState};
@@ -31,7 +31,7 @@ pub fn requests_are_what_came()
 pub fn stations_take_their_own_requests_alone()
     ensures { (old new : Secondary) (frame : Frame) (answer : Option Frame) →
         reading_of old.address frame ≡ Foreign →
-        HearsOctets old (spelling old.size frame) answer new →
+        ReceivesOctets old (spelling old.size frame) answer new →
         (answer ≡ None) × (new ≡ old) }
 {
     spellings_cancel();

@@ -218,15 +218,15 @@ impl Outstations {
     {
         let (taken, received) = self.line.feed(octets);
         match received {
-            ft12::Heard::Frame(request) => {
+            ft12::Received::Frame(request) => {
                 if self.reply(&request, stream) {
                     ReceivedFront::Answered(taken)
                 } else {
                     ReceivedFront::NotTaken
                 }
             }
-            ft12::Heard::More => ReceivedFront::Rest,
-            ft12::Heard::Never(..) | ft12::Heard::Deaf => {
+            ft12::Received::More => ReceivedFront::Rest,
+            ft12::Received::Never(..) | ft12::Received::Deaf => {
                 self.line.clear();
                 ReceivedFront::Rest
             }

@@ -1,7 +1,7 @@
 -- What a live run begins with.
 use Rattle.std.proofs.Common.{◌≡◌, ◌++◌, ℕ, List, [], Option, Some, None, refl, sym, ap, subst, ◌∙◌}
 use Rattle.gateway.specs.Log.{Log}
-use Rattle.record.specs.Recording.{Recording, added, log_of, told_behind, told_first}
+use Rattle.record.specs.Recording.{Recording, added, log_of, logged_behind, logged_first}
 use Rattle.record.specs.Written.{IsText, IsWritten}
 use Rattle.telegate.specs.Lives.{all_passed, behind}
 use Rattle.telegate.specs.Sites.{IsNew}
@@ -22,21 +22,21 @@ added_nothing (Some text) missed new =
     subst (λ (t : List ℕ). IsText (t ++ [])) (sym new.0) empty_text
 
 written_nothing : (taken : Option (List ℕ)) (missed : Option Log) → IsNew taken missed
-    → told_first (told_behind (added taken []) missed) (Some []) ≡ Some []
+    → logged_first (logged_behind (added taken []) missed) (Some []) ≡ Some []
 written_nothing None missed new = refl
 written_nothing (Some text) None new = refl
 written_nothing (Some text) (Some log) new = rw (new.0, new.1)
 
 -- so its record has an empty log, or none
 pub new_has_nothing : (r : Recording) → IsNew r.taken r.missed → r.held ≡ []
-    → told_first (log_of r) (Some []) ≡ Some []
+    → logged_first (log_of r) (Some []) ≡ Some []
 new_has_nothing r new none =
-    ap (λ held. told_first (told_behind (added r.taken held) r.missed) (Some [])) none
+    ap (λ held. logged_first (logged_behind (added r.taken held) r.missed) (Some [])) none
     ∙ written_nothing r.taken r.missed new
 
 -- and all that passed is what passed before
 pub all_before : (before : Log) (pen : Recording) (written : Option Log)
-    → told_first (log_of pen) (Some []) ≡ Some []
+    → logged_first (log_of pen) (Some []) ≡ Some []
     → written ≡ Some [] → all_passed before pen written ≡ Some before
 all_before before pen written new none =
-    ap (λ t. behind before (told_first (log_of pen) t)) none ∙ ap (behind before) new
+    ap (λ t. behind before (logged_first (log_of pen) t)) none ∙ ap (behind before) new

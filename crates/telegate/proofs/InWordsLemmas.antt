@@ -5,7 +5,7 @@ use Rattle.std.proofs.lemmas.List.{append-nil}
 use Rattle.gateway.specs.Log.{Log, LogEntry, Came, Went, events_of}
 use Rattle.gateway.specs.State.{State}
 use Rattle.ladder.specs.Scribing.{Scribing}
-use Rattle.ladder.specs.Told.{IsLadder, first_remembered}
+use Rattle.ladder.specs.Described.{IsLadder, first_remembered}
 use Rattle.ladder.specs.declared.rungs.Style.{Style}
 use Rattle.sim.specs.Runs.{IsBegun}
 use Rattle.std.specs.Io.KnownBytes.{Appends}
@@ -18,7 +18,7 @@ use Rattle.telegate.proofs.Poured.{appends_none}
 
 -- nothing is written of nothing
 pub no_words : (style : Style) → IsLadder style [] []
-no_words style = record { mind = first_remembered style.sizes.link; told = (refl, refl) }
+no_words style = record { mind = first_remembered style.sizes.link; logged = (refl, refl) }
 
 -- the events of news come behind those before
 pub events_behind : (news log : Log) → events_of (news ++ log) ≡ events_of log ++ events_of news
@@ -35,7 +35,7 @@ pub record WritesTo (style : Style) (r : Bool) (known coming : Option (List ℕ)
     (scribe : Scribing) (is_whole : Bool) (old new : Option (List ℕ)) : Type 0 where
   pub run : RunsTo (IsLadder style) r known coming began state s is_whole old new
   pub written : HasWritten style s.log scribe
-  pub poured : IsPoured is_whole old new scribe.told
+  pub poured : IsPoured is_whole old new scribe.logged
 
 abbrev pub blank : Style → Scribing
 blank style = record {
@@ -43,7 +43,7 @@ blank style = record {
   remembered = first_remembered style.sizes.link;
   log = [];
   poured = [];
-  told = [];
+  logged = [];
   page = [];
   is_noted = true;
 }
@@ -66,7 +66,7 @@ text_begins style r known coming began s scribe old all fresh new = record {
         noted = refl;
         written = no_words style;
       }));
-  poured = subst (λ (x : Scribing). Appends old old x.told) (sym new) (appends_none old);
+  poured = subst (λ (x : Scribing). Appends old old x.logged) (sym new) (appends_none old);
 }
 
 module _ (style : Style) (s : Standing) (text : List ℕ) (began : State) (start port : Progress)

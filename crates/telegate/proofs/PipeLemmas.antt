@@ -12,7 +12,7 @@ use Rattle.sim.specs.Runs.{IsBegun}
 use Rattle.traces.proofs.JoinedLemmas.{lines_joined}
 use Rattle.traces.specs.Trace.{lines_of}
 use Rattle.words.specs.Pipes.{octets_in}
-use Rattle.words.specs.Told.{both}
+use Rattle.words.specs.Described.{both}
 use Rattle.telegate.specs.Parts.{IsWant}
 use Rattle.telegate.specs.Piping.{AreLinesShown, IsAdded, IsLineShown, IsShownAs, IsPiped}
 use Rattle.telegate.specs.Piping.{IsPipedSome}
@@ -160,7 +160,8 @@ module _ (piped : Piped) (words : Bool) where
 
       all_passed : AreLinesShown piped words (h.done ++ lines_of ls) (h.text ++ text) q
       all_passed =
-          subst (λ (x : Condition). AreLinesShown piped words (h.done ++ lines_of ls) (h.text ++ text)
+          subst (λ (x : Condition). AreLinesShown piped words (h.done ++ lines_of ls)
+          (h.text ++ text)
           x) (sym judged)
           (lines_more h.done (lines_of ls) h.text text o p h.shown shown)
 
@@ -243,7 +244,8 @@ module _ (piped : Piped) (words : Bool) where
   pipe_wanted has old new Device want h = absurd want
 
   -- a text that is known to be one of these
-  pub piped_as : (has more : List ℕ → Type 0) (old new : Option (List ℕ)) (r : Result Condition Fault)
+  pub piped_as : (has more : List ℕ → Type 0) (old new : Option (List ℕ))
+      (r : Result Condition Fault)
       → ((octets : List ℕ) → has octets → more octets) → Pipes piped words has old new r
       → Pipes piped words more old new r
   piped_as has more old new r wider = by r

@@ -6,7 +6,7 @@ use Rattle.gateway.specs.Log.{Log}
 use Rattle.gateway.specs.Setups.{setup_of}
 use Rattle.gateway.specs.Traffic.{IsFaithful}
 use Rattle.ladder.specs.Scribing.{Scribing}
-use Rattle.ladder.specs.Told.{IsLadder}
+use Rattle.ladder.specs.Described.{IsLadder}
 use Rattle.ladder.specs.declared.rungs.Style.{Style}
 use Rattle.sim.specs.Lives.{Plan, plan_of}
 use Rattle.sim.specs.Losses.{turns_of}
@@ -26,11 +26,11 @@ use Rattle.telegate.specs.declared.manner.Manner.TheVariants.{Words}
 -- what was taken off a page is the text of the whole log, where that was all of it
 pub words_of_all : (style : Style) (s : Scribing) (log : Log) → s.style ≡ style
     → Some log ≡ Some s.poured
-    → IsLadder s.style s.poured s.told → IsLadder style log s.told
+    → IsLadder s.style s.poured s.logged → IsLadder style log s.logged
 words_of_all style s log is all written =
     let same : s.poured ≡ log = cc in
-    subst (λ (l : Log). IsLadder style l s.told) same
-    (subst (λ (x : Style). IsLadder x s.poured s.told) is written)
+    subst (λ (l : Log). IsLadder style l s.logged) same
+    (subst (λ (x : Style). IsLadder x s.poured s.logged) is written)
 
 module _ (c : Settings) (ds : List Directive) (is_coloured : Bool) (s : Simulated) (plan : s.plan
     ≡ plan_of c ds)

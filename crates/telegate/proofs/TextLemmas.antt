@@ -8,11 +8,11 @@ use Rattle.std.proofs.lemmas.List.Splits.{length-slice_split}
 use Rattle.std.proofs.lemmas.List.Sums.{count_by-le-length}
 use Rattle.traces.specs.Event.{Event}
 use Rattle.traces.specs.Progress.{came, events_in, events_of_part}
-use Rattle.traces.specs.Trace.{lines_of, told}
+use Rattle.traces.specs.Trace.{lines_of, logged}
 use Rattle.traces.proofs.JoinedLemmas.{events_joined}
 
 one_most : (line : List ℕ) → length (events_in (line ∷ [])) ≤ 1
-one_most line = by (told line)
+one_most line = by (logged line)
   where
     by : (o : Option Event) → length (map came (cons_option o [])) ≤ 1
     by None = grind arith

@@ -4,7 +4,7 @@ use Rattle.std.proofs.Common.{sym, ap, subst, ◌∙◌, arith}
 use Rattle.gateway.specs.Agrees.{Follows, Rests}
 use Rattle.gateway.specs.Log.{Log, LogEntry}
 use Rattle.gateway.specs.Reports.{Setup}
-use Rattle.gateway.specs.Runs.{MoreEvents, events_told}
+use Rattle.gateway.specs.Runs.{MoreEvents, events_logged}
 use Rattle.gateway.specs.State.{State}
 
 -- at first nothing has come
@@ -14,7 +14,7 @@ none_more None = refl
 none_more (Some es) = ap Some (omega arith)
 
 pub no_events_yet : (shown : Option Log) → MoreEvents 0 shown shown
-no_events_yet shown = none_more (events_told shown)
+no_events_yet shown = none_more (events_logged shown)
 
 plus_one : (events : Option (List LogEntry))
     → option_map (λ (es : List LogEntry). length es + 1) events
@@ -33,8 +33,8 @@ pub one_more_event : (n : ℕ) (a b c : Option Log) → MoreEvents n a b → Mor
     → MoreEvents (n + 1) a c
 one_more_event n a b c before turn =
     turn
-    ∙ (plus_one (events_told b) ∙ (ap (option_map (λ (m : ℕ). m + 1)) before
-    ∙ plus_more n (events_told a)))
+    ∙ (plus_one (events_logged b) ∙ (ap (option_map (λ (m : ℕ). m + 1)) before
+    ∙ plus_more n (events_logged a)))
 
 -- a gateway that may begin with an empty log
 pub begun : (p : Setup) (s : State) (shown : Option Log) → Follows p s (Some []) → shown ≡ Some []

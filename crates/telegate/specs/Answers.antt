@@ -8,7 +8,7 @@ use Rattle.show.specs.declared.sizes.LineSizes.{LineSizes}
 use Rattle.show.specs.declared.condition.Condition.{Condition}
 use Rattle.show.specs.declared.condition.Condition.TheVariants.{Good, Faulty}
 use Rattle.traces.specs.Fields.{octets_of}
-use Rattle.words.specs.Told.{IsLineTold, IsTcpTold}
+use Rattle.words.specs.Described.{IsLineDescribed, IsTcpDescribed}
 use Rattle.traces.specs.Trace.{first_wrong}
 use Rattle.traces.specs.declared.reading.TextFault.TheVariants.{Line as WrongLine}
 use Rattle.gateway.specs.Config.{Settings}
@@ -60,7 +60,7 @@ pub record IsLineAnswer (words : Bool) (sizes hex : List ℕ) (answer : CommandA
   pub condition : Condition
   pub read_sizes : sizes_of sizes ≡ Some line_sizes
   pub read_octets : octets_of hex ≡ Some octets
-  pub shown : IsLineTold words line_sizes octets (answer.text.items) condition
+  pub shown : IsLineDescribed words line_sizes octets (answer.text.items) condition
   pub status : answer.status ≡ status_by condition
 
 -- sizes are judged before octets
@@ -79,7 +79,7 @@ pub record IsTcpAnswer (words : Bool) (hex : List ℕ) (answer : CommandAnswer) 
   pub octets : List ℕ
   pub condition : Condition
   pub read_octets : octets_of hex ≡ Some octets
-  pub shown : IsTcpTold words octets (answer.text.items) condition
+  pub shown : IsTcpDescribed words octets (answer.text.items) condition
   pub status : answer.status ≡ status_by condition
 
 abbrev pub IsShown104 : (words : Bool) → List ℕ → Result CommandAnswer Fault → Type 0

@@ -2,7 +2,7 @@
 use Rattle.std.specs.Prelude.{◌≡◌, true}
 use Rattle.gateway.specs.Log.{Log}
 use Rattle.ladder.specs.Scribing.{Scribing}
-use Rattle.ladder.specs.Told.{IsLadder}
+use Rattle.ladder.specs.Described.{IsLadder}
 use Rattle.ladder.specs.declared.rungs.Style.{Style}
 
 -- a scribe has written of all of a log so, and its page is clear
@@ -11,4 +11,4 @@ pub record HasWritten (style : Style) (log : Log) (s : Scribing) : Type 0 where
   pub log_is : s.log ≡ log
   pub poured : s.poured ≡ log
   pub noted : s.is_noted ≡ true
-  pub written : IsLadder style log s.told
+  pub written : IsLadder style log s.logged

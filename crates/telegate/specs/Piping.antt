@@ -11,7 +11,7 @@ use Rattle.show.specs.declared.condition.Condition.TheVariants.{Good, Faulty}
 use Rattle.sim.specs.Runs.{IsBegun}
 use Rattle.traces.specs.Trace.{lines_of}
 use Rattle.words.specs.Pipes.{octets_in}
-use Rattle.words.specs.Told.{AreApdusTold, AreLineFramesTold, both}
+use Rattle.words.specs.Described.{AreApdusDescribed, AreLineFramesDescribed, both}
 use Rattle.telegate.specs.Answers.{status_by}
 use Rattle.telegate.specs.Faults.{status_of}
 use Rattle.telegate.specs.declared.fault.Fault.{Fault}
@@ -21,8 +21,8 @@ use Rattle.telegate.specs.declared.piping.Piped.TheVariants.{Line, Connection}
 
 -- the frames of octets, one after another
 abbrev pub AreFrames : Piped → (words : Bool) → (octets text : List ℕ) → Condition → Type 0
-AreFrames (Line sizes) words = AreLineFramesTold words sizes
-AreFrames Connection words = AreApdusTold words
+AreFrames (Line sizes) words = AreLineFramesDescribed words sizes
+AreFrames Connection words = AreApdusDescribed words
 
 -- those of a line; one that is no octets has no text, and is a fault
 abbrev pub IsLineShown : Piped → (words : Bool) → Option (List ℕ) → (text : List ℕ) → Condition

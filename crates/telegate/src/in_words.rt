@@ -6,7 +6,7 @@ ghost use Rattle.telegate.specs.Printed.{IsPoured};
 ghost use Rattle.telegate.specs.Source.{Gives};
 ghost use Rattle.telegate.specs.InWords.{HasWritten};
 ghost use Rattle.telegate.specs.declared.manner.Manner.TheVariants.{Words};
-ghost use Rattle.ladder.specs.Told.{IsLadder};
+ghost use Rattle.ladder.specs.Described.{IsLadder};
 
 use crate::closing::Closing;
 use crate::fault::Fault;
@@ -15,7 +15,7 @@ use crate::recorded::{pause_before, read_part};
 use crate::replay::{advance, close, fault_in, turns_of};
 use delivery::nothing_is_lost;
 use gateway::{Config, End, Gateway, steps_keep_their_order};
-use ladder::{Ladder, Scribe, Style, drive_told};
+use ladder::{Ladder, Scribe, Style, drive_logged};
 use std::alloc::Global;
 use std::io::{Read, Write};
 use traces::{Blocks, Pause};
@@ -90,12 +90,12 @@ fn write_part<W: Write>(
         IsPartRun pause lines.now gateway.old gateway.new after.0) }
     ensures written { IfOk result (λ after. HasWritten scribe.style after.0.log after.1) }
     ensures printed { IfOk result (λ after. (before : Option (List ℕ)) →
-        IsPoured was_whole before (W.contents out.old) scribe.told →
-        IsPoured after.2 before (W.contents out.new) after.1.told) }
+        IsPoured was_whole before (W.contents out.old) scribe.logged →
+        IsPoured after.2 before (W.contents out.new) after.1.logged) }
     ensures stopped { IfErr result IsWant }
     // Before the block, or in it.
     ensures begun { OnErr result ((out.new ≡ out.old) ⊎ ((before : Option (List ℕ)) →
-        IsPoured was_whole before (W.contents out.old) scribe.told →
+        IsPoured was_whole before (W.contents out.old) scribe.logged →
         IsPartStopped (IsLadder scribe.style) pause lines.now gateway.old before
         (W.contents out.new))) }
 {
@@ -103,7 +103,7 @@ fn write_part<W: Write>(
         return Err(Fault::NoMemory);
     };
     let mut ladder = Ladder::new(pause.over(lines), scribe);
-    let (end, is_whole) = drive_told(gateway, &mut ladder, turns, was_whole, out);
+    let (end, is_whole) = drive_logged(gateway, &mut ladder, turns, was_whole, out);
     let _page_is_clear = ladder.page();
     let _text_is_read = ladder.port().page();
     match end {

@@ -1,7 +1,7 @@
 //! A port of a run that other lives came before.
 ghost use Rattle.std.specs.Prelude.{◌≡◌, ◌+◌, ◌<◌, ◌∷◌, [], true, if◌then◌else◌};
-ghost use Rattle.gateway.specs.Log.{Went, tell};
-ghost use Rattle.gateway.specs.Ports.{FitsBuffer, faults_of, output_of, told_by};
+ghost use Rattle.gateway.specs.Log.{Went, with_news};
+ghost use Rattle.gateway.specs.Ports.{FitsBuffer, faults_of, output_of, logged_by};
 ghost use Rattle.gateway.specs.declared.ports.Next.TheVariants.{Done};
 ghost use Rattle.telegate.specs.Lives.{behind, fixture};
 
@@ -51,8 +51,8 @@ impl<P: Port + Drop> Port for Life<P> {
     #[tactic(auto, using(crate::proofs::Lives::logged_behind))]
     fn next(&mut self, buf: &mut [u8; 1024]) -> Next
         requires { P.failed self.old.port < u64.MAX }
-        ensures told { behind self.new.before.entries (P.log self.new.port)
-            ≡ tell (behind self.old.before.entries (P.log self.old.port)) (told_by result buf.new) }
+        ensures logged { behind self.new.before.entries (P.log self.new.port)
+            ≡ with_news (behind self.old.before.entries (P.log self.old.port)) (logged_by result buf.new) }
         ensures fits { FitsBuffer result }
         ensures done { result ≡ Done → P.ended self.new.port ≡ true }
         ensures script { fixture (P.script self.new.port) self.new.before.entries
@@ -65,8 +65,8 @@ impl<P: Port + Drop> Port for Life<P> {
     #[tactic(auto, using(crate::proofs::Lives::logged_behind))]
     fn put(&mut self, now: u64, action: &Action<'_>) -> bool
         requires { P.failed self.old.port < u64.MAX }
-        ensures told { behind self.new.before.entries (P.log self.new.port)
-            ≡ (if result then tell (behind self.old.before.entries (P.log self.old.port))
+        ensures logged { behind self.new.before.entries (P.log self.new.port)
+            ≡ (if result then with_news (behind self.old.before.entries (P.log self.old.port))
             (Went now (output_of action.now) ∷ [])
             else behind self.old.before.entries (P.log self.old.port)) }
         ensures script { fixture (P.script self.new.port) self.new.before.entries

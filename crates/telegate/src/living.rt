@@ -3,7 +3,7 @@ ghost use Rattle.std.specs.Prelude.{◌≡◌, IfOk, IfErr, Some, Option, [], fa
 ghost use Rattle.std.specs.declared.net.socket_addr.SocketAddr.{SocketAddr};
 ghost use Rattle.gateway.specs.Agrees.{Follows};
 ghost use Rattle.gateway.specs.Setups.{setup_of};
-ghost use Rattle.record.specs.Recording.{log_of, told_first};
+ghost use Rattle.record.specs.Recording.{log_of, logged_first};
 ghost use Rattle.state.specs.Directories.{BeginsIn};
 ghost use Rattle.state.specs.Origins.{IsBegun};
 ghost use Rattle.telegate.specs.Kept.{HasLivedFrom, HasLivedOn, IsEndFault, IsKeptFault};
@@ -25,7 +25,7 @@ use lookout::Lookout;
 use record::{Pen, RecordSheet};
 use runlog::{LogSink, Logger, Note, Trouble, Watch};
 use settings::{ConfigFault, LiveSettings, read_live_config};
-use state::{Begun, DiskStore, FolderFault, Keeper, Origin, Pair, ToldGap, begin};
+use state::{Begun, DiskStore, FolderFault, Keeper, Origin, Pair, ReportedGap, begin};
 use state_words::{note_of, note_of_queue, note_of_settings};
 use std::alloc::Global;
 use std::net::SocketAddr;
@@ -50,7 +50,7 @@ fn scribes_of<T: RunSite>(
     wishes: &Wishes<'_>,
 ) -> Result<Scribes<T::Sink, T::Sheet, T::Glass>, Fault>
     ensures new { IfOk result (λ scribes.
-        told_first (log_of scribes.pen) (Some []) ≡ Some []) }
+        logged_first (log_of scribes.pen) (Some []) ≡ Some []) }
     ensures fault { IfErr result IsEndFault }
 {
     let watch = Watch::new(site.alloc(), config)?;
@@ -90,7 +90,7 @@ fn lookout_of<T: RunSite>(
 /// What writes the record of a run, if it is to have one.
 #[tactic(auto, using(crate::proofs::Begins::new_is_written, crate::proofs::Begins::added_nothing, crate::proofs::Begins::new_has_nothing))]
 fn pen_of<T: RunSite>(site: &T, record: bool) -> Pen<T::Sheet>
-    ensures { told_first (log_of result) (Some []) ≡ Some [] }
+    ensures { logged_first (log_of result) (Some []) ≡ Some [] }
 {
     if record {
         Pen::new(site.alloc(), site.sheet(), Vec::new(site.alloc()))
@@ -243,7 +243,7 @@ fn run_new<T: RunSite>(
     allow_list: AllowList,
     scribes: Scribes<T::Sink, T::Sheet, T::Glass>,
 ) -> Lived<Live<T::Line, T::Listener, T::Clock>, T::Sheet, T::Sink>
-    requires new { told_first (log_of scribes.pen) (Some []) ≡ Some [] }
+    requires new { logged_first (log_of scribes.pen) (Some []) ≡ Some [] }
     requires begins { Follows (setup_of config.now) gateway (Some []) }
     requires clock { T.begins_at ends.clock 0 }
     ensures { HasLived config.now allow_list false [] result.run_log.port.port.port
@@ -301,7 +301,7 @@ fn run_from<T: RunSite>(
     wishes: Wishes<'_>,
     scribes: Scribes<T::Sink, T::Sheet, T::Glass>,
 ) -> Lived<Kept<T>, T::Sheet, T::Sink>
-    requires new { told_first (log_of scribes.pen) (Some []) ≡ Some [] }
+    requires new { logged_first (log_of scribes.pen) (Some []) ≡ Some [] }
     requires clock { T.begins_at ends.clock (first_moment begun.origin.moment) }
     ensures { HasLivedOn config.now wishes.entry.allow_list begun.origin
         result.run_log.port.before.entries result.run_log.port.port.port.ends.port
@@ -376,7 +376,7 @@ fn note_if_on(moment: Option<u64>, gateway: &Gateway) -> Option<Note>
 }
 
 /// Logs the gap that may not have been seen, at the moment at which the run goes on, in ms.
-fn log_gap<S: LogSink + Drop>(moment: Option<u64>, gap: Option<ToldGap>, logger: &mut Logger<S>)
+fn log_gap<S: LogSink + Drop>(moment: Option<u64>, gap: Option<ReportedGap>, logger: &mut Logger<S>)
     ensures { LogsGap moment gap logger.old logger.new }
 {
     let Some(moment) = moment else {

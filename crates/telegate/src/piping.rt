@@ -18,7 +18,7 @@ use std::alloc::{AllocError, Global};
 use std::io;
 use std::io::{Read, Write};
 use traces::{Blocks, cut};
-use words::{both, read_line_of_octets, tell_apdus, tell_line_frames};
+use words::{both, describe_apdus, describe_line_frames, read_line_of_octets};
 
 /// What frames come by a pipe.
 #[derive(Clone, Copy, Debug, PartialEq, Eq)]
@@ -167,8 +167,8 @@ fn show_frames(alloc: Global, octets: &[u8], piped: Piped, words: bool) -> Resul
         AreFrames piped words octets.now (string_bytes shown.lines) shown.condition) }
 {
     match piped {
-        Piped::Line(sizes) => tell_line_frames(alloc, sizes, octets, words),
-        Piped::Connection => tell_apdus(alloc, octets, words),
+        Piped::Line(sizes) => describe_line_frames(alloc, sizes, octets, words),
+        Piped::Connection => describe_apdus(alloc, octets, words),
     }
 }
 

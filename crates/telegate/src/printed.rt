@@ -4,7 +4,7 @@ ghost use Rattle.telegate.specs.Printed.{IsPoured, IsClosedBy};
 
 use crate::fault::Fault;
 use crate::performing::print;
-pub(crate) use pages::{blank_if, drive_printed, tell_percent};
+pub(crate) use pages::{blank_if, drive_printed, show_percent};
 use std::io::Write;
 
 /// Prints the lines with which a run ends, where all others were printed.

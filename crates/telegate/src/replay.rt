@@ -20,7 +20,7 @@ use crate::fault::Fault;
 use crate::host::Unread;
 use crate::in_words::run_in_words;
 use crate::manner::Manner;
-use crate::printed::{blank_if, drive_printed, print_closing, tell_percent};
+use crate::printed::{blank_if, drive_printed, print_closing, show_percent};
 use crate::recorded::{is_record, read_part};
 use crate::source::Source;
 use delivery::nothing_is_lost;
@@ -288,7 +288,7 @@ fn show_progress<E: Write>(course: &ReplayCourse, before: u64, size: u64, err: &
 {
     if is_progress_shown(course) && before / STRIDE < size / STRIDE {
         // A text that has grown since it was judged isn't counted beyond its end.
-        let _ = tell_percent(size.min(course.size), course.size, err);
+        let _ = show_percent(size.min(course.size), course.size, err);
     }
 }
 

@@ -6,7 +6,7 @@ use crate::answer::CommandAnswer;
 use crate::fault::{BAD_CONTENT, DONE, Fault};
 use show::{Condition, Shown};
 use std::alloc::Global;
-use words::{tell_apdu, tell_line};
+use words::{describe_apdu, describe_line};
 
 /// Shows the line frame at the front of octets, in one line of words or with a fact a line. The
 /// sizes are judged before the octets.
@@ -22,7 +22,7 @@ pub(crate) fn show101(
         return Err(Fault::Sizes);
     };
     let octets = read_octets(alloc, hex)?;
-    match tell_line(alloc, sizes, octets.as_slice(), words) {
+    match describe_line(alloc, sizes, octets.as_slice(), words) {
         Ok(shown) => Ok(answer_of(shown)),
         Err(_) => Err(Fault::NoMemory),
     }
@@ -33,7 +33,7 @@ pub(crate) fn show104(alloc: Global, hex: &str, words: bool) -> Result<CommandAn
     ensures { IsShown104 words hex.now result }
 {
     let octets = read_octets(alloc, hex)?;
-    match tell_apdu(alloc, octets.as_slice(), words) {
+    match describe_apdu(alloc, octets.as_slice(), words) {
         Ok(shown) => Ok(answer_of(shown)),
         Err(_) => Err(Fault::NoMemory),
     }

@@ -3,7 +3,7 @@ ghost use Rattle.std.specs.Prelude.{◌≡◌, ℕ, Bool, List, Option};
 ghost use Rattle.gateway.specs.Config.{AreDistinct, Settings};
 ghost use Rattle.gateway.specs.Setups.{setup_of};
 ghost use Rattle.gateway.specs.Traffic.{HasRested, IsFaithful};
-ghost use Rattle.ladder.specs.Told.{IsLadder};
+ghost use Rattle.ladder.specs.Described.{IsLadder};
 ghost use Rattle.sim.specs.Calls.{calls_in};
 ghost use Rattle.sim.specs.Lives.{plan_of};
 ghost use Rattle.sim.specs.Losses.{turns_of};
@@ -18,7 +18,7 @@ use crate::fault::Fault;
 use crate::manner::style_of;
 use crate::printed::print_closing;
 use gateway::{Config, End, Gateway};
-use ladder::{Ladder, Scribe, drive_told};
+use ladder::{Ladder, Scribe, drive_logged};
 use sim::{Script, Sim};
 use std::alloc::Global;
 use std::io::Write;
@@ -44,7 +44,7 @@ pub(crate) fn simulate_in_words<W: Write>(
     let scribe = Scribe::new(alloc, style_of(config, is_coloured));
     let mut ladder = Ladder::new(sim, scribe);
     let turns = script.turns();
-    let (end, is_whole) = drive_told(&mut gateway, &mut ladder, turns, true, out);
+    let (end, is_whole) = drive_logged(&mut gateway, &mut ladder, turns, true, out);
     let _page_is_clear = ladder.page();
     let _line_stands = ladder.port().page();
     match end {

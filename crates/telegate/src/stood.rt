@@ -8,7 +8,7 @@ use crate::fault::{BAD_CONTENT, DONE, Fault};
 use checkpoint::StateFault;
 use state::{Beginning, Sight, look};
 use state_files::Stood;
-use state_words::tell_state;
+use state_words::describe_state;
 use std::alloc::Global;
 
 /// What a start would find in a directory, in lines, with the exit status: 1 where what is there
@@ -43,7 +43,7 @@ fn answer_sight(
 ) -> Result<CommandAnswer, Fault>
     ensures { IsSightAnswer is_held is_stale (octets_of given) sight result }
 {
-    let text = tell_state(alloc, is_held, is_stale, slice_of(&given), &sight)?;
+    let text = describe_state(alloc, is_held, is_stale, slice_of(&given), &sight)?;
     Ok(CommandAnswer {
         text,
         status: status_of(sight.beginning),

@@ -8,7 +8,7 @@ use Rattle.std.proofs.lemmas.List.{map-append}
 use Rattle.std.proofs.lemmas.List.Elements.{filter_map-append}
 use Rattle.std.proofs.lemmas.List.Splits.{length-slice_split}
 use Rattle.traces.specs.Progress.{came, events_in}
-use Rattle.traces.specs.Trace.{lines_of, told, is_wrong, first_wrong}
+use Rattle.traces.specs.Trace.{lines_of, logged, is_wrong, first_wrong}
 
 -- Lines
 
@@ -73,5 +73,5 @@ none_wrong_from m n (x ∷ xs) right = by (none_wrong_from (m + 1) (n + 1) xs) (
 -- Events
 
 pub events_joined : (xs ys : List (List ℕ)) → events_in (xs ++ ys) ≡ events_in xs ++ events_in ys
-events_joined xs ys = ap (map came) (filter_map-append told xs ys)
-    ∙ map-append came (filter_map told xs) (filter_map told ys)
+events_joined xs ys = ap (map came) (filter_map-append logged xs ys)
+    ∙ map-append came (filter_map logged xs) (filter_map logged ys)

@@ -5,7 +5,7 @@ use Rattle.std.proofs.Common.{append_assoc}
 use Rattle.std.specs.List.{AllByRecursion}
 use Rattle.gateway.specs.Log.{Log, Came, Went, Input, LineIn, Opened, TcpIn, CutOff, Ticked, WallIs}
 use Rattle.gateway.specs.Log.{Output, events_of}
-use Rattle.gateway.specs.Ports.{told_by}
+use Rattle.gateway.specs.Ports.{logged_by}
 use Rattle.gateway.specs.Entries.{event_of as entry_event}
 use Rattle.gateway.specs.declared.entries.Entry.{Entry}
 use Rattle.gateway.specs.declared.entries.Entry.TheVariants.{Line, Open, Bytes, Cut, Tick, Wall}
@@ -16,8 +16,8 @@ use Rattle.traces.specs.Fields.{parts_after}
 use Rattle.traces.specs.FirstLines.{first_line, later_lines}
 use Rattle.traces.specs.Progress.{came, events_in, script_in, IsRight, Progress, Standing}
 use Rattle.traces.specs.Progress.{events_left, events_of_part, coming_in, IsProgress}
-use Rattle.traces.specs.Progress.{tells_event}
-use Rattle.traces.specs.Trace.{lines_of, is_skipped, told, first_wrong}
+use Rattle.traces.specs.Progress.{logs_event}
+use Rattle.traces.specs.Trace.{lines_of, is_skipped, logged, first_wrong}
 use Rattle.traces.proofs.FirstLineLemmas.{lines_first}
 
 -- Lines
@@ -60,8 +60,8 @@ right_skip lines rest line is skipped all =
 pub right_event : (lines rest : List (List ℕ)) (line : List ℕ) (event : Event) → lines ≡ line ∷ rest
     → is_skipped line ≡ false → event_in line ≡ Some event → AllByRecursion IsRight rest
     → AllByRecursion IsRight lines
-right_event lines rest line event is told some all =
-    let right : IsRight line = rw (told, some) refl in
+right_event lines rest line event is logged some all =
+    let right : IsRight line = rw (logged, some) refl in
     subst (AllByRecursion IsRight) (sym is) (right, all)
 
 -- a line more was judged
@@ -116,11 +116,11 @@ event_came : (p : Progress) (left : Option (List ℕ)) (started : Bool) (now : �
     → IsProgress p → started ≡ true → Came now event ∷ events_in (parts_after 10 left) ≡ coming_in p
     → (AllByRecursion IsRight (parts_after 10 left) → first_wrong 1 (lines_of p.part.text) ≡ None) →
     IsProgress (record p { left = left; started = started; log = Came now event ∷ p.log })
-event_came p left started now event holds begun told right = record {
+event_came p left started now event holds begun logged right = record {
   whole =
       append_assoc (events_of p.log) (Came now event ∷ []) (events_left started p.part.text left)
       ∙ ap (λ es. events_of p.log ++ Came now event ∷ es) same
-      ∙ ap (λ es. events_of p.log ++ es) told ∙ holds.whole;
+      ∙ ap (λ es. events_of p.log ++ es) logged ∙ holds.whole;
   right = right;
   first = λ fresh. absurd (not_fresh started begun fresh);
 }
@@ -132,30 +132,30 @@ event_came p left started now event holds begun told right = record {
     not_fresh true is fresh = cc
     not_fresh false is fresh = cc
 
-pub told_next : (p : Progress) (left : Option (List ℕ)) (started : Bool) (next : Next)
-    (buf : List ℕ) → IsProgress p → started ≡ true → tells_event next ≡ true →
-    told_by next buf ++ events_in (parts_after 10 left) ≡ coming_in p
+pub logged_next : (p : Progress) (left : Option (List ℕ)) (started : Bool) (next : Next)
+    (buf : List ℕ) → IsProgress p → started ≡ true → logs_event next ≡ true →
+    logged_by next buf ++ events_in (parts_after 10 left) ≡ coming_in p
     → (AllByRecursion IsRight (parts_after 10 left) → first_wrong 1 (lines_of p.part.text) ≡ None)
-    → IsProgress (record p { left = left; started = started; log = told_by next buf ++ p.log })
-told_next p left started (answers.Line now len) buf holds begun is told right =
-    event_came p left started now (LineIn (take len buf)) holds begun told right
-told_next p left started (answers.Open now) buf holds begun is told right =
-    event_came p left started now Opened holds begun told right
-told_next p left started (answers.Bytes now len) buf holds begun is told right =
-    event_came p left started now (TcpIn (take len buf)) holds begun told right
-told_next p left started (answers.Cut now) buf holds begun is told right =
-    event_came p left started now CutOff holds begun told right
-told_next p left started (answers.Tick now) buf holds begun is told right =
-    event_came p left started now Ticked holds begun told right
-told_next p left started (answers.Wall now number) buf holds begun is told right =
-    event_came p left started now (WallIs number) holds begun told right
-told_next p left started answers.Done buf holds begun is told right = cc
-told_next p left started answers.Fault buf holds begun is told right = cc
+    → IsProgress (record p { left = left; started = started; log = logged_by next buf ++ p.log })
+logged_next p left started (answers.Line now len) buf holds begun is logged right =
+    event_came p left started now (LineIn (take len buf)) holds begun logged right
+logged_next p left started (answers.Open now) buf holds begun is logged right =
+    event_came p left started now Opened holds begun logged right
+logged_next p left started (answers.Bytes now len) buf holds begun is logged right =
+    event_came p left started now (TcpIn (take len buf)) holds begun logged right
+logged_next p left started (answers.Cut now) buf holds begun is logged right =
+    event_came p left started now CutOff holds begun logged right
+logged_next p left started (answers.Tick now) buf holds begun is logged right =
+    event_came p left started now Ticked holds begun logged right
+logged_next p left started (answers.Wall now number) buf holds begun is logged right =
+    event_came p left started now (WallIs number) holds begun logged right
+logged_next p left started answers.Done buf holds begun is logged right = cc
+logged_next p left started answers.Fault buf holds begun is logged right = cc
 
 -- the tick at moment 0 came
 pub ticked : (p : Progress) → IsProgress p → p.started ≡ false
     → IsProgress (record p { started = true; log = Came 0 Ticked ∷ p.log })
-ticked p holds fresh = event_came p p.left true 0 Ticked holds refl told holds.right
+ticked p holds fresh = event_came p p.left true 0 Ticked holds refl logged holds.right
   where
-    told : Came 0 Ticked ∷ events_in (parts_after 10 p.left) ≡ coming_in p
-    told = rw (holds.first fresh, fresh) refl
+    logged : Came 0 Ticked ∷ events_in (parts_after 10 p.left) ≡ coming_in p
+    logged = rw (holds.first fresh, fresh) refl

@@ -28,7 +28,7 @@ use Rattle.gateway.specs.Entries.{number_of}
 use Rattle.traces.specs.Fields.{digits_after, decimal_of, octets_of, some_octets}
 use Rattle.traces.specs.Event.{Event, event_from, event_in, bare_at, octets_at, wall_at}
 use Rattle.traces.specs.Event as events
-use Rattle.traces.specs.Progress.{came as logged}
+use Rattle.traces.specs.Progress.{came as entry_came}
 use Rattle.traces.specs.Trace.{lines_of, is_skipped}
 use Rattle.traces.specs.Actions.{line_of, lines_of_actions}
 use Rattle.traces.specs.Printed.{FitsTrace, HasNoMark, IsFirstOf, IsPrintable, IsPrintableEvent}
@@ -253,14 +253,16 @@ shaped line field fields entry same plain all is = record {
   is = is;
 }
 
-came : (now : ℕ) (told : Option Input) (event : Input) → now < 2 ^ 64 → told ≡ Some event
-    → came_at (number_in (decimal now)) told ≡ Some (Came now event)
-came now told event lt is = ap (λ (o : Option ℕ). came_at o told) (number_read now (omega arith))
+came : (now : ℕ) (logged : Option Input) (event : Input) → now < 2 ^ 64 → logged ≡ Some event
+    → came_at (number_in (decimal now)) logged ≡ Some (Came now event)
+came now logged event lt is =
+    ap (λ (o : Option ℕ). came_at o logged) (number_read now (omega arith))
     ∙ ap (came_at (Some now)) is
 
-went : (now : ℕ) (told : Option Output) (action : Output) → now < 2 ^ 64 → told ≡ Some action
-    → went_at (number_in (decimal now)) told ≡ Some (Went now action)
-went now told action lt is = ap (λ (o : Option ℕ). went_at o told) (number_read now (omega arith))
+went : (now : ℕ) (logged : Option Output) (action : Output) → now < 2 ^ 64 → logged ≡ Some action
+    → went_at (number_in (decimal now)) logged ≡ Some (Went now action)
+went now logged action lt is =
+    ap (λ (o : Option ℕ). went_at o logged) (number_read now (omega arith))
     ∙ ap (went_at (Some now)) is
 
 moment_plain : (now : ℕ) → now < 2 ^ 64 → IsPlain (decimal now)
@@ -397,17 +399,17 @@ entry_unmarked entry ok =
 -- Logs
 
 -- what a log tells, before what follows it
-abbrev told_before : Log → Option (List LogEntry) → Option (List LogEntry)
-told_before [] after = after
-told_before (entry ∷ log) after = told_before log (before_those (Some entry) after)
+abbrev logged_before : Log → Option (List LogEntry) → Option (List LogEntry)
+logged_before [] after = after
+logged_before (entry ∷ log) after = logged_before log (before_those (Some entry) after)
 
 log_before : (log : Log) (text : List ℕ) → AllByRecursion IsPrintable log
-    → entries_in (lines_of_log log ++ text) ≡ told_before log (entries_in text)
+    → entries_in (lines_of_log log ++ text) ≡ logged_before log (entries_in text)
 log_before [] text all = refl
 log_before (entry ∷ log) text all =
     ap entries_in (append_assoc (lines_of_log log) (line_of_entry entry) text)
     ∙ log_before log (line_of_entry entry ++ text) all.1
-    ∙ ap (told_before log) (first_read entry text all.0)
+    ∙ ap (logged_before log) (first_read entry text all.0)
 
 -- no line has an octet 0
 
@@ -439,11 +441,11 @@ log_unmarked (entry ∷ log) all =
     ∙ ap (λ b. b || list_any (λ b. b == 33) (line_of_entry entry)) (log_unmarked log all.1)
     ∙ entry_unmarked entry all.0
 
-told_reversed : (log : Log) (entries : List LogEntry) → told_before log (Some entries)
+logged_reversed : (log : Log) (entries : List LogEntry) → logged_before log (Some entries)
     ≡ Some (reverse log ++ entries)
-told_reversed [] entries = refl
-told_reversed (entry ∷ log) entries =
-    told_reversed log (entry ∷ entries)
+logged_reversed [] entries = refl
+logged_reversed (entry ∷ log) entries =
+    logged_reversed log (entry ∷ entries)
     ∙ ap (λ (l : List LogEntry). Some l)
     (sym (ap (λ (l : List LogEntry). l ++ entries) (reverse-append (entry ∷ []) log)
     ∙ append_assoc (reverse log) (entry ∷ []) entries))
@@ -452,7 +454,7 @@ pub log_read : (log : Log) → AllByRecursion IsPrintable log → entries_in (li
     ≡ Some (reverse log)
 log_read log all =
     ap entries_in (sym (append-nil (lines_of_log log))) ∙ log_before log [] all
-    ∙ told_reversed log [] ∙ ap (λ (l : List LogEntry). Some l) (append-nil (reverse log))
+    ∙ logged_reversed log [] ∙ ap (λ (l : List LogEntry). Some l) (append-nil (reverse log))
 
 -- its actions alone
 abbrev actions_before : Log → Option (List LogEntry) → Option (List LogEntry)
@@ -470,12 +472,12 @@ lines_before (Went now action ∷ log) text all =
     ∙ lines_before log (line_of now action ++ text) all.1
     ∙ ap (actions_before log) (first_read (Went now action) text all.0)
 
-actions_told : (log : Log) (entries : List LogEntry) → actions_before log (Some entries)
+actions_logged : (log : Log) (entries : List LogEntry) → actions_before log (Some entries)
     ≡ Some (actions_of log ++ entries)
-actions_told [] entries = refl
-actions_told (Came now event ∷ log) entries = actions_told log entries
-actions_told (Went now action ∷ log) entries =
-    actions_told log (Went now action ∷ entries)
+actions_logged [] entries = refl
+actions_logged (Came now event ∷ log) entries = actions_logged log entries
+actions_logged (Went now action ∷ log) entries =
+    actions_logged log (Went now action ∷ entries)
     ∙ ap (λ (l : List LogEntry). Some l)
     (sym (append_assoc (actions_of log) (Went now action ∷ []) entries))
 
@@ -483,7 +485,7 @@ pub actions_printed : (log : Log) → ArePrinted log → entries_in (lines_of_ac
     ≡ Some (actions_of log)
 actions_printed log all =
     ap entries_in (sym (append-nil (lines_of_actions log))) ∙ lines_before log [] all
-    ∙ actions_told log [] ∙ ap (λ (l : List LogEntry). Some l) (append-nil (actions_of log))
+    ∙ actions_logged log [] ∙ ap (λ (l : List LogEntry). Some l) (append-nil (actions_of log))
 
 printed : (log : Log) → AllByRecursion IsPrintable log → ArePrinted log
 printed [] all = tt
@@ -555,7 +557,7 @@ first_of event whole text now next fields le same plain all is = record {
       ∙ slice_split_at (λ b. b == 10) (spaced (decimal now) (next ∷ fields)) 10 text
       (spaced_line (decimal now) (next ∷ fields) (moment_plain now (moment_small now le))
       (plain, all)) refl;
-  told =
+  logged =
       ap (λ (b : Bool). if b then None else event_in (spaced (decimal now) (next ∷ fields)))
       (numbered now (32 ∷ spaced next fields) le)
       ∙ ap event_from (spaced_fields (decimal now) (next ∷ fields)
@@ -566,10 +568,10 @@ first_of event whole text now next fields le same plain all is = record {
       ∙ is;
 }
 
-pub event_told : (event : Event) (text : List ℕ) → FitsTrace event
-    → IsFirstOf event (line_of_entry (logged event) ++ text) text
-event_told (events.line now octets) text fits =
-    first_of (events.line now octets) (line_of_entry (logged (events.line now octets)) ++ text)
+pub event_logged : (event : Event) (text : List ℕ) → FitsTrace event
+    → IsFirstOf event (line_of_entry (entry_came event) ++ text) text
+event_logged (events.line now octets) text fits =
+    first_of (events.line now octets) (line_of_entry (entry_came (events.line now octets)) ++ text)
     text now (83 ∷ [])
     (encode_upper octets ∷ []) fits.0
     (lined (decimal now) (32 ∷ 83 ∷ 32 ∷ []) (encode_upper octets) text)
@@ -578,8 +580,8 @@ event_told (events.line now octets) text fits =
     (ap (λ (o : Option ℕ). octets_at o (83 ∷ []) (octets_of (encode_upper octets)))
     (decimal_read now fits.0)
     ∙ ap (octets_at (Some now) (83 ∷ [])) (octets_fit octets fits.1 fits.2 fits.3))
-event_told (events.received now octets) text fits =
-    first_of (events.received now octets) (line_of_entry (logged (events.received now octets))
+event_logged (events.received now octets) text fits =
+    first_of (events.received now octets) (line_of_entry (entry_came (events.received now octets))
     ++ text)
     text now (82 ∷ [])
     (encode_upper octets ∷ []) fits.0
@@ -589,23 +591,24 @@ event_told (events.received now octets) text fits =
     (ap (λ (o : Option ℕ). octets_at o (82 ∷ []) (octets_of (encode_upper octets)))
     (decimal_read now fits.0)
     ∙ ap (octets_at (Some now) (82 ∷ [])) (octets_fit octets fits.1 fits.2 fits.3))
-event_told (events.opening now) text fits =
-    first_of (events.opening now) (line_of_entry (logged (events.opening now)) ++ text) text now
+event_logged (events.opening now) text fits =
+    first_of (events.opening now) (line_of_entry (entry_came (events.opening now)) ++ text) text now
     (79 ∷ []) [] fits
     (lined_two (decimal now) (32 ∷ 79 ∷ []) text) (word 79 (omega arith)) tt
     (ap (λ (o : Option ℕ). bare_at o (79 ∷ [])) (decimal_read now fits))
-event_told (events.cut now) text fits =
-    first_of (events.cut now) (line_of_entry (logged (events.cut now)) ++ text) text now (67 ∷ [])
+event_logged (events.cut now) text fits =
+    first_of (events.cut now) (line_of_entry (entry_came (events.cut now)) ++ text) text now
+    (67 ∷ [])
     [] fits
     (lined_two (decimal now) (32 ∷ 67 ∷ []) text) (word 67 (omega arith)) tt
     (ap (λ (o : Option ℕ). bare_at o (67 ∷ [])) (decimal_read now fits))
-event_told (events.tick now) text fits =
-    first_of (events.tick now) (line_of_entry (logged (events.tick now)) ++ text) text now
+event_logged (events.tick now) text fits =
+    first_of (events.tick now) (line_of_entry (entry_came (events.tick now)) ++ text) text now
     (84 ∷ []) [] fits
     (lined_two (decimal now) (32 ∷ 84 ∷ []) text) (word 84 (omega arith)) tt
     (ap (λ (o : Option ℕ). bare_at o (84 ∷ [])) (decimal_read now fits))
-event_told (events.wall now number) text fits =
-    first_of (events.wall now number) (line_of_entry (logged (events.wall now number)) ++ text)
+event_logged (events.wall now number) text fits =
+    first_of (events.wall now number) (line_of_entry (entry_came (events.wall now number)) ++ text)
     text now (87 ∷ [])
     (decimal number ∷ []) fits.0
     (lined (decimal now) (32 ∷ 87 ∷ 32 ∷ []) (decimal number) text) (word 87 (omega arith))

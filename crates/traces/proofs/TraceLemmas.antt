@@ -6,16 +6,17 @@ use Rattle.std.specs.List.{filter_map, AllByRecursion}
 use Rattle.gateway.specs.declared.entries.Entry.{Entry}
 use Rattle.gateway.specs.Entries.{FitsPort}
 use Rattle.traces.specs.Event.{Event, event_of, event_in}
-use Rattle.traces.specs.Trace.{is_skipped, told, first_wrong}
+use Rattle.traces.specs.Trace.{is_skipped, logged, first_wrong}
 
 -- what is read so far, before what these lines tell
-abbrev pub with_told : List Entry → List (List ℕ) → List Event
-with_told entries lines = map event_of entries ++ filter_map told lines
+abbrev pub with_logged : List Entry → List (List ℕ) → List Event
+with_logged entries lines = map event_of entries ++ filter_map logged lines
 
 -- a skipped line tells nothing and isn't wrong
-pub told_skip : (es : List Entry) (lines rest : List (List ℕ)) (line : List ℕ) → lines ≡ line ∷ rest
-    → is_skipped line ≡ true → with_told es rest ≡ with_told es lines
-told_skip es lines rest line is e = rw (is, e)
+pub logged_skip : (es : List Entry) (lines rest : List (List ℕ)) (line : List ℕ)
+    → lines ≡ line ∷ rest
+    → is_skipped line ≡ true → with_logged es rest ≡ with_logged es lines
+logged_skip es lines rest line is e = rw (is, e)
 
 pub wrong_skip : (n : ℕ) (lines rest : List (List ℕ)) (line : List ℕ) → lines ≡ line ∷ rest
     → is_skipped line ≡ true
@@ -23,11 +24,11 @@ pub wrong_skip : (n : ℕ) (lines rest : List (List ℕ)) (line : List ℕ) → 
 wrong_skip n lines rest line is e = rw (is, e)
 
 -- a line that is an event tells it and isn't wrong
-pub told_next : (es : List Entry) (x : Entry) (lines rest : List (List ℕ)) (line : List ℕ)
+pub logged_next : (es : List Entry) (x : Entry) (lines rest : List (List ℕ)) (line : List ℕ)
     → lines ≡ line ∷ rest
-    → is_skipped line ≡ false → event_in line ≡ Some (event_of x) → with_told (es ++ x ∷ []) rest
-    ≡ with_told es lines
-told_next es x lines rest line is e some = rw (is, e, some, map-append, append_assoc)
+    → is_skipped line ≡ false → event_in line ≡ Some (event_of x) → with_logged (es ++ x ∷ []) rest
+    ≡ with_logged es lines
+logged_next es x lines rest line is e some = rw (is, e, some, map-append, append_assoc)
 
 pub wrong_next : (n : ℕ) (x : Event) (lines rest : List (List ℕ)) (line : List ℕ)
     → lines ≡ line ∷ rest
@@ -42,8 +43,8 @@ pub wrong_here : (n : ℕ) (lines rest : List (List ℕ)) (line : List ℕ) → 
 wrong_here n lines rest line is e none = rw (is, e, none)
 
 -- where no line is left
-pub told_all : (es : List Entry) → with_told es [] ≡ map event_of es
-told_all es = append-nil (map event_of es)
+pub logged_all : (es : List Entry) → with_logged es [] ≡ map event_of es
+logged_all es = append-nil (map event_of es)
 
 -- one more entry that fits
 pub fits_more : (es : List Entry) (x : Entry) → AllByRecursion FitsPort es → FitsPort x

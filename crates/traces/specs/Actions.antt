@@ -3,8 +3,8 @@ use Rattle.std.specs.Prelude.{ℕ, ◌+◌, List, [], ◌∷◌, ◌++◌, codes
 use Rattle.std.specs.Fmt.{decimal}
 use Rattle.hex.specs.Hex.{encode_upper}
 use Rattle.gateway.specs.Log.{Log, LogEntry, Output, LineOut, TcpOut, Closed, GapOut, Came, Went}
-use Rattle.gateway.specs.Entries.{number_of, told_of}
-use Rattle.gateway.specs.declared.entries.Told.{Told}
+use Rattle.gateway.specs.Entries.{number_of, logged_of}
+use Rattle.gateway.specs.declared.entries.StoredEntry.{StoredEntry}
 
 -- an action with octets, by its letter
 abbrev pub octets_line : (now letter : ℕ) → (octets : List ℕ) → List ℕ
@@ -38,8 +38,8 @@ entry_line (Came now event) = []
 entry_line (Went now action) = line_of now action
 
 -- the line of what is stored
-abbrev pub stored_line : Told → List ℕ
-stored_line told = entry_line (told_of told)
+abbrev pub stored_line : StoredEntry → List ℕ
+stored_line logged = entry_line (logged_of logged)
 
 -- the lines of a log's actions, the oldest first; an event has none
 abbrev pub lines_of_actions : Log → List ℕ

@@ -12,14 +12,14 @@ use Rattle.session.specs.declared.kinds.Close.{Close}
 use Rattle.gateway.specs.Log.{Log, LogEntry, Came, Went, Input, LineIn, Opened, TcpIn, CutOff}
 use Rattle.gateway.specs.Log.{Ticked, WallIs, Restarted, Output, LineOut, TcpOut, Closed, GapOut}
 use Rattle.gateway.specs.Log.{last_moment}
-use Rattle.gateway.specs.Entries.{cause_of, told_of}
-use Rattle.gateway.specs.declared.entries.Told.{Told}
-use Rattle.gateway.specs.declared.entries.Told.TheVariants as stored
+use Rattle.gateway.specs.Entries.{cause_of, logged_of}
+use Rattle.gateway.specs.declared.entries.StoredEntry.{StoredEntry}
+use Rattle.gateway.specs.declared.entries.StoredEntry.TheVariants as stored
 use Rattle.traces.specs.Fields.{digits_after}
 use Rattle.traces.specs.Actions.{line_of}
 use Rattle.traces.specs.Event.{Event}
 use Rattle.traces.specs.Event as events
-use Rattle.traces.specs.Trace.{lines_of, told}
+use Rattle.traces.specs.Trace.{lines_of, logged}
 
 -- Printing
 
@@ -67,9 +67,9 @@ IsPrintable (Came now event) = (now < 2 ^ 64) × IsPrintableEvent event
 IsPrintable (Went now action) = (now < 2 ^ 64) × IsPrintableAction action
 
 -- an action that is stored is one of these; of an event this says nothing
-abbrev pub IsPrintableTold : Told → Type 0
-IsPrintableTold (stored.Came entry) = Unit {0}
-IsPrintableTold told = IsPrintable (told_of told)
+abbrev pub IsPrintableEntry : StoredEntry → Type 0
+IsPrintableEntry (stored.Came entry) = Unit {0}
+IsPrintableEntry logged = IsPrintable (logged_of logged)
 
 -- each action of a log is one of these
 abbrev pub ArePrinted : Log → Type 0
@@ -98,7 +98,7 @@ FitsTrace (events.wall now number) = (now ≤ last_moment) × (number ≤ last_m
 pub record IsFirstOf (event : Event) (whole text : List ℕ) : Type 0 where
   pub line : List ℕ
   pub lines : lines_of whole ≡ line ∷ lines_of text
-  pub told : told line ≡ Some event
+  pub logged : logged line ≡ Some event
 
 -- Reading
 

@@ -6,12 +6,12 @@ use Rattle.std.specs.List.{filter_map, AllByRecursion}
 use Rattle.std.specs.Option.{is_none}
 use Rattle.gateway.specs.Log.{Log, LogEntry, Came, LineIn, Opened, TcpIn, CutOff, Ticked, WallIs}
 use Rattle.gateway.specs.Log.{events_of}
-use Rattle.gateway.specs.Ports.{told_by, FitsBuffer}
+use Rattle.gateway.specs.Ports.{logged_by, FitsBuffer}
 use Rattle.gateway.specs.declared.ports.Next.{Next}
 use Rattle.gateway.specs.declared.ports.Next.TheVariants as answers
 use Rattle.traces.specs.Event.{Event, line, opening, received, cut, tick, wall}
 use Rattle.traces.specs.Fields.{parts_after}
-use Rattle.traces.specs.Trace.{lines_of, told, is_wrong, first_wrong}
+use Rattle.traces.specs.Trace.{lines_of, logged, is_wrong, first_wrong}
 use Rattle.traces.specs.declared.reading.TextFault.{TextFault}
 use Rattle.traces.specs.declared.reading.TextFault.TheVariants.{Line, NoMemory}
 
@@ -26,7 +26,7 @@ came (wall now number) = Came now (WallIs number)
 
 -- the events that lines tell
 abbrev pub events_in : List (List ℕ) → List LogEntry
-events_in lines = map came (filter_map told lines)
+events_in lines = map came (filter_map logged lines)
 
 -- the events of a run over this text, the oldest first: a tick at moment 0, and then these
 abbrev pub script_in : List ℕ → List LogEntry
@@ -82,9 +82,9 @@ first_standing started = record {
   failed = 0;
 }
 
-abbrev pub all_told : Option (List LogEntry) → List LogEntry
-all_told None = []
-all_told (Some entries) = entries
+abbrev pub all_logged : Option (List LogEntry) → List LogEntry
+all_logged None = []
+all_logged (Some entries) = entries
 
 -- the events that are still to come
 abbrev pub events_left : (started : Bool) → (text : List ℕ) → (left : Option (List ℕ))
@@ -107,18 +107,18 @@ pub record IsProgress (p : Progress) : Type 0 where
   pub first : p.started ≡ false → p.left ≡ Some p.part.text
 
 -- whether an answer tells an event
-abbrev pub tells_event : Next → Bool
-tells_event answers.Done = false
-tells_event answers.Fault = false
-tells_event next = true
+abbrev pub logs_event : Next → Bool
+logs_event answers.Done = false
+logs_event answers.Fault = false
+logs_event next = true
 
 -- An answer tells the first event of these lines, where there is one and no wrong line before it,
 -- and these are left; then none of the others is wrong.
 pub record IsFirst (lines : List (List ℕ)) (left : Option (List ℕ)) (next : Next)
     (buf : List ℕ) : Type 0 where
-  pub told : tells_event next ≡ true
-      → told_by next buf ++ events_in (parts_after 10 left) ≡ events_in lines
-  pub none : tells_event next ≡ false → events_in (parts_after 10 left) ≡ events_in lines
+  pub logged : logs_event next ≡ true
+      → logged_by next buf ++ events_in (parts_after 10 left) ≡ events_in lines
+  pub none : logs_event next ≡ false → events_in (parts_after 10 left) ≡ events_in lines
   pub done : next ≡ answers.Done → left ≡ None
   pub right : AllByRecursion IsRight (parts_after 10 left) → AllByRecursion IsRight lines
   pub fits : FitsBuffer next

@@ -20,8 +20,8 @@ is_skipped [] = true
 is_skipped (b ∷ _) = b == 35
 
 -- the event that a line tells; an empty line and a comment tell none
-abbrev pub told : List ℕ → Option Event
-told line = if is_skipped line then None else event_in line
+abbrev pub logged : List ℕ → Option Event
+logged line = if is_skipped line then None else event_in line
 
 -- a line that tells nothing, though it is neither empty nor a comment
 abbrev pub is_wrong : List ℕ → Bool
@@ -33,9 +33,9 @@ first_wrong n [] = None
 first_wrong n (l ∷ ls) = if is_wrong l then Some n else first_wrong (n + 1) ls
 
 -- no line is wrong, and the entries are the events that the lines tell, in their order
-abbrev pub AreToldBy : List (List ℕ) → List Entry → Type 0
-AreToldBy lines entries =
-    (first_wrong 1 lines ≡ None) × (map event_of entries ≡ filter_map told lines)
+abbrev pub AreEntriesOf : List (List ℕ) → List Entry → Type 0
+AreEntriesOf lines entries =
+    (first_wrong 1 lines ≡ None) × (map event_of entries ≡ filter_map logged lines)
 
 -- the number is that of the first wrong line, counted from 1 over all lines
 abbrev pub IsFaultOf : List (List ℕ) → TextFault → Type 0
@@ -45,4 +45,4 @@ IsFaultOf lines NoMemory = Unit {0}
 -- what the reading of a trace answers
 abbrev pub IsTraceOf : List ℕ → Result (Vec Entry Global) TextFault → Type 0
 IsTraceOf text result =
-    MatchResult result (λ v. AreToldBy (lines_of text) v.items) (IsFaultOf (lines_of text))
+    MatchResult result (λ v. AreEntriesOf (lines_of text) v.items) (IsFaultOf (lines_of text))

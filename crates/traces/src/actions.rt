@@ -5,12 +5,12 @@ ghost use Rattle.gateway.specs.Log.{Went, GapOut};
 ghost use Rattle.gateway.specs.Ports.{output_of};
 ghost use Rattle.hex.specs.Hex.{IsBytes};
 ghost use Rattle.traces.specs.Actions.{line_of, octets_line, close_line, gap_line, stored_line};
-ghost use Rattle.traces.specs.Printed.{IsPrintable, IsPrintableTold};
+ghost use Rattle.traces.specs.Printed.{IsPrintable, IsPrintableEntry};
 
 use crate::moments::Moment;
 use crate::octets::hex_digits;
 use crate::page::Page;
-use gateway::{Action, Told, cause_number};
+use gateway::{Action, StoredEntry, cause_number};
 use session::Close;
 use std::alloc::{AllocError, Global};
 
@@ -93,28 +93,32 @@ pub fn print_action_at(
 }
 
 /// Appends the line of an action that is stored; an event has none. An `Err` is want of memory.
-pub fn append_line(alloc: Global, lines: &mut String, told: &Told) -> Result<(), AllocError>
+pub fn append_line(
+    alloc: Global,
+    lines: &mut String,
+    logged: &StoredEntry,
+) -> Result<(), AllocError>
     ensures line { OnOk result (string_bytes lines.new ≡ string_bytes lines.old
-        ++ stored_line told.now) }
-    ensures printable { OnOk result (IsPrintableTold told.now) }
+        ++ stored_line logged.now) }
+    ensures printable { OnOk result (IsPrintableEntry logged.now) }
 {
-    match told {
-        Told::Came(_) => Ok(()),
-        Told::Line(now, octets) => {
+    match logged {
+        StoredEntry::Came(_) => Ok(()),
+        StoredEntry::Line(now, octets) => {
             let now = *now;
             let digits = hex_digits(alloc, octets.as_slice())?;
             writeln!(lines, "{now} > S {digits}")
         }
-        Told::Tcp(now, octets) => {
+        StoredEntry::Tcp(now, octets) => {
             let now = *now;
             let digits = hex_digits(alloc, octets.as_slice())?;
             writeln!(lines, "{now} > T {digits}")
         }
-        Told::Close(now, cause) => {
+        StoredEntry::Close(now, cause) => {
             let now = *now;
             let number = cause_number(*cause);
             writeln!(lines, "{now} > X {number}")
         }
-        Told::Gap(now, station, session) => append_gap(lines, *now, *station, *session),
+        StoredEntry::Gap(now, station, session) => append_gap(lines, *now, *station, *session),
     }
 }

@@ -3,13 +3,13 @@ ghost use Rattle.std.specs.Prelude.{◌≡◌, ◌≤◌, ◌∷◌, [], true, f
 ghost use Rattle.std.specs.Prelude.{is_some, length, option_map};
 ghost use Rattle.std.specs.Option.{option_copied};
 ghost use Rattle.gateway.specs.Entries.{FitsPort};
-ghost use Rattle.gateway.specs.Ports.{FitsBuffer, told_by};
+ghost use Rattle.gateway.specs.Ports.{FitsBuffer, logged_by};
 ghost use Rattle.traces.specs.Event.{event_of, bare_event};
 ghost use Rattle.traces.specs.Fields.{octets_of, parts_after};
 ghost use Rattle.traces.specs.FirstLines.{IsFirstLine, IsEventAt, IsEventBehind, IsMomentAt};
 ghost use Rattle.traces.specs.FirstLines.{IsValued, ends_field, first_line, later_lines, lines_in};
 ghost use Rattle.traces.specs.FirstLines.{octets_in, rest_of, spelled_by, spelled_event};
-ghost use Rattle.traces.specs.Progress.{came, tells_event};
+ghost use Rattle.traces.specs.Progress.{came, logs_event};
 ghost use Rattle.traces.specs.Trace.{is_skipped};
 
 use crate::decimal::{decimal, front_number};
@@ -164,11 +164,11 @@ pub(crate) fn announce<'a>(
     buf: &mut [u8; 1024],
 ) -> Option<(Next, Option<&'a [u8]>)>
     ensures right { is_some result ≡ is_some (spelled_event event.now) }
-    ensures told { IfSome result (λ found. IfSome (spelled_event event.now)
-        (λ e. told_by found.0 buf.new ≡ came e ∷ [])) }
+    ensures logged { IfSome result (λ found. IfSome (spelled_event event.now)
+        (λ e. logged_by found.0 buf.new ≡ came e ∷ [])) }
     ensures rest { IfSome result (λ found.
         rest_of event.now ≡ parts_after 10 (option_copied found.1)) }
-    ensures some { IfSome result (λ found. tells_event found.0 ≡ true) }
+    ensures some { IfSome result (λ found. logs_event found.0 ≡ true) }
     ensures fits { IfSome result (λ found. FitsBuffer found.0) }
 {
     match event {

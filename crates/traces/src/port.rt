@@ -3,14 +3,14 @@ ghost use Rattle.std.specs.Prelude.{◌≡◌, ℕ, ◌+◌, ◌<◌, ◌≤◌,
 ghost use Rattle.std.specs.Prelude.{vec_len, vec_capacity, string_bytes, IfOk, OnOk, OnErr, Option};
 ghost use Rattle.std.specs.Prelude.{Some, None, if◌then◌else◌};
 ghost use Rattle.std.specs.List.{AllByRecursion};
-ghost use Rattle.gateway.specs.Log.{Came, Went, Ticked, tell, events_of};
+ghost use Rattle.gateway.specs.Log.{Came, Went, Ticked, with_news, events_of};
 ghost use Rattle.gateway.specs.Ports.{output_of};
-ghost use Rattle.gateway.specs.Entries.{FitsPort, event_of, script_of, told_of, log_of};
+ghost use Rattle.gateway.specs.Entries.{FitsPort, event_of, script_of, logged_of, log_of};
 ghost use Rattle.traces.specs.Actions.{line_of};
 
 use crate::actions::append_line;
 use crate::health::Health;
-use gateway::{Action, Entry, Next, Port, Told, announce};
+use gateway::{Action, Entry, Next, Port, StoredEntry, announce};
 use std::alloc::{AllocError, Global};
 use std::io::Write;
 use std::marker::{Brand, Model, PhantomData};
@@ -40,7 +40,7 @@ pub struct Trace<W: Write, B: HeldBefore = Brand> {
     /// Those that are still to come, the last first.
     entries: Vec<Entry>,
     is_started: bool,
-    log: Vec<Told>,
+    log: Vec<StoredEntry>,
     /// The line that is being written.
     line: String,
     out: W,
@@ -123,7 +123,7 @@ impl<W: Write, B: HeldBefore> Trace<W, B> {
     }
 
     /// The log so far, the oldest first.
-    pub fn told(&self) -> &[Told]
+    pub fn logged(&self) -> &[StoredEntry]
         ensures { log_of result.now ≡ self.now.log }
     {
         self.log.as_slice()
@@ -138,7 +138,7 @@ impl<W: Write, B: HeldBefore> Trace<W, B> {
             ≡ record self.old { log = Came 0 Ticked ∷ self.old.log; started = true }) }
         ensures err { OnErr result (self.new ≡ self.old) }
     {
-        self.log.push(Told::Came(Entry::Tick(0)))?;
+        self.log.push(StoredEntry::Came(Entry::Tick(0)))?;
         self.is_started = true;
         Ok(Next::Tick(0))
     }
@@ -155,7 +155,7 @@ impl<W: Write, B: HeldBefore> Trace<W, B> {
             return Ok(Next::Done);
         };
         let next = announce(&entry, buf);
-        self.log.push_reserved(Told::Came(entry));
+        self.log.push_reserved(StoredEntry::Came(entry));
         Ok(next)
     }
 
@@ -206,20 +206,20 @@ impl<W: Write, B: HeldBefore> Trace<W, B> {
 fn prepare(
     alloc: Global,
     line: &mut String,
-    log: &mut Vec<Told>,
+    log: &mut Vec<StoredEntry>,
     now: u64,
     action: &Action<'_>,
-) -> Result<Told, AllocError>
-    ensures told { IfOk result (λ told. told_of told ≡ Went now (output_of action.now)) }
+) -> Result<StoredEntry, AllocError>
+    ensures logged { IfOk result (λ logged. logged_of logged ≡ Went now (output_of action.now)) }
     ensures line { OnOk result (string_bytes line.new ≡ line_of now (output_of action.now)) }
     ensures room { OnOk result (vec_len log.new < vec_capacity log.new) }
     ensures log { log.new.items ≡ log.old.items }
 {
-    let told = Told::went(alloc, now, action)?;
+    let logged = StoredEntry::went(alloc, now, action)?;
     line.clear();
-    append_line(alloc, line, &told)?;
+    append_line(alloc, line, &logged)?;
     log.try_reserve(1)?;
-    Ok(told)
+    Ok(logged)
 }
 
 impl<W: Write, B: HeldBefore> Port for Trace<W, B> {
@@ -261,7 +261,7 @@ impl<W: Write, B: HeldBefore> Port for Trace<W, B> {
             self.fail();
             return false;
         }
-        let Ok(told) = prepare(self.alloc, &mut self.line, &mut self.log, now, action) else {
+        let Ok(logged) = prepare(self.alloc, &mut self.line, &mut self.log, now, action) else {
             self.fail();
             return false;
         };
@@ -271,7 +271,7 @@ impl<W: Write, B: HeldBefore> Port for Trace<W, B> {
             self.health = Health::Broken;
             return false;
         }
-        self.log.push_reserved(told);
+        self.log.push_reserved(logged);
         true
     }
 

@@ -1,7 +1,7 @@
 //! What a run prints of its actions.
 ghost use Rattle.std.specs.Prelude.{◌≡◌, ◌++◌, ◌∷◌, [], OnOk, OnErr};
 ghost use Rattle.gateway.specs.Log.{Went};
-ghost use Rattle.gateway.specs.Ports.{told_by, output_of};
+ghost use Rattle.gateway.specs.Ports.{logged_by, output_of};
 ghost use Rattle.traces.specs.Actions.{line_of, lines_of_actions};
 
 use crate::actions::print_action_at;
@@ -64,7 +64,7 @@ impl Printout {
 
     /// An event has come, which an answer tells.
     pub fn came(&mut self, next: &Next, buf: &[u8; 1024])
-        ensures { self.new ≡ record self.old { log = told_by next.now buf.now ++ self.old.log } }
+        ensures { self.new ≡ record self.old { log = logged_by next.now buf.now ++ self.old.log } }
     {
         self.history = self.history.came(next, buf);
     }

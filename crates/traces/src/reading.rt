@@ -44,7 +44,7 @@ impl<T: Drop> From<AllocFailed<T>> for TextFault {
 /// (from the connection), a space and 1 to 1,024 octets in hexadecimal, or `W` (the wall clock), a
 /// space and its milliseconds since 1970-01-01 UTC, of 1 to 15 decimal digits. The first wrong line
 /// is the fault.
-#[tactic(auto, using(crate::proofs::TraceLemmas::told_skip, crate::proofs::TraceLemmas::wrong_skip, crate::proofs::TraceLemmas::told_next, crate::proofs::TraceLemmas::wrong_next, crate::proofs::TraceLemmas::wrong_here, crate::proofs::TraceLemmas::fits_more))]
+#[tactic(auto, using(crate::proofs::TraceLemmas::logged_skip, crate::proofs::TraceLemmas::wrong_skip, crate::proofs::TraceLemmas::logged_next, crate::proofs::TraceLemmas::wrong_next, crate::proofs::TraceLemmas::wrong_here, crate::proofs::TraceLemmas::fits_more))]
 pub fn read_trace(alloc: Global, text: &[u8]) -> Result<Vec<Entry>, TextFault>
     ensures entries { IsTraceOf text.now result }
     // What a port gives the gateway at most.

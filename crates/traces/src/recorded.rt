@@ -1,6 +1,6 @@
 //! The lines of events, as a recorded run has them.
 ghost use Rattle.std.specs.Prelude.{◌≡◌, ◌++◌, OnErr, OnOk, string_bytes};
-ghost use Rattle.gateway.specs.Ports.{FitsBuffer, told_by};
+ghost use Rattle.gateway.specs.Ports.{FitsBuffer, logged_by};
 ghost use Rattle.std.specs.List.{AllByRecursion};
 ghost use Rattle.traces.specs.Printed.{IsPrintable, lines_of_log};
 
@@ -20,8 +20,8 @@ pub fn append_event(
 ) -> Result<(), AllocError>
     requires { FitsBuffer next }
     ensures line { OnOk result (string_bytes lines.new
-        ≡ string_bytes lines.old ++ lines_of_log (told_by next buf.now)) }
-    ensures printable { OnOk result (AllByRecursion IsPrintable (told_by next buf.now)) }
+        ≡ string_bytes lines.old ++ lines_of_log (logged_by next buf.now)) }
+    ensures printable { OnOk result (AllByRecursion IsPrintable (logged_by next buf.now)) }
 {
     match next {
         Next::Line(now, len) => {
@@ -48,9 +48,9 @@ pub fn print_event(
     buf: &[u8; 1024],
 ) -> Result<(), AllocError>
     requires { FitsBuffer next }
-    ensures line { OnOk result (page.new ≡ page.old ++ lines_of_log (told_by next buf.now)) }
+    ensures line { OnOk result (page.new ≡ page.old ++ lines_of_log (logged_by next buf.now)) }
     ensures none { OnErr result (page.new ≡ page.old) }
-    ensures printable { OnOk result (AllByRecursion IsPrintable (told_by next buf.now)) }
+    ensures printable { OnOk result (AllByRecursion IsPrintable (logged_by next buf.now)) }
 {
     match next {
         Next::Line(now, len) => page.put_event(&Moment::new(now), b'S', &buf[..len]),
@@ -67,9 +67,9 @@ fn print_appended(
     buf: &[u8; 1024],
 ) -> Result<(), AllocError>
     requires { FitsBuffer next }
-    ensures line { OnOk result (page.new ≡ page.old ++ lines_of_log (told_by next buf.now)) }
+    ensures line { OnOk result (page.new ≡ page.old ++ lines_of_log (logged_by next buf.now)) }
     ensures none { OnErr result (page.new ≡ page.old) }
-    ensures printable { OnOk result (AllByRecursion IsPrintable (told_by next buf.now)) }
+    ensures printable { OnOk result (AllByRecursion IsPrintable (logged_by next buf.now)) }
 {
     let mut line = String::new(alloc);
     append_event(alloc, &mut line, next, buf)?;

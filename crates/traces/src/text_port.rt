@@ -7,7 +7,7 @@ ghost use Rattle.gateway.specs.Ports.{output_of};
 ghost use Rattle.traces.specs.Actions.{line_of, lines_of_actions};
 ghost use Rattle.traces.specs.Fields.{parts_after};
 ghost use Rattle.traces.specs.Progress.{IsFirst, script_of, coming_in, first_standing, is_through};
-ghost use Rattle.traces.specs.Progress.{tells_event};
+ghost use Rattle.traces.specs.Progress.{logs_event};
 ghost use Rattle.traces.specs.Trace.{first_wrong, lines_of};
 
 use crate::event::{FirstLine, announce, first_line};
@@ -174,7 +174,7 @@ pub fn first_event<'a>(text: Option<&'a [u8]>, buf: &mut [u8; 1024]) -> (Next, O
 
 /// Whether an answer tells an event.
 fn is_event(next: Next) -> bool
-    ensures { result ≡ tells_event next }
+    ensures { result ≡ logs_event next }
 {
     !matches!(next, Next::Done | Next::Fault)
 }

@@ -7,4 +7,4 @@ pub mod Faults
 pub mod Lines
 pub mod Connections
 pub mod Pipes
-pub mod Told
+pub mod Described

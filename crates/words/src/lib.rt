@@ -15,6 +15,7 @@
 
 mod commands;
 mod connections;
+mod described;
 mod examples;
 mod faults;
 mod floats;
@@ -26,12 +27,11 @@ mod objects;
 mod pipes;
 mod quality;
 mod tags;
-mod told;
 mod units;
 
 pub use connections::{push_apdu, push_apdu_refusal, words_of_connection};
+pub use described::{both, describe_apdu, describe_apdus, describe_line, describe_line_frames};
 pub use examples::{asdus_by_example, frames_by_example, tags_by_example, values_by_example};
 pub use faults::push_cut_off;
 pub use lines::{push_line_frame, push_line_refusal, words_of_line};
 pub use pipes::{apdu_end, line_end, read_line_of_octets};
-pub use told::{both, tell_apdu, tell_apdus, tell_line, tell_line_frames};

@@ -22,7 +22,7 @@ ghost use Rattle.gateway.specs.Finding.{Finds, FindsWhole};
 ghost use Rattle.gateway.specs.Polls.{has_room};
 
 use super::{Found, Gateway};
-use apci::{Apdu, ApduRef, Assembler, FrontRef, Heard, Short, front_ref, write_information};
+use apci::{Apdu, ApduRef, Assembler, FrontRef, Received, Short, front_ref, write_information};
 use asdu::Asdu;
 use events::Events;
 use session::{Close, Kind, Session, Taken};
@@ -45,7 +45,7 @@ impl Model for CentreSide {
     ghost view = { λ a. record {
       session = a.session;
       so_far = a.assembler.so_far;
-      heard = a.assembler.whole;
+      arrived = a.assembler.whole;
       queue = a.queue;
     } };
 
@@ -108,15 +108,15 @@ impl CentreSide {
         requires { 0 < length piece.now }
         ensures { Finds self.old piece.now result self.new }
     {
-        let (count, heard) = self.assembler.feed(piece);
-        match heard {
-            Heard::Whole => Found::Whole(count),
-            Heard::More => Found::More,
-            Heard::Never(_, _) => {
+        let (count, arrived) = self.assembler.feed(piece);
+        match arrived {
+            Received::Whole => Found::Whole(count),
+            Received::More => Found::More,
+            Received::Never(_, _) => {
                 self.assembler.clear();
                 Found::Refused
             }
-            Heard::Deaf => {
+            Received::Deaf => {
                 self.assembler.clear();
                 Found::Refused
             }
@@ -125,9 +125,9 @@ impl CentreSide {
 
     /// The APDU that came in pieces and is whole now.
     fn take_whole(&mut self) -> Apdu
-        requires { (frame : Apdu) × (self.old.heard ≡ Some frame) }
-        ensures frame { self.old.heard ≡ Some result }
-        ensures rest { self.new ≡ record self.old { heard = None } }
+        requires { (frame : Apdu) × (self.old.arrived ≡ Some frame) }
+        ensures frame { self.old.arrived ≡ Some result }
+        ensures rest { self.new ≡ record self.old { arrived = None } }
     {
         self.assembler.take().unwrap()
     }
@@ -253,9 +253,9 @@ impl Gateway {
 
     /// The APDU that came in pieces and is whole now.
     pub(crate) fn take_whole(&mut self) -> Apdu
-        requires { (frame : Apdu) × (self.old.centre.heard ≡ Some frame) }
-        ensures frame { self.old.centre.heard ≡ Some result }
-        ensures rest { self.new ≡ with_centre (record self.old.centre { heard = None }) self.old }
+        requires { (frame : Apdu) × (self.old.centre.arrived ≡ Some frame) }
+        ensures frame { self.old.centre.arrived ≡ Some result }
+        ensures rest { self.new ≡ with_centre (record self.old.centre { arrived = None }) self.old }
     {
         self.centre.take_whole()
     }

@@ -11,7 +11,7 @@ ghost use Rattle.gateway.specs.Agrees.{Follows, Rests};
 
 use super::Gateway;
 use super::serial::SerialSide;
-use link::{giving_up_is_for_one_station, giving_up_is_told};
+use link::{giving_up_is_for_one_station, giving_up_is_logged};
 
 impl SerialSide {
     /// Gives up the link to a station, and with it the command that stands on its line.
@@ -73,7 +73,7 @@ impl Gateway {
             Follows p self.new (Some (Came self.old.moment Restarted ∷ log)) }
     {
         giving_up_is_for_one_station();
-        giving_up_is_told();
+        giving_up_is_logged();
         self.serial.give_up_commands();
     }
 }

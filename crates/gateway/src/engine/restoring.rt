@@ -240,7 +240,7 @@ impl SerialSide {
             L.coming lines.old ≡ serial_lines s ++ rest →
             MatchResult result (λ r. (r ≡ s) × (L.coming lines.new ≡ rest))
             (λ fault. fault ≡ Wrong → ⊥) }
-        ensures told { IfOk result (λ s. (s.silent ≡ None) × (s.gap ≡ None)) }
+        ensures logged { IfOk result (λ s. (s.silent ≡ None) × (s.gap ≡ None)) }
     {
         let counts = read_tally(lines, line)?;
         let master = read_master(alloc, config, lines, line)?;
@@ -267,7 +267,7 @@ impl CentreSide {
             (λ s. s ≡ record {
               session = session;
               so_far = assembler.so_far;
-              heard = assembler.whole;
+              arrived = assembler.whole;
               queue = queue;
             })
             (λ fault. from_queue session.unacknowledged ≡ length queue.sent → ⊥) }
@@ -292,11 +292,11 @@ impl CentreSide {
         octets: &mut Vec<u8>,
     ) -> Result<CentreSide, StateFault>
         ensures back { (s : Centre) (rest : List (List ℕ)) → IsSavableCentre s →
-            HasCentreSettings config.now s → s.heard ≡ None →
+            HasCentreSettings config.now s → s.arrived ≡ None →
             L.coming lines.old ≡ centre_lines s ++ rest →
             MatchResult result (λ r. (r ≡ s) × (L.coming lines.new ≡ rest))
             (λ fault. fault ≡ Wrong → ⊥) }
-        ensures taken { IfOk result (λ s. s.heard ≡ None) }
+        ensures taken { IfOk result (λ s. s.arrived ≡ None) }
     {
         let assembler = read_assembler(lines, line, octets)?;
         let session = read_session(alloc, config, lines, line)?;

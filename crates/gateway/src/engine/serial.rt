@@ -12,9 +12,9 @@ ghost use Rattle.link.specs.declared.outcome.Outcome.TheVariants as exchange;
 ghost use Rattle.link.specs.declared.settings.LinkSettings.{LinkSettings};
 ghost use Rattle.link.specs.Exchanges.{Sending, Exchanges};
 ghost use Rattle.link.specs.Leave.{is_poll_request, is_polling, is_report};
-ghost use Rattle.link.specs.Primary.{offered_to, sending, request_of, heard_from};
-ghost use Rattle.link.specs.Primary.{heard_outcome as outcome_of_frame};
-ghost use Rattle.link.specs.Telling.{Tells};
+ghost use Rattle.link.specs.Primary.{offered_to, sending, request_of, answered_with};
+ghost use Rattle.link.specs.Primary.{answer_outcome as outcome_of_frame};
+ghost use Rattle.link.specs.Matching.{Matches};
 ghost use Rattle.command.specs.Judging.{judged};
 ghost use Rattle.command.specs.State.{oldest};
 ghost use Rattle.events.specs.Queue.{free_places, octets_of};
@@ -22,12 +22,13 @@ ghost use Rattle.session.specs.Session.{may_send};
 ghost use Rattle.gateway.specs.Polls.{has_room};
 ghost use Rattle.gateway.specs.Counting.{is_answer_type, one_skipped, one_mirrored, one_lost};
 ghost use Rattle.gateway.specs.Serial.{kept_until, all_kept, listed, refused, refusal_fits};
-ghost use Rattle.gateway.specs.Serial.{heard, heard_outcome, accepted, given_up, with_gap};
+ghost use Rattle.gateway.specs.Serial.{arrived, answer_outcome, accepted, given_up, with_gap};
 ghost use Rattle.gateway.specs.Serial.{without_gap, timed, settled};
 ghost use Rattle.gateway.specs.Serial.{cut, offered_by, offered, asked};
 ghost use Rattle.gateway.specs.State.{line_timed, settled as after_timers, after_request};
 ghost use Rattle.gateway.specs.State.{with_serial};
-ghost use Rattle.gateway.specs.Steps.{Mirrors, LearnsReport, Hears, Learns, SendsOwn, SpellFrame};
+ghost use Rattle.gateway.specs.Steps.{Mirrors, LearnsReport, Receives, Learns, SendsOwn};
+ghost use Rattle.gateway.specs.Steps.{SpellFrame};
 ghost use Rattle.gateway.specs.Works.{is_command_report};
 
 use super::Gateway;
@@ -40,7 +41,8 @@ use command::{Act, Commands};
 use elements::TypeId;
 use ft12::{Frame, FrameRef};
 use link::{
-    Master, Outcome, Request, RequestKind, master_tells_the_log, offers_wait, polls_wait_for_leave,
+    Master, Outcome, Request, RequestKind, master_matches_the_log, offers_wait,
+    polls_wait_for_leave,
 };
 use session::Close;
 use std::marker::Model;
@@ -109,10 +111,10 @@ fn offer_to(line: &mut Master, station: usize, octets: &[u8])
     requires some { 1 ≤ length octets.now }
     requires short { length octets.now ≤ 12 }
     ensures state { line.new ≡ offered_to line.old station octets.now }
-    ensures tells { (settings : LinkSettings) (addresses : List ℕ) (e : Exchanges) →
-        Tells settings addresses line.old e → Tells settings addresses line.new e }
+    ensures matches { (settings : LinkSettings) (addresses : List ℕ) (e : Exchanges) →
+        Matches settings addresses line.old e → Matches settings addresses line.new e }
 {
-    master_tells_the_log();
+    master_matches_the_log();
     // `false` says that one is offered already; what waits is offered again at each step.
     let _is_new = line.offer(station, octets);
 }
@@ -134,16 +136,16 @@ fn keep_all(commands: &mut Commands, pieces: &[Piece]) -> bool
 impl SerialSide {
     /// Takes octets of the line whose front is the whole answer to the request that is outstanding,
     /// and answers what came of them. Else nothing changes.
-    fn hear_whole<'a>(&mut self, octets: &'a [u8]) -> Option<Outcome<'a>>
-        ensures whole { IfSome result (λ outcome. (self.new ≡ heard octets.now self.old)
-            × (outcome ≡ heard_outcome octets.now self.old)) }
+    fn receive_whole<'a>(&mut self, octets: &'a [u8]) -> Option<Outcome<'a>>
+        ensures whole { IfSome result (λ outcome. (self.new ≡ arrived octets.now self.old)
+            × (outcome ≡ answer_outcome octets.now self.old)) }
         ensures none { IfNone result (self.new ≡ self.old) }
         ensures report { IfSome result (λ outcome. is_report outcome ≡ true →
             (is_polling self.old.line ≡ true) × (is_polling self.new.line ≡ false)) }
         ensures polls { is_polling self.new.line ≡ true → is_polling self.old.line ≡ true }
     {
         polls_wait_for_leave();
-        self.line.hear_whole(octets)
+        self.line.receive_whole(octets)
     }
 
     /// Gathers octets of the line up to one that may be the last of the answer, and says how many:
@@ -151,12 +153,12 @@ impl SerialSide {
     /// heard of all.
     fn gather_inner(&mut self, octets: &[u8]) -> usize
         ensures within { result ≤ length octets.now }
-        ensures all { result ≡ length octets.now → (self.new ≡ heard octets.now self.old)
-            × (heard_outcome octets.now self.old ≡ exchange.None) }
+        ensures all { result ≡ length octets.now → (self.new ≡ arrived octets.now self.old)
+            × (answer_outcome octets.now self.old ≡ exchange.None) }
         ensures rest { result < length octets.now →
-            (heard (drop result octets.now) self.new ≡ heard octets.now self.old)
-            × (heard_outcome (drop result octets.now) self.new
-            ≡ heard_outcome octets.now self.old) }
+            (arrived (drop result octets.now) self.new ≡ arrived octets.now self.old)
+            × (answer_outcome (drop result octets.now) self.new
+            ≡ answer_outcome octets.now self.old) }
         ensures others { self.new ≡ record self.old { line = self.new.line } }
         ensures polls { is_polling self.new.line ≡ true → is_polling self.old.line ≡ true }
     {
@@ -168,27 +170,27 @@ impl SerialSide {
     fn gather(&mut self, octets: &[u8]) -> Option<Frame>
         ensures whole { IfSome result (λ frame. (record self.new {
           line =
-              heard_from self.new.line self.new.line.outstanding frame;
-        } ≡ heard octets.now self.old)
+              answered_with self.new.line self.new.line.outstanding frame;
+        } ≡ arrived octets.now self.old)
             × (outcome_of_frame self.new.line self.new.line.outstanding frame
-            ≡ heard_outcome octets.now self.old)) }
-        ensures none { IfNone result ((self.new ≡ heard octets.now self.old)
-            × (heard_outcome octets.now self.old ≡ exchange.None)) }
+            ≡ answer_outcome octets.now self.old)) }
+        ensures none { IfNone result ((self.new ≡ arrived octets.now self.old)
+            × (answer_outcome octets.now self.old ≡ exchange.None)) }
     {
         self.line.gather(octets)
     }
 
     /// Hears the frame that is the answer, and says what came of the exchange.
-    fn hear_frame<'a>(&mut self, frame: FrameRef<'a>) -> Outcome<'a>
+    fn receive_frame<'a>(&mut self, frame: FrameRef<'a>) -> Outcome<'a>
         requires { FitsMemory frame }
         ensures state { self.new ≡ record self.old {
           line =
-              heard_from self.old.line self.old.line.outstanding (owned frame.entry);
+              answered_with self.old.line self.old.line.outstanding (owned frame.entry);
         } }
         ensures outcome { result
             ≡ outcome_of_frame self.old.line self.old.line.outstanding (owned frame.entry) }
     {
-        self.line.hear(frame)
+        self.line.receive(frame)
     }
 
     /// The command on a station's line was accepted.
@@ -376,8 +378,8 @@ impl SerialSide {
     /// Offers to each station the oldest command that waits for it.
     fn offer_all(&mut self)
         ensures state { self.new ≡ offered self.old }
-        ensures tells { (settings : LinkSettings) (addresses : List ℕ) (e : Exchanges) →
-            Tells settings addresses self.old.line e → Tells settings addresses self.new.line e }
+        ensures matches { (settings : LinkSettings) (addresses : List ℕ) (e : Exchanges) →
+            Matches settings addresses self.old.line e → Matches settings addresses self.new.line e }
         ensures polls { is_polling self.new.line ≡ true → is_polling self.old.line ≡ true }
     {
         offers_wait();
@@ -393,8 +395,8 @@ impl SerialSide {
           line =
               offered_by (oldest station self.old.commands.waiting) station self.old.line;
         } }
-        ensures tells { (settings : LinkSettings) (addresses : List ℕ) (e : Exchanges) →
-            Tells settings addresses self.old.line e → Tells settings addresses self.new.line e }
+        ensures matches { (settings : LinkSettings) (addresses : List ℕ) (e : Exchanges) →
+            Matches settings addresses self.old.line e → Matches settings addresses self.new.line e }
         ensures polls { is_polling self.new.line ≡ true → is_polling self.old.line ≡ true }
     {
         polls_wait_for_leave();
@@ -407,35 +409,35 @@ impl SerialSide {
 impl Gateway {
     /// Takes octets of the line, and keeps what comes with them. `false` says that an own answer
     /// found no place.
-    pub(crate) fn hear(&mut self, octets: &[u8]) -> bool
-        ensures { Hears self.old octets.now result self.new }
+    pub(crate) fn receive_line(&mut self, octets: &[u8]) -> bool
+        ensures { Receives self.old octets.now result self.new }
     {
-        match self.serial.hear_whole(octets) {
+        match self.serial.receive_whole(octets) {
             Some(outcome) => self.learn(&outcome),
-            None => self.hear_piece(octets),
+            None => self.receive_piece(octets),
         }
     }
 
-    /// As `hear`, for octets that aren't a whole answer by themselves.
-    fn hear_piece(&mut self, octets: &[u8]) -> bool
-        ensures { Hears self.old octets.now result self.new }
+    /// As `receive_line`, for octets that aren't a whole answer by themselves.
+    fn receive_piece(&mut self, octets: &[u8]) -> bool
+        ensures { Receives self.old octets.now result self.new }
     {
         let count = self.serial.gather_inner(octets);
         if count == octets.len() {
             return true;
         }
-        self.hear_end(&octets[count..])
+        self.receive_end(&octets[count..])
     }
 
-    /// As `hear`, for octets of which the first may be the last of an answer.
-    fn hear_end(&mut self, octets: &[u8]) -> bool
-        ensures { Hears self.old octets.now result self.new }
+    /// As `receive_line`, for octets of which the first may be the last of an answer.
+    fn receive_end(&mut self, octets: &[u8]) -> bool
+        ensures { Receives self.old octets.now result self.new }
     {
         polls_wait_for_leave();
         let Some(frame) = self.serial.gather(octets) else {
             return true;
         };
-        let outcome = self.serial.hear_frame(frame.lent());
+        let outcome = self.serial.receive_frame(frame.lent());
         self.learn(&outcome)
     }
 
@@ -520,9 +522,9 @@ impl Gateway {
     /// Offers to each station the oldest command that waits for it.
     pub(crate) fn offer_all(&mut self)
         ensures state { self.new ≡ with_serial (offered self.old.serial) self.old }
-        ensures tells { (settings : LinkSettings) (addresses : List ℕ) (e : Exchanges) →
-            Tells settings addresses self.old.serial.line e →
-            Tells settings addresses self.new.serial.line e }
+        ensures matches { (settings : LinkSettings) (addresses : List ℕ) (e : Exchanges) →
+            Matches settings addresses self.old.serial.line e →
+            Matches settings addresses self.new.serial.line e }
     {
         self.serial.offer_all();
     }

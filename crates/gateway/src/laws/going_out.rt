@@ -8,7 +8,7 @@ ghost use Rattle.gateway.specs.GoingOut.{BearWholePieces, DataWaits, ReportsWait
 use apci::{one_front, spellings_cancel};
 use command::commands_keep_the_rules;
 use ft12::front_is_computed;
-use link::{giving_up_is_told, line_keeps_the_procedures};
+use link::{giving_up_is_logged, line_keeps_the_procedures};
 
 /// No I frame goes out before a confirmation that is due: by what a log shows of its open
 /// connection, each I frame went out while neither STARTDT con, STOPDT con nor TESTFR con was due.
@@ -40,5 +40,5 @@ pub fn frames_bear_whole_pieces()
 {
     front_is_computed();
     line_keeps_the_procedures();
-    giving_up_is_told();
+    giving_up_is_logged();
 }

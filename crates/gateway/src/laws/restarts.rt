@@ -8,7 +8,7 @@ ghost use Rattle.gateway.specs.Traffic.{IsFaithful};
 
 use apci::{one_front, spellings_cancel};
 use asdu::{objects_are_those_of_the_asdu, one_asdu_one_spelling};
-use link::{giving_up_is_for_one_station, giving_up_is_told, line_keeps_the_procedures};
+use link::{giving_up_is_for_one_station, giving_up_is_logged, line_keeps_the_procedures};
 
 /// What a restart is in a log, whose lives are one run. In its course each command without an
 /// answer is given up, and nothing else changes of what the step before left. On each faithful log
@@ -27,5 +27,5 @@ pub fn restarts_give_up_commands()
     objects_are_those_of_the_asdu();
     line_keeps_the_procedures();
     giving_up_is_for_one_station();
-    giving_up_is_told();
+    giving_up_is_logged();
 }

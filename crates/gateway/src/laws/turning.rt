@@ -14,9 +14,9 @@ use apci::{one_front, spellings_cancel};
 use asdu::{objects_are_those_of_the_asdu, one_asdu_one_spelling};
 use command::{commands_are_forwarded, waiting_commands_stay};
 use link::{
-    class_1_polls_go_on, commands_go_before_polls, giving_up_is_for_one_station, giving_up_is_told,
-    line_keeps_the_procedures, no_station_starves, polls_follow_commands, repeats_come_at_once,
-    turns_end,
+    class_1_polls_go_on, commands_go_before_polls, giving_up_is_for_one_station,
+    giving_up_is_logged, line_keeps_the_procedures, no_station_starves, polls_follow_commands,
+    repeats_come_at_once, turns_end,
 };
 
 /// On each log that a gateway follows turns end, no station starves, commands go before polls,
@@ -39,7 +39,7 @@ pub fn logs_keep_turns()
     repeats_come_at_once();
     polls_follow_commands();
     line_keeps_the_procedures();
-    giving_up_is_told();
+    giving_up_is_logged();
     giving_up_is_for_one_station();
     commands_are_forwarded();
     waiting_commands_stay();

@@ -10,7 +10,7 @@ ghost use Rattle.link.specs.Procedure.{LinkSettings};
 ghost use Rattle.link.specs.Turns.{StationState, station_at};
 ghost use Rattle.link.specs.Primary.{Primary};
 ghost use Rattle.link.specs.Leave.{is_polling};
-ghost use Rattle.link.specs.Telling.{IsAllowed, Tells};
+ghost use Rattle.link.specs.Matching.{IsAllowed, Matches};
 ghost use Rattle.link.specs.Carried.{awaits_command, station_given_up, given_up};
 ghost use Rattle.link.specs.Carried.{gap_marked, released, station_carried, seated, reseated};
 ghost use Rattle.link.specs.Carried.{bit_of, without_commands, awaits_command_in};
@@ -72,16 +72,16 @@ pub fn sessions_go_on()
 /// link of the exchanges that are marked, at one station and at all that await a command. The
 /// reports of the exchanges, and the sessions of a station that ended with a gap, stay what they
 /// were.
-pub fn giving_up_is_told()
+pub fn giving_up_is_logged()
     ensures awaits { (settings : LinkSettings) (addresses : List ℕ) (p : Primary) (e : Exchanges)
-        (k : ℕ) → Tells settings addresses p e →
+        (k : ℕ) → Matches settings addresses p e →
         awaits_command p k ≡ awaits_command_in settings (front_of settings.size) addresses k e }
     ensures one { (settings : LinkSettings) (addresses : List ℕ) (p : Primary) (e : Exchanges)
-        (k : ℕ) → k < length p.stations → Tells settings addresses p e →
-        Tells settings addresses (given_up k p) (given_up_at k e) }
+        (k : ℕ) → k < length p.stations → Matches settings addresses p e →
+        Matches settings addresses (given_up k p) (given_up_at k e) }
     ensures all { (settings : LinkSettings) (addresses : List ℕ) (p : Primary) (e : Exchanges) →
-        Tells settings addresses p e →
-        Tells settings addresses (without_commands p)
+        Matches settings addresses p e →
+        Matches settings addresses (without_commands p)
         (commands_given_up settings (front_of settings.size) addresses e) }
     ensures reports { (settings : LinkSettings) (size : LinkSize) (addresses : List ℕ)
         (address : ℕ → ℕ) (e : Exchanges) →

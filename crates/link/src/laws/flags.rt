@@ -6,23 +6,23 @@ ghost use Rattle.link.specs.Flags.{Heeds, flags_at, link_at};
 ghost use Rattle.link.specs.Procedure.{LinkSettings, is_held};
 ghost use Rattle.link.specs.Turns.{station_at};
 ghost use Rattle.link.specs.Primary.{Primary, sending};
-ghost use Rattle.link.specs.Telling.{Tells};
+ghost use Rattle.link.specs.Matching.{Matches};
 
 /// A primary keeps of each station the flags of its latest answer, and heeds them: a poll of class
 /// 1 that is no repeat goes out only with ACD set, one of class 2 only with ACD clear, and a
 /// command for the first time only with DFC clear.
 pub fn flags_are_heeded()
     ensures acd { (settings : LinkSettings) (addresses : List ℕ) (p : Primary) (e : Exchanges)
-        (station : ℕ) → Tells settings addresses p e →
+        (station : ℕ) → Matches settings addresses p e →
         (station_at p.stations station).acd
         ≡ (flags_at (front_of settings.size) addresses station e).acd }
     ensures dfc { (settings : LinkSettings) (addresses : List ℕ) (p : Primary) (e : Exchanges)
-        (station : ℕ) → Tells settings addresses p e →
+        (station : ℕ) → Matches settings addresses p e →
         (station_at p.stations station).dfc
         ≡ (flags_at (front_of settings.size) addresses station e).dfc }
     ensures heeds { (settings : LinkSettings) (addresses : List ℕ) (p : Primary) (e : Exchanges)
         (may_poll : Bool) (s : Sending) →
-        Tells settings addresses p e → sending p may_poll ≡ Some s →
+        Matches settings addresses p e → sending p may_poll ≡ Some s →
         is_held (link_at settings (front_of settings.size) addresses s.station e) ≡ false →
         Heeds (flags_at (front_of settings.size) addresses s.station e) s.request }
 {}

@@ -3,24 +3,25 @@ ghost use Rattle.std.specs.Prelude.{◌≡◌, ◌++◌, ℕ, List, length, Opti
 ghost use Rattle.ft12.specs.declared.frame.LinkSize.{LinkSize};
 ghost use Rattle.ft12.specs.Fronts.{front_of};
 ghost use Rattle.link.specs.Delivery.{IsHonest, sessions};
-ghost use Rattle.link.specs.Exchanges.{Exchange, Exchanges, Sending, heard_current, timed_current};
+ghost use Rattle.link.specs.Exchanges.{Exchange, Exchanges, Sending, received_current};
+ghost use Rattle.link.specs.Exchanges.{timed_current};
 ghost use Rattle.link.specs.Exchanges.{begun_by};
 ghost use Rattle.link.specs.Gaps.{gaps_in, gaps_at, ended_with_gap};
 ghost use Rattle.link.specs.Outstation.{Turn};
 ghost use Rattle.link.specs.Procedure.{LinkSettings, Down, KeepsFrameCountBit};
 ghost use Rattle.link.specs.Primary.{Primary, received, received_outcome};
-ghost use Rattle.link.specs.Telling.{Tells, gap_in_outcome};
+ghost use Rattle.link.specs.Matching.{Matches, gap_in_outcome};
 
 use ft12::front_is_computed;
 
 /// Through the calls of a primary station, the sessions of a station that ended with a gap, by its
 /// exchanges, grow by exactly those that the outcomes tell. (That an answered reset without a gap
 /// is told as a start is said of all outcomes, by `outcomes_are_answers`.)
-pub fn gaps_are_told()
+pub fn gaps_are_reported()
     ensures octets { (settings : LinkSettings) (addresses : List ℕ) (p : Primary) (e : Exchanges)
-        (octets : List ℕ) (station : ℕ) → Tells settings addresses p e →
+        (octets : List ℕ) (station : ℕ) → Matches settings addresses p e →
         gaps_at (front_of settings.size) addresses station
-        (record { ended = e.ended; current = heard_current octets e.current })
+        (record { ended = e.ended; current = received_current octets e.current })
         ≡ gaps_at (front_of settings.size) addresses station e
         ++ gap_in_outcome station (received_outcome (front_of p.settings.size) p octets) }
     ensures due { (size : LinkSize) (addresses : List ℕ) (answer_ms at : ℕ) (e : Exchanges)

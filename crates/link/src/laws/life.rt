@@ -8,8 +8,9 @@ ghost use Rattle.link.specs.Outstation.{OutstationRun, all_done};
 ghost use Rattle.link.specs.Delivery.{reports, commands};
 ghost use Rattle.link.specs.Secondary.{Secondary, outstation_of};
 ghost use Rattle.link.specs.Tidings.{IsNew, IsNewReading, bit_of, answer_after, Wait1, Wait2};
-ghost use Rattle.link.specs.Tidings.{do_wait, TellsFlags, oldest, IsAnsweredBy};
-ghost use Rattle.link.specs.Life.{Call, Hear, after, requests_heard, turns_in, given1, given2};
+ghost use Rattle.link.specs.Tidings.{do_wait, ShowsFlags, oldest, IsAnsweredBy};
+ghost use Rattle.link.specs.Life.{Call, Receive, after, requests_received, turns_in, given1};
+ghost use Rattle.link.specs.Life.{given2};
 ghost use Rattle.link.specs.Life.{reported1, reported2, saturated};
 
 /// Whatever it is called for, a station runs as the outstation that a primary counts on, and hears
@@ -17,13 +18,13 @@ ghost use Rattle.link.specs.Life.{reported1, reported2, saturated};
 /// size of addresses stay.
 pub fn station_is_an_outstation()
     ensures run { (s : Secondary) (calls : List Call) →
-        OutstationRun s.address (outstation_of s) (requests_heard s.address calls)
+        OutstationRun s.address (outstation_of s) (requests_received s.address calls)
         (turns_in s calls) (outstation_of (after s calls)) }
     ensures class1 { (s : Secondary) (calls : List Call) → s.given < 2 ^ 64 →
-        given1 (requests_heard s.address calls) (turns_in s calls) ++ (after s calls).class1
+        given1 (requests_received s.address calls) (turns_in s calls) ++ (after s calls).class1
         ≡ s.class1 ++ reported1 calls }
     ensures class2 { (s : Secondary) (calls : List Call) → s.given < 2 ^ 64 →
-        given2 (requests_heard s.address calls) (turns_in s calls) ++ (after s calls).class2
+        given2 (requests_received s.address calls) (turns_in s calls) ++ (after s calls).class2
         ≡ s.class2 ++ reported2 calls }
     ensures accepted { (s : Secondary) (calls : List Call) → s.given < 2 ^ 64 →
         s.accepted ++ commands (all_done (turns_in s calls)) ≡ (after s calls).accepted }
@@ -37,12 +38,12 @@ pub fn station_is_an_outstation()
 /// Each new answer has ACD set exactly where reports of class 1 wait after it, and DFC never. A
 /// request for data of a class gives the oldest report of that class that waits, and says that
 /// there is none only where none does.
-pub fn station_tells_what_waits()
+pub fn answers_show_what_waits()
     ensures flags { (size : LinkSize) (address : ℕ) (calls : List Call) (granted : Bool)
         (frame : Frame) (waiting : List (List ℕ)) →
         IsNewReading (bit_of address calls) (reading_of address frame) →
-        Wait1 size address (calls ++ Hear granted (Some frame) ∷ []) waiting →
-        TellsFlags (answer_after size address calls granted frame) (do_wait waiting) false }
+        Wait1 size address (calls ++ Receive granted (Some frame) ∷ []) waiting →
+        ShowsFlags (answer_after size address calls granted frame) (do_wait waiting) false }
     ensures class1 { (size : LinkSize) (address : ℕ) (calls : List Call) (granted : Bool)
         (frame : Frame) (fcb : Bool) (waiting : List (List ℕ)) →
         reading_of address frame ≡ Asks (Counted fcb Class1) →

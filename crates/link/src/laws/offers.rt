@@ -7,7 +7,7 @@ ghost use Rattle.link.specs.Answers.{Command, Counted};
 ghost use Rattle.link.specs.Exchanges.{Sending, Exchanges};
 ghost use Rattle.link.specs.Gaps.{exchanges_at};
 ghost use Rattle.link.specs.Procedure.{LinkSettings, is_held};
-ghost use Rattle.link.specs.Telling.{Tells};
+ghost use Rattle.link.specs.Matching.{Matches};
 ghost use Rattle.link.specs.Turns.{station_at};
 ghost use Rattle.link.specs.Primary.{Primary, asked, sending, received, timed_out, is_command};
 ghost use Rattle.link.specs.Primary.{may_offer, offered_to, withdrawn};
@@ -43,7 +43,7 @@ pub fn offers_wait()
 pub fn one_command_at_a_time()
     ensures { (settings : LinkSettings) (addresses : List ℕ) (p : Primary) (e : Exchanges)
         (station : ℕ) →
-        Tells settings addresses p e →
+        Matches settings addresses p e →
         may_offer p station ≡ (is_none (offered_at p station)
         && not (is_under_way settings (slice_index addresses station)
         (exchanges_at (front_of settings.size) station e))) }

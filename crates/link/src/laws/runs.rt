@@ -7,7 +7,8 @@ ghost use Rattle.ft12.specs.Fronts.{front_of};
 ghost use Rattle.link.specs.Counts.{saturated};
 ghost use Rattle.link.specs.Exchanges.{Exchanges, OpenExchange, Sending, IsOutstanding};
 ghost use Rattle.link.specs.Exchanges.{IsUnanswered, no_exchanges, answer_to, all_of, view, views};
-ghost use Rattle.link.specs.Exchanges.{with_station, heard_octets, timed, is_spoilt, spoilt_count};
+ghost use Rattle.link.specs.Exchanges.{with_station, received_octets, timed, is_spoilt};
+ghost use Rattle.link.specs.Exchanges.{spoilt_count};
 ghost use Rattle.link.specs.Gaps.{gap_at};
 ghost use Rattle.link.specs.Procedure.{LinkSettings, Down, KeepsFrameCountBit, after_silence};
 ghost use Rattle.link.specs.Procedure.{link_after};
@@ -16,7 +17,7 @@ ghost use Rattle.link.specs.Turns.{Wanted, station_at, wanted};
 ghost use Rattle.link.specs.Primary.{Primary, start, sending, received, outcome_of, with_gap};
 ghost use Rattle.link.specs.Primary.{received_outcome, timed_out, due_outcome};
 ghost use Rattle.link.specs.declared.outcome.Outcome.TheVariants as outcome;
-ghost use Rattle.link.specs.Telling.{Tells};
+ghost use Rattle.link.specs.Matching.{Matches};
 ghost use Rattle.link.specs.Runs.{Call, MayCallAll, called_all, exchanged_all, all_deeds};
 ghost use Rattle.link.specs.Runs.{AreInOrder, BeginsTurn, HaveNone, nth_after, silence_outcome};
 
@@ -58,16 +59,16 @@ pub fn turns_go_round()
 pub fn outcomes_are_answers()
     ensures octets { (settings : LinkSettings) (addresses : List ℕ) (p : Primary) (e : Exchanges)
         (octets : List ℕ) (x : OpenExchange) →
-        Tells settings addresses p e → e.current ≡ Some x →
+        Matches settings addresses p e → e.current ≡ Some x →
         IsOutstanding (slice_index addresses x.station) (view (front_of settings.size) x).exchange →
         received_outcome (front_of settings.size) p octets
         ≡ with_gap (gap_at (front_of settings.size) addresses x.station e)
         (outcome_of x.station x.request
         (answer_to (slice_index addresses x.station)
-        (view (front_of settings.size) (heard_octets octets x)).exchange)) }
+        (view (front_of settings.size) (received_octets octets x)).exchange)) }
     ensures due { (settings : LinkSettings) (addresses : List ℕ) (p : Primary) (e : Exchanges)
         (at : ℕ) (x : OpenExchange) →
-        Tells settings addresses p e → e.current ≡ Some x →
+        Matches settings addresses p e → e.current ≡ Some x →
         IsOutstanding (slice_index addresses x.station) (view (front_of settings.size) x).exchange →
         (timed settings.answer_ms at x).closed ≡ true →
         due_outcome p at ≡ silence_outcome x.station
@@ -78,13 +79,13 @@ pub fn outcomes_are_answers()
         (with_station x.station (views (front_of settings.size) e.ended)))) }
     ensures early { (settings : LinkSettings) (addresses : List ℕ) (p : Primary) (e : Exchanges)
         (at : ℕ) (x : OpenExchange) →
-        Tells settings addresses p e → e.current ≡ Some x →
+        Matches settings addresses p e → e.current ≡ Some x →
         IsOutstanding (slice_index addresses x.station) (view (front_of settings.size) x).exchange →
         (timed settings.answer_ms at x).closed ≡ false →
         (timed_out p at ≡ p) × (due_outcome p at ≡ outcome.None) }
     ensures none { (settings : LinkSettings) (addresses : List ℕ) (p : Primary) (e : Exchanges)
         (octets : List ℕ) (at : ℕ) →
-        Tells settings addresses p e →
+        Matches settings addresses p e →
         ((x : OpenExchange) → e.current ≡ Some x →
         IsOutstanding (slice_index addresses x.station) (view (front_of settings.size) x).exchange →
         ⊥) →

@@ -7,7 +7,7 @@ ghost use Rattle.link.specs.Answers.{Reset, Counted, answer_of};
 ghost use Rattle.link.specs.Primary.{outcome_of, acd_of, dfc_of};
 ghost use Rattle.link.specs.Requests.{request_frame, reading_of, Foreign, Unknown, Asks};
 ghost use Rattle.link.specs.Secondary.{data_frame};
-ghost use Rattle.link.specs.Tables.{row, answer_in, told_row, outcome_in, data_row, single_row};
+ghost use Rattle.link.specs.Tables.{row, answer_in, outcome_row, outcome_in, data_row, single_row};
 ghost use Rattle.link.specs.Tables.{plain_row, counted_row, reading_in};
 
 /// For each request, each of the sixteen functions of a secondary station is an answer that its
@@ -18,9 +18,9 @@ pub fn answers_are_whole()
     ensures fixed { (station : ℕ) (request : Asked) (octet : ℕ) → octet / 64 % 2 ≡ 0 →
         answer_of station request (Fixed octet station)
         ≡ answer_in (octet % 16) (row request) }
-    ensures told { (index station : ℕ) (request : Asked) (octet : ℕ) → octet / 64 % 2 ≡ 0 →
+    ensures outcome_for { (index station : ℕ) (request : Asked) (octet : ℕ) → octet / 64 % 2 ≡ 0 →
         outcome_of index request (answer_of station request (Fixed octet station))
-        ≡ outcome_in (octet % 16) (told_row index request) }
+        ≡ outcome_in (octet % 16) (outcome_row index request) }
     ensures user_data { (station : ℕ) (request : Asked) (octet : ℕ) (body : ArrayVec ℕ) →
         octet / 64 % 2 ≡ 0 → octet % 16 ≡ 8 →
         answer_of station request (Data octet station body) ≡ data_row request body.items }

@@ -9,7 +9,7 @@ ghost use Rattle.link.specs.Holding.{IsFitting, FitsStation, FitsLink, FitsOffer
 ghost use Rattle.link.specs.Holding.{outstanding_from};
 ghost use Rattle.link.specs.Restored.{phase_by, phase_from, head_from, asked_by, asked_from};
 ghost use Rattle.link.specs.Restored.{counted_from, awaited_from, awaited_by, some_awaited};
-ghost use Rattle.link.specs.Restored.{octets_from, heard_by, heard_from as heard_in};
+ghost use Rattle.link.specs.Restored.{octets_from, received_by, answered_with as received_in};
 ghost use Rattle.link.specs.Restored.{primary_with, primary_lines, IsSavable};
 
 use super::Master;
@@ -104,8 +104,8 @@ fn station_fits(size: LinkSize, station: &StationState) -> bool
 
 /// Whether the request that is outstanding, if one is, fits the line.
 fn outstanding_fits(size: LinkSize, outstanding: &Option<Awaited>) -> bool
-    ensures { (heard : Option (List ℕ)) →
-        IsTrue result ↔ FitsOutstanding size (outstanding_from outstanding.now heard) }
+    ensures { (arrived : Option (List ℕ)) →
+        IsTrue result ↔ FitsOutstanding size (outstanding_from outstanding.now arrived) }
 {
     match outstanding {
         Some(awaited) => match &awaited.request {
@@ -241,12 +241,12 @@ fn octets_from(alloc: Global, numbers: &[u64]) -> Result<Option<Vec<u8>>, AllocE
 }
 
 /// Whether nothing can be heard any more, and the octets that came of the answer.
-fn heard_by(
+fn received_by(
     alloc: Global,
     kind: u64,
     numbers: &[u64],
 ) -> Result<Option<(bool, Vec<u8>)>, AllocError>
-    ensures { IfOk result (λ o. option_map (λ h. (h.0, h.1.items)) o ≡ heard_by kind numbers.now) }
+    ensures { IfOk result (λ o. option_map (λ h. (h.0, h.1.items)) o ≡ received_by kind numbers.now) }
 {
     match (kind, numbers) {
         (0, []) => Ok(Some((true, Vec::new(alloc)))),
@@ -260,11 +260,11 @@ fn heard_by(
 
 /// What the second line says of the answer: whether nothing can be heard any more, and the octets
 /// that came.
-fn heard_from(alloc: Global, numbers: &[u64]) -> Result<Option<(bool, Vec<u8>)>, AllocError>
-    ensures { IfOk result (λ o. option_map (λ h. (h.0, h.1.items)) o ≡ heard_in numbers.now) }
+fn answered_with(alloc: Global, numbers: &[u64]) -> Result<Option<(bool, Vec<u8>)>, AllocError>
+    ensures { IfOk result (λ o. option_map (λ h. (h.0, h.1.items)) o ≡ received_in numbers.now) }
 {
     match numbers.split_first() {
-        Some((kind, others)) => heard_by(alloc, *kind, others),
+        Some((kind, others)) => received_by(alloc, *kind, others),
         None => Ok(None),
     }
 }
@@ -276,18 +276,18 @@ impl Master {
         settings: LinkSettings,
         head: Head,
         outstanding: Option<Awaited>,
-        heard: &[u8],
+        arrived: &[u8],
         stations: Vec<StationState>,
     ) -> Option<Master>
         ensures made { IfSome result (λ m. m ≡ primary_with settings head
-            (outstanding_from outstanding (Some heard.now)) stations.items) }
+            (outstanding_from outstanding (Some arrived.now)) stations.items) }
         ensures taken { IsFitting (primary_with settings head
-            (outstanding_from outstanding (Some heard.now)) stations.items) →
-            IsProperBeginning settings.size heard.now ⊎ (heard.now ≡ []) → IsSome result }
+            (outstanding_from outstanding (Some arrived.now)) stations.items) →
+            IsProperBeginning settings.size arrived.now ⊎ (arrived.now ≡ []) → IsSome result }
     {
         // Fed once more, so no line makes an assembler that no octets make (docs/DECISIONS.md,
         // "The state that was put, or nothing").
-        let assembler = Assembler::resumed(settings.size, heard)?;
+        let assembler = Assembler::resumed(settings.size, arrived)?;
         // The size of addresses is a setting and stands in no line, so the lines are judged by it
         // (docs/DECISIONS.md, "Settings stand apart").
         let fits = head.turn < stations.len()
@@ -329,7 +329,7 @@ impl Master {
             return Err(StateFault::Wrong);
         };
         lines.next(line)?;
-        let found = match heard_from(alloc, line.as_slice()) {
+        let found = match answered_with(alloc, line.as_slice()) {
             Ok(found) => found,
             Err(_) => return Err(StateFault::NoMemory),
         };

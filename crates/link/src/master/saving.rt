@@ -1,9 +1,9 @@
 //! The state of a primary station is put as lines of numbers.
 ghost use Rattle.std.specs.Prelude.{◌≡◌, ◌++◌, OnOk};
 ghost use Rattle.link.specs.Restored.{phase_numbers, asked_numbers, head_numbers};
-ghost use Rattle.link.specs.Restored.{awaited_numbers, heard_numbers, primary_lines};
+ghost use Rattle.link.specs.Restored.{awaited_numbers, received_numbers, primary_lines};
 ghost use Rattle.link.specs.Restored.{FitsSavedPhase, FitsSavedAsked, FitsSavedOutstanding};
-ghost use Rattle.link.specs.Restored.{HeardIsResumable, HeardAreOctets, IsSavable};
+ghost use Rattle.link.specs.Restored.{ReceivedIsResumable, ReceivedAreOctets, IsSavable};
 
 use super::Master;
 use crate::saving::{bit_number, put_service, put_stations};
@@ -78,11 +78,11 @@ impl Master {
     }
 
     /// Puts the second line: the octets so far of the outstanding answer.
-    fn put_heard(&self, line: &mut Vec<u64>) -> Result<(), AllocError>
+    fn put_received(&self, line: &mut Vec<u64>) -> Result<(), AllocError>
         ensures line { OnOk result (line.new.items
-            ≡ line.old.items ++ heard_numbers self.now.outstanding) }
-        ensures beginning { HeardIsResumable self.now self.now.outstanding }
-        ensures octets { HeardAreOctets self.now.outstanding }
+            ≡ line.old.items ++ received_numbers self.now.outstanding) }
+        ensures beginning { ReceivedIsResumable self.now self.now.outstanding }
+        ensures octets { ReceivedAreOctets self.now.outstanding }
     {
         self.assembler.is_resumable();
         match &self.outstanding {
@@ -110,7 +110,7 @@ impl Master {
         self.put_head(line)?;
         sheet.put(line.as_slice())?;
         line.clear();
-        self.put_heard(line)?;
+        self.put_received(line)?;
         sheet.put(line.as_slice())?;
         line.clear();
         self.put_awaited(line)?;

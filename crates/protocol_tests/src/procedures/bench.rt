@@ -24,7 +24,7 @@ pub(super) fn settings(ways: Ways) -> LinkSettings
 
 /// What is to come of an exchange, with the octets of a report.
 #[derive(Clone, Copy, PartialEq, Eq)]
-pub(super) enum Told<'a> {
+pub(super) enum Expected<'a> {
     None,
     Started(usize),
     StartedGap(usize, u64),
@@ -41,7 +41,7 @@ pub(super) enum Step<'a> {
     /// The first station is asked for its status at moment 0, and reset at 10.
     Opens,
     /// The first station is asked for its status and reset again, at this moment. This is told.
-    Restarts(u64, Told<'a>),
+    Restarts(u64, Expected<'a>),
     /// The next request, at this moment, has these octets.
     Sends(u64, &'a [u8]),
     /// The next request, at this moment and with this leave to poll, has these octets, is of this
@@ -50,9 +50,9 @@ pub(super) enum Step<'a> {
     /// No request goes out at this moment, with this leave to poll.
     Rests(u64, bool),
     /// Octets of the line come, of which this is told.
-    Hears(&'a [u8], Told<'a>),
+    Receives(&'a [u8], Expected<'a>),
     /// The time is looked at, of which this is told.
-    Due(u64, Told<'a>),
+    Due(u64, Expected<'a>),
     /// So many exchanges were spoilt by now.
     Spoilt(u64),
     /// A command is offered to the first station; whether it is taken.
@@ -67,16 +67,16 @@ pub(super) type Ways = (u8, bool, u8);
 pub(super) type Script<'a> = (&'a str, Ways, bool, &'a [Step<'a>]);
 
 /// Whether this is what came of an exchange.
-fn is_told(outcome: &Outcome<'_>, wanted: Told<'_>) -> bool {
+fn is_expected(outcome: &Outcome<'_>, wanted: Expected<'_>) -> bool {
     match outcome {
-        Outcome::None => wanted == Told::None,
-        Outcome::Started(station) => wanted == Told::Started(*station),
-        Outcome::StartedGap(station, session) => wanted == Told::StartedGap(*station, *session),
-        Outcome::Report(station, report) => wanted == Told::Report(*station, report.octets()),
-        Outcome::Empty(station) => wanted == Told::Empty(*station),
-        Outcome::Accepted(station) => wanted == Told::Accepted(*station),
-        Outcome::Busy(station) => wanted == Told::Busy(*station),
-        Outcome::Down(station) => wanted == Told::Down(*station),
+        Outcome::None => wanted == Expected::None,
+        Outcome::Started(station) => wanted == Expected::Started(*station),
+        Outcome::StartedGap(station, session) => wanted == Expected::StartedGap(*station, *session),
+        Outcome::Report(station, report) => wanted == Expected::Report(*station, report.octets()),
+        Outcome::Empty(station) => wanted == Expected::Empty(*station),
+        Outcome::Accepted(station) => wanted == Expected::Accepted(*station),
+        Outcome::Busy(station) => wanted == Expected::Busy(*station),
+        Outcome::Down(station) => wanted == Expected::Down(*station),
     }
 }
 
@@ -123,8 +123,8 @@ impl Bench {
     /// Makes the call, and says whether the answer was the one.
     fn is_right(&mut self, step: &Step) -> bool {
         match step {
-            Step::Opens => self.starts((0, 10), Told::Started(0)),
-            Step::Restarts(now, told) => self.starts((*now, *now), *told),
+            Step::Opens => self.starts((0, 10), Expected::Started(0)),
+            Step::Restarts(now, expected) => self.starts((*now, *now), *expected),
             Step::Sends(now, octets) => self.sends(*now, octets),
             Step::Asks(now, may_poll, octets, kind, again) => {
                 let asked = self.master.next(*now, *may_poll);
@@ -135,8 +135,8 @@ impl Bench {
                 })
             }
             Step::Rests(now, may_poll) => self.master.next(*now, *may_poll).is_none(),
-            Step::Hears(octets, told) => self.hears(octets, *told),
-            Step::Due(now, told) => is_told(&self.master.due(*now), *told),
+            Step::Receives(octets, expected) => self.receives(octets, *expected),
+            Step::Due(now, expected) => is_expected(&self.master.due(*now), *expected),
             Step::Spoilt(count) => self.master.spoilt() == *count,
             Step::Offers(asdu, is_taken) => self.takes(asdu) == *is_taken,
             Step::Withdraws => {
@@ -155,8 +155,8 @@ impl Bench {
     }
 
     /// Whether this is told of octets that come.
-    fn hears(&mut self, octets: &[u8], told: Told<'_>) -> bool {
-        is_told(&self.master.octets(octets, &mut None), told)
+    fn receives(&mut self, octets: &[u8], expected: Expected<'_>) -> bool {
+        is_expected(&self.master.octets(octets, &mut None), expected)
     }
 
     /// Whether the first station takes a command that is offered to it.
@@ -165,10 +165,10 @@ impl Bench {
     }
 
     /// The first station is asked for its status and reset, at these moments: whether this is told.
-    fn starts(&mut self, (first, then): (u64, u64), told: Told<'_>) -> bool {
+    fn starts(&mut self, (first, then): (u64, u64), expected: Expected<'_>) -> bool {
         self.sends(first, &[0x10, 0x49, 0x01, 0x4A, 0x16])
-            && self.hears(&[0x10, 0x0B, 0x01, 0x0C, 0x16], Told::None)
+            && self.receives(&[0x10, 0x0B, 0x01, 0x0C, 0x16], Expected::None)
             && self.sends(then, &[0x10, 0x40, 0x01, 0x41, 0x16])
-            && self.hears(&[0xE5], told)
+            && self.receives(&[0xE5], expected)
     }
 }

@@ -1,6 +1,6 @@
 //! One station, with its polls and commands.
 
-use super::bench::{Bench, Script, Step, Told};
+use super::bench::{Bench, Expected, Script, Step};
 use super::first_wrong_of;
 use link::{NoMemory, RequestKind};
 use std::alloc::Global;
@@ -21,7 +21,7 @@ pub(super) const SPOILT: [u8; 15] = [
 ];
 
 /// What the reports say.
-pub(super) const POINT: Told<'static> = Told::Report(
+pub(super) const POINT: Expected<'static> = Expected::Report(
     0,
     &[0x01, 0x01, 0x03, 0x01, 0x64, 0x00, 0x01],
 );
@@ -54,10 +54,10 @@ const SCRIPTS: &[Script<'static>] = &[
         &[
             Step::Opens,
             Step::Sends(20, &CLASS2),
-            Step::Due(220, Told::None),
+            Step::Due(220, Expected::None),
             Step::Sends(220, &CLASS2),
-            Step::Hears(&REPORT, POINT),
-            Step::Hears(&REPORT, Told::None),
+            Step::Receives(&REPORT, POINT),
+            Step::Receives(&REPORT, Expected::None),
             Step::Sends(230, &NEXT_CLASS2),
         ],
     ),
@@ -68,20 +68,20 @@ const SCRIPTS: &[Script<'static>] = &[
         &[
             Step::Opens,
             Step::Sends(20, &CLASS2),
-            Step::Hears(&SPOILT, Told::None),
-            Step::Hears(&REPORT, Told::None),
-            Step::Due(219, Told::None),
+            Step::Receives(&SPOILT, Expected::None),
+            Step::Receives(&REPORT, Expected::None),
+            Step::Due(219, Expected::None),
             Step::Rests(219, true),
-            Step::Due(220, Told::None),
+            Step::Due(220, Expected::None),
             Step::Sends(220, &CLASS2),
             // Half a report is forgotten.
-            Step::Hears(
+            Step::Receives(
                 &[0x68, 0x09, 0x09, 0x68, 0x08, 0x01, 0x01, 0x01, 0x03, 0x01],
-                Told::None,
+                Expected::None,
             ),
-            Step::Due(420, Told::None),
+            Step::Due(420, Expected::None),
             Step::Sends(420, &CLASS2),
-            Step::Hears(&REPORT, POINT),
+            Step::Receives(&REPORT, POINT),
         ],
     ),
     (
@@ -91,7 +91,7 @@ const SCRIPTS: &[Script<'static>] = &[
         &[
             Step::Opens,
             Step::Sends(20, &CLASS2),
-            Step::Hears(
+            Step::Receives(
                 &[
                     0x68, 0x09, 0x09, 0x68, 0x08, 0x01, 0x01, 0x01, 0x03, 0x01, 0x64, 0x00, 0x01,
                     0x74, 0x16, 0xE5,
@@ -99,8 +99,8 @@ const SCRIPTS: &[Script<'static>] = &[
                 POINT,
             ),
             Step::Sends(50, &NEXT_CLASS2),
-            Step::Due(249, Told::None),
-            Step::Due(250, Told::None),
+            Step::Due(249, Expected::None),
+            Step::Due(250, Expected::None),
             Step::Sends(250, &NEXT_CLASS2),
         ],
     ),
@@ -110,8 +110,8 @@ const SCRIPTS: &[Script<'static>] = &[
         false,
         &[
             Step::Sends(0, &STATUS),
-            Step::Hears(&[0xE5], Told::None),
-            Step::Due(200, Told::None),
+            Step::Receives(&[0xE5], Expected::None),
+            Step::Due(200, Expected::None),
             Step::Sends(200, &STATUS),
         ],
     ),
@@ -122,7 +122,7 @@ const SCRIPTS: &[Script<'static>] = &[
         &[
             Step::Opens,
             Step::Sends(20, &CLASS2),
-            Step::Hears(&[0xE5], Told::Empty(0)),
+            Step::Receives(&[0xE5], Expected::Empty(0)),
             Step::Sends(50, &NEXT_CLASS2),
         ],
     ),
@@ -133,9 +133,9 @@ const SCRIPTS: &[Script<'static>] = &[
         &[
             Step::Opens,
             Step::Sends(20, &CLASS2),
-            Step::Due(220, Told::None),
+            Step::Due(220, Expected::None),
             Step::Sends(220, &CLASS2),
-            Step::Due(420, Told::Down(0)),
+            Step::Due(420, Expected::Down(0)),
             Step::Sends(420, &STATUS),
         ],
     ),
@@ -146,11 +146,11 @@ const SCRIPTS: &[Script<'static>] = &[
         &[
             Step::Opens,
             Step::Sends(20, &CLASS2),
-            Step::Hears(&MORE, POINT),
+            Step::Receives(&MORE, POINT),
             Step::Sends(30, &[0x10, 0x5A, 0x01, 0x5B, 0x16]),
-            Step::Hears(&MORE, POINT),
+            Step::Receives(&MORE, POINT),
             Step::Sends(40, &[0x10, 0x7A, 0x01, 0x7B, 0x16]),
-            Step::Hears(&MORE, POINT),
+            Step::Receives(&MORE, POINT),
             Step::Asks(
                 50,
                 true,
@@ -168,9 +168,9 @@ const SCRIPTS: &[Script<'static>] = &[
             Step::Opens,
             Step::Sends(20, &CLASS2),
             Step::Offers(&EXECUTE, true),
-            Step::Hears(&[0x10, 0x19, 0x01, 0x1A, 0x16], Told::Empty(0)),
+            Step::Receives(&[0x10, 0x19, 0x01, 0x1A, 0x16], Expected::Empty(0)),
             Step::Sends(50, &NEXT_CLASS2),
-            Step::Hears(&[0xE5], Told::Empty(0)),
+            Step::Receives(&[0xE5], Expected::Empty(0)),
             Step::Sends(60, &COMMAND),
         ],
     ),
@@ -184,10 +184,10 @@ const SCRIPTS: &[Script<'static>] = &[
             Step::Sends(100, &COMMAND),
             Step::Offers(&EXECUTE, false),
             Step::Withdraws,
-            Step::Due(300, Told::None),
+            Step::Due(300, Expected::None),
             Step::Offers(&EXECUTE, false),
             Step::Sends(300, &COMMAND),
-            Step::Hears(&[0xE5], Told::Accepted(0)),
+            Step::Receives(&[0xE5], Expected::Accepted(0)),
             Step::Sends(310, &NEXT_CLASS2),
         ],
     ),
@@ -199,9 +199,9 @@ const SCRIPTS: &[Script<'static>] = &[
             Step::Opens,
             Step::Sends(20, &CLASS2),
             Step::Offers(&INTERROGATION, true),
-            Step::Hears(&[0xE5], Told::Empty(0)),
+            Step::Receives(&[0xE5], Expected::Empty(0)),
             Step::Sends(60, &INTERROGATES),
-            Step::Hears(&[0x10, 0x01, 0x01, 0x02, 0x16], Told::Busy(0)),
+            Step::Receives(&[0x10, 0x01, 0x01, 0x02, 0x16], Expected::Busy(0)),
             Step::Sends(70, &CLASS2),
         ],
     ),
@@ -232,8 +232,8 @@ fn a_report_comes_in_two_pieces(rt: HostRuntime) -> Result<(), NoMemory> {
         let steps = [
             Step::Opens,
             Step::Sends(20, &CLASS2),
-            Step::Hears(&REPORT[..cut], Told::None),
-            Step::Hears(&REPORT[cut..], POINT),
+            Step::Receives(&REPORT[..cut], Expected::None),
+            Step::Receives(&REPORT[cut..], POINT),
             Step::Sends(50, &NEXT_CLASS2),
         ];
         assert_eq!(rt; line.count_of_answers(&steps), 5, "cut at {cut}");

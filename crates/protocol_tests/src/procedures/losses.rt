@@ -24,7 +24,7 @@ fn reported(outcome: &Outcome<'_>) -> Option<u8> {
 }
 
 /// Octets of the line come: the first octet of the report that they bring.
-fn hear(master: &mut Master, octets: &[u8]) -> Option<u8> {
+fn receive(master: &mut Master, octets: &[u8]) -> Option<u8> {
     reported(&master.octets(octets, &mut None))
 }
 
@@ -41,12 +41,12 @@ fn taken(master: &mut Master, station: &mut Station, loss: Loss) -> u64 {
         let answer = if lost && loss.request {
             None
         } else {
-            station.hear(request.octets.as_slice())
+            station.receive(request.octets.as_slice())
         };
         match answer {
             Some(frame) if !lost => {
                 let octets = encode(size, &frame);
-                if let Some(octet) = hear(master, octets.as_slice()) {
+                if let Some(octet) = receive(master, octets.as_slice()) {
                     taken = taken.wrapping_mul(16).wrapping_add(u64::from(octet));
                 }
             }

@@ -1,7 +1,7 @@
 //! Resets of a station that was up: a gap is told where the session's latest service was a poll
 //! that wasn't answered by 8, 9 or E5.
 
-use super::bench::{Script, Step, Told};
+use super::bench::{Expected, Script, Step};
 use super::first_wrong_of;
 use link::NoMemory;
 use std::alloc::Global;
@@ -35,29 +35,29 @@ const SCRIPTS: &[Script<'static>] = &[
             Step::Opens,
             // Silence.
             Step::Sends(20, &POLL),
-            Step::Due(220, Told::Down(0)),
-            Step::Restarts(220, Told::StartedGap(0, 1)),
+            Step::Due(220, Expected::Down(0)),
+            Step::Restarts(220, Expected::StartedGap(0, 1)),
             // Answered by E5, and then by 14.
             Step::Sends(230, &POLL),
-            Step::Hears(&[0xE5], Told::Empty(0)),
+            Step::Receives(&[0xE5], Expected::Empty(0)),
             Step::Sends(240, &NEXT_POLL),
-            Step::Hears(&BY_14, Told::Down(0)),
-            Step::Restarts(250, Told::StartedGap(0, 2)),
+            Step::Receives(&BY_14, Expected::Down(0)),
+            Step::Restarts(250, Expected::StartedGap(0, 2)),
             // Answered by 9, and then by a frame of another station.
             Step::Sends(260, &POLL),
-            Step::Hears(&BY_9, Told::Empty(0)),
+            Step::Receives(&BY_9, Expected::Empty(0)),
             Step::Sends(270, &NEXT_POLL),
-            Step::Hears(&[0x10, 0x09, 0x02, 0x0B, 0x16], Told::None),
-            Step::Due(470, Told::Down(0)),
+            Step::Receives(&[0x10, 0x09, 0x02, 0x0B, 0x16], Expected::None),
+            Step::Due(470, Expected::Down(0)),
             // The status is answered by 14, and the reset not at all: the session has not ended
             // yet.
             Step::Sends(470, &STATUS),
-            Step::Hears(&BY_14, Told::Down(0)),
+            Step::Receives(&BY_14, Expected::Down(0)),
             Step::Sends(480, &STATUS),
-            Step::Hears(&[0x10, 0x0B, 0x01, 0x0C, 0x16], Told::None),
+            Step::Receives(&[0x10, 0x0B, 0x01, 0x0C, 0x16], Expected::None),
             Step::Sends(490, &[0x10, 0x40, 0x01, 0x41, 0x16]),
-            Step::Due(690, Told::None),
-            Step::Restarts(690, Told::StartedGap(0, 3)),
+            Step::Due(690, Expected::None),
+            Step::Restarts(690, Expected::StartedGap(0, 3)),
         ],
     ),
     (
@@ -68,23 +68,23 @@ const SCRIPTS: &[Script<'static>] = &[
             Step::Opens,
             // A poll is answered by data, and then a command by silence.
             Step::Sends(20, &POLL),
-            Step::Hears(
+            Step::Receives(
                 &[0x68, 0x03, 0x03, 0x68, 0x08, 0x01, 0x07, 0x10, 0x16],
-                Told::Report(0, &[0x07]),
+                Expected::Report(0, &[0x07]),
             ),
             Step::Offers(&[7], true),
             Step::Sends(30, &COMMAND),
-            Step::Due(230, Told::Down(0)),
-            Step::Restarts(230, Told::Started(0)),
+            Step::Due(230, Expected::Down(0)),
+            Step::Restarts(230, Expected::Started(0)),
             // A command, by 15, and nothing else between two resets.
             Step::Offers(&[7], true),
             Step::Sends(240, &NEXT_COMMAND),
-            Step::Hears(&BY_15, Told::Down(0)),
-            Step::Restarts(250, Told::Started(0)),
+            Step::Receives(&BY_15, Expected::Down(0)),
+            Step::Restarts(250, Expected::Started(0)),
             // The sessions without a gap are counted, too.
             Step::Sends(260, &POLL),
-            Step::Hears(&BY_15, Told::Down(0)),
-            Step::Restarts(270, Told::StartedGap(0, 3)),
+            Step::Receives(&BY_15, Expected::Down(0)),
+            Step::Restarts(270, Expected::StartedGap(0, 3)),
         ],
     ),
     (
@@ -94,22 +94,22 @@ const SCRIPTS: &[Script<'static>] = &[
         &[
             Step::Opens,
             Step::Sends(0, &POLL),
-            Step::Due(200, Told::None),
+            Step::Due(200, Expected::None),
             Step::Sends(200, &POLL),
-            Step::Hears(&[0xE5], Told::Empty(0)),
+            Step::Receives(&[0xE5], Expected::Empty(0)),
             // The poll was answered, the command wasn't.
             Step::Offers(&[7], true),
             Step::Sends(300, &COMMAND),
-            Step::Hears(&BY_14, Told::Down(0)),
-            Step::Restarts(310, Told::Started(0)),
+            Step::Receives(&BY_14, Expected::Down(0)),
+            Step::Restarts(310, Expected::Started(0)),
             // Three times silence.
             Step::Sends(400, &POLL),
-            Step::Due(600, Told::None),
+            Step::Due(600, Expected::None),
             Step::Sends(600, &POLL),
-            Step::Due(800, Told::None),
+            Step::Due(800, Expected::None),
             Step::Sends(800, &POLL),
-            Step::Due(1000, Told::Down(0)),
-            Step::Restarts(1000, Told::StartedGap(0, 2)),
+            Step::Due(1000, Expected::Down(0)),
+            Step::Restarts(1000, Expected::StartedGap(0, 2)),
         ],
     ),
 ];

@@ -1,6 +1,6 @@
 //! Which exchanges count as spoilt.
 
-use super::bench::{Script, Step, Told};
+use super::bench::{Expected, Script, Step};
 use super::first_wrong_of;
 use super::lines::{CLASS2, NEXT_CLASS2, POINT, REPORT, SPOILT};
 use link::NoMemory;
@@ -14,16 +14,16 @@ const SCRIPTS: &[Script<'static>] = &[
         &[
             Step::Opens,
             Step::Sends(20, &CLASS2),
-            Step::Hears(&SPOILT, Told::None),
-            Step::Due(219, Told::None),
+            Step::Receives(&SPOILT, Expected::None),
+            Step::Due(219, Expected::None),
             Step::Spoilt(0),
-            Step::Due(220, Told::None),
+            Step::Due(220, Expected::None),
             Step::Spoilt(1),
-            Step::Due(1000, Told::None),
+            Step::Due(1000, Expected::None),
             Step::Spoilt(1),
             Step::Sends(1000, &CLASS2),
-            Step::Hears(&[0x68], Told::None),
-            Step::Due(1200, Told::None),
+            Step::Receives(&[0x68], Expected::None),
+            Step::Due(1200, Expected::None),
             Step::Spoilt(2),
         ],
     ),
@@ -34,11 +34,11 @@ const SCRIPTS: &[Script<'static>] = &[
         &[
             Step::Opens,
             Step::Sends(20, &CLASS2),
-            Step::Hears(&[], Told::None),
-            Step::Due(220, Told::None),
-            Step::Hears(&[0x00], Told::None),
+            Step::Receives(&[], Expected::None),
+            Step::Due(220, Expected::None),
+            Step::Receives(&[0x00], Expected::None),
             Step::Sends(220, &CLASS2),
-            Step::Due(420, Told::None),
+            Step::Due(420, Expected::None),
             Step::Spoilt(0),
         ],
     ),
@@ -49,13 +49,13 @@ const SCRIPTS: &[Script<'static>] = &[
         &[
             Step::Opens,
             Step::Sends(20, &CLASS2),
-            Step::Hears(&REPORT, POINT),
-            Step::Due(220, Told::None),
+            Step::Receives(&REPORT, POINT),
+            Step::Due(220, Expected::None),
             Step::Spoilt(0),
             Step::Sends(220, &NEXT_CLASS2),
-            Step::Hears(&REPORT, POINT),
-            Step::Hears(&[0x00], Told::None),
-            Step::Due(420, Told::None),
+            Step::Receives(&REPORT, POINT),
+            Step::Receives(&[0x00], Expected::None),
+            Step::Due(420, Expected::None),
             Step::Spoilt(0),
         ],
     ),
@@ -67,9 +67,9 @@ const SCRIPTS: &[Script<'static>] = &[
             Step::Opens,
             Step::Sends(20, &CLASS2),
             // A status of the link answers no poll.
-            Step::Hears(&[0x10, 0x0B, 0x01, 0x0C, 0x16], Told::None),
-            Step::Hears(&REPORT, Told::None),
-            Step::Due(220, Told::None),
+            Step::Receives(&[0x10, 0x0B, 0x01, 0x0C, 0x16], Expected::None),
+            Step::Receives(&REPORT, Expected::None),
+            Step::Due(220, Expected::None),
             Step::Spoilt(1),
         ],
     ),

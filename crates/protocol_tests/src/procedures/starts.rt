@@ -1,6 +1,6 @@
 //! Two stations: how they are started, and take turns.
 
-use super::bench::{Script, Step, Told};
+use super::bench::{Expected, Script, Step};
 use super::first_wrong_of;
 use link::{NoMemory, RequestKind};
 use std::alloc::Global;
@@ -24,13 +24,13 @@ const SCRIPTS: &[Script<'static>] = &[
         &[
             Step::Sends(0, &STATUS),
             Step::Rests(0, true),
-            Step::Due(199, Told::None),
+            Step::Due(199, Expected::None),
             Step::Rests(199, true),
-            Step::Due(200, Told::None),
+            Step::Due(200, Expected::None),
             Step::Sends(200, &OTHER_STATUS),
-            Step::Hears(&OTHER_READY, Told::None),
+            Step::Receives(&OTHER_READY, Expected::None),
             Step::Sends(210, &OTHER_RESET),
-            Step::Hears(&[0xE5], Told::Started(1)),
+            Step::Receives(&[0xE5], Expected::Started(1)),
             Step::Sends(220, &STATUS),
         ],
     ),
@@ -41,16 +41,16 @@ const SCRIPTS: &[Script<'static>] = &[
         &[
             Step::Opens,
             Step::Sends(20, &OTHER_STATUS),
-            Step::Hears(&OTHER_READY, Told::None),
+            Step::Receives(&OTHER_READY, Expected::None),
             Step::Sends(30, &OTHER_RESET),
-            Step::Hears(&[0xE5], Told::Started(1)),
+            Step::Receives(&[0xE5], Expected::Started(1)),
             Step::Sends(1000, &POLL),
-            Step::Due(1200, Told::None),
+            Step::Due(1200, Expected::None),
             // Without leave to poll it is sent again all the same.
             Step::Asks(1200, false, &POLL, RequestKind::Class2, true),
-            Step::Due(1400, Told::None),
+            Step::Due(1400, Expected::None),
             Step::Sends(1400, &[0x10, 0x7B, 0x02, 0x7D, 0x16]),
-            Step::Hears(&[0xE5], Told::Empty(1)),
+            Step::Receives(&[0xE5], Expected::Empty(1)),
             Step::Sends(1410, &POLL),
         ],
     ),
@@ -60,14 +60,14 @@ const SCRIPTS: &[Script<'static>] = &[
         true,
         &[
             Step::Sends(0, &STATUS),
-            Step::Hears(&[0x10, 0x0B, 0x01, 0x0C, 0x16], Told::None),
+            Step::Receives(&[0x10, 0x0B, 0x01, 0x0C, 0x16], Expected::None),
             Step::Sends(10, &[0x10, 0x40, 0x01, 0x41, 0x16]),
-            Step::Hears(&[0x10, 0x0E, 0x01, 0x0F, 0x16], Told::None),
-            Step::Hears(&[0xE5], Told::None),
+            Step::Receives(&[0x10, 0x0E, 0x01, 0x0F, 0x16], Expected::None),
+            Step::Receives(&[0xE5], Expected::None),
             Step::Rests(209, true),
-            Step::Due(210, Told::None),
+            Step::Due(210, Expected::None),
             Step::Sends(210, &OTHER_STATUS),
-            Step::Hears(&[0x10, 0x0F, 0x02, 0x11, 0x16], Told::Down(1)),
+            Step::Receives(&[0x10, 0x0F, 0x02, 0x11, 0x16], Expected::Down(1)),
             Step::Sends(220, &STATUS),
         ],
     ),

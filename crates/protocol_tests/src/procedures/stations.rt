@@ -31,7 +31,7 @@ enum Step<'a> {
     Report1(&'a [u8]),
     Report2(&'a [u8]),
     /// Octets of the line come, and are answered so.
-    Hears(&'a [u8], Answer<'a>),
+    Receives(&'a [u8], Answer<'a>),
     /// So many reports were given by now.
     Given(u64),
 }
@@ -71,7 +71,7 @@ fn is_right(station: &mut Station, step: &Step) -> Result<bool, NoMemory> {
             }
             station.report2(octets)?;
         }
-        Step::Hears(octets, wanted) => return Ok(is_answer(&station.hear(octets), *wanted)),
+        Step::Receives(octets, wanted) => return Ok(is_answer(&station.receive(octets), *wanted)),
         Step::Given(count) => return Ok(station.given() == *count),
     }
     Ok(true)
@@ -83,13 +83,13 @@ const SCRIPTS: [(&str, &[Step<'static>]); 3] = [
         "a report is given once",
         &[
             Step::Report2(&[1, 2, 3]),
-            Step::Hears(&POLL, Answer::Nothing),
-            Step::Hears(&STATUS, Answer::Fixed(0x0B)),
-            Step::Hears(&RESET, Answer::Single),
-            Step::Hears(&POLL, Answer::Report(0x08, &[1, 2, 3])),
-            Step::Hears(&POLL, Answer::Report(0x08, &[1, 2, 3])),
+            Step::Receives(&POLL, Answer::Nothing),
+            Step::Receives(&STATUS, Answer::Fixed(0x0B)),
+            Step::Receives(&RESET, Answer::Single),
+            Step::Receives(&POLL, Answer::Report(0x08, &[1, 2, 3])),
+            Step::Receives(&POLL, Answer::Report(0x08, &[1, 2, 3])),
             Step::Given(1),
-            Step::Hears(&[0x10, 0x5B, 0x01, 0x5C, 0x16], Answer::Single),
+            Step::Receives(&[0x10, 0x5B, 0x01, 0x5C, 0x16], Answer::Single),
         ],
     ),
     (
@@ -97,21 +97,21 @@ const SCRIPTS: [(&str, &[Step<'static>]); 3] = [
         &[
             Step::Report1(&[7]),
             Step::Report1(&[8]),
-            Step::Hears(&STATUS, Answer::Fixed(0x2B)),
-            Step::Hears(&RESET, Answer::Fixed(0x20)),
-            Step::Hears(&POLL, Answer::Fixed(0x29)),
-            Step::Hears(&[0x10, 0x5A, 0x01, 0x5B, 0x16], Answer::Report(0x28, &[7])),
-            Step::Hears(&[0x10, 0x7A, 0x01, 0x7B, 0x16], Answer::Report(0x08, &[8])),
+            Step::Receives(&STATUS, Answer::Fixed(0x2B)),
+            Step::Receives(&RESET, Answer::Fixed(0x20)),
+            Step::Receives(&POLL, Answer::Fixed(0x29)),
+            Step::Receives(&[0x10, 0x5A, 0x01, 0x5B, 0x16], Answer::Report(0x28, &[7])),
+            Step::Receives(&[0x10, 0x7A, 0x01, 0x7B, 0x16], Answer::Report(0x08, &[8])),
             Step::Given(2),
         ],
     ),
     (
         "other requests",
         &[
-            Step::Hears(&[0x10, 0x49, 0x02, 0x4B, 0x16], Answer::Nothing),
-            Step::Hears(&[0x10, 0x0B, 0x01, 0x0C, 0x16], Answer::Nothing),
-            Step::Hears(&[0x10, 0x49, 0x01, 0x4A, 0x16, 0xE5], Answer::Nothing),
-            Step::Hears(&[0x10, 0x44, 0x01, 0x45, 0x16], Answer::Fixed(0x0F)),
+            Step::Receives(&[0x10, 0x49, 0x02, 0x4B, 0x16], Answer::Nothing),
+            Step::Receives(&[0x10, 0x0B, 0x01, 0x0C, 0x16], Answer::Nothing),
+            Step::Receives(&[0x10, 0x49, 0x01, 0x4A, 0x16, 0xE5], Answer::Nothing),
+            Step::Receives(&[0x10, 0x44, 0x01, 0x45, 0x16], Answer::Fixed(0x0F)),
         ],
     ),
 ];

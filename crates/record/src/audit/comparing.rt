@@ -111,9 +111,9 @@ fn go_on(
         IfOk result (IsCompared (lines ++ parts_after 10 (option_copied part.entry))
         (run ++ whole_lines page.now)) }
 {
-    let mut told = ahead;
-    told.extend_from_slice(page)?;
-    let Some(walk) = compare_all(part, first, told.as_slice()) else {
+    let mut logged = ahead;
+    logged.extend_from_slice(page)?;
+    let Some(walk) = compare_all(part, first, logged.as_slice()) else {
         return Err(AllocError);
     };
     match walk {

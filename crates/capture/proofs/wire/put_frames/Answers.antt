@@ -18,11 +18,11 @@ frames-preserved c =
     let octets : List ℕ = c.args.octets.now in
     let left : List ℕ = drop c.frames.end octets in
     let frame : Frame = owned c.in-Whole.field-0 in
-    let heard : IsFront c.args.size left (owned_front c.front_ref.result) =
+    let arrived : IsFront c.args.size left (owned_front c.front_ref.result) =
     subst (λ (xs : List ℕ). IsFront c.args.size xs (owned_front c.front_ref.result))
     (take_rest octets c.frames.end) c.front_ref.ensures in
     let front : IsFront c.args.size left (Whole frame c.in-Whole.len) =
-    subst (λ (f : Front). IsFront c.args.size left f) (ap owned_front c.in-Whole.is) heard in
+    subst (λ (f : Front). IsFront c.args.size left f) (ap owned_front c.in-Whole.is) arrived in
     let all_of_it : c.frames.end + c.in-Whole.len - c.frames.end ≡ c.in-Whole.len = omega arith in
     let put : c.put_answer.new.page ≡ c.frames.page
     ++ serial_block c.args.micros (answer c.frames.is_awaited (take c.in-Whole.len left)) =
@@ -36,10 +36,10 @@ pub returns : goal.returns
 returns c =
     let octets : List ℕ = c.args.octets.now in
     let left : List ℕ = drop c.frames.end octets in
-    let heard : IsFront c.args.size left (owned_front c.front_ref.result) =
+    let arrived : IsFront c.args.size left (owned_front c.front_ref.result) =
     subst (λ (xs : List ℕ). IsFront c.args.size xs (owned_front c.front_ref.result))
     (take_rest octets c.frames.end) c.front_ref.ensures in
     let done = all_put _ _ _ _ _ _ _ _ c.frames.invariant
     (λ frame n e. no_whole c.front_ref.result c.in_default.not-Whole frame n
-    (c.front_is_computed.ensures.only _ _ _ heard ∙ e)) in
+    (c.front_is_computed.ensures.only _ _ _ arrived ∙ e)) in
     record { put = done.put; rest = done.rest; within = done.within; awaited = done.awaited }

@@ -24,8 +24,8 @@ of_runs P after stations sizes select_ms max_age_ms r is =
     subst (λ (x : Run). P stations sizes select_ms max_age_ms x.state x.history) is.1
     (after stations sizes select_ms max_age_ms is.0)
 
-told : CommandLaws
-told = record {
+heeded : CommandLaws
+heeded = record {
   forwarded = λ stations sizes select_ms max_age_ms calls.
       (run_holds sizes stations select_ms max_age_ms calls).keeps.queue.sends;
   selected = λ stations sizes select_ms max_age_ms calls.
@@ -55,7 +55,7 @@ told = record {
 }
 
 pub returns-clause-calls : goal.returns-clause-calls
-returns-clause-calls c = told
+returns-clause-calls c = heeded
 
 pub returns-clause-runs : goal.returns-clause-runs
 returns-clause-runs c = record {
@@ -69,18 +69,18 @@ returns-clause-runs c = record {
       (run_holds sizes stations select_ms max_age_ms calls).same_time);
   max_age_ms = of_runs _ (λ stations sizes select_ms max_age_ms calls.
       (run_holds sizes stations select_ms max_age_ms calls).same_age);
-  forwarded = of_runs _ told.forwarded;
-  selected = of_runs _ told.selected;
+  forwarded = of_runs _ heeded.forwarded;
+  selected = of_runs _ heeded.selected;
   each_station = of_runs _ run_guarded;
   wholly = of_runs _ run_wholly;
   places = of_runs _ (λ stations sizes select_ms max_age_ms calls.
       (run_counts stations sizes select_ms max_age_ms calls).waiting);
   room = of_runs _ (λ stations sizes select_ms max_age_ms calls xs.
       has_room stations sizes select_ms max_age_ms calls xs);
-  right = of_runs _ told.right;
-  fresh = of_runs _ told.fresh;
-  tags = of_runs _ told.tags;
-  in_turn = of_runs _ told.in_turn;
-  kept = of_runs _ told.kept;
-  busy_plain = of_runs _ told.busy_plain;
+  right = of_runs _ heeded.right;
+  fresh = of_runs _ heeded.fresh;
+  tags = of_runs _ heeded.tags;
+  in_turn = of_runs _ heeded.in_turn;
+  kept = of_runs _ heeded.kept;
+  busy_plain = of_runs _ heeded.busy_plain;
 }

@@ -33,12 +33,12 @@ returns c =
     ∙ c.sendings.invariant.others
 
 -- what the sending at the place tells of all
-told : (t : Target) (zs : List Sending) (place : ℕ) (z : Sending) → 1 ≤ place
+heeded : (t : Target) (zs : List Sending) (place : ℕ) (z : Sending) → 1 ≤ place
     → slice_get zs (place - 1) ≡ Some z
     → newest_tag t None (take place zs) ≡ newest_tag t None zs
     → (if same_target z.target t then z.tag else newest_tag t None (take (place - 1) zs))
     ≡ newest_tag t None zs
-told t zs place z some there others =
+heeded t zs place z some there others =
     let one : place - 1 + 1 ≡ place = omega arith in
     sym (newest_at t zs (place - 1) z there) ∙ ap (λ n. newest_tag t None (take n zs)) one ∙ others
 
@@ -50,7 +50,7 @@ returns-then-same_target c =
     let t = c.args.target in
     ap (λ b. if b then z.tag else newest_tag t None (take (place - 1) zs))
     (sym (sym c.same_target.ensures ∙ c.if-same_target.true))
-    ∙ told t zs place z (omega arith) (sym c.in-Some.ensures) c.sendings.invariant.others
+    ∙ heeded t zs place z (omega arith) (sym c.in-Some.ensures) c.sendings.invariant.others
 
 pub sendings-preserved : goal.sendings-preserved
 sendings-preserved c =
@@ -61,6 +61,6 @@ sendings-preserved c =
     record {
       others = ap (λ b. if b then z.tag else newest_tag t None (take (place - 1) zs))
           (sym (sym c.same_target.ensures ∙ c.if-same_target.false))
-          ∙ told t zs place z (omega arith) (sym c.in-Some.ensures) c.sendings.invariant.others;
+          ∙ heeded t zs place z (omega arith) (sym c.in-Some.ensures) c.sendings.invariant.others;
       within = omega arith;
     }

@@ -10,12 +10,12 @@ use Rattle.delivery.proofs.commands.the_course_is_the_logs.Goals as goal
 pub returns : goal.returns
 returns c = λ p log course f set runs.
     let laws : LinkLaws = record {
-      begins = c.master_tells_the_log.ensures.start;
-      octets = c.master_tells_the_log.ensures.octets;
-      due = c.master_tells_the_log.ensures.due;
-      next = c.master_tells_the_log.ensures.next;
-      offer = c.master_tells_the_log.ensures.offer;
-      withdraw = c.master_tells_the_log.ensures.withdraw;
+      begins = c.master_matches_the_log.ensures.start;
+      octets = c.master_matches_the_log.ensures.octets;
+      due = c.master_matches_the_log.ensures.due;
+      next = c.master_matches_the_log.ensures.next;
+      offer = c.master_matches_the_log.ensures.offer;
+      withdraw = c.master_matches_the_log.ensures.withdraw;
       count = c.offers_wait.ensures.count;
       octets_report = c.outcomes_bear_the_reports.ensures.octets;
       due_reports = c.outcomes_bear_the_reports.ensures.due;
@@ -25,21 +25,21 @@ returns c = λ p log course f set runs.
       answered = c.outcomes_are_answers.ensures.octets;
       silent = c.outcomes_are_answers.ensures.due;
       early = c.outcomes_are_answers.ensures.early;
-      awaits = c.giving_up_is_told.ensures.awaits;
-      given_up = c.giving_up_is_told.ensures.one;
-      given_reports = c.giving_up_is_told.ensures.reports;
+      awaits = c.giving_up_is_logged.ensures.awaits;
+      given_up = c.giving_up_is_logged.ensures.one;
+      given_reports = c.giving_up_is_logged.ensures.reports;
       itself = c.the_latest_exchange_is_marked.ensures.itself;
       others = c.the_latest_exchange_is_marked.ensures.others;
     } in
     let j : Joins p (exchanges_of p log) course.works =
     joins laws c.waiting_commands_stay.ensures.mirrored p set log course runs f.acts in
     record {
-      tells = j.tells;
-      steps = λ k. (j.told k).steps;
-      all_told = j.left;
-      sent = λ k. sent_alike k course.works.serial.silent course.works ∙ (j.told k).sent;
+      matches = j.matches;
+      steps = λ k. (j.logged k).steps;
+      all_logged = j.left;
+      sent = λ k. sent_alike k course.works.serial.silent course.works ∙ (j.logged k).sent;
       confirmed = λ k. confirmed_alike k course.works.serial.silent course.works
-          ∙ ap (λ (steps : List LineStep). confirmed_by steps) (j.told k).steps
+          ∙ ap (λ (steps : List LineStep). confirmed_by steps) (j.logged k).steps
           ∙ confirmed_learnt p.link (address_at p.addresses k) 0 None (exchanges_with p k log);
       mirrored = j.mirrors;
       skipped = j.skips;

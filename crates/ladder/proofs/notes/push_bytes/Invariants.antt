@@ -1,6 +1,6 @@
 use Rattle.std.proofs.Common.{length}
 use Rattle.std.specs.Prelude.{string_bytes}
-use Rattle.ladder.proofs.Telling.{ApdusTo}
+use Rattle.ladder.proofs.Describing.{ApdusTo}
 use Rattle.ladder.proofs.notes.push_bytes.Given as goal
 
 abbrev pub invariant-apdus : goal.invariant-apdus

@@ -1,5 +1,5 @@
 use Rattle.std.proofs.Common.{rules, ◌≡◌, ◌<◌, ℕ, List, length, string_bytes, sym, subst}
-use Rattle.ladder.proofs.Telling.{FramesTo, frames_end, frames_on, none_left, rest_is}
+use Rattle.ladder.proofs.Describing.{FramesTo, frames_end, frames_on, none_left, rest_is}
 use Rattle.ladder.proofs.notes.push_line.Goals as goal
 
 pub frames-preserved : goal.frames-preserved
@@ -7,19 +7,21 @@ frames-preserved c =
     let first = c.args.memory.now in
     let text : List ℕ = string_bytes c.args.text.now in
     let left = c.frames.left.now in
-    let n = c.hear_line-taken.result.0 in
+    let n = c.receive_line-taken.result.0 in
     let some : 0 < length left = search rules in
     subst (λ (xs : List ℕ). FramesTo c.args.style.now c.args.now first c.args.octets.now text
-    c.hear_line-taken.new.self xs
-    (string_bytes c.push_heard.new.text)) (sym (rest_is n left c.hear_line-taken.ensures.within))
+    c.receive_line-taken.new.self xs
+    (string_bytes c.push_received.new.text))
+    (sym (rest_is n left c.receive_line-taken.ensures.within))
     (frames_on c.args.style.now c.args.now first c.args.octets.now text c.frames.memory
-    c.hear_line-taken.new.self left
-    (string_bytes c.frames.text) (string_bytes c.push_heard.new.text) n c.hear_line-taken.result.1
-    c.is_late-is_late.result c.hear_line-taken.new.self.line c.frames.invariant
+    c.receive_line-taken.new.self left
+    (string_bytes c.frames.text) (string_bytes c.push_received.new.text) n
+    c.receive_line-taken.result.1
+    c.is_late-is_late.result c.receive_line-taken.new.self.line c.frames.invariant
     c.is_late-is_late.ensures
-    (c.hear_line-taken.ensures.progress some) c.hear_line-taken.ensures.heard
-    c.hear_line-taken.ensures.remembered
-    c.in_ok-push_heard.ensures)
+    (c.receive_line-taken.ensures.progress some) c.receive_line-taken.ensures.arrived
+    c.receive_line-taken.ensures.remembered
+    c.in_ok-push_received.ensures)
 
 pub returns : goal.returns
 returns c =

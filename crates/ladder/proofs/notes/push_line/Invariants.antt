@@ -1,6 +1,6 @@
 use Rattle.std.proofs.Common.{length}
 use Rattle.std.specs.Prelude.{string_bytes}
-use Rattle.ladder.proofs.Telling.{FramesTo}
+use Rattle.ladder.proofs.Describing.{FramesTo}
 use Rattle.ladder.proofs.notes.push_line.Given as goal
 
 abbrev pub invariant-frames : goal.invariant-frames

@@ -25,8 +25,8 @@ returns-clause-flags c = (refl, refl, refl, refl, refl, refl)
 pub returns-clause-stations : goal.returns-clause-stations
 returns-clause-stations c = (refl, refl, refl, refl, refl, refl, refl, refl)
 
-pub returns-clause-told : goal.returns-clause-told
-returns-clause-told c = (refl, refl, refl, refl, refl, refl, refl, refl)
+pub returns-clause-outcome_for : goal.returns-clause-outcome_for
+returns-clause-outcome_for c = (refl, refl, refl, refl, refl, refl, refl, refl)
 
 pub returns-clause-gaps : goal.returns-clause-gaps
 returns-clause-gaps c = (refl, refl, refl, refl)

@@ -11,28 +11,29 @@ use Rattle.pages.proofs.driving.drive_printed.Goals as goal
 
 pub returns-in_default-clause-faithful : goal.returns-in_default-clause-faithful
 returns-in_default-clause-faithful g c = λ p begins rested.
-    subst (λ (told : Option Log). IfSome told (IsFaithful p)) (sym c.pour-is_whole.ensures.log)
+    subst (λ (logged : Option Log). IfSome logged (IsFaithful p)) (sym c.pour-is_whole.ensures.log)
     (c.drive_on-end.ensures.faithful p (c.parts.invariant.kept p begins rested)
     (c.parts.invariant.rests p begins rested))
 
 pub returns-in_default-clause-rests : goal.returns-in_default-clause-rests
 returns-in_default-clause-rests g c = λ p begins rested.
-    subst (λ (told : Option Log). UnlessDevice c.drive_on-end.result (IfSome told (HasRested p)))
+    subst (λ (logged : Option Log). UnlessDevice c.drive_on-end.result
+    (IfSome logged (HasRested p)))
     (sym c.pour-is_whole.ensures.log)
     (c.drive_on-end.ensures.rests p (c.parts.invariant.kept p begins rested)
     (c.parts.invariant.rests p begins rested))
 
 pub returns-in_default-clause-kept : goal.returns-in_default-clause-kept
 returns-in_default-clause-kept g c = λ p begins rested.
-    subst (λ (told : Option Log). UnlessDevice c.drive_on-end.result
-    (Follows p c.drive_on-end.new.gateway told))
+    subst (λ (logged : Option Log). UnlessDevice c.drive_on-end.result
+    (Follows p c.drive_on-end.new.gateway logged))
     (sym c.pour-is_whole.ensures.log)
     (c.drive_on-end.ensures.kept p (c.parts.invariant.kept p begins rested)
     (c.parts.invariant.rests p begins rested))
 
 pub returns-in_default-clause-accounts : goal.returns-in_default-clause-accounts
 returns-in_default-clause-accounts g c = λ p begins rested.
-    subst (λ (told : Option Log). UnlessDevice c.drive_on-end.result (IfSome told
+    subst (λ (logged : Option Log). UnlessDevice c.drive_on-end.result (IfSome logged
     (IsAccounted p c.drive_on-end.new.gateway)))
     (sym c.pour-is_whole.ensures.log)
     (c.drive_on-end.ensures.accounts p (c.parts.invariant.kept p begins rested)
@@ -62,18 +63,18 @@ parts-preserved g c =
     let old = g.P.Port.log c.args.port.now in
     record {
       within = search rules;
-      more = subst (λ (told : Option Log). MoreEvents (c.parts.done + 256) old told)
+      more = subst (λ (logged : Option Log). MoreEvents (c.parts.done + 256) old logged)
           (sym c.pour-is_whole.ensures.log)
           (turns_joined c.parts.done 256 (c.parts.done + 256) old (g.P.Port.log c.parts.port)
           (g.P.Port.log port) refl
           c.parts.invariant.more (c.drive_on-end.ensures.turns c.in-Turns.is));
-      kept = λ p begins rested. subst (λ (told : Option Log). Follows p c.drive_on-end.new.gateway
-          told)
+      kept = λ p begins rested. subst (λ (logged : Option Log). Follows p c.drive_on-end.new.gateway
+          logged)
           (sym c.pour-is_whole.ensures.log)
           (at_turns end (Follows p c.drive_on-end.new.gateway (g.P.Port.log port)) c.in-Turns.is
           (c.drive_on-end.ensures.kept p (c.parts.invariant.kept p begins rested)
           (c.parts.invariant.rests p begins rested)));
-      rests = λ p begins rested. subst (λ (told : Option Log). IfSome told (HasRested p))
+      rests = λ p begins rested. subst (λ (logged : Option Log). IfSome logged (HasRested p))
           (sym c.pour-is_whole.ensures.log)
           (at_turns end (IfSome (g.P.Port.log port) (HasRested p)) c.in-Turns.is
           (c.drive_on-end.ensures.rests p (c.parts.invariant.kept p begins rested)
@@ -92,28 +93,30 @@ parts-preserved g c =
 
 pub returns-clause-faithful : goal.returns-clause-faithful
 returns-clause-faithful g c = λ p begins rested.
-    subst (λ (told : Option Log). IfSome told (IsFaithful p)) (sym c.pour-is_whole-2.ensures.log)
+    subst (λ (logged : Option Log). IfSome logged (IsFaithful p))
+    (sym c.pour-is_whole-2.ensures.log)
     (c.drive_on-end-2.ensures.faithful p (c.parts.invariant.kept p begins rested)
     (c.parts.invariant.rests p begins rested))
 
 pub returns-clause-rests : goal.returns-clause-rests
 returns-clause-rests g c = λ p begins rested.
-    subst (λ (told : Option Log). UnlessDevice c.drive_on-end-2.result (IfSome told (HasRested p)))
+    subst (λ (logged : Option Log). UnlessDevice c.drive_on-end-2.result
+    (IfSome logged (HasRested p)))
     (sym c.pour-is_whole-2.ensures.log)
     (c.drive_on-end-2.ensures.rests p (c.parts.invariant.kept p begins rested)
     (c.parts.invariant.rests p begins rested))
 
 pub returns-clause-kept : goal.returns-clause-kept
 returns-clause-kept g c = λ p begins rested.
-    subst (λ (told : Option Log). UnlessDevice c.drive_on-end-2.result
-    (Follows p c.drive_on-end-2.new.gateway told))
+    subst (λ (logged : Option Log). UnlessDevice c.drive_on-end-2.result
+    (Follows p c.drive_on-end-2.new.gateway logged))
     (sym c.pour-is_whole-2.ensures.log)
     (c.drive_on-end-2.ensures.kept p (c.parts.invariant.kept p begins rested)
     (c.parts.invariant.rests p begins rested))
 
 pub returns-clause-accounts : goal.returns-clause-accounts
 returns-clause-accounts g c = λ p begins rested.
-    subst (λ (told : Option Log). UnlessDevice c.drive_on-end-2.result (IfSome told
+    subst (λ (logged : Option Log). UnlessDevice c.drive_on-end-2.result (IfSome logged
     (IsAccounted p c.drive_on-end-2.new.gateway)))
     (sym c.pour-is_whole-2.ensures.log)
     (c.drive_on-end-2.ensures.accounts p (c.parts.invariant.kept p begins rested)

@@ -25,7 +25,7 @@ invariant-parts g l = record {
       (lines_of_actions (g.P.Paged.poured l.fn.port)) →
       IsPoured l.is_whole before (g.W.Write.contents l.out)
       (lines_of_actions (g.P.Paged.poured l.port));
-  unwatched : l.is_told ≡ false → l.err ≡ l.fn.err;
+  unwatched : l.is_shown ≡ false → l.err ≡ l.fn.err;
 }
 
 abbrev pub decreases-parts : goal.decreases-parts

@@ -14,7 +14,7 @@ returns-clause-poured g c = λ before poured.
     let ys : List ℕ = c.page-page.result.now in
     let zs : List ℕ = lines_of_actions (g.P.Paged.poured c.clear_page.new.self) in
     let lines : xs ++ ys ≡ zs =
-    subst (λ (told : Option Log). IfSome told (λ log. xs ++ ys ≡ lines_of_actions log))
+    subst (λ (logged : Option Log). IfSome logged (λ log. xs ++ ys ≡ lines_of_actions log))
     (sym c.clear_page.ensures.poured) c.page-page.ensures in
     elim c.if-is_whole.branch [
       | then-is_whole w ↦

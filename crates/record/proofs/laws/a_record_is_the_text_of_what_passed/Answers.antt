@@ -1,4 +1,4 @@
-use Rattle.record.proofs.Text.{notes_line, gives_text, gives_taken, ends, gives_over, hears_line}
+use Rattle.record.proofs.Text.{notes_line, gives_text, gives_taken, ends, gives_over, receives_line}
 use Rattle.record.proofs.laws.a_record_is_the_text_of_what_passed.Goals as goal
 
 pub returns-clause-notes : goal.returns-clause-notes
@@ -16,5 +16,5 @@ returns-clause-ends c = λ old new line n over. ends old new line n over
 pub returns-clause-over : goal.returns-clause-over
 returns-clause-over c = λ old new g over. gives_over old new g over
 
-pub returns-clause-hears : goal.returns-clause-hears
-returns-clause-hears c = λ old new next buf h goes. hears_line old new next buf h goes
+pub returns-clause-receives : goal.returns-clause-receives
+returns-clause-receives c = λ old new next buf h goes. receives_line old new next buf h goes

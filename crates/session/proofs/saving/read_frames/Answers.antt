@@ -44,4 +44,4 @@ loop-i-preserved g c =
 pub returns-clause-exact : goal.returns-clause-exact
 returns-clause-exact g c =
     let r = c.loop-i.invariant.exact in
-    (r.frames, omega (arith, r.count, c.loop-i-test.false, c.loop-i.auto._i-end), r.items, r.told)
+    (r.frames, omega (arith, r.count, c.loop-i-test.false, c.loop-i.auto._i-end), r.items, r.logged)

@@ -25,7 +25,7 @@ returns-clause-log g c =
       readable = subst (λ (text : List ℕ). IsReadOfText text (Ok c.in-Ok.wrote))
           c.deref.ensures.value c.in-Ok.ensures;
       counted = subst (λ (events : List ℕ). AreCounted (whole_lines events)
-          c.in_ok-count.count.told c.in_ok-count.count.all) same c.in_ok-count.ensures.counted;
+          c.in_ok-count.count.logged c.in_ok-count.count.all) same c.in_ok-count.ensures.counted;
       gap = c.in_ok-resumed.resumed.gap;
       whole = c.in_ok-resumed.resumed.before.entries;
       read = subst (λ (events : List ℕ). IsRead c.in-Ok.wrote g.K.Lineage.log lines events

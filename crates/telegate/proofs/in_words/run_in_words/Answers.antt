@@ -1,7 +1,7 @@
 use Rattle.std.proofs.Common.{◌⊎◌, subst}
 use Rattle.std.specs.Io.KnownBytes.{Keeps}
 use Rattle.gateway.specs.Setups.{setup_of}
-use Rattle.ladder.specs.Told.{IsLadder}
+use Rattle.ladder.specs.Described.{IsLadder}
 use Rattle.ladder.specs.declared.rungs.Style.{Style}
 use Rattle.telegate.specs.Answers.{IsEndOf}
 use Rattle.telegate.specs.Parts.{IsStoppedOver}

@@ -1,6 +1,6 @@
 use Rattle.std.proofs.Common.{Bool, ap, sym, subst, inl, inr, ◌∙◌}
 use Rattle.traces.specs.Blocks.{Reading}
-use Rattle.ladder.specs.Told.{IsLadder}
+use Rattle.ladder.specs.Described.{IsLadder}
 use Rattle.ladder.specs.declared.rungs.Style.{Style}
 use Rattle.telegate.specs.Parts.{IsPartRead, IsPartStopped, RunsOver}
 use Rattle.telegate.specs.InWords.{HasWritten}
@@ -103,7 +103,7 @@ returns-then-is_over g c =
     (subst (λ (o : Bool). IsPartRead c.args.as_record lines o part) c.is_over-is_last.ensures
     c.in_ok-read.ensures)
     c.write_part.new.gateway c.in_ok-pause.field-0-0 c.in_ok-pause.field-0-2 new
-    c.in_ok-pause.ensures.run c.in_ok-pause.field-0-1.told written.written
+    c.in_ok-pause.ensures.run c.in_ok-pause.field-0-1.logged written.written
     (c.in_ok-pause.ensures.printed old run.poured) (sym c.is_over.ensures ∙ c.if-is_over.true)
 
 pub writing-preserved : goal.writing-preserved
@@ -133,7 +133,7 @@ writing-preserved g c =
             c.is_over-is_last.ensures c.in_ok-read.ensures)
             c.write_part.new.gateway c.in_ok-pause.field-0-0
             c.in_ok-pause.field-0-2
-            new c.in_ok-pause.ensures.run c.in_ok-pause.field-0-1.told written.written
+            new c.in_ok-pause.ensures.run c.in_ok-pause.field-0-1.logged written.written
             poured goes_on;
         written = written;
         poured = poured;

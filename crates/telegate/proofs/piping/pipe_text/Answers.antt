@@ -28,7 +28,8 @@ returns-in_err-advance g c =
     c.from_residual.ensures.1
     (pipe_wanted c.args.piped c.args.words (Gives known) old new fault
     c.in_err-advance.ensures.fault
-    (inr (some_piped c.args.piped c.args.words known c.piping.blocks.coming c.piping.condition old new
+    (inr (some_piped c.args.piped c.args.words known c.piping.blocks.coming c.piping.condition old
+    new
     c.piping.invariant.run)))
 
 pub returns-in_err-shown : goal.returns-in_err-shown
@@ -41,7 +42,8 @@ returns-in_err-shown g c =
     c.from_residual-in_err-shown.result fault
     c.from_residual-in_err-shown.ensures.1
     (pipe_wanted c.args.piped c.args.words (Gives known) old new fault c.in_err-shown.ensures.fault
-    (inr (some_piped c.args.piped c.args.words known c.piping.blocks.coming c.piping.condition old new
+    (inr (some_piped c.args.piped c.args.words known c.piping.blocks.coming c.piping.condition old
+    new
     c.piping.invariant.run)))
 
 pub returns-in-Err : goal.returns-in-Err

@@ -1,5 +1,5 @@
 use Rattle.traces.proofs.ReadingBack.{first_read, log_above, log_read, log_unmarked, actions_read}
-use Rattle.traces.proofs.ReadingBack.{event_told}
+use Rattle.traces.proofs.ReadingBack.{event_logged}
 use Rattle.traces.proofs.laws.printed_lines_read_back.Goals as goal
 
 pub returns-clause-first : goal.returns-clause-first
@@ -12,7 +12,7 @@ pub returns-clause-actions : goal.returns-clause-actions
 returns-clause-actions c = λ log all. actions_read log all
 
 pub returns-clause-events : goal.returns-clause-events
-returns-clause-events c = λ event text fits. event_told event text fits
+returns-clause-events c = λ event text fits. event_logged event text fits
 
 pub returns-clause-marks : goal.returns-clause-marks
 returns-clause-marks c = λ log all. log_unmarked log all

@@ -8,7 +8,7 @@ use Rattle.traces.proofs.text_port.first_event.Given as goal
 -- the lines that were skipped told no event
 abbrev pub invariant-reading : goal.invariant-reading
 invariant-reading l = record {
-  told : events_in (parts_after 10 (option_copied l.left))
+  logged : events_in (parts_after 10 (option_copied l.left))
       ≡ events_in (parts_after 10 (option_copied l.fn.text));
   right : AllByRecursion IsRight (parts_after 10 (option_copied l.left))
       → AllByRecursion IsRight (parts_after 10 (option_copied l.fn.text));

@@ -1,12 +1,12 @@
 use Rattle.std.proofs.Common.{ap, sym, ◌∙◌}
 use Rattle.std.proofs.lemmas.Bool.{false≢true}
 use Rattle.apci.specs.Assembly.{Assembly}
-use Rattle.apci.proofs.EachOctet.{hears}
+use Rattle.apci.proofs.EachOctet.{receives}
 use Rattle.apci.proofs.assembling.Assembler.feed.Goals as goal
 
 pub listen-requires-clause-listens : goal.listen-requires-clause-listens
 listen-requires-clause-listens c =
-    let h = hears c.self.inside.state c.self.inside.asdu.items
+    let h = receives c.self.inside.state c.self.inside.asdu.items
     (λ e. false≢true (c.if-is_deaf.ensures.1 e)) in (
       h.0,
       ap (λ (v : Assembly). v.so_far) c.forget.ensures

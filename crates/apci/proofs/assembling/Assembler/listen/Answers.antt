@@ -3,7 +3,7 @@ use Rattle.std.proofs.Common.{arith, ◌∙◌}
 use Rattle.std.proofs.lemmas.List.{append-nil, take_all}
 use Rattle.apci.specs.declared.apdu.Apdu.TheVariants.{I}
 use Rattle.apci.specs.Assembly.{Assembly}
-use Rattle.apci.proofs.EachOctet.{state_more, i_heard, never_heard, decided_here}
+use Rattle.apci.proofs.EachOctet.{state_more, i_received, never_received, decided_here}
 use Rattle.apci.proofs.assembling.Assembler.listen.Goals as goal
 
 pub loop-i-init : goal.loop-i-init
@@ -20,7 +20,7 @@ loop-i-init c =
 pub returns-in-I-clause-listening : goal.returns-in-I-clause-listening
 returns-in-I-clause-listening c =
     let before = c.loop-i.invariant.joined.0 in
-    let h = i_heard c.loop-i.self-inside.state c.loop-i.self-inside.asdu.items before
+    let h = i_received c.loop-i.self-inside.state c.loop-i.self-inside.asdu.items before
     c.args.piece.now c.loop-i.i
     c.look-octet.result c.stepped.result c.in-I.ns c.in-I.nr
     c.loop-i.invariant.state c.loop-i.invariant.joined.2 c.loop-i-test.true
@@ -40,7 +40,7 @@ returns-in-I-clause-listening c =
 pub returns-in-Never-clause-listening : goal.returns-in-Never-clause-listening
 returns-in-Never-clause-listening c =
     let before = c.loop-i.invariant.joined.0 in
-    let h = never_heard c.loop-i.self-inside.state c.loop-i.self-inside.asdu.items before
+    let h = never_received c.loop-i.self-inside.state c.loop-i.self-inside.asdu.items before
     c.args.piece.now c.loop-i.i
     c.look-octet.result c.stepped.result c.in-Never.place c.in-Never.why
     c.loop-i.invariant.joined.2 c.loop-i-test.true c.look-octet.ensures.value

@@ -4,7 +4,7 @@ use Rattle.std.proofs.lemmas.List.{take_all}
 use Rattle.ft12.specs.declared.frame.Front.TheVariants.{Whole, More, Never}
 use Rattle.ft12.specs.Reading.{IsFront, IsProperBeginning}
 use Rattle.ft12.specs.Stage.{so_far}
-use Rattle.ft12.proofs.Stream.{heard_frame, heard_never}
+use Rattle.ft12.proofs.Stream.{received_frame, received_never}
 use Rattle.ft12.proofs.Stages.{stage_more, counted_refusal}
 use Rattle.ft12.proofs.assembling.Assembler.feed.Goals as goal
 
@@ -19,14 +19,14 @@ returns-in-Whole-clause-listening c =
     subst (λ f. IsFront size (now ++ c.look-octet.result ∷ [])
     (Whole f (length (now ++ c.look-octet.result ∷ []))))
     (sym c.with_data.ensures.frame) c.in-Whole.ensures.steps.0 in
-    let heard = heard_frame size before c.args.piece.now now _ c.loop-i.i c.with_data.result _
+    let arrived = received_frame size before c.args.piece.now now _ c.loop-i.i c.with_data.result _
     c.loop-i.invariant.joined c.loop-i-test.true
     (stage_more size c.loop-i.stage c.loop-i.self-inside.kept.items c.loop-i.invariant.is_stage)
     (ap (λ (o : ℕ). now ++ o ∷ []) c.look-octet.ensures.value) whole in
     rw (← c.self.view_is, c.in-Some.is) (
       subst (λ s. IsFront s (before ++ c.args.piece.now)
           (Whole c.with_data.result (length before + (c.loop-i.i + 1)))) c.loop-i.invariant.size
-          heard,
+          arrived,
       refl,
     )
 
@@ -36,13 +36,13 @@ returns-in-Never-clause-listening c =
     let size = c.loop-i.self-inside.size in
     let now : List ℕ = so_far size c.loop-i.stage c.loop-i.self-inside.kept.items in
     let before : List ℕ = so_far c.self.inside.size c.in-Some.stage c.self.inside.kept.items in
-    let heard = heard_never size before c.args.piece.now now _ c.loop-i.i c.in-Never.place
+    let arrived = received_never size before c.args.piece.now now _ c.loop-i.i c.in-Never.place
     c.in-Never.why
     c.loop-i.invariant.joined c.loop-i-test.true
     (ap (λ (o : ℕ). now ++ o ∷ []) c.look-octet.ensures.value) c.in-Never.ensures.steps in
     rw (← c.self.view_is, c.in-Some.is) (
       subst (λ s. IsFront s (before ++ c.args.piece.now) (Never c.in-Never.place c.in-Never.why))
-          c.loop-i.invariant.size heard,
+          c.loop-i.invariant.size arrived,
       refl,
       refl,
     )

@@ -1,5 +1,5 @@
 use Rattle.std.proofs.Common.{subst, IfSome}
-use Rattle.ft12.specs.Assembly.{Assembly, HearsInner}
+use Rattle.ft12.specs.Assembly.{Assembly, ReceivesInner}
 use Rattle.ft12.proofs.assembling.Assembler.feed_inner.Goals as goal
 
 pub returns-then-take_data-clause-listening : goal.returns-then-take_data-clause-listening
@@ -8,6 +8,6 @@ returns-then-take_data-clause-listening c = c.take_data.ensures.taken c.if-take_
 -- nothing was taken: the assembler is as it was
 pub returns-clause-listening : goal.returns-clause-listening
 returns-clause-listening c =
-    subst (λ (a : Assembly). IfSome a.so_far (λ so_far. HearsInner a.size so_far c.args.piece.now
+    subst (λ (a : Assembly). IfSome a.so_far (λ so_far. ReceivesInner a.size so_far c.args.piece.now
     c.feed_stages.result a.looked c.feed_stages.new.self.looked c.feed_stages.new.self.so_far))
     (c.take_data.ensures.left c.if-take_data.false) c.feed_stages.ensures.listening

@@ -4,7 +4,7 @@ use Rattle.ft12.specs.declared.frame.Front.TheVariants.{Never}
 use Rattle.ft12.specs.Reading.{IsFront, IsProperBeginning}
 use Rattle.ft12.specs.Assembly.{IsEndDue}
 use Rattle.ft12.specs.Stage.{so_far}
-use Rattle.ft12.proofs.Stream.{heard_never}
+use Rattle.ft12.proofs.Stream.{received_never}
 use Rattle.ft12.proofs.Stages.{stage_more, end_due, counted_refusal}
 use Rattle.ft12.proofs.assembling.Assembler.feed_stages.Goals as goal
 
@@ -29,7 +29,7 @@ returns-in-Never-clause-listening c =
     let size = c.loop-i.self-inside.size in
     let now : List ℕ = so_far size c.loop-i.stage c.loop-i.self-inside.kept.items in
     let before : List ℕ = so_far c.self.inside.size c.in-Some.stage c.self.inside.kept.items in
-    let heard = heard_never size before c.args.piece.now now _ c.loop-i.i c.in-Never.field-0
+    let arrived = received_never size before c.args.piece.now now _ c.loop-i.i c.in-Never.field-0
     c.in-Never.field-1
     c.loop-i.invariant.joined c.loop-i-test.true
     (ap (λ (o : ℕ). now ++ o ∷ []) c.look-octet.ensures.value) c.in-Never.ensures.steps in
@@ -43,7 +43,7 @@ returns-in-Never-clause-listening c =
       c.in-Never.field-1,
       subst (λ s. IsFront s (before ++ c.args.piece.now)
           (Never c.in-Never.field-0 c.in-Never.field-1))
-          c.loop-i.invariant.size heard,
+          c.loop-i.invariant.size arrived,
       refl,
       counted,
     )

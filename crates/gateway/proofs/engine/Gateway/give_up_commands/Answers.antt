@@ -9,7 +9,7 @@ use Rattle.gateway.specs.Phases.{Fresh}
 use Rattle.gateway.specs.Agrees.{Agrees, IsClear}
 use Rattle.gateway.proofs.Carrying as carrying
 use Rattle.gateway.proofs.Carrying.{IsForOne}
-use Rattle.gateway.proofs.Restarted.{IsTold, after_restart, clear_after}
+use Rattle.gateway.proofs.Restarted.{IsLogged, after_restart, clear_after}
 use Rattle.gateway.proofs.engine.Gateway.give_up_commands.Goals as goal
 
 law : (c : goal.After-give_up_commands) → IsForOne
@@ -21,11 +21,11 @@ law c = record {
   number = c.giving_up_is_for_one_station.ensures.number;
 }
 
-told : (c : goal.After-give_up_commands) → IsTold
-told c = record {
-  tells = c.giving_up_is_told.ensures.all;
-  reports = c.giving_up_is_told.ensures.reports;
-  gaps = c.giving_up_is_told.ensures.gaps;
+logged : (c : goal.After-give_up_commands) → IsLogged
+logged c = record {
+  matches = c.giving_up_is_logged.ensures.all;
+  reports = c.giving_up_is_logged.ensures.reports;
+  gaps = c.giving_up_is_logged.ensures.gaps;
 }
 
 serial_is : (c : goal.After-give_up_commands) → c.give_up_commands.new.self
@@ -77,8 +77,8 @@ returns-clause-follows c = λ p log h rest.
     let s : State = c.args.self.now in
     subst (λ (t : State). Agrees p t (Came s.moment Restarted ∷ log) [] Fresh × IsClear t)
     (sym (state_is c (without_commands s.serial) (serial_is c))) (
-      after_restart (told c) (law c) p s log rest h.0,
-      clear_after (told c) (law c) p s log rest h.0
+      after_restart (logged c) (law c) p s log rest h.0,
+      clear_after (logged c) (law c) p s log rest h.0
           h.1,
     )
 
@@ -88,5 +88,5 @@ returns-clause-between c = λ between. record {
       ∙ between.silent;
   gap = ap (λ (s : Serial). s.gap) (serial_is c) ∙ carrying.gap c.args.self.now.serial
       ∙ between.gap;
-  heard = ap (λ (s : State). s.centre.heard) c.self.view_is ∙ between.heard;
+  arrived = ap (λ (s : State). s.centre.arrived) c.self.view_is ∙ between.arrived;
 }

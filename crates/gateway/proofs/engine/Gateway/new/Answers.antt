@@ -5,7 +5,7 @@ use Rattle.gateway.proofs.engine.Gateway.new.Goals as goal
 pub returns-clause-begins : goal.returns-clause-begins
 returns-clause-begins c =
     let config = c.args.config.now in
-    first_follows config c.in_ok-gateway.gateway (Some []) c.master_tells_the_log.ensures.start
+    first_follows config c.in_ok-gateway.gateway (Some []) c.master_matches_the_log.ensures.start
     c.session_keeps_the_standard.ensures c.commands_keep_the_rules.ensures.calls
     (record {
       places = c.places_come_back.ensures.waiting;

@@ -11,7 +11,7 @@ returns-clause-back g c = λ s rest savable has e.
     (savable.between.silent, savable.between.gap)
     (k.1 ∙ append_assoc (serial_lines s.serial) (centre_lines s.centre) rest) in
     let t = c.in_ok-centre.ensures.back s.centre rest savable.centre has.centre
-    savable.between.heard m.1 in
+    savable.between.arrived m.1 in
     state_back c.joined.result _ c.in_ok-clock.clock c.in_ok-serial.serial c.in_ok-centre.centre s _
     c.joined.ensures
     m.0 t.0 k.0 (ap (λ (l : LineSettings). l.sizes) c.line.ensures ∙ sym has.sizes) savable.places
@@ -20,7 +20,8 @@ returns-clause-back g c = λ s rest savable has e.
 pub returns-clause-between : goal.returns-clause-between
 returns-clause-between g c = joined_between c.joined.result _ c.in_ok-clock.clock
     c.in_ok-serial.serial
-    c.in_ok-centre.centre c.joined.ensures c.in_ok-serial.ensures.told c.in_ok-centre.ensures.taken
+    c.in_ok-centre.centre c.joined.ensures c.in_ok-serial.ensures.logged
+    c.in_ok-centre.ensures.taken
 
 pub returns-in_err-serial-clause-back : goal.returns-in_err-serial-clause-back
 returns-in_err-serial-clause-back g c = λ s rest savable has e.
@@ -36,5 +37,5 @@ returns-in_err-centre-clause-back g c = λ s rest savable has e.
     (savable.between.silent, savable.between.gap)
     (k.1 ∙ append_assoc (serial_lines s.serial) (centre_lines s.centre) rest) in
     let h = c.in_err-centre.ensures.back s.centre rest savable.centre has.centre
-    savable.between.heard m.1 in
+    savable.between.arrived m.1 in
     search rules

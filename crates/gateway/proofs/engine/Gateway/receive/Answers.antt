@@ -2,7 +2,7 @@ use Rattle.std.proofs.Common.{ℕ, ◌∙◌, length, arith, ap, subst, length-d
 use Rattle.std.proofs.Math.ListN.{drop_of_length-le}
 use Rattle.gateway.specs.Agrees.{Awaits}
 use Rattle.gateway.specs.declared.step.Progress.TheVariants.{On, Over, Failed}
-use Rattle.gateway.proofs.Events.{told_idle}
+use Rattle.gateway.proofs.Events.{logged_idle}
 use Rattle.gateway.proofs.Onward.{rest_is, goes_from, goes_as, onward, put_by}
 use Rattle.gateway.proofs.engine.Gateway.receive.Goals as goal
 
@@ -73,7 +73,7 @@ returns-in-Failed-clause-puts g c =
 
 pub returns-clause-kept : goal.returns-clause-kept
 returns-clause-kept g c = λ p h.
-    told_idle p _ c.loop-done.self
+    logged_idle p _ c.loop-done.self
     (subst (λ rest. Awaits p c.loop-done.self (g.P.Port.log c.loop-done.port) rest)
     (drop_of_length-le c.args.octets.now c.loop-done-test.false) (c.loop-done.invariant.kept p h))
 

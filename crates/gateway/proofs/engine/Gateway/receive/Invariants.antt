@@ -2,7 +2,7 @@ use Rattle.std.proofs.Common.{◌≡◌, ◌≤◌, ◌-◌, length, drop, true}
 use Rattle.session.specs.Session.{is_open}
 use Rattle.gateway.specs.Reports.{Setup}
 use Rattle.gateway.specs.Agrees.{Awaits}
-use Rattle.gateway.specs.Runs.{events_told}
+use Rattle.gateway.specs.Runs.{events_logged}
 use Rattle.gateway.proofs.engine.Gateway.receive.Given as goal
 
 abbrev pub invariant-loop-done : goal.invariant-loop-done
@@ -11,7 +11,7 @@ invariant-loop-done g l = record {
       → Awaits p l.self (g.P.Port.log l.port) (drop l.done l.octets);
   on : is_open l.self.centre.session ≡ true;
   within : l.done ≤ length l.octets;
-  events : events_told (g.P.Port.log l.port) ≡ events_told (g.P.Port.log l.fn.port);
+  events : events_logged (g.P.Port.log l.port) ≡ events_logged (g.P.Port.log l.fn.port);
   script : g.P.Port.script l.port ≡ g.P.Port.script l.fn.port;
   cause : g.P.Port.failed l.port ≡ g.P.Port.failed l.fn.port;
 }

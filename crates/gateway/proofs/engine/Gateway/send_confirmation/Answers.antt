@@ -2,7 +2,7 @@ use Rattle.std.proofs.Common.{ap, sym, subst}
 use Rattle.apci.specs.Short.{apdu_of}
 use Rattle.gateway.specs.State.{State}
 use Rattle.gateway.specs.Agrees.{Tracks}
-use Rattle.gateway.proofs.Put.{told_put, sends_confirmation, confirmed_open, confirmed_next}
+use Rattle.gateway.proofs.Put.{logged_put, sends_confirmation, confirmed_open, confirmed_next}
 use Rattle.gateway.proofs.Put.{no_confirmation, on_true}
 use Rattle.gateway.proofs.engine.Gateway.send_confirmation.Goals as goal
 
@@ -21,8 +21,8 @@ returns-in-None-clause-next g c =
 
 pub returns-in-Some-clause-kept : goal.returns-in-Some-clause-kept
 returns-in-Some-clause-kept g c = λ p unjudged phase flushing h.
-    told_put c.hand_short.result p _ _ c.args.self.now c.confirm.new.self
-    (apdu_of c.in-Some.apdu) _ unjudged phase c.hand_short.ensures.told
+    logged_put c.hand_short.result p _ _ c.args.self.now c.confirm.new.self
+    (apdu_of c.in-Some.apdu) _ unjudged phase c.hand_short.ensures.logged
     (ap (λ (x : State). x.moment) c.confirm.ensures.rest)
     (sends_confirmation c.args.self.now c.confirm.new.self
     (apdu_of c.in-Some.apdu) c.in-Some.ensures.fits c.in-Some.ensures.due

@@ -1,13 +1,13 @@
 use Rattle.std.proofs.Common.{ap, ◌∙◌, rules, [], ◌∷◌}
 use Rattle.session.specs.Session.{Session, is_open}
-use Rattle.gateway.specs.Log.{Went, TcpOut, tell}
-use Rattle.gateway.proofs.Put.{told_sent, sends_data, data_sent, data_confirmed, data_in_time}
+use Rattle.gateway.specs.Log.{Went, TcpOut, with_news}
+use Rattle.gateway.proofs.Put.{logged_sent, sends_data, data_sent, data_confirmed, data_in_time}
 use Rattle.gateway.proofs.Put.{stays_after, unsent_faithful}
 use Rattle.gateway.proofs.engine.Gateway.send_data.Goals as goal
 
 pub returns-then-not-hand-clause-kept : goal.returns-then-not-hand-clause-kept
 returns-then-not-hand-clause-kept g c = λ p unjudged phase flushing ready h.
-    unsent_faithful p _ _ c.loop-count.self unjudged phase c.if-not-hand.ensures.told
+    unsent_faithful p _ _ c.loop-count.self unjudged phase c.if-not-hand.ensures.logged
     (c.loop-count.invariant.kept p unjudged phase flushing ready h)
 
 pub loop-count-preserved : goal.loop-count-preserved
@@ -15,11 +15,11 @@ loop-count-preserved g c =
     let sends = c.in-Some.ensures.some in
     let made = data_sent c.loop-count.self sends.frame c.write_data.new.self sends.holds in
     record {
-      kept = λ p unjudged phase flushing ready h. told_sent p _ _ c.loop-count.self
+      kept = λ p unjudged phase flushing ready h. logged_sent p _ _ c.loop-count.self
           c.write_data.new.self sends.frame
           _ unjudged phase
-          (c.if-not-hand.ensures.told
-          ∙ ap (λ octets. tell (g.P.Port.log c.loop-count.port)
+          (c.if-not-hand.ensures.logged
+          ∙ ap (λ octets. with_news (g.P.Port.log c.loop-count.port)
           (Went c.write_data.new.self.moment (TcpOut octets)
           ∷ []))
           sends.spelled) made.1.moment

@@ -4,7 +4,7 @@ use Rattle.gateway.specs.Reports.{Setup}
 use Rattle.session.specs.Session.{is_open}
 use Rattle.session.specs.Ends.{IsConfirmed}
 use Rattle.gateway.specs.Agrees.{Tracks, StaysInTime}
-use Rattle.gateway.specs.Runs.{events_told}
+use Rattle.gateway.specs.Runs.{events_logged}
 use Rattle.gateway.proofs.engine.Gateway.send_data.Given as goal
 
 abbrev pub invariant-loop-count : goal.invariant-loop-count
@@ -16,7 +16,7 @@ invariant-loop-count g l = record {
   confirmed : IsConfirmed l.fn.self.centre.session → IsConfirmed l.self.centre.session;
   in_time : StaysInTime l.fn.self l.self;
   on : is_open l.self.centre.session ≡ is_open l.fn.self.centre.session;
-  events : events_told (g.P.Port.log l.port) ≡ events_told (g.P.Port.log l.fn.port);
+  events : events_logged (g.P.Port.log l.port) ≡ events_logged (g.P.Port.log l.fn.port);
   script : g.P.Port.script l.port ≡ g.P.Port.script l.fn.port;
   cause : g.P.Port.failed l.port ≡ g.P.Port.failed l.fn.port;
 }

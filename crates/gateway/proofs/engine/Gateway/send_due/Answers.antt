@@ -2,7 +2,7 @@ use Rattle.std.proofs.Common.{ap, sym, subst}
 use Rattle.apci.specs.Short.{apdu_of}
 use Rattle.gateway.specs.State.{State}
 use Rattle.gateway.specs.Agrees.{Tracks}
-use Rattle.gateway.proofs.Put.{told_put, sends_pulled, pulled_open, pulled_next, none_pulled}
+use Rattle.gateway.proofs.Put.{logged_put, sends_pulled, pulled_open, pulled_next, none_pulled}
 use Rattle.gateway.proofs.Put.{on_true}
 use Rattle.gateway.proofs.engine.Gateway.send_due.Goals as goal
 
@@ -20,8 +20,8 @@ returns-in-None-clause-next g c = pulled_next c.args.self.now c.pull.new.self _ 
 
 pub returns-in-Some-clause-kept : goal.returns-in-Some-clause-kept
 returns-in-Some-clause-kept g c = λ p unjudged phase flushing clear h.
-    told_put c.hand_short.result p _ _ c.args.self.now c.pull.new.self
-    (apdu_of c.in-Some.apdu) _ unjudged phase c.hand_short.ensures.told
+    logged_put c.hand_short.result p _ _ c.args.self.now c.pull.new.self
+    (apdu_of c.in-Some.apdu) _ unjudged phase c.hand_short.ensures.logged
     (ap (λ (x : State). x.moment) c.pull.ensures.rest)
     (sends_pulled c.args.self.now c.pull.new.self (apdu_of c.in-Some.apdu) clear
     c.in-Some.ensures.fits

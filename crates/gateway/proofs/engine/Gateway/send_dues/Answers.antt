@@ -2,7 +2,7 @@ use Rattle.std.proofs.Common.{ap, sym, subst, ◌∙◌, true, false, None}
 use Rattle.apci.specs.Short.{apdu_of}
 use Rattle.gateway.specs.State.{State}
 use Rattle.gateway.specs.Agrees.{Tracks}
-use Rattle.gateway.proofs.Put.{told_put, sends_pulled, pulled_open, pulled_next, pulled_spent}
+use Rattle.gateway.proofs.Put.{logged_put, sends_pulled, pulled_open, pulled_next, pulled_spent}
 use Rattle.gateway.proofs.Put.{none_pulled, none_left, on_map, pull_in_time, pull_confirmed}
 use Rattle.gateway.proofs.Put.{pull_ends, pull_clear, pull_spent, stays_after}
 use Rattle.gateway.proofs.Putting.{puts_none, puts_then, puts_ready}
@@ -41,8 +41,8 @@ returns-then-hand_short-clause-kept g c = λ p unjudged phase flushing clear h.
     c.send_due.ensures.kept p unjudged phase flushing
     (pull_clear c.calls_come_to_an_end.ensures.confirmed_pull c.args.self.now c.pull.new.self next
     clear)
-    (told_put true p _ _ c.args.self.now c.pull.new.self
-    (apdu_of c.in-Some.apdu) _ unjudged phase c.if-hand_short.ensures.told
+    (logged_put true p _ _ c.args.self.now c.pull.new.self
+    (apdu_of c.in-Some.apdu) _ unjudged phase c.if-hand_short.ensures.logged
     (ap (λ (x : State). x.moment) c.pull.ensures.rest)
     (sends_pulled c.args.self.now c.pull.new.self (apdu_of c.in-Some.apdu) clear
     c.in-Some.ensures.fits
@@ -78,8 +78,8 @@ returns-then-hand_short-clause-in_time g c =
 
 pub returns-else-hand_short-clause-kept : goal.returns-else-hand_short-clause-kept
 returns-else-hand_short-clause-kept g c = λ p unjudged phase flushing clear h.
-    told_put false p _ _ c.args.self.now c.pull.new.self
-    (apdu_of c.in-Some.apdu) _ unjudged phase c.if-hand_short.ensures.told
+    logged_put false p _ _ c.args.self.now c.pull.new.self
+    (apdu_of c.in-Some.apdu) _ unjudged phase c.if-hand_short.ensures.logged
     (ap (λ (x : State). x.moment) c.pull.ensures.rest)
     (sends_pulled c.args.self.now c.pull.new.self (apdu_of c.in-Some.apdu) clear
     c.in-Some.ensures.fits

@@ -1,6 +1,6 @@
 use Rattle.std.proofs.Common.{◌≡◌, ◌∷◌, [], ap, sym, ◌∙◌, None}
 use Rattle.std.specs.Prelude.{if◌then◌else◌}
-use Rattle.gateway.specs.Log.{tell, Went, LineOut}
+use Rattle.gateway.specs.Log.{with_news, Went, LineOut}
 use Rattle.gateway.specs.Polls.{has_room}
 use Rattle.link.specs.Primary.{sending}
 use Rattle.link.specs.declared.request.Request.{Request}
@@ -15,11 +15,11 @@ returns-in-None-clause-kept g c = λ p h.
     let none : sending r.serial.line (has_room r.centre.queue) ≡ None =
     none_is r.serial.line _ (sym c.in-None.is ∙ c.next_request-next.ensures.request) in
     asked_none c.line_keeps_the_procedures.ensures p _ c.args.self.now r
-    c.next_request-next.new.self c.requires.told c.requires.in_time
+    c.next_request-next.new.self c.requires.logged c.requires.in_time
     (record {
       is = c.offer_all.ensures.state;
-      tells =
-          λ e t. c.offer_all.ensures.tells p.link p.addresses e t;
+      matches =
+          λ e t. c.offer_all.ensures.matches p.link p.addresses e t;
     })
     none (c.next_request-next.ensures.state ∙ ap (after_request r) none) h
 
@@ -30,17 +30,17 @@ returns-in-Some-clause-kept g c = λ p h.
     c.in-Some.request
     (sym c.in-Some.is ∙ c.next_request-next.ensures.request) in
     let put : g.P.Port.log c.put.new.self
-    ≡ (if c.put.result then tell (g.P.Port.log c.args.port.now)
+    ≡ (if c.put.result then with_news (g.P.Port.log c.args.port.now)
     (Went c.moment.result (LineOut c.deref.result.now) ∷ []) else g.P.Port.log c.args.port.now) =
-    c.put.ensures.told in
+    c.put.ensures.logged in
     asked_leaves c.line_keeps_the_procedures.ensures c.put.result p (g.P.Port.log c.args.port.now)
     (g.P.Port.log c.put.new.self) c.args.self.now r c.next_request-next.new.self next.0
     c.deref.result.now
-    c.moment.result c.requires.told c.requires.in_time
+    c.moment.result c.requires.logged c.requires.in_time
     (record {
       is = c.offer_all.ensures.state;
-      tells =
-          λ e t. c.offer_all.ensures.tells p.link p.addresses e t;
+      matches =
+          λ e t. c.offer_all.ensures.matches p.link p.addresses e t;
     }) next.1
     (c.next_request-next.ensures.room next.0 next.1)
     (c.deref.ensures.0 ∙ ap (λ (r : Request). r.octets.items) next.2) (c.moment.ensures
@@ -52,10 +52,11 @@ pub returns-then-is_awaiting-clause-kept : goal.returns-then-is_awaiting-clause-
 returns-then-is_awaiting-clause-kept g c = λ p h.
     let r : State = c.offer_all.new.self in
     let some = sym c.is_awaiting.ensures ∙ c.if-is_awaiting.true in
-    asked_none c.line_keeps_the_procedures.ensures p _ c.args.self.now r r c.requires.told c.requires.in_time
+    asked_none c.line_keeps_the_procedures.ensures p _ c.args.self.now r r c.requires.logged
+    c.requires.in_time
     (record {
       is = c.offer_all.ensures.state;
-      tells =
-          λ e t. c.offer_all.ensures.tells p.link p.addresses e t;
+      matches =
+          λ e t. c.offer_all.ensures.matches p.link p.addresses e t;
     })
     (awaiting_none r.serial.line (has_room r.centre.queue) some) (awaiting_same r some) h

@@ -5,7 +5,7 @@ use Rattle.ft12.specs.Spelling.{address_len, IsOctet}
 use Rattle.ft12.specs.declared.frame.LinkSize.{LinkSize}
 use Rattle.ft12.specs.declared.frame.LinkSize.TheVariants.{One, Two}
 use Rattle.link.specs.Requests.{IsUserData}
-use Rattle.link.specs.Telling.{Tells}
+use Rattle.link.specs.Matching.{Matches}
 use Rattle.gateway.proofs.engine.serial.offer_to.Goals as goal
 
 short_address : (size : LinkSize) → address_len size ≤ 2
@@ -28,13 +28,13 @@ offer-is_new-requires-clause-asdu c =
     user_data c.args.line.now.settings.size octets c.requires.some c.requires.short
     (All-from_get_or IsOctet octets 0 (λ i lt. omega (arith, c.type_inv.octets i)))
 
-pub returns-clause-tells : goal.returns-clause-tells
-returns-clause-tells c =
+pub returns-clause-matches : goal.returns-clause-matches
+returns-clause-matches c =
     let line = c.args.line.now in
     let octets = c.args.octets.now in
-    λ settings addresses e told. subst (λ p. Tells settings addresses p e)
+    λ settings addresses e logged. subst (λ p. Matches settings addresses p e)
     (sym c.offer-is_new.ensures.state)
-    (c.master_tells_the_log.ensures.offer settings addresses line e c.args.station octets
+    (c.master_matches_the_log.ensures.offer settings addresses line e c.args.station octets
     c.requires.station
     (user_data line.settings.size octets c.requires.some c.requires.short
-    (All-from_get_or IsOctet octets 0 (λ i lt. omega (arith, c.type_inv.octets i)))) told)
+    (All-from_get_or IsOctet octets 0 (λ i lt. omega (arith, c.type_inv.octets i)))) logged)

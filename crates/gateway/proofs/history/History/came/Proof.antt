@@ -34,7 +34,7 @@ use Rattle.gateway.proofs.history.History.came.Statement as stated
 use Rattle.gateway.proofs.history.History.came.Code as code
 use Rattle.gateway.specs.contracts.history.History as history
 use Rattle.gateway.specs.contracts.ports.Next as next
-use Rattle.gateway.specs.Ports.{told_by}
+use Rattle.gateway.specs.Ports.{logged_by}
 use denote.Builtin.{u8}
 use denote.Array.{Array}
 
@@ -78,11 +78,13 @@ module _ {M : Type 1} {𝓤 : Ura M} (𝓛 : Logic 𝓤) (mem : Memory → SProp
         (agg ! (no_more !)) refl (tt, tt) $
         returns ! (look_at ! 0 refl) $ free_all ! refl $
         suffices ! _ (ends_at 𝓛 f.ended stayed (f.clauses 𝓛 mem run) bound (vstruct vnil)
-        (record { entries = told_by a.1.0.now a.1.1.0.now ++ a.0.now.entries }) (tt, (tt, (tt, tt)))
+        (record { entries = logged_by a.1.0.now a.1.1.0.now ++ a.0.now.entries })
+        (tt, (tt, (tt, tt)))
         (tt, (tt, (tt, tt)))) $
         says ! refl $ pure_i !
         (history.the_row.own_val
-        (record { entries = told_by a.1.0.now a.1.1.0.now ++ a.0.now.entries }) (vstruct vnil ∷ []))
+        (record { entries = logged_by a.1.0.now a.1.1.0.now ++ a.0.now.entries })
+        (vstruct vnil ∷ []))
         ((λ vss. (tt, tt)), tt) ((tt, (refl, tt)), tt) $
         move ! (1 ∷ 2 ∷ 0 ∷ []) $ done !)
 

@@ -5,9 +5,9 @@ pub returns : goal.returns
 returns c = whole_pieces (record {
   whole = c.front_is_computed.ensures.whole;
   line = c.line_keeps_the_procedures.ensures;
-  told = record {
-    tells = c.giving_up_is_told.ensures.all;
-    reports = c.giving_up_is_told.ensures.reports;
-    gaps = c.giving_up_is_told.ensures.gaps;
+  logged = record {
+    matches = c.giving_up_is_logged.ensures.all;
+    reports = c.giving_up_is_logged.ensures.reports;
+    gaps = c.giving_up_is_logged.ensures.gaps;
   };
 })

@@ -19,8 +19,8 @@ returns c = record {
     };
     line = c.line_keeps_the_procedures.ensures;
   }) (record {
-    tells = c.giving_up_is_told.ensures.all;
-    reports = c.giving_up_is_told.ensures.reports;
-    gaps = c.giving_up_is_told.ensures.gaps;
+    matches = c.giving_up_is_logged.ensures.all;
+    reports = c.giving_up_is_logged.ensures.reports;
+    gaps = c.giving_up_is_logged.ensures.gaps;
   });
 }

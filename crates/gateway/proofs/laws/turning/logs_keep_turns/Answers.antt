@@ -13,8 +13,8 @@ returns c = λ settings s log rules burst follows.
     }) (record {
       line = c.line_keeps_the_procedures.ensures;
       gives_up = record {
-        awaits = c.giving_up_is_told.ensures.awaits;
-        one = c.giving_up_is_told.ensures.one;
+        awaits = c.giving_up_is_logged.ensures.awaits;
+        one = c.giving_up_is_logged.ensures.one;
       };
       for_one = record {
         done = c.giving_up_is_for_one_station.ensures.done;

@@ -16,7 +16,7 @@ invariant_of-self c =
       remembered = was.memory;
       log = was.history.entries;
       poured = was.poured.entries;
-      told = was.taken.octets;
+      logged = was.taken.octets;
       page = string_bytes was.page.text;
       is_noted = was.is_noted;
     } in

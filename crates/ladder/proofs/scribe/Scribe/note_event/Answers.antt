@@ -1,7 +1,7 @@
 use Rattle.std.proofs.Common.{◌≡◌, ◌&&◌, List, ℕ, string_bytes, sym, subst, ◌∙◌}
 use Rattle.std.specs.Result.{is_ok}
 use Rattle.gateway.specs.Log.{Log}
-use Rattle.gateway.specs.Ports.{told_by}
+use Rattle.gateway.specs.Ports.{logged_by}
 use Rattle.ladder.specs.Scribing.{IsScribing, Scribing}
 use Rattle.ladder.proofs.Pages.{and_else, and_then, noted_on}
 use Rattle.ladder.proofs.scribe.Scribe.note_event.Goals as goal
@@ -15,11 +15,11 @@ invariant_of-self c =
       remembered = was.memory;
       log = was.history.entries;
       poured = was.poured.entries;
-      told = was.taken.octets;
+      logged = was.taken.octets;
       page = string_bytes was.page.text;
       is_noted = was.is_noted;
     } in
-    let news : Log = told_by c.args.next c.args.buf.now in
+    let news : Log = logged_by c.args.next c.args.buf.now in
     let page : List ℕ = string_bytes c.push_event-noted.new.text in
     let taken : c.if-self.self ≡ (was.is_noted && is_ok c.push_event-noted.result) =
     elim c.if-self.branch [

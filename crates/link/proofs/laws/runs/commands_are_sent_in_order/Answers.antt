@@ -1,5 +1,5 @@
 use Rattle.ft12.specs.Fronts.{front_of}
-use Rattle.link.specs.Telling.{IsStable}
+use Rattle.link.specs.Matching.{IsStable}
 use Rattle.link.proofs.FirstSendings.{run_in_order}
 use Rattle.link.proofs.laws.runs.commands_are_sent_in_order.Goals as goal
 

@@ -1,5 +1,5 @@
 use Rattle.ft12.specs.Fronts.{front_of}
-use Rattle.link.specs.Telling.{IsStable}
+use Rattle.link.specs.Matching.{IsStable}
 use Rattle.link.proofs.Running.{run_keeps}
 use Rattle.link.proofs.laws.runs.frame_count_bits_are_kept.Goals as goal
 

@@ -1,5 +1,5 @@
 use Rattle.ft12.specs.Fronts.{front_of}
-use Rattle.link.specs.Telling.{IsStable}
+use Rattle.link.specs.Matching.{IsStable}
 use Rattle.link.proofs.Running.{run_counts}
 use Rattle.link.proofs.Spoilt.{spoilt_means}
 use Rattle.link.proofs.laws.runs.spoilt_exchanges_are_counted.Goals as goal

@@ -1,11 +1,11 @@
-use Rattle.link.proofs.Tabled.{fixed, told, data_frames, other_data, singles, foreign, flags}
+use Rattle.link.proofs.Tabled.{fixed, outcome_for, data_frames, other_data, singles, foreign, flags}
 use Rattle.link.proofs.laws.tables.answers_are_whole.Goals as goal
 
 pub returns-clause-fixed : goal.returns-clause-fixed
 returns-clause-fixed c = fixed
 
-pub returns-clause-told : goal.returns-clause-told
-returns-clause-told c = told
+pub returns-clause-outcome_for : goal.returns-clause-outcome_for
+returns-clause-outcome_for c = outcome_for
 
 pub returns-clause-user_data : goal.returns-clause-user_data
 returns-clause-user_data c = data_frames

@@ -1,5 +1,5 @@
 use Rattle.ft12.specs.Fronts.{front_of}
-use Rattle.link.specs.Telling.{IsStable}
+use Rattle.link.specs.Matching.{IsStable}
 use Rattle.link.proofs.Fairness.{run_waits}
 use Rattle.link.proofs.laws.visits.no_station_starves.Goals as goal
 

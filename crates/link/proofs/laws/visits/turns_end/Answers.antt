@@ -1,6 +1,6 @@
 use Rattle.std.proofs.Common.{arith}
 use Rattle.ft12.specs.Fronts.{front_of}
-use Rattle.link.specs.Telling.{IsStable}
+use Rattle.link.specs.Matching.{IsStable}
 use Rattle.link.specs.Visits.{whole_visit}
 use Rattle.link.proofs.Visiting.{visit_room, whole_room}
 use Rattle.link.proofs.Fairness.{run_visits}

@@ -4,8 +4,8 @@ use Rattle.ft12.specs.Reading.{IsProperBeginning}
 use Rattle.link.specs.Procedure.{LinkSettings}
 use Rattle.link.specs.Primary.{Primary}
 use Rattle.link.specs.Holding.{IsFitting}
-use Rattle.link.specs.Restored.{heard_from, awaited_from, head_from}
-use Rattle.link.proofs.RestoredBack.{next_line, found_is, head_back, awaited_back, heard_begins}
+use Rattle.link.specs.Restored.{answered_with, awaited_from, head_from}
+use Rattle.link.proofs.RestoredBack.{next_line, found_is, head_back, awaited_back, received_begins}
 use Rattle.link.proofs.RestoredBack.{restored_same, some_awaited_same, some_head_same, none_some}
 use Rattle.link.proofs.RestoredBack.{not_none}
 use Rattle.link.proofs.master.Master.read_state.Goals as goal
@@ -18,7 +18,7 @@ returns-in_default-awaited_from g c = λ p rest sav set count e.
     let i = c.in-Some-found.is in
     let m = rw i at c.in-Ok.ensures in
     let h = found_is c.in-Some-found.deaf c.in-Some-found.octets.items p.outstanding sav.octets
-    (m ∙ ap heard_from (c.as_slice-2.ensures.value ∙ b.0)) in
+    (m ∙ ap answered_with (c.as_slice-2.ensures.value ∙ b.0)) in
     let w = c.awaited_from.ensures ∙ ap (λ (x : List ℕ). awaited_from c.in-Some-found.deaf x)
     (c.as_slice-3.ensures.value ∙ d.0)
     ∙ awaited_back p.outstanding sav.outstanding c.in-Some-found.deaf h.0 in
@@ -32,7 +32,7 @@ returns-in-Some-restored g c = λ p rest sav set count e.
     let i = c.in-Some-found.is in
     let m = rw i at c.in-Ok.ensures in
     let h = found_is c.in-Some-found.deaf c.in-Some-found.octets.items p.outstanding sav.octets
-    (m ∙ ap heard_from (c.as_slice-2.ensures.value ∙ b.0)) in
+    (m ∙ ap answered_with (c.as_slice-2.ensures.value ∙ b.0)) in
     let w = c.awaited_from.ensures ∙ ap (λ (x : List ℕ). awaited_from c.in-Some-found.deaf x)
     (c.as_slice-3.ensures.value ∙ d.0)
     ∙ awaited_back p.outstanding sav.outstanding c.in-Some-found.deaf h.0 in
@@ -54,7 +54,7 @@ returns g c = λ p rest sav set count e.
     let i = c.in-Some-found.is in
     let m = rw i at c.in-Ok.ensures in
     let h = found_is c.in-Some-found.deaf c.in-Some-found.octets.items p.outstanding sav.octets
-    (m ∙ ap heard_from (c.as_slice-2.ensures.value ∙ b.0)) in
+    (m ∙ ap answered_with (c.as_slice-2.ensures.value ∙ b.0)) in
     let w = c.awaited_from.ensures ∙ ap (λ (x : List ℕ). awaited_from c.in-Some-found.deaf x)
     (c.as_slice-3.ensures.value ∙ d.0)
     ∙ awaited_back p.outstanding sav.outstanding c.in-Some-found.deaf h.0 in
@@ -72,7 +72,7 @@ returns g c = λ p rest sav set count e.
     let X : List ℕ → Type 0 = λ x. IsProperBeginning p.settings.size x ⊎ (x ≡ []) in
     let begins =
     subst B set (subst X (sym (c.as_slice-4.ensures.value ∙ h.1))
-    (heard_begins p p.outstanding sav.heard)) in
+    (received_begins p p.outstanding sav.arrived)) in
     let some = c.restored.ensures.taken (subst F (sym z) sav.fitting) begins in
     absurd (none_some _ c.in-None.is some)
 
@@ -81,5 +81,5 @@ returns-in_default-found g c = λ p rest sav set count e.
     let a = next_line _ _ _ _ _ e c.in_ok-next.ensures.some in
     let b = next_line _ _ _ _ _ a.1 c.in_ok-next-2.ensures.some in
     let m = rw c.in_default-found.is at c.in-Ok.ensures in
-    absurd (not_none p.outstanding sav.octets (m ∙ ap heard_from (c.as_slice-2.ensures.value
+    absurd (not_none p.outstanding sav.octets (m ∙ ap answered_with (c.as_slice-2.ensures.value
     ∙ b.0)))

@@ -1,7 +1,7 @@
 use Rattle.std.proofs.Common.{◌≡◌, ℕ, ◌+◌, ◌-◌, ◌<◌, ◌≤◌, Bool, true, List, [], ◌∷◌, ◌++◌, Some}
 use Rattle.std.proofs.Common.{None, is_some, refl, sym, ap, subst, ◌∙◌}
 use Rattle.gateway.specs.Log.{Log, LineOut}
-use Rattle.gateway.specs.Ports.{told_by}
+use Rattle.gateway.specs.Ports.{logged_by}
 use Rattle.gateway.specs.declared.ports.Next.{Next}
 use Rattle.gateway.specs.declared.ports.Next.TheVariants as next
 use Rattle.live.specs.Ends.{LiveEnds, LogsTurn, LogsPut}
@@ -17,7 +17,7 @@ use Rattle.live.specs.declared.timing.Timing.{Timing}
 use Rattle.live.proofs.port.noted.exchange.Goals as goal
 
 -- an event of a look brings no request
-given_out : (event : Next) (buf : List ℕ) (log : Log) → line_out (told_by event buf ++ log)
+given_out : (event : Next) (buf : List ℕ) (log : Log) → line_out (logged_by event buf ++ log)
     ≡ line_out log
 given_out (next.Line now len) buf log = refl
 given_out (next.Open now) buf log = refl

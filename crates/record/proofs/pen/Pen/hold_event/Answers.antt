@@ -1,13 +1,13 @@
 use Rattle.std.proofs.Common.{rules, ◌≡◌, ◌++◌, List, ℕ, refl, sym, ◌∙◌}
 use Rattle.std.specs.List.{AllByRecursion}
-use Rattle.gateway.specs.Ports.{told_by}
+use Rattle.gateway.specs.Ports.{logged_by}
 use Rattle.traces.specs.Printed.{IsPrintable, lines_of_log}
 use Rattle.record.proofs.Text.{more_written, on_success}
 use Rattle.record.proofs.pen.Pen.hold_event.Goals as goal
 
 pub invariant_of-self-else-is_err : goal.invariant_of-self-else-is_err
 invariant_of-self-else-is_err g c =
-    let news = told_by c.args.next c.args.buf.now in
+    let news = logged_by c.args.next c.args.buf.now in
     let held : c.print_event.new.page ≡ c.self.inside.held ++ lines_of_log news = search rules in
     let printable : AllByRecursion IsPrintable news =
     on_success _ _ (sym c.is_err.ensures.value ∙ c.if-is_err.false)

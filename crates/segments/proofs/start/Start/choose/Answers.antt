@@ -30,12 +30,12 @@ pub returns-clause-sound : goal.returns-clause-sound
 returns-clause-sound g c =
     of_three c.made-2.result c.made-2.ensures.newest c.made-2.ensures.other
     c.made-2.ensures.doubtful
-    (λ s is other told clean first second.
+    (λ s is other logged clean first second.
     let older : IsTrue (g.D.Disk.is_clean c.found_in-2.new.file) =
     subst (λ d. IsTrue (g.D.Disk.is_clean d)) is clean.0 in
     let newer : IsTrue (g.D.Disk.is_clean c.found_in.new.file) =
     subst (λ d. IsTrue (g.D.Disk.is_clean d)) other clean.1 in
-    told ∙ c.is_doubtful-is_doubtful.ensures ∙ not_doubtful c.args.front c.args.other_front _
+    logged ∙ c.is_doubtful-is_doubtful.ensures ∙ not_doubtful c.args.front c.args.other_front _
     (sound_shut (g.D.Disk.seen c.found_in.new.file) c.args.front
     (subst (λ (file : List ℕ). IsHeadIn file c.args.front) (sym c.found_in.ensures.seen)
     (c.requires.head (c.found_in.ensures.clean newer)))
@@ -113,7 +113,7 @@ returns-clause-above g c =
 pub returns-in-Some-clause-sure : goal.returns-in-Some-clause-sure
 returns-in-Some-clause-sure g c =
     of_three c.made.result c.made.ensures.newest c.made.ensures.other c.made.ensures.doubtful
-    (λ s is other told clean some sure.
+    (λ s is other logged clean some sure.
     let newer : IsTrue (g.D.Disk.is_clean c.found_in.new.file) =
     subst (λ d. IsTrue (g.D.Disk.is_clean d)) is clean.0 in
     let older : IsTrue (g.D.Disk.is_clean c.args.older) =
@@ -128,13 +128,13 @@ returns-in-Some-clause-sure g c =
     (of_some (λ (x : FoundHead). c.args.front ≡ fronts.Head x.head) c.in_ok-found.field-0 _
     c.in-Some.is
     c.in_ok-found.ensures.head)
-    (sym c.is_other-is_doubtful.ensures ∙ sym told ∙ sure))))
+    (sym c.is_other-is_doubtful.ensures ∙ sym logged ∙ sure))))
 
 pub returns-clause-sure : goal.returns-clause-sure
 returns-clause-sure g c =
     of_four c.made-2.result c.made-2.ensures.newest c.made-2.ensures.other c.made-2.ensures.doubtful
     c.made-2.ensures.found
-    (λ s is other told found clean some sure.
+    (λ s is other logged found clean some sure.
     let newer : IsTrue (g.D.Disk.is_clean c.found_in.new.file) =
     subst (λ d. IsTrue (g.D.Disk.is_clean d)) other clean.1 in
     subst (λ (l : List ℕ). HasNoNewer (g.D.Disk.seen s.newest) l)
@@ -143,7 +143,7 @@ returns-clause-sure g c =
     c.args.other_front _
     (c.requires.head (c.found_in.ensures.clean newer)) (c.is_some.ensures ∙ sym (ap is_some found)
     ∙ some)
-    (sym c.is_doubtful-is_doubtful.ensures ∙ sym told ∙ sure)))
+    (sym c.is_doubtful-is_doubtful.ensures ∙ sym logged ∙ sure)))
 
 pub returns-in-Some-clause-backed : goal.returns-in-Some-clause-backed
 returns-in-Some-clause-backed g c =

@@ -19,11 +19,11 @@ invariant_of-result c =
     numbered_more c.self.inside.directives.items c.push.new.self.items c.args.directive
     c.self.inside.turns
     c.or-turns.result c.self.inside.ack c.or-ack.result c.self.inside.wall c.or-wall.result
-    c.self.inside.unheard
-    c.note_unheard.new.unheard c.self.inside.lost c.note_lost.new.lost c.self.inside.cut
+    c.self.inside.unreceived
+    c.note_unreceived.new.unreceived c.self.inside.lost c.note_lost.new.lost c.self.inside.cut
     c.note_cut.new.cut
     c.self.inside.spoilt c.note_spoilt.new.spoilt c.self.inside.sends c.note_sends.new.sends
     c.len.result at
-    c.in_ok-push.ensures.items free turns ack wall c.in_ok-note_unheard.ensures
+    c.in_ok-push.ensures.items free turns ack wall c.in_ok-note_unreceived.ensures
     c.in_ok-note_lost.ensures
     c.in_ok-note_cut.ensures c.in_ok-note_spoilt.ensures c.in_ok-note_sends.ensures c.self.invariant

@@ -8,7 +8,7 @@ use Rattle.sim.specs.Losses.{fate_of}
 use Rattle.sim.specs.Lives.{IsPutOut, arriving, plan_of}
 use Rattle.traces.specs.Printout.{Printed}
 use Rattle.sim.specs.Tallies.{tallied_asked}
-use Rattle.sim.proofs.HearingLemmas.{length_out}
+use Rattle.sim.proofs.ReceivingLemmas.{length_out}
 use Rattle.sim.proofs.Keeping.{ask_kept, written}
 use Rattle.sim.proofs.sim.Sim.ask.Goals as goal
 

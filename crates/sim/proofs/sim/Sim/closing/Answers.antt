@@ -7,14 +7,14 @@ use Rattle.sim.specs.declared.directive.Directive.{Directive}
 use Rattle.sim.specs.declared.tally.StationTally.{StationTally}
 use Rattle.sim.specs.Runs.{IsRun}
 use Rattle.sim.specs.Texts.{connection_lines, closing_lines}
-use Rattle.sim.proofs.RunLemmas.{told_run}
+use Rattle.sim.proofs.RunLemmas.{logged_run}
 use Rattle.sim.proofs.sim.Sim.closing.Goals as goal
 
 pub returns : goal.returns
 returns c = λ settings ds plan apart calls faithful rests.
     let s = c.args.self.now in
     IfOk-weaker c.closing_lines.result _ (λ text. IsRun settings ds s.log (string_bytes text))
-    (λ text is. told_run settings ds s (string_bytes text) plan calls faithful rests
+    (λ text is. logged_run settings ds s (string_bytes text) plan calls faithful rests
     (c.steps_keep_their_order.ensures.settings settings s.log faithful)
     (is
     ∙ ap (λ (l : List Directive). closing_lines l c.stations.result.now

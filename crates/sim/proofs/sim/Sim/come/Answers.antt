@@ -12,7 +12,7 @@ invariant_of-self-2 c = (
   c.self.invariant.0,
   come_kept _ c.self.inside.page.log _ _ _ (event_of c.args.entry.now) _ _ _ _ _
       (ap (λ (p : Printed). p.log) c.came.ensures
-      ∙ ap (λ (l : Log). l ++ c.self.inside.page.log) c.requires.told)
+      ∙ ap (λ (l : Log). l ++ c.self.inside.page.log) c.requires.logged)
       (c.requires.event ∙ ap (λ (v : Simulated). coming v.plan v.standing) (sym c.self.view_is))
       (subst (λ (v : Simulated). v.standing.call < turns_of v.plan.directives) (sym c.self.view_is)
       c.requires.«open»)

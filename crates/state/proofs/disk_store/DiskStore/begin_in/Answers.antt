@@ -3,7 +3,7 @@ use Rattle.gateway.specs.Restored.{state_lines}
 use Rattle.segments.specs.Head.{IsWholeText}
 use Rattle.segments.specs.Segment.{text_of}
 use Rattle.state.specs.Logs.{IsHeaded, stored_in}
-use Rattle.state.proofs.LogLemmas.{all_taken, begun_told}
+use Rattle.state.proofs.LogLemmas.{all_taken, begun_logged}
 use Rattle.state.proofs.disk_store.DiskStore.begin_in.Goals as goal
 
 pub returns-clause-begun : goal.returns-clause-begun
@@ -11,7 +11,7 @@ returns-clause-begun g c _ =
     let same : c.deref.result.now ≡ c.args.self.now.settings.items =
     c.deref.ensures.value in
     ap stored_in c.unmark.ensures.opened
-    ∙ begun_told _ _ _ _ _
+    ∙ begun_logged _ _ _ _ _
     (subst (λ (s : List ℕ). IsHeaded s (state_lines c.args.gateway.now) (text_of c.in-Some.segment))
     same c.in-Some.ensures.head)
     c.octets-head.ensures c.in-Some.ensures.synced

@@ -1,6 +1,6 @@
 use Rattle.std.proofs.Common.{rules, ◌≡◌, subst, sym}
 use Rattle.segments.specs.Crashes.{HasNoZero}
-use Rattle.state.specs.Logs.{SurvivesAsTold, stored_in}
+use Rattle.state.specs.Logs.{SurvivesAsLogged, stored_in}
 use Rattle.state.specs.declared.opened.Opened.TheVariants as opens
 use Rattle.state.proofs.Surviving.{current_survives}
 use Rattle.state.proofs.disk_store.DiskStore.survives.Goals as goal
@@ -8,6 +8,6 @@ use Rattle.state.proofs.disk_store.DiskStore.survives.Goals as goal
 pub returns-in-Current : goal.returns-in-Current
 returns-in-Current g c _ none =
     let is : c.args.self.now.opened ≡ opens.Current c.in-Current.current = search rules in
-    subst (λ opened. SurvivesAsTold opened) (sym is)
+    subst (λ opened. SurvivesAsLogged opened) (sym is)
     (current_survives c.in-Current.current c.survives.ensures.durable c.survives.ensures.start
     c.survives.ensures.mixed (subst (λ opened. HasNoZero (stored_in opened).text) is none))

@@ -1,11 +1,11 @@
 use Rattle.std.proofs.Common.{◌+◌, ◌<◌, sym, subst}
 use Rattle.state.specs.Keeping.{Keeping}
-use Rattle.state.proofs.Kept.{heard_right, few_faults, few_more}
+use Rattle.state.proofs.Kept.{received_right, few_faults, few_more}
 use Rattle.state.proofs.keeper.KeeperPort.next.Goals as goal
 
 pub invariant_of-self-2 : goal.invariant_of-self-2
 invariant_of-self-2 g c = record {
-  orderly = c.keep-self-inside.ensures.orderly _ (heard_right _ _ _ _ c.next-next.ensures.heard
+  orderly = c.keep-self-inside.ensures.orderly _ (received_right _ _ _ _ c.next-next.ensures.arrived
       c.self.invariant.orderly.time c.self.invariant.orderly.right);
   few = few_more _ _ _ _ _ c.keep-self-inside.ensures.port.cause c.next-next.ensures.cause
       (few_faults c.next-next.result)

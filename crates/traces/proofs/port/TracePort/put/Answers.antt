@@ -13,19 +13,20 @@ invariant_of-self-2 g c =
     record {
       fits = c.self.invariant.fits;
       lines = λ good. lines_put _ (g.W.Write.contents a.out) _ a.log.items c.prepare.new.log.items _
-          c.in-Ok.told _
+          c.in-Ok.logged _
           c.args.now (output_of c.args.action.now) (c.self.invariant.lines good)
           (on_success _ _ (sym c.is_err.ensures.value ∙ c.if-is_err.false)
           c.write_all.ensures.bytes) text
-          c.in-Ok.ensures.told c.in-Ok.ensures.log c.push_reserved.ensures.items;
+          c.in-Ok.ensures.logged c.in-Ok.ensures.log c.push_reserved.ensures.items;
       sound = c.self.invariant.sound;
     }
 
-pub returns-clause-told : goal.returns-clause-told
-returns-clause-told g c =
+pub returns-clause-logged : goal.returns-clause-logged
+returns-clause-logged g c =
     let a = c.self.inside in
     let went = Went c.args.now (output_of c.args.action.now) in
-    ap Some (log_put a.log.items c.prepare.new.log.items _ c.in-Ok.told went c.in-Ok.ensures.told
+    ap Some (log_put a.log.items c.prepare.new.log.items _ c.in-Ok.logged went
+    c.in-Ok.ensures.logged
     c.in-Ok.ensures.log
     c.push_reserved.ensures.items ∙ ap (λ (t : Traced). went ∷ t.log) c.self.view_is)
 
@@ -33,7 +34,8 @@ pub returns-clause-script : goal.returns-clause-script
 returns-clause-script g c =
     let a = c.self.inside in
     let went = Went c.args.now (output_of c.args.action.now) in
-    let log = log_put a.log.items c.prepare.new.log.items _ c.in-Ok.told went c.in-Ok.ensures.told
+    let log = log_put a.log.items c.prepare.new.log.items _ c.in-Ok.logged went
+    c.in-Ok.ensures.logged
     c.in-Ok.ensures.log
     c.push_reserved.ensures.items in
     ap (λ (l : Log). events_of l ++ coming a.is_started (reverse a.entries.items)) log

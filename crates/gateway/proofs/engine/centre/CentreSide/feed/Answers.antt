@@ -23,10 +23,10 @@ returns-in-Whole c =
           c.feed-count.ensures.within,
         ),
         ap (λ (o : Option (List ℕ)). let made : Centre =
-            record { session = s.session; so_far = o; heard = after.whole; queue = s.queue } in
+            record { session = s.session; so_far = o; arrived = after.whole; queue = s.queue } in
             made) found.2.3
             ∙ ap (λ (h : Option Apdu). let made : Centre =
-            record { session = s.session; so_far = Some []; heard = h; queue = s.queue } in
+            record { session = s.session; so_far = Some []; arrived = h; queue = s.queue } in
             made) found.2.4,
       ),
     )
@@ -45,10 +45,10 @@ returns-in-Never c =
       (
         found.2,
         ap (λ (o : Option (List ℕ)). let made : Centre =
-            record { session = s.session; so_far = o; heard = after.whole; queue = s.queue } in
+            record { session = s.session; so_far = o; arrived = after.whole; queue = s.queue } in
             made) c.clear.ensures.so_far
             ∙ ap (λ (h : Option Apdu). let made : Centre =
-            record { session = s.session; so_far = Some []; heard = h; queue = s.queue } in
+            record { session = s.session; so_far = Some []; arrived = h; queue = s.queue } in
             made) c.clear.ensures.whole,
       ),
     )

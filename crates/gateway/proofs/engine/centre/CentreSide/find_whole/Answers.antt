@@ -9,7 +9,7 @@ returns-in-Whole c =
     let empty : (c.self.inside.assembler.so_far ≡ Some [])
     × (c.self.inside.assembler.whole ≡ None) =
     search (rules, c.if-not-is_empty.ensures) in
-    let left = subst (λ (x : Centre). (x.so_far ≡ Some []) × (x.heard ≡ None)) c.self.view_is
+    let left = subst (λ (x : Centre). (x.so_far ≡ Some []) × (x.arrived ≡ None)) c.self.view_is
     empty in (
       found_whole c.args.piece.now c.in-Whole.count (owned c.in-Whole.apdu)
           c.in-Whole.ensures.right,

@@ -1,0 +1,16 @@
+use Rattle.std.proofs.Common.{Bool, sym, subst}
+use Rattle.std.specs.Prelude.{IfOk, string_bytes}
+use Rattle.words.specs.Described.{IsLineDescribed}
+use Rattle.words.proofs.described.describe_line.Goals as goal
+
+pub returns-then-words : goal.returns-then-words
+returns-then-words c =
+    subst (λ (b : Bool). IfOk c.words_of_line.result (λ shown.
+    IsLineDescribed b c.args.sizes c.args.octets.now (string_bytes shown.lines) shown.condition))
+    (sym c.if-words.true) c.words_of_line.ensures
+
+pub returns-else-words : goal.returns-else-words
+returns-else-words c =
+    subst (λ (b : Bool). IfOk c.show_line.result (λ shown.
+    IsLineDescribed b c.args.sizes c.args.octets.now (string_bytes shown.lines) shown.condition))
+    (sym c.if-words.false) c.show_line.ensures
