@@ -282,7 +282,7 @@ impl Assembler {
     {
         let mut assembler = Assembler::new();
         // What was heard shows in the assembler, and the caller asks for it there.
-        let _received = assembler.feed(octets);
+        let _arrived = assembler.feed(octets);
         assembler
     }
 
