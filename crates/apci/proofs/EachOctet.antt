@@ -13,8 +13,8 @@ use Rattle.apci.specs.declared.apdu.Why.TheVariants.{Control}
 use Rattle.apci.specs.declared.apdu.Front.TheVariants.{Whole, Never}
 use Rattle.apci.specs.declared.assembling.State.{State}
 use Rattle.apci.specs.declared.assembling.State.TheVariants as state
-use Rattle.apci.specs.declared.assembling.Step.{Step}
-use Rattle.apci.specs.declared.assembling.Step.TheVariants as steps
+use Rattle.apci.specs.declared.assembling.OctetStep.{OctetStep}
+use Rattle.apci.specs.declared.assembling.OctetStep.TheVariants as steps
 use Rattle.apci.specs.Spelling.{counter, function, IsOctet}
 use Rattle.apci.specs.Reading.{IsMore, IsDecidedAt, IsFront}
 use Rattle.apci.specs.Progress.{so_far, IsState, Gives}
@@ -114,7 +114,7 @@ receives (state.Short a) asdu apart = (_, refl)
 
 -- ---- an octet of a piece
 
-pub gives_at : (s : State) (asdu before piece : List ℕ) (i o : ℕ) (step : Step)
+pub gives_at : (s : State) (asdu before piece : List ℕ) (i o : ℕ) (step : OctetStep)
     → so_far s asdu ≡ Some (before ++ take i piece) → o ≡ get_or piece i 0
     → IfSome (so_far s asdu) (λ octets. Gives (octets ++ o ∷ []) asdu o s step)
     → Gives ((before ++ take i piece) ++ get_or piece i 0 ∷ []) asdu o s step
@@ -129,7 +129,7 @@ one_more : (before piece : List ℕ) (i : ℕ) → i < length piece
 one_more before piece i lt = append_assoc before (take i piece) (get_or piece i 0 ∷ [])
     ∙ ap (λ (l : List ℕ). before ++ l) (sym (take_more piece i 0 lt))
 
-pub goes_on : (s new : State) (asdu before piece : List ℕ) (i o : ℕ) (step : Step)
+pub goes_on : (s new : State) (asdu before piece : List ℕ) (i o : ℕ) (step : OctetStep)
     → so_far s asdu ≡ Some (before ++ take i piece) → i < length piece → o ≡ get_or piece i 0
     → IfSome (so_far s asdu) (λ octets. Gives (octets ++ o ∷ []) asdu o s step)
     → step ≡ steps.Goes new
@@ -140,7 +140,7 @@ goes_on s new asdu before piece i o step joined lt at h is =
     (gives_at s asdu before piece i o step joined at h) in
     (g.1, g.0 ∙ ap Some (one_more before piece i lt))
 
-pub keeps_on : (s : State) (asdu before piece : List ℕ) (i o : ℕ) (step : Step)
+pub keeps_on : (s : State) (asdu before piece : List ℕ) (i o : ℕ) (step : OctetStep)
     → so_far s asdu ≡ Some (before ++ take i piece) → i < length piece → o ≡ get_or piece i 0
     → IfSome (so_far s asdu) (λ octets. Gives (octets ++ o ∷ []) asdu o s step) → step ≡ steps.Keeps
     → IsState s (asdu ++ o ∷ []) × (so_far s (asdu ++ o ∷ []) ≡ Some (before ++ take (i + 1) piece))
@@ -163,7 +163,7 @@ whole_received s asdu before piece i a n h joined lt front =
     ∷ []) i a n refl lt
     (state_more s asdu (before ++ take i piece) h joined) refl front
 
-pub i_received : (s : State) (asdu before piece : List ℕ) (i o : ℕ) (step : Step) (ns nr : ℕ)
+pub i_received : (s : State) (asdu before piece : List ℕ) (i o : ℕ) (step : OctetStep) (ns nr : ℕ)
     → IsState s asdu
     → so_far s asdu ≡ Some (before ++ take i piece) → i < length piece → o ≡ get_or piece i 0
     → IfSome (so_far s asdu) (λ octets. Gives (octets ++ o ∷ []) asdu o s step)
@@ -180,7 +180,7 @@ i_received s asdu before piece i o step ns nr state joined lt at h is =
       g.1,
     )
 
-pub s_received : (s : State) (asdu before piece : List ℕ) (i o : ℕ) (step : Step) (nr : ℕ)
+pub s_received : (s : State) (asdu before piece : List ℕ) (i o : ℕ) (step : OctetStep) (nr : ℕ)
     → IsState s asdu
     → so_far s asdu ≡ Some (before ++ take i piece) → i < length piece → o ≡ get_or piece i 0
     → IfSome (so_far s asdu) (λ octets. Gives (octets ++ o ∷ []) asdu o s step) → step ≡ steps.S nr
@@ -191,7 +191,7 @@ s_received s asdu before piece i o step nr state joined lt at h is =
     (gives_at s asdu before piece i o step joined at h) in
     (whole_received s asdu before piece i (apdu.S nr) (length x) state joined lt g.0, g.1)
 
-pub u_received : (s : State) (asdu before piece : List ℕ) (i o : ℕ) (step : Step) (f : Uf)
+pub u_received : (s : State) (asdu before piece : List ℕ) (i o : ℕ) (step : OctetStep) (f : Uf)
     → IsState s asdu
     → so_far s asdu ≡ Some (before ++ take i piece) → i < length piece → o ≡ get_or piece i 0
     → IfSome (so_far s asdu) (λ octets. Gives (octets ++ o ∷ []) asdu o s step) → step ≡ steps.U f
@@ -202,7 +202,8 @@ u_received s asdu before piece i o step f state joined lt at h is =
     (gives_at s asdu before piece i o step joined at h) in
     (whole_received s asdu before piece i (apdu.U f) (length x) state joined lt g.0, g.1)
 
-pub never_received : (s : State) (asdu before piece : List ℕ) (i o : ℕ) (step : Step) (place : ℕ)
+pub never_received : (s : State) (asdu before piece : List ℕ) (i o : ℕ) (step : OctetStep)
+    (place : ℕ)
     (why : Why)
     → so_far s asdu ≡ Some (before ++ take i piece) → i < length piece → o ≡ get_or piece i 0
     → IfSome (so_far s asdu) (λ octets. Gives (octets ++ o ∷ []) asdu o s step)
@@ -215,7 +216,7 @@ never_received s asdu before piece i o step place why joined lt at h is =
     received_never before piece (before ++ take i piece) x i place why refl lt refl g
 
 -- the octet that decides is the one looked at last
-pub decided_here : (s : State) (asdu before piece : List ℕ) (i o : ℕ) (step : Step) (place : ℕ)
+pub decided_here : (s : State) (asdu before piece : List ℕ) (i o : ℕ) (step : OctetStep) (place : ℕ)
     (why : Why)
     → IsState s asdu → so_far s asdu ≡ Some (before ++ take i piece) → i < length piece
     → o ≡ get_or piece i 0

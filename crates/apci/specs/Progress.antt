@@ -7,8 +7,8 @@ use Rattle.apci.specs.Short.{apdu_of}
 use Rattle.apci.specs.declared.apdu.Front.TheVariants.{Whole, Never}
 use Rattle.apci.specs.declared.assembling.State.{State}
 use Rattle.apci.specs.declared.assembling.State.TheVariants as state
-use Rattle.apci.specs.declared.assembling.Step.{Step}
-use Rattle.apci.specs.declared.assembling.Step.TheVariants as step
+use Rattle.apci.specs.declared.assembling.OctetStep.{OctetStep}
+use Rattle.apci.specs.declared.assembling.OctetStep.TheVariants as step
 use Rattle.apci.specs.Spelling.{counter, function, IsOctet}
 use Rattle.apci.specs.Reading.{IsFront}
 
@@ -66,7 +66,7 @@ IsState (state.Information ns nr) asdu = Unit {0}
 IsState (state.Short a) asdu = asdu ≡ []
 
 -- What one more octet gives: the octets with it, the ASDU so far, the octet, the state before it.
-abbrev pub Gives : List ℕ → List ℕ → ℕ → State → Step → Type 0
+abbrev pub Gives : List ℕ → List ℕ → ℕ → State → OctetStep → Type 0
 Gives octets asdu o old (step.Goes new) =
     (so_far new asdu ≡ Some octets) × IsState new asdu × (whole new asdu ≡ None)
 Gives octets asdu o old step.Keeps =

@@ -108,7 +108,7 @@ impl State {
 
 /// What one octet gives.
 #[derive(Clone, Copy)]
-enum Step {
+enum OctetStep {
     /// The next octet is due by this state.
     Goes(State),
     /// It is an octet of the ASDU, and more are due.
@@ -123,18 +123,18 @@ enum Step {
 }
 
 /// What the length gives.
-fn length_step(octet: u8) -> Step
+fn length_step(octet: u8) -> OctetStep
     ensures { Gives (0x68 ∷ octet ∷ []) [] octet State.Length result }
 {
     // At least four control octets, and at most what the standard allows (IEC 60870-5-104, 5).
     if octet < 4 || octet > 253 {
-        return Step::Never(1, Why::Length);
+        return OctetStep::Never(1, Why::Length);
     }
-    Step::Goes(State::Control { len: octet })
+    OctetStep::Goes(State::Control { len: octet })
 }
 
 /// What the first control octet gives.
-fn control_step(len: u8, octet: u8) -> Step
+fn control_step(len: u8, octet: u8) -> OctetStep
     requires long { 4 ≤ len }
     requires short { len ≤ 253 }
     ensures { Gives (0x68 ∷ len ∷ octet ∷ []) [] octet (State.Control len) result }
@@ -142,33 +142,33 @@ fn control_step(len: u8, octet: u8) -> Step
     // The format before the length: it says which lengths there are (docs/DECISIONS.md, "APDUs
     // whose length decides too early").
     match format_of(octet) {
-        Format::Unknown => Step::Never(2, Why::Control),
+        Format::Unknown => OctetStep::Never(2, Why::Control),
         Format::I => {
             if len < 13 {
-                Step::Never(1, Why::Short)
+                OctetStep::Never(1, Why::Short)
             } else {
-                Step::Goes(State::ISecond { len, low: octet })
+                OctetStep::Goes(State::ISecond { len, low: octet })
             }
         }
         Format::S => {
             if len != 4 {
-                Step::Never(1, Why::NotFour)
+                OctetStep::Never(1, Why::NotFour)
             } else {
-                Step::Goes(State::SSecond)
+                OctetStep::Goes(State::SSecond)
             }
         }
         Format::U(function) => {
             if len != 4 {
-                Step::Never(1, Why::NotFour)
+                OctetStep::Never(1, Why::NotFour)
             } else {
-                Step::Goes(State::USecond(function))
+                OctetStep::Goes(State::USecond(function))
             }
         }
     }
 }
 
 /// What the next octet gives.
-fn stepped(state: State, asdu: &[u8], octet: u8) -> Step
+fn stepped(state: State, asdu: &[u8], octet: u8) -> OctetStep
     requires right { IsState state asdu.now }
     requires taken { whole state asdu.now ≡ None }
     ensures { IfSome (so_far state asdu.now) (λ octets.
@@ -176,42 +176,42 @@ fn stepped(state: State, asdu: &[u8], octet: u8) -> Step
 {
     match state {
         // Never from these: `feed` answers for a deaf one, and forgets what is whole.
-        State::Deaf | State::Information { .. } | State::Short(_) => Step::Goes(State::Deaf),
-        State::Start if octet != START => Step::Never(0, Why::Start),
-        State::Start => Step::Goes(State::Length),
+        State::Deaf | State::Information { .. } | State::Short(_) => OctetStep::Goes(State::Deaf),
+        State::Start if octet != START => OctetStep::Never(0, Why::Start),
+        State::Start => OctetStep::Goes(State::Length),
         State::Length => length_step(octet),
         State::Control { len } => control_step(len, octet),
-        State::ISecond { len, low } => Step::Goes(State::IThird {
+        State::ISecond { len, low } => OctetStep::Goes(State::IThird {
             len,
             ns: counter_of(low, octet),
         }),
         // The bit below N(R) is fixed to 0 (IEC 60870-5-104, 5).
-        State::IThird { .. } if octet % 2 == 1 => Step::Never(4, Why::Control),
-        State::IThird { len, ns } => Step::Goes(State::IFourth {
+        State::IThird { .. } if octet % 2 == 1 => OctetStep::Never(4, Why::Control),
+        State::IThird { len, ns } => OctetStep::Goes(State::IFourth {
             len,
             ns,
             low: octet,
         }),
-        State::IFourth { len, ns, low } => Step::Goes(State::Asdu {
+        State::IFourth { len, ns, low } => OctetStep::Goes(State::Asdu {
             len,
             ns,
             nr: counter_of(low, octet),
         }),
-        State::Asdu { len, .. } if asdu.len() + 5 < usize::from(len) => Step::Keeps,
-        State::Asdu { ns, nr, .. } => Step::I { ns, nr },
-        State::SSecond if octet != 0 => Step::Never(3, Why::Control),
-        State::SSecond => Step::Goes(State::SThird),
-        State::USecond(_) if octet != 0 => Step::Never(3, Why::Control),
-        State::USecond(function) => Step::Goes(State::UThird(function)),
-        State::SThird if octet % 2 == 1 => Step::Never(4, Why::Control),
-        State::SThird => Step::Goes(State::SFourth { low: octet }),
-        State::SFourth { low } => Step::S {
+        State::Asdu { len, .. } if asdu.len() + 5 < usize::from(len) => OctetStep::Keeps,
+        State::Asdu { ns, nr, .. } => OctetStep::I { ns, nr },
+        State::SSecond if octet != 0 => OctetStep::Never(3, Why::Control),
+        State::SSecond => OctetStep::Goes(State::SThird),
+        State::USecond(_) if octet != 0 => OctetStep::Never(3, Why::Control),
+        State::USecond(function) => OctetStep::Goes(State::UThird(function)),
+        State::SThird if octet % 2 == 1 => OctetStep::Never(4, Why::Control),
+        State::SThird => OctetStep::Goes(State::SFourth { low: octet }),
+        State::SFourth { low } => OctetStep::S {
             nr: counter_of(low, octet),
         },
-        State::UThird(_) if octet != 0 => Step::Never(4, Why::Control),
-        State::UThird(function) => Step::Goes(State::UFourth(function)),
-        State::UFourth(_) if octet != 0 => Step::Never(5, Why::Control),
-        State::UFourth(function) => Step::U(function),
+        State::UThird(_) if octet != 0 => OctetStep::Never(4, Why::Control),
+        State::UThird(function) => OctetStep::Goes(State::UFourth(function)),
+        State::UFourth(_) if octet != 0 => OctetStep::Never(5, Why::Control),
+        State::UFourth(function) => OctetStep::U(function),
     }
 }
 
@@ -353,22 +353,22 @@ impl Assembler {
         for (i, octet) in piece.iter().enumerate() {
             let octet = look(&mut self.looked, octet);
             match stepped(self.state, &self.asdu, octet) {
-                Step::Goes(state) => self.state = state,
-                Step::Keeps => self.asdu.push(octet),
-                Step::I { ns, nr } => {
+                OctetStep::Goes(state) => self.state = state,
+                OctetStep::Keeps => self.asdu.push(octet),
+                OctetStep::I { ns, nr } => {
                     self.asdu.push(octet);
                     self.state = State::Information { ns, nr };
                     return (i + 1, Received::Whole);
                 }
-                Step::S { nr } => {
+                OctetStep::S { nr } => {
                     self.state = State::Short(Short::S { nr });
                     return (i + 1, Received::Whole);
                 }
-                Step::U(function) => {
+                OctetStep::U(function) => {
                     self.state = State::Short(Short::U(function));
                     return (i + 1, Received::Whole);
                 }
-                Step::Never(place, why) => {
+                OctetStep::Never(place, why) => {
                     // Nothing in a stream says where the next APDU would begin, so the rest of it
                     // can't be read.
                     self.state = State::Deaf;

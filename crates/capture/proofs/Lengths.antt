@@ -4,12 +4,12 @@ use Rattle.std.proofs.Common.{length, arith}
 use Rattle.std.proofs.lemmas.Fmt.{length-decimal-le, length-decimal-le_wide}
 use Rattle.std.proofs.lemmas.List.{length-append}
 use Rattle.std.specs.Fmt.{decimal}
-use Rattle.capture.specs.declared.segment.Segment.{Segment}
+use Rattle.capture.specs.declared.segment.TcpSegment.{TcpSegment}
 use Rattle.capture.specs.Octets.{high_first, word}
 use Rattle.capture.specs.Segments.{packet}
 use Rattle.capture.specs.Wires.{gap_comment, serial_octets, way_octets}
 
-pub packet_length : (s : Segment) (payload : List ℕ) →
+pub packet_length : (s : TcpSegment) (payload : List ℕ) →
     length (packet s payload) ≡ 40 + length payload
 unfolding packet word
 packet_length s payload = omega arith

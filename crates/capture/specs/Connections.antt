@@ -3,13 +3,13 @@ use Rattle.std.specs.Prelude.{◌≡◌, ℕ, ◌+◌, ◌%◌, ◌^◌, ◌==�
 use Rattle.std.specs.Prelude.{[], ◌∷◌, ◌++◌, length}
 use Rattle.std.specs.List.{flat_map}
 use Rattle.capture.specs.declared.connection.Connection.{Connection}
-use Rattle.capture.specs.declared.segment.Segment.{Segment}
+use Rattle.capture.specs.declared.segment.TcpSegment.{TcpSegment}
 use Rattle.capture.specs.Blocks.{block}
 use Rattle.capture.specs.Segments.{packet}
 
 -- a segment with its data, and a comment on it
 pub record Sent : Type 0 where
-  pub segment : Segment
+  pub segment : TcpSegment
   pub payload : List ℕ
   pub comment : List ℕ
 
@@ -23,7 +23,7 @@ sent_blocks micros sent = flat_map (sent_block micros) sent
 -- ---- Segments
 
 -- a segment of one end: its own number, and the other's
-abbrev pub segment_of : Connection → (is_up : Bool) → (flags : ℕ) → Segment
+abbrev pub segment_of : Connection → (is_up : Bool) → (flags : ℕ) → TcpSegment
 segment_of c is_up flags = record {
   is_up = is_up;
   port = c.port;

@@ -5,7 +5,7 @@ ghost use Rattle.capture.specs.Connections.{counted as counted_after, segment_of
 ghost use Rattle.capture.specs.Connections.{sent_block, sent_blocks, Carries, Closes, Cuts, Opens};
 
 use crate::pcapng::{Interface, put_block};
-use crate::segment::Segment;
+use crate::segment::TcpSegment;
 use std::alloc::AllocError;
 use traces::Page;
 
@@ -37,7 +37,7 @@ fn put_sent(
     page: &mut Page,
     packet: &mut Page,
     micros: u64,
-    segment: Segment,
+    segment: TcpSegment,
     payload: &[u8],
     comment: &[u8],
 ) -> Result<(), AllocError>
@@ -67,10 +67,10 @@ impl Connection {
     };
 
     /// A segment of one end: its own number, and the other's.
-    fn segment(self, is_up: bool, flags: u8) -> Segment
+    fn segment(self, is_up: bool, flags: u8) -> TcpSegment
         ensures { result ≡ segment_of self is_up flags }
     {
-        Segment {
+        TcpSegment {
             is_up,
             port: self.port,
             sequence: if is_up { self.up } else { self.down },

@@ -10,7 +10,7 @@ use traces::Page;
 
 /// The header of a segment between the control centre and the gateway.
 #[derive(Clone, Copy)]
-pub(crate) struct Segment {
+pub(crate) struct TcpSegment {
     /// It goes from the gateway to the control centre.
     pub(crate) is_up: bool,
     /// The port of the control centre.
@@ -59,7 +59,7 @@ fn checksum(sum: u64) -> u16
     (65_535 - folded(folded(folded(sum)))) as u16
 }
 
-impl Segment {
+impl TcpSegment {
     ghost use Rattle.capture.specs.Segments.{destination as destination_of};
     ghost use Rattle.capture.specs.Segments.{destination_port as destination_port_of, packet};
     ghost use Rattle.capture.specs.Segments.{packet_sum as packet_sum_of};

@@ -6,13 +6,13 @@ use Rattle.std.specs.List.{filter_map, AllByRecursion, cons_option}
 use Rattle.asdu.specs.Asdu.{AsduValue, Info}
 use Rattle.asdu.specs.declared.sizes.Sizes.{Sizes}
 use Rattle.command.specs.declared.content.Command.{Command}
-use Rattle.command.specs.declared.content.Element.{Element}
+use Rattle.command.specs.declared.content.CommandElement.{CommandElement}
 use Rattle.command.specs.declared.content.Target.{Target}
 use Rattle.command.specs.declared.station.StationInfo.{StationInfo}
 use Rattle.command.specs.declared.waiting.Waiting.{Waiting}
 use Rattle.command.specs.declared.selection.Selection.{Selection}
-use Rattle.command.specs.declared.selection.Stage.{Stage}
-use Rattle.command.specs.declared.selection.Stage.TheVariants as stage
+use Rattle.command.specs.declared.selection.SelectStage.{SelectStage}
+use Rattle.command.specs.declared.selection.SelectStage.TheVariants as stage
 use Rattle.command.specs.declared.selection.Sign.{Sign}
 use Rattle.command.specs.declared.selection.Sign.TheVariants as sign
 use Rattle.command.specs.Octets.{negative}
@@ -43,20 +43,21 @@ pick P false x y p q = q
 abbrev HasCommand : Command → Selection → Type 0
 HasCommand c z = z.command ≡ c
 
-sending_keeps : (z : Selection) (st : Stage) → Perhaps (HasCommand z.command) (after_sending st z)
+sending_keeps : (z : Selection) (st : SelectStage)
+    → Perhaps (HasCommand z.command) (after_sending st z)
 sending_keeps z (stage.Queued ahead) = pick (HasCommand z.command) (ahead == 0) _ _ refl refl
 sending_keeps z stage.Sent = tt
 sending_keeps z stage.Accepted = refl
 sending_keeps z (stage.Live since) = refl
 
-acceptance_keeps : (z : Selection) (st : Stage)
+acceptance_keeps : (z : Selection) (st : SelectStage)
     → Perhaps (HasCommand z.command) (after_acceptance st z)
 acceptance_keeps z (stage.Queued ahead) = refl
 acceptance_keeps z stage.Sent = refl
 acceptance_keeps z stage.Accepted = refl
 acceptance_keeps z (stage.Live since) = refl
 
-loss_keeps : (z : Selection) (st : Stage) → Perhaps (HasCommand z.command) (after_loss st z)
+loss_keeps : (z : Selection) (st : SelectStage) → Perhaps (HasCommand z.command) (after_loss st z)
 loss_keeps z (stage.Queued ahead) = refl
 loss_keeps z stage.Sent = tt
 loss_keeps z stage.Accepted = refl
@@ -221,7 +222,8 @@ all_over v (i ∷ is) s d = all_over v is (heeded (sign.Over (target_at v i)) s)
 heeds : (v : AsduValue) (now : ℕ) (s : State) → Keeps s → Keeps (mirrors.mirrored v now s)
 heeds v now s d = by_sign (is_con true v.cause)
   where
-    confirmed : (e : Option Element) (target : Target) → Keeps (mirrors.confirmed e target now s)
+    confirmed : (e : Option CommandElement) (target : Target)
+        → Keeps (mirrors.confirmed e target now s)
     confirmed None target = d
     confirmed (Some element) target = logs (sign.Con target element now) s d
 

@@ -9,12 +9,12 @@ use Rattle.asdu.specs.Asdu.{AsduValue, Info}
 use Rattle.asdu.specs.declared.sizes.Sizes.{Sizes}
 use Rattle.command.specs.declared.content.Command.{Command}
 use Rattle.command.specs.declared.content.Target.{Target}
-use Rattle.command.specs.declared.content.Element.{Element}
+use Rattle.command.specs.declared.content.CommandElement.{CommandElement}
 use Rattle.command.specs.declared.station.StationInfo.{StationInfo}
 use Rattle.command.specs.declared.waiting.Waiting.{Waiting}
 use Rattle.command.specs.declared.selection.Selection.{Selection}
-use Rattle.command.specs.declared.selection.Stage.{Stage}
-use Rattle.command.specs.declared.selection.Stage.TheVariants as stage
+use Rattle.command.specs.declared.selection.SelectStage.{SelectStage}
+use Rattle.command.specs.declared.selection.SelectStage.TheVariants as stage
 use Rattle.command.specs.declared.selection.Sign.TheVariants as sign
 use Rattle.command.specs.Octets.{answer, negative}
 use Rattle.command.specs.Command.{command_at, is_execute, is_deactivation}
@@ -130,7 +130,7 @@ module _ (sizes : Sizes) (stations : List StationInfo) (ms age : ℕ) where
       (q : KeepsQueue sizes stations ms age waiting h) where
     old : (a : Option (List ℕ)) (ys : List Selection) (t : Target) (z : Select)
         → standing sizes stations ms age t h ≡ Some z
-        → ((st : Stage) → Kept (at sizes stations ms age z st) zs
+        → ((st : SelectStage) → Kept (at sizes stations ms age z st) zs
         → Kept (at sizes stations ms age z st) ys)
         → Stands sizes stations ms age (Judged now wall xs a ∷ h) now ys t z
     old a ys t z e f =
@@ -345,17 +345,17 @@ module _ (s : State) (h : History) (before : ℕ)
     abbrev confirms_now : Select → Bool
     confirms_now z = confirms z.command v && nat_lt (now - z.came) s.select_ms
 
-    abbrev place : Select → Stage → Selection
+    abbrev place : Select → SelectStage → Selection
     place z st = at s.sizes s.stations s.select_ms s.max_age_ms z st
 
     -- what becomes of the select that stands for a target which isn't negated
     module _ (ys : List Selection)
         (stays : (t : Target) (z : Select) → target_of z.command ≡ t → negates t v ≡ false
-        → (st : Stage)
+        → (st : SelectStage)
         → (is_accepted st && confirms_now z) ≡ false → Kept (place z st) s.selections
         → Kept (place z st) ys)
         (lives : (t : Target) (z : Select) → target_of z.command ≡ t → negates t v ≡ false
-        → (st : Stage)
+        → (st : SelectStage)
         → (is_accepted st && confirms_now z) ≡ true → Kept (place z st) s.selections
         → Kept (place z (stage.Live now)) ys) where
       by_negation : (t : Target) (z : Select) (n : Bool) → negates t v ≡ n
@@ -410,14 +410,14 @@ module _ (s : State) (h : History) (before : ℕ)
         (λ t z e n st a k. false_is_true
         (sym (and_false_right (is_accepted st) (confirms_now z) (rw p refl)) ∙ a)))
 
-    abbrev con : Info → Element → List Selection
+    abbrev con : Info → CommandElement → List Selection
     con i f = After s.sizes s.stations s.select_ms s.max_age_ms (sign.Con (target_at v i) f now)
         s.selections
 
     -- the test that the machine makes is the one that the history makes
     test_is : is_con true v.cause ≡ false → is_con false v.cause ≡ true → (i : Info) → v.infos
-        ≡ i ∷ [] → (f : Element)
-        → element_of i.element ≡ Some f → (z : Select) (st : Stage) →
+        ≡ i ∷ [] → (f : CommandElement)
+        → element_of i.element ≡ Some f → (z : Select) (st : SelectStage) →
         (same_target (target_of z.command) (target_at v i) && same_element z.command.element f
         && is_accepted st
         && nat_lt (now - z.came) s.select_ms) ≡ (is_accepted st && confirms_now z)
@@ -435,7 +435,7 @@ module _ (s : State) (h : History) (before : ℕ)
 
     on_element : is_con true v.cause ≡ false → is_con false v.cause ≡ true → (i : Info) → v.infos
         ≡ i ∷ []
-        → (f : Option Element) → element_of i.element ≡ f
+        → (f : Option CommandElement) → element_of i.element ≡ f
         → Mirrors (mirrors.confirmed f (target_at v i) now s)
     on_element n p i one None e =
         unchanged (λ z. rw (n, p, one, e) (and_false_right

@@ -22,13 +22,13 @@ use Rattle.command.specs.Restored.{HasSettings}
 use Rattle.command.specs.declared.content.Command.{Command}
 use Rattle.command.specs.declared.refusal.Refusal.{Refusal}
 use Rattle.command.specs.declared.selection.Selection.{Selection}
-use Rattle.command.specs.declared.selection.Stage.{Stage}
-use Rattle.command.specs.declared.selection.Stage.TheVariants.{Queued, Sent, Accepted, Live}
+use Rattle.command.specs.declared.selection.SelectStage.{SelectStage}
+use Rattle.command.specs.declared.selection.SelectStage.TheVariants.{Queued, Sent, Accepted, Live}
 use Rattle.command.specs.declared.selection.Sign.TheVariants as sign
 use Rattle.command.proofs.Kept.{copies_count}
 
 -- a select that waits lets nothing through, however long it waits
-live_alike : (ms now : ℕ) (stage : Stage) → is_live ms now (settled_stage stage)
+live_alike : (ms now : ℕ) (stage : SelectStage) → is_live ms now (settled_stage stage)
     ≡ is_live ms now stage
 live_alike ms now (Queued ahead) = refl
 live_alike ms now Sent = refl

@@ -11,8 +11,8 @@ use Rattle.command.specs.declared.content.Target.{Target}
 use Rattle.command.specs.declared.station.StationInfo.{StationInfo}
 use Rattle.command.specs.declared.waiting.Waiting.{Waiting}
 use Rattle.command.specs.declared.selection.Selection.{Selection}
-use Rattle.command.specs.declared.selection.Stage.{Stage}
-use Rattle.command.specs.declared.selection.Stage.TheVariants as stage
+use Rattle.command.specs.declared.selection.SelectStage.{SelectStage}
+use Rattle.command.specs.declared.selection.SelectStage.TheVariants as stage
 use Rattle.command.specs.declared.selection.Sign.TheVariants as sign
 use Rattle.command.specs.declared.waiting.Line.{Line}
 use Rattle.command.specs.Command.{command_at, is_execute, without_select}
@@ -387,7 +387,8 @@ module _ (s : State) (h : History) (xs : List ℕ) (now : ℕ) (wall : Option �
   on_lack l f false e = on_ends (l e) f (ends_selection (command_at xs)) refl
 
   -- a selection that lets it through is its select
-  live_at : (z : Selection) (t : Tied s.sizes s.stations s.select_ms s.max_age_ms h z) (st : Stage)
+  live_at : (z : Selection) (t : Tied s.sizes s.stations s.select_ms s.max_age_ms h z)
+      (st : SelectStage)
       → AtStage s.sizes s.stations s.select_ms s.max_age_ms st
       (station_at s.sizes s.stations s.select_ms s.max_age_ms z.command)
       (select_of s.sizes s.stations s.select_ms s.max_age_ms z t.place) h →

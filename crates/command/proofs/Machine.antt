@@ -12,7 +12,7 @@ use Rattle.command.specs.Judging.{fault, makes_selection, ends_selection}
 use Rattle.command.specs.Mirrors.{is_con, target_at, element_of}
 use Rattle.command.specs.History.{Judged, Mirrored, Ended, History, forwarded_to, is_accepted_at}
 use Rattle.command.specs.declared.content.Command.{Command}
-use Rattle.command.specs.declared.content.Element.{Element}
+use Rattle.command.specs.declared.content.CommandElement.{CommandElement}
 use Rattle.command.specs.declared.content.Target.{Target}
 use Rattle.command.specs.declared.station.StationInfo.{StationInfo}
 
@@ -29,7 +29,7 @@ pub record Select : Type 0 where
 abbrev pub negates : Target → AsduValue → Bool
 negates target v = is_con true v.cause && list_any (λ i. same_target target (target_at v i)) v.infos
 
-abbrev pub is_element : Element → Option Element → Bool
+abbrev pub is_element : CommandElement → Option CommandElement → Bool
 is_element e None = false
 is_element e (Some f) = same_element e f
 

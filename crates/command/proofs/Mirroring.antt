@@ -4,11 +4,11 @@ use Rattle.std.specs.Prelude.{Option, Some, None, if◌then◌else◌, nat_lt}
 use Rattle.std.specs.List.{filter_map, list_any, AllByRecursion}
 use Rattle.asdu.specs.Asdu.{AsduValue, Info}
 use Rattle.asdu.specs.declared.sizes.Sizes.{Sizes}
-use Rattle.command.specs.declared.content.Element.{Element}
+use Rattle.command.specs.declared.content.CommandElement.{CommandElement}
 use Rattle.command.specs.declared.station.StationInfo.{StationInfo}
 use Rattle.command.specs.declared.selection.Selection.{Selection}
-use Rattle.command.specs.declared.selection.Stage.{Stage}
-use Rattle.command.specs.declared.selection.Stage.TheVariants as stage
+use Rattle.command.specs.declared.selection.SelectStage.{SelectStage}
+use Rattle.command.specs.declared.selection.SelectStage.TheVariants as stage
 use Rattle.command.specs.declared.selection.Sign.TheVariants as sign
 use Rattle.command.specs.Selection.{advanced, target_of, same_target, same_element, is_accepted}
 use Rattle.command.specs.Selection.{with_stage}
@@ -76,7 +76,7 @@ module _ (sizes : Sizes) (stations : List StationInfo) (select_ms max_age_ms : �
   -- nothing is confirmed
   stage_stays : (h : History) (now : ℕ) (v : AsduValue) (k : ℕ) (c : Select) → confirms c.command v
       ≡ false
-      → (st : Stage) → AtStage sizes stations select_ms max_age_ms st k c h
+      → (st : SelectStage) → AtStage sizes stations select_ms max_age_ms st k c h
       → AtStage sizes stations select_ms max_age_ms st k c (Mirrored now v ∷ h)
   stage_stays h now v k c e (stage.Queued n) a = a
   stage_stays h now v k c e stage.Sent a = a
@@ -99,7 +99,7 @@ module _ (sizes : Sizes) (stations : List StationInfo) (select_ms max_age_ms : �
   -- a con of one object; m: it names the select, x: it comes in time
   con_at : (h : History) (now : ℕ) (v : AsduValue) (z : Selection) → negates (target_of z.command) v
       ≡ false
-      → (t : Tied sizes stations select_ms max_age_ms h z) → (st : Stage)
+      → (t : Tied sizes stations select_ms max_age_ms h z) → (st : SelectStage)
       → AtStage sizes stations select_ms max_age_ms st
       (station_at sizes stations select_ms max_age_ms z.command)
       (select_of sizes stations select_ms max_age_ms z t.place) h →
@@ -165,7 +165,8 @@ module _ (sizes : Sizes) (stations : List StationInfo) (select_ms max_age_ms : �
     at_stage = (a.0, rw e a.1);
   }
 
-  con : (h : History) (now : ℕ) (v : AsduValue) (i : Info) (f : Element) → is_con true v.cause
+  con : (h : History) (now : ℕ) (v : AsduValue) (i : Info) (f : CommandElement)
+      → is_con true v.cause
       ≡ false
       → is_con false v.cause ≡ true → v.infos ≡ i ∷ [] → element_of i.element ≡ Some f
       → (z : Selection)
@@ -239,7 +240,7 @@ module _ (s : State) (h : History) (v : AsduValue) (now : ℕ)
 
   on_element : is_con true v.cause ≡ false → is_con false v.cause ≡ true → (i : Info)
       → v.infos ≡ i ∷ []
-      → (f : Option Element) → element_of i.element ≡ f
+      → (f : Option CommandElement) → element_of i.element ≡ f
       → Goal (mirrors.confirmed f (target_at v i) now s)
   on_element n p i one None e = unchanged (λ z. and_off _ _ n)
       (λ z. rw (n, p, one, e) (and_off_right (same_target (target_of z.command) (target_at v i))

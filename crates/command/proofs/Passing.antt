@@ -10,8 +10,8 @@ use Rattle.asdu.specs.declared.sizes.Sizes.{Sizes}
 use Rattle.command.specs.declared.content.Command.{Command}
 use Rattle.command.specs.declared.station.StationInfo.{StationInfo}
 use Rattle.command.specs.declared.selection.Selection.{Selection}
-use Rattle.command.specs.declared.selection.Stage.{Stage}
-use Rattle.command.specs.declared.selection.Stage.TheVariants as stage
+use Rattle.command.specs.declared.selection.SelectStage.{SelectStage}
+use Rattle.command.specs.declared.selection.SelectStage.TheVariants as stage
 use Rattle.command.specs.declared.selection.Sign.{Sign}
 use Rattle.command.specs.declared.selection.Sign.TheVariants as sign
 use Rattle.command.specs.Selection.{advanced, lasts_from, is_accepted}
@@ -194,7 +194,7 @@ module _ (sizes : Sizes) (stations : List StationInfo) (select_ms max_age_ms : �
 
   -- ---- how far a select has come
 
-  abbrev pub at : Select → Stage → Selection
+  abbrev pub at : Select → SelectStage → Selection
   at z st = record { station = home z.command; command = z.command; came = z.came; stage = st }
 
   -- in the history it has come so far, and a selection is kept that says so; or it can't come
@@ -361,13 +361,14 @@ module _ (sizes : Sizes) (stations : List StationInfo) (select_ms max_age_ms : �
 
   -- ---- time
 
-  in_time : (z : Select) (now : ℕ) (st : Stage) (zs : List Selection) → Kept (at z st) zs
+  in_time : (z : Select) (now : ℕ) (st : SelectStage) (zs : List Selection) → Kept (at z st) zs
       → nat_le select_ms (now - lasts_from (at z st) st) ≡ false
       → Kept (at z st) (After (sign.Time now) zs)
   in_time z now st zs k e = kept_mapped (advanced select_ms (sign.Time now)) (at z st) (at z st)
       (rw e refl) zs k
 
-  timed_out : (h : History) (zs : List Selection) (now : ℕ) (z : Select) (st : Stage) (b : Bool)
+  timed_out : (h : History) (zs : List Selection) (now : ℕ) (z : Select) (st : SelectStage)
+      (b : Bool)
       → nat_le select_ms (now - lasts_from (at z st) st) ≡ b → Kept (at z st) zs →
       (Kept (at z st) (After (sign.Time now) zs) → Found h now (After (sign.Time now) zs) z)
       → (select_ms ≤ now - lasts_from (at z st) st → Found h now (After (sign.Time now) zs) z)
@@ -400,7 +401,7 @@ module _ (sizes : Sizes) (stations : List StationInfo) (select_ms max_age_ms : �
   pub moved : (h : History) (latest : ℕ) (zs ys : List Selection) (now : ℕ) (wall : Option ℕ)
       (xs : List ℕ)
       (answer : Option (List ℕ)) (z : Select) → latest ≤ now
-      → ((st : Stage) → Kept (at z st) zs → Kept (at z st) ys)
+      → ((st : SelectStage) → Kept (at z st) zs → Kept (at z st) ys)
       → Found h latest zs z → Found (Judged now wall xs answer ∷ h) now ys z
   moved h latest zs ys now wall xs answer z l f (Waits n p k) = Waits n p (f _ k)
   moved h latest zs ys now wall xs answer z l f (Goes p a k) = Goes p a (f _ k)
@@ -439,8 +440,8 @@ module _ (sizes : Sizes) (stations : List StationInfo) (select_ms max_age_ms : �
       (z : Select) (c : Bool)
       → (confirms z.command v && nat_lt (now - z.came) select_ms) ≡ c → latest ≤ now
       → z.came ≤ latest →
-      ((st : Stage) → (is_accepted st && c) ≡ false → Kept (at z st) zs → Kept (at z st) ys)
-      → ((st : Stage) → (is_accepted st && c) ≡ true → Kept (at z st) zs
+      ((st : SelectStage) → (is_accepted st && c) ≡ false → Kept (at z st) zs → Kept (at z st) ys)
+      → ((st : SelectStage) → (is_accepted st && c) ≡ true → Kept (at z st) zs
       → Kept (at z (stage.Live now)) ys) →
       Found h latest zs z → Found (Mirrored now v ∷ h) now ys z
   heeded h latest zs ys now v z false e l came stays lives (Waits n p k) =

@@ -11,8 +11,8 @@ use Rattle.asdu.specs.Asdu.{AsduValue, Info}
 use Rattle.asdu.specs.Sizes.{tcp}
 use Rattle.asdu.specs.Fields.{ca_at, first_address}
 use Rattle.asdu.specs.declared.sizes.Sizes.{Sizes}
-use Rattle.command.specs.declared.content.Element.{Element}
-use Rattle.command.specs.declared.content.Element.TheVariants.{Octet, SetPoint}
+use Rattle.command.specs.declared.content.CommandElement.{CommandElement}
+use Rattle.command.specs.declared.content.CommandElement.TheVariants.{Octet, SetPoint}
 use Rattle.command.specs.declared.station.StationInfo.{StationInfo}
 use Rattle.command.specs.Standard.{common_address, object_address, has_tag, plain_type, operates}
 use Rattle.command.specs.Standard.{tag_length, tag_of, element_part, whole_length, is_fresh}
@@ -159,7 +159,7 @@ objects_read xs v i = by _ (ca_at tcp xs) (first_address tcp xs) (kind_read (sli
 
 -- ---- elements
 
-pub apart_read : (e f : Element) → nat_lt (qualifier f) 128 ≡ true
+pub apart_read : (e f : CommandElement) → nat_lt (qualifier f) 128 ≡ true
     → same_element (without_select e) f ≡ are_equal (apart_from_select (element_octets e))
     (apart_from_select (element_octets f))
 apart_read (Octet x) (Octet y) h =
@@ -172,7 +172,7 @@ apart_read (SetPoint a b c) (SetPoint x y z) h =
 apart_read (Octet x) (SetPoint a b c) h = sym (and_right_false (x % 128 == a))
 apart_read (SetPoint a b c) (Octet x) h = sym (and_right_false (a == x % 128))
 
-pub element_read : (e : Element) (ys : List ℕ) → is_element e (element_of ys)
+pub element_read : (e : CommandElement) (ys : List ℕ) → is_element e (element_of ys)
     ≡ are_equal (element_octets e) ys
 element_read (Octet x) [] = refl
 element_read (Octet x) (y ∷ []) = sym (and_right_true (x == y))

@@ -7,16 +7,16 @@ use Rattle.command.specs.Selection.{advanced, after_sending, after_acceptance, a
 use Rattle.command.specs.Selection.{is_accepted}
 use Rattle.command.specs.State.{State, heeded}
 use Rattle.command.specs.declared.selection.Selection.{Selection}
-use Rattle.command.specs.declared.selection.Stage.{Stage}
-use Rattle.command.specs.declared.selection.Stage.TheVariants.{Queued, Sent, Accepted, Live}
+use Rattle.command.specs.declared.selection.SelectStage.{SelectStage}
+use Rattle.command.specs.declared.selection.SelectStage.TheVariants.{Queued, Sent, Accepted, Live}
 use Rattle.command.specs.declared.selection.Sign.{Sign}
 use Rattle.command.specs.declared.selection.Sign.TheVariants as sign
 
 -- a step of the line changes nothing of a selection that its station accepted
-accepted_stays : (f : Stage → Selection → Option Selection)
+accepted_stays : (f : SelectStage → Selection → Option Selection)
     → ((z : Selection) → f Accepted z ≡ Some z)
     → ((since : ℕ) (z : Selection) → f (Live since) z ≡ Some z)
-    → (z : Selection) (here : Bool) (stage : Stage)
+    → (z : Selection) (here : Bool) (stage : SelectStage)
     → (here && not (is_accepted stage)) ≡ false → (if here then f stage z else Some z) ≡ Some z
 accepted_stays f at live z false stage e = refl
 accepted_stays f at live z true (Queued ahead) e = absurd (let no : ⊥ = cc in no)

@@ -23,7 +23,7 @@ use Rattle.command.specs.Command.{is_command_type, is_process_command, is_tagged
 use Rattle.command.specs.Command.{is_set_point, element_len, tag_len, command_len, element_at}
 use Rattle.command.specs.Command.{element_octets, command_at, command_octets}
 use Rattle.command.specs.declared.station.StationInfo.{StationInfo}
-use Rattle.command.specs.declared.content.Element.TheVariants.{Octet, SetPoint}
+use Rattle.command.specs.declared.content.CommandElement.TheVariants.{Octet, SetPoint}
 use Rattle.command.specs.Octets.{negative}
 use Rattle.command.specs.Judging.{is_single, fault, address_fault, form_fault}
 use Rattle.command.specs.History.{typed_line_octets}

@@ -12,8 +12,8 @@ use Rattle.command.specs.declared.content.Command.{Command}
 use Rattle.command.specs.declared.content.Target.{Target}
 use Rattle.command.specs.declared.station.StationInfo.{StationInfo}
 use Rattle.command.specs.declared.selection.Selection.{Selection}
-use Rattle.command.specs.declared.selection.Stage.{Stage}
-use Rattle.command.specs.declared.selection.Stage.TheVariants as stage
+use Rattle.command.specs.declared.selection.SelectStage.{SelectStage}
+use Rattle.command.specs.declared.selection.SelectStage.TheVariants as stage
 use Rattle.command.specs.declared.selection.Sign.TheVariants as sign
 use Rattle.command.specs.Standard.{plain_type, common_address, object_address}
 use Rattle.command.specs.Standard as standard
@@ -67,7 +67,8 @@ module _ (sizes : Sizes) (stations : List StationInfo) (ms age : ℕ) (h : Histo
   come : (y : Selection) (t : Tied sizes stations ms age h y) (z : Select)
       → machine_select z ≡ select_of sizes stations ms age y t.place → IsGood z.octets
       → station_at sizes stations ms age y.command ≡ standard.station_of stations z.octets →
-      (st : Stage) → AtStage sizes stations ms age st (station_at sizes stations ms age y.command)
+      (st : SelectStage)
+      → AtStage sizes stations ms age st (station_at sizes stations ms age y.command)
       (select_of sizes stations ms age y t.place) h → HasCome sizes stations ms age st z h
   come y t z is g home (stage.Queued n) a =
       ap (λ (w : machine.Select). w.place) is
@@ -181,7 +182,7 @@ module _ (sizes : Sizes) (stations : List StationInfo) (ms age now : ℕ) (h : H
 
   by_stage : (y : Selection) (z : Select) (xs : List ℕ) → standing sizes stations ms age xs h
       ≡ Some z
-      → y.came ≡ z.came → (st : Stage) → HasCome sizes stations ms age st z h
+      → y.came ≡ z.came → (st : SelectStage) → HasCome sizes stations ms age st z h
       → now - lasts_from y st < ms
       → now - unwrap_or (confirmed_at sizes stations ms age z h) z.came < ms
   by_stage y z xs e same (stage.Queued n) a quick = since_came z xs e

@@ -5,7 +5,7 @@ use Rattle.std.specs.Prelude.{◌==◌, Option, Some, None, if◌then◌else◌,
 use Rattle.std.proofs.lemmas.Bool.{eqb-true}
 use Rattle.asdu.specs.Asdu.{AsduValue, Info}
 use Rattle.command.specs.declared.content.Command.{Command}
-use Rattle.command.specs.declared.content.Element.{Element}
+use Rattle.command.specs.declared.content.CommandElement.{CommandElement}
 use Rattle.command.specs.declared.content.Target.{Target}
 use Rattle.command.specs.declared.waiting.Waiting.{Waiting}
 use Rattle.command.specs.declared.selection.Selection.{Selection}
@@ -142,7 +142,7 @@ mirroring_keeps P of_selections v now s p = by_sign (is_con true v.cause)
     all_over (i ∷ is) t q = all_over is (state.heeded (sign.Over (target_at v i)) t)
         (of_selections t _ q)
 
-    confirmed : (e : Option Element) (target : Target) → P (mirrors.confirmed e target now s)
+    confirmed : (e : Option CommandElement) (target : Target) → P (mirrors.confirmed e target now s)
     confirmed None target = p
     confirmed (Some element) target = of_selections s _ p
 

@@ -9,8 +9,8 @@ use Rattle.asdu.specs.declared.sizes.Sizes.{Sizes}
 use Rattle.command.specs.declared.content.Command.{Command}
 use Rattle.command.specs.declared.station.StationInfo.{StationInfo}
 use Rattle.command.specs.declared.selection.Selection.{Selection}
-use Rattle.command.specs.declared.selection.Stage.{Stage}
-use Rattle.command.specs.declared.selection.Stage.TheVariants as stage
+use Rattle.command.specs.declared.selection.SelectStage.{SelectStage}
+use Rattle.command.specs.declared.selection.SelectStage.TheVariants as stage
 use Rattle.command.specs.declared.selection.Sign.TheVariants as sign
 use Rattle.command.specs.Selection.{advanced, target_of, after_sending, after_acceptance}
 use Rattle.command.specs.Selection.{after_loss}
@@ -53,7 +53,7 @@ module _ (sizes : Sizes) (stations : List StationInfo) (select_ms max_age_ms : �
   abbrev pub select_of : Selection → ℕ → Select
   select_of z place = record { command = z.command; came = z.came; place = place }
 
-  abbrev pub AtStage : Stage → ℕ → Select → History → Type 0
+  abbrev pub AtStage : SelectStage → ℕ → Select → History → Type 0
   AtStage (stage.Queued ahead) k c h = c.place ≡ sent_count sizes stations select_ms max_age_ms k h
       + ahead
   AtStage stage.Sent k c h = place_on_line sizes stations select_ms max_age_ms k h ≡ Some c.place
@@ -71,7 +71,7 @@ module _ (sizes : Sizes) (stations : List StationInfo) (select_ms max_age_ms : �
     pub at_stage : AtStage z.stage (station_at z.command) (select_of z place) h
 
   -- z at stage st
-  abbrev pub at : Selection → Stage → Selection
+  abbrev pub at : Selection → SelectStage → Selection
   at z st = record { station = z.station; command = z.command; came = z.came; stage = st }
 
   abbrev stands_in : History → Selection → ℕ → Type 0
@@ -81,7 +81,7 @@ module _ (sizes : Sizes) (stations : List StationInfo) (select_ms max_age_ms : �
   -- a first sending to station j; here k is the selection's station
   sending_at : (h : History) (octets : List ℕ) (j : ℕ) (z : Selection) (p : ℕ) (s : z.station
       ≡ station_at z.command)
-      (d : stands_in h z p) (st : Stage) →
+      (d : stands_in h z p) (st : SelectStage) →
       AtStage st (station_at z.command) (select_of z p) h → (b : Bool) → (station_at z.command == j)
       ≡ b →
       Perhaps (Tied (Sent j octets ∷ h)) (if b then after_sending st (at z st) else Some (at z st))
@@ -131,7 +131,7 @@ module _ (sizes : Sizes) (stations : List StationInfo) (select_ms max_age_ms : �
 
   acceptance_at : (h : History) (j : ℕ) (z : Selection) (p : ℕ) (s : z.station
       ≡ station_at z.command)
-      (d : stands_in h z p) (st : Stage) →
+      (d : stands_in h z p) (st : SelectStage) →
       AtStage st (station_at z.command) (select_of z p) h → (b : Bool) → (station_at z.command == j)
       ≡ b →
       Perhaps (Tied (Accepted j ∷ h)) (if b then after_acceptance st (at z st) else Some (at z st))
@@ -175,7 +175,7 @@ module _ (sizes : Sizes) (stations : List StationInfo) (select_ms max_age_ms : �
   -- the command on the line is done without being accepted
   refusal_at : (h : History) (j : ℕ) (answer : Option (List ℕ)) (z : Selection) (p : ℕ)
       (s : z.station
-      ≡ station_at z.command) (d : stands_in h z p) (st : Stage) →
+      ≡ station_at z.command) (d : stands_in h z p) (st : SelectStage) →
       AtStage st (station_at z.command) (select_of z p) h → (b : Bool) → (station_at z.command == j)
       ≡ b →
       Perhaps (Tied (Refused j answer ∷ h)) (if b then after_loss st (at z st) else Some (at z st))
@@ -203,7 +203,7 @@ module _ (sizes : Sizes) (stations : List StationInfo) (select_ms max_age_ms : �
 
   given_up_at : (h : History) (j : ℕ) (there : Bool) (z : Selection) (p : ℕ) (s : z.station
       ≡ station_at z.command)
-      (d : stands_in h z p) (st : Stage) →
+      (d : stands_in h z p) (st : SelectStage) →
       AtStage st (station_at z.command) (select_of z p) h → (b : Bool) → (station_at z.command == j)
       ≡ b →
       Perhaps (Tied (GivenUp j there ∷ h)) (if b then after_loss st (at z st) else Some (at z st))
@@ -242,7 +242,7 @@ module _ (sizes : Sizes) (stations : List StationInfo) (select_ms max_age_ms : �
   -- what is judged and isn't for the selection's target, or leaves its select standing
   judged_stage : (h : History) (now : ℕ) (wall : Option ℕ) (xs : List ℕ) (b : Option (List ℕ))
       (k : ℕ) (c : Select)
-      (st : Stage) → AtStage st k c h → AtStage st k c (Judged now wall xs b ∷ h)
+      (st : SelectStage) → AtStage st k c h → AtStage st k c (Judged now wall xs b ∷ h)
   judged_stage h now wall xs b k c (stage.Queued n) a = a
   judged_stage h now wall xs b k c stage.Sent a = a
   judged_stage h now wall xs b k c stage.Accepted a = a
@@ -264,7 +264,7 @@ module _ (sizes : Sizes) (stations : List StationInfo) (select_ms max_age_ms : �
   }
 
   -- what is told of own answers is no matter of selections
-  other_stage : (h : History) (octets : List ℕ) (b : Bool) (k : ℕ) (c : Select) (st : Stage)
+  other_stage : (h : History) (octets : List ℕ) (b : Bool) (k : ℕ) (c : Select) (st : SelectStage)
       → AtStage st k c h
       → AtStage st k c (Offered octets b ∷ h)
   other_stage h octets b k c (stage.Queued n) a = a
@@ -282,7 +282,7 @@ module _ (sizes : Sizes) (stations : List StationInfo) (select_ms max_age_ms : �
         other_stage h octets b (station_at z.command) (select_of z t.place) z.stage t.at_stage;
   }
 
-  answer_stage : (h : History) (octets : List ℕ) (k : ℕ) (c : Select) (st : Stage)
+  answer_stage : (h : History) (octets : List ℕ) (k : ℕ) (c : Select) (st : SelectStage)
       → AtStage st k c h
       → AtStage st k c (Answered octets ∷ h)
   answer_stage h octets k c (stage.Queued n) a = a

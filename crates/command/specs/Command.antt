@@ -8,8 +8,8 @@ use Rattle.asdu.specs.Asdu.{originator_octets}
 use Rattle.asdu.specs.Fields.{ca_at, first_address}
 use Rattle.asdu.specs.declared.sizes.Sizes.{Sizes}
 use Rattle.command.specs.declared.content.Command.{Command}
-use Rattle.command.specs.declared.content.Element.{Element}
-use Rattle.command.specs.declared.content.Element.TheVariants.{Octet, SetPoint}
+use Rattle.command.specs.declared.content.CommandElement.{CommandElement}
+use Rattle.command.specs.declared.content.CommandElement.TheVariants.{Octet, SetPoint}
 
 -- ---- What the octets hold
 
@@ -45,7 +45,7 @@ tag_len code = if is_tagged code then 7 else 0
 abbrev pub command_len : ℕ → ℕ
 command_len code = 9 + element_len (line_kind code) + tag_len code
 
-abbrev pub element_at : ℕ → List ℕ → Element
+abbrev pub element_at : ℕ → List ℕ → CommandElement
 element_at code xs =
     if is_set_point code then SetPoint (slice_index xs 0) (slice_index xs 1) (slice_index xs 2)
     else Octet (slice_index xs 0)
@@ -62,7 +62,7 @@ command_at xs = record {
   element = element_at (line_kind (slice_index xs 0)) (drop 9 xs);
 }
 
-abbrev pub element_octets : Element → List ℕ
+abbrev pub element_octets : CommandElement → List ℕ
 element_octets (Octet x) = x ∷ []
 element_octets (SetPoint low high qos) = low ∷ high ∷ qos ∷ []
 
@@ -77,12 +77,12 @@ command_octets s ca c =
 -- ---- What a command says
 
 -- the octet with S/E in bit 7: SCO, DCO, RCO, QOS
-abbrev pub qualifier : Element → ℕ
+abbrev pub qualifier : CommandElement → ℕ
 qualifier (Octet x) = x
 qualifier (SetPoint low high qos) = qos
 
 -- the element with S/E 0, as an execute has it
-abbrev pub without_select : Element → Element
+abbrev pub without_select : CommandElement → CommandElement
 without_select (Octet x) = Octet (x % 128)
 without_select (SetPoint low high qos) = SetPoint low high (qos % 128)
 

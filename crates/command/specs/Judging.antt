@@ -18,7 +18,7 @@ use Rattle.command.specs.declared.act.Act.TheVariants.{Forward, Own}
 use Rattle.command.specs.declared.content.Command.{Command}
 use Rattle.command.specs.declared.station.StationInfo.{StationInfo}
 use Rattle.command.specs.declared.selection.Selection.{Selection}
-use Rattle.command.specs.declared.selection.Stage.TheVariants.{Queued}
+use Rattle.command.specs.declared.selection.SelectStage.TheVariants.{Queued}
 use Rattle.command.specs.declared.selection.Sign.TheVariants as sign
 use Rattle.command.specs.declared.waiting.Waiting.{Waiting}
 

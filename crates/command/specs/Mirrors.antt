@@ -6,8 +6,8 @@ use Rattle.elements.specs.Types.{row}
 use Rattle.elements.specs.declared.tag.Cp56.{Cp56}
 use Rattle.asdu.specs.Asdu.{AsduValue, Info}
 use Rattle.command.specs.declared.content.Target.{Target}
-use Rattle.command.specs.declared.content.Element.{Element}
-use Rattle.command.specs.declared.content.Element.TheVariants.{Octet, SetPoint}
+use Rattle.command.specs.declared.content.CommandElement.{CommandElement}
+use Rattle.command.specs.declared.content.CommandElement.TheVariants.{Octet, SetPoint}
 use Rattle.command.specs.declared.selection.Sign.TheVariants as sign
 use Rattle.command.specs.State.{State, heeded}
 use Rattle.command.specs.Tags.{newest_tag}
@@ -16,7 +16,7 @@ use Rattle.command.specs.Tags.{newest_tag}
 abbrev pub is_con : Bool → ℕ → Bool
 is_con negated cause = cause % 64 == 7 && (if nat_le 64 (cause % 128) then negated else not negated)
 
-abbrev pub element_of : List ℕ → Option Element
+abbrev pub element_of : List ℕ → Option CommandElement
 element_of [] = None
 element_of (x ∷ []) = Some (Octet x)
 element_of (x ∷ y ∷ []) = None
@@ -32,7 +32,7 @@ abbrev pub all_over : AsduValue → List Info → State → State
 all_over v [] s = s
 all_over v (i ∷ is) s = all_over v is (heeded (sign.Over (target_at v i)) s)
 
-abbrev pub confirmed : Option Element → Target → ℕ → State → State
+abbrev pub confirmed : Option CommandElement → Target → ℕ → State → State
 confirmed None target now s = s
 confirmed (Some element) target now s = heeded (sign.Con target element now) s
 

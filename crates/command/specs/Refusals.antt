@@ -18,8 +18,8 @@ use Rattle.command.specs.declared.content.Command.{Command}
 use Rattle.command.specs.declared.refusal.Refusal.{Refusal}
 use Rattle.command.specs.declared.refusal.Refusal.TheVariants as refusal
 use Rattle.command.specs.declared.selection.Selection.{Selection}
-use Rattle.command.specs.declared.selection.Stage.{Stage}
-use Rattle.command.specs.declared.selection.Stage.TheVariants.{Queued}
+use Rattle.command.specs.declared.selection.SelectStage.{SelectStage}
+use Rattle.command.specs.declared.selection.SelectStage.TheVariants.{Queued}
 use Rattle.command.specs.declared.selection.Sign.TheVariants as sign
 
 -- ---- The rule
@@ -73,7 +73,7 @@ pub record Seen : Type 0 where
   pub waiting : ℕ
   pub selections : List Selection
 
-abbrev pub settled_stage : Stage → Stage
+abbrev pub settled_stage : SelectStage → SelectStage
 settled_stage (Queued ahead) = Queued 0
 settled_stage stage = stage
 

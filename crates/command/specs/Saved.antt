@@ -6,12 +6,12 @@ use Rattle.arrayvec.specs.ArrayVec.{ArrayVec}
 use Rattle.elements.specs.declared.tag.Cp56.{Cp56}
 use Rattle.command.specs.Command.{command_len, element_octets}
 use Rattle.command.specs.declared.content.Command.{Command}
-use Rattle.command.specs.declared.content.Element.{Element}
-use Rattle.command.specs.declared.content.Element.TheVariants.{Octet, SetPoint}
+use Rattle.command.specs.declared.content.CommandElement.{CommandElement}
+use Rattle.command.specs.declared.content.CommandElement.TheVariants.{Octet, SetPoint}
 use Rattle.command.specs.declared.content.Target.{Target}
 use Rattle.command.specs.declared.selection.Selection.{Selection}
-use Rattle.command.specs.declared.selection.Stage.{Stage}
-use Rattle.command.specs.declared.selection.Stage.TheVariants.{Queued, Sent, Accepted, Live}
+use Rattle.command.specs.declared.selection.SelectStage.{SelectStage}
+use Rattle.command.specs.declared.selection.SelectStage.TheVariants.{Queued, Sent, Accepted, Live}
 use Rattle.command.specs.declared.tags.Sending.{Sending}
 use Rattle.command.specs.declared.waiting.Waiting.{Waiting}
 use Rattle.command.specs.declared.waiting.Line.{Line}
@@ -94,14 +94,14 @@ line_in (kind ∷ ns) = line_by kind ns
 
 -- ---- Selections: station and moment, the select, its stage, and its element
 
-abbrev pub stage_number : Stage → ℕ
+abbrev pub stage_number : SelectStage → ℕ
 stage_number (Queued ahead) = 0
 stage_number Sent = 1
 stage_number Accepted = 2
 stage_number (Live since) = 3
 
 -- how many go out before it, or when the con came
-abbrev pub stage_detail : Stage → ℕ
+abbrev pub stage_detail : SelectStage → ℕ
 stage_detail (Queued ahead) = ahead
 stage_detail Sent = 0
 stage_detail Accepted = 0
@@ -121,7 +121,7 @@ are_fields kind received cause originator ca address =
     nat_lt kind 256 && nat_lt received 256 && nat_lt cause 256 && nat_lt originator 256
     && nat_lt ca 65536 && nat_lt address 4294967296
 
-abbrev pub is_savable_element : Element → Bool
+abbrev pub is_savable_element : CommandElement → Bool
 is_savable_element (Octet x) = nat_lt x 256
 is_savable_element (SetPoint x y z) = nat_lt x 256 && nat_lt y 256 && nat_lt z 256
 
@@ -132,13 +132,13 @@ is_savable_command c =
 abbrev pub is_savable_selection : Selection → Bool
 is_savable_selection z = is_savable_command z.command
 
-abbrev pub element_in : List ℕ → Option Element
+abbrev pub element_in : List ℕ → Option CommandElement
 element_in (x ∷ []) = if nat_lt x 256 then Some (Octet x) else None
 element_in (x ∷ y ∷ z ∷ []) =
     if nat_lt x 256 && nat_lt y 256 && nat_lt z 256 then Some (SetPoint x y z) else None
 element_in ns = None
 
-abbrev pub stage_in : ℕ → ℕ → Option Stage
+abbrev pub stage_in : ℕ → ℕ → Option SelectStage
 stage_in number detail =
     if number == 0 then Some (Queued detail)
     else (if number == 1 && detail == 0 then Some Sent
@@ -146,7 +146,7 @@ stage_in number detail =
     else (if number == 3 then Some (Live detail)
     else None)))
 
-abbrev pub command_with : (kind received cause originator ca address : ℕ) → Option Element →
+abbrev pub command_with : (kind received cause originator ca address : ℕ) → Option CommandElement →
     Option Command
 command_with kind received cause originator ca address None = None
 command_with kind received cause originator ca address (Some element) =
@@ -162,7 +162,7 @@ command_with kind received cause originator ca address (Some element) =
     })
     else None
 
-abbrev pub selection_with : ℕ → ℕ → Option Command → Option Stage → Option Selection
+abbrev pub selection_with : ℕ → ℕ → Option Command → Option SelectStage → Option Selection
 selection_with station came (Some command) (Some stage) =
     Some (record { station = station; command = command; came = came; stage = stage })
 selection_with station came command stage = None

@@ -10,8 +10,8 @@ use Rattle.command.specs.History.{History, Select, sent_count, place_on_line, is
 use Rattle.command.specs.History.{standing, confirmed_at}
 use Rattle.command.specs.declared.station.StationInfo.{StationInfo}
 use Rattle.command.specs.declared.selection.Selection.{Selection}
-use Rattle.command.specs.declared.selection.Stage.{Stage}
-use Rattle.command.specs.declared.selection.Stage.TheVariants.{Queued, Sent, Accepted, Live}
+use Rattle.command.specs.declared.selection.SelectStage.{SelectStage}
+use Rattle.command.specs.declared.selection.SelectStage.TheVariants.{Queued, Sent, Accepted, Live}
 
 -- it has the type on the line, the common address and the object address of these octets
 abbrev pub is_of : List ℕ → Selection → Bool
@@ -33,7 +33,7 @@ AreDistinct (y ∷ ys) = AllByRecursion (HaveTwoTargets y) ys × AreDistinct ys
 module _ (sizes : Sizes) (stations : List StationInfo) (select_ms max_age_ms : ℕ) where
   -- How far the select has come: so many commands of its station go out before it; it stands on the
   -- line; the station accepted it; its latest confirmation came at this moment.
-  abbrev pub HasCome : Stage → Select → History → Type 0
+  abbrev pub HasCome : SelectStage → Select → History → Type 0
   HasCome (Queued ahead) z h =
       z.place
       ≡ sent_count sizes stations select_ms max_age_ms (station_of stations z.octets) h + ahead

@@ -29,7 +29,7 @@ use crate::keeping::{
 use crate::mirrors::{element_of, is_con};
 use crate::restoring::{Parts, are_answers, read_parts, ring_of};
 use crate::saving::{put_items, put_list, put_ring};
-use crate::selection::{Selection, Sign, Stage};
+use crate::selection::{SelectStage, Selection, Sign};
 use crate::station::StationInfo;
 use crate::tags::{MOST_SENDINGS, Sending, newest_tag, no_sendings};
 use crate::waiting::{Line, Waiting};
@@ -436,7 +436,7 @@ impl Commands {
             command,
             came: now,
             // The command itself isn't among those yet: they go out before it.
-            stage: Stage::Queued(count_waiting(self.waiting.as_slice(), station)),
+            stage: SelectStage::Queued(count_waiting(self.waiting.as_slice(), station)),
         });
     }
 

@@ -22,7 +22,7 @@ use asdu::{CaSize, CauseSize, IoaSize, Sizes, head};
 
 /// The element of a command (IEC 60870-5-101, 7.2.6). S/E is bit 7 of its last octet.
 #[derive(Clone, Copy)]
-pub(crate) enum Element {
+pub(crate) enum CommandElement {
     /// SCO, DCO, RCO or QOI.
     Octet(u8),
     /// A value, low octet first, and its QOS.
@@ -49,33 +49,37 @@ pub(crate) struct Command {
     pub originator: u8,
     pub ca: u16,
     pub address: u32,
-    pub element: Element,
+    pub element: CommandElement,
 }
 
-impl Default for Element {
-    fn default() -> Element {
-        Element::Octet(0)
+impl Default for CommandElement {
+    fn default() -> CommandElement {
+        CommandElement::Octet(0)
     }
 }
 
-impl Element {
+impl CommandElement {
     /// The octet with S/E.
     pub(crate) fn qualifier(self) -> u8
         ensures { result ≡ qualifier_of self }
     {
         match self {
-            Element::Octet(octet) => octet,
-            Element::SetPoint(_, _, qos) => qos,
+            CommandElement::Octet(octet) => octet,
+            CommandElement::SetPoint(_, _, qos) => qos,
         }
     }
 
     /// The element with S/E 0.
-    pub(crate) fn without_select(self) -> Element
+    pub(crate) fn without_select(self) -> CommandElement
         ensures { result ≡ execute_of self }
     {
         match self {
-            Element::Octet(octet) => Element::Octet(octet & 0x7F),
-            Element::SetPoint(low, high, qos) => Element::SetPoint(low, high, qos & 0x7F),
+            CommandElement::Octet(octet) => CommandElement::Octet(octet & 0x7F),
+            CommandElement::SetPoint(low, high, qos) => CommandElement::SetPoint(
+                low,
+                high,
+                qos & 0x7F,
+            ),
         }
     }
 }
@@ -141,14 +145,14 @@ pub(crate) fn command_octets_of(kind: u8) -> usize
 }
 
 /// The element at the front of the octets.
-fn read_element(kind: u8, octets: &[u8]) -> Element
+fn read_element(kind: u8, octets: &[u8]) -> CommandElement
     requires { element_len kind ≤ length octets.now }
     ensures { result ≡ element_at kind octets.now }
 {
     if is_set_point(kind) {
-        Element::SetPoint(octets[0], octets[1], octets[2])
+        CommandElement::SetPoint(octets[0], octets[1], octets[2])
     } else {
-        Element::Octet(octets[0])
+        CommandElement::Octet(octets[0])
     }
 }
 
@@ -267,13 +271,13 @@ fn append_address<const N: usize>(out: &mut ArrayVec<u8, N>, size: IoaSize, addr
     }
 }
 
-fn append_element<const N: usize>(out: &mut ArrayVec<u8, N>, element: Element)
+fn append_element<const N: usize>(out: &mut ArrayVec<u8, N>, element: CommandElement)
     requires { array_vec_len out.old + 3 ≤ N }
     ensures { out.new.items ≡ out.old.items ++ element_octets element }
 {
     match element {
-        Element::Octet(octet) => append(out, &[octet]),
-        Element::SetPoint(low, high, qos) => append(out, &[low, high, qos]),
+        CommandElement::Octet(octet) => append(out, &[octet]),
+        CommandElement::SetPoint(low, high, qos) => append(out, &[low, high, qos]),
     }
 }
 

@@ -2,7 +2,7 @@
 ghost use Rattle.std.specs.Prelude.{◌≡◌, ◌≤◌, [], length, map};
 ghost use Rattle.command.specs.Refusals.{settled};
 
-use crate::selection::{Selection, Stage};
+use crate::selection::{SelectStage, Selection};
 use arrayvec::ArrayVec;
 use std::marker::Model;
 
@@ -47,7 +47,7 @@ impl Selection {
     {
         let stage = match self.stage {
             // The line goes on within the step, and no judgement looks at this number.
-            Stage::Queued(_) => Stage::Queued(0),
+            SelectStage::Queued(_) => SelectStage::Queued(0),
             stage => stage,
         };
         Selection { stage, ..self }

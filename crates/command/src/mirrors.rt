@@ -2,7 +2,7 @@
 ghost use Rattle.std.specs.Prelude.{◌≡◌};
 ghost use Rattle.command.specs.Mirrors.{is_con as con, element_of as element_in};
 
-use crate::content::Element;
+use crate::content::CommandElement;
 
 /// Whether it is the cause octet of an activation con with this P/N.
 pub(crate) fn is_con(negated: bool, cause: u8) -> bool
@@ -13,12 +13,12 @@ pub(crate) fn is_con(negated: bool, cause: u8) -> bool
 }
 
 /// The element that the octets hold.
-pub(crate) fn element_of(octets: &[u8]) -> Option<Element>
+pub(crate) fn element_of(octets: &[u8]) -> Option<CommandElement>
     ensures { result ≡ element_in octets.now }
 {
     match octets {
-        [octet] => Some(Element::Octet(*octet)),
-        [low, high, qos] => Some(Element::SetPoint(*low, *high, *qos)),
+        [octet] => Some(CommandElement::Octet(*octet)),
+        [low, high, qos] => Some(CommandElement::SetPoint(*low, *high, *qos)),
         _ => None,
     }
 }

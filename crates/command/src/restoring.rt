@@ -13,9 +13,9 @@ ghost use Rattle.command.specs.Saved.{tag_in, target_in, sending_in};
 
 use crate::act::OwnAnswer;
 use crate::commands::{MOST_ANSWERS, MOST_SELECTIONS, MOST_WAITING};
-use crate::content::{Command, Element, Target, command_octets_of};
+use crate::content::{Command, CommandElement, Target, command_octets_of};
 use crate::saving::Saved;
-use crate::selection::{Selection, Stage};
+use crate::selection::{SelectStage, Selection};
 use crate::tags::{MOST_SENDINGS, Sending, TAG_OCTETS, read_tag};
 use crate::waiting::{Line, LineOctets, Received, Waiting};
 use arrayvec::ArrayVec;
@@ -102,26 +102,26 @@ pub(crate) fn line_from(numbers: &[u64]) -> Option<Line>
     line_by(*kind, others)
 }
 
-fn element_from(numbers: &[u64]) -> Option<Element>
+fn element_from(numbers: &[u64]) -> Option<CommandElement>
     ensures { result ≡ element_in numbers.now }
 {
     match numbers {
-        [octet] if *octet < 256 => Some(Element::Octet(*octet as u8)),
+        [octet] if *octet < 256 => Some(CommandElement::Octet(*octet as u8)),
         [low, high, qos] if *low < 256 && *high < 256 && *qos < 256 => {
-            Some(Element::SetPoint(*low as u8, *high as u8, *qos as u8))
+            Some(CommandElement::SetPoint(*low as u8, *high as u8, *qos as u8))
         }
         _ => None,
     }
 }
 
-fn stage_from(number: u64, detail: u64) -> Option<Stage>
+fn stage_from(number: u64, detail: u64) -> Option<SelectStage>
     ensures { result ≡ stage_in number detail }
 {
     match (number, detail) {
-        (0, ahead) => Some(Stage::Queued(ahead as usize)),
-        (1, 0) => Some(Stage::Sent),
-        (2, 0) => Some(Stage::Accepted),
-        (3, since) => Some(Stage::Live(since)),
+        (0, ahead) => Some(SelectStage::Queued(ahead as usize)),
+        (1, 0) => Some(SelectStage::Sent),
+        (2, 0) => Some(SelectStage::Accepted),
+        (3, since) => Some(SelectStage::Live(since)),
         _ => None,
     }
 }

@@ -13,9 +13,9 @@ ghost use Rattle.command.specs.Saved.{sending_numbers, is_savable_sending, answe
 ghost use Rattle.command.specs.Saved.{is_savable_answer};
 
 use crate::act::OwnAnswer;
-use crate::content::{Command, Element};
+use crate::content::{Command, CommandElement};
 use crate::restoring::{line_from, octets_from, selection_from, sending_from, waiting_from};
-use crate::selection::{Selection, Stage};
+use crate::selection::{SelectStage, Selection};
 use crate::tags::Sending;
 use crate::waiting::{Line, Waiting};
 use checkpoint::{Sheet, StateFault};
@@ -155,28 +155,28 @@ fn put_fields(command: Command, line: &mut Vec<u64>) -> Result<(), AllocError>
     Ok(())
 }
 
-fn put_stage(stage: Stage, line: &mut Vec<u64>) -> Result<(), AllocError>
+fn put_stage(stage: SelectStage, line: &mut Vec<u64>) -> Result<(), AllocError>
     ensures { OnOk result (line.new.items
         ≡ line.old.items ++ stage_number stage ∷ stage_detail stage ∷ []) }
 {
     let (number, detail) = match stage {
-        Stage::Queued(ahead) => (0, ahead as u64),
-        Stage::Sent => (1, 0),
-        Stage::Accepted => (2, 0),
-        Stage::Live(since) => (3, since),
+        SelectStage::Queued(ahead) => (0, ahead as u64),
+        SelectStage::Sent => (1, 0),
+        SelectStage::Accepted => (2, 0),
+        SelectStage::Live(since) => (3, since),
     };
     line.push(number)?;
     line.push(detail)?;
     Ok(())
 }
 
-fn put_element(element: Element, line: &mut Vec<u64>) -> Result<(), AllocError>
+fn put_element(element: CommandElement, line: &mut Vec<u64>) -> Result<(), AllocError>
     ensures line { OnOk result (line.new.items ≡ line.old.items ++ element_octets element) }
     ensures octets { OnOk result (is_savable_element element ≡ true) }
 {
     match element {
-        Element::Octet(octet) => line.push(u64::from(octet))?,
-        Element::SetPoint(low, high, qos) => {
+        CommandElement::Octet(octet) => line.push(u64::from(octet))?,
+        CommandElement::SetPoint(low, high, qos) => {
             line.push(u64::from(low))?;
             line.push(u64::from(high))?;
             line.push(u64::from(qos))?;

@@ -10,11 +10,11 @@ ghost use Rattle.command.specs.Selection.{advanced as next_of, lets_through as t
 ghost use Rattle.command.specs.declared.selection.Sign.TheVariants.{Con as ConSign};
 ghost use Rattle.command.specs.declared.selection.Sign.TheVariants.{Time as TimeSign};
 
-use crate::content::{Command, Element, Target};
+use crate::content::{Command, CommandElement, Target};
 
 /// How far the select of a selection has come.
 #[derive(Clone, Copy)]
-pub(crate) enum Stage {
+pub(crate) enum SelectStage {
     /// It waits behind so many commands of its station.
     Queued(usize),
     /// It is on the line.
@@ -31,7 +31,7 @@ pub(crate) struct Selection {
     pub station: usize,
     pub command: Command,
     pub came: u64,
-    pub stage: Stage,
+    pub stage: SelectStage,
 }
 
 /// What selections hear of.
@@ -46,14 +46,14 @@ pub(crate) enum Sign {
     /// The selection of this target ends.
     Over(Target),
     /// A positive con of this target and element came.
-    Con(Target, Element, u64),
+    Con(Target, CommandElement, u64),
     /// It is so late.
     Time(u64),
 }
 
-impl Default for Stage {
-    fn default() -> Stage {
-        Stage::Accepted
+impl Default for SelectStage {
+    fn default() -> SelectStage {
+        SelectStage::Accepted
     }
 }
 
@@ -63,19 +63,21 @@ pub(crate) fn same_target(a: Target, b: Target) -> bool
     a.kind == b.kind && a.ca == b.ca && a.address == b.address
 }
 
-pub(crate) fn same_element(a: Element, b: Element) -> bool
+pub(crate) fn same_element(a: CommandElement, b: CommandElement) -> bool
     ensures { result ≡ are_same_elements a b }
 {
     match (a, b) {
-        (Element::Octet(x), Element::Octet(y)) => x == y,
-        (Element::SetPoint(a, b, c), Element::SetPoint(x, y, z)) => a == x && b == y && c == z,
-        (Element::Octet(_), Element::SetPoint(_, _, _)) => false,
-        (Element::SetPoint(_, _, _), Element::Octet(_)) => false,
+        (CommandElement::Octet(x), CommandElement::Octet(y)) => x == y,
+        (CommandElement::SetPoint(a, b, c), CommandElement::SetPoint(x, y, z)) => a == x
+            && b == y
+            && c == z,
+        (CommandElement::Octet(_), CommandElement::SetPoint(_, _, _)) => false,
+        (CommandElement::SetPoint(_, _, _), CommandElement::Octet(_)) => false,
     }
 }
 
 impl Selection {
-    fn with_stage(self, stage: Stage) -> Selection
+    fn with_stage(self, stage: SelectStage) -> Selection
         ensures { result ≡ staged stage self }
     {
         Selection { stage, ..self }
@@ -85,16 +87,16 @@ impl Selection {
         ensures { result ≡ sending self.stage self }
     {
         match self.stage {
-            Stage::Queued(ahead) => {
+            SelectStage::Queued(ahead) => {
                 if ahead == 0 {
-                    Some(self.with_stage(Stage::Sent))
+                    Some(self.with_stage(SelectStage::Sent))
                 } else {
-                    Some(self.with_stage(Stage::Queued(ahead - 1)))
+                    Some(self.with_stage(SelectStage::Queued(ahead - 1)))
                 }
             }
             // The next command goes out and this one was never accepted: it is lost.
-            Stage::Sent => None,
-            Stage::Accepted | Stage::Live(_) => Some(self),
+            SelectStage::Sent => None,
+            SelectStage::Accepted | SelectStage::Live(_) => Some(self),
         }
     }
 
@@ -102,8 +104,8 @@ impl Selection {
         ensures { result ≡ acceptance self.stage self }
     {
         match self.stage {
-            Stage::Sent => Some(self.with_stage(Stage::Accepted)),
-            Stage::Queued(_) | Stage::Accepted | Stage::Live(_) => Some(self),
+            SelectStage::Sent => Some(self.with_stage(SelectStage::Accepted)),
+            SelectStage::Queued(_) | SelectStage::Accepted | SelectStage::Live(_) => Some(self),
         }
     }
 
@@ -112,8 +114,8 @@ impl Selection {
     {
         match self.stage {
             // Only this one is on the line. What the station accepted before isn't touched.
-            Stage::Sent => None,
-            Stage::Queued(_) | Stage::Accepted | Stage::Live(_) => Some(self),
+            SelectStage::Sent => None,
+            SelectStage::Queued(_) | SelectStage::Accepted | SelectStage::Live(_) => Some(self),
         }
     }
 
@@ -121,8 +123,8 @@ impl Selection {
         ensures { result ≡ accepted self.stage }
     {
         match self.stage {
-            Stage::Queued(_) | Stage::Sent => false,
-            Stage::Accepted | Stage::Live(_) => true,
+            SelectStage::Queued(_) | SelectStage::Sent => false,
+            SelectStage::Accepted | SelectStage::Live(_) => true,
         }
     }
 
@@ -131,8 +133,8 @@ impl Selection {
         ensures { result ≡ running_from self self.stage }
     {
         match self.stage {
-            Stage::Queued(_) | Stage::Sent | Stage::Accepted => self.came,
-            Stage::Live(since) => since,
+            SelectStage::Queued(_) | SelectStage::Sent | SelectStage::Accepted => self.came,
+            SelectStage::Live(since) => since,
         }
     }
 
@@ -201,7 +203,7 @@ impl Selection {
         self,
         select_ms: u64,
         target: Target,
-        element: Element,
+        element: CommandElement,
         now: u64,
     ) -> Option<Selection>
         ensures { result ≡ next_of select_ms (ConSign target element now) self }
@@ -213,7 +215,7 @@ impl Selection {
             && self.is_accepted()
             && now.saturating_sub(self.came) < select_ms
         {
-            Some(self.with_stage(Stage::Live(now)))
+            Some(self.with_stage(SelectStage::Live(now)))
         } else {
             Some(self)
         }
@@ -230,7 +232,7 @@ impl Selection {
         }
     }
 
-    fn is_named(self, target: Target, element: Element) -> bool
+    fn is_named(self, target: Target, element: CommandElement) -> bool
         ensures { result ≡
             are_same_targets (target_of self.command) target
             && are_same_elements self.command.element element }
@@ -254,8 +256,8 @@ impl Selection {
         ensures { result ≡ live select_ms now self.now.stage }
     {
         match self.stage {
-            Stage::Live(since) => now.saturating_sub(since) < select_ms,
-            Stage::Queued(_) | Stage::Sent | Stage::Accepted => false,
+            SelectStage::Live(since) => now.saturating_sub(since) < select_ms,
+            SelectStage::Queued(_) | SelectStage::Sent | SelectStage::Accepted => false,
         }
     }
 }

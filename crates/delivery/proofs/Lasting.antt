@@ -7,11 +7,11 @@ use Rattle.std.proofs.Common.{◌≡◌, ℕ, ◌-◌, ◌<◌, Bool, true, fals
 use Rattle.std.proofs.Common.{Some, None, refl, ap, sym, ◌∙◌, subst, le_refl, arith, rules}
 use Rattle.asdu.specs.Asdu.{AsduValue, Info}
 use Rattle.command.specs.declared.content.Command.{Command}
-use Rattle.command.specs.declared.content.Element.{Element}
+use Rattle.command.specs.declared.content.CommandElement.{CommandElement}
 use Rattle.command.specs.declared.content.Target.{Target}
 use Rattle.command.specs.declared.selection.Selection.{Selection}
-use Rattle.command.specs.declared.selection.Stage.{Stage}
-use Rattle.command.specs.declared.selection.Stage.TheVariants.{Queued, Sent, Accepted, Live}
+use Rattle.command.specs.declared.selection.SelectStage.{SelectStage}
+use Rattle.command.specs.declared.selection.SelectStage.TheVariants.{Queued, Sent, Accepted, Live}
 use Rattle.command.specs.declared.waiting.Waiting.{Waiting}
 use Rattle.command.specs.Octets.{negative}
 use Rattle.command.specs.Selection.{lasts_from, with_stage, after_sending, after_acceptance}
@@ -86,10 +86,10 @@ module _ (ms at : ℕ) (some : 0 < ms) where
   IfYoung None = Unit {0}
   IfYoung (Some y) = IsYoung ms at y
 
-  abbrev RunsOn : Selection → Stage → Type 0
+  abbrev RunsOn : Selection → SelectStage → Type 0
   RunsOn y st = nat_le ms (at - lasts_from y st) ≡ false
 
-  sending : (y : Selection) → IsYoung ms at y → (st : Stage) → RunsOn y st → (b : Bool)
+  sending : (y : Selection) → IsYoung ms at y → (st : SelectStage) → RunsOn y st → (b : Bool)
       → IfYoung (if b then after_sending st y else Some y)
   sending y h st o false = h
   sending y h (Queued n) o true = go (n == 0)
@@ -102,7 +102,7 @@ module _ (ms at : ℕ) (some : 0 < ms) where
   sending y h Accepted o true = h
   sending y h (Live since) o true = h
 
-  accepting : (y : Selection) → IsYoung ms at y → (st : Stage) → RunsOn y st → (b : Bool)
+  accepting : (y : Selection) → IsYoung ms at y → (st : SelectStage) → RunsOn y st → (b : Bool)
       → IfYoung (if b then after_acceptance st y else Some y)
   accepting y h st o false = h
   accepting y h (Queued n) o true = h
@@ -110,7 +110,7 @@ module _ (ms at : ℕ) (some : 0 < ms) where
   accepting y h Accepted o true = h
   accepting y h (Live since) o true = h
 
-  losing : (y : Selection) → IsYoung ms at y → (st : Stage) → (b : Bool)
+  losing : (y : Selection) → IsYoung ms at y → (st : SelectStage) → (b : Bool)
       → IfYoung (if b then after_loss st y else Some y)
   losing y h st false = h
   losing y h (Queued n) true = h
@@ -210,7 +210,7 @@ module _ (at : ℕ) where
   all_end v [] s h = h
   all_end v (i ∷ is) s h = all_end v is (all_over v (i ∷ []) s) (ends_of v i s h)
 
-  confirms : (o : Option Element) (target : Target) (s : tasks.State) → Lasts at s
+  confirms : (o : Option CommandElement) (target : Target) (s : tasks.State) → Lasts at s
       → Lasts at (confirmed o target at s)
   confirms None target s h = h
   confirms (Some element) target s h = (

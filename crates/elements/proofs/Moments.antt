@@ -4,7 +4,7 @@ use Rattle.std.proofs.Common.{◌≡◌, ◌⊎◌, ℕ, ◌+◌, ◌*◌, ◌/�
 use Rattle.std.proofs.Common.{List, refl, sym, ap, ◌∙◌, inl, inr, arith}
 use Rattle.std.proofs.lemmas.Bool.{eq-eqb}
 use Rattle.jiff_core.specs.Calendar.{weekday_number}
-use Rattle.elements.specs.declared.tag.Fields.{Fields}
+use Rattle.elements.specs.declared.tag.TagFields.{TagFields}
 use Rattle.std.specs.Prelude.{slice_index}
 use Rattle.elements.specs.declared.tag.Verdict.TheVariants.{Good, MarkedInvalid, OutOfRange}
 use Rattle.elements.specs.declared.tag.Verdict.TheVariants.{NoSuchDay, WrongWeekday}
@@ -12,7 +12,7 @@ use Rattle.elements.specs.TimeTag.{fields_of, is_out_of_range, day_exists}
 use Rattle.elements.specs.TimeTag.{is_weekday_wrong, instant_of, verdict_of_fields, verdict_of}
 use Rattle.elements.specs.Moments.{Moment, days, Exists, tag_of, instant}
 
-abbrev pub fields : Moment → Fields
+abbrev pub fields : Moment → TagFields
 fields m = record {
   millisecond = m.millisecond;
   minute = m.minute;
@@ -24,7 +24,7 @@ fields m = record {
   year = m.year;
 }
 
-abbrev pub fields_by : (ms minute hour day weekday month year : ℕ) (invalid : Bool) → Fields
+abbrev pub fields_by : (ms minute hour day weekday month year : ℕ) (invalid : Bool) → TagFields
 fields_by ms minute hour day weekday month year invalid = record {
   millisecond = ms;
   minute = minute;
@@ -106,7 +106,7 @@ never_good false true false n m e = cc
 pub marked : (octets : List ℕ) (m : ℕ) → 128 ≤ slice_index octets 2
     → verdict_of octets ≡ Good m → ⊥
 marked octets m iv e =
-    let f : Fields = fields_of octets in
+    let f : TagFields = fields_of octets in
     let is : nat_le 128 (slice_index octets 2) ≡ true = grind arith in
     never_good (is_out_of_range f) (day_exists f) (is_weekday_wrong f) (instant_of f) m
     (sym (ap (λ (b : Bool). if is_out_of_range f then OutOfRange

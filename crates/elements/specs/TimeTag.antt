@@ -5,7 +5,7 @@ use Rattle.std.specs.Prelude.{nat_le, if◌then◌else◌, List, slice_index, un
 use Rattle.jiff_core.specs.Calendar.{days_in_month, days_from_civil, weekday_number}
 use Rattle.jiff_core.specs.Date.{IsYmd}
 use Rattle.jiff_core.specs.declared.civil.date.Date.{Date}
-use Rattle.elements.specs.declared.tag.Fields.{Fields}
+use Rattle.elements.specs.declared.tag.TagFields.{TagFields}
 use Rattle.elements.specs.declared.tag.Verdict.{Verdict}
 use Rattle.elements.specs.declared.tag.Verdict.TheVariants.{Good, MarkedInvalid, OutOfRange}
 use Rattle.elements.specs.declared.tag.Verdict.TheVariants.{NoSuchDay, WrongWeekday}
@@ -16,7 +16,7 @@ use Rattle.elements.specs.declared.tag.Verdict.TheVariants.{NoSuchDay, WrongWeek
 -- its bit 7; the hour in bits 4 to 0 of octet 3; the day in bits 4 to 0 of octet 4, the day of the
 -- week in its bits 7 to 5; the month in bits 3 to 0 of octet 5; the year in bits 6 to 0 of octet 6.
 -- SU and the reserved bits aren't read.
-abbrev pub fields_of : List ℕ → Fields
+abbrev pub fields_of : List ℕ → TagFields
 fields_of xs = record {
   millisecond = slice_index xs 0 + 256 * slice_index xs 1;
   minute = slice_index xs 2 % 64;
@@ -29,47 +29,47 @@ fields_of xs = record {
 }
 
 -- what so many bits allow
-abbrev pub AreBits : Fields → Type 0
+abbrev pub AreBits : TagFields → Type 0
 AreBits f = (f.day < 32) × (f.month < 16) × (f.weekday < 8)
 
 -- ---- The verdict
 
 -- Milliseconds over 59999, minute over 59, hour over 23, day 0, month 0 or over 12, year over 99.
-abbrev pub is_out_of_range : Fields → Bool
+abbrev pub is_out_of_range : TagFields → Bool
 is_out_of_range f =
     nat_lt 59999 f.millisecond || nat_lt 59 f.minute || nat_lt 23 f.hour || (f.day == 0)
     || (f.month == 0)
     || nat_lt 12 f.month || nat_lt 99 f.year
 
 -- the year of the Gregorian calendar: years 0 to 99 are 2000 to 2099 (this gateway's own profile)
-abbrev pub year_of : Fields → ℤ
+abbrev pub year_of : TagFields → ℤ
 year_of f = pos (2000 + f.year)
 
 -- this date of the calendar library is the tag's
-abbrev pub IsDateOf : Fields → Date → Type 0
+abbrev pub IsDateOf : TagFields → Date → Type 0
 IsDateOf f d = IsYmd (year_of f) (pos f.month) (pos f.day) d
 
 -- the month of that year has such a day (proleptic Gregorian calendar)
-abbrev pub day_exists : Fields → Bool
+abbrev pub day_exists : TagFields → Bool
 day_exists f = nat_le f.day (days_in_month (year_of f) f.month)
 
 -- the count of days since 1970-01-01 (proleptic Gregorian calendar)
-abbrev pub day_number : Fields → ℤ
+abbrev pub day_number : TagFields → ℤ
 day_number f = days_from_civil (year_of f) f.month f.day
 
 -- The tag names another day of the week than that day's, which comes from the count. Monday is 1; 0
 -- is none.
-abbrev pub is_weekday_wrong : Fields → Bool
+abbrev pub is_weekday_wrong : TagFields → Bool
 is_weekday_wrong f = not (f.weekday == 0) && not (f.weekday == weekday_number (day_number f) + 1)
 
 -- milliseconds since 1970-01-01 00:00 UTC: the tag is UTC (this gateway's own profile)
-abbrev pub instant_of : Fields → ℕ
+abbrev pub instant_of : TagFields → ℕ
 instant_of f =
     unsigned_abs (day_number f) * 86_400_000 + f.hour * 3_600_000 + f.minute * 60_000
     + f.millisecond
 
 -- the first that applies
-abbrev pub verdict_of_fields : Fields → Verdict
+abbrev pub verdict_of_fields : TagFields → Verdict
 verdict_of_fields f =
     if is_out_of_range f then OutOfRange
     else (if not (day_exists f) then NoSuchDay

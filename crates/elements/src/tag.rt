@@ -30,7 +30,7 @@ pub enum Verdict {
 /// The fields of a tag. `weekday` is 1 for Monday to 7 for Sunday, 0 where it isn't used; `year`
 /// counts from 2000.
 #[derive(Clone, Copy)]
-pub(crate) struct Fields {
+pub(crate) struct TagFields {
     millisecond: u16,
     minute: u8,
     invalid: bool,
@@ -42,12 +42,12 @@ pub(crate) struct Fields {
 }
 
 /// The fields of a tag.
-fn read_fields(tag: &Cp56) -> Fields
+fn read_fields(tag: &Cp56) -> TagFields
     ensures value { result ≡ fields_of tag.now.0 }
     ensures bits { AreBits result }
 {
     let [low, high, minute, hour, day, month, year] = tag.0;
-    Fields {
+    TagFields {
         millisecond: u16::from(low) + 256 * u16::from(high),
         minute: minute & 0x3F,
         invalid: minute >= 0x80,
@@ -68,7 +68,7 @@ pub fn judge(tag: &Cp56) -> Verdict
     judge_fields(read_fields(tag))
 }
 
-fn judge_fields(tag: Fields) -> Verdict
+fn judge_fields(tag: TagFields) -> Verdict
     requires { AreBits tag }
     ensures { result ≡ verdict_of_fields tag }
 {
@@ -99,7 +99,7 @@ fn judge_fields(tag: Fields) -> Verdict
 }
 
 /// Whether the tag names another weekday than the date's.
-fn has_other_weekday(tag: Fields, date: Date) -> bool
+fn has_other_weekday(tag: TagFields, date: Date) -> bool
     requires bits { AreBits tag }
     requires date { IsDateOf tag date }
     ensures { result ≡ is_weekday_wrong tag }
@@ -109,7 +109,7 @@ fn has_other_weekday(tag: Fields, date: Date) -> bool
 }
 
 /// Milliseconds since 1970-01-01 00:00 UTC.
-fn instant(tag: Fields, date: Date) -> u64
+fn instant(tag: TagFields, date: Date) -> u64
     requires bits { AreBits tag }
     requires date { IsDateOf tag date }
     ensures { result ≡ instant_of tag }

@@ -8,8 +8,8 @@ use Rattle.ft12.specs.declared.assembling.Received.TheVariants as arrived
 use Rattle.ft12.specs.Assembly.{Receives}
 use Rattle.ft12.specs.Reading.{IsProperBeginning}
 use Rattle.std.specs.Option.{option_map, ForSome}
-use Rattle.ft12.specs.declared.stage.Stage.{Stage}
-use Rattle.ft12.specs.Stage.{IsStage, so_far}
+use Rattle.ft12.specs.declared.stage.DueOctet.{DueOctet}
+use Rattle.ft12.specs.DueOctet.{IsStage, so_far}
 use Rattle.ft12.proofs.Stages.{stage_more}
 use Rattle.ft12.specs.Reading.{IsFront}
 use Rattle.std.proofs.Common.{◌∷◌}
@@ -48,7 +48,7 @@ is_more size octets n h (Some before) after is e receives = by h receives
         let no : ⊥ = cc in absurd no
     by arrived.Deaf receives = absurd receives
 
-pub resumable : (size : LinkSize) (stage : Option Stage) (kept : List ℕ)
+pub resumable : (size : LinkSize) (stage : Option DueOctet) (kept : List ℕ)
     → ForSome stage (λ s. IsStage size s kept)
     → IfSome (option_map (λ s. so_far size s kept) stage) (IsProperBeginning size)
 resumable size None kept h = tt
@@ -61,7 +61,7 @@ proper_octets size x p =
     subst A (take-append_seam x (p.next ∷ p.rest))
     (All-take IsOctet (length x) (x ++ p.next ∷ p.rest) all)
 
-pub resumable_octets : (size : LinkSize) (stage : Option Stage) (kept : List ℕ)
+pub resumable_octets : (size : LinkSize) (stage : Option DueOctet) (kept : List ℕ)
     → ForSome stage (λ s. IsStage size s kept)
     → IfSome (option_map (λ s. so_far size s kept) stage) (λ octets. All IsOctet octets)
 resumable_octets size None kept h = tt

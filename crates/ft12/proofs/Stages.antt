@@ -14,18 +14,19 @@ use Rattle.ft12.specs.declared.frame.Why.{Why}
 use Rattle.ft12.specs.declared.frame.Why.TheVariants as why
 use Rattle.ft12.specs.declared.frame.Front.TheVariants as front
 use Rattle.ft12.specs.declared.reading.Tail.TheVariants.{Incomplete, WrongSum, WrongEnd}
-use Rattle.ft12.specs.declared.stage.Kind.{Kind}
-use Rattle.ft12.specs.declared.stage.Kind.TheVariants.{Fixed, Variable}
-use Rattle.ft12.specs.declared.stage.Fields.{Fields}
-use Rattle.ft12.specs.declared.stage.Fields.TheVariants as fields
+use Rattle.ft12.specs.declared.stage.FrameKind.{FrameKind}
+use Rattle.ft12.specs.declared.stage.FrameKind.TheVariants.{Fixed, Variable}
+use Rattle.ft12.specs.declared.stage.FixedFields.{FixedFields}
+use Rattle.ft12.specs.declared.stage.FixedFields.TheVariants as fields
 use Rattle.ft12.specs.declared.stage.Summed.{Summed}
-use Rattle.ft12.specs.declared.stage.Stage.{Stage}
-use Rattle.ft12.specs.declared.stage.Stage.TheVariants as stage
+use Rattle.ft12.specs.declared.stage.DueOctet.{DueOctet}
+use Rattle.ft12.specs.declared.stage.DueOctet.TheVariants as stage
 use Rattle.ft12.specs.Spelling.{header, user, checked, IsOctet, FitsAddress, IsLineFrame}
 use Rattle.ft12.specs.Reading.{IsProperBeginning, IsBeginning, IsFront}
 use Rattle.ft12.specs.Tail.{IsTail}
-use Rattle.ft12.specs.Stage.{fields_octets, IsFields, head, IsLen, IsSummed, summed_octets, IsStage}
-use Rattle.ft12.specs.Stage.{so_far, is_end}
+use Rattle.ft12.specs.DueOctet.{fields_octets, IsFields, head, IsLen, IsSummed, summed_octets}
+use Rattle.ft12.specs.DueOctet.{IsStage}
+use Rattle.ft12.specs.DueOctet.{so_far, is_end}
 use Rattle.ft12.specs.Assembly.{IsEndDue}
 use Rattle.ft12.proofs.Beginnings.{proper_nil, beginning_from_proper, beginning_front}
 use Rattle.ft12.proofs.Frames.{length-user, user_fits}
@@ -34,20 +35,20 @@ use Rattle.ft12.proofs.Returns.{variable_more, variable_sum, variable_end}
 
 -- ---- octets, sum and end after what stands before the control octet
 
-any_more : (size : LinkSize) (kind : Kind) (len : ℕ) (y : List ℕ) → IsLen size kind len
+any_more : (size : LinkSize) (kind : FrameKind) (len : ℕ) (y : List ℕ) → IsLen size kind len
     → All IsOctet y
     → IsTail len y Incomplete → IsProperBeginning size (head kind len ++ y)
 any_more size Fixed len y l fits t = fixed_more size len y l fits t
 any_more size Variable len y l fits t = variable_more size len y l.1 l.0 fits t
 
-any_sum : (size : LinkSize) (kind : Kind) (len : ℕ) (y : List ℕ) → IsLen size kind len
+any_sum : (size : LinkSize) (kind : FrameKind) (len : ℕ) (y : List ℕ) → IsLen size kind len
     → All IsOctet y
     → IsTail len y WrongSum →
     IsFront size (head kind len ++ y) (front.Never (length (head kind len) + len) why.Sum)
 any_sum size Fixed len y l fits t = fixed_sum size len y l fits t
 any_sum size Variable len y l fits t = variable_sum size len y l.1 l.0 fits t
 
-any_end : (size : LinkSize) (kind : Kind) (len : ℕ) (y : List ℕ) → IsLen size kind len
+any_end : (size : LinkSize) (kind : FrameKind) (len : ℕ) (y : List ℕ) → IsLen size kind len
     → All IsOctet y
     → IsTail len y WrongEnd →
     IsFront size (head kind len ++ y) (front.Never (length (head kind len) + len + 1) why.End)
@@ -61,7 +62,7 @@ any_end size Variable len y l fits t =
     (variable_end size len y l.1 l.0 fits t)
 
 -- fewer octets than the length, or as many
-pub user_more : (size : LinkSize) (kind : Kind) (len : ℕ) (u : List ℕ) → IsLen size kind len
+pub user_more : (size : LinkSize) (kind : FrameKind) (len : ℕ) (u : List ℕ) → IsLen size kind len
     → All IsOctet u
     → length u ≤ len → IsProperBeginning size (head kind len ++ u)
 user_more size kind len u l fits short =
@@ -168,7 +169,8 @@ end_wrong size s kept o d octet apart =
     ))
 
 -- with the end octet they are a whole frame
-whole_by : (size : LinkSize) (kind : Kind) (len c a total : ℕ) (kept : List ℕ) → IsLen size kind len
+whole_by : (size : LinkSize) (kind : FrameKind) (len c a total : ℕ) (kept : List ℕ)
+    → IsLen size kind len
     → FitsAddress size c a → All IsOctet kept → length (user size c a kept) ≡ len
     → total ≡ sum (user size c a kept) % 256
     → (frame : Frame)
@@ -196,7 +198,8 @@ whole_by size Variable len c a total kept long fits octets all sum_is = (
   },
 )
 
-pub end_due : (size : LinkSize) (s : Stage) (kept : List ℕ) → IsStage size s kept → is_end s ≡ true
+pub end_due : (size : LinkSize) (s : DueOctet) (kept : List ℕ) → IsStage size s kept
+    → is_end s ≡ true
     → IsEndDue size (so_far size s kept)
 end_due size (stage.End s) kept h e =
     let x : List ℕ = summed_octets size s kept ++ s.sum ∷ [] in
@@ -219,7 +222,7 @@ end_due size (stage.Sum s) kept h e = let bad : ⊥ = cc in absurd bad
 
 -- ---- what is kept is the beginning of a frame
 
-fields_fit : (size : LinkSize) (f : Fields) (kept : List ℕ) → IsFields size f kept
+fields_fit : (size : LinkSize) (f : FixedFields) (kept : List ℕ) → IsFields size f kept
     → All IsOctet (fields_octets size f kept)
 fields_fit size fields.Nothing kept h = All-nil IsOctet
 fields_fit size (fields.Control c) kept h = All-cons IsOctet c [] h.0 (All-nil IsOctet)
@@ -227,7 +230,7 @@ fields_fit size (fields.LowAddress c low) kept h = All-cons IsOctet c (low ∷ [
     (All-cons IsOctet low [] h.2 (All-nil IsOctet))
 fields_fit size (fields.Address c a) kept h = user_fits size c a kept h.0 h.1
 
-pub stage_more : (size : LinkSize) (s : Stage) (kept : List ℕ) → IsStage size s kept
+pub stage_more : (size : LinkSize) (s : DueOctet) (kept : List ℕ) → IsStage size s kept
     → IsProperBeginning size (so_far size s kept)
 stage_more size stage.Start kept h = proper_nil size
 stage_more size stage.Length kept h = header_1 size

@@ -4,7 +4,7 @@ pub mod Fronts
 pub mod Reading
 pub mod Spelling
 pub mod Spoiling
-pub mod Stage
+pub mod DueOctet
 pub mod Tail
 pub mod Examples
 pub mod Places

@@ -9,7 +9,7 @@ ghost use Rattle.ft12.specs.Reading.{IsProperBeginning};
 ghost use Rattle.ft12.specs.Spelling.{IsOctet};
 
 use crate::frame::{Frame, LinkSize, Why};
-use crate::stage::{Data, Stage, Step};
+use crate::stage::{Data, DueOctet, NextStage};
 use arrayvec::ArrayVec;
 use std::alloc::AllocError;
 use std::marker::Model;
@@ -37,7 +37,7 @@ pub enum Received {
 pub struct Assembler {
     size: LinkSize,
     /// None: octets began no frame, and all are dropped until `clear`.
-    stage: Option<Stage>,
+    stage: Option<DueOctet>,
     /// The data of the frame that is coming.
     kept: Data,
     looked: u64,
@@ -46,7 +46,7 @@ pub struct Assembler {
 impl Model for Assembler {
     ghost use Rattle.std.specs.Option.{option_map, ForSome};
     ghost use Rattle.ft12.specs.Assembly.{Assembly};
-    ghost use Rattle.ft12.specs.Stage.{IsStage, so_far};
+    ghost use Rattle.ft12.specs.DueOctet.{IsStage, so_far};
 
     ghost Value = { Assembly };
 
@@ -81,7 +81,7 @@ impl Assembler {
     {
         Assembler {
             size,
-            stage: Some(Stage::Start),
+            stage: Some(DueOctet::Start),
             kept: ArrayVec::new(),
             looked: 0,
         }
@@ -133,7 +133,7 @@ impl Assembler {
     pub fn is_empty(&self) -> bool
         ensures { IsTrue result ↔ (self.now.so_far ≡ Some []) }
     {
-        matches!(self.stage, Some(Stage::Start))
+        matches!(self.stage, Some(DueOctet::Start))
     }
 
     /// How many octets it has looked at since it was made, at most `u64::MAX`.
@@ -169,12 +169,12 @@ impl Assembler {
         for (i, octet) in piece.iter().enumerate() {
             let octet = look(&mut self.looked, octet);
             match stage.with_octet(self.size, &mut self.kept, octet) {
-                Step::More(next) => stage = next,
-                Step::Whole(bare) => {
-                    self.stage = Some(Stage::Start);
+                NextStage::More(next) => stage = next,
+                NextStage::Whole(bare) => {
+                    self.stage = Some(DueOctet::Start);
                     return (i + 1, Received::Frame(bare.with_data(&mut self.kept)));
                 }
-                Step::Never(place, why) => {
+                NextStage::Never(place, why) => {
                     self.stage = None;
                     return (piece.len(), Received::Never(place, why));
                 }
@@ -220,7 +220,7 @@ impl Assembler {
             return false;
         }
         match &mut self.stage {
-            Some(Stage::User(summing)) => {
+            Some(DueOctet::User(summing)) => {
                 if !summing.has_more_data(self.size, &self.kept) {
                     return false;
                 }
@@ -254,14 +254,14 @@ impl Assembler {
             }
             let octet = look(&mut self.looked, octet);
             match stage.with_octet(self.size, &mut self.kept, octet) {
-                Step::More(next) => stage = next,
-                Step::Never(_, _) => {
+                NextStage::More(next) => stage = next,
+                NextStage::Never(_, _) => {
                     self.stage = None;
                     return piece.len();
                 }
                 // A frame ends with its end octet, before which this loop stops, or is the single
                 // character, which the caller keeps from it.
-                Step::Whole(_) => unreachable!(),
+                NextStage::Whole(_) => unreachable!(),
             }
         }
         self.stage = Some(stage);
@@ -275,6 +275,6 @@ impl Assembler {
         ensures looked { self.new.looked ≡ self.old.looked }
     {
         self.kept.clear();
-        self.stage = Some(Stage::Start);
+        self.stage = Some(DueOctet::Start);
     }
 }

@@ -4,8 +4,9 @@ ghost use Rattle.std.specs.Prelude.{◌≡◌, ℕ, List, ◌+◌, ◌≤◌, �
 ghost use Rattle.std.specs.Prelude.{◌/◌, ◌%◌, OnOk};
 ghost use Rattle.ft12.specs.declared.frame.LinkSize.{LinkSize};
 ghost use Rattle.ft12.specs.Spelling.{address_len, user};
-ghost use Rattle.ft12.specs.Stage.{fields_octets, IsFields, head, IsStage, so_far, Steps, is_end};
-ghost use Rattle.ft12.specs.Stage.{IsInner, EndsNoFrame, summed_octets};
+ghost use Rattle.ft12.specs.DueOctet.{fields_octets, IsFields, head, IsStage, so_far, Steps};
+ghost use Rattle.ft12.specs.DueOctet.{is_end};
+ghost use Rattle.ft12.specs.DueOctet.{IsInner, EndsNoFrame, summed_octets};
 
 use crate::frame::{Frame, LinkSize, Why};
 use crate::writing::{END, SINGLE, START_DATA, START_FIXED};
@@ -18,14 +19,14 @@ pub(crate) type Data = ArrayVec<u8, 253>;
 
 /// Which of the two frames with a sum is coming.
 #[derive(Clone, Copy)]
-pub(crate) enum Kind {
+pub(crate) enum FrameKind {
     Fixed,
     Variable,
 }
 
 /// The control octet and the address, as far as they came.
 #[derive(Clone, Copy)]
-pub(crate) enum Fields {
+pub(crate) enum FixedFields {
     Nothing,
     Control { c: u8 },
     /// With the low octet of an address of two.
@@ -37,16 +38,16 @@ pub(crate) enum Fields {
 /// sum.
 #[derive(Clone, Copy)]
 pub(crate) struct Summing {
-    kind: Kind,
+    kind: FrameKind,
     len: u8,
     sum: u8,
-    fields: Fields,
+    fields: FixedFields,
 }
 
 /// All of those octets, and their sum.
 #[derive(Clone, Copy)]
 pub(crate) struct Summed {
-    kind: Kind,
+    kind: FrameKind,
     len: u8,
     sum: u8,
     c: u8,
@@ -55,7 +56,7 @@ pub(crate) struct Summed {
 
 /// Which octet is due, and what is needed of those before it. The data are kept beside it.
 #[derive(Clone, Copy)]
-pub(crate) enum Stage {
+pub(crate) enum DueOctet {
     /// The first octet of a frame.
     Start,
     /// The length of a variable frame.
@@ -82,17 +83,17 @@ pub(crate) enum BareFrame {
 
 /// What the octets are with one more.
 #[derive(Clone, Copy)]
-pub(crate) enum Step {
+pub(crate) enum NextStage {
     /// A frame, whose data are the ones kept.
     Whole(BareFrame),
     /// The beginning of a frame.
-    More(Stage),
+    More(DueOctet),
     /// No frame and no beginning of one: the first wrong place, and what is wrong there.
     Never(usize, Why),
 }
 
 impl BareFrame {
-    ghost use Rattle.ft12.specs.Stage.{HasData, frame_with};
+    ghost use Rattle.ft12.specs.DueOctet.{HasData, frame_with};
 
     /// The frame, with the data moved out of where they were kept.
     pub(crate) fn with_data(self, kept: &mut Data) -> Frame
@@ -111,23 +112,23 @@ impl BareFrame {
     }
 }
 
-impl Kind {
+impl FrameKind {
     /// How many octets come before the control octet.
     fn head_len(self) -> usize
         ensures small { result ≤ 4 }
         ensures all { (len : ℕ) → result ≡ length (head self len) }
     {
         match self {
-            Kind::Fixed => 1,
-            Kind::Variable => 4,
+            FrameKind::Fixed => 1,
+            FrameKind::Variable => 4,
         }
     }
 }
 
-impl Fields {
+impl FixedFields {
     /// The fields with one more octet, which is one of data where all fields came.
     #[inline(always)]
-    fn with_octet(self, size: LinkSize, kept: &mut Data, octet: u8) -> Fields
+    fn with_octet(self, size: LinkSize, kept: &mut Data, octet: u8) -> FixedFields
         requires fields { IsFields size self kept.old.items }
         requires room { length (fields_octets size self kept.old.items) < 255 }
         ensures fields { IsFields size result kept.new.items }
@@ -135,21 +136,21 @@ impl Fields {
             ≡ fields_octets size self kept.old.items ++ octet ∷ [] }
     {
         match self {
-            Fields::Nothing => Fields::Control { c: octet },
-            Fields::Control { c } => match size {
-                LinkSize::One => Fields::Address {
+            FixedFields::Nothing => FixedFields::Control { c: octet },
+            FixedFields::Control { c } => match size {
+                LinkSize::One => FixedFields::Address {
                     c,
                     a: u16::from(octet),
                 },
-                LinkSize::Two => Fields::LowAddress { c, low: octet },
+                LinkSize::Two => FixedFields::LowAddress { c, low: octet },
             },
-            Fields::LowAddress { c, low } => Fields::Address {
+            FixedFields::LowAddress { c, low } => FixedFields::Address {
                 c,
                 a: u16::from(low) + 256 * u16::from(octet),
             },
-            Fields::Address { c, a } => {
+            FixedFields::Address { c, a } => {
                 kept.push(octet);
-                Fields::Address { c, a }
+                FixedFields::Address { c, a }
             }
         }
     }
@@ -160,25 +161,25 @@ impl Fields {
         ensures { result ≡ length (fields_octets size self kept.now.items) }
     {
         match self {
-            Fields::Nothing => 0,
-            Fields::Control { .. } => 1,
-            Fields::LowAddress { .. } => 2,
-            Fields::Address { .. } => 1 + size.octets() + kept.len(),
+            FixedFields::Nothing => 0,
+            FixedFields::Control { .. } => 1,
+            FixedFields::LowAddress { .. } => 2,
+            FixedFields::Address { .. } => 1 + size.octets() + kept.len(),
         }
     }
 }
 
 impl Summing {
     ghost use Rattle.std.specs.Prelude.{true};
-    ghost use Rattle.ft12.specs.declared.stage.Stage.TheVariants.{User};
-    ghost use Rattle.ft12.specs.Stage.{IsSumming, IsInData};
+    ghost use Rattle.ft12.specs.declared.stage.DueOctet.TheVariants.{User};
+    ghost use Rattle.ft12.specs.DueOctet.{IsSumming, IsInData};
 
     /// Whether an octet of data is due that isn't the last one.
     pub(crate) fn has_more_data(&self, size: LinkSize, kept: &Data) -> bool
         ensures { result ≡ true → IsInData size self.now kept.now.items }
     {
         match self.fields {
-            Fields::Address { .. } => 2 + size.octets() + kept.len() < usize::from(self.len),
+            FixedFields::Address { .. } => 2 + size.octets() + kept.len() < usize::from(self.len),
             _ => false,
         }
     }
@@ -197,7 +198,7 @@ impl Summing {
 
     /// The stage after one more octet.
     #[inline(always)]
-    fn with_octet(self, size: LinkSize, kept: &mut Data, octet: u8) -> Stage
+    fn with_octet(self, size: LinkSize, kept: &mut Data, octet: u8) -> DueOctet
         requires { IsSumming size self kept.old.items }
         ensures stage { IsStage size result kept.new.items }
         ensures octets { so_far size result kept.new.items
@@ -208,7 +209,7 @@ impl Summing {
         let fields = self.fields.with_octet(size, kept, octet);
         let sum = self.sum.wrapping_add(octet);
         if fields.octet_count(size, kept) < usize::from(len) {
-            return Stage::User(Summing {
+            return DueOctet::User(Summing {
                 kind,
                 len,
                 sum,
@@ -216,7 +217,7 @@ impl Summing {
             });
         }
         match fields {
-            Fields::Address { c, a } => Stage::Sum(Summed {
+            FixedFields::Address { c, a } => DueOctet::Sum(Summed {
                 kind,
                 len,
                 sum,
@@ -230,122 +231,122 @@ impl Summing {
 }
 
 impl Summed {
-    ghost use Rattle.ft12.specs.Stage.{IsSummed, summed_octets};
+    ghost use Rattle.ft12.specs.DueOctet.{IsSummed, summed_octets};
 
     /// What the octet after those summed gives.
-    fn at_sum(self, octet: u8) -> Step
+    fn at_sum(self, octet: u8) -> NextStage
         ensures steps { (size : LinkSize) (kept : List ℕ) → IsSummed size self kept →
             Steps size (summed_octets size self kept ++ octet ∷ []) kept result }
         ensures inner { EndsNoFrame result }
     {
         if octet == self.sum {
-            Step::More(Stage::End(self))
+            NextStage::More(DueOctet::End(self))
         } else {
-            Step::Never(self.kind.head_len() + usize::from(self.len), Why::Sum)
+            NextStage::Never(self.kind.head_len() + usize::from(self.len), Why::Sum)
         }
     }
 
     /// What the octet after the right sum gives.
-    fn at_end(self, octet: u8) -> Step
+    fn at_end(self, octet: u8) -> NextStage
         ensures { (size : LinkSize) (kept : List ℕ) → IsSummed size self kept →
             Steps size ((summed_octets size self kept ++ self.sum ∷ []) ++ octet ∷ []) kept result }
     {
         let Summed { c, a, .. } = self;
         if octet != END {
             let place = self.kind.head_len() + usize::from(self.len) + 1;
-            return Step::Never(place, Why::End);
+            return NextStage::Never(place, Why::End);
         }
         match self.kind {
-            Kind::Fixed => Step::Whole(BareFrame::Fixed { c, a }),
-            Kind::Variable => Step::Whole(BareFrame::Data { c, a }),
+            FrameKind::Fixed => NextStage::Whole(BareFrame::Fixed { c, a }),
+            FrameKind::Variable => NextStage::Whole(BareFrame::Data { c, a }),
         }
     }
 }
 
-impl Stage {
+impl DueOctet {
     /// Whether the end octet is due.
     pub(crate) fn is_end(self) -> bool
         ensures { result ≡ is_end self }
     {
-        matches!(self, Stage::End(_))
+        matches!(self, DueOctet::End(_))
     }
 
     /// What one more octet gives.
     #[inline(always)]
-    pub(crate) fn with_octet(self, size: LinkSize, kept: &mut Data, octet: u8) -> Step
+    pub(crate) fn with_octet(self, size: LinkSize, kept: &mut Data, octet: u8) -> NextStage
         requires { IsStage size self kept.old.items }
         ensures steps { Steps size (so_far size self kept.old.items ++ octet ∷ [])
             kept.new.items result }
         ensures inner { IsInner self octet → EndsNoFrame result }
     {
         match self {
-            Stage::Start => at_start(size, octet),
-            Stage::Length => at_length(size, octet),
-            Stage::LengthAgain { len } => at_length_again(len, octet),
-            Stage::SecondStart { len } => at_second_start(len, octet),
-            Stage::User(summing) => Step::More(summing.with_octet(size, kept, octet)),
-            Stage::Sum(summed) => summed.at_sum(octet),
-            Stage::End(summed) => summed.at_end(octet),
+            DueOctet::Start => at_start(size, octet),
+            DueOctet::Length => at_length(size, octet),
+            DueOctet::LengthAgain { len } => at_length_again(len, octet),
+            DueOctet::SecondStart { len } => at_second_start(len, octet),
+            DueOctet::User(summing) => NextStage::More(summing.with_octet(size, kept, octet)),
+            DueOctet::Sum(summed) => summed.at_sum(octet),
+            DueOctet::End(summed) => summed.at_end(octet),
         }
     }
 }
 
-fn at_start(size: LinkSize, octet: u8) -> Step
+fn at_start(size: LinkSize, octet: u8) -> NextStage
     ensures steps { Steps size (octet ∷ []) [] result }
     ensures inner { (octet ≡ 0xE5 → ⊥) → EndsNoFrame result }
 {
     match octet {
-        SINGLE => Step::Whole(BareFrame::Single),
+        SINGLE => NextStage::Whole(BareFrame::Single),
         // A fixed frame doesn't say its length: it has no data.
-        START_FIXED => Step::More(Stage::User(Summing {
-            kind: Kind::Fixed,
+        START_FIXED => NextStage::More(DueOctet::User(Summing {
+            kind: FrameKind::Fixed,
             len: 1 + size.octets() as u8,
             sum: 0,
-            fields: Fields::Nothing,
+            fields: FixedFields::Nothing,
         })),
-        START_DATA => Step::More(Stage::Length),
-        _ => Step::Never(0, Why::Start),
+        START_DATA => NextStage::More(DueOctet::Length),
+        _ => NextStage::Never(0, Why::Start),
     }
 }
 
-fn at_length(size: LinkSize, octet: u8) -> Step
+fn at_length(size: LinkSize, octet: u8) -> NextStage
     ensures steps { Steps size (0x68 ∷ octet ∷ []) [] result }
     ensures inner { EndsNoFrame result }
 {
     if usize::from(octet) < 1 + size.octets() {
-        Step::Never(1, Why::LengthSmall)
+        NextStage::Never(1, Why::LengthSmall)
     } else {
-        Step::More(Stage::LengthAgain { len: octet })
+        NextStage::More(DueOctet::LengthAgain { len: octet })
     }
 }
 
-fn at_length_again(len: u8, octet: u8) -> Step
+fn at_length_again(len: u8, octet: u8) -> NextStage
     ensures steps { (size : LinkSize) → 1 + address_len size ≤ len →
         Steps size (0x68 ∷ len ∷ octet ∷ []) [] result }
     ensures inner { EndsNoFrame result }
 {
     if octet == len {
-        Step::More(Stage::SecondStart { len })
+        NextStage::More(DueOctet::SecondStart { len })
     } else {
-        Step::Never(2, Why::LengthsDiffer)
+        NextStage::Never(2, Why::LengthsDiffer)
     }
 }
 
-fn at_second_start(len: u8, octet: u8) -> Step
+fn at_second_start(len: u8, octet: u8) -> NextStage
     ensures steps { (size : LinkSize) → 1 + address_len size ≤ len →
         Steps size (0x68 ∷ len ∷ len ∷ octet ∷ []) [] result }
     ensures inner { EndsNoFrame result }
 {
     if octet == START_DATA {
         // From 0, since neither start octets nor lengths are in the sum (IEC 60870-5-1, 6.2.4.2).
-        Step::More(Stage::User(Summing {
-            kind: Kind::Variable,
+        NextStage::More(DueOctet::User(Summing {
+            kind: FrameKind::Variable,
             len,
             sum: 0,
-            fields: Fields::Nothing,
+            fields: FixedFields::Nothing,
         }))
     } else {
-        Step::Never(3, Why::SecondStart)
+        NextStage::Never(3, Why::SecondStart)
     }
 }
 
@@ -380,19 +381,19 @@ fn put_user(
     put_all(kept, line)
 }
 
-impl Kind {
+impl FrameKind {
     /// Puts the octets before the control octet behind a line of numbers.
     fn put(self, len: u8, line: &mut Vec<u64>) -> Result<(), AllocError>
         ensures { OnOk result (line.new.items ≡ line.old.items ++ head self len) }
     {
         match self {
-            Kind::Fixed => put_all(&[START_FIXED], line),
-            Kind::Variable => put_all(&[START_DATA, len, len, START_DATA], line),
+            FrameKind::Fixed => put_all(&[START_FIXED], line),
+            FrameKind::Variable => put_all(&[START_DATA, len, len, START_DATA], line),
         }
     }
 }
 
-impl Fields {
+impl FixedFields {
     /// Puts the octets of the fields and of the data, as far as they came, behind a line of
     /// numbers.
     fn put(self, size: LinkSize, kept: &[u8], line: &mut Vec<u64>) -> Result<(), AllocError>
@@ -400,10 +401,10 @@ impl Fields {
             ≡ line.old.items ++ fields_octets size self kept.now) }
     {
         match self {
-            Fields::Nothing => Ok(()),
-            Fields::Control { c } => put_all(&[c], line),
-            Fields::LowAddress { c, low } => put_all(&[c, low], line),
-            Fields::Address { c, a } => put_user(size, c, a, kept, line),
+            FixedFields::Nothing => Ok(()),
+            FixedFields::Control { c } => put_all(&[c], line),
+            FixedFields::LowAddress { c, low } => put_all(&[c, low], line),
+            FixedFields::Address { c, a } => put_user(size, c, a, kept, line),
         }
     }
 }
@@ -419,7 +420,7 @@ impl Summed {
     }
 }
 
-impl Stage {
+impl DueOctet {
     /// Puts the octets that it stands for behind a line of numbers.
     pub(crate) fn put(
         self,
@@ -430,16 +431,16 @@ impl Stage {
         ensures { OnOk result (line.new.items ≡ line.old.items ++ so_far size self kept.now) }
     {
         match self {
-            Stage::Start => Ok(()),
-            Stage::Length => put_all(&[START_DATA], line),
-            Stage::LengthAgain { len } => put_all(&[START_DATA, len], line),
-            Stage::SecondStart { len } => put_all(&[START_DATA, len, len], line),
-            Stage::User(summing) => {
+            DueOctet::Start => Ok(()),
+            DueOctet::Length => put_all(&[START_DATA], line),
+            DueOctet::LengthAgain { len } => put_all(&[START_DATA, len], line),
+            DueOctet::SecondStart { len } => put_all(&[START_DATA, len, len], line),
+            DueOctet::User(summing) => {
                 summing.kind.put(summing.len, line)?;
                 summing.fields.put(size, kept, line)
             }
-            Stage::Sum(summed) => summed.put(size, kept, line),
-            Stage::End(summed) => {
+            DueOctet::Sum(summed) => summed.put(size, kept, line),
+            DueOctet::End(summed) => {
                 summed.put(size, kept, line)?;
                 put_all(&[summed.sum], line)
             }

@@ -8,10 +8,10 @@ use Rattle.std.proofs.lemmas.Option.{slice_get-map}
 use Rattle.link.specs.declared.settings.LinkSettings.{LinkSettings}
 use Rattle.link.specs.Turns.{no_station, station_at}
 use Rattle.link.specs.Primary.{Primary, station_down}
-use Rattle.link.specs.declared.seat.Seat.{Seat}
+use Rattle.link.specs.declared.seat.ResumedStation.{ResumedStation}
 use Rattle.link.specs.Carried.{given_up, with_gap_mark, gap_marked, released, station_carried}
 use Rattle.link.specs.Carried.{seated, reseated}
-use Rattle.gateway.specs.declared.settings.Station.{Station}
+use Rattle.gateway.specs.declared.settings.StationSettings.{StationSettings}
 use Rattle.gateway.specs.declared.starting_links.LinkStart.{LinkStart}
 use Rattle.gateway.specs.declared.starting_links.LinkStart.TheVariants.{Down, Dropped}
 use Rattle.gateway.specs.declared.starting_links.LinkStart.TheVariants.{ResetAfterGap, Reset}
@@ -26,7 +26,8 @@ use Rattle.gateway.proofs.Carrying.{IsForOne}
 
 -- a station takes its seat, as `frame_count_bits_go_on` says it
 abbrev pub SeatsStay : Type 0
-SeatsStay = (settings : LinkSettings) (seats : List Seat) (p : Primary) (i : ℕ) (seat : Seat)
+SeatsStay = (settings : LinkSettings) (seats : List ResumedStation) (p : Primary) (i : ℕ)
+    (seat : ResumedStation)
     → slice_get seats i ≡ Some seat → station_at (reseated settings seats p).stations i
     ≡ seated settings.retries seat.address p.stations seat.before
 
@@ -117,14 +118,15 @@ module _ (law : IsForOne) where
     started k s same lt = upto (length s.line.stations) k (record s { line = released s.line })
         (omega (arith, same)) lt
 
-    seat_there : (i : ℕ) (station : Station) → slice_get now.stations i ≡ Some station
+    seat_there : (i : ℕ) (station : StationSettings) → slice_get now.stations i ≡ Some station
         → slice_get (seats before now) i ≡ Some (seat_of before.stations station)
     seat_there i station there =
         slice_get-map (seat_of before.stations) now.stations i
-        ∙ ap (λ (o : Option Station). option_map (seat_of before.stations) o) there
+        ∙ ap (λ (o : Option StationSettings). option_map (seat_of before.stations) o) there
 
     pub known : SeatsStay → ((p : Primary) → length (released p).stations ≡ length p.stations)
-        → (s : State) (i k : ℕ) (station : Station) → slice_get now.stations i ≡ Some station
+        → (s : State) (i k : ℕ) (station : StationSettings) → slice_get now.stations i
+        ≡ Some station
         → place_of station.address before.stations ≡ Some k → k < length s.serial.line.stations
         → station_at (carried goes_on before now s).serial.line.stations i
         ≡ station_carried now.line.retries station.address
@@ -138,7 +140,8 @@ module _ (law : IsForOne) where
         ∙ ap (station_carried now.line.retries station.address)
         (started k s.serial (same s.serial.line) lt)
 
-    pub other : SeatsStay → (s : State) (i : ℕ) (station : Station) → slice_get now.stations i
+    pub other : SeatsStay → (s : State) (i : ℕ) (station : StationSettings)
+        → slice_get now.stations i
         ≡ Some station
         → place_of station.address before.stations ≡ None
         → station_at (carried goes_on before now s).serial.line.stations i

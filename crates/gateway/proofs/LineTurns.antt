@@ -13,7 +13,7 @@ use Rattle.link.specs.Waits.{AlwaysWants, stations_asked, waited}
 use Rattle.link.specs.Precedence.{CommandsGoFirst}
 use Rattle.link.specs.Bursts.{BurstsGoOn, Other}
 use Rattle.link.specs.AtOnce.{RepeatsComeAtOnce, PollsFollowCommands}
-use Rattle.gateway.specs.declared.settings.Station.{Station}
+use Rattle.gateway.specs.declared.settings.StationSettings.{StationSettings}
 use Rattle.gateway.specs.Config.{Settings, AreStations}
 use Rattle.gateway.specs.Setups.{setup_of}
 use Rattle.gateway.specs.Log.{Log}
@@ -67,7 +67,7 @@ pub turns : TurnLaws → Laws → (c : Settings) (s : State) (log : Log)
 turns t laws c s log rules burst a =
     let p : Setup = setup_of c in
     let some : 0 < length p.addresses =
-    omega (arith, rules.some, length-map c.stations (λ (s : Station). s.address)) in
+    omega (arith, rules.some, length-map c.stations (λ (s : StationSettings). s.address)) in
     let fit : All (FitsAddress p.link.size) p.addresses =
     first_fits c.line.link c.line.sizes.ca c.stations rules.each in
     let more : 0 < p.link.burst = omega (arith, burst) in

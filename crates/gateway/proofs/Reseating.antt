@@ -7,18 +7,18 @@ use Rattle.std.proofs.lemmas.List.Elements.{All-cons, All-nil}
 use Rattle.ft12.specs.declared.frame.LinkSize.{LinkSize}
 use Rattle.asdu.specs.declared.sizes.CaSize.{CaSize}
 use Rattle.link.specs.Requests.{FitsAddress}
-use Rattle.link.specs.declared.seat.Seat.{Seat}
-use Rattle.gateway.specs.declared.settings.Station.{Station}
+use Rattle.link.specs.declared.seat.ResumedStation.{ResumedStation}
+use Rattle.gateway.specs.declared.settings.StationSettings.{StationSettings}
 use Rattle.gateway.specs.Config.{IsStation}
 use Rattle.gateway.specs.Carried.{seat_of}
 
 -- their addresses fit the line
-pub seats_fit : (link : LinkSize) (ca : CaSize) (before stations : List Station)
+pub seats_fit : (link : LinkSize) (ca : CaSize) (before stations : List StationSettings)
     → AllByRecursion (IsStation link ca) stations
-    → All (λ (s : Seat). FitsAddress link s.address) (map (seat_of before) stations)
-seats_fit link ca before [] h = All-nil (λ (s : Seat). FitsAddress link s.address)
+    → All (λ (s : ResumedStation). FitsAddress link s.address) (map (seat_of before) stations)
+seats_fit link ca before [] h = All-nil (λ (s : ResumedStation). FitsAddress link s.address)
 seats_fit link ca before (s ∷ stations) h =
-    All-cons (λ (s : Seat). FitsAddress link s.address) (seat_of before s)
+    All-cons (λ (s : ResumedStation). FitsAddress link s.address) (seat_of before s)
     (map (seat_of before) stations)
     (omega (arith, h.0.address.1)) (seats_fit link ca before stations h.1)
 

@@ -13,7 +13,7 @@ use Rattle.link.specs.declared.settings.LinkSettings.{LinkSettings}
 use Rattle.link.specs.Requests.{FitsAddress}
 use Rattle.link.specs.Primary.{start}
 use Rattle.link.specs.Matching.{Matches}
-use Rattle.gateway.specs.declared.settings.Station.{Station}
+use Rattle.gateway.specs.declared.settings.StationSettings.{StationSettings}
 use Rattle.gateway.specs.declared.settings.TcpSettings.{TcpSettings}
 use Rattle.gateway.specs.Config.{Settings, IsStation, AreApart, AreDistinct, AreStations}
 use Rattle.gateway.specs.Log.{Log}
@@ -35,41 +35,42 @@ use Rattle.gateway.proofs.Talking.{talk_first}
 use Rattle.gateway.proofs.Closing.{fresh}
 
 -- a station's address is none of the others'
-not_before : (a : ℕ) (stations : List Station) (i : ℕ)
-    → AllByRecursion (λ (t : Station). a ≢ t.address) stations
-    → i < length stations → a ≢ address_at (map (λ (s : Station). s.address) stations) i
+not_before : (a : ℕ) (stations : List StationSettings) (i : ℕ)
+    → AllByRecursion (λ (t : StationSettings). a ≢ t.address) stations
+    → i < length stations → a ≢ address_at (map (λ (s : StationSettings). s.address) stations) i
 not_before a [] i h less = absurd (omega (arith, less))
 not_before a (t ∷ stations) zero h less = h.0
 not_before a (t ∷ stations) (suc i) h less = not_before a stations i h.1 (omega (arith, less))
 
-addresses_differ : (s : Station) (stations : List Station) → AllByRecursion (AreApart s) stations
-    → AllByRecursion (λ (t : Station). s.address ≢ t.address) stations
+addresses_differ : (s : StationSettings) (stations : List StationSettings)
+    → AllByRecursion (AreApart s) stations
+    → AllByRecursion (λ (t : StationSettings). s.address ≢ t.address) stations
 addresses_differ s [] h = tt
 addresses_differ s (t ∷ stations) h = (h.0.0, addresses_differ s stations h.1)
 
-first_found : (stations : List Station) → AreDistinct stations
-    → AreFound (map (λ (s : Station). s.address) stations)
+first_found : (stations : List StationSettings) → AreDistinct stations
+    → AreFound (map (λ (s : StationSettings). s.address) stations)
 first_found [] h i less = absurd (omega (arith, less))
 first_found (s ∷ stations) h zero less =
     ap (λ b. if b then Some 0
-    else option_map suc (index_of s.address (map (λ (t : Station). t.address) stations)))
+    else option_map suc (index_of s.address (map (λ (t : StationSettings). t.address) stations)))
     (eq-eqb s.address s.address refl)
 first_found (s ∷ stations) h (suc i) less =
-    let a : ℕ = address_at (map (λ (t : Station). t.address) stations) i in
+    let a : ℕ = address_at (map (λ (t : StationSettings). t.address) stations) i in
     let within : i < length stations =
-    omega (arith, less, length-map stations (λ (t : Station). t.address)) in
+    omega (arith, less, length-map stations (λ (t : StationSettings). t.address)) in
     ap (λ b. if b then Some 0
-    else option_map suc (index_of a (map (λ (t : Station). t.address) stations)))
+    else option_map suc (index_of a (map (λ (t : StationSettings). t.address) stations)))
     (ne_eqb s.address a (not_before s.address stations i (addresses_differ s stations h.0) within))
     ∙ ap (option_map suc) (first_found stations h.1 i (omega (arith, less)))
 
 -- the addresses fit the line
-pub first_fits : (link : LinkSize) (ca : CaSize) (stations : List Station)
+pub first_fits : (link : LinkSize) (ca : CaSize) (stations : List StationSettings)
     → AllByRecursion (IsStation link ca) stations
-    → All (FitsAddress link) (map (λ (s : Station). s.address) stations)
+    → All (FitsAddress link) (map (λ (s : StationSettings). s.address) stations)
 first_fits link ca [] h = All-nil (FitsAddress link)
 first_fits link ca (s ∷ stations) h =
-    All-cons (FitsAddress link) s.address (map (λ (t : Station). t.address) stations)
+    All-cons (FitsAddress link) s.address (map (λ (t : StationSettings). t.address) stations)
     (omega (arith, h.0.address.1)) (first_fits link ca stations h.1)
 
 -- what `link` says of the start
@@ -90,8 +91,8 @@ at_first c starts laws commands passing line_laws rules timely = record {
   wall = refl;
   settled = refl;
   found = first_found c.stations rules.distinct;
-  line = starts (link_of c.line) (map (λ (s : Station). s.address) c.stations)
-      (omega (arith, rules.some, length-map c.stations (λ (s : Station). s.address)))
+  line = starts (link_of c.line) (map (λ (s : StationSettings). s.address) c.stations)
+      (omega (arith, rules.some, length-map c.stations (λ (s : StationSettings). s.address)))
       (first_fits c.line.link c.line.sizes.ca c.stations rules.each);
   course = first_course (setup_of c);
   talk = talk_first (setup_of c) timely laws commands passing line_laws;
@@ -128,11 +129,12 @@ at_first c starts laws commands passing line_laws rules timely = record {
     none_offered (a ∷ stations) (suc k) = none_offered stations k
 
     no_offer : (k : ℕ) (octets : List ℕ)
-        → offered_at (start (link_of c.line) (map (λ (s : Station). s.address) c.stations)) k
+        → offered_at (start (link_of c.line) (map (λ (s : StationSettings). s.address) c.stations))
+        k
         ≡ Some octets → ⊥
     no_offer k octets e =
         let no : None ≡ Some octets =
-        sym (none_offered (map (λ (s : Station). s.address) c.stations) k) ∙ e in cc
+        sym (none_offered (map (λ (s : StationSettings). s.address) c.stations) k) ∙ e in cc
 
 -- the settings' ranges
 pub timely : (t : TcpSettings) → IsTimely (session_of t)

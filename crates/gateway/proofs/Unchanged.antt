@@ -13,7 +13,7 @@ use Rattle.link.specs.Turns.{station_at}
 use Rattle.link.specs.Primary.{station_down}
 use Rattle.link.specs.Carried.{released, station_carried, station_given_up}
 use Rattle.gateway.specs.declared.settings.LineSettings.{LineSettings}
-use Rattle.gateway.specs.declared.settings.Station.{Station}
+use Rattle.gateway.specs.declared.settings.StationSettings.{StationSettings}
 use Rattle.gateway.specs.declared.starting_links.LinkStart.{LinkStart}
 use Rattle.gateway.specs.declared.starting_links.LinkStart.TheVariants as links
 use Rattle.gateway.specs.Config.{Settings}
@@ -31,16 +31,17 @@ alike false true h = cc
 alike false false h = refl
 
 -- what a link that goes on shows of the table's row
-record IsRow (holds same : Bool) (before now : Option Station) : Type 0 where
+record IsRow (holds same : Bool) (before now : Option StationSettings) : Type 0 where
   trusted : holds ≡ true
   sizes : same ≡ true
-  was : Station
+  was : StationSettings
   stood : before ≡ Some was
-  is : Station
+  is : StationSettings
   found : now ≡ Some is
   alike : are_same was is ≡ true
 
-row_by : (was is : Station) (b : Bool) → are_same was is ≡ b → cond b links.GoesOn links.Reset
+row_by : (was is : StationSettings) (b : Bool) → are_same was is ≡ b
+    → cond b links.GoesOn links.Reset
     ≡ links.GoesOn
     → IsRow true true (Some was) (Some is)
 row_by was is true e h =
@@ -59,7 +60,7 @@ row_by was is false e h = absurd (other h)
     other : links.Reset ≡ links.GoesOn → ⊥
     other x = cc
 
-row : (holds same : Bool) (before now : Option Station) → link_start holds same before now
+row : (holds same : Bool) (before now : Option StationSettings) → link_start holds same before now
     ≡ links.GoesOn
     → IsRow holds same before now
 row holds same None now h = absurd (other h)
@@ -80,7 +81,7 @@ row true false (Some was) (Some is) h = absurd (other h)
     other x = cc
 row true true (Some was) (Some is) h = row_by was is (are_same was is) refl h
 
-never_down : (holds same : Bool) (was : Station) (now : Option Station)
+never_down : (holds same : Bool) (was : StationSettings) (now : Option StationSettings)
     → link_start holds same (Some was) now ≡ links.Down
     → ⊥
 never_down holds same was None h = cc
@@ -112,7 +113,7 @@ unchanged : (goes_on : Bool) (before now : Settings) (k : ℕ) → start_of goes
     → (goes_on ≡ true) × IsUnchanged before now k
 unchanged goes_on before now k h =
     let r = row goes_on (have_same_sizes before.line now.line) (slice_get before.stations k)
-    (option_and_then (λ (s : Station). station_with s.address now.stations)
+    (option_and_then (λ (s : StationSettings). station_with s.address now.stations)
     (slice_get before.stations k)) h in
     let sizes = sizes_same before.line now.line r.sizes in
     let parts = and_parts (r.was.ca == r.is.ca) (are_alike r.was.select r.is.select) r.alike in (
@@ -124,7 +125,8 @@ unchanged goes_on before now k h =
         found =
             sym
             (ap
-            (λ (o : Option Station). option_and_then (λ (s : Station). station_with s.address
+            (λ (o : Option StationSettings). option_and_then
+            (λ (s : StationSettings). station_with s.address
             now.stations) o) r.stood)
             ∙ r.found;
         ca = eqb-true r.was.ca r.is.ca parts.0;
@@ -156,18 +158,19 @@ up_start retries address links.ResetAfterGap s h some = cc
 
 -- what is known of stations, as `stations_go_on_by_their_addresses` says it
 pub record AreKnown (goes_on : Bool) (before now : Settings) (s : State) : Type 0 where
-  pub known : (i k : ℕ) (station : Station) → slice_get now.stations i ≡ Some station
+  pub known : (i k : ℕ) (station : StationSettings) → slice_get now.stations i ≡ Some station
       → place_of station.address before.stations ≡ Some k → k < length s.serial.line.stations
       → station_at (carried goes_on before now s).serial.line.stations i
       ≡ station_carried now.line.retries station.address
       (station_started (start_of goes_on before now k) (station_at (released s.serial.line).stations
       k))
-  pub other : (i : ℕ) (station : Station) → slice_get now.stations i ≡ Some station
+  pub other : (i : ℕ) (station : StationSettings) → slice_get now.stations i ≡ Some station
       → place_of station.address before.stations ≡ None
       → station_at (carried goes_on before now s).serial.line.stations i
       ≡ station_down station.address
 
-pub up_means : (goes_on : Bool) (before now : Settings) (s : State) (i : ℕ) (station : Station)
+pub up_means : (goes_on : Bool) (before now : Settings) (s : State) (i : ℕ)
+    (station : StationSettings)
     → AreKnown goes_on before now s → length s.serial.line.stations ≡ length before.stations
     → slice_get now.stations i ≡ Some station
     → is_up (station_at (carried goes_on before now s).serial.line.stations i).link ≡ true
@@ -179,7 +182,7 @@ up_means goes_on before now s i station are count there up =
         ≡ a → is_up a.link ≡ true
     up_is a e = ap (λ (x : StationState). is_up x.link) (sym e) ∙ up
 
-    at_place : (k : ℕ) (was : Station) → place_of station.address before.stations ≡ Some k
+    at_place : (k : ℕ) (was : StationSettings) → place_of station.address before.stations ≡ Some k
         → slice_get before.stations k ≡ Some was → k < length s.serial.line.stations
         → MayGoOn goes_on before now station.address
     at_place k was place stood lt =
@@ -189,10 +192,11 @@ up_means goes_on before now s i station are count there up =
         (are.known i k station there place lt) in
         let some : start ≡ links.Down → ⊥ =
         λ down. never_down goes_on (have_same_sizes before.line now.line) was
-        (option_and_then (λ (x : Station). station_with x.address now.stations)
+        (option_and_then (λ (x : StationSettings). station_with x.address now.stations)
         (slice_get before.stations k))
-        (ap (λ (o : Option Station). link_start goes_on (have_same_sizes before.line now.line) o
-        (option_and_then (λ (x : Station). station_with x.address now.stations)
+        (ap (λ (o : Option StationSettings). link_start goes_on
+        (have_same_sizes before.line now.line) o
+        (option_and_then (λ (x : StationSettings). station_with x.address now.stations)
         (slice_get before.stations k))) (sym stood)
         ∙ down) in
         let on = up_start now.line.retries station.address start
@@ -208,7 +212,8 @@ up_means goes_on before now s i station are count there up =
         (up_is (station_down station.address) (are.other i station there place)))
     go (Some k) place =
         let within =
-        (position-Some (λ (x : Station). x.address == station.address) before.stations k station
+        (position-Some (λ (x : StationSettings). x.address == station.address) before.stations k
+        station
         place).0 in
         at_place k (get_or before.stations k station) place
         (slice_get-get_or before.stations k station within) (omega (arith, within, count))

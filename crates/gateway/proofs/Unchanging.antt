@@ -7,7 +7,7 @@ use Rattle.session.specs.Session.{Session}
 use Rattle.session.proofs.Keeps.{run_keeps}
 use Rattle.command.specs.CommandLaws.{RunLaws}
 use Rattle.command.specs.Restored.{HasSettings as HaveCommandSettings}
-use Rattle.gateway.specs.declared.settings.Station.{Station}
+use Rattle.gateway.specs.declared.settings.StationSettings.{StationSettings}
 use Rattle.gateway.specs.Config.{Settings}
 use Rattle.gateway.specs.Setups.{setup_of}
 use Rattle.gateway.specs.Log.{Log}
@@ -56,7 +56,7 @@ pub settings_kept : RunLaws → (c : Settings) (s : State) (log : Log)
 settings_kept laws c s log a = record {
   serial = record {
     line = a.line.settings_are;
-    stations = a.line.count ∙ length-map c.stations (λ (x : Station). x.address);
+    stations = a.line.count ∙ length-map c.stations (λ (x : StationSettings). x.address);
     commands = works_set laws (setup_of c) s log a;
   };
   centre = record {

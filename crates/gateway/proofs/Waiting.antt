@@ -22,8 +22,8 @@ use Rattle.asdu.specs.declared.sizes.IoaSize.TheVariants as ioas
 use Rattle.link.specs.Requests.{IsUserData}
 use Rattle.command.specs.declared.waiting.Waiting.{Waiting}
 use Rattle.command.specs.declared.content.Command.{Command}
-use Rattle.command.specs.declared.content.Element.{Element}
-use Rattle.command.specs.declared.content.Element.TheVariants.{Octet, SetPoint}
+use Rattle.command.specs.declared.content.CommandElement.{CommandElement}
+use Rattle.command.specs.declared.content.CommandElement.TheVariants.{Octet, SetPoint}
 use Rattle.command.specs.declared.station.StationInfo.{StationInfo}
 use Rattle.command.specs.Command.{is_tagged, line_kind, command_at, command_octets, element_octets}
 use Rattle.command.specs.Command.{is_set_point}
@@ -91,7 +91,7 @@ element_are true x y z h k l = All-cons IsOctet x (y ∷ z ∷ []) h
     (All-cons IsOctet y (z ∷ []) k (All-cons IsOctet z [] l (All-nil IsOctet)))
 element_are false x y z h k l = All-cons IsOctet x [] h (All-nil IsOctet)
 
-element_count : (e : Element) → length (element_octets e) ≤ 3
+element_count : (e : CommandElement) → length (element_octets e) ≤ 3
 element_count (Octet x) = omega arith
 element_count (SetPoint x y z) = omega arith
 

@@ -3,11 +3,11 @@ use Rattle.std.specs.Prelude.{ℕ, zero, suc, ◌==◌, Bool, List, length, map,
 use Rattle.std.specs.Prelude.{Option, None, option_and_then, if◌then◌else◌}
 use Rattle.link.specs.Carried as line
 use Rattle.link.specs.Carried.{awaits_command}
-use Rattle.link.specs.declared.seat.Seat.{Seat}
+use Rattle.link.specs.declared.seat.ResumedStation.{ResumedStation}
 use Rattle.link.specs.declared.turn.StationState.{StationState}
 use Rattle.command.specs.Carried as tasks
 use Rattle.events.specs.Carried as queue
-use Rattle.gateway.specs.declared.settings.Station.{Station}
+use Rattle.gateway.specs.declared.settings.StationSettings.{StationSettings}
 use Rattle.gateway.specs.declared.starting_links.LinkStart.{LinkStart}
 use Rattle.gateway.specs.declared.starting_links.LinkStart.TheVariants as links
 use Rattle.gateway.specs.Config.{Settings}
@@ -39,19 +39,19 @@ without_commands s = commands_given_up_upto (length s.line.stations) s
 -- ---- Other settings
 
 -- the place of the station with this link address, in the order of the turns
-abbrev pub place_of : (address : ℕ) → List Station → Option ℕ
-place_of address stations = position (λ (s : Station). s.address == address) stations
+abbrev pub place_of : (address : ℕ) → List StationSettings → Option ℕ
+place_of address stations = position (λ (s : StationSettings). s.address == address) stations
 
-abbrev pub station_with : (address : ℕ) → List Station → Option Station
+abbrev pub station_with : (address : ℕ) → List StationSettings → Option StationSettings
 station_with address stations =
     option_and_then (λ (place : ℕ). slice_get stations place) (place_of address stations)
 
 -- What becomes of the link to the station that had this place: it is known by its link address.
 abbrev pub start_of : (goes_on : Bool) → (before now : Settings) → (place : ℕ) → LinkStart
 start_of goes_on before now place =
-    let station : Option Station = slice_get before.stations place in
+    let station : Option StationSettings = slice_get before.stations place in
     link_start goes_on (have_same_sizes before.line now.line) station
-    (option_and_then (λ (s : Station). station_with s.address now.stations) station)
+    (option_and_then (λ (s : StationSettings). station_with s.address now.stations) station)
 
 abbrev pub link_started : LinkStart → (station : ℕ) → Serial → Serial
 link_started links.Down station s = s
@@ -76,14 +76,14 @@ links_started goes_on before now s =
     (record s { line = line.released s.line })
 
 -- of each station the place that it had before, if it had one
-abbrev pub seat_of : List Station → Station → Seat
+abbrev pub seat_of : List StationSettings → StationSettings → ResumedStation
 seat_of before s = record { address = s.address; before = place_of s.address before }
 
-abbrev pub seats : (before now : Settings) → List Seat
+abbrev pub seats : (before now : Settings) → List ResumedStation
 seats before now = map (seat_of before.stations) now.stations
 
-abbrev pub places : List Seat → List (Option ℕ)
-places seats = map (λ (s : Seat). s.before) seats
+abbrev pub places : List ResumedStation → List (Option ℕ)
+places seats = map (λ (s : ResumedStation). s.before) seats
 
 -- The line's side goes on with other stations: nothing is outstanding or waits, and no connection
 -- is left. Counts stay.

@@ -17,8 +17,8 @@ use Rattle.link.specs.Requests.{request_frame}
 use Rattle.link.specs.Primary.{sending}
 use Rattle.session.specs.declared.kinds.Close.{Close}
 use Rattle.session.specs.declared.kinds.Close.TheVariants.{Timeout, OwnAnswers, Replaced}
-use Rattle.session.specs.declared.kinds.Kind.{Kind}
-use Rattle.session.specs.declared.kinds.Kind.TheVariants.{Queue, Own}
+use Rattle.session.specs.declared.kinds.Origin.{Origin}
+use Rattle.session.specs.declared.kinds.Origin.TheVariants.{Queue, Own}
 use Rattle.session.specs.History as talk
 use Rattle.session.specs.History.{History, is_started, still_unacknowledged, confirmation_of}
 use Rattle.session.specs.History.{frame_due, has_timed_out}
@@ -186,7 +186,7 @@ pub record TakesFrames (p : Setup) (log : Log) (now : ℕ) (before after : Cours
 -- Frames that go out
 
 -- an ASDU with monitor objects is the queue's, any other an own answer
-abbrev pub kind_of : List ℕ → Kind
+abbrev pub kind_of : List ℕ → Origin
 kind_of asdu = if has_objects asdu then Queue else Own
 
 -- what is said where a frame goes out

@@ -7,7 +7,7 @@ use Rattle.gateway.specs.declared.settings.LineSettings.{LineSettings}
 use Rattle.session.specs.Runs as session
 use Rattle.gateway.specs.declared.settings.TcpSettings.{TcpSettings}
 use Rattle.command.specs.declared.station.StationInfo.{StationInfo}
-use Rattle.gateway.specs.declared.settings.Station.{Station}
+use Rattle.gateway.specs.declared.settings.StationSettings.{StationSettings}
 use Rattle.gateway.specs.Config.{Settings}
 use Rattle.gateway.specs.Reports.{Setup}
 
@@ -27,7 +27,7 @@ link_of l = record {
 abbrev pub session_of : TcpSettings → session.Settings
 session_of t = record { k = t.k; w = t.w; t1 = t.t1_ms; t2 = t.t2_ms; t3 = t.t3_ms }
 
-abbrev pub info_of : Station → StationInfo
+abbrev pub info_of : StationSettings → StationInfo
 info_of s = record { ca = s.ca; select = s.select }
 
 abbrev pub setup_of : Settings → Setup

@@ -4,7 +4,7 @@ use Rattle.std.specs.Prelude.{◌==◌, ◌&&◌, not, Bool, true, false, cond, 
 use Rattle.ft12.specs.Spelling.{address_len}
 use Rattle.asdu.specs.Sizes.{cause_len, ca_len, ioa_len}
 use Rattle.gateway.specs.declared.settings.LineSettings.{LineSettings}
-use Rattle.gateway.specs.declared.settings.Station.{Station}
+use Rattle.gateway.specs.declared.settings.StationSettings.{StationSettings}
 use Rattle.gateway.specs.declared.starting_links.LinkStart.{LinkStart}
 use Rattle.gateway.specs.declared.starting_links.LinkStart.TheVariants as links
 
@@ -21,12 +21,13 @@ are_alike true select = select
 are_alike false select = not select
 
 -- the station is set as it was
-abbrev pub are_same : Station → Station → Bool
+abbrev pub are_same : StationSettings → StationSettings → Bool
 are_same a b = (a.ca == b.ca) && are_alike a.select b.select
 
 -- What becomes of the link to a station that was set so before, and is set so now; whether frame
 -- count bits and held services hold, and whether the sizes of frames and ASDUs are as they were.
-abbrev pub link_start : (holds same_sizes : Bool) → (before now : Option Station) → LinkStart
+abbrev pub link_start : (holds same_sizes : Bool) → (before now : Option StationSettings)
+    → LinkStart
 link_start holds same_sizes None now = links.Down
 link_start holds same_sizes (Some before) None = links.Dropped
 link_start false same_sizes (Some before) (Some now) = links.ResetAfterGap

@@ -2,7 +2,7 @@
 use Rattle.std.specs.Prelude.{◌≡◌, ℕ, true, Bool, Some, slice_get}
 use Rattle.ft12.specs.Spelling.{address_len}
 use Rattle.asdu.specs.Sizes.{cause_len, ca_len, ioa_len}
-use Rattle.gateway.specs.declared.settings.Station.{Station}
+use Rattle.gateway.specs.declared.settings.StationSettings.{StationSettings}
 use Rattle.gateway.specs.Config.{Settings}
 use Rattle.gateway.specs.Carried.{place_of, station_with}
 
@@ -10,9 +10,9 @@ use Rattle.gateway.specs.Carried.{place_of, station_with}
 -- now, with its common address, and guarded or not as before; and link addresses, causes of
 -- transmission, common addresses and object addresses have as many octets as before.
 pub record IsUnchanged (before now : Settings) (place : ℕ) : Type 0 where
-  pub was : Station
+  pub was : StationSettings
   pub stood : slice_get before.stations place ≡ Some was
-  pub is : Station
+  pub is : StationSettings
   pub found : station_with was.address now.stations ≡ Some is
   pub ca : was.ca ≡ is.ca
   pub select : was.select ≡ is.select

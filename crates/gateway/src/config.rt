@@ -1,7 +1,7 @@
 //! All settings together.
 ghost use Rattle.std.specs.Prelude.{◌≡◌};
 
-use crate::settings::{LineSettings, Station, TcpSettings};
+use crate::settings::{LineSettings, StationSettings, TcpSettings};
 use std::marker::Model;
 
 /// The settings of a gateway: those of the line, of the connection, and the stations in the order
@@ -10,7 +10,7 @@ use std::marker::Model;
 pub struct Config {
     line: LineSettings,
     tcp: TcpSettings,
-    stations: Vec<Station>,
+    stations: Vec<StationSettings>,
 }
 
 impl Model for Config {
@@ -30,7 +30,7 @@ impl Config {
     /// The settings with these values. A reader of settings makes sure of the stations before it
     /// calls: there are 1 to 32, each has addresses that a station can have, and no two have the
     /// same link address or the same common address.
-    pub fn new(line: LineSettings, tcp: TcpSettings, stations: Vec<Station>) -> Config
+    pub fn new(line: LineSettings, tcp: TcpSettings, stations: Vec<StationSettings>) -> Config
         requires { AreStations line.link line.sizes.ca stations.items }
         ensures { result ≡ record { line = line; tcp = tcp; stations = stations.items } }
     {
@@ -56,7 +56,7 @@ impl Config {
     }
 
     /// The stations, in the order of their turns.
-    pub fn stations(&self) -> &[Station]
+    pub fn stations(&self) -> &[StationSettings]
         ensures stations { result.now ≡ self.now.stations }
         ensures rules { AreStations self.now.line.link self.now.line.sizes.ca self.now.stations }
     {

@@ -8,7 +8,7 @@ ghost use Rattle.gateway.specs.Agrees.{Follows};
 ghost use Rattle.gateway.specs.Serial.{first_serial};
 ghost use Rattle.gateway.specs.Centre.{first_centre};
 ghost use Rattle.gateway.specs.Setups.{link_of, info_of, session_of, setup_of};
-ghost use Rattle.gateway.specs.declared.settings.Station.{Station};
+ghost use Rattle.gateway.specs.declared.settings.StationSettings.{StationSettings};
 ghost use Rattle.gateway.specs.State.{counts_of, first_state, at_moment, with_wall, wall_now};
 
 mod carrying;
@@ -48,7 +48,7 @@ pub const LAST_MOMENT: u64 = 999_999_999_999_999;
 
 /// What octets of a connection bring.
 #[derive(Clone, Copy)]
-pub(crate) enum Found {
+pub(crate) enum Arrival {
     /// A whole APDU, which is to be taken, and how many of the octets are its.
     Whole(usize),
     /// The beginning of an APDU.
@@ -102,7 +102,7 @@ fn link_settings(line: &LineSettings) -> LinkSettings
 /// The primary station of the line.
 fn master(alloc: Global, config: &Config) -> Result<Master, NoMemory>
     ensures { IfOk result (λ m. m ≡ start (link_of config.now.line)
-        (map (λ (s : Station). s.address) config.now.stations)) }
+        (map (λ (s : StationSettings). s.address) config.now.stations)) }
 {
     let addresses: Vec<u16> = config
         .stations()

@@ -11,7 +11,7 @@ ghost use Rattle.std.specs.Prelude.{false, map};
 ghost use Rattle.session.specs.declared.kinds.Close.{Close};
 ghost use Rattle.command.specs.declared.station.StationInfo.{StationInfo};
 ghost use Rattle.gateway.specs.declared.settings.Silence.TheVariants.{Hold};
-ghost use Rattle.gateway.specs.declared.settings.Station.{Station};
+ghost use Rattle.gateway.specs.declared.settings.StationSettings.{StationSettings};
 ghost use Rattle.gateway.specs.Config.{Settings};
 ghost use Rattle.gateway.specs.Setups.{setup_of};
 ghost use Rattle.gateway.specs.Frames.{Connection};
@@ -129,11 +129,11 @@ pub fn settings_reach_the_promises()
     ensures sizes { (c : Settings) → (setup_of c).sizes ≡ c.line.sizes }
     ensures queue { (c : Settings) → (setup_of c).places ≡ c.line.queue }
     ensures addresses { (c : Settings) →
-        (setup_of c).addresses ≡ map (λ (s : Station). s.address) c.stations }
+        (setup_of c).addresses ≡ map (λ (s : StationSettings). s.address) c.stations }
     ensures ca { (c : Settings) → map (λ (i : StationInfo). i.ca) (setup_of c).stations
-        ≡ map (λ (s : Station). s.ca) c.stations }
+        ≡ map (λ (s : StationSettings). s.ca) c.stations }
     ensures select { (c : Settings) → map (λ (i : StationInfo). i.select) (setup_of c).stations
-        ≡ map (λ (s : Station). s.select) c.stations }
+        ≡ map (λ (s : StationSettings). s.select) c.stations }
     ensures k { (c : Settings) → (setup_of c).session.k ≡ c.tcp.k }
     ensures w { (c : Settings) → (setup_of c).session.w ≡ c.tcp.w }
     ensures t1_ms { (c : Settings) → (setup_of c).session.t1 ≡ c.tcp.t1_ms }

@@ -69,6 +69,6 @@ pub use laws::{
 };
 pub use ports::{Action, Event, Next, Port};
 pub use runs::{End, drive, drive_on};
-pub use settings::{LineSettings, Silence, Station, TcpSettings};
+pub use settings::{LineSettings, Silence, StationSettings, TcpSettings};
 pub use starting_links::{LinkStart, link_start};
 pub use walls::Wall;

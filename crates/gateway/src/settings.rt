@@ -16,7 +16,7 @@ pub enum Silence {
 
 /// A secondary station of the line.
 #[derive(Clone, Copy, Debug, PartialEq, Eq)]
-pub struct Station {
+pub struct StationSettings {
     /// Its link address.
     pub address: u16,
     /// Its common address of ASDUs.

@@ -4,7 +4,7 @@ ghost use Rattle.ft12.specs.Spelling.{address_len};
 ghost use Rattle.asdu.specs.Sizes.{cause_len, ca_len, ioa_len};
 ghost use Rattle.gateway.specs.Starts.{have_same_sizes, are_same, link_start};
 
-use crate::settings::{LineSettings, Station};
+use crate::settings::{LineSettings, StationSettings};
 use asdu::{CaSize, CauseSize, IoaSize};
 use ft12::LinkSize;
 
@@ -77,7 +77,7 @@ pub(crate) fn have_same_sizes(a: &LineSettings, b: &LineSettings) -> bool
 }
 
 /// Whether a station is set as it was.
-fn are_same(before: &Station, now: &Station) -> bool
+fn are_same(before: &StationSettings, now: &StationSettings) -> bool
     ensures { result ≡ are_same before.now now.now }
 {
     let is_alike = if before.select {
@@ -94,8 +94,8 @@ fn are_same(before: &Station, now: &Station) -> bool
 pub fn link_start(
     goes_on: bool,
     same_sizes: bool,
-    before: Option<Station>,
-    now: Option<Station>,
+    before: Option<StationSettings>,
+    now: Option<StationSettings>,
 ) -> LinkStart
     ensures { result ≡ link_start goes_on same_sizes before now }
 {

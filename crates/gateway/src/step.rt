@@ -21,7 +21,7 @@ ghost use Rattle.gateway.specs.Phases.{Phase, Idle, Timed, Asked, IsFlushing};
 ghost use Rattle.gateway.specs.Judging.{Goes, IsOnward, faults_in};
 ghost use Rattle.gateway.specs.Runs.{Puts, faults_unless};
 
-use crate::engine::{Found, Gateway};
+use crate::engine::{Arrival, Gateway};
 use crate::ports::{Action, Event, Port};
 use apci::{ApduRef, Short};
 use link::line_keeps_the_procedures;
@@ -265,9 +265,9 @@ impl Gateway {
             return (count, self.take_apdu(apdu, port));
         }
         match self.feed(octets) {
-            Found::Whole(count) => (count, self.take_received(port)),
-            Found::More => (0, Progress::Over),
-            Found::Refused => (0, self.shut(Close::Grammar, port)),
+            Arrival::Whole(count) => (count, self.take_received(port)),
+            Arrival::More => (0, Progress::Over),
+            Arrival::Refused => (0, self.shut(Close::Grammar, port)),
         }
     }
 

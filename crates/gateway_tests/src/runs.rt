@@ -4,7 +4,7 @@ ghost use Rattle.std.specs.Prelude.{◌≡◌, true, [], None};
 use asdu::{CaSize, CauseSize, IoaSize, Sizes};
 use ft12::LinkSize;
 use gateway::{
-    Action, Config, End, LineSettings, Next, Port, Silence, Station, TcpSettings, drive,
+    Action, Config, End, LineSettings, Next, Port, Silence, StationSettings, TcpSettings, drive,
 };
 use std::alloc::{AllocError, Global};
 use std::test::Fail;
@@ -33,7 +33,7 @@ fn config(alloc: Global) -> Result<Config, AllocError> {
         select_ms: 30000,
         max_age_ms: 10000,
     };
-    let station = Station {
+    let station = StationSettings {
         address: 1,
         ca: 1,
         select: false,

@@ -2,7 +2,7 @@
 //! told is shown by checks/faults.py.
 use asdu::{CaSize, CauseSize, IoaSize, Sizes};
 use ft12::LinkSize;
-use gateway::{LineSettings, Silence, Station, TcpSettings};
+use gateway::{LineSettings, Silence, StationSettings, TcpSettings};
 use settings::{read_config, read_live_config};
 use std::alloc::Global;
 use std::test::Fail;
@@ -20,7 +20,7 @@ const CONFIG_FULL: &str =
     [[station]]\naddress = 65533\nca = 65534\n[live]\nline = \"anything\"\nlisten = \"\"\n";
 
 /// Settings, and the values that they give.
-const VALUES: [(&str, LineSettings, TcpSettings, &[Station]); 2] = [
+const VALUES: [(&str, LineSettings, TcpSettings, &[StationSettings]); 2] = [
     (
         CONFIG_A,
         LineSettings {
@@ -45,7 +45,7 @@ const VALUES: [(&str, LineSettings, TcpSettings, &[Station]); 2] = [
             select_ms: 30000,
             max_age_ms: 10000,
         },
-        &[Station {
+        &[StationSettings {
             address: 1,
             ca: 1,
             select: false,
@@ -76,12 +76,12 @@ const VALUES: [(&str, LineSettings, TcpSettings, &[Station]); 2] = [
             max_age_ms: 3600000,
         },
         &[
-            Station {
+            StationSettings {
                 address: 65534,
                 ca: 65533,
                 select: true,
             },
-            Station {
+            StationSettings {
                 address: 65533,
                 ca: 65534,
                 select: false,
@@ -176,7 +176,7 @@ fn reads(
     text: &str,
     line: &LineSettings,
     tcp: &TcpSettings,
-    stations: &[Station],
+    stations: &[StationSettings],
 ) -> Result<bool, Fail> {
     let config = read_config(alloc, text.as_bytes(), false)?;
     let is_line = *config.line() == *line && *config.tcp() == *tcp;

@@ -22,8 +22,8 @@ use Rattle.toml_places.specs.declared.place.Place.{Place}
 use Rattle.toml_places.specs.declared.spans.Span.{Span}
 use Rattle.hints.specs.declared.file.File.{File}
 use Rattle.hints.specs.declared.file.File.TheVariants.{Settings, Site}
-use Rattle.hints.specs.declared.finding.Found.{Found}
-use Rattle.hints.specs.declared.finding.Found.TheVariants.{Value, Gap, Nowhere}
+use Rattle.hints.specs.declared.finding.KeyPlace.{KeyPlace}
+use Rattle.hints.specs.declared.finding.KeyPlace.TheVariants.{Value, Gap, Nowhere}
 
 -- the place of the octet behind the first so many
 abbrev pub place_of : List ℕ → ℕ → Place
@@ -43,13 +43,13 @@ abbrev pub gap_line : List ℕ → ℕ → List ℕ
 gap_line text at =
     codes "no value: it belongs below line " ++ decimal ((place_of text at).line) ++ 10 ∷ []
 
-abbrev pub found_line : List ℕ → Found → List ℕ
+abbrev pub found_line : List ℕ → KeyPlace → List ℕ
 found_line text (Value s) = value_line text s
 found_line text (Gap s) = gap_line text s.from
 found_line text Nowhere = []
 
 -- the value stands there, or the key belongs there, or neither place is known
-abbrev pub IsPlace : Spot → List ℕ → Found → Type 0
+abbrev pub IsPlace : Spot → List ℕ → KeyPlace → Type 0
 IsPlace spot text (Value s) = IsValueFound spot text (Some s)
 IsPlace spot text (Gap s) = IsValueFound spot text None × IsGapFound spot text (Some s)
 IsPlace spot text Nowhere = IsValueFound spot text None × IsGapFound spot text None
@@ -78,7 +78,7 @@ twin_line text None = []
 twin_line text (Some s) = (codes "taken at " ++ place_words (place_of text s.from)) ++ 10 ∷ []
 
 -- the octets of what was found are some of the text
-abbrev pub IsInside : List ℕ → Found → Type 0
+abbrev pub IsInside : List ℕ → KeyPlace → Type 0
 IsInside text (Value s) = (s.from ≤ s.to) × (s.to ≤ length text)
 IsInside text (Gap s) = (s.from ≤ s.to) × (s.to ≤ length text)
 IsInside text Nowhere = Unit {0}
@@ -119,7 +119,7 @@ pub record AreKeyLines (file : File) (text path lines : List ℕ) : Type 0 where
   pub root : Members
   pub document : IsDocument text root
   pub item : IsItemOf file path root spot.item
-  pub found : Found
+  pub found : KeyPlace
   pub place : IsPlace spot text found
   pub twin : Option Span
   pub taken : IsTwin spot text twin

@@ -7,7 +7,7 @@ use toml_places::{Span, Spot, find_gap, find_value};
 
 /// Where the value of a key stands.
 #[derive(Clone, Copy, Debug, PartialEq, Eq)]
-pub(crate) enum Found {
+pub(crate) enum KeyPlace {
     /// These octets write it.
     Value(Span),
     /// It isn't there, and belongs behind this place.
@@ -16,15 +16,15 @@ pub(crate) enum Found {
     Nowhere,
 }
 
-pub(crate) fn find(alloc: Global, text: &[u8], spot: &Spot<'_>) -> Result<Found, AllocError>
+pub(crate) fn find(alloc: Global, text: &[u8], spot: &Spot<'_>) -> Result<KeyPlace, AllocError>
     ensures place { IfOk result (IsPlace spot.now text.now) }
     ensures inside { IfOk result (IsInside text.now) }
 {
     if let Some(span) = find_value(alloc, text, spot)? {
-        return Ok(Found::Value(span));
+        return Ok(KeyPlace::Value(span));
     }
     match find_gap(alloc, text, spot)? {
-        Some(span) => Ok(Found::Gap(span)),
-        None => Ok(Found::Nowhere),
+        Some(span) => Ok(KeyPlace::Gap(span)),
+        None => Ok(KeyPlace::Nowhere),
     }
 }

@@ -5,7 +5,7 @@ ghost use Rattle.hints.specs.Explained.{twin_line, value_line, wanted_line};
 ghost use Rattle.toml_places.specs.Changes.{IsWithin};
 
 use crate::file::File;
-use crate::finding::Found;
+use crate::finding::KeyPlace;
 use std::alloc::{AllocError, Global};
 use toml_places::{Span, place_at};
 
@@ -20,14 +20,14 @@ pub(crate) fn place_words(alloc: Global, text: &[u8], at: usize) -> Result<Strin
 }
 
 /// Where a value stands, with the value as it is written, or where it belongs.
-pub(crate) fn found_line(alloc: Global, text: &[u8], found: Found) -> Result<Vec<u8>, AllocError>
+pub(crate) fn found_line(alloc: Global, text: &[u8], found: KeyPlace) -> Result<Vec<u8>, AllocError>
     requires { IsInside text.now found }
     ensures { IfOk result (λ line. line.items ≡ found_line text.now found) }
 {
     match found {
-        Found::Value(span) => value_line(alloc, text, span),
-        Found::Gap(span) => gap_line(alloc, text, span.from),
-        Found::Nowhere => Ok(Vec::new(alloc)),
+        KeyPlace::Value(span) => value_line(alloc, text, span),
+        KeyPlace::Gap(span) => gap_line(alloc, text, span.from),
+        KeyPlace::Nowhere => Ok(Vec::new(alloc)),
     }
 }
 

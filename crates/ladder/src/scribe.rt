@@ -7,7 +7,7 @@ ghost use Rattle.ladder.specs.Described.{first_remembered, IsLadder};
 use crate::memory::Memory;
 use crate::notes::{push_action, push_event};
 use crate::rungs::Style;
-use crate::taken::{Page, Taken};
+use crate::taken::{OpenLines, TakenOctets};
 use gateway::{Action, History, Next};
 use std::alloc::Global;
 use std::marker::Model;
@@ -21,8 +21,8 @@ pub struct Scribe {
     history: History,
     /// The log as it was when the page was cleared, and its text.
     poured: History,
-    taken: Taken,
-    page: Page,
+    taken: TakenOctets,
+    page: OpenLines,
     /// No memory was refused to a line so far.
     is_noted: bool,
 }
@@ -74,8 +74,8 @@ impl Scribe {
             memory: Memory::new(alloc, style.sizes.link),
             history: History::new(),
             poured: History::new(),
-            taken: Taken::new(),
-            page: Page {
+            taken: TakenOctets::new(),
+            page: OpenLines {
                 text: String::new(alloc),
             },
             is_noted: true,

@@ -6,31 +6,31 @@ use std::marker::Model;
 
 /// Lines that weren't taken off yet.
 #[derive(Drop)]
-pub(crate) struct Page {
+pub(crate) struct OpenLines {
     pub(crate) text: String,
 }
 
 /// Octets that only proofs read. It takes no memory, and its methods do nothing at run time.
 #[derive(Drop)]
-pub(crate) struct Taken {
+pub(crate) struct TakenOctets {
     pub(crate) ghost octets: { List ℕ },
 }
 
-impl Model for Taken {
+impl Model for TakenOctets {
     ghost also_owns = { λ _. ftrue };
 }
 
-impl Taken {
-    pub(crate) fn new() -> Taken
+impl TakenOctets {
+    pub(crate) fn new() -> TakenOctets
         ensures { result.octets ≡ [] }
     {
-        Taken {}
+        TakenOctets {}
     }
 
     /// These, and a page behind them.
-    pub(crate) fn with(&self, _page: &Page) -> Taken
+    pub(crate) fn with(&self, _page: &OpenLines) -> TakenOctets
         ensures { result.octets ≡ self.now.octets ++ string_bytes _page.now.text }
     {
-        Taken {}
+        TakenOctets {}
     }
 }

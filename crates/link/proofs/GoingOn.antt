@@ -12,7 +12,7 @@ use Rattle.link.specs.Procedure.{after_silence}
 use Rattle.link.specs.Turns.{StationState, no_station, station_at}
 use Rattle.link.specs.Primary.{Primary, Outstanding}
 use Rattle.link.specs.Matching.{IsAllowed}
-use Rattle.link.specs.declared.seat.Seat.{Seat}
+use Rattle.link.specs.declared.seat.ResumedStation.{ResumedStation}
 use Rattle.link.specs.Carried.{station_left, released_from, released, station_carried, seated}
 use Rattle.link.specs.Carried.{reseated, bit_of}
 
@@ -63,13 +63,15 @@ bits_carried retries address s = go s.link
     go (Next fcb) = refl
     go (Held fcb service missed) = refl
 
-pub seats_stay : (settings : LinkSettings) (seats : List Seat) (p : Primary) (i : ℕ) (seat : Seat)
+pub seats_stay : (settings : LinkSettings) (seats : List ResumedStation) (p : Primary) (i : ℕ)
+    (seat : ResumedStation)
     → slice_get seats i ≡ Some seat → station_at (reseated settings seats p).stations i
     ≡ seated settings.retries seat.address p.stations seat.before
 seats_stay settings seats p i seat there =
-    let f : Seat → StationState = λ s. seated settings.retries s.address p.stations s.before in
+    let f : ResumedStation → StationState = λ s. seated settings.retries s.address p.stations
+    s.before in
     get_or_from_slice_get (map f seats) i (f seat) no_station
-    (slice_get-map f seats i ∙ ap (λ (o : Option Seat). option_map f o) there)
+    (slice_get-map f seats i ∙ ap (λ (o : Option ResumedStation). option_map f o) there)
 
 pub number : (p : Primary) → length (released p).stations ≡ length p.stations
 number p = go p.outstanding

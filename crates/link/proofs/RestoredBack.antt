@@ -11,7 +11,7 @@ use Rattle.link.specs.Turns.{Over}
 use Rattle.link.specs.Primary.{Primary, Outstanding}
 use Rattle.link.specs.Procedure.{LinkSettings}
 use Rattle.link.specs.Holding.{outstanding_from, Awaited}
-use Rattle.link.specs.declared.master.restoring.Head.{Head}
+use Rattle.link.specs.declared.master.restoring.TurnLine.{TurnLine}
 use Rattle.link.specs.Restored.{phase_numbers, phase_from, asked_numbers, asked_from, head_numbers}
 use Rattle.link.specs.Restored.{head_from, awaited_numbers, awaited_from, awaited_of}
 use Rattle.link.specs.Restored.{octets_received}
@@ -88,7 +88,7 @@ found_is b v o are e =
     (ap deaf_in g, ap octets_in g)
 
 -- the primary that is made of what was read is the one that was written
-pub restored_same : (p : Primary) (settings : LinkSettings) (h : Head) (a : Option Awaited)
+pub restored_same : (p : Primary) (settings : LinkSettings) (h : TurnLine) (a : Option Awaited)
     (x : List ℕ)
     (ss : List StationState) → p.settings ≡ settings
     → h ≡ record { turn = p.turn; again = p.again; spoilt = p.spoilt; phase = p.phase }
@@ -96,13 +96,19 @@ pub restored_same : (p : Primary) (settings : LinkSettings) (h : Head) (a : Opti
     → x ≡ octets_received p.outstanding → ss ≡ p.stations
     → primary_with settings h (outstanding_from a (Some x)) ss ≡ p
 restored_same p settings h a x ss set eh ea ex es =
-    let q : Head = record { turn = p.turn; again = p.again; spoilt = p.spoilt; phase = p.phase } in
+    let q : TurnLine = record {
+      turn = p.turn;
+      again = p.again;
+      spoilt = p.spoilt;
+      phase =
+          p.phase;
+    } in
     let o : outstanding_from a (Some x) ≡ p.outstanding =
     ap (λ (a : Option Awaited). outstanding_from a (Some x)) ea
     ∙ ap (λ (x : List ℕ). outstanding_from (awaited_of p.outstanding) (Some x)) ex
     ∙ outstanding_back p.outstanding in
     ap (λ (s : LinkSettings). primary_with s h (outstanding_from a (Some x)) ss) (sym set)
-    ∙ ap (λ (h : Head). primary_with p.settings h (outstanding_from a (Some x)) ss) eh
+    ∙ ap (λ (h : TurnLine). primary_with p.settings h (outstanding_from a (Some x)) ss) eh
     ∙ ap (λ (o : Option Outstanding). primary_with p.settings q o ss) o
     ∙ ap (λ (ss : List StationState). primary_with p.settings q p.outstanding ss) es
 
@@ -121,7 +127,7 @@ received_begins p (Some o) is = by o o.arrived refl is
 pub some_awaited_same : (t s : Option Awaited) → Some t ≡ Some s → t ≡ s
 some_awaited_same t s e = cc
 
-pub some_head_same : (t s : Head) → Some t ≡ Some s → t ≡ s
+pub some_head_same : (t s : TurnLine) → Some t ≡ Some s → t ≡ s
 some_head_same t s e = cc
 
 pub none_some : (r : Option Primary) → r ≡ None → IsSome r → ⊥

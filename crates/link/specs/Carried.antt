@@ -9,7 +9,7 @@ use Rattle.link.specs.Procedure.{LinkSettings, Link, Down, Available, Next, Held
 use Rattle.link.specs.Procedure.{after_silence}
 use Rattle.link.specs.Turns.{StationState, Starting, Over, station_at}
 use Rattle.link.specs.Primary.{Primary, Outstanding, is_sending_command, station_down}
-use Rattle.link.specs.declared.seat.Seat.{Seat}
+use Rattle.link.specs.declared.seat.ResumedStation.{ResumedStation}
 
 -- ---- Commands without an answer
 
@@ -144,11 +144,11 @@ seated retries address stations (Some k) = station_carried retries address (stat
 
 -- A line with these settings and stations: each goes on that was there before, the others are new.
 -- The first turn is the first station's, and nothing is outstanding.
-abbrev pub reseated : LinkSettings → List Seat → Primary → Primary
+abbrev pub reseated : LinkSettings → List ResumedStation → Primary → Primary
 reseated settings seats p = record {
   settings = settings;
   stations =
-      map (λ (s : Seat). seated settings.retries s.address p.stations s.before) seats;
+      map (λ (s : ResumedStation). seated settings.retries s.address p.stations s.before) seats;
   turn = 0;
   phase = Starting;
   again = false;

@@ -15,7 +15,7 @@ use Rattle.ft12.specs.Spelling.{IsOctet}
 use Rattle.std.specs.List.{All}
 use Rattle.link.specs.Answers.{Service}
 use Rattle.link.specs.declared.awaited.Awaited.{Awaited}
-use Rattle.link.specs.declared.master.restoring.Head.{Head}
+use Rattle.link.specs.declared.master.restoring.TurnLine.{TurnLine}
 use Rattle.link.specs.Saved.{bit_number, bit_from, service_numbers, service_from, FitsSavedStation}
 use Rattle.link.specs.Saved.{FitsSavedService, lines_of}
 
@@ -106,7 +106,7 @@ phase_from [] = None
 phase_from (kind ∷ ns) = phase_by kind ns
 
 -- a state with all of its parts
-abbrev pub primary_with : LinkSettings → Head → Option Outstanding → List StationState → Primary
+abbrev pub primary_with : LinkSettings → TurnLine → Option Outstanding → List StationState → Primary
 primary_with settings head outstanding stations = record {
   settings = settings;
   stations = stations;
@@ -117,12 +117,12 @@ primary_with settings head outstanding stations = record {
   spoilt = head.spoilt;
 }
 
-abbrev pub head_by : (turn spoilt : ℕ) → Option Bool → Option Phase → Option Head
+abbrev pub head_by : (turn spoilt : ℕ) → Option Bool → Option Phase → Option TurnLine
 head_by turn spoilt (Some again) (Some phase) =
     Some (record { turn = turn; again = again; spoilt = spoilt; phase = phase })
 head_by turn spoilt again phase = None
 
-abbrev pub head_from : List ℕ → Option Head
+abbrev pub head_from : List ℕ → Option TurnLine
 head_from (turn ∷ again ∷ spoilt ∷ ns) = head_by turn spoilt (bit_from again) (phase_from ns)
 head_from ns = None
 

@@ -7,11 +7,11 @@ use std::marker::Model;
 
 /// The octets of an application service data unit, as a frame carries them: at most 253.
 #[derive(Drop)]
-pub struct Asdu {
+pub struct UserData {
     octets: ArrayVec<u8, 253>,
 }
 
-impl Model for Asdu {
+impl Model for UserData {
     ghost use Rattle.std.specs.Prelude.{All, ◌<◌, List, ℕ};
 
     ghost Value = { List ℕ };
@@ -21,13 +21,13 @@ impl Model for Asdu {
     ghost invariant = { λ a. All (λ n. n < 256) a.octets.items };
 }
 
-impl Asdu {
+impl UserData {
     /// These octets.
-    pub fn new(octets: &[u8]) -> Asdu
+    pub fn new(octets: &[u8]) -> UserData
         requires { length octets.now ≤ 253 }
         ensures { result ≡ octets.now }
     {
-        Asdu {
+        UserData {
             octets: ArrayVec::try_from(octets).unwrap(),
         }
     }
@@ -45,15 +45,15 @@ impl Asdu {
         ensures octets { result.items ≡ self }
         ensures small { All (λ n. n < 256) result.items }
     {
-        let Asdu { octets } = self;
+        let UserData { octets } = self;
         octets
     }
 
     /// The same octets.
-    pub fn copied(&self) -> Asdu
+    pub fn copied(&self) -> UserData
         ensures { result ≡ self.now }
     {
-        Asdu::new(&self.octets)
+        UserData::new(&self.octets)
     }
 }
 

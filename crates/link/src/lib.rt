@@ -72,7 +72,7 @@ mod station;
 mod turn;
 
 pub use answer::Answer;
-pub use asdu::{Asdu, AsduRef, CommandOctets};
+pub use asdu::{AsduRef, CommandOctets, UserData};
 pub use control::{Control, PrimaryFunction, SecondaryFunction, controls_are_octets};
 pub use examples::{
     answers_by_example, controls_by_example, outstations_by_example, requests_by_example,
@@ -114,7 +114,7 @@ pub use outcome::{Outcome, ReportRef};
 pub use procedure::Link;
 pub use received_request::ReceivedRequest;
 pub use request::{Reading, Request, RequestKind, read_request};
-pub use seat::Seat;
+pub use seat::ResumedStation;
 pub use service::{Asked, Service};
 pub use session::SessionState;
 pub use settings::LinkSettings;

@@ -7,7 +7,7 @@ ghost use Rattle.link.specs.declared.service.Service.TheVariants as service;
 ghost use Rattle.link.specs.Received.{with_data};
 
 use crate::answer::Answer;
-use crate::asdu::{Asdu, CommandOctets};
+use crate::asdu::{CommandOctets, UserData};
 use crate::service::{Asked, Service};
 use ft12::FrameRef;
 use std::marker::Model;
@@ -18,7 +18,7 @@ pub struct ReceivedRequest {
     /// What is asked, but for the octets of a command.
     pub(crate) bare: Asked,
     /// The octets of a command.
-    pub(crate) asdu: Asdu,
+    pub(crate) asdu: UserData,
 }
 
 impl Model for ReceivedRequest {
@@ -37,7 +37,7 @@ impl ReceivedRequest {
     {
         ReceivedRequest {
             bare,
-            asdu: Asdu::new(&[]),
+            asdu: UserData::new(&[]),
         }
     }
 
@@ -48,7 +48,7 @@ impl ReceivedRequest {
     {
         ReceivedRequest {
             bare: Asked::Counted(fcb, Service::Command(CommandOctets::new(&[]))),
-            asdu: Asdu::new(octets),
+            asdu: UserData::new(octets),
         }
     }
 

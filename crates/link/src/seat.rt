@@ -2,7 +2,7 @@
 
 /// A station of a line that goes on.
 #[derive(Clone, Copy, Debug, PartialEq, Eq)]
-pub struct Seat {
+pub struct ResumedStation {
     /// Its link address.
     pub address: u16,
     /// Its index among the stations that there were, if it was one of them.

@@ -15,7 +15,7 @@ ghost use Rattle.link.specs.Secondary.{IsCommandServed, IsReadingReceived, with_
 ghost use Rattle.link.specs.Secondary.{ReceivesOctets};
 ghost use Rattle.link.specs.Secondary.{fresh_station};
 
-use crate::asdu::Asdu;
+use crate::asdu::UserData;
 use crate::control::{Control, SecondaryFunction};
 use crate::no_memory::NoMemory;
 use crate::received_request::ReceivedRequest;
@@ -36,8 +36,8 @@ pub struct Station {
     address: u16,
     bit: Option<bool>,
     last: Option<Frame>,
-    class1: VecDeque<Asdu>,
-    class2: VecDeque<Asdu>,
+    class1: VecDeque<UserData>,
+    class2: VecDeque<UserData>,
     accepted: Vec<Vec<u8>>,
     given: u64,
 }
@@ -152,7 +152,7 @@ impl Station {
         Some(frame)
     }
 
-    fn give(&mut self, fcb: bool, report: Asdu) -> Option<Frame>
+    fn give(&mut self, fcb: bool, report: UserData) -> Option<Frame>
         requires { FitsFrame self.old.size report }
         ensures state { self.new ≡ record
             (with_frame self.old fcb (data_frame
@@ -201,7 +201,7 @@ impl Station {
         }
     }
 
-    fn accept(&mut self, asdu: &Asdu) -> bool
+    fn accept(&mut self, asdu: &UserData) -> bool
         ensures taken { OnTrue result
             (self.new ≡ record self.old { accepted = self.old.accepted ++ asdu.now ∷ [] }) }
         ensures refused { OnFalse result (self.new ≡ self.old) }
@@ -212,7 +212,7 @@ impl Station {
         }
     }
 
-    fn serve_command(&mut self, fcb: bool, asdu: &Asdu) -> Option<Frame>
+    fn serve_command(&mut self, fcb: bool, asdu: &UserData) -> Option<Frame>
         ensures served { IsCommandServed self.old fcb asdu.now result self.new }
         ensures fits { IfSome result (Fits self.old.size) }
     {
@@ -240,7 +240,7 @@ impl Station {
     }
 
     /// Serves a service with these octets, which count where it is a command.
-    fn serve_counted(&mut self, fcb: bool, service: &Service, asdu: &Asdu) -> Option<Frame>
+    fn serve_counted(&mut self, fcb: bool, service: &Service, asdu: &UserData) -> Option<Frame>
         ensures served { IsServed self.old
             (Asked.Counted fcb (service_with asdu.now service.now)) result self.new }
         ensures fits { IfSome result (Fits self.old.size) }
@@ -326,7 +326,7 @@ impl Station {
         ensures ok { OnOk result (self.new ≡ called self.old (Report1 true report.now)) }
         ensures err { OnErr result (self.new ≡ self.old) }
     {
-        match self.class1.push_back(Asdu::new(report)) {
+        match self.class1.push_back(UserData::new(report)) {
             Ok(()) => Ok(()),
             Err(_) => Err(NoMemory),
         }
@@ -339,7 +339,7 @@ impl Station {
         ensures ok { OnOk result (self.new ≡ called self.old (Report2 true report.now)) }
         ensures err { OnErr result (self.new ≡ self.old) }
     {
-        match self.class2.push_back(Asdu::new(report)) {
+        match self.class2.push_back(UserData::new(report)) {
             Ok(()) => Ok(()),
             Err(_) => Err(NoMemory),
         }

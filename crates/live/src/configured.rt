@@ -3,10 +3,10 @@ ghost use Rattle.std.specs.Prelude.{◌≤◌};
 
 use asdu::{CaSize, CauseSize, IoaSize, Sizes};
 use ft12::LinkSize;
-use gateway::{Config, LineSettings, Silence, Station, TcpSettings};
+use gateway::{Config, LineSettings, Silence, StationSettings, TcpSettings};
 use std::alloc::{AllocError, Global};
 
-const STATION: Station = Station {
+const STATION: StationSettings = StationSettings {
     address: 1,
     ca: 1,
     select: false,

@@ -1,7 +1,7 @@
 -- What of a run is shown (this gateway's own profile).
 use Rattle.std.specs.Prelude.{◌≡◌, ℕ, Bool, true, false, List, [], map, Option, Some, None}
 use Rattle.std.specs.Prelude.{string_bytes}
-use Rattle.gateway.specs.declared.settings.Station.{Station as Setting}
+use Rattle.gateway.specs.declared.settings.StationSettings.{StationSettings as Setting}
 use Rattle.runlog.specs.Names.{name_in}
 use Rattle.runlog.specs.Stations as stations
 use Rattle.runlog.specs.declared.names.NamedStation.{NamedStation}

@@ -3,7 +3,7 @@ ghost use Rattle.std.specs.Prelude.{◌≡◌, IfOk, map, string_bytes, length};
 ghost use Rattle.lookout.specs.Shown.{AreKnown, text_or_none};
 ghost use Rattle.runlog.specs.Names.{name_in};
 
-use gateway::Station;
+use gateway::StationSettings;
 use runlog::{NamedStation, name_of};
 use std::alloc::{AllocError, Global};
 
@@ -18,7 +18,7 @@ pub(crate) struct Known {
 /// The stations of the settings, in their order.
 pub(crate) fn known_of(
     alloc: Global,
-    stations: &[Station],
+    stations: &[StationSettings],
     names: &[NamedStation<'_>],
 ) -> Result<Vec<Known>, AllocError>
     ensures { IfOk result (λ known. AreKnown names.now stations.now known.items) }

@@ -27,13 +27,13 @@ use Rattle.record.specs.Rerunning.{Halted, IsHalted, IsPartFault, IsReadFault, S
 use Rattle.record.specs.declared.audit.RecordFault.{RecordFault}
 use Rattle.record.specs.declared.audit.RecordFault.TheVariants as faults
 use Rattle.record.specs.declared.audit.Comparison.{Comparison}
-use Rattle.record.specs.declared.audit.comparing.Standing.{Standing}
-use Rattle.record.specs.declared.audit.comparing.Standing.TheVariants.{Level}
+use Rattle.record.specs.declared.audit.comparing.Agreement.{Agreement}
+use Rattle.record.specs.declared.audit.comparing.Agreement.TheVariants.{Level}
 
 -- So much of a record was read, run and compared.
 pub record AuditsTo (settings : Settings) (known coming : Option (List ℕ)) (state : State)
     (h : Halted)
-    (standing : Standing) : Type 0 where
+    (standing : Agreement) : Type 0 where
   pub before : List ℕ
   pub rest : (t : List ℕ) → Gives coming t → Gives known (before ++ t)
   pub lines : List (List ℕ)
@@ -81,7 +81,7 @@ pub record AreOf (block : List ℕ) (over : Bool) (part : Option (List ℕ)) : T
   pub other : over ≡ false → part ≡ Some block
 
 module _ (settings : Settings) (known coming : Option (List ℕ)) (state : State) (h : Halted)
-    (standing : Standing)
+    (standing : Agreement)
     (so : AuditsTo settings known coming state h standing) (block : Reading) (lines : List ℕ)
     (same : lines ≡ block.lines)
     (cut : IfSome coming (λ text. IsGiven text block)) (part : Option (List ℕ))
@@ -99,7 +99,7 @@ module _ (settings : Settings) (known coming : Option (List ℕ)) (state : State
   lines_last over = so.are lines ∙ ap (λ ls. so.lines ++ ls) (sym (of.last over))
 
   -- a block more was run
-  pub audit_on : block.is_over ≡ false → (ended : State) (after : Halted) (stood : Standing)
+  pub audit_on : block.is_over ≡ false → (ended : State) (after : Halted) (stood : Agreement)
       → Stands settings (so.lines ++ parts_after 10 part) ended after stood
       → AuditsTo settings known block.coming ended after stood
   audit_on goes ended after stood stands = record {
@@ -113,7 +113,7 @@ module _ (settings : Settings) (known coming : Option (List ℕ)) (state : State
 
   -- and it was the last one
   pub audit_ends : block.is_over ≡ true
-      → (ended : State) (after : Halted) (stood : Standing) (found : Comparison)
+      → (ended : State) (after : Halted) (stood : Agreement) (found : Comparison)
       → Stands settings (so.lines ++ parts_after 10 part) ended after stood → IsHalted after
       → IsFaithful (setup_of settings) after.log → KeepsOrder after.log
       → Delivers (setup_of settings) after.log

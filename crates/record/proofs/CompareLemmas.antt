@@ -20,9 +20,9 @@ use Rattle.record.specs.Lines.{is_cut, is_first, behind_first, first_difference,
 use Rattle.record.specs.Rerunning.{Halted, IsHalted, Stands}
 use Rattle.record.specs.declared.audit.Comparison.TheVariants as Comparisons
 use Rattle.record.specs.declared.audit.Comparison.TheVariants.{Same}
-use Rattle.record.specs.declared.audit.comparing.Standing.{Standing}
-use Rattle.record.specs.declared.audit.comparing.Standing.TheVariants.{Level, Behind, Differs}
-use Rattle.record.specs.declared.audit.passing.Tally.{Tally}
+use Rattle.record.specs.declared.audit.comparing.Agreement.{Agreement}
+use Rattle.record.specs.declared.audit.comparing.Agreement.TheVariants.{Level, Behind, Differs}
+use Rattle.record.specs.declared.audit.passing.LineCounts.{LineCounts}
 
 module _ (first : ℕ) (lines run : List (List ℕ)) (n : ℕ) (line : List ℕ)
     (left rest ahead : List (List ℕ))
@@ -116,8 +116,8 @@ none_more lines run o is = ap (λ ls. first_difference 1 ls run) (sym (append-ni
     ∙ ap (λ ls. first_difference 1 (lines ++ []) ls) (sym (append-nil run)) ∙ is
 
 module _ (settings : Settings) (lines : List (List ℕ)) (state : State) (h : Halted)
-    (standing : Standing) where
-  pub logged_level : (ahead : Vec ℕ Global) → standing ≡ Level ahead → (tally : Tally)
+    (standing : Agreement) where
+  pub logged_level : (ahead : Vec ℕ Global) → standing ≡ Level ahead → (tally : LineCounts)
       → tally ≡ h.tally → IsHalted h
       → Stands settings lines state h standing
       → IsComparison lines h.log (Same tally.events tally.actions)
@@ -125,8 +125,8 @@ module _ (settings : Settings) (lines : List (List ℕ)) (state : State) (h : Ha
       let compared : IsCompared lines (whole_lines (lines_of_log h.log)) (Level ahead) =
       subst (IsCompared lines (whole_lines (lines_of_log h.log))) is stands.compared in (
         none_more lines (whole_lines (lines_of_log h.log)) None (compared.0 [] []),
-        ap (λ (t : Tally). t.events) same ∙ halted.events,
-        ap (λ (t : Tally). t.actions) same ∙ stands.runs.actions,
+        ap (λ (t : LineCounts). t.events) same ∙ halted.events,
+        ap (λ (t : LineCounts). t.actions) same ∙ stands.runs.actions,
       )
 
   pub logged_behind : (n : ℕ) (line : Vec ℕ Global) → standing ≡ Behind n line

@@ -17,9 +17,9 @@ use Rattle.traces.specs.Trace.{is_skipped, is_wrong, lines_of, logged}
 use Rattle.traces.proofs.JoinedLemmas.{events_joined}
 use Rattle.record.specs.Passing.{IsKind, IsNext, IsOneLine, IsTally, Passes}
 use Rattle.record.specs.Lines.{event_line, event_lines, is_action, is_cut, is_marked}
-use Rattle.record.specs.declared.audit.passing.Kind.{Kind}
-use Rattle.record.specs.declared.audit.passing.Kind.TheVariants as kinds
-use Rattle.record.specs.declared.audit.passing.Tally.{Tally}
+use Rattle.record.specs.declared.audit.passing.LineKind.{LineKind}
+use Rattle.record.specs.declared.audit.passing.LineKind.TheVariants as kinds
+use Rattle.record.specs.declared.audit.passing.LineCounts.{LineCounts}
 
 -- One line
 
@@ -151,7 +151,7 @@ one_logged answers.Fault buf logs = cc
 
 -- Lines
 
-pub passes_none : (lines : List (List ℕ)) (tally : Tally) → Passes [] lines tally lines tally
+pub passes_none : (lines : List (List ℕ)) (tally : LineCounts) → Passes [] lines tally lines tally
 passes_none lines tally = record {
   logged = refl;
   right = λ all. all;
@@ -162,7 +162,7 @@ passes_none lines tally = record {
 
 -- a line more was passed
 passes_line : (news : List LogEntry) (lines left rest : List (List ℕ)) (line : List ℕ)
-    (before now after : Tally)
+    (before now after : LineCounts)
     → Passes [] lines before left now → left ≡ line ∷ rest → news ≡ events_in (event_line line ∷ [])
     → IsRight (event_line line) → after.lines ≡ now.lines + 1 → after.events
     ≡ now.events + length news
@@ -197,7 +197,7 @@ count_no n line rest is =
     ∙ ap (λ (b : Bool). cond b 1 0 + count_by is_action rest) is in
     omega (arith, all)
 
-module _ (lines left rest : List (List ℕ)) (line : List ℕ) (before : Tally) (n e a : ℕ)
+module _ (lines left rest : List (List ℕ)) (line : List ℕ) (before : LineCounts) (n e a : ℕ)
     (h : Passes [] lines before left (record { lines = n; events = e; actions = a })) (is : left
     ≡ line ∷ rest) where
   pub passes_action : is_action line ≡ true

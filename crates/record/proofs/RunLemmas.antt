@@ -26,8 +26,8 @@ use Rattle.record.specs.Comparing.{IsCompared}
 use Rattle.record.specs.Passing.{IsNext}
 use Rattle.record.specs.Lines.{event_line, event_lines, is_action, whole_lines}
 use Rattle.record.specs.Rerunning.{Halted, IsHalted, Rerunning, IsRerunning, RunsSoFar, Stands}
-use Rattle.record.specs.declared.audit.comparing.Standing.{Standing}
-use Rattle.record.specs.declared.audit.passing.Tally.{Tally}
+use Rattle.record.specs.declared.audit.comparing.Agreement.{Agreement}
+use Rattle.record.specs.declared.audit.passing.LineCounts.{LineCounts}
 
 -- The log
 
@@ -106,7 +106,8 @@ went r page now action holds printed printable = record {
 }
 
 -- an event came, or none does any more
-pub came : (r : Rerunning) (page : List ℕ) (left : Option (List ℕ)) (tally : Tally) (next : Next)
+pub came : (r : Rerunning) (page : List ℕ) (left : Option (List ℕ)) (tally : LineCounts)
+    (next : Next)
     (buf : List ℕ)
     → IsRerunning r → IsNext (parts_after 10 r.left) r.now.tally next buf left tally
     → page ≡ r.page ++ lines_of_log (logged_by next buf)
@@ -241,7 +242,7 @@ run_lines start r h part fresh holds fixed =
 -- and was compared
 pub part_stands : (settings : Settings) (lines : List (List ℕ)) (began ended : State) (h : Halted)
     (start r : Rerunning)
-    (part : Option (List ℕ)) (standing stood : Standing) (page : List ℕ)
+    (part : Option (List ℕ)) (standing stood : Agreement) (page : List ℕ)
     → start ≡ record { part = part; start = h; left = part; now = h; page = []; failed = 0 }
     → Stands settings lines began h standing → IsRerunning r → fixed_of r ≡ fixed_of start
     → is_none r.left ≡ true → Follows (setup_of settings) ended (Some r.now.log)

@@ -1,8 +1,8 @@
 -- How a record and its run are compared, part by part (this gateway's own profile).
 use Rattle.std.specs.Prelude.{◌≡◌, ℕ, ◌+◌, false, List, [], ◌∷◌, ◌++◌, length, Some}
 use Rattle.record.specs.Lines.{whole_lines, is_cut, first_difference}
-use Rattle.record.specs.declared.audit.comparing.Standing.{Standing}
-use Rattle.record.specs.declared.audit.comparing.Standing.TheVariants.{Level, Behind, Differs}
+use Rattle.record.specs.declared.audit.comparing.Agreement.{Agreement}
+use Rattle.record.specs.declared.audit.comparing.Agreement.TheVariants.{Level, Behind, Differs}
 use Rattle.record.specs.declared.audit.comparing.Walk.{Walk}
 use Rattle.record.specs.declared.audit.comparing.Walk.TheVariants as walks
 
@@ -39,7 +39,7 @@ IsWalk first lines run (walks.Behind n line) = IsBehind first lines (whole_lines
 IsWalk first lines run (walks.Differs n) = IsOff first lines (whole_lines run) n
 
 -- how all lines so far stand beside those of the run so far
-abbrev pub IsCompared : (lines run : List (List ℕ)) → Standing → Type 0
+abbrev pub IsCompared : (lines run : List (List ℕ)) → Agreement → Type 0
 IsCompared lines run (Level ahead) =
     GoesOn 1 lines run (1 + length lines) [] (whole_lines ahead.items) × AreWhole ahead.items
 IsCompared lines run (Behind n line) = IsBehind 1 lines run n line.items

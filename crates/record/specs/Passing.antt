@@ -12,9 +12,9 @@ use Rattle.traces.specs.Trace.{first_wrong, is_wrong, lines_of}
 use Rattle.traces.specs.declared.reading.TextFault.{TextFault}
 use Rattle.traces.specs.declared.reading.TextFault.TheVariants.{Line, NoMemory}
 use Rattle.record.specs.Lines.{event_line, event_lines, is_action}
-use Rattle.record.specs.declared.audit.passing.Kind.{Kind}
-use Rattle.record.specs.declared.audit.passing.Kind.TheVariants as kinds
-use Rattle.record.specs.declared.audit.passing.Tally.{Tally}
+use Rattle.record.specs.declared.audit.passing.LineKind.{LineKind}
+use Rattle.record.specs.declared.audit.passing.LineKind.TheVariants as kinds
+use Rattle.record.specs.declared.audit.passing.LineCounts.{LineCounts}
 
 -- octets without a line feed
 abbrev pub IsOneLine : List ℕ → Type 0
@@ -22,7 +22,7 @@ IsOneLine line = lines_of line ≡ line ∷ []
 
 -- what a line tells: an event, which is right; an action; neither, and is right; or it can't be
 -- told
-abbrev pub IsKind : List ℕ → (buf : List ℕ) → Kind → Type 0
+abbrev pub IsKind : List ℕ → (buf : List ℕ) → LineKind → Type 0
 IsKind line buf (kinds.Event next) =
     (is_action line ≡ false) × (logged_by next buf ≡ events_in (event_line line ∷ []))
     × (logs_event next ≡ true) × FitsBuffer next × IsRight (event_line line)
@@ -33,8 +33,8 @@ IsKind line buf kinds.Wrong = Unit {0}
 
 -- Of these lines some were passed, which told these events, and those were counted; the others are
 -- left.
-pub record Passes (news : List LogEntry) (lines : List (List ℕ)) (before : Tally)
-    (left : List (List ℕ)) (after : Tally) : Type 0 where
+pub record Passes (news : List LogEntry) (lines : List (List ℕ)) (before : LineCounts)
+    (left : List (List ℕ)) (after : LineCounts) : Type 0 where
   pub logged : news ++ events_in (event_lines left) ≡ events_in (event_lines lines)
   pub right : AllByRecursion IsRight (event_lines left) → AllByRecursion IsRight (event_lines lines)
   pub counted : after.lines + length left ≡ before.lines + length lines
@@ -42,12 +42,12 @@ pub record Passes (news : List LogEntry) (lines : List (List ℕ)) (before : Tal
   pub actions : after.actions + count_by is_action left ≡ before.actions + count_by is_action lines
 
 -- a line tells one event or action at most
-abbrev pub IsTally : Tally → Type 0
+abbrev pub IsTally : LineCounts → Type 0
 IsTally tally = tally.events + tally.actions ≤ tally.lines
 
 -- An answer tells the first event of these lines, where it tells one.
-pub record IsNext (lines : List (List ℕ)) (before : Tally) (next : Next) (buf : List ℕ)
-    (left : Option (List ℕ)) (after : Tally) : Type 0 where
+pub record IsNext (lines : List (List ℕ)) (before : LineCounts) (next : Next) (buf : List ℕ)
+    (left : Option (List ℕ)) (after : LineCounts) : Type 0 where
   pub passes : Passes (logged_by next buf) lines before (parts_after 10 left) after
   pub done : next ≡ Done → left ≡ None
   pub fits : FitsBuffer next

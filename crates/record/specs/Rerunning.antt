@@ -17,12 +17,12 @@ use Rattle.record.specs.Passing.{IsTally}
 use Rattle.record.specs.Lines.{event_lines, is_action, whole_lines}
 use Rattle.record.specs.declared.audit.RecordFault.{RecordFault}
 use Rattle.record.specs.declared.audit.RecordFault.TheVariants.{Line, Unread, NoMemory}
-use Rattle.record.specs.declared.audit.comparing.Standing.{Standing}
-use Rattle.record.specs.declared.audit.passing.Tally.{Tally}
+use Rattle.record.specs.declared.audit.comparing.Agreement.{Agreement}
+use Rattle.record.specs.declared.audit.passing.LineCounts.{LineCounts}
 
 -- between two parts of a record: the lines that were passed, and the log
 pub record Halted : Type 0 where
-  pub tally : Tally
+  pub tally : LineCounts
   pub log : Log
 
 pub record IsHalted (h : Halted) : Type 0 where
@@ -68,7 +68,7 @@ pub record RunsSoFar (settings : Settings) (lines : List (List ℕ)) (state : St
 
 -- the same, and the lines were compared with those of the run
 pub record Stands (settings : Settings) (lines : List (List ℕ)) (state : State) (h : Halted)
-    (standing : Standing) : Type 0 where
+    (standing : Agreement) : Type 0 where
   pub runs : RunsSoFar settings lines state h
   pub compared : IsCompared lines (whole_lines (lines_of_log h.log)) standing
 

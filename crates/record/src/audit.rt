@@ -24,7 +24,7 @@ ghost use Rattle.gateway.specs.State.{State};
 ghost use Rattle.record.specs.Audit.{IsAudited, IsComparison};
 ghost use Rattle.record.specs.Rerunning.{IsHalted, IsPartFault, IsReadFault, Stands};
 
-use self::comparing::{Standing, compare};
+use self::comparing::{Agreement, compare};
 use self::passing::{fault_among, part_of};
 use self::rerun::Halt;
 use delivery::nothing_is_lost;
@@ -76,7 +76,7 @@ impl From<AllocError> for RecordFault {
 #[derive(Drop)]
 struct Course {
     halt: Halt,
-    standing: Standing,
+    standing: Agreement,
 }
 
 /// Goes on to the next block of a text, where there is one.
@@ -140,15 +140,15 @@ fn comparison_of(course: &Course) -> Comparison
         IsComparison lines course.now.halt.log result }
 {
     match &course.standing {
-        Standing::Level(_) => {
+        Agreement::Level(_) => {
             let tally = course.halt.tally();
             Comparison::Same {
                 events: tally.events,
                 actions: tally.actions,
             }
         }
-        Standing::Behind(number, _) => Comparison::Differs(*number),
-        Standing::Differs(number) => Comparison::Differs(*number),
+        Agreement::Behind(number, _) => Comparison::Differs(*number),
+        Agreement::Differs(number) => Comparison::Differs(*number),
     }
 }
 
@@ -171,7 +171,7 @@ pub fn audit_text<R: Read + Drop>(
     let mut blocks = Blocks::new(alloc, text);
     let mut course = Course {
         halt: Halt::new(alloc),
-        standing: Standing::Level(Vec::new(alloc)),
+        standing: Agreement::Level(Vec::new(alloc)),
     };
     'auditing: for _ in 0..u64::MAX {
         advance(&mut blocks)?;

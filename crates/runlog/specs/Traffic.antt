@@ -8,7 +8,7 @@ use Rattle.asdu.specs.declared.sizes.Sizes.{Sizes}
 use Rattle.elements.specs.Types.{type_of}
 use Rattle.elements.specs.declared.types.TypeId.{TypeId}
 use Rattle.gateway.specs.Counting.{is_answer_type}
-use Rattle.gateway.specs.declared.settings.Station.{Station}
+use Rattle.gateway.specs.declared.settings.StationSettings.{StationSettings}
 use Rattle.runlog.specs.Gathering.{nothing, added, line_of, minute_line_of}
 use Rattle.runlog.specs.Limits.{one_more}
 use Rattle.runlog.specs.Orders.{octet, order_of}
@@ -77,8 +77,8 @@ new_traffic address = record {
   late = nothing;
 }
 
-abbrev pub new_traffics : List Station → List Traffic
-new_traffics settings = map (λ (s : Station). new_traffic s.address) settings
+abbrev pub new_traffics : List StationSettings → List Traffic
+new_traffics settings = map (λ (s : StationSettings). new_traffic s.address) settings
 
 -- what became of a command
 abbrev pub fate_noted : CommandFate → Order → Traffic → Traffic

@@ -11,7 +11,7 @@ use Rattle.gateway.specs.Log.{Output, LineOut, TcpOut, Closed, GapOut}
 use Rattle.gateway.specs.declared.counts.Counts.{Counts}
 use Rattle.gateway.specs.declared.ports.Next.{Next}
 use Rattle.gateway.specs.declared.ports.Next.TheVariants as next
-use Rattle.gateway.specs.declared.settings.Station.{Station}
+use Rattle.gateway.specs.declared.settings.StationSettings.{StationSettings}
 use Rattle.live.specs.declared.watched.Failure.{Failure}
 use Rattle.live.specs.declared.watched.Failure.TheVariants as failure
 use Rattle.live.specs.declared.watched.EndsSight.{EndsSight}
@@ -102,8 +102,8 @@ pub record Watching : Type 0 where
   pub stations : List StationWatch
   pub traffic : List Traffic
 
-abbrev pub new_stations : (tries : ℕ) → List Station → List StationWatch
-new_stations tries settings = map (λ (s : Station). new_station tries s.address) settings
+abbrev pub new_stations : (tries : ℕ) → List StationSettings → List StationWatch
+new_stations tries settings = map (λ (s : StationSettings). new_station tries s.address) settings
 
 abbrev pub new_watching : Settings → Watching
 new_watching c = record {

@@ -18,7 +18,7 @@ use Rattle.asdu.specs.declared.sizes.Sizes.{Sizes}
 use Rattle.asdu.specs.Sizes.{cause_len, ca_len, ioa_len}
 use Rattle.gateway.specs.declared.settings.Silence.{Silence}
 use Rattle.gateway.specs.declared.settings.Silence.TheVariants.{Hold, Reset}
-use Rattle.gateway.specs.declared.settings.Station.{Station}
+use Rattle.gateway.specs.declared.settings.StationSettings.{StationSettings}
 use Rattle.settings.specs.Faults.{Path, ◌>>=◌}
 use Rattle.settings.specs.Keys.{Row, row, given_at, number_of, number_or, judged, whole_of}
 use Rattle.settings.specs.Keys.{flag_in, flag_or, flag_of, table_or, section_or, section_of}
@@ -272,8 +272,8 @@ number_kept : (n m : ℕ) (taken : Bool) (path : Path) → distinct_number n tak
 number_kept n m true path e = cc
 number_kept n m false path e = same_ok n m e
 
-station_is : (link : LinkSize) (ca : CaSize) (before : List Station) (t : Option Members)
-    (s : Station) → station_in link ca before t ≡ Ok s → IsStationOf link ca t s
+station_is : (link : LinkSize) (ca : CaSize) (before : List StationSettings) (t : Option Members)
+    (s : StationSettings) → station_in link ca before t ≡ Ok s → IsStationOf link ca t s
 station_is link ca before None s e = cc
 station_is link ca before (Some t) s e =
     let a = bound _ _ s e in
@@ -293,14 +293,15 @@ station_is link ca before (Some t) s e =
       select = flag_is (codes "select") (codes "station.select") (Some t) f.value f.first;
     })
 
-record StationsOf (link : LinkSize) (ca : CaSize) (before : List Station) (ds : Items)
-    (v : List Station) : Type 0 where
-  more : List Station
+record StationsOf (link : LinkSize) (ca : CaSize) (before : List StationSettings) (ds : Items)
+    (v : List StationSettings) : Type 0 where
+  more : List StationSettings
   whole : before ++ more ≡ v
   are : AreStationsOf link ca ds more
 
-stations_are : (link : LinkSize) (ca : CaSize) (before : List Station) (ds : Items)
-    (v : List Station) → stations_from link ca before ds ≡ Ok v → StationsOf link ca before ds v
+stations_are : (link : LinkSize) (ca : CaSize) (before : List StationSettings) (ds : Items)
+    (v : List StationSettings) → stations_from link ca before ds ≡ Ok v
+    → StationsOf link ca before ds v
 stations_are link ca before no_items v e = record {
   more = [];
   whole = append-nil before ∙ same_ok before v e;
@@ -330,12 +331,13 @@ section_is name first root t e = go (get_member name root) refl e
     go None at is = same_ok None t is
     go (Some d) at is = found (as_table d) is
 
-record ItemsOf (link : LinkSize) (ca : CaSize) (o : Option Data) (v : List Station) : Type 0 where
+record ItemsOf (link : LinkSize) (ca : CaSize) (o : Option Data) (v : List StationSettings) : Type
+    0 where
   items : Items
   are : option_and_then as_array o ≡ Some items
   stations : AreStationsOf link ca items v
 
-items_are : (link : LinkSize) (ca : CaSize) (o : Option Data) (v : List Station)
+items_are : (link : LinkSize) (ca : CaSize) (o : Option Data) (v : List StationSettings)
     → stations_of link ca o ≡ Ok v → ItemsOf link ca o v
 items_are link ca None v e = cc
 items_are link ca (Some d) v e = go (as_array d) refl e

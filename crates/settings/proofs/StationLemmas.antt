@@ -12,26 +12,29 @@ use Rattle.asdu.specs.declared.sizes.CaSize.{CaSize}
 use Rattle.settings.specs.Faults.{Path}
 use Rattle.gateway.specs.Config.{AreApart, AreDistinct, IsStation}
 use Rattle.settings.specs.Stations.{IsNext, count_of, station_of, stations_from}
-use Rattle.gateway.specs.declared.settings.Station.{Station}
+use Rattle.gateway.specs.declared.settings.StationSettings.{StationSettings}
 
 pub count_of_view : (vs : List Value) → count_of (items_view vs) ≡ length vs
 count_of_view [] = refl
 count_of_view (v ∷ vs) = ap (λ n. suc n) (count_of_view vs)
 
-pub stations_from_wrong : (link : LinkSize) (ca : CaSize) (before : List Station) (vs : List Value)
+pub stations_from_wrong : (link : LinkSize) (ca : CaSize) (before : List StationSettings)
+    (vs : List Value)
     (i : ℕ) (d : Value)
     (f : Path) → i < length vs → station_of link ca before (view (get_or vs i d)) ≡ Err f
     → stations_from link ca before (items_view (drop i vs)) ≡ Err f
 stations_from_wrong link ca before vs i d f lt e = rw (items_view-drop vs i d lt, e)
 
-pub stations_from_next : (link : LinkSize) (ca : CaSize) (before : List Station) (vs : List Value)
+pub stations_from_next : (link : LinkSize) (ca : CaSize) (before : List StationSettings)
+    (vs : List Value)
     (i : ℕ) (d : Value)
-    (s : Station) → i < length vs → station_of link ca before (view (get_or vs i d)) ≡ Ok s
+    (s : StationSettings) → i < length vs → station_of link ca before (view (get_or vs i d)) ≡ Ok s
     → stations_from link ca before (items_view (drop i vs))
     ≡ stations_from link ca (before ++ s ∷ []) (items_view (drop (i + 1) vs))
 stations_from_next link ca before vs i d s lt e = rw (items_view-drop vs i d lt, e)
 
-pub stations_from_end : (link : LinkSize) (ca : CaSize) (before : List Station) (vs : List Value)
+pub stations_from_end : (link : LinkSize) (ca : CaSize) (before : List StationSettings)
+    (vs : List Value)
     (i : ℕ)
     → length vs ≤ i → stations_from link ca before (items_view (drop i vs)) ≡ Ok before
 stations_from_end link ca before vs i le = rw (drop_all i vs le)
@@ -43,7 +46,8 @@ all_more P [] x all here = (here, tt)
 all_more P (y ∷ ys) x all here = (all.0, all_more P ys x all.1 here)
 
 -- the station has other addresses than each of the others
-all_apart : (xs : List Station) (x : Station) → list_any (λ s. s.address == x.address) xs ≡ false
+all_apart : (xs : List StationSettings) (x : StationSettings)
+    → list_any (λ s. s.address == x.address) xs ≡ false
     → list_any (λ s. s.ca == x.ca) xs ≡ false → AllByRecursion (λ s. AreApart s x) xs
 all_apart [] x a c = tt
 all_apart (y ∷ ys) x a c =
@@ -55,7 +59,7 @@ all_apart (y ∷ ys) x a c =
           more_c,
     )
 
-distinct_more : (xs : List Station) (x : Station) → AreDistinct xs
+distinct_more : (xs : List StationSettings) (x : StationSettings) → AreDistinct xs
     → AllByRecursion (λ s. AreApart s x) xs
     → AreDistinct (xs ++ x ∷ [])
 distinct_more [] x apart new = (tt, tt)
@@ -63,16 +67,17 @@ distinct_more (y ∷ ys) x apart new =
     (all_more (AreApart y) ys x apart.0 new.0, distinct_more ys x apart.1 new.1)
 
 -- each can stand in a list, and no two have one address
-pub record AreGood (link : LinkSize) (ca : CaSize) (stations : List Station) : Type 0 where
+pub record AreGood (link : LinkSize) (ca : CaSize) (stations : List StationSettings) : Type 0 where
   pub each : AllByRecursion (IsStation link ca) stations
   pub distinct : AreDistinct stations
 
-pub none_good : (link : LinkSize) (ca : CaSize) (stations : List Station) → stations ≡ []
+pub none_good : (link : LinkSize) (ca : CaSize) (stations : List StationSettings) → stations ≡ []
     → AreGood link ca stations
 none_good link ca stations e = rw e (record { each = tt; distinct = tt })
 
 -- one more station that can follow
-pub good_more : (link : LinkSize) (ca : CaSize) (before : List Station) (s : Station)
+pub good_more : (link : LinkSize) (ca : CaSize) (before : List StationSettings)
+    (s : StationSettings)
     → AreGood link ca before
     → IsNext link ca before s → AreGood link ca (before ++ s ∷ [])
 good_more link ca before s good next = record {

@@ -13,17 +13,17 @@ use Rattle.std.specs.Ordering.{is_lt}
 use Rattle.std.specs.String.{string_cmp}
 use Rattle.settings.specs.Unknown.{knows, prefix, member_keys, unknown_in, unknown_of}
 use Rattle.settings.specs.Unknown.{unknown_items, IsLeastOf}
-use Rattle.settings.specs.declared.unknown.Section.{Section}
-use Rattle.settings.specs.declared.unknown.Section.TheVariants.{Station}
+use Rattle.settings.specs.declared.unknown.SettingsTable.{SettingsTable}
+use Rattle.settings.specs.declared.unknown.SettingsTable.TheVariants.{Station}
 
-pub step_known : (s : Section) (k : String Global) (before ks it : List (String Global))
+pub step_known : (s : SettingsTable) (k : String Global) (before ks it : List (String Global))
     (all : List (List ℕ))
     → it ≡ k ∷ ks → knows s (string_bytes k) ≡ true
     → map string_bytes before ++ unknown_in s (map string_bytes it)
     ≡ all → map string_bytes before ++ unknown_in s (map string_bytes ks) ≡ all
 step_known s k before ks it all e known_so h = let g = rw e at h in rw known_so at g
 
-pub step_new : (s : Section) (k path : String Global) (before ks it : List (String Global))
+pub step_new : (s : SettingsTable) (k path : String Global) (before ks it : List (String Global))
     (all : List (List ℕ))
     → it ≡ k ∷ ks → knows s (string_bytes k) ≡ false → string_bytes path
     ≡ prefix s ++ string_bytes k

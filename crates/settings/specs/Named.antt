@@ -12,7 +12,7 @@ use Rattle.asdu.specs.declared.sizes.CaSize.{CaSize}
 use Rattle.asdu.specs.Sizes.{cause_len, ca_len, ioa_len}
 use Rattle.gateway.specs.declared.settings.Silence.{Silence}
 use Rattle.gateway.specs.declared.settings.Silence.TheVariants.{Hold, Reset}
-use Rattle.gateway.specs.declared.settings.Station.{Station}
+use Rattle.gateway.specs.declared.settings.StationSettings.{StationSettings}
 use Rattle.settings.specs.Keys.{given_at}
 use Rattle.settings.specs.Line.{Line}
 use Rattle.settings.specs.Settings.{Values}
@@ -72,13 +72,13 @@ pub record IsTcpOf (table : Option Members) (t : Tcp) : Type 0 where
 
 -- those of a station, in its own table
 pub record IsStationOf (link : LinkSize) (ca : CaSize) (table : Option Members)
-    (s : Station) : Type 0 where
+    (s : StationSettings) : Type 0 where
   pub address : IsNumber (codes "address") 1 (greatest_address link) None table s.address
   pub common : IsNumber (codes "ca") 1 (greatest_ca ca) None table s.ca
   pub select : IsFlag (codes "select") table s.select
 
 -- the stations are those of these tables, one after another
-abbrev pub AreStationsOf : LinkSize → CaSize → Items → List Station → Type 0
+abbrev pub AreStationsOf : LinkSize → CaSize → Items → List StationSettings → Type 0
 AreStationsOf link ca no_items [] = Unit {0}
 AreStationsOf link ca (item d ds) (s ∷ ss) =
     IsStationOf link ca (as_table d) s × AreStationsOf link ca ds ss

@@ -7,7 +7,7 @@ use Rattle.std.specs.Prelude.{Err, IsOk, IsUtf8, MatchResult}
 use Rattle.toml.specs.Data.{Members, get_member}
 use Rattle.toml.specs.Parse.{parse_document}
 use Rattle.gateway.specs.Config.{Settings}
-use Rattle.gateway.specs.declared.settings.Station.{Station}
+use Rattle.gateway.specs.declared.settings.StationSettings.{StationSettings}
 use Rattle.settings.specs.Faults.{Path, IsWrongKeyOf, ◌>>=◌}
 use Rattle.settings.specs.Keys.{section_of}
 use Rattle.settings.specs.Line.{Line, line_of, line_settings}
@@ -23,7 +23,7 @@ use Rattle.settings.specs.declared.fault.ConfigFault.TheVariants.{NotToml, Key, 
 pub record Values : Type 0 where
   pub line : Line
   pub tcp : Tcp
-  pub stations : List Station
+  pub stations : List StationSettings
 
 abbrev pub values_of : Settings → Values
 values_of c = record { line = line_of c.line; tcp = tcp_of c.tcp; stations = c.stations }

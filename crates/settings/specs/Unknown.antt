@@ -8,8 +8,9 @@ use Rattle.toml.specs.Data.{Data, Items, no_items, item, Members, no_members, me
 use Rattle.toml.specs.Data.{as_table, as_array}
 use Rattle.settings.specs.declared.fault.ConfigFault.{ConfigFault}
 use Rattle.settings.specs.declared.fault.ConfigFault.TheVariants.{NotToml, Key, Unknown, NoMemory}
-use Rattle.settings.specs.declared.unknown.Section.{Section}
-use Rattle.settings.specs.declared.unknown.Section.TheVariants.{Root, Line, Tcp, Station, Live}
+use Rattle.settings.specs.declared.unknown.SettingsTable.{SettingsTable}
+use Rattle.settings.specs.declared.unknown.SettingsTable.TheVariants.{Root, Line, Tcp, Station}
+use Rattle.settings.specs.declared.unknown.SettingsTable.TheVariants.{Live}
 
 -- the keys of sizes that the table `line` may have
 abbrev pub knows_size : List ℕ → Bool
@@ -25,7 +26,7 @@ knows_line k =
     || bytes_eq k (codes "burst") || bytes_eq k (codes "queue")
 
 -- the keys that a table may have
-abbrev pub knows : Section → List ℕ → Bool
+abbrev pub knows : SettingsTable → List ℕ → Bool
 knows Root k =
     bytes_eq k (codes "line") || bytes_eq k (codes "tcp")
     || bytes_eq k (codes "station") || bytes_eq k (codes "live")
@@ -40,7 +41,7 @@ knows Station k =
 knows Live k = bytes_eq k (codes "line") || bytes_eq k (codes "listen")
 
 -- what stands before such a key in its dotted path
-abbrev pub prefix : Section → List ℕ
+abbrev pub prefix : SettingsTable → List ℕ
 prefix Root = []
 prefix Line = codes "line."
 prefix Tcp = codes "tcp."
@@ -52,19 +53,19 @@ member_keys no_members = []
 member_keys (member k d ms) = k ∷ member_keys ms
 
 -- the dotted paths of those keys that a table may not have
-abbrev pub unknown_in : Section → List (List ℕ) → List (List ℕ)
+abbrev pub unknown_in : SettingsTable → List (List ℕ) → List (List ℕ)
 unknown_in s [] = []
 unknown_in s (k ∷ ks) = if knows s k then unknown_in s ks else ((prefix s ++ k) ∷ unknown_in s ks)
 
 -- of a value that may be a table
-abbrev pub unknown_table : Section → Option Members → List (List ℕ)
+abbrev pub unknown_table : SettingsTable → Option Members → List (List ℕ)
 unknown_table s None = []
 unknown_table s (Some t) = unknown_in s (member_keys t)
 
-abbrev pub unknown_of : Section → Data → List (List ℕ)
+abbrev pub unknown_of : SettingsTable → Data → List (List ℕ)
 unknown_of s d = unknown_table s (as_table d)
 
-abbrev pub unknown_under : Section → Option Data → List (List ℕ)
+abbrev pub unknown_under : SettingsTable → Option Data → List (List ℕ)
 unknown_under s None = []
 unknown_under s (Some d) = unknown_of s d
 

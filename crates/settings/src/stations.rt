@@ -16,7 +16,7 @@ use crate::fault::WrongKey;
 use crate::keys::{Flag, Whole};
 use asdu::CaSize;
 use ft12::LinkSize;
-use gateway::Station;
+use gateway::StationSettings;
 use std::alloc::Global;
 use toml::{Table, Value};
 
@@ -57,7 +57,7 @@ pub(crate) fn read_stations(
     value: Option<&Value>,
     link: LinkSize,
     ca: CaSize,
-) -> Result<Vec<Station>, ConfigFault>
+) -> Result<Vec<StationSettings>, ConfigFault>
     ensures value { IsAsExpected
         (stations_of link ca (option_map (λ v. view v.now) value.entry)) result }
     ensures limits { IfOk result (λ stations. AreStations link ca stations.items) }
@@ -82,7 +82,7 @@ fn read_each(
     tables: &[Value],
     link: LinkSize,
     ca: CaSize,
-) -> Result<Vec<Station>, ConfigFault>
+) -> Result<Vec<StationSettings>, ConfigFault>
     requires some { 1 ≤ length tables.now }
     requires most { length tables.now ≤ 32 }
     ensures value { IsAsExpected (stations_from link ca [] (items_view tables.now)) result }
@@ -97,13 +97,13 @@ fn read_each(
     Ok(stations)
 }
 
-fn has_address(stations: &[Station], address: u16) -> bool
+fn has_address(stations: &[StationSettings], address: u16) -> bool
     ensures { result ≡ list_any (λ s. s.address == address) stations.now }
 {
     stations.iter().any(|station| station.address == address)
 }
 
-fn has_common_address(stations: &[Station], ca: u16) -> bool
+fn has_common_address(stations: &[StationSettings], ca: u16) -> bool
     ensures { result ≡ list_any (λ s. s.ca == ca) stations.now }
 {
     stations.iter().any(|station| station.ca == ca)
@@ -126,8 +126,8 @@ fn read_station(
     value: &Value,
     link: LinkSize,
     ca: CaSize,
-    others: &[Station],
-) -> Result<Station, WrongKey>
+    others: &[StationSettings],
+) -> Result<StationSettings, WrongKey>
     ensures value { seen result ≡ station_of link ca others.now (view value.now) }
     ensures next { IfOk result (IsNext link ca others.now) }
 {
@@ -139,7 +139,7 @@ fn read_station(
     let address = read_address(table, link, others)?;
     let ca = read_common_address(table, ca, others)?;
     let select = SELECT.read(Some(table))?;
-    Ok(Station {
+    Ok(StationSettings {
         address,
         ca,
         select,
@@ -147,7 +147,7 @@ fn read_station(
 }
 
 /// A link address that none of the others has.
-fn read_address(table: &Table, size: LinkSize, others: &[Station]) -> Result<u16, WrongKey>
+fn read_address(table: &Table, size: LinkSize, others: &[StationSettings]) -> Result<u16, WrongKey>
     ensures value { seen result ≡ address_of size others.now (table_view table.now) }
     ensures range { IfOk result (IsLinkAddress size) }
     ensures new { IfOk result (λ a. list_any (λ s. s.address == a) others.now ≡ false) }
@@ -162,7 +162,11 @@ fn read_address(table: &Table, size: LinkSize, others: &[Station]) -> Result<u16
 }
 
 /// A common address that none of the others has.
-fn read_common_address(table: &Table, size: CaSize, others: &[Station]) -> Result<u16, WrongKey>
+fn read_common_address(
+    table: &Table,
+    size: CaSize,
+    others: &[StationSettings],
+) -> Result<u16, WrongKey>
     ensures value { seen result ≡ ca_of size others.now (table_view table.now) }
     ensures range { IfOk result (IsCommonAddress size) }
     ensures new { IfOk result (λ c. list_any (λ s. s.ca == c) others.now ≡ false) }

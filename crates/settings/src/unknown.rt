@@ -7,7 +7,8 @@ ghost use Rattle.toml.specs.View.{view, table_view, items_view};
 ghost use Rattle.settings.specs.Unknown.{knows, knows_line, knows_size, prefix, member_keys};
 ghost use Rattle.settings.specs.Unknown.{unknown_in, unknown_of, unknown_under, unknown_stations};
 ghost use Rattle.settings.specs.Unknown.{unknown_items, unknown_paths, IsRefusedFor};
-ghost use Rattle.settings.specs.declared.unknown.Section.TheVariants.{Root, Tcp, Station, Live};
+ghost use Rattle.settings.specs.declared.unknown.SettingsTable.TheVariants.{Root, Tcp, Station};
+ghost use Rattle.settings.specs.declared.unknown.SettingsTable.TheVariants.{Live};
 
 use crate::ConfigFault;
 use crate::keys::given;
@@ -16,7 +17,7 @@ use toml::{Table, Value};
 
 /// A table of the settings: the file itself, or one in it.
 #[derive(Clone, Copy)]
-enum Section {
+enum SettingsTable {
     Root,
     Line,
     Tcp,
@@ -24,16 +25,16 @@ enum Section {
     Live,
 }
 
-impl Section {
+impl SettingsTable {
     fn knows(self, key: &str) -> bool
         ensures { result ≡ knows self key.now }
     {
         match self {
-            Section::Root => knows_root(key),
-            Section::Line => knows_line(key),
-            Section::Tcp => knows_tcp(key),
-            Section::Station => knows_station(key),
-            Section::Live => knows_live(key),
+            SettingsTable::Root => knows_root(key),
+            SettingsTable::Line => knows_line(key),
+            SettingsTable::Tcp => knows_tcp(key),
+            SettingsTable::Station => knows_station(key),
+            SettingsTable::Live => knows_live(key),
         }
     }
 
@@ -42,11 +43,11 @@ impl Section {
         ensures { result.now ≡ prefix self }
     {
         match self {
-            Section::Root => "",
-            Section::Line => "line.",
-            Section::Tcp => "tcp.",
-            Section::Station => "station.",
-            Section::Live => "live.",
+            SettingsTable::Root => "",
+            SettingsTable::Line => "line.",
+            SettingsTable::Tcp => "tcp.",
+            SettingsTable::Station => "station.",
+            SettingsTable::Live => "live.",
         }
     }
 }
@@ -119,11 +120,26 @@ fn unknown_paths(alloc: Global, root: &Table) -> Result<Vec<String>, AllocError>
         map string_bytes paths.items ≡ unknown_paths (table_view root.now)) }
 {
     let mut paths = Vec::new(alloc);
-    push_unknown(alloc, &mut paths, Section::Root, root)?;
-    push_section(alloc, &mut paths, Section::Line, given(Some(root), "line"))?;
-    push_section(alloc, &mut paths, Section::Tcp, given(Some(root), "tcp"))?;
+    push_unknown(alloc, &mut paths, SettingsTable::Root, root)?;
+    push_section(
+        alloc,
+        &mut paths,
+        SettingsTable::Line,
+        given(Some(root), "line"),
+    )?;
+    push_section(
+        alloc,
+        &mut paths,
+        SettingsTable::Tcp,
+        given(Some(root), "tcp"),
+    )?;
     push_stations(alloc, &mut paths, root)?;
-    push_section(alloc, &mut paths, Section::Live, given(Some(root), "live"))?;
+    push_section(
+        alloc,
+        &mut paths,
+        SettingsTable::Live,
+        given(Some(root), "live"),
+    )?;
     Ok(paths)
 }
 
@@ -132,7 +148,7 @@ fn unknown_paths(alloc: Global, root: &Table) -> Result<Vec<String>, AllocError>
 fn push_unknown(
     alloc: Global,
     paths: &mut Vec<String>,
-    section: Section,
+    section: SettingsTable,
     table: &Table,
 ) -> Result<(), AllocError>
     ensures { OnOk result (map string_bytes paths.new.items
@@ -153,7 +169,7 @@ fn push_unknown(
 fn push_section(
     alloc: Global,
     paths: &mut Vec<String>,
-    section: Section,
+    section: SettingsTable,
     value: Option<&Value>,
 ) -> Result<(), AllocError>
     ensures { OnOk result (map string_bytes paths.new.items
@@ -170,7 +186,7 @@ fn push_section(
 fn push_table(
     alloc: Global,
     paths: &mut Vec<String>,
-    section: Section,
+    section: SettingsTable,
     value: &Value,
 ) -> Result<(), AllocError>
     ensures { OnOk result (map string_bytes paths.new.items
@@ -201,7 +217,7 @@ fn push_items(alloc: Global, paths: &mut Vec<String>, tables: &[Value]) -> Resul
         ≡ map string_bytes paths.old.items ++ unknown_items (items_view tables.now)) }
 {
     for table in tables {
-        push_table(alloc, paths, Section::Station, table)?;
+        push_table(alloc, paths, SettingsTable::Station, table)?;
     }
     Ok(())
 }

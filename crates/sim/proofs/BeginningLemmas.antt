@@ -8,7 +8,7 @@ use Rattle.ft12.specs.Spelling.{address_len}
 use Rattle.asdu.specs.declared.sizes.CaSize.{CaSize}
 use Rattle.link.specs.Secondary.{Secondary, fresh_station}
 use Rattle.link.specs.Requests.{FitsAddress}
-use Rattle.gateway.specs.declared.settings.Station.{Station}
+use Rattle.gateway.specs.declared.settings.StationSettings.{StationSettings}
 use Rattle.gateway.specs.Config.{IsStation}
 use Rattle.sim.specs.declared.directive.Class.TheVariants.{One, Two}
 use Rattle.sim.specs.declared.directive.Directive.{Directive}
@@ -92,7 +92,8 @@ fits_at size n [] i d lt all = absurd (omega arith)
 fits_at size n (x ∷ ds) zero d lt all = all.0
 fits_at size n (x ∷ ds) (suc i) d lt all = fits_at size n ds i d (omega arith) all.1
 
-pub address_at : (size : LinkSize) (ca : CaSize) (ss : List Station) (i : ℕ) (d : Station)
+pub address_at : (size : LinkSize) (ca : CaSize) (ss : List StationSettings) (i : ℕ)
+    (d : StationSettings)
     → i < length ss
     → AllByRecursion (IsStation size ca) ss → FitsAddress size (get_or ss i d).address
 address_at size ca [] i d lt all = absurd (omega arith)
@@ -102,7 +103,8 @@ address_at size ca (x ∷ ss) zero d lt all = let one : x.address + 1 < 256 ^ ad
 address_at size ca (x ∷ ss) (suc i) d lt all = address_at size ca ss i d (omega arith) all.1
 
 -- one more station begins
-pub begun_more : (size : LinkSize) (ds : List Directive) (ss : List Station) (i : ℕ) (d : Station)
+pub begun_more : (size : LinkSize) (ds : List Directive) (ss : List StationSettings) (i : ℕ)
+    (d : StationSettings)
     (done new whole : List Secondary) (t : Secondary) → i < length ss → new ≡ done ++ t ∷ [] →
     t ≡ with_reports (fresh_station size (get_or ss i d).address) (flat_map (report_said i One) ds)
     (flat_map (report_said i Two) ds) →
@@ -112,15 +114,17 @@ begun_more size ds ss i d done new whole t lt e f so =
     let rest = begun_from size (i + 1) ds (drop (i + 1) ss) in
     ap (λ (l : List Secondary). l ++ rest) e ∙ append_assoc done (t ∷ []) rest
     ∙ ap (λ (u : Secondary). done ++ u ∷ rest) f
-    ∙ sym (ap (λ (l : List Station). done ++ begun_from size i ds l) (drop_more ss i d lt)) ∙ so
+    ∙ sym (ap (λ (l : List StationSettings). done ++ begun_from size i ds l) (drop_more ss i d lt))
+    ∙ so
 
-pub begun_end : (size : LinkSize) (ds : List Directive) (ss : List Station) (i : ℕ)
+pub begun_end : (size : LinkSize) (ds : List Directive) (ss : List StationSettings) (i : ℕ)
     (done whole : List Secondary)
     → length ss ≤ i → done ++ begun_from size i ds (drop i ss) ≡ whole → done ≡ whole
 begun_end size ds ss i done whole le so = sym (append-nil done)
-    ∙ sym (ap (λ (l : List Station). done ++ begun_from size i ds l) (drop_all i ss le)) ∙ so
+    ∙ sym (ap (λ (l : List StationSettings). done ++ begun_from size i ds l) (drop_all i ss le))
+    ∙ so
 
-pub begun_sizes : (size : LinkSize) (i : ℕ) (ds : List Directive) (ss : List Station)
+pub begun_sizes : (size : LinkSize) (i : ℕ) (ds : List Directive) (ss : List StationSettings)
     → AllByRecursion (λ s. s.size ≡ size) (begun_from size i ds ss)
 begun_sizes size i ds [] = tt
 begun_sizes size i ds (s ∷ ss) = (refl, begun_sizes size (i + 1) ds ss)

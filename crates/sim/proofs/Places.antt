@@ -5,7 +5,7 @@ use Rattle.std.proofs.Common.{if◌then◌else◌}
 use Rattle.std.specs.Prelude.{◌==◌, option_map}
 use Rattle.std.proofs.lemmas.List.{drop_more, drop_all}
 use Rattle.std.proofs.lemmas.Bool.{eq-eqb, ne_eqb}
-use Rattle.gateway.specs.declared.settings.Station.{Station}
+use Rattle.gateway.specs.declared.settings.StationSettings.{StationSettings}
 use Rattle.gateway.specs.Reports.{index_of}
 
 -- the place, counted from n
@@ -31,10 +31,10 @@ from_place address (x ∷ xs) n = go (x == address) (from_place address xs (n + 
     go true ih = let same : n ≡ 0 + n = omega arith in ap (λ (j : ℕ). Some j) same
     go false ih = ih ∙ more (index_of address xs)
 
-abbrev pub addresses_of : List Station → List ℕ
-addresses_of ss = map (λ (s : Station). s.address) ss
+abbrev pub addresses_of : List StationSettings → List ℕ
+addresses_of ss = map (λ (s : StationSettings). s.address) ss
 
-pub place_first : (address : ℕ) (ss : List Station) → place_from address (addresses_of ss) 0
+pub place_first : (address : ℕ) (ss : List StationSettings) → place_from address (addresses_of ss) 0
     ≡ index_of address (addresses_of ss)
 place_first address ss = from_place address (addresses_of ss) 0
     ∙ go (index_of address (addresses_of ss))
@@ -43,28 +43,34 @@ place_first address ss = from_place address (addresses_of ss) 0
     go None = refl
     go (Some k) = let same : k + 0 ≡ k = omega arith in ap (λ (j : ℕ). Some j) same
 
-pub place_here : (address : ℕ) (ss : List Station) (i : ℕ) (d : Station) (whole : Option ℕ)
+pub place_here : (address : ℕ) (ss : List StationSettings) (i : ℕ) (d : StationSettings)
+    (whole : Option ℕ)
     → i < length ss
     → (get_or ss i d).address ≡ address → place_from address (addresses_of (drop i ss)) i ≡ whole
     → Some i ≡ whole
 place_here address ss i d whole lt is so =
-    sym (ap (λ (l : List Station). place_from address (addresses_of l) i) (drop_more ss i d lt)
+    sym (ap (λ (l : List StationSettings). place_from address (addresses_of l) i)
+    (drop_more ss i d lt)
     ∙ ap (λ (b : Bool). if b then Some i else place_from address (addresses_of (drop (i + 1) ss))
     (i + 1))
     (eq-eqb (get_or ss i d).address address is)) ∙ so
 
-pub place_more : (address : ℕ) (ss : List Station) (i : ℕ) (d : Station) (whole : Option ℕ)
+pub place_more : (address : ℕ) (ss : List StationSettings) (i : ℕ) (d : StationSettings)
+    (whole : Option ℕ)
     → i < length ss
     → ((get_or ss i d).address ≡ address → ⊥) → place_from address (addresses_of (drop i ss)) i
     ≡ whole →
     place_from address (addresses_of (drop (i + 1) ss)) (i + 1) ≡ whole
 place_more address ss i d whole lt never so =
-    sym (ap (λ (l : List Station). place_from address (addresses_of l) i) (drop_more ss i d lt)
+    sym (ap (λ (l : List StationSettings). place_from address (addresses_of l) i)
+    (drop_more ss i d lt)
     ∙ ap (λ (b : Bool). if b then Some i else place_from address (addresses_of (drop (i + 1) ss))
     (i + 1))
     (ne_eqb (get_or ss i d).address address never)) ∙ so
 
-pub place_none : (address : ℕ) (ss : List Station) (i : ℕ) (whole : Option ℕ) → length ss ≤ i
+pub place_none : (address : ℕ) (ss : List StationSettings) (i : ℕ) (whole : Option ℕ) → length ss
+    ≤ i
     → place_from address (addresses_of (drop i ss)) i ≡ whole → None ≡ whole
 place_none address ss i whole le so =
-    sym (ap (λ (l : List Station). place_from address (addresses_of l) i) (drop_all i ss le)) ∙ so
+    sym (ap (λ (l : List StationSettings). place_from address (addresses_of l) i)
+    (drop_all i ss le)) ∙ so

@@ -16,7 +16,7 @@ use Rattle.link.specs.Exchanges.{answer_to, all_of}
 use Rattle.link.specs.Life.{given1, given2, saturated}
 use Rattle.link.specs.Outstation.{Turn, OutstationRun, unreset, all_done}
 use Rattle.link.specs.Secondary.{Secondary, fresh_station, outstation_of}
-use Rattle.gateway.specs.declared.settings.Station.{Station}
+use Rattle.gateway.specs.declared.settings.StationSettings.{StationSettings}
 use Rattle.gateway.specs.declared.settings.Silence.TheVariants.{Hold}
 use Rattle.gateway.specs.Config.{Settings, AreApart, AreDistinct}
 use Rattle.gateway.specs.Log.{Log}
@@ -54,36 +54,39 @@ use Rattle.sim.proofs.Serviceable.{never_unable, willing_turns}
 
 -- The settings fit the plan
 
-begun_addresses : (size : LinkSize) (n : ℕ) (ds : List Directive) (ss : List Station)
+begun_addresses : (size : LinkSize) (n : ℕ) (ds : List Directive) (ss : List StationSettings)
     → map (λ (s : Secondary). s.address) (begun_from size n ds ss)
-    ≡ map (λ (s : Station). s.address) ss
+    ≡ map (λ (s : StationSettings). s.address) ss
 begun_addresses size n ds [] = refl
 begun_addresses size n ds (s ∷ ss) =
     ap (λ (l : List ℕ). s.address ∷ l) (begun_addresses size (n + 1) ds ss)
 
 -- an address is none of the other stations'
-none_of : (a : ℕ) (ss : List Station) (i : ℕ) → ((t : Station) → AllByRecursion (AreApart t) ss
+none_of : (a : ℕ) (ss : List StationSettings) (i : ℕ)
+    → ((t : StationSettings) → AllByRecursion (AreApart t) ss
     → t.address ≡ a
-    → i < length ss → a ≢ address_at (map (λ (s : Station). s.address) ss) i)
+    → i < length ss → a ≢ address_at (map (λ (s : StationSettings). s.address) ss) i)
 none_of a [] i t all is lt = absurd (omega arith)
 none_of a (s ∷ ss) zero t all is lt = λ e. all.0.0 (is ∙ e)
 none_of a (s ∷ ss) (suc i) t all is lt = none_of a ss i t all.1 is (omega arith)
 
-found_apart : (ss : List Station) → AreDistinct ss → AreFound (map (λ (s : Station). s.address) ss)
+found_apart : (ss : List StationSettings) → AreDistinct ss
+    → AreFound (map (λ (s : StationSettings). s.address) ss)
 found_apart [] h i lt = absurd (omega (arith, lt))
 found_apart (s ∷ ss) h zero lt =
     ap (λ (b : Bool). if b then Some 0
-    else option_map suc (index_of s.address (map (λ (t : Station). t.address) ss)))
+    else option_map suc (index_of s.address (map (λ (t : StationSettings). t.address) ss)))
     (eq-eqb s.address s.address refl)
 found_apart (s ∷ ss) h (suc i) lt =
-    let a : ℕ = address_at (map (λ (t : Station). t.address) ss) i in
-    let within : i < length ss = omega (arith, lt, length-map ss (λ (t : Station). t.address)) in
+    let a : ℕ = address_at (map (λ (t : StationSettings). t.address) ss) i in
+    let within : i < length ss =
+    omega (arith, lt, length-map ss (λ (t : StationSettings). t.address)) in
     ap (λ (b : Bool). if b then Some 0
-    else option_map suc (index_of a (map (λ (t : Station). t.address) ss)))
+    else option_map suc (index_of a (map (λ (t : StationSettings). t.address) ss)))
     (ne_eqb s.address a (none_of s.address ss i s h.0 refl within))
     ∙ ap (option_map suc) (found_apart ss h.1 i (omega (arith, lt)))
 
-begun_fresh : (size : LinkSize) (n : ℕ) (ds : List Directive) (ss : List Station) (i : ℕ)
+begun_fresh : (size : LinkSize) (n : ℕ) (ds : List Directive) (ss : List StationSettings) (i : ℕ)
     (d : Secondary) → d.given ≡ 0
     → (get_or (begun_from size n ds ss) i d).given ≡ 0
 begun_fresh size n ds [] i d none = none
@@ -100,11 +103,11 @@ fits_plan c ds apart = record {
   fresh = λ i d none. begun_fresh c.line.link 0 ds c.stations i d none;
 }
 
-begun_at : (size : LinkSize) (n m : ℕ) (ds : List Directive) (ss : List Station) (i : ℕ)
+begun_at : (size : LinkSize) (n m : ℕ) (ds : List Directive) (ss : List StationSettings) (i : ℕ)
     (d : Secondary)
     → i < length ss → m ≡ n + i →
     get_or (begun_from size n ds ss) i d
-    ≡ record (fresh_station size (address_at (map (λ (s : Station). s.address) ss) i)) {
+    ≡ record (fresh_station size (address_at (map (λ (s : StationSettings). s.address) ss) i)) {
       class1 = flat_map (report_said m One) ds;
       class2 = flat_map (report_said m Two) ds;
     }
@@ -310,7 +313,7 @@ all_served laws delivers steadies known idle losses c ds log answers stations ta
       length-map (plan_of c ds).stations (λ (s : Secondary). s.address),
     ) in
     let set : i < length c.stations =
-    omega (arith, within, length-map c.stations (λ (s : Station). s.address)) in
+    omega (arith, within, length-map c.stations (λ (s : StationSettings). s.address)) in
     let same : 0 + i ≡ i = omega arith in
     let begins : get_or (plan_of c ds).stations i d ≡ first_station c ds i =
     begun_at c.line.link 0 i ds c.stations i d set (omega arith) in

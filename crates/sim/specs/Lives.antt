@@ -7,7 +7,7 @@ use Rattle.ft12.specs.declared.frame.Frame.{Frame}
 use Rattle.ft12.specs.Spelling.{spelling}
 use Rattle.ft12.specs.Spoiling.{spoilt}
 use Rattle.link.specs.Secondary.{Secondary, fresh_station, ReceivesOctets}
-use Rattle.gateway.specs.declared.settings.Station.{Station}
+use Rattle.gateway.specs.declared.settings.StationSettings.{StationSettings}
 use Rattle.gateway.specs.Config.{Settings}
 use Rattle.gateway.specs.Reports.{Setup}
 use Rattle.gateway.specs.Setups.{setup_of}
@@ -30,13 +30,14 @@ pub record Plan : Type 0 where
   pub stations : List Secondary
 
 -- a station that was never reset, with the reports that the script gives it
-abbrev pub begun : LinkSize → (index : ℕ) → List Directive → Station → Secondary
+abbrev pub begun : LinkSize → (index : ℕ) → List Directive → StationSettings → Secondary
 begun size index ds s = record (fresh_station size s.address) {
   class1 = flat_map (report_said index One) ds;
   class2 = flat_map (report_said index Two) ds;
 }
 
-abbrev pub begun_from : LinkSize → (index : ℕ) → List Directive → List Station → List Secondary
+abbrev pub begun_from : LinkSize → (index : ℕ) → List Directive → List StationSettings
+    → List Secondary
 begun_from size index ds [] = []
 begun_from size index ds (s ∷ ss) = begun size index ds s ∷ begun_from size (index + 1) ds ss
 

@@ -5,7 +5,7 @@ ghost use Rattle.sim.specs.Directives.{IsWithinRanges};
 ghost use Rattle.sim.specs.Texts.{reports_for};
 ghost use Rattle.sim.specs.Losses.{turns_said, ack_said, wall_said, send_said};
 
-use link::Asdu;
+use link::UserData;
 
 /// A class of user data (IEC 60870-5-2): what a station gives at requests of class 1, or of class
 /// 2.
@@ -40,7 +40,7 @@ pub enum Directive {
     Wall(u64),
     /// The station with this index, from 0, has this report from the start: 1 to 253 octets, or 252
     /// with two-octet link addresses.
-    Report(usize, Class, Asdu),
+    Report(usize, Class, UserData),
     /// The request with this number isn't heard.
     LoseRequest(u64),
     /// The answer to the request with this number is lost.
@@ -52,7 +52,7 @@ pub enum Directive {
     Cut(u64),
     /// At the call with this number an I frame with this ASDU, of 9 to 249 octets, goes to the
     /// gateway.
-    Send(u64, Asdu),
+    Send(u64, UserData),
 }
 
 impl Directive {
@@ -86,7 +86,7 @@ impl Directive {
     }
 
     /// The ASDU that it has sent at this call.
-    pub(crate) fn sends(&self, call: u64) -> Option<&Asdu>
+    pub(crate) fn sends(&self, call: u64) -> Option<&UserData>
         ensures said { option_copied result ≡ send_said call self.now }
         ensures least { IsWithinRanges self.now → IfSome result (λ asdu. 9 ≤ length asdu.now) }
         ensures most { IsWithinRanges self.now → IfSome result (λ asdu. length asdu.now ≤ 249) }

@@ -9,7 +9,7 @@ ghost use Rattle.sim.specs.Directives.{directive_in, FitsStations, IsWithinRange
 
 use crate::directive::{Class, Directive};
 use ft12::LinkSize;
-use link::Asdu;
+use link::UserData;
 use std::alloc::{AllocError, Global};
 use traces::{parts, read_decimal, read_octets};
 
@@ -136,7 +136,7 @@ fn sending(call: Option<u64>, octets: Option<Vec<u8>>) -> Option<Directive>
     let n = call?;
     let octets = octets?;
     if 9 <= octets.len() && octets.len() <= 249 {
-        Some(Directive::Send(n, Asdu::new(octets.as_slice())))
+        Some(Directive::Send(n, UserData::new(octets.as_slice())))
     } else {
         None
     }
@@ -222,7 +222,11 @@ fn reporting(
     }
     let class = class(class_number)?;
     if 1 <= station && station <= stations as u64 {
-        Some(Directive::Report(station as usize - 1, class, Asdu::new(octets.as_slice())))
+        Some(Directive::Report(
+            station as usize - 1,
+            class,
+            UserData::new(octets.as_slice()),
+        ))
     } else {
         None
     }

@@ -13,7 +13,7 @@ ghost use Rattle.sim.specs.Losses.{cuts};
 ghost use Rattle.sim.specs.Scripts.{clashes_with, is_turns};
 
 use crate::directive::{Directive, RequestFate};
-use link::Asdu;
+use link::UserData;
 use std::alloc::{AllocError, Global};
 use std::collections::{BTreeMap, BTreeSet};
 use std::marker::Model;
@@ -252,7 +252,7 @@ impl Numbered {
     }
 
     /// The ASDU that is sent at the call with this number, if there is one.
-    pub(crate) fn sent_at(&self, call: u64) -> Option<&Asdu>
+    pub(crate) fn sent_at(&self, call: u64) -> Option<&UserData>
         requires { AllByRecursion IsWithinRanges self.now }
         ensures asdu { option_copied result ≡ sent_at self.now call }
         ensures least { IfSome result (λ asdu. 9 ≤ length asdu.now) }

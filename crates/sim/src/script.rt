@@ -6,7 +6,7 @@ ghost use Rattle.sim.specs.Losses.{turns_of, ack_of, wall_at, is_cut_at, sent_at
 
 use crate::directive::{Directive, RequestFate};
 use crate::numbered::Numbered;
-use link::Asdu;
+use link::UserData;
 use std::marker::Model;
 
 /// What is to happen on a simulated line: how many calls of its port there are, what its stations
@@ -86,7 +86,7 @@ impl Script {
     }
 
     /// The ASDU that is sent at the call with this number, if there is one: 9 to 249 octets.
-    pub fn sent_at(&self, call: u64) -> Option<&Asdu>
+    pub fn sent_at(&self, call: u64) -> Option<&UserData>
         ensures asdu { option_copied result ≡ sent_at self.now call }
         ensures least { IfSome result (λ asdu. 9 ≤ length asdu.now) }
         ensures most { IfSome result (λ asdu. length asdu.now ≤ 249) }

@@ -8,7 +8,7 @@ use Rattle.toml.specs.declared.value.Value.{Value}
 use Rattle.toml.proofs.Views.{items_view-drop}
 use Rattle.settings.specs.Unknown.{member_keys}
 use Rattle.sitefile.specs.Unknown.{first_items, first_of, or_else}
-use Rattle.sitefile.specs.declared.unknown.Section.TheVariants.{Station}
+use Rattle.sitefile.specs.declared.unknown.SiteTable.TheVariants.{Station}
 use Rattle.settings.proofs.UnknownLemmas.{keys_of_table as settings_keys}
 
 pub keys_of_table : (m : BTreeMap (String Global) Value) → member_keys (table_view m)

@@ -6,8 +6,8 @@ use Rattle.toml.specs.Data.{Data, Members, as_str}
 use Rattle.settings.specs.Faults.{Path}
 use Rattle.settings.specs.Keys.{given_at}
 use Rattle.settings.specs.Live.{is_address}
-use Rattle.sitefile.specs.declared.keys.Form.{Form}
-use Rattle.sitefile.specs.declared.keys.Form.TheVariants.{Name, Address, Directory}
+use Rattle.sitefile.specs.declared.keys.TextForm.{TextForm}
+use Rattle.sitefile.specs.declared.keys.TextForm.TheVariants.{Name, Address, Directory}
 
 -- two octets begin a control character: U+0000 to U+001F, U+007F, or U+0080 to U+009F, which UTF-8
 -- writes as 194 and the number
@@ -30,20 +30,20 @@ is_name text = (nat_le 1 (characters text) && nat_le (characters text) 40) && no
 abbrev pub is_directory : List ℕ → Bool
 is_directory text = not (length text == 0) && not (has_control text)
 
-abbrev pub is_good : Form → List ℕ → Bool
+abbrev pub is_good : TextForm → List ℕ → Bool
 is_good Name text = is_name text
 is_good Address text = is_address text
 is_good Directory text = is_directory text
 
-abbrev pub text_in : Form → Path → Option (List ℕ) → Result (Option (List ℕ)) Path
+abbrev pub text_in : TextForm → Path → Option (List ℕ) → Result (Option (List ℕ)) Path
 text_in form path None = Err path
 text_in form path (Some text) = if is_good form text then Ok (Some text) else Err path
 
-abbrev pub text_or_none : Form → Path → Option Data → Result (Option (List ℕ)) Path
+abbrev pub text_or_none : TextForm → Path → Option Data → Result (Option (List ℕ)) Path
 text_or_none form path None = Ok None
 text_or_none form path (Some d) = text_in form path (as_str d)
 
 -- a text that may be missing, and has to be as it should be
-abbrev pub text_of_key : Form → (key : List ℕ) → Path → Option Members
+abbrev pub text_of_key : TextForm → (key : List ℕ) → Path → Option Members
     → Result (Option (List ℕ)) Path
 text_of_key form key path t = text_or_none form path (given_at key t)

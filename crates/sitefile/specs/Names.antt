@@ -11,7 +11,7 @@ use Rattle.settings.specs.Keys.{row, whole_of}
 use Rattle.sitefile.specs.Faults.{IsWrongKeyOf}
 use Rattle.sitefile.specs.Keys.{text_of_key}
 use Rattle.sitefile.specs.declared.fault.SiteFault.{SiteFault}
-use Rattle.sitefile.specs.declared.keys.Form.TheVariants.{Name}
+use Rattle.sitefile.specs.declared.keys.TextForm.TheVariants.{Name}
 use Rattle.sitefile.specs.declared.names.StationName.{StationName}
 
 -- a station's name, as a text

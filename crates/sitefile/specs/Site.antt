@@ -14,7 +14,7 @@ use Rattle.sitefile.specs.Names.{Named, named, stations_of}
 use Rattle.sitefile.specs.Unknown.{unknown_key}
 use Rattle.sitefile.specs.declared.fault.SiteFault.{SiteFault}
 use Rattle.sitefile.specs.declared.fault.SiteFault.TheVariants.{NotToml, Key, Unknown, NoMemory}
-use Rattle.sitefile.specs.declared.keys.Form.TheVariants.{Name, Address, Directory}
+use Rattle.sitefile.specs.declared.keys.TextForm.TheVariants.{Name, Address, Directory}
 use Rattle.sitefile.specs.declared.names.Names.{Names}
 use Rattle.sitefile.specs.declared.site.Flags.{Flags}
 use Rattle.sitefile.specs.declared.site.Places.{Places}

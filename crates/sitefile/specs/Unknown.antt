@@ -4,8 +4,8 @@ use Rattle.std.specs.Prelude.{Some, None}
 use Rattle.std.specs.Str.{bytes_eq}
 use Rattle.toml.specs.Data.{Data, Items, no_items, item, Members, get_member, as_table, as_array}
 use Rattle.settings.specs.Unknown.{member_keys}
-use Rattle.sitefile.specs.declared.unknown.Section.{Section}
-use Rattle.sitefile.specs.declared.unknown.Section.TheVariants.{Root, Line, Station}
+use Rattle.sitefile.specs.declared.unknown.SiteTable.{SiteTable}
+use Rattle.sitefile.specs.declared.unknown.SiteTable.TheVariants.{Root, Line, Station}
 
 -- what a run is to do
 abbrev pub knows_wish : List ℕ → Bool
@@ -16,13 +16,13 @@ knows_wish k =
     || bytes_eq k (codes "record")
 
 -- the keys that a table may have
-abbrev pub knows : Section → List ℕ → Bool
+abbrev pub knows : SiteTable → List ℕ → Bool
 knows Root k = knows_wish k || (bytes_eq k (codes "line") || bytes_eq k (codes "station"))
 knows Line k = bytes_eq k (codes "name")
 knows Station k = bytes_eq k (codes "link") || bytes_eq k (codes "name")
 
 -- what stands before such a key in its dotted path
-abbrev pub prefix : Section → List ℕ
+abbrev pub prefix : SiteTable → List ℕ
 prefix Root = []
 prefix Line = codes "line."
 prefix Station = codes "station."
@@ -33,18 +33,18 @@ or_else (Some path) other = Some path
 or_else None other = other
 
 -- the dotted path of the first of these keys that a table may not have
-abbrev pub first_in : Section → List (List ℕ) → Option (List ℕ)
+abbrev pub first_in : SiteTable → List (List ℕ) → Option (List ℕ)
 first_in s [] = None
 first_in s (k ∷ ks) = if knows s k then first_in s ks else Some (prefix s ++ k)
 
-abbrev pub first_table : Section → Option Members → Option (List ℕ)
+abbrev pub first_table : SiteTable → Option Members → Option (List ℕ)
 first_table s None = None
 first_table s (Some t) = first_in s (member_keys t)
 
-abbrev pub first_of : Section → Data → Option (List ℕ)
+abbrev pub first_of : SiteTable → Data → Option (List ℕ)
 first_of s d = first_table s (as_table d)
 
-abbrev pub first_under : Section → Option Data → Option (List ℕ)
+abbrev pub first_under : SiteTable → Option Data → Option (List ℕ)
 first_under s None = None
 first_under s (Some d) = first_of s d
 

@@ -10,7 +10,7 @@ use toml::Table;
 
 /// What a text has to be.
 #[derive(Clone, Copy, Debug, PartialEq, Eq)]
-pub(crate) enum Form {
+pub(crate) enum TextForm {
     /// 1 to 40 characters, and no control character.
     Name,
     /// `HOST:PORT`.
@@ -24,7 +24,7 @@ pub(crate) fn text<'a>(
     table: Option<&'a Table>,
     key: &str,
     path: &'static str,
-    form: Form,
+    form: TextForm,
 ) -> Result<Option<&'a str>, WrongKey>
     ensures { seen_by (λ t. option_map (λ s. s.now) t) result
         ≡ text_of_key form key.now path.entry.now (members_in table.entry) }
@@ -39,13 +39,13 @@ pub(crate) fn text<'a>(
 }
 
 /// Whether the text is as it has to be.
-fn is_good(form: Form, text: &[u8]) -> bool
+fn is_good(form: TextForm, text: &[u8]) -> bool
     ensures { result ≡ is_good form text.now }
 {
     match form {
-        Form::Name => is_name(text),
-        Form::Address => is_address(text),
-        Form::Directory => !text.is_empty() && !has_control(text),
+        TextForm::Name => is_name(text),
+        TextForm::Address => is_address(text),
+        TextForm::Directory => !text.is_empty() && !has_control(text),
     }
 }
 

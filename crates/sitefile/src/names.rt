@@ -7,7 +7,7 @@ ghost use Rattle.sitefile.specs.Names.{AreStations, IsNamed, link_of, name_of, n
 ghost use Rattle.sitefile.specs.Names.{stations_from, stations_of, wrong_from, wrong_station};
 
 use crate::fault::SiteFault;
-use crate::keys::{Form, text};
+use crate::keys::{TextForm, text};
 use settings::{Whole, WrongKey, given};
 use std::alloc::{AllocError, Global};
 use toml::{Table, Value};
@@ -151,7 +151,7 @@ fn has_link(stations: &[StationName], link: u16) -> bool
 fn read_name(table: &Table) -> Result<&str, WrongKey>
     ensures { seen_by (λ s. s.now) result ≡ name_of (table_view table.now) }
 {
-    match text(Some(table), "name", "station.name", Form::Name)? {
+    match text(Some(table), "name", "station.name", TextForm::Name)? {
         Some(name) => Ok(name),
         None => Err(WrongKey {
             path: "station.name",

@@ -10,7 +10,7 @@ ghost use Rattle.sitefile.specs.Site.{allow_of, empty_site, flags_of, known_name
 ghost use Rattle.sitefile.specs.Site.{known_site, names_of, places_of, site_of, texts_from};
 
 use crate::fault::SiteFault;
-use crate::keys::{Form, text};
+use crate::keys::{TextForm, text};
 use crate::names::{Names, read_stations};
 use crate::unknown::unknown_key;
 use settings::{Flag, WrongKey, given, section};
@@ -159,8 +159,8 @@ fn read_places(alloc: Global, root: &Table) -> Result<Places, SiteFault>
     ensures { IsKnownOf (known_places (table_view root.now)) places_of result }
 {
     let allow = read_allow(alloc, given(Some(root), "allow"))?;
-    let status = text(Some(root), "status", "status", Form::Address)?;
-    let state = text(Some(root), "state", "state", Form::Directory)?;
+    let status = text(Some(root), "status", "status", TextForm::Address)?;
+    let state = text(Some(root), "state", "state", TextForm::Directory)?;
     Ok(Places {
         allow,
         status: owned(alloc, status)?,
@@ -231,7 +231,7 @@ fn read_names(alloc: Global, root: &Table) -> Result<Names, SiteFault>
     ensures { IsKnownOf (known_names (table_view root.now)) names_of result }
 {
     let line = section(root, "line", "line.name")?;
-    let line = text(line, "name", "line.name", Form::Name)?;
+    let line = text(line, "name", "line.name", TextForm::Name)?;
     let stations = read_stations(alloc, given(Some(root), "station"))?;
     Ok(Names {
         line: owned(alloc, line)?,

@@ -4,7 +4,7 @@ ghost use Rattle.toml.specs.View.{view, table_view, items_view};
 ghost use Rattle.settings.specs.Unknown.{member_keys};
 ghost use Rattle.sitefile.specs.Unknown.{first_in, first_of, first_items, first_list, first_under};
 ghost use Rattle.sitefile.specs.Unknown.{knows, knows_wish, prefix, unknown_key};
-ghost use Rattle.sitefile.specs.declared.unknown.Section.TheVariants.{Root};
+ghost use Rattle.sitefile.specs.declared.unknown.SiteTable.TheVariants.{Root};
 
 use settings::given;
 use std::alloc::{AllocError, Global};
@@ -12,20 +12,20 @@ use toml::{Table, Value};
 
 /// A table of the file: the file itself, or one in it.
 #[derive(Clone, Copy)]
-enum Section {
+enum SiteTable {
     Root,
     Line,
     Station,
 }
 
-impl Section {
+impl SiteTable {
     fn knows(self, key: &str) -> bool
         ensures { result ≡ knows self key.now }
     {
         match self {
-            Section::Root => knows_root(key),
-            Section::Line => key == "name",
-            Section::Station => matches!(key, "link" | "name"),
+            SiteTable::Root => knows_root(key),
+            SiteTable::Line => key == "name",
+            SiteTable::Station => matches!(key, "link" | "name"),
         }
     }
 
@@ -34,9 +34,9 @@ impl Section {
         ensures { result.now ≡ prefix self }
     {
         match self {
-            Section::Root => "",
-            Section::Line => "line.",
-            Section::Station => "station.",
+            SiteTable::Root => "",
+            SiteTable::Line => "line.",
+            SiteTable::Station => "station.",
         }
     }
 }
@@ -70,10 +70,10 @@ pub(crate) fn unknown_key(alloc: Global, root: &Table) -> Result<Option<String>,
     ensures { IfOk result (λ found. option_map string_bytes found
         ≡ unknown_key (table_view root.now)) }
 {
-    if let Some(path) = first_in(alloc, Section::Root, root)? {
+    if let Some(path) = first_in(alloc, SiteTable::Root, root)? {
         return Ok(Some(path));
     }
-    if let Some(path) = first_under(alloc, Section::Line, given(Some(root), "line"))? {
+    if let Some(path) = first_under(alloc, SiteTable::Line, given(Some(root), "line"))? {
         return Ok(Some(path));
     }
     first_list(alloc, given(Some(root), "station"))
@@ -81,7 +81,7 @@ pub(crate) fn unknown_key(alloc: Global, root: &Table) -> Result<Option<String>,
 
 /// The first unknown key of a table.
 #[tactic(auto, using(crate::proofs::UnknownLemmas::keys_of_table))]
-fn first_in(alloc: Global, section: Section, table: &Table) -> Result<Option<String>, AllocError>
+fn first_in(alloc: Global, section: SiteTable, table: &Table) -> Result<Option<String>, AllocError>
     ensures { IfOk result (λ found. option_map string_bytes found
         ≡ first_in section (member_keys (table_view table.now))) }
 {
@@ -95,7 +95,7 @@ fn first_in(alloc: Global, section: Section, table: &Table) -> Result<Option<Str
 }
 
 /// The first unknown key of a value that is a table.
-fn first_of(alloc: Global, section: Section, value: &Value) -> Result<Option<String>, AllocError>
+fn first_of(alloc: Global, section: SiteTable, value: &Value) -> Result<Option<String>, AllocError>
     ensures { IfOk result (λ found. option_map string_bytes found
         ≡ first_of section (view value.now)) }
 {
@@ -108,7 +108,7 @@ fn first_of(alloc: Global, section: Section, value: &Value) -> Result<Option<Str
 /// The same of a value that may be missing.
 fn first_under(
     alloc: Global,
-    section: Section,
+    section: SiteTable,
     value: Option<&Value>,
 ) -> Result<Option<String>, AllocError>
     ensures { IfOk result (λ found. option_map string_bytes found
@@ -140,7 +140,7 @@ fn first_items(alloc: Global, tables: &[Value]) -> Result<Option<String>, AllocE
         ≡ first_items (items_view tables.now)) }
 {
     for table in tables {
-        if let Some(path) = first_of(alloc, Section::Station, table)? {
+        if let Some(path) = first_of(alloc, SiteTable::Station, table)? {
             return Ok(Some(path));
         }
     }

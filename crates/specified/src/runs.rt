@@ -4,8 +4,8 @@ ghost use Rattle.std.specs.Prelude.{◌≡◌, IfOk};
 use asdu::{CaSize, CauseSize, IoaSize, Sizes};
 use ft12::LinkSize;
 use gateway::{
-    Action, Config, Counts, End, Event, Gateway, LineSettings, Next, Port, Silence, Station,
-    TcpSettings, drive, drive_on,
+    Action, Config, Counts, End, Event, Gateway, LineSettings, Next, Port, Silence,
+    StationSettings, TcpSettings, drive, drive_on,
 };
 use std::alloc::{AllocError, Global};
 use std::process::Abort;
@@ -36,7 +36,7 @@ fn config(alloc: Global) -> Result<Config, AllocError> {
         select_ms: 30000,
         max_age_ms: 10000,
     };
-    let station = Station {
+    let station = StationSettings {
         address: 1,
         ca: 1,
         select: false,

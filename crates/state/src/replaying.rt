@@ -44,7 +44,7 @@ impl Lineage for Brand {
 }
 
 /// That log, and the events of the replay.
-trait Script {
+trait ReplayScript {
     ghost use Rattle.gateway.specs.Log.{LogEntry};
     ghost use Rattle.std.specs.Prelude.{List};
 
@@ -53,7 +53,7 @@ trait Script {
     ghost events: { List LogEntry };
 }
 
-impl Script for Brand {
+impl ReplayScript for Brand {
     ghost use Rattle.std.specs.Prelude.{[]};
 
     ghost log = { [] };
@@ -87,7 +87,7 @@ fn gap_of(action: &Action<'_>) -> Option<ReportedGap>
 /// A port that gives the events that lines tell, up to the first line that tells none, and puts no
 /// action out. A line that can't be read is a fault.
 #[derive(Drop)]
-struct Repeater<K: Script, L: EventLines + Drop> {
+struct Repeater<K: ReplayScript, L: EventLines + Drop> {
     alloc: Global,
     lines: L,
     /// The line that was read last.
@@ -101,7 +101,7 @@ struct Repeater<K: Script, L: EventLines + Drop> {
     of: PhantomData<K>,
 }
 
-impl<K: Script, L: EventLines + Drop> Model for Repeater<K, L> {
+impl<K: ReplayScript, L: EventLines + Drop> Model for Repeater<K, L> {
     ghost use Rattle.state.specs.Replays.{IsRepeating, Replaying};
 
     ghost Value = { Replaying };
@@ -187,7 +187,7 @@ pub(crate) fn are_read<L: EventLines + Drop>(alloc: Global, lines: L) -> Result<
     }
 }
 
-impl<K: Script, L: EventLines + Drop> Repeater<K, L> {
+impl<K: ReplayScript, L: EventLines + Drop> Repeater<K, L> {
     ghost use Rattle.state.specs.Replays.{log_of};
 
     /// One over these lines.
@@ -244,7 +244,7 @@ impl<K: Script, L: EventLines + Drop> Repeater<K, L> {
     }
 }
 
-impl<K: Script, L: EventLines + Drop> Port for Repeater<K, L> {
+impl<K: ReplayScript, L: EventLines + Drop> Port for Repeater<K, L> {
     ghost use Rattle.state.specs.Replays.{log_of};
     ghost use Rattle.std.specs.Prelude.{Some};
 
@@ -306,7 +306,7 @@ pub(crate) fn broken_off(fault: StateFault) -> StateFault
 }
 
 /// Brings a gateway to where these lines lead, whose events are known to proofs.
-fn repeat<K: Script, L: EventLines + Drop>(
+fn repeat<K: ReplayScript, L: EventLines + Drop>(
     alloc: Global,
     gateway: &mut Gateway,
     lines: L,

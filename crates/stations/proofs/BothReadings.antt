@@ -8,7 +8,7 @@ use Rattle.std.specs.List.{AllByRecursion, cons_option, filter_map, join_with_by
 use Rattle.ft12.specs.declared.frame.LinkSize.{LinkSize}
 use Rattle.gateway.specs.Config.{Settings}
 use Rattle.gateway.specs.declared.settings.LineSettings.{LineSettings}
-use Rattle.gateway.specs.declared.settings.Station.{Station}
+use Rattle.gateway.specs.declared.settings.StationSettings.{StationSettings}
 use Rattle.sim.specs.Scripts.{AreSaidBy, FitsSettings, IsFaultOf, IsScriptOf, ended_lines}
 use Rattle.sim.specs.Scripts.{first_wrong, lines_of}
 use Rattle.sim.specs.declared.directive.Directive.{Directive}
@@ -167,7 +167,7 @@ abbrev pub AreCuesRead : LinkSize → ℕ → List (List ℕ) → Result (Vec Cu
 AreCuesRead size n lines cues =
     MatchResult cues (λ v. AreCuesOf size n lines v.items) (IsCueFault size n lines)
 
-pub scenario_read : (c : Settings) (line : LineSettings) (stations : List Station)
+pub scenario_read : (c : Settings) (line : LineSettings) (stations : List StationSettings)
     (text made rest : List ℕ) (parts one other : List (Bor (List ℕ))) → line ≡ c.line →
     stations ≡ c.stations → one ≡ parts → other ≡ parts →
     map (λ part. part.now) parts ≡ slice_split (λ b. b == 10) text →
@@ -188,7 +188,8 @@ scenario_read c line stations text made rest parts one other l s first second wh
     } in
     let answered : AreCuesRead c.line.link n (map (λ part. part.now) one) cues =
     subst (λ (x : LineSettings). AreCuesRead x.link n (map (λ part. part.now) one) cues) l
-    (subst (λ (x : List Station). AreCuesRead line.link (length x) (map (λ part. part.now) one)
+    (subst (λ (x : List StationSettings). AreCuesRead line.link (length x)
+    (map (λ part. part.now) one)
     cues) s answer) in
     subst (λ (r : Result Scenario TextFault). IsScenarioOf c text r) (sym e)
     (joined_said c.line.link n text rest one parted cues script answered read)

@@ -5,7 +5,7 @@ use Rattle.std.proofs.lemmas.List.{take_at}
 use Rattle.std.specs.List.{AllByRecursion}
 use Rattle.ft12.specs.declared.frame.Frame.{Frame}
 use Rattle.ft12.specs.declared.frame.LinkSize.{LinkSize}
-use Rattle.gateway.specs.declared.settings.Station.{Station}
+use Rattle.gateway.specs.declared.settings.StationSettings.{StationSettings}
 use Rattle.link.specs.Life.{Call, Receive, after}
 use Rattle.link.specs.Secondary.{Secondary, ReceivesOctets}
 use Rattle.sim.specs.Lives.{ReceivedByAll, IsPutOut, begun_from}
@@ -22,7 +22,7 @@ KeepsSize = (s : Secondary) (calls : List Call) → (after s calls).size ≡ s.s
 abbrev pub HaveSize : LinkSize → List Secondary → Type 0
 HaveSize size stations = AllByRecursion (λ s. s.size ≡ size) stations
 
-pub begun_sizes : (size : LinkSize) (index : ℕ) (ds : List Directive) (ss : List Station) →
+pub begun_sizes : (size : LinkSize) (index : ℕ) (ds : List Directive) (ss : List StationSettings) →
     HaveSize size (begun_from size index ds ss)
 begun_sizes size index ds [] = tt
 begun_sizes size index ds (s ∷ ss) = (refl, begun_sizes size (index + 1) ds ss)

@@ -2,7 +2,7 @@
 ghost use Rattle.std.specs.Prelude.{◌≡◌, ◌-◌, ◌≤◌, IfSome};
 ghost use Rattle.stations.specs.Cues.{IsPeriod, given_at, is_due, next_due, report_due};
 
-use link::Asdu;
+use link::UserData;
 use sim::Class;
 
 /// The longest time that passes in a play, in ms: what passes later counts as this.
@@ -16,7 +16,7 @@ pub struct Timer {
     /// The class of its data.
     pub class: Class,
     /// Its ASDU: 1 to 253 octets, or 252 with two-octet link addresses.
-    pub report: Asdu,
+    pub report: UserData,
     /// Its moments are the multiples of so many ms, 10 to 86,400,000; it has one alone without.
     pub every: Option<u64>,
     /// When it is due next; never again without.
@@ -41,7 +41,7 @@ pub enum Cue {
 pub(crate) struct DueReport {
     pub(crate) station: usize,
     pub(crate) class: Class,
-    pub(crate) report: Asdu,
+    pub(crate) report: UserData,
 }
 
 /// Whether what is due then is due now.

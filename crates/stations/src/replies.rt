@@ -125,14 +125,14 @@ fn longest_report(size: LinkSize) -> usize
 }
 
 /// The same octets with this cause.
-fn with_cause(command: &[u8], cause: u8) -> link::Asdu
+fn with_cause(command: &[u8], cause: u8) -> link::UserData
     requires some { 3 ≤ length command.now }
     requires most { length command.now ≤ 253 }
     ensures { result ≡ slice_set command.now 2 cause }
 {
     let mut octets: ArrayVec<u8, 253> = ArrayVec::try_from(command).unwrap();
     octets[2] = cause;
-    link::Asdu::new(octets.as_slice())
+    link::UserData::new(octets.as_slice())
 }
 
 /// The reply to a command that came over this line: the confirmation, or once that was given the
@@ -143,7 +143,7 @@ pub(crate) fn reply_to(
     refuses: bool,
     is_confirmed: bool,
     command: &[u8],
-) -> Option<link::Asdu>
+) -> Option<link::UserData>
     ensures reply { IsReply size sizes refuses is_confirmed command.now result }
     ensures fits { IfSome result (FitsFrame size) }
 {

@@ -8,12 +8,12 @@ use Rattle.std.proofs.lemmas.List.{take-append-le, drop-append-le, take-append-d
 use Rattle.std.proofs.lemmas.List.{take_rest, take_all, length-take-le}
 use Rattle.std.proofs.lemmas.List.Elements.{All-append, All-cons, All-nil}
 use Rattle.std.specs.List.{All}
-use Rattle.status.specs.Page.{Sheet, empty, put, text_with}
+use Rattle.status.specs.TextPage.{Sheet, empty, put, text_with}
 use Rattle.status.specs.Seats.{IsNext, IsKept, Receives, answer_on, cleared}
 use Rattle.status.specs.Streams.{Passed, IsNew, more_passed}
 use Rattle.status.specs.declared.seat.Desk.{Desk}
-use Rattle.status.specs.declared.seat.Stage.{Stage}
-use Rattle.status.specs.declared.seat.Stage.TheVariants.{Receiving, Answering, Leaving}
+use Rattle.status.specs.declared.seat.VisitStage.{VisitStage}
+use Rattle.status.specs.declared.seat.VisitStage.TheVariants.{Receiving, Answering, Leaving}
 use Rattle.status.proofs.Sheets.{text_with_append}
 
 -- one piece more
@@ -113,7 +113,7 @@ received_more page page' before octets had puts =
     ∙ ap (λ (r : ℕ). text_with r (before ++ octets) (Some [])) (sym room)
 
 -- more of the request came
-pub kept_received : (given taken given' taken' : Passed) (stage : Stage) (sent : ℕ) (d : Desk)
+pub kept_received : (given taken given' taken' : Passed) (stage : VisitStage) (sent : ℕ) (d : Desk)
     (page' : Sheet)
     → IsKept given taken stage sent d → stage ≡ Receiving → Receives given d.request given' page'
     → taken' ≡ taken
@@ -131,7 +131,7 @@ kept_received given taken given' taken' stage sent d page' k is (octets, more, p
 }
 
 -- the request has come whole, and the answer lies on the desk
-pub kept_answered : (given taken : Passed) (stage : Stage) (sent : ℕ) (d d' : Desk)
+pub kept_answered : (given taken : Passed) (stage : VisitStage) (sent : ℕ) (d d' : Desk)
     → IsKept given taken stage sent d → stage ≡ Receiving → IsKept given taken Answering sent d'
 kept_answered given taken stage sent d d' k is =
     let none : sent ≡ 0 = k.unsent is in
@@ -145,7 +145,8 @@ kept_answered given taken stage sent d d' k is =
     }
 
 -- more of the answer was taken
-pub kept_sent : (given taken given' taken' : Passed) (stage : Stage) (sent count : ℕ) (d : Desk)
+pub kept_sent : (given taken given' taken' : Passed) (stage : VisitStage) (sent count : ℕ)
+    (d : Desk)
     (piece : List ℕ)
     → IsKept given taken stage sent d → stage ≡ Answering → IsNext (answer_on d) sent piece
     → count ≤ length piece
@@ -162,7 +163,7 @@ kept_sent given taken given' taken' stage sent count d piece k is next le more =
 }
 
 -- all of it was taken
-pub kept_left : (given taken given' taken' : Passed) (stage : Stage) (sent : ℕ) (d : Desk)
+pub kept_left : (given taken given' taken' : Passed) (stage : VisitStage) (sent : ℕ) (d : Desk)
     (piece : List ℕ)
     → IsKept given taken stage sent d → IsNext (answer_on d) sent piece → length piece ≡ 0
     → taken' ≡ taken
@@ -184,7 +185,7 @@ kept_left given taken given' taken' stage sent d piece k (rest, cut, goes) none 
         ]
 
 -- what still came was dropped
-pub kept_drained : (given taken given' taken' : Passed) (sent : ℕ) (d : Desk) (stage : Stage)
+pub kept_drained : (given taken given' taken' : Passed) (sent : ℕ) (d : Desk) (stage : VisitStage)
     → IsKept given taken stage sent d → stage ≡ Leaving → taken' ≡ taken
     → IsKept given' taken' stage sent d
 kept_drained given taken given' taken' sent d stage k is same = record {

@@ -3,7 +3,7 @@ use Rattle.std.proofs.Common.{◌≡◌, ℕ, ◌+◌, ◌<◌, ◌≤◌, List,
 use Rattle.std.proofs.Common.{true, false, ◌⊎◌, inl, inr, take, ◌-◌, Option, Some, None}
 use Rattle.std.proofs.Common.{if◌then◌else◌, refl, sym, ap, ◌∙◌, arith, append_assoc, length-append}
 use Rattle.std.proofs.lemmas.List.{append-nil, length-take-le}
-use Rattle.status.specs.Page.{Sheet, pushed, text_with, put}
+use Rattle.status.specs.TextPage.{Sheet, pushed, text_with, put}
 
 -- what found no room is not mended by more
 pub text_with_none : (room : ℕ) (a : List ℕ) → text_with room a None ≡ None

@@ -3,7 +3,7 @@ use Rattle.std.proofs.Common.{◌≡◌, ℕ, ◌+◌, ◌-◌, ◌<◌, ◌≤�
 use Rattle.std.proofs.Common.{take, replicate, suc, refl, sym, ap, ◌∙◌, arith, drop-cons}
 use Rattle.std.proofs.Math.ListN.{drop_of_length-le}
 use Rattle.std.proofs.lemmas.List.{take_rest}
-use Rattle.status.specs.Page.{Sheet, put}
+use Rattle.status.specs.TextPage.{Sheet, put}
 use Rattle.status.specs.Words.{behind, listed, joined}
 use Rattle.status.proofs.Sheets.{put_put}
 

@@ -5,7 +5,7 @@ pub mod Json
 pub mod Judge
 pub mod Labels
 pub mod Metrics
-pub mod Page
+pub mod TextPage
 pub mod Reply
 pub mod Request
 pub mod Seats

@@ -5,9 +5,9 @@ use Rattle.httparse.specs.Grammar.{RequestHead, ReadsRequest, HasNoRequest, Neve
 use Rattle.httparse.specs.Spans.{RequestExceeds}
 use Rattle.status.specs.declared.request.View.{View}
 use Rattle.status.specs.declared.request.View.TheVariants.{Person, Json, Metrics, Table}
-use Rattle.status.specs.declared.request.Asked.{Asked}
-use Rattle.status.specs.declared.request.Asked.TheVariants.{Nothing, Page, Unknown, Forbidden}
-use Rattle.status.specs.declared.request.Asked.TheVariants.{NoRequest, TooLong}
+use Rattle.status.specs.declared.request.Inquiry.{Inquiry}
+use Rattle.status.specs.declared.request.Inquiry.TheVariants.{Nothing, TextPage, Unknown, Forbidden}
+use Rattle.status.specs.declared.request.Inquiry.TheVariants.{NoRequest, TooLong}
 
 -- the path of a target: what stands before its query, which begins with a question mark (63)
 -- (RFC 3986, 3.3)
@@ -25,30 +25,30 @@ view_of path =
     else if bytes_eq path (codes "/metrics") then Some Metrics
     else if bytes_eq path (codes "/status.txt") then Some Table else None
 
-abbrev pub page_or : Option View → Bool → Asked
-page_or (Some view) has_body = Page view has_body
+abbrev pub page_or : Option View → Bool → Inquiry
+page_or (Some view) has_body = TextPage view has_body
 page_or None has_body = Unknown has_body
 
-abbrev pub asked_at : List ℕ → (has_body : Bool) → Asked
+abbrev pub asked_at : List ℕ → (has_body : Bool) → Inquiry
 asked_at target has_body = page_or (view_of (path_of target)) has_body
 
 -- what is asked by a method and a target (RFC 9110, 9.3)
-abbrev pub asked_by : (method target : List ℕ) → Asked
+abbrev pub asked_by : (method target : List ℕ) → Inquiry
 asked_by method target =
     if bytes_eq method (codes "GET") then asked_at target true
     else if bytes_eq method (codes "HEAD") then asked_at target false else Forbidden
 
 -- octets that begin with the head of a request which asks that
-abbrev pub IsHeadOf : List ℕ → Asked → Type 0
+abbrev pub IsHeadOf : List ℕ → Inquiry → Type 0
 IsHeadOf octets asked =
     (head : RequestHead) × (rest : List ℕ) × ReadsRequest octets head rest
     × (asked ≡ asked_by head.method head.target)
 
 -- what octets ask
-abbrev pub Asks : List ℕ → Asked → Type 0
+abbrev pub Asks : List ℕ → Inquiry → Type 0
 Asks octets Nothing = HasNoRequest octets
 Asks octets NoRequest = NeverHasRequest octets
 Asks octets TooLong = RequestExceeds 64 octets
-Asks octets (Page view has_body) = IsHeadOf octets (Page view has_body)
+Asks octets (TextPage view has_body) = IsHeadOf octets (TextPage view has_body)
 Asks octets (Unknown has_body) = IsHeadOf octets (Unknown has_body)
 Asks octets Forbidden = IsHeadOf octets Forbidden

@@ -2,14 +2,14 @@
 use Rattle.std.specs.Prelude.{◌≡◌, ◌≢◌, ℕ, ◌-◌, ◌<◌, ◌≤◌, List, ◌++◌, length, take, drop, Option}
 use Rattle.std.specs.Prelude.{Some, None}
 use Rattle.status.specs.Answer.{body_sent, head_of}
-use Rattle.status.specs.Page.{Sheet, empty, put, shown}
+use Rattle.status.specs.TextPage.{Sheet, empty, put, shown}
 use Rattle.status.specs.Request.{Asks}
 use Rattle.status.specs.Streams.{Passed, more_passed}
-use Rattle.status.specs.declared.request.Asked.{Asked}
-use Rattle.status.specs.declared.request.Asked.TheVariants.{Nothing, TooLong}
+use Rattle.status.specs.declared.request.Inquiry.{Inquiry}
+use Rattle.status.specs.declared.request.Inquiry.TheVariants.{Nothing, TooLong}
 use Rattle.status.specs.declared.seat.Desk.{Desk}
-use Rattle.status.specs.declared.seat.Stage.{Stage}
-use Rattle.status.specs.declared.seat.Stage.TheVariants.{Receiving, Answering, Leaving}
+use Rattle.status.specs.declared.seat.VisitStage.{VisitStage}
+use Rattle.status.specs.declared.seat.VisitStage.TheVariants.{Receiving, Answering, Leaving}
 use Rattle.status.specs.declared.seat.TheConstants.{REQUEST_ROOM, HEAD_ROOM, BODY_ROOM}
 use Rattle.status.specs.declared.snapshot.Snapshot.{Snapshot}
 
@@ -28,14 +28,14 @@ abbrev pub answer_on : Desk → List ℕ
 answer_on d = shown d.head ++ shown d.body
 
 -- what is asked by a request; none is one that found no room
-abbrev pub IsAsked : Option (List ℕ) → Asked → Type 0
+abbrev pub IsAsked : Option (List ℕ) → Inquiry → Type 0
 IsAsked (Some octets) asked = Asks octets asked
 IsAsked None asked = asked ≡ TooLong
 
 -- what lies on a desk then is the answer to the request on it, of this moment, in its room
 abbrev pub IsAnswer : Snapshot → (before after : Desk) → Type 0
 IsAnswer s before after =
-    (asked : Asked) × IsAsked after.request.text asked × (asked ≢ Nothing)
+    (asked : Inquiry) × IsAsked after.request.text asked × (asked ≢ Nothing)
     × (after.head ≡ head_of before.head.room before.body.room asked s)
     × (after.body ≡ body_sent before.body.room asked s)
 
@@ -51,7 +51,7 @@ IsNext all sent piece =
 
 -- What is known of who sits there, by what the stream keeps. While the request comes, what it gave
 -- is the request. What it took is a beginning of the answer on the desk, and all of it at the end.
-pub record IsKept (given taken : Passed) (stage : Stage) (sent : ℕ) (d : Desk) : Type 0 where
+pub record IsKept (given taken : Passed) (stage : VisitStage) (sent : ℕ) (d : Desk) : Type 0 where
   pub receives : stage ≡ Receiving → (octets : List ℕ) → given ≡ Some octets
       → d.request.text ≡ (put octets (empty d.request.room)).text
   pub unsent : stage ≡ Receiving → sent ≡ 0
@@ -60,13 +60,13 @@ pub record IsKept (given taken : Passed) (stage : Stage) (sent : ℕ) (d : Desk)
   pub whole : stage ≡ Leaving → sent ≡ length (answer_on d)
 
 -- The request hasn't come whole; or the answer has been made, and is that of this moment.
-abbrev pub Answers : Stage → Snapshot → (before after : Desk) → Type 0
+abbrev pub Answers : VisitStage → Snapshot → (before after : Desk) → Type 0
 Answers Receiving s before after = IsAsked after.request.text Nothing
 Answers Answering s before after = IsAnswer s before after
 Answers Leaving s before after = Unit {0}
 
 -- what a turn does to the desk: nothing but while the request comes
-abbrev pub Turned : Stage → Stage → Snapshot → Desk → Desk → Type 0
+abbrev pub Turned : VisitStage → VisitStage → Snapshot → Desk → Desk → Type 0
 Turned Receiving now s before after = Answers now s before after
 Turned Answering now s before after = after ≡ before
 Turned Leaving now s before after = after ≡ before

@@ -1,64 +1,64 @@
 //! What a visitor is answered (RFC 9110, RFC 9112).
 ghost use Rattle.std.specs.Prelude.{◌≡◌};
 ghost use Rattle.status.specs.Answer as spec;
-ghost use Rattle.status.specs.Page.{empty, put};
+ghost use Rattle.status.specs.TextPage.{empty, put};
 
 use crate::html::put_html;
 use crate::json::put_json;
 use crate::metrics::put_metrics;
-use crate::page::Page;
-use crate::request::{Asked, View};
+use crate::page::TextPage;
+use crate::request::{Inquiry, View};
 use crate::snapshot::Snapshot;
 use crate::table::put_table;
 use crate::words::{Word, put_words};
 
 /// The status of an answer (RFC 9110, 15).
-fn status_of(asked: Asked) -> &'static str
+fn status_of(asked: Inquiry) -> &'static str
     ensures { result.now ≡ spec.status_of asked }
 {
     match asked {
-        Asked::Page(_, _) => "200 OK",
-        Asked::Unknown(_) => "404 Not Found",
-        Asked::Forbidden => "405 Method Not Allowed",
-        Asked::TooLong => "431 Request Header Fields Too Large",
-        Asked::Nothing | Asked::NoRequest => "400 Bad Request",
+        Inquiry::TextPage(_, _) => "200 OK",
+        Inquiry::Unknown(_) => "404 Not Found",
+        Inquiry::Forbidden => "405 Method Not Allowed",
+        Inquiry::TooLong => "431 Request Header Fields Too Large",
+        Inquiry::Nothing | Inquiry::NoRequest => "400 Bad Request",
     }
 }
 
 /// What kind of text the body is (RFC 9110, 8.3).
-fn kind_of(asked: Asked) -> &'static str
+fn kind_of(asked: Inquiry) -> &'static str
     ensures { result.now ≡ spec.kind_of asked }
 {
     match asked {
-        Asked::Page(View::Person, _) => "text/html; charset=utf-8",
-        Asked::Page(View::Json, _) => "application/json",
-        Asked::Page(View::Metrics, _) => "text/plain; version=0.0.4; charset=utf-8",
+        Inquiry::TextPage(View::Person, _) => "text/html; charset=utf-8",
+        Inquiry::TextPage(View::Json, _) => "application/json",
+        Inquiry::TextPage(View::Metrics, _) => "text/plain; version=0.0.4; charset=utf-8",
         _ => "text/plain; charset=utf-8",
     }
 }
 
 /// The field that names the methods which may be used (RFC 9110, 10.2.1), where others were.
-fn allow_of(asked: Asked) -> &'static str
+fn allow_of(asked: Inquiry) -> &'static str
     ensures { result.now ≡ spec.allow_of asked }
 {
     match asked {
-        Asked::Forbidden => "Allow: GET, HEAD\r\n",
+        Inquiry::Forbidden => "Allow: GET, HEAD\r\n",
         _ => "",
     }
 }
 
 /// Whether the body goes out.
-fn has_body(asked: Asked) -> bool
+fn has_body(asked: Inquiry) -> bool
     ensures { result ≡ spec.has_body asked }
 {
     match asked {
-        Asked::Page(_, has_body) | Asked::Unknown(has_body) => has_body,
+        Inquiry::TextPage(_, has_body) | Inquiry::Unknown(has_body) => has_body,
         _ => true,
     }
 }
 
 /// Puts a page.
-fn put_page(body: &mut Page, view: View, snapshot: &Snapshot<'_>)
+fn put_page(body: &mut TextPage, view: View, snapshot: &Snapshot<'_>)
     ensures { body.new ≡ put (spec.page_of view snapshot.now) body.old }
 {
     match view {
@@ -70,17 +70,17 @@ fn put_page(body: &mut Page, view: View, snapshot: &Snapshot<'_>)
 }
 
 /// The page that is asked for, if one is.
-fn view_of(asked: Asked) -> Option<View>
+fn view_of(asked: Inquiry) -> Option<View>
     ensures { result ≡ spec.view_of asked }
 {
     match asked {
-        Asked::Page(view, _) => Some(view),
+        Inquiry::TextPage(view, _) => Some(view),
         _ => None,
     }
 }
 
 /// Puts the body of an answer: the page, or its status in words.
-fn put_body(body: &mut Page, asked: Asked, snapshot: &Snapshot<'_>)
+fn put_body(body: &mut TextPage, asked: Inquiry, snapshot: &Snapshot<'_>)
     ensures { body.new ≡ put (spec.body_of asked snapshot.now) body.old }
 {
     match view_of(asked) {
@@ -90,7 +90,7 @@ fn put_body(body: &mut Page, asked: Asked, snapshot: &Snapshot<'_>)
 }
 
 /// Puts the head of an answer with a body of so many octets.
-fn put_head<'a>(head: &mut Page, status: &'a str, kind: &'a str, allow: &'a str, len: usize)
+fn put_head<'a>(head: &mut TextPage, status: &'a str, kind: &'a str, allow: &'a str, len: usize)
     ensures { head.new ≡ put (spec.head_text status.now kind.now allow.now len) head.old }
 {
     put_words(
@@ -114,7 +114,7 @@ fn put_head<'a>(head: &mut Page, status: &'a str, kind: &'a str, allow: &'a str,
 }
 
 /// Puts the head of an answer with this body, or with none where the body found no room.
-fn put_head_for(head: &mut Page, asked: Asked, body: &Page)
+fn put_head_for(head: &mut TextPage, asked: Inquiry, body: &TextPage)
     ensures { head.new ≡ put (spec.head_before asked body.now.text) head.old }
 {
     match body.text() {
@@ -134,7 +134,12 @@ fn put_head_for(head: &mut Page, asked: Asked, body: &Page)
 }
 
 /// Makes the answer: its head, and its body.
-pub(crate) fn make_answer(head: &mut Page, body: &mut Page, asked: Asked, snapshot: &Snapshot<'_>)
+pub(crate) fn make_answer(
+    head: &mut TextPage,
+    body: &mut TextPage,
+    asked: Inquiry,
+    snapshot: &Snapshot<'_>,
+)
     ensures head { head.new ≡ spec.head_of head.old.room body.old.room asked snapshot.now }
     ensures body { body.new ≡ spec.body_sent body.old.room asked snapshot.now }
 {

@@ -10,7 +10,7 @@ ghost use Rattle.status.specs.Request.{asked_by};
 ghost use Rattle.status.specs.Texts.{age_or, age_text};
 ghost use Rattle.status.specs.Words.{escaped, listed, right};
 ghost use Rattle.std.specs.Fmt.{decimal};
-ghost use Rattle.status.specs.declared.request.Asked.TheVariants as asked;
+ghost use Rattle.status.specs.declared.request.Inquiry.TheVariants as asked;
 ghost use Rattle.status.specs.declared.request.View.TheVariants as view;
 ghost use Rattle.status.specs.declared.words.Marks.TheVariants.{Json, Label, Html, Plain};
 
@@ -35,10 +35,10 @@ pub fn texts_by_example()
 
 /// What is asked, how a number is written for Prometheus, and what a monitor makes of a line.
 pub fn answers_by_example()
-    ensures asked { (asked_by (codes "GET") (codes "/") ≡ asked.Page view.Person true)
-        × (asked_by (codes "HEAD") (codes "/status.json") ≡ asked.Page view.Json false)
-        × (asked_by (codes "GET") (codes "/metrics?a=b?c") ≡ asked.Page view.Metrics true)
-        × (asked_by (codes "GET") (codes "/status.txt") ≡ asked.Page view.Table true)
+    ensures asked { (asked_by (codes "GET") (codes "/") ≡ asked.TextPage view.Person true)
+        × (asked_by (codes "HEAD") (codes "/status.json") ≡ asked.TextPage view.Json false)
+        × (asked_by (codes "GET") (codes "/metrics?a=b?c") ≡ asked.TextPage view.Metrics true)
+        × (asked_by (codes "GET") (codes "/status.txt") ≡ asked.TextPage view.Table true)
         × (asked_by (codes "GET") (codes "/status.txt/") ≡ asked.Unknown true)
         × (asked_by (codes "HEAD") (codes "") ≡ asked.Unknown false)
         × (asked_by (codes "POST") (codes "/") ≡ asked.Forbidden)

@@ -1,11 +1,11 @@
 //! The snapshot as a page for a person: HTML without a script, and with nothing from elsewhere.
 ghost use Rattle.std.specs.Prelude.{◌≡◌};
 ghost use Rattle.status.specs.Html as spec;
-ghost use Rattle.status.specs.Page.{put};
+ghost use Rattle.status.specs.TextPage.{put};
 
 use crate::judging::judge;
 use crate::lists::{Form, put_rows};
-use crate::page::Page;
+use crate::page::TextPage;
 use crate::snapshot::{Setting, Snapshot, StationView};
 use crate::texts::{put_age, put_age_or, put_summary};
 use crate::words::{Marks, Word, put_words};
@@ -53,7 +53,7 @@ struct RowForm {
 }
 
 /// Puts whose row it is, and how it stands.
-fn put_row_head(page: &mut Page, station: &StationView<'_>)
+fn put_row_head(page: &mut TextPage, station: &StationView<'_>)
     ensures { page.new ≡ put (spec.row_head station.now) page.old }
 {
     put_words(
@@ -75,7 +75,7 @@ fn put_row_head(page: &mut Page, station: &StationView<'_>)
 }
 
 /// Puts what was counted of a station.
-fn put_row_counts(page: &mut Page, station: &StationView<'_>)
+fn put_row_counts(page: &mut TextPage, station: &StationView<'_>)
     ensures { page.new ≡ put (spec.row_counts station.now) page.old }
 {
     put_words(
@@ -97,7 +97,7 @@ fn put_row_counts(page: &mut Page, station: &StationView<'_>)
 impl Form<StationView<'_>> for RowForm {
     ghost text = { λ form station. spec.text_of_row form.now_ms station };
 
-    fn put(&self, page: &mut Page, station: &StationView<'_>) {
+    fn put(&self, page: &mut TextPage, station: &StationView<'_>) {
         put_row_head(page, station);
         put_age(page, 0, self.now_ms, station.since_ms);
         page.put(b"</td><td class=\"n\">");
@@ -113,7 +113,7 @@ struct SettingForm;
 impl Form<Setting<'_>> for SettingForm {
     ghost text = { λ _ setting. spec.text_of_setting setting };
 
-    fn put(&self, page: &mut Page, setting: &Setting<'_>) {
+    fn put(&self, page: &mut TextPage, setting: &Setting<'_>) {
         put_words(
             page,
             &[
@@ -147,7 +147,7 @@ fn depth(places: u64, taken: u64) -> u64
 impl Form<u64> for StepForm {
     ghost text = { λ form taken. spec.text_of_step form.places taken };
 
-    fn put(&self, page: &mut Page, taken: &u64) {
+    fn put(&self, page: &mut TextPage, taken: &u64) {
         put_words(
             page,
             &[
@@ -160,7 +160,7 @@ impl Form<u64> for StepForm {
 }
 
 /// Puts what the page begins with, up to its line in words.
-fn put_head(page: &mut Page, snapshot: &Snapshot<'_>)
+fn put_head(page: &mut TextPage, snapshot: &Snapshot<'_>)
     ensures { page.new ≡ put (spec.head_text snapshot.now) page.old }
 {
     put_words(
@@ -176,7 +176,7 @@ fn put_head(page: &mut Page, snapshot: &Snapshot<'_>)
 }
 
 /// Puts how the line is, with what stands before since when.
-fn put_line(page: &mut Page, snapshot: &Snapshot<'_>)
+fn put_line(page: &mut TextPage, snapshot: &Snapshot<'_>)
     ensures { page.new ≡ put (spec.line_text snapshot.now) page.old }
 {
     put_words(
@@ -192,7 +192,7 @@ fn put_line(page: &mut Page, snapshot: &Snapshot<'_>)
 }
 
 /// The same of the control centre.
-fn put_centre(page: &mut Page, snapshot: &Snapshot<'_>)
+fn put_centre(page: &mut TextPage, snapshot: &Snapshot<'_>)
     ensures { page.new ≡ put (spec.centre_text snapshot.now) page.old }
 {
     put_words(
@@ -207,7 +207,7 @@ fn put_centre(page: &mut Page, snapshot: &Snapshot<'_>)
 }
 
 /// Puts the queue and the state, with what stands before the last hour.
-fn put_queue(page: &mut Page, snapshot: &Snapshot<'_>)
+fn put_queue(page: &mut TextPage, snapshot: &Snapshot<'_>)
     ensures { page.new ≡ put (spec.queue_text snapshot.now) page.old }
 {
     put_words(
@@ -233,7 +233,7 @@ fn put_queue(page: &mut Page, snapshot: &Snapshot<'_>)
 }
 
 /// Puts the snapshot as a page for a person.
-pub(crate) fn put_html(page: &mut Page, snapshot: &Snapshot<'_>)
+pub(crate) fn put_html(page: &mut TextPage, snapshot: &Snapshot<'_>)
     ensures { page.new ≡ put (spec.html_of snapshot.now) page.old }
 {
     let now_ms = snapshot.now_ms;

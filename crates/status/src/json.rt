@@ -1,12 +1,12 @@
 //! The snapshot as JSON (RFC 8259).
 ghost use Rattle.std.specs.Prelude.{◌≡◌};
 ghost use Rattle.std.specs.Fmt.{decimal};
-ghost use Rattle.status.specs.Page.{put};
+ghost use Rattle.status.specs.TextPage.{put};
 ghost use Rattle.status.specs.Json as spec;
 
 use crate::judging::judge;
 use crate::lists::{Form, put_listed};
-use crate::page::Page;
+use crate::page::TextPage;
 use crate::snapshot::{Setting, Snapshot, StationView};
 use crate::words::{Marks, Word, put_words};
 
@@ -17,7 +17,7 @@ struct NumberForm;
 impl Form<u64> for NumberForm {
     ghost text = { λ _ n. decimal n };
 
-    fn put(&self, page: &mut Page, number: &u64) {
+    fn put(&self, page: &mut TextPage, number: &u64) {
         put_words(page, &[Word::Number(*number)]);
     }
 }
@@ -29,7 +29,7 @@ struct StationForm;
 impl Form<StationView<'_>> for StationForm {
     ghost text = { λ _ station. spec.json_of_station station };
 
-    fn put(&self, page: &mut Page, station: &StationView<'_>) {
+    fn put(&self, page: &mut TextPage, station: &StationView<'_>) {
         put_words(
             page,
             &[
@@ -66,7 +66,7 @@ struct SettingForm;
 impl Form<Setting<'_>> for SettingForm {
     ghost text = { λ _ setting. spec.json_of_setting setting };
 
-    fn put(&self, page: &mut Page, setting: &Setting<'_>) {
+    fn put(&self, page: &mut TextPage, setting: &Setting<'_>) {
         put_words(
             page,
             &[
@@ -81,7 +81,7 @@ impl Form<Setting<'_>> for SettingForm {
 }
 
 /// Puts an address as a string, or null.
-fn put_peer(page: &mut Page, peer: Option<&str>)
+fn put_peer(page: &mut TextPage, peer: Option<&str>)
     ensures { page.new ≡ put (spec.json_of_peer peer.entry) page.old }
 {
     match peer {
@@ -97,7 +97,7 @@ fn put_peer(page: &mut Page, peer: Option<&str>)
     }
 }
 
-fn put_before_peer(page: &mut Page, snapshot: &Snapshot<'_>)
+fn put_before_peer(page: &mut TextPage, snapshot: &Snapshot<'_>)
     ensures { page.new ≡ put (spec.json_before_peer snapshot.now) page.old }
 {
     put_words(
@@ -124,7 +124,7 @@ fn put_before_peer(page: &mut Page, snapshot: &Snapshot<'_>)
     );
 }
 
-fn put_before_hour(page: &mut Page, snapshot: &Snapshot<'_>)
+fn put_before_hour(page: &mut TextPage, snapshot: &Snapshot<'_>)
     ensures { page.new ≡ put (spec.json_before_hour snapshot.now) page.old }
 {
     put_words(
@@ -145,7 +145,7 @@ fn put_before_hour(page: &mut Page, snapshot: &Snapshot<'_>)
     );
 }
 
-fn put_before_stations(page: &mut Page, snapshot: &Snapshot<'_>)
+fn put_before_stations(page: &mut TextPage, snapshot: &Snapshot<'_>)
     ensures { page.new ≡ put (spec.json_before_stations snapshot.now) page.old }
 {
     put_words(
@@ -159,7 +159,7 @@ fn put_before_stations(page: &mut Page, snapshot: &Snapshot<'_>)
 }
 
 /// Puts the snapshot as JSON.
-pub(crate) fn put_json(page: &mut Page, snapshot: &Snapshot<'_>)
+pub(crate) fn put_json(page: &mut TextPage, snapshot: &Snapshot<'_>)
     ensures { page.new ≡ put (spec.json_of snapshot.now) page.old }
 {
     put_before_peer(page, snapshot);

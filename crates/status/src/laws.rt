@@ -1,6 +1,6 @@
 //! What the definitions mean.
 ghost use Rattle.std.specs.Prelude.{◌≡◌, ◌<◌, ◌≤◌, ℕ, List, length, Some, None};
-ghost use Rattle.status.specs.Page.{empty, put};
+ghost use Rattle.status.specs.TextPage.{empty, put};
 
 /// What is put on an empty page stands there whole where it finds room, and else nothing does: no
 /// page goes out that breaks off.

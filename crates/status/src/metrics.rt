@@ -1,11 +1,11 @@
 //! The snapshot in Prometheus' text format, version 0.0.4.
 ghost use Rattle.std.specs.Prelude.{◌≡◌};
 ghost use Rattle.status.specs.Metrics as spec;
-ghost use Rattle.status.specs.Page.{put};
+ghost use Rattle.status.specs.TextPage.{put};
 
 use crate::judging::cannot_keep;
 use crate::lists::{Form, put_rows};
-use crate::page::Page;
+use crate::page::TextPage;
 use crate::snapshot::{Snapshot, StationView};
 use crate::texts::seconds;
 use crate::words::{Count, Marks, Word, put_words};
@@ -25,7 +25,7 @@ struct GaugeForm;
 impl Form<Gauge<'_>> for GaugeForm {
     ghost text = { λ _ gauge. spec.text_of_gauge gauge };
 
-    fn put(&self, page: &mut Page, gauge: &Gauge<'_>) {
+    fn put(&self, page: &mut TextPage, gauge: &Gauge<'_>) {
         put_words(
             page,
             &[
@@ -65,7 +65,7 @@ struct SampleForm {
 impl Form<StationView<'_>> for SampleForm {
     ghost text = { λ form station. spec.text_of_sample form.name.now form.count station };
 
-    fn put(&self, page: &mut Page, station: &StationView<'_>) {
+    fn put(&self, page: &mut TextPage, station: &StationView<'_>) {
         put_words(
             page,
             &[
@@ -87,7 +87,7 @@ struct FamilyForm<'a> {
 }
 
 /// Puts what the numbers of stations are.
-fn put_head(page: &mut Page, family: &Family)
+fn put_head(page: &mut TextPage, family: &Family)
     ensures { page.new ≡ put (spec.head_of_family family.now) page.old }
 {
     put_words(
@@ -109,7 +109,7 @@ fn put_head(page: &mut Page, family: &Family)
 impl Form<Family> for FamilyForm<'_> {
     ghost text = { λ form family. spec.text_of_family form.stations.now family };
 
-    fn put(&self, page: &mut Page, family: &Family) {
+    fn put(&self, page: &mut TextPage, family: &Family) {
         put_head(page, family);
         let form = SampleForm {
             name: family.name,
@@ -126,7 +126,7 @@ struct InfoForm;
 impl Form<StationView<'_>> for InfoForm {
     ghost text = { λ _ station. spec.text_of_info station };
 
-    fn put(&self, page: &mut Page, station: &StationView<'_>) {
+    fn put(&self, page: &mut TextPage, station: &StationView<'_>) {
         put_words(
             page,
             &[
@@ -145,7 +145,7 @@ impl Form<StationView<'_>> for InfoForm {
 }
 
 /// Puts the version and the name of the line, and what stands before the names of stations.
-fn put_build(page: &mut Page, snapshot: &Snapshot<'_>)
+fn put_build(page: &mut TextPage, snapshot: &Snapshot<'_>)
     ensures { page.new ≡ put (spec.build_text snapshot.now) page.old }
 {
     put_words(
@@ -166,7 +166,7 @@ fn put_build(page: &mut Page, snapshot: &Snapshot<'_>)
 }
 
 /// Puts the numbers of the whole gateway.
-fn put_gauges(page: &mut Page, snapshot: &Snapshot<'_>)
+fn put_gauges(page: &mut TextPage, snapshot: &Snapshot<'_>)
     ensures { page.new ≡ put (spec.gauges_text snapshot.now) page.old }
 {
     let gauges = [
@@ -215,7 +215,7 @@ fn put_gauges(page: &mut Page, snapshot: &Snapshot<'_>)
 }
 
 /// Puts the numbers of the stations.
-fn put_families(page: &mut Page, stations: &[StationView<'_>])
+fn put_families(page: &mut TextPage, stations: &[StationView<'_>])
     ensures { page.new ≡ put (spec.families_text stations.now) page.old }
 {
     let families = [
@@ -254,7 +254,7 @@ fn put_families(page: &mut Page, stations: &[StationView<'_>])
 }
 
 /// Puts the snapshot in Prometheus' text format.
-pub(crate) fn put_metrics(page: &mut Page, snapshot: &Snapshot<'_>)
+pub(crate) fn put_metrics(page: &mut TextPage, snapshot: &Snapshot<'_>)
     ensures { page.new ≡ put (spec.metrics_of snapshot.now) page.old }
 {
     put_build(page, snapshot);

@@ -1,7 +1,7 @@
 //! Octets that are put one behind another into room of a fixed size.
 ghost use Rattle.std.specs.Prelude.{◌≡◌, ◌+◌, ◌≤◌, ◌++◌, length, take, IfOk, MatchOption, Some};
 ghost use Rattle.std.specs.Prelude.{None};
-ghost use Rattle.status.specs.Page.{Sheet, put, empty, shown};
+ghost use Rattle.status.specs.TextPage.{Sheet, put, empty, shown};
 
 use std::alloc::{AllocError, Global};
 use std::marker::Model;
@@ -9,7 +9,7 @@ use std::marker::Model;
 /// A text that grows in room of a fixed size. Once something found no room there is no text any
 /// more, until the page is cleared: so what stands on it is always whole.
 #[derive(Drop)]
-pub(crate) struct Page {
+pub(crate) struct TextPage {
     /// The first octets are the text. The others mean nothing.
     octets: Vec<u8>,
     end: usize,
@@ -17,9 +17,9 @@ pub(crate) struct Page {
     is_cut: bool,
 }
 
-impl Model for Page {
+impl Model for TextPage {
     ghost use Rattle.std.specs.Prelude.{◌≤◌, length, take, Some, None, if◌then◌else◌};
-    ghost use Rattle.status.specs.Page.{Sheet};
+    ghost use Rattle.status.specs.TextPage.{Sheet};
 
     ghost Value = { Sheet };
 
@@ -31,14 +31,14 @@ impl Model for Page {
     ghost invariant = { λ p. p.end ≤ length p.octets.items };
 }
 
-impl Page {
+impl TextPage {
     /// An empty page with room for so many octets.
-    pub(crate) fn new(alloc: Global, room: usize) -> Result<Page, AllocError>
+    pub(crate) fn new(alloc: Global, room: usize) -> Result<TextPage, AllocError>
         ensures { IfOk result (λ page. page ≡ empty room) }
     {
         let mut octets = Vec::new(alloc);
         octets.resize(room, 0)?;
-        Ok(Page {
+        Ok(TextPage {
             octets,
             end: 0,
             is_cut: false,

@@ -24,11 +24,11 @@ pub(crate) enum View {
 
 /// What a visitor asks.
 #[derive(Clone, Copy, Debug, PartialEq, Eq)]
-pub(crate) enum Asked {
+pub(crate) enum Inquiry {
     /// The request hasn't come whole.
     Nothing,
     /// A page, with its body or without (RFC 9110, 9.3.1 and 9.3.2).
-    Page(View, bool),
+    TextPage(View, bool),
     /// A page that isn't there.
     Unknown(bool),
     /// Something else than to be shown a page.
@@ -75,17 +75,17 @@ fn view_of(path: &[u8]) -> Option<View>
 }
 
 /// What is asked of a path.
-fn asked_at(target: &[u8], has_body: bool) -> Asked
+fn asked_at(target: &[u8], has_body: bool) -> Inquiry
     ensures { result ≡ spec.asked_at target.now has_body }
 {
     match view_of(path_of(target)) {
-        Some(view) => Asked::Page(view, has_body),
-        None => Asked::Unknown(has_body),
+        Some(view) => Inquiry::TextPage(view, has_body),
+        None => Inquiry::Unknown(has_body),
     }
 }
 
 /// What is asked by a method and a target.
-fn asked_by(method: &[u8], target: &[u8]) -> Asked
+fn asked_by(method: &[u8], target: &[u8]) -> Inquiry
     ensures { result ≡ spec.asked_by method.now target.now }
 {
     if method == b"GET".as_slice() {
@@ -93,12 +93,12 @@ fn asked_by(method: &[u8], target: &[u8]) -> Asked
     } else if method == b"HEAD".as_slice() {
         asked_at(target, false)
     } else {
-        Asked::Forbidden
+        Inquiry::Forbidden
     }
 }
 
 /// What a visitor asks who has sent these octets so far.
-pub(crate) fn asked_of(octets: &[u8]) -> Asked
+pub(crate) fn asked_of(octets: &[u8]) -> Inquiry
     ensures right { spec.Asks octets.now result }
     ensures found { (head : RequestHead) (rest : List ℕ) → ReadsRequest octets.now head rest
         → length head.fields ≤ 64 → result ≡ spec.asked_by head.method head.target }
@@ -106,8 +106,8 @@ pub(crate) fn asked_of(octets: &[u8]) -> Asked
     let mut fields = [EMPTY_HEADER_SPAN; FIELDS];
     match parse_request(octets, &mut fields) {
         Ok(Status::Complete(head)) => asked_by(head.method.of(octets), head.path.of(octets)),
-        Ok(Status::Partial) => Asked::Nothing,
-        Err(Error::TooManyHeaders) => Asked::TooLong,
-        Err(_) => Asked::NoRequest,
+        Ok(Status::Partial) => Inquiry::Nothing,
+        Err(Error::TooManyHeaders) => Inquiry::TooLong,
+        Err(_) => Inquiry::NoRequest,
     }
 }

@@ -3,14 +3,14 @@ ghost use Rattle.std.specs.Prelude.{◌≡◌, ◌≤◌, ◌<◌, ◌^◌, leng
 ghost use Rattle.std.proofs.Props.{props};
 ghost use Rattle.std.specs.Bool.{OnTrue};
 ghost use Rattle.std.specs.Option.{ForSome, is_none};
-ghost use Rattle.status.specs.Page.{shown};
+ghost use Rattle.status.specs.TextPage.{shown};
 ghost use Rattle.status.specs.Seats.{Answers, Turned, Receives, IsAsked, IsKept, IsNext, IsYoung};
 ghost use Rattle.status.specs.Seats.{answer_on, cleared, fresh_desk};
 ghost use Rattle.status.specs.Streams.{IsNew, more_passed};
 
 use crate::answer::make_answer;
-use crate::page::Page;
-use crate::request::{Asked, asked_of};
+use crate::page::TextPage;
+use crate::request::{Inquiry, asked_of};
 use crate::snapshot::Snapshot;
 use crate::streams::{Received, Stream, Took};
 use std::alloc::{AllocError, Global};
@@ -35,7 +35,7 @@ const STAY_MS: u64 = 2_000;
 
 /// How far a visitor has come.
 #[derive(Clone, Copy, Debug, PartialEq, Eq)]
-pub(crate) enum Stage {
+pub(crate) enum VisitStage {
     /// The request is coming.
     Receiving,
     /// The answer is going out.
@@ -48,9 +48,9 @@ pub(crate) enum Stage {
 /// What lies on the desk: the request so far, and the answer. Its room is made once.
 #[derive(Drop)]
 pub(crate) struct Desk {
-    request: Page,
-    head: Page,
-    body: Page,
+    request: TextPage,
+    head: TextPage,
+    body: TextPage,
 }
 
 /// The front of octets, as much as is handed to a stream at once.
@@ -65,9 +65,9 @@ impl Desk {
         ensures { IfOk result (λ desk. desk ≡ fresh_desk) }
     {
         Ok(Desk {
-            request: Page::new(alloc, REQUEST_ROOM)?,
-            head: Page::new(alloc, HEAD_ROOM)?,
-            body: Page::new(alloc, BODY_ROOM)?,
+            request: TextPage::new(alloc, REQUEST_ROOM)?,
+            head: TextPage::new(alloc, HEAD_ROOM)?,
+            body: TextPage::new(alloc, BODY_ROOM)?,
         })
     }
 
@@ -81,12 +81,12 @@ impl Desk {
     }
 
     /// What is asked so far.
-    fn asked(&self) -> Asked
+    fn asked(&self) -> Inquiry
         ensures { IsAsked self.now.request.text result }
     {
         match self.request.text() {
             Some(octets) => asked_of(octets),
-            None => Asked::TooLong,
+            None => Inquiry::TooLong,
         }
     }
 
@@ -105,7 +105,7 @@ impl Desk {
 }
 
 /// Receives more of a request. `false` says that the visitor has gone.
-fn receive<S: Stream>(stream: &mut S, request: &mut Page) -> bool
+fn receive<S: Stream>(stream: &mut S, request: &mut TextPage) -> bool
     ensures given { Receives (S.given stream.old) request.old (S.given stream.new) request.new }
     ensures taken { S.taken stream.new ≡ S.taken stream.old }
 {
@@ -147,14 +147,14 @@ struct Client<S: Stream> {
     stream: S,
     /// When the visitor came.
     since_ms: u64,
-    stage: Stage,
+    stage: VisitStage,
     /// How many octets of the answer the stream has taken.
     sent: usize,
 }
 
 /// Receives more of the request, and makes its answer where it has come whole.
 fn receive_more<S: Stream>(client: &mut Client<S>, desk: &mut Desk, snapshot: &Snapshot<'_>) -> bool
-    requires stage { client.old.stage ≡ Stage.Receiving }
+    requires stage { client.old.stage ≡ VisitStage.Receiving }
     requires kept { IsKept (S.given client.old.stream) (S.taken client.old.stream)
         client.old.stage client.old.sent desk.old }
     ensures kept { OnTrue result (IsKept (S.given client.new.stream) (S.taken client.new.stream)
@@ -166,10 +166,10 @@ fn receive_more<S: Stream>(client: &mut Client<S>, desk: &mut Desk, snapshot: &S
         return false;
     }
     match desk.asked() {
-        Asked::Nothing => {}
+        Inquiry::Nothing => {}
         asked => {
             make_answer(&mut desk.head, &mut desk.body, asked, snapshot);
-            client.stage = Stage::Answering;
+            client.stage = VisitStage::Answering;
         }
     }
     true
@@ -177,7 +177,7 @@ fn receive_more<S: Stream>(client: &mut Client<S>, desk: &mut Desk, snapshot: &S
 
 /// Sends more of the answer.
 fn send_more<S: Stream>(client: &mut Client<S>, desk: &Desk) -> bool
-    requires stage { client.old.stage ≡ Stage.Answering }
+    requires stage { client.old.stage ≡ VisitStage.Answering }
     requires kept { IsKept (S.given client.old.stream) (S.taken client.old.stream)
         client.old.stage client.old.sent desk.now }
     ensures kept { OnTrue result (IsKept (S.given client.new.stream) (S.taken client.new.stream)
@@ -187,7 +187,7 @@ fn send_more<S: Stream>(client: &mut Client<S>, desk: &Desk) -> bool
     let piece = desk.next(client.sent);
     if piece.is_empty() {
         client.stream.finish();
-        client.stage = Stage::Leaving;
+        client.stage = VisitStage::Leaving;
         return true;
     }
     let Some(count) = send(&mut client.stream, piece) else {
@@ -212,9 +212,9 @@ fn take_turn<S: Stream>(client: &mut Client<S>, desk: &mut Desk, snapshot: &Snap
         desk.old desk.new) }
 {
     match client.stage {
-        Stage::Receiving => receive_more(client, desk, snapshot),
-        Stage::Answering => send_more(client, desk),
-        Stage::Leaving => drain(&mut client.stream),
+        VisitStage::Receiving => receive_more(client, desk, snapshot),
+        VisitStage::Answering => send_more(client, desk),
+        VisitStage::Leaving => drain(&mut client.stream),
     }
 }
 
@@ -256,7 +256,7 @@ impl<S: Stream> Seat<S> {
         self.client = Some(Client {
             stream,
             since_ms: now_ms,
-            stage: Stage::Receiving,
+            stage: VisitStage::Receiving,
             sent: 0,
         });
     }

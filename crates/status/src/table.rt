@@ -1,10 +1,10 @@
 //! The snapshot as a table for a terminal.
 ghost use Rattle.std.specs.Prelude.{◌≡◌};
-ghost use Rattle.status.specs.Page.{put};
+ghost use Rattle.status.specs.TextPage.{put};
 ghost use Rattle.status.specs.Table as spec;
 
 use crate::lists::{Form, put_rows};
-use crate::page::Page;
+use crate::page::TextPage;
 use crate::snapshot::{Snapshot, StationView};
 use crate::texts::{put_age, put_age_or, put_summary};
 use crate::words::{Marks, Word, put_words};
@@ -16,7 +16,7 @@ struct RowForm {
 }
 
 /// Puts whose row it is.
-fn put_row_head(page: &mut Page, station: &StationView<'_>)
+fn put_row_head(page: &mut TextPage, station: &StationView<'_>)
     ensures { page.new ≡ put (spec.row_head station.now) page.old }
 {
     put_words(
@@ -31,7 +31,7 @@ fn put_row_head(page: &mut Page, station: &StationView<'_>)
 }
 
 /// Puts what was counted of a station, and its name.
-fn put_row_counts(page: &mut Page, station: &StationView<'_>)
+fn put_row_counts(page: &mut TextPage, station: &StationView<'_>)
     ensures { page.new ≡ put (spec.row_counts station.now) page.old }
 {
     put_words(
@@ -51,7 +51,7 @@ fn put_row_counts(page: &mut Page, station: &StationView<'_>)
 impl Form<StationView<'_>> for RowForm {
     ghost text = { λ form station. spec.text_of_row form.now_ms station };
 
-    fn put(&self, page: &mut Page, station: &StationView<'_>) {
+    fn put(&self, page: &mut TextPage, station: &StationView<'_>) {
         put_row_head(page, station);
         put_age(page, 6, self.now_ms, station.since_ms);
         put_age_or(
@@ -66,7 +66,7 @@ impl Form<StationView<'_>> for RowForm {
 }
 
 /// Puts how the line is, with what stands before since when.
-fn put_line(page: &mut Page, snapshot: &Snapshot<'_>)
+fn put_line(page: &mut TextPage, snapshot: &Snapshot<'_>)
     ensures { page.new ≡ put (spec.line_text snapshot.now) page.old }
 {
     put_words(
@@ -82,7 +82,7 @@ fn put_line(page: &mut Page, snapshot: &Snapshot<'_>)
 }
 
 /// The same of the control centre.
-fn put_centre(page: &mut Page, snapshot: &Snapshot<'_>)
+fn put_centre(page: &mut TextPage, snapshot: &Snapshot<'_>)
     ensures { page.new ≡ put (spec.centre_text snapshot.now) page.old }
 {
     put_words(
@@ -97,7 +97,7 @@ fn put_centre(page: &mut Page, snapshot: &Snapshot<'_>)
 }
 
 /// Puts the queue and the state, with what stands before the rows.
-fn put_queue(page: &mut Page, snapshot: &Snapshot<'_>)
+fn put_queue(page: &mut TextPage, snapshot: &Snapshot<'_>)
     ensures { page.new ≡ put (spec.queue_text snapshot.now) page.old }
 {
     put_words(
@@ -118,7 +118,7 @@ fn put_queue(page: &mut Page, snapshot: &Snapshot<'_>)
 }
 
 /// Puts the version, with what stands before since when it runs.
-fn put_version(page: &mut Page, snapshot: &Snapshot<'_>)
+fn put_version(page: &mut TextPage, snapshot: &Snapshot<'_>)
     ensures { page.new ≡ put (spec.version_text snapshot.now) page.old }
 {
     put_words(
@@ -132,7 +132,7 @@ fn put_version(page: &mut Page, snapshot: &Snapshot<'_>)
 }
 
 /// Puts the snapshot as a table for a terminal.
-pub(crate) fn put_table(page: &mut Page, snapshot: &Snapshot<'_>)
+pub(crate) fn put_table(page: &mut TextPage, snapshot: &Snapshot<'_>)
     ensures { page.new ≡ put (spec.table_of snapshot.now) page.old }
 {
     put_summary(page, snapshot);

@@ -2,11 +2,11 @@
 ghost use Rattle.std.specs.Prelude.{◌≡◌};
 ghost use Rattle.std.specs.Prelude.{count_by};
 ghost use Rattle.status.specs.Judge.{is_up as is_up_of};
-ghost use Rattle.status.specs.Page.{put};
+ghost use Rattle.status.specs.TextPage.{put};
 ghost use Rattle.status.specs.Texts as spec;
 
 use crate::judging::{is_up, judge};
-use crate::page::Page;
+use crate::page::TextPage;
 use crate::snapshot::{Snapshot, StationView};
 use crate::words::{Word, put_words};
 
@@ -18,7 +18,7 @@ pub(crate) fn count_up(stations: &[StationView<'_>]) -> u64
 }
 
 /// Puts one line in words.
-pub(crate) fn put_summary(page: &mut Page, snapshot: &Snapshot<'_>)
+pub(crate) fn put_summary(page: &mut TextPage, snapshot: &Snapshot<'_>)
     ensures { page.new ≡ put (spec.summary snapshot.now) page.old }
 {
     let is_connected = snapshot.centre.peer.is_some();
@@ -77,7 +77,7 @@ pub(crate) fn seconds(now_ms: u64, since_ms: u64) -> u64
 }
 
 /// Puts how long ago a moment is, in a column of this width.
-pub(crate) fn put_age(page: &mut Page, width: usize, now_ms: u64, since_ms: u64)
+pub(crate) fn put_age(page: &mut TextPage, width: usize, now_ms: u64, since_ms: u64)
     ensures { page.new ≡ put (spec.age_text width now_ms since_ms) page.old }
 {
     let seconds = seconds(now_ms, since_ms);
@@ -92,7 +92,7 @@ pub(crate) fn put_age(page: &mut Page, width: usize, now_ms: u64, since_ms: u64)
 
 /// The same of a moment that may not be.
 pub(crate) fn put_age_or(
-    page: &mut Page,
+    page: &mut TextPage,
     width: usize,
     now_ms: u64,
     since_ms: Option<u64>,

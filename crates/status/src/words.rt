@@ -2,12 +2,12 @@
 ghost use Rattle.std.specs.Prelude.{◌≡◌, ◌<◌};
 ghost use Rattle.std.specs.Fmt.{decimal};
 ghost use Rattle.status.specs.Labels.{value_of};
-ghost use Rattle.status.specs.Page.{put};
+ghost use Rattle.status.specs.TextPage.{put};
 ghost use Rattle.status.specs.Words.{digit_of, escaped, mark_of, right, text_of, word_text};
 
 use crate::judging::{Judgement, is_up};
 use crate::labels::{judgement_text, keeping_text, standing_text, wide_text};
-use crate::page::Page;
+use crate::page::TextPage;
 use crate::snapshot::{Keeping, LinkState, StationView};
 use itoa::Buffer;
 
@@ -70,7 +70,7 @@ fn digit_of(n: u8) -> u8
 }
 
 /// Puts what stands for an octet in a JSON string.
-fn put_json(page: &mut Page, octet: u8)
+fn put_json(page: &mut TextPage, octet: u8)
     ensures { page.new ≡ put (mark_of Marks.Json octet) page.old }
 {
     match octet {
@@ -86,7 +86,7 @@ fn put_json(page: &mut Page, octet: u8)
 }
 
 /// Puts what stands for an octet in the value of a label.
-fn put_label(page: &mut Page, octet: u8)
+fn put_label(page: &mut TextPage, octet: u8)
     ensures { page.new ≡ put (mark_of Marks.Label octet) page.old }
 {
     match octet {
@@ -98,7 +98,7 @@ fn put_label(page: &mut Page, octet: u8)
 }
 
 /// Puts what stands for an octet in HTML.
-fn put_html(page: &mut Page, octet: u8)
+fn put_html(page: &mut TextPage, octet: u8)
     ensures { page.new ≡ put (mark_of Marks.Html octet) page.old }
 {
     match octet {
@@ -111,7 +111,7 @@ fn put_html(page: &mut Page, octet: u8)
 }
 
 /// Puts what stands for an octet.
-fn put_mark(page: &mut Page, marks: Marks, octet: u8)
+fn put_mark(page: &mut TextPage, marks: Marks, octet: u8)
     ensures { page.new ≡ put (mark_of marks octet) page.old }
 {
     match marks {
@@ -123,7 +123,7 @@ fn put_mark(page: &mut Page, marks: Marks, octet: u8)
 }
 
 /// Puts a text, with other words for the octets that mean something else.
-fn put_escaped(page: &mut Page, marks: Marks, text: &str)
+fn put_escaped(page: &mut TextPage, marks: Marks, text: &str)
     ensures { page.new ≡ put (escaped marks text.now) page.old }
 {
     // Octet by octet: all that mean something else are ASCII, so no character is broken.
@@ -133,14 +133,14 @@ fn put_escaped(page: &mut Page, marks: Marks, text: &str)
 }
 
 /// Puts a number in decimal.
-fn put_number(page: &mut Page, number: u64)
+fn put_number(page: &mut TextPage, number: u64)
     ensures { page.new ≡ put (decimal number) page.old }
 {
     page.put(Buffer::new().format(number).as_bytes());
 }
 
 /// Puts a number in decimal, with spaces before it up to a width.
-fn put_right(page: &mut Page, width: usize, number: u64)
+fn put_right(page: &mut TextPage, width: usize, number: u64)
     ensures { page.new ≡ put (right width number) page.old }
 {
     let mut buffer = Buffer::new();
@@ -159,7 +159,7 @@ fn up_of(station: &StationView<'_>) -> u64
 }
 
 /// Puts what is counted of a station.
-fn put_counted(page: &mut Page, count: Count, station: &StationView<'_>)
+fn put_counted(page: &mut TextPage, count: Count, station: &StationView<'_>)
     ensures { page.new ≡ put (decimal (value_of count station.now)) page.old }
 {
     match count {
@@ -172,7 +172,7 @@ fn put_counted(page: &mut Page, count: Count, station: &StationView<'_>)
 }
 
 /// Puts a word.
-fn put_word(page: &mut Page, word: &Word<'_>)
+fn put_word(page: &mut TextPage, word: &Word<'_>)
     ensures { page.new ≡ put (word_text word.now) page.old }
 {
     match *word {
@@ -196,7 +196,7 @@ fn put_word(page: &mut Page, word: &Word<'_>)
 
 /// Puts words one behind another.
 #[tactic(auto)]
-pub(crate) fn put_words(page: &mut Page, words: &[Word<'_>])
+pub(crate) fn put_words(page: &mut TextPage, words: &[Word<'_>])
     ensures { page.new ≡ put (text_of words.now) page.old }
 {
     for word in words {

@@ -6,8 +6,8 @@ use Rattle.std.specs.Option.{option_and_then}
 use Rattle.toml.specs.Data.{Data, Members, as_str, at, get, get_member}
 use Rattle.toml.specs.Parse.{parse_document}
 use Rattle.toml_places.specs.Spans.{gap_at, value_at}
-use Rattle.toml_places.specs.declared.changes.Kind.{Kind}
-use Rattle.toml_places.specs.declared.changes.Kind.TheVariants.{Value, Gap}
+use Rattle.toml_places.specs.declared.changes.Sought.{Sought}
+use Rattle.toml_places.specs.declared.changes.Sought.TheVariants.{Value, Gap}
 use Rattle.toml_places.specs.declared.changes.Spot.{Spot}
 use Rattle.toml_places.specs.declared.spans.Span.{Span}
 
@@ -42,12 +42,12 @@ pub record IsMarked (spot : Spot) (text : List ℕ) : Type 0 where
 
 -- the octets that may write the value, or the place behind what may be the header, by what stands
 -- at this octet
-abbrev pub span_at : Kind → List ℕ → (key : List ℕ) → ℕ → Option Span
+abbrev pub span_at : Sought → List ℕ → (key : List ℕ) → ℕ → Option Span
 span_at Value text key at = value_at text key at
 span_at Gap text key at = gap_at text at
 
 -- what is written there: the mark alone, or a line that gives it to the key
-abbrev pub written : Kind → (key : List ℕ) → List ℕ
+abbrev pub written : Sought → (key : List ℕ) → List ℕ
 written Value key = mark
 written Gap key = (10 ∷ key ++ 61 ∷ []) ++ mark
 
@@ -56,29 +56,29 @@ abbrev pub edited : List ℕ → Span → List ℕ → List ℕ
 edited text span with = (take span.from text ++ with) ++ drop span.to text
 
 -- at this octet stands what, where the mark is written there, gives the key the mark's value
-pub record StandsAt (spot : Spot) (kind : Kind) (text : List ℕ) (at : ℕ) (span : Span)
+pub record StandsAt (spot : Spot) (kind : Sought) (text : List ℕ) (at : ℕ) (span : Span)
     : Type 0 where
   pub here : span_at kind text spot.key.now at ≡ Some span
   pub marks : IsMarked spot (edited text span (written kind spot.key.now))
 
 -- nothing does so before
-abbrev pub StandsNowhere : Spot → Kind → List ℕ → (before : ℕ) → Type 0
+abbrev pub StandsNowhere : Spot → Sought → List ℕ → (before : ℕ) → Type 0
 StandsNowhere spot kind text before =
     (at : ℕ) → at < before → (span : Span) → ¬ StandsAt spot kind text at span
 
 -- the first place of the text that does, where the key has another value than the mark's
-pub record IsFirst (spot : Spot) (kind : Kind) (text : List ℕ) (span : Span) : Type 0 where
+pub record IsFirst (spot : Spot) (kind : Sought) (text : List ℕ) (span : Span) : Type 0 where
   pub at : ℕ
   pub other : ¬ IsMarked spot text
   pub stands : StandsAt spot kind text at span
   pub first : StandsNowhere spot kind text at
 
 -- there is none, or the text is too long, or has the mark already
-abbrev pub IsNowhere : Spot → Kind → List ℕ → Type 0
+abbrev pub IsNowhere : Spot → Sought → List ℕ → Type 0
 IsNowhere spot kind text =
     (16384 < length text) ⊎ (IsMarked spot text ⊎ StandsNowhere spot kind text (length text))
 
-abbrev pub IsFound : Spot → Kind → List ℕ → Option Span → Type 0
+abbrev pub IsFound : Spot → Sought → List ℕ → Option Span → Type 0
 IsFound spot kind text found =
     MatchOption found (IsNowhere spot kind text) (IsFirst spot kind text)
 

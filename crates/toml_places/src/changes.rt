@@ -28,7 +28,7 @@ pub struct Spot<'a> {
 
 /// What is looked for.
 #[derive(Clone, Copy, Debug, PartialEq, Eq)]
-enum Kind {
+enum Sought {
     /// The value of a key.
     Value,
     /// The end of a header below which a key belongs.
@@ -41,7 +41,7 @@ pub fn find_value(alloc: Global, text: &[u8], spot: &Spot<'_>) -> Result<Option<
     ensures place { IfOk result (IsValueFound spot.now text.now) }
     ensures within { IfOk result (IsWithin text.now) }
 {
-    first(alloc, text, spot, Kind::Value)
+    first(alloc, text, spot, Sought::Value)
 }
 
 /// The place behind the header below which a key belongs that isn't there. None, where the text is
@@ -50,7 +50,7 @@ pub fn find_gap(alloc: Global, text: &[u8], spot: &Spot<'_>) -> Result<Option<Sp
     ensures place { IfOk result (IsGapFound spot.now text.now) }
     ensures within { IfOk result (IsWithin text.now) }
 {
-    first(alloc, text, spot, Kind::Gap)
+    first(alloc, text, spot, Sought::Gap)
 }
 
 /// The first place of a text at which the mark can be written for the value of a key.
@@ -58,7 +58,7 @@ fn first(
     alloc: Global,
     text: &[u8],
     spot: &Spot<'_>,
-    kind: Kind,
+    kind: Sought,
 ) -> Result<Option<Span>, AllocError>
     ensures place { IfOk result (IsFound spot.now kind text.now) }
     ensures within { IfOk result (IsWithin text.now) }
@@ -82,14 +82,14 @@ fn first(
 }
 
 /// What may be the place, by what stands at `at`.
-fn span_at(kind: Kind, text: &[u8], key: &[u8], at: usize) -> Option<Span>
+fn span_at(kind: Sought, text: &[u8], key: &[u8], at: usize) -> Option<Span>
     requires { at ≤ length text.now }
     ensures value { result ≡ span_at kind text.now key.now at }
     ensures within { IfSome result (λ s. (s.from ≤ s.to) × (s.to ≤ length text.now)) }
 {
     match kind {
-        Kind::Value => value_at(text, key, at),
-        Kind::Gap => gap_at(text, at),
+        Sought::Value => value_at(text, key, at),
+        Sought::Gap => gap_at(text, at),
     }
 }
 
@@ -98,7 +98,7 @@ fn edited(
     alloc: Global,
     text: &[u8],
     span: Span,
-    kind: Kind,
+    kind: Sought,
     key: &str,
 ) -> Result<Vec<u8>, AllocError>
     requires order { span.from ≤ span.to }
@@ -107,8 +107,8 @@ fn edited(
 {
     let mut changed = text[..span.from].to_vec(alloc)?;
     match kind {
-        Kind::Value => {}
-        Kind::Gap => {
+        Sought::Value => {}
+        Sought::Gap => {
             changed.push(b'\n')?;
             changed.extend_from_slice(key.as_bytes())?;
             changed.push(b'=')?;

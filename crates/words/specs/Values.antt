@@ -13,14 +13,14 @@ use Rattle.elements.specs.declared.types.TypeId.TheVariants.{CSeNa1, CSeNb1, CIc
 use Rattle.elements.specs.declared.types.TypeId.TheVariants.{CRcTa1, CSeTa1, CSeTb1}
 use Rattle.elements.specs.Layouts.{short_at, word_at}
 use Rattle.elements.specs.Types.{value_shown}
-use Rattle.words.specs.declared.forms.Form.{Form}
-use Rattle.words.specs.declared.forms.Form.TheVariants as form
+use Rattle.words.specs.declared.forms.ElementForm.{ElementForm}
+use Rattle.words.specs.declared.forms.ElementForm.TheVariants as form
 use Rattle.words.specs.Numbers.{mark, millionths, minus, pointed}
 use Rattle.words.specs.Quality.{point_quality, quality}
 
 -- ---- Which element a type has (7.3)
 
-abbrev pub form_of : TypeId → Form
+abbrev pub form_of : TypeId → ElementForm
 form_of MSpNa1 = form.Single
 form_of MSpTb1 = form.Single
 form_of MDpNa1 = form.Double
@@ -51,7 +51,7 @@ form_of CSeTb1 = form.ScaledSetPoint
 form_of CIcNa1 = form.Interrogation
 
 -- how many octets it has
-abbrev pub form_size : Form → ℕ
+abbrev pub form_size : ElementForm → ℕ
 form_size form.Single = 1
 form_size form.Double = 1
 form_size form.Step = 2
@@ -231,7 +231,7 @@ interrogation_words xs = interrogation (slice_index xs 0)
 -- ---- All elements
 
 -- an element with this value, of these octets
-unfoldable pub words_of : Form → ℤ → List ℕ → List ℕ
+unfoldable pub words_of : ElementForm → ℤ → List ℕ → List ℕ
 words_of form.Single z xs = single_words xs
 words_of form.Double z xs = double_words xs
 words_of form.Step z xs = step_words z xs

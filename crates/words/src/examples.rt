@@ -9,7 +9,7 @@ ghost use Rattle.ft12.specs.declared.frame.Frame.TheVariants.{Single, Fixed, Dat
 ghost use Rattle.ft12.specs.declared.frame.Front.TheVariants as line_front;
 ghost use Rattle.ft12.specs.declared.frame.Why.TheVariants as why;
 ghost use Rattle.show.specs.declared.sizes.LineSizes.{LineSizes};
-ghost use Rattle.words.specs.declared.forms.Form.TheVariants as form;
+ghost use Rattle.words.specs.declared.forms.ElementForm.TheVariants as form;
 ghost use Rattle.words.specs.Connections.{apdu_words, fault_of as fault_in};
 ghost use Rattle.words.specs.Connections.{front_words as connection_words};
 ghost use Rattle.words.specs.Lines.{control_words, fault_of, frame_words, front_words};

@@ -7,7 +7,7 @@ use elements::TypeId;
 
 /// An information element (IEC 60870-5-101, 7.2.6).
 #[derive(Clone, Copy)]
-pub(crate) enum Form {
+pub(crate) enum ElementForm {
     /// SIQ.
     Single,
     /// DIQ.
@@ -41,25 +41,25 @@ pub(crate) enum Form {
 }
 
 /// The element that a type has.
-pub(crate) fn form_of(kind: TypeId) -> Form
+pub(crate) fn form_of(kind: TypeId) -> ElementForm
     ensures form { result ≡ form_of_type kind }
     ensures size { form_size result ≡ (row kind).size }
 {
     match kind {
-        TypeId::MSpNa1 | TypeId::MSpTb1 => Form::Single,
-        TypeId::MDpNa1 | TypeId::MDpTb1 => Form::Double,
-        TypeId::MStNa1 | TypeId::MStTb1 => Form::Step,
-        TypeId::MBoNa1 | TypeId::MBoTb1 => Form::Bits,
-        TypeId::MMeNa1 | TypeId::MMeTd1 => Form::Normalised,
-        TypeId::MMeNb1 | TypeId::MMeTe1 => Form::Scaled,
-        TypeId::MMeNc1 | TypeId::MMeTf1 => Form::Float,
-        TypeId::MItNa1 | TypeId::MItTb1 => Form::Counter,
-        TypeId::MEiNa1 => Form::Initialised,
-        TypeId::CScNa1 | TypeId::CScTa1 => Form::SingleCommand,
-        TypeId::CDcNa1 | TypeId::CDcTa1 => Form::DoubleCommand,
-        TypeId::CRcNa1 | TypeId::CRcTa1 => Form::StepCommand,
-        TypeId::CSeNa1 | TypeId::CSeTa1 => Form::NormalisedSetPoint,
-        TypeId::CSeNb1 | TypeId::CSeTb1 => Form::ScaledSetPoint,
-        TypeId::CIcNa1 => Form::Interrogation,
+        TypeId::MSpNa1 | TypeId::MSpTb1 => ElementForm::Single,
+        TypeId::MDpNa1 | TypeId::MDpTb1 => ElementForm::Double,
+        TypeId::MStNa1 | TypeId::MStTb1 => ElementForm::Step,
+        TypeId::MBoNa1 | TypeId::MBoTb1 => ElementForm::Bits,
+        TypeId::MMeNa1 | TypeId::MMeTd1 => ElementForm::Normalised,
+        TypeId::MMeNb1 | TypeId::MMeTe1 => ElementForm::Scaled,
+        TypeId::MMeNc1 | TypeId::MMeTf1 => ElementForm::Float,
+        TypeId::MItNa1 | TypeId::MItTb1 => ElementForm::Counter,
+        TypeId::MEiNa1 => ElementForm::Initialised,
+        TypeId::CScNa1 | TypeId::CScTa1 => ElementForm::SingleCommand,
+        TypeId::CDcNa1 | TypeId::CDcTa1 => ElementForm::DoubleCommand,
+        TypeId::CRcNa1 | TypeId::CRcTa1 => ElementForm::StepCommand,
+        TypeId::CSeNa1 | TypeId::CSeTa1 => ElementForm::NormalisedSetPoint,
+        TypeId::CSeNb1 | TypeId::CSeTb1 => ElementForm::ScaledSetPoint,
+        TypeId::CIcNa1 => ElementForm::Interrogation,
     }
 }

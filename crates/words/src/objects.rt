@@ -9,7 +9,7 @@ use crate::commands::{
     push_double_command, push_interrogation, push_normalised_set_point, push_scaled_set_point,
     push_single_command, push_step_command,
 };
-use crate::forms::{Form, form_of};
+use crate::forms::{ElementForm, form_of};
 use crate::monitored::{
     push_bits, push_counter, push_double, push_float, push_initialised, push_normalised,
     push_scaled, push_single, push_step,
@@ -57,7 +57,7 @@ fn push_value(
 fn push_form(
     alloc: Global,
     line: &mut String,
-    form: Form,
+    form: ElementForm,
     value: i64,
     octets: &[u8],
 ) -> Result<(), AllocError>
@@ -66,20 +66,20 @@ fn push_form(
         ≡ string_bytes line.old ++ words_of form value octets.now) }
 {
     match form {
-        Form::Single => push_single(line, octets),
-        Form::Double => push_double(line, octets),
-        Form::Step => push_step(line, value, octets),
-        Form::Bits => push_bits(alloc, line, octets),
-        Form::Normalised => push_normalised(line, octets),
-        Form::Scaled => push_scaled(line, value, octets),
-        Form::Float => push_float(line, octets),
-        Form::Counter => push_counter(line, value, octets),
-        Form::Initialised => push_initialised(line, octets),
-        Form::SingleCommand => push_single_command(line, octets),
-        Form::DoubleCommand => push_double_command(line, octets),
-        Form::StepCommand => push_step_command(line, octets),
-        Form::NormalisedSetPoint => push_normalised_set_point(line, octets),
-        Form::ScaledSetPoint => push_scaled_set_point(line, value, octets),
-        Form::Interrogation => push_interrogation(line, octets),
+        ElementForm::Single => push_single(line, octets),
+        ElementForm::Double => push_double(line, octets),
+        ElementForm::Step => push_step(line, value, octets),
+        ElementForm::Bits => push_bits(alloc, line, octets),
+        ElementForm::Normalised => push_normalised(line, octets),
+        ElementForm::Scaled => push_scaled(line, value, octets),
+        ElementForm::Float => push_float(line, octets),
+        ElementForm::Counter => push_counter(line, value, octets),
+        ElementForm::Initialised => push_initialised(line, octets),
+        ElementForm::SingleCommand => push_single_command(line, octets),
+        ElementForm::DoubleCommand => push_double_command(line, octets),
+        ElementForm::StepCommand => push_step_command(line, octets),
+        ElementForm::NormalisedSetPoint => push_normalised_set_point(line, octets),
+        ElementForm::ScaledSetPoint => push_scaled_set_point(line, value, octets),
+        ElementForm::Interrogation => push_interrogation(line, octets),
     }
 }

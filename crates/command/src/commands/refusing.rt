@@ -9,7 +9,7 @@ use crate::glance::{Glance, settled_all};
 use crate::judging::{count_addressed, is_guarded, is_selected};
 use crate::keeping::{advance_all, count_others, station_number};
 use crate::refusal::Refusal;
-use crate::selection::{Selection, Sign, Stage};
+use crate::selection::{SelectStage, Selection, Sign};
 use crate::tags::tag_verdict;
 use elements::Verdict;
 
@@ -206,7 +206,7 @@ impl Commands {
                 station: station_number(self.stations.as_slice(), command.ca),
                 command,
                 came: now,
-                stage: Stage::Queued(0),
+                stage: SelectStage::Queued(0),
             });
         }
     }

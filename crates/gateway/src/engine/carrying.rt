@@ -1,6 +1,6 @@
 //! A gateway goes on with other settings.
 ghost use Rattle.std.specs.Prelude.{◌≡◌, ◌<◌, All, length, map, IfOk};
-ghost use Rattle.link.specs.declared.seat.Seat.{Seat as SeatOf};
+ghost use Rattle.link.specs.declared.seat.ResumedStation.{ResumedStation as SeatOf};
 ghost use Rattle.link.specs.Requests.{FitsAddress};
 ghost use Rattle.link.specs.Carried.{reseated};
 ghost use Rattle.command.specs.Carried as tasks;
@@ -16,22 +16,22 @@ use super::centre::CentreSide;
 use super::serial::SerialSide;
 use super::{Gateway, NoMemory, closed_session, link_settings, station_infos};
 use crate::config::Config;
-use crate::settings::Station;
+use crate::settings::StationSettings;
 use crate::starting_links::{LinkStart, have_same_sizes, link_start};
 use apci::Assembler;
 use command::Commands;
-use link::{Master, Seat, giving_up_is_for_one_station};
+use link::{Master, ResumedStation, giving_up_is_for_one_station};
 use std::alloc::Global;
 
 /// The place of the station with this link address, in the order of the turns.
-fn place_of(address: u16, stations: &[Station]) -> Option<usize>
+fn place_of(address: u16, stations: &[StationSettings]) -> Option<usize>
     ensures { result ≡ place_of address stations.now }
 {
     stations.iter().position(|s| s.address == address)
 }
 
 /// The station with this link address.
-fn station_with(address: u16, stations: &[Station]) -> Option<Station>
+fn station_with(address: u16, stations: &[StationSettings]) -> Option<StationSettings>
     ensures { result ≡ station_with address stations.now }
 {
     match place_of(address, stations) {
@@ -54,7 +54,7 @@ fn start_of(goes_on: bool, before: &Config, now: &Config, place: usize) -> LinkS
 }
 
 /// The stations of the line, each with the place that it had before, if it had one.
-fn seats(alloc: Global, before: &Config, now: &Config) -> Result<Vec<Seat>, NoMemory>
+fn seats(alloc: Global, before: &Config, now: &Config) -> Result<Vec<ResumedStation>, NoMemory>
     ensures all { IfOk result (λ found. found.items ≡ seats before.now now.now) }
     ensures some { IfOk result (λ found. 0 < length found.items) }
     ensures fit { IfOk result (λ found.
@@ -62,7 +62,7 @@ fn seats(alloc: Global, before: &Config, now: &Config) -> Result<Vec<Seat>, NoMe
 {
     let mut found = Vec::new(alloc);
     for station in now.stations() {
-        let seat = Seat {
+        let seat = ResumedStation {
             address: station.address,
             before: place_of(station.address, before.stations()),
         };
@@ -77,7 +77,7 @@ fn seats(alloc: Global, before: &Config, now: &Config) -> Result<Vec<Seat>, NoMe
 fn line_carried(
     alloc: Global,
     now: &Config,
-    seats: &[Seat],
+    seats: &[ResumedStation],
     line: &Master,
 ) -> Result<Master, NoMemory>
     requires some { 0 < length seats.now }
@@ -89,7 +89,7 @@ fn line_carried(
 }
 
 /// Of each station the place that it had before.
-fn places(alloc: Global, seats: &[Seat]) -> Result<Vec<Option<usize>>, NoMemory>
+fn places(alloc: Global, seats: &[ResumedStation]) -> Result<Vec<Option<usize>>, NoMemory>
     ensures { IfOk result (λ found. found.items ≡ places seats.now) }
 {
     let mut found = Vec::new(alloc);
@@ -105,7 +105,7 @@ fn places(alloc: Global, seats: &[Seat]) -> Result<Vec<Option<usize>>, NoMemory>
 fn commands_carried(
     alloc: Global,
     now: &Config,
-    seats: &[Seat],
+    seats: &[ResumedStation],
     commands: &Commands,
 ) -> Result<Commands, NoMemory>
     requires { length seats.now ≡ length now.now.stations }

@@ -21,11 +21,11 @@ ghost use Rattle.gateway.specs.Steps.{Judged, SendsPiece, SendsData, SpellFrame}
 ghost use Rattle.gateway.specs.Finding.{Finds, FindsWhole};
 ghost use Rattle.gateway.specs.Polls.{has_room};
 
-use super::{Found, Gateway};
+use super::{Arrival, Gateway};
 use apci::{Apdu, ApduRef, Assembler, FrontRef, Received, Short, front_ref, write_information};
 use asdu::Asdu;
 use events::Events;
-use session::{Close, Kind, Session, Taken};
+use session::{Close, Origin, Session, Taken};
 use std::marker::Model;
 
 /// The session of the connection, the octets of a frame that isn't whole, and the pieces that no
@@ -104,21 +104,21 @@ impl CentreSide {
     }
 
     /// Looks for an APDU in the octets that came. After a refusal the assembler begins afresh.
-    fn feed(&mut self, piece: &[u8]) -> Found
+    fn feed(&mut self, piece: &[u8]) -> Arrival
         requires { 0 < length piece.now }
         ensures { Finds self.old piece.now result self.new }
     {
         let (count, arrived) = self.assembler.feed(piece);
         match arrived {
-            Received::Whole => Found::Whole(count),
-            Received::More => Found::More,
+            Received::Whole => Arrival::Whole(count),
+            Received::More => Arrival::More,
             Received::Never(_, _) => {
                 self.assembler.clear();
-                Found::Refused
+                Arrival::Refused
             }
             Received::Deaf => {
                 self.assembler.clear();
-                Found::Refused
+                Arrival::Refused
             }
         }
     }
@@ -194,7 +194,7 @@ impl CentreSide {
         ensures within { result ≤ 255 }
         ensures state { self.new ≡ own_sent moment self.old }
     {
-        let (ns, nr) = self.session.sent(Kind::Own, moment);
+        let (ns, nr) = self.session.sent(Origin::Own, moment);
         write_information(octets, ns, nr, asdu)
     }
 
@@ -212,7 +212,7 @@ impl CentreSide {
             return None;
         }
         let asdu = self.queue.unsent()?;
-        let (ns, nr) = self.session.sent(Kind::Queue, moment);
+        let (ns, nr) = self.session.sent(Origin::Queue, moment);
         let count = write_information(octets, ns, nr, asdu);
         self.queue.mark_sent();
         Some(count)
@@ -243,7 +243,7 @@ impl Gateway {
     }
 
     /// Looks for an APDU in the octets that came.
-    pub(crate) fn feed(&mut self, piece: &[u8]) -> Found
+    pub(crate) fn feed(&mut self, piece: &[u8]) -> Arrival
         requires { 0 < length piece.now }
         ensures finds { Finds self.old.centre piece.now result self.new.centre }
         ensures rest { self.new ≡ with_centre self.new.centre self.old }

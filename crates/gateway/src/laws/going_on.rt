@@ -4,7 +4,7 @@ ghost use Rattle.link.specs.Procedure.{is_up};
 ghost use Rattle.link.specs.Turns.{station_at};
 ghost use Rattle.link.specs.Primary.{station_down};
 ghost use Rattle.link.specs.Carried.{released, station_carried};
-ghost use Rattle.gateway.specs.declared.settings.Station.{Station};
+ghost use Rattle.gateway.specs.declared.settings.StationSettings.{StationSettings};
 ghost use Rattle.gateway.specs.Config.{Settings};
 ghost use Rattle.gateway.specs.State.{State};
 ghost use Rattle.gateway.specs.Carried.{place_of, start_of, station_started, carried};
@@ -18,7 +18,7 @@ use link::{frame_count_bits_go_on, giving_up_is_for_one_station};
 /// its latest answer showed and its session. One that wasn't there is new.
 pub fn stations_go_on_by_their_addresses()
     ensures known { (goes_on : Bool) (before now : Settings) (s : State) (i k : ℕ)
-        (station : Station) →
+        (station : StationSettings) →
         slice_get now.stations i ≡ Some station →
         place_of station.address before.stations ≡ Some k →
         k < length s.serial.line.stations →
@@ -27,7 +27,7 @@ pub fn stations_go_on_by_their_addresses()
         (station_started (start_of goes_on before now k)
         (station_at (released s.serial.line).stations k)) }
     ensures other { (goes_on : Bool) (before now : Settings) (s : State) (i : ℕ)
-        (station : Station) →
+        (station : StationSettings) →
         slice_get now.stations i ≡ Some station →
         place_of station.address before.stations ≡ None →
         station_at (carried goes_on before now s).serial.line.stations i
@@ -43,7 +43,7 @@ pub fn stations_go_on_by_their_addresses()
 /// other sizes, and each where a state is stale. So no frame count bit is carried into a link whose
 /// station may have taken another one, and no held service into another station.
 pub fn no_link_goes_on_but_of_a_station_as_it_was()
-    ensures { (goes_on : Bool) (before now : Settings) (s : State) (i : ℕ) (station : Station) →
+    ensures { (goes_on : Bool) (before now : Settings) (s : State) (i : ℕ) (station : StationSettings) →
         length s.serial.line.stations ≡ length before.stations →
         slice_get now.stations i ≡ Some station →
         is_up (station_at (carried goes_on before now s).serial.line.stations i).link ≡ true →

@@ -15,7 +15,7 @@ ghost use Rattle.link.specs.Carried.{awaits_command, station_given_up, given_up}
 ghost use Rattle.link.specs.Carried.{gap_marked, released, station_carried, seated, reseated};
 ghost use Rattle.link.specs.Carried.{bit_of, without_commands, awaits_command_in};
 ghost use Rattle.link.specs.Carried.{commands_given_up};
-ghost use Rattle.link.specs.declared.seat.Seat.{Seat};
+ghost use Rattle.link.specs.declared.seat.ResumedStation.{ResumedStation};
 
 /// A station whose link is given up awaits no command any more, and keeps all else; every other
 /// station stays as it was, and awaits what it awaited. No poll is begun by it.
@@ -42,8 +42,8 @@ pub fn frame_count_bits_go_on()
         bit_of (station_at (released p).stations k).link ≡ bit_of (station_at p.stations k).link }
     ensures carried { (retries address : ℕ) (s : StationState) →
         bit_of (station_carried retries address s).link ≡ bit_of s.link }
-    ensures seats { (settings : LinkSettings) (seats : List Seat) (p : Primary) (i : ℕ)
-        (seat : Seat) → slice_get seats i ≡ Some seat →
+    ensures seats { (settings : LinkSettings) (seats : List ResumedStation) (p : Primary) (i : ℕ)
+        (seat : ResumedStation) → slice_get seats i ≡ Some seat →
         station_at (reseated settings seats p).stations i
         ≡ seated settings.retries seat.address p.stations seat.before }
     ensures number { (p : Primary) → length (released p).stations ≡ length p.stations }

@@ -7,13 +7,13 @@ ghost use Rattle.link.specs.Procedure.{after_silence};
 ghost use Rattle.link.specs.Primary.{station_down as down_at};
 ghost use Rattle.link.specs.Carried.{awaits_command, given_up, station_left, released, gap_marked};
 ghost use Rattle.link.specs.Carried.{link_carried, station_carried, seated, reseated};
-ghost use Rattle.link.specs.declared.seat.Seat.{Seat as SeatOf};
+ghost use Rattle.link.specs.declared.seat.ResumedStation.{ResumedStation as SeatOf};
 
 use super::{Master, sends_command};
 use crate::asdu::CommandOctets;
 use crate::no_memory::NoMemory;
 use crate::procedure::Link;
-use crate::seat::Seat;
+use crate::seat::ResumedStation;
 use crate::service::{Asked, Service};
 use crate::session::SessionState;
 use crate::settings::LinkSettings;
@@ -113,7 +113,7 @@ fn station_down(address: u16) -> StationState
 }
 
 /// The station of a seat.
-fn seated(retries: u8, stations: &[StationState], seat: Seat) -> StationState
+fn seated(retries: u8, stations: &[StationState], seat: ResumedStation) -> StationState
     ensures same { result ≡ seated retries seat.address stations.now seat.before }
     ensures fits { (size other : LinkSize) → All (FitsStation size) stations.now →
         FitsAddress other seat.address → FitsStation other result }
@@ -184,7 +184,7 @@ impl Master {
         &self,
         alloc: Global,
         settings: LinkSettings,
-        seats: &[Seat],
+        seats: &[ResumedStation],
     ) -> Result<Master, NoMemory>
         requires some { 0 < length seats.now }
         requires fit { All (λ (s : SeatOf). FitsAddress settings.size s.address) seats.now }

@@ -131,7 +131,7 @@ fn stations_fit(size: LinkSize, stations: &[StationState]) -> bool
 /// What the first line of a state says: whose turn it is and how far, whether a service is sent
 /// again at once, and how many exchanges were spoilt.
 #[derive(Drop)]
-struct Head {
+struct TurnLine {
     turn: usize,
     again: bool,
     spoilt: u64,
@@ -139,14 +139,14 @@ struct Head {
 }
 
 /// What the first line says.
-fn head_from(numbers: &[u64]) -> Option<Head>
+fn head_from(numbers: &[u64]) -> Option<TurnLine>
     ensures { result ≡ head_from numbers.now }
 {
     match numbers {
         [turn, again, spoilt, others @ ..] => {
             let again = bit_from(*again)?;
             let phase = phase_from(others)?;
-            Some(Head {
+            Some(TurnLine {
                 turn: *turn as usize,
                 again,
                 spoilt: *spoilt,
@@ -274,7 +274,7 @@ impl Master {
     /// answer is the beginning of a frame.
     fn restored(
         settings: LinkSettings,
-        head: Head,
+        head: TurnLine,
         outstanding: Option<Awaited>,
         arrived: &[u8],
         stations: Vec<StationState>,

@@ -12,7 +12,7 @@ use traces::cut;
 
 /// How the lines of a record stand beside those of its run so far.
 #[derive(Drop)]
-pub(crate) enum Standing {
+pub(crate) enum Agreement {
     /// They are the run's, which has these lines more.
     Level(Vec<u8>),
     /// The run has no line so far for the record's line of this number, which is this one.
@@ -104,9 +104,9 @@ fn go_on(
     part: Option<&[u8]>,
     first: u64,
     page: &[u8],
-) -> Result<Standing, AllocError>
+) -> Result<Agreement, AllocError>
     requires { AreWhole page.now }
-    ensures { (lines run : List (List ℕ)) → IsCompared lines run (Standing.Level ahead) →
+    ensures { (lines run : List (List ℕ)) → IsCompared lines run (Agreement.Level ahead) →
         first ≡ 1 + length lines →
         IfOk result (IsCompared (lines ++ parts_after 10 (option_copied part.entry))
         (run ++ whole_lines page.now)) }
@@ -117,37 +117,37 @@ fn go_on(
         return Err(AllocError);
     };
     match walk {
-        Walk::Level(rest) => Ok(Standing::Level(Vec::from_slice(alloc, rest)?)),
-        Walk::Behind(n, line) => Ok(Standing::Behind(n, Vec::from_slice(alloc, line)?)),
-        Walk::Differs(n) => Ok(Standing::Differs(n)),
+        Walk::Level(rest) => Ok(Agreement::Level(Vec::from_slice(alloc, rest)?)),
+        Walk::Behind(n, line) => Ok(Agreement::Behind(n, Vec::from_slice(alloc, line)?)),
+        Walk::Differs(n) => Ok(Agreement::Differs(n)),
     }
 }
 
 /// The run goes on, which had no line for the record's one of this number.
-fn catch_up(number: u64, line: Vec<u8>, page: &[u8]) -> Result<Standing, AllocError>
+fn catch_up(number: u64, line: Vec<u8>, page: &[u8]) -> Result<Agreement, AllocError>
     ensures { (lines more run : List (List ℕ)) →
-        IsCompared lines run (Standing.Behind number line) →
+        IsCompared lines run (Agreement.Behind number line) →
         IfOk result (IsCompared (lines ++ more) (run ++ whole_lines page.now)) }
 {
     let (other, behind) = cut(page, LINE_FEED);
     if behind.is_none() {
-        return Ok(Standing::Behind(number, line));
+        return Ok(Agreement::Behind(number, line));
     }
     if is_same(line.as_slice(), other) {
         // That can't be: a run goes on with an event, and this line tells none.
         return Err(AllocError);
     }
-    Ok(Standing::Differs(number))
+    Ok(Agreement::Differs(number))
 }
 
 /// Compares the lines of one part more, of which the first has this number, with those of its run.
 pub(crate) fn compare(
     alloc: Global,
-    standing: Standing,
+    standing: Agreement,
     part: Option<&[u8]>,
     first: u64,
     page: &[u8],
-) -> Result<Standing, AllocError>
+) -> Result<Agreement, AllocError>
     requires { AreWhole page.now }
     ensures { (lines run : List (List ℕ)) → IsCompared lines run standing →
         first ≡ 1 + length lines →
@@ -155,8 +155,8 @@ pub(crate) fn compare(
         (run ++ whole_lines page.now)) }
 {
     match standing {
-        Standing::Level(ahead) => go_on(alloc, ahead, part, first, page),
-        Standing::Behind(number, line) => catch_up(number, line, page),
-        Standing::Differs(number) => Ok(Standing::Differs(number)),
+        Agreement::Level(ahead) => go_on(alloc, ahead, part, first, page),
+        Agreement::Behind(number, line) => catch_up(number, line, page),
+        Agreement::Differs(number) => Ok(Agreement::Differs(number)),
     }
 }

@@ -31,7 +31,7 @@ pub fn part_of(block: &[u8], is_last: bool) -> Option<&[u8]>
 
 /// How many lines were passed, and how many of them tell an event or an action.
 #[derive(Clone, Copy)]
-pub(crate) struct Tally {
+pub(crate) struct LineCounts {
     pub(crate) lines: u64,
     pub(crate) events: u64,
     pub(crate) actions: u64,
@@ -39,7 +39,7 @@ pub(crate) struct Tally {
 
 /// What a line tells.
 #[derive(Clone, Copy)]
-enum Kind {
+enum LineKind {
     /// An event, as a port gives it: its octets are the front of a buffer.
     Event(Next),
     Action,
@@ -87,21 +87,21 @@ pub fn event_line(line: &[u8]) -> &[u8]
 }
 
 /// What a line tells. The octets of an event are put at the front of the buffer.
-fn kind_of(line: &[u8], buf: &mut [u8; 1024]) -> Kind
+fn kind_of(line: &[u8], buf: &mut [u8; 1024]) -> LineKind
     requires { IsOneLine line.now }
     ensures { IsKind line.now buf.new result }
 {
     if is_cut(line) {
-        return Kind::Neither;
+        return LineKind::Neither;
     }
     if is_marked(line) {
-        return Kind::Action;
+        return LineKind::Action;
     }
     let (next, _) = first_event(Some(line), buf);
     match next {
-        Next::Done => Kind::Neither,
-        Next::Fault => Kind::Wrong,
-        next => Kind::Event(next),
+        Next::Done => LineKind::Neither,
+        Next::Fault => LineKind::Wrong,
+        next => LineKind::Event(next),
     }
 }
 
@@ -143,9 +143,9 @@ pub(crate) fn fault_among(lines: Option<&[u8]>, first: u64) -> TextFault
 /// none counts as passed.
 pub(crate) fn next_event<'a>(
     lines: Option<&'a [u8]>,
-    before: Tally,
+    before: LineCounts,
     buf: &mut [u8; 1024],
-) -> (Next, Option<&'a [u8]>, Tally)
+) -> (Next, Option<&'a [u8]>, LineCounts)
     requires { IsTally before }
     ensures { IsNext (parts_after 10 (option_copied lines.entry)) before result.0 buf.new
         (option_copied result.1) result.2 }
@@ -154,7 +154,7 @@ pub(crate) fn next_event<'a>(
     let mut actions = before.actions;
     'passing: for number in before.lines..u64::MAX {
         let Some(text) = left else {
-            let tally = Tally {
+            let tally = LineCounts {
                 lines: number,
                 events: before.events,
                 actions,
@@ -163,17 +163,17 @@ pub(crate) fn next_event<'a>(
         };
         let (line, rest) = cut(text, LINE_FEED);
         match kind_of(line, buf) {
-            Kind::Event(next) => {
-                let tally = Tally {
+            LineKind::Event(next) => {
+                let tally = LineCounts {
                     lines: number + 1,
                     events: before.events + 1,
                     actions,
                 };
                 return (next, rest, tally);
             }
-            Kind::Action => actions += 1,
-            Kind::Neither => {}
-            Kind::Wrong => return (Next::Fault, lines, before),
+            LineKind::Action => actions += 1,
+            LineKind::Neither => {}
+            LineKind::Wrong => return (Next::Fault, lines, before),
         }
         left = rest;
     }

@@ -4,7 +4,7 @@ ghost use Rattle.std.specs.Option.{option_copied};
 ghost use Rattle.gateway.specs.Log.{Went};
 ghost use Rattle.record.specs.Rerunning.{IsHalted, IsRerunning};
 
-use super::passing::{Tally, next_event};
+use super::passing::{LineCounts, next_event};
 use gateway::{Action, History, Next, Port};
 use std::alloc::Global;
 use std::marker::Model;
@@ -15,7 +15,7 @@ use traces::{Moment, Page, print_action_at, print_event};
 #[derive(Drop)]
 pub(crate) struct Halt {
     alloc: Global,
-    tally: Tally,
+    tally: LineCounts,
     history: History,
     /// It is empty, and keeps its room.
     page: Page,
@@ -45,7 +45,7 @@ impl Halt {
     {
         Halt {
             alloc,
-            tally: Tally {
+            tally: LineCounts {
                 lines: 0,
                 events: 0,
                 actions: 0,
@@ -57,7 +57,7 @@ impl Halt {
     }
 
     /// How many lines were passed so far.
-    pub(crate) fn tally(&self) -> Tally
+    pub(crate) fn tally(&self) -> LineCounts
         ensures tally { result ≡ self.now.tally }
         ensures halted { IsHalted self.now }
     {
@@ -107,8 +107,8 @@ pub(crate) struct Rerun<'a> {
     /// The lines that are still to come.
     left: Option<&'a [u8]>,
     /// What was passed before this part.
-    start: Tally,
-    tally: Tally,
+    start: LineCounts,
+    tally: LineCounts,
     /// The log before this part.
     earlier: History,
     history: History,

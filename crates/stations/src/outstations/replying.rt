@@ -7,7 +7,7 @@ ghost use Rattle.stations.specs.Replying.{manner_of};
 use super::Outstations;
 use crate::cue::Cue;
 use crate::replies::reply_to;
-use link::{Asdu, NoMemory};
+use link::{NoMemory, UserData};
 use sim::Class;
 use std::alloc::Global;
 
@@ -27,7 +27,7 @@ enum NextReply {
     /// The command has no such reply.
     NoReply,
     /// This one.
-    Reply(Asdu),
+    Reply(UserData),
 }
 
 /// How far the replies of so many stations are from the start.

@@ -7,7 +7,7 @@ use Rattle.traces.specs.Printed.{lines_of_log}
 use Rattle.record.specs.Comparing.{AreWhole}
 use Rattle.record.specs.Lines.{whole_lines}
 use Rattle.record.specs.Rerunning.{Halted, IsHalted, Stands}
-use Rattle.record.specs.declared.audit.passing.Tally.{Tally}
+use Rattle.record.specs.declared.audit.passing.LineCounts.{LineCounts}
 use Rattle.record.proofs.LineLemmas.{page_whole}
 use Rattle.record.proofs.RunLemmas.{goes_on, part_stands}
 use Rattle.record.proofs.audit.run_part.Goals as goal
@@ -32,7 +32,7 @@ returns-in-Finished-clause-ran c = λ settings lines stands.
     let next : c.in-Some.first ≡ c.tally-before.result.lines + 1 =
     search (rules, c.in-Some.ensures) in
     let before : c.tally-before.result.lines ≡ h.tally.lines =
-    ap (λ (t : Tally). t.lines) c.tally-before.ensures.tally in
+    ap (λ (t : LineCounts). t.lines) c.tally-before.ensures.tally in
     let counted : c.in-Some.first ≡ 1 + length lines =
     omega (arith, next, before, stands.runs.passed) in
     subst (λ (x : Halted). Stands settings (lines ++ parts_after 10 part) state x stood

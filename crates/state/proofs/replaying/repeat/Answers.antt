@@ -6,7 +6,7 @@ use Rattle.state.proofs.replaying.repeat.Goals as goal
 
 pub returns-in-Finished-clause-replayed : goal.returns-in-Finished-clause-replayed
 returns-in-Finished-clause-replayed g c =
-    let start : Some (log_of c.over-port.result) ≡ Some g.K.Script.log
+    let start : Some (log_of c.over-port.result) ≡ Some g.K.ReplayScript.log
     = ap (λ (r : Replaying). Some (log_of r)) c.over-port.ensures in
     let none : c.over-port.result.failed ≡ 0 =
     ap (λ (r : Replaying). r.failed) c.over-port.ensures in

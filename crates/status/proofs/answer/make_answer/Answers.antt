@@ -1,6 +1,6 @@
 use Rattle.std.proofs.Common.{sym, ◌∙◌, ap, refl}
 use Rattle.status.specs.Answer.{body_of}
-use Rattle.status.specs.Page.{Sheet, empty}
+use Rattle.status.specs.TextPage.{Sheet, empty}
 use Rattle.status.proofs.Sheets.{room_put}
 use Rattle.status.proofs.answer.make_answer.Goals as goal
 

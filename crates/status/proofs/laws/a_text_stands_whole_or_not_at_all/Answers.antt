@@ -1,5 +1,5 @@
 use Rattle.std.proofs.Common.{[], arith}
-use Rattle.status.specs.Page.{put}
+use Rattle.status.specs.TextPage.{put}
 use Rattle.status.proofs.Sheets.{text_with_room, text_without_room}
 use Rattle.status.proofs.laws.a_text_stands_whole_or_not_at_all.Goals as goal
 

@@ -1,5 +1,5 @@
 use Rattle.std.proofs.Common.{◌≡◌, drop}
-use Rattle.status.specs.Page.{put}
+use Rattle.status.specs.TextPage.{put}
 use Rattle.status.specs.Words.{behind}
 use Rattle.status.proofs.lists.put_behind.Given as goal
 

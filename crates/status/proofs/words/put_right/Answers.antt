@@ -1,5 +1,5 @@
 use Rattle.std.proofs.Common.{◌∙◌, ap, length, ◌++◌, replicate, ◌-◌, ◌+◌, List, ℕ}
-use Rattle.status.specs.Page.{Sheet, put}
+use Rattle.status.specs.TextPage.{Sheet, put}
 use Rattle.status.proofs.Sheets.{put_put}
 use Rattle.status.proofs.WordLemmas.{one_space, no_space}
 use Rattle.status.proofs.words.put_right.Goals as goal

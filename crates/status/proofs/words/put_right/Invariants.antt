@@ -1,5 +1,5 @@
 use Rattle.std.proofs.Common.{◌≡◌, ◌-◌, length, replicate}
-use Rattle.status.specs.Page.{put}
+use Rattle.status.specs.TextPage.{put}
 use Rattle.status.proofs.words.put_right.Given as goal
 
 abbrev pub invariant-loop : goal.invariant-loop

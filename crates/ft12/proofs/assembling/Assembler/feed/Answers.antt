@@ -3,7 +3,7 @@ use Rattle.std.proofs.Common.{length, take}
 use Rattle.std.proofs.lemmas.List.{take_all}
 use Rattle.ft12.specs.declared.frame.Front.TheVariants.{Whole, More, Never}
 use Rattle.ft12.specs.Reading.{IsFront, IsProperBeginning}
-use Rattle.ft12.specs.Stage.{so_far}
+use Rattle.ft12.specs.DueOctet.{so_far}
 use Rattle.ft12.proofs.Stream.{received_frame, received_never}
 use Rattle.ft12.proofs.Stages.{stage_more, counted_refusal}
 use Rattle.ft12.proofs.assembling.Assembler.feed.Goals as goal

@@ -3,7 +3,7 @@ use Rattle.std.proofs.Common.{length}
 use Rattle.ft12.specs.declared.frame.Front.TheVariants.{Never}
 use Rattle.ft12.specs.Reading.{IsFront, IsProperBeginning}
 use Rattle.ft12.specs.Assembly.{IsEndDue}
-use Rattle.ft12.specs.Stage.{so_far}
+use Rattle.ft12.specs.DueOctet.{so_far}
 use Rattle.ft12.proofs.Stream.{received_never}
 use Rattle.ft12.proofs.Stages.{stage_more, end_due, counted_refusal}
 use Rattle.ft12.proofs.assembling.Assembler.feed_stages.Goals as goal

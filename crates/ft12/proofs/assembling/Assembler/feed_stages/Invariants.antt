@@ -1,5 +1,5 @@
 use Rattle.std.proofs.Common.{◌≡◌, ◌++◌, ◌+◌, ◌-◌, ◌^◌, min, take}
-use Rattle.ft12.specs.Stage.{IsStage, so_far}
+use Rattle.ft12.specs.DueOctet.{IsStage, so_far}
 use Rattle.ft12.proofs.assembling.Assembler.feed_stages.Given as goal
 
 -- what is kept stands for the octets before the piece and those of it that were looked at

@@ -1,7 +1,7 @@
 use Rattle.std.proofs.Common.{◌≡◌, ◌∷◌, ◌++◌, ◌∙◌, Some, sym, ap, List, ℕ, [], take, arith}
 use Rattle.std.proofs.lemmas.List.{take_more}
-use Rattle.ft12.specs.declared.stage.Stage.TheVariants.{User}
-use Rattle.ft12.specs.Stage.{so_far}
+use Rattle.ft12.specs.declared.stage.DueOctet.TheVariants.{User}
+use Rattle.ft12.specs.DueOctet.{so_far}
 use Rattle.ft12.proofs.Stages.{stage_more}
 use Rattle.ft12.proofs.assembling.Assembler.take_data.Goals as goal
 

@@ -4,7 +4,7 @@ use Rattle.std.proofs.lemmas.List.Elements.{All-append, All-cons, All-nil}
 use Rattle.link.specs.Turns.{StationState}
 use Rattle.link.specs.Primary.{Primary}
 use Rattle.link.specs.Holding.{FitsStation}
-use Rattle.link.specs.declared.seat.Seat.{Seat}
+use Rattle.link.specs.declared.seat.ResumedStation.{ResumedStation}
 use Rattle.link.specs.Carried.{seated}
 use Rattle.link.proofs.GivenUp.{one_more}
 use Rattle.link.proofs.master.Master.reseated.Goals as goal
@@ -23,10 +23,10 @@ loop-seat-preserved c =
     let i = c.loop-seat.seat-index in
     let there : c.deref.result.now ≡ c.args.self.now.stations =
     c.deref.ensures.value ∙ ap (λ (p : Primary). p.stations) c.self.view_is in
-    let seat : Seat = get_or c.args.seats.now i (record { address = 0; before = None }) in
+    let seat : ResumedStation = get_or c.args.seats.now i (record { address = 0; before = None }) in
     record {
       stations = items
-          ∙ one_more (λ (s : Seat). seated c.args.settings.retries s.address
+          ∙ one_more (λ (s : ResumedStation). seated c.args.settings.retries s.address
           c.args.self.now.stations s.before)
           c.args.seats.now i (record { address = 0; before = None }) c.loop-seat.stations.items
           c.seated-station.result c.loop-seat-test.true

@@ -1,5 +1,5 @@
 use Rattle.std.proofs.Common.{arith, List, ℕ, ◌++◌, subst}
-use Rattle.status.specs.Page.{shown}
+use Rattle.status.specs.TextPage.{shown}
 use Rattle.status.specs.Seats.{IsNext}
 use Rattle.status.proofs.SeatLemmas.{next_in_head, next_in_body}
 use Rattle.status.proofs.seat.Desk.next.Goals as goal

@@ -1,6 +1,6 @@
 use Rattle.std.proofs.Common.{◌∙◌, List, None, map, ap}
 use Rattle.link.specs.Primary.{Primary}
-use Rattle.link.specs.declared.seat.Seat.{Seat}
+use Rattle.link.specs.declared.seat.ResumedStation.{ResumedStation}
 use Rattle.link.specs.Carried.{reseated}
 use Rattle.command.specs.State as tasks
 use Rattle.command.specs.Carried as commands
@@ -17,10 +17,10 @@ with_parts line commands counts =
     record { line = line; commands = commands; counts = counts; silent = None; gap = None }
 
 -- the line, and commands, with these settings and stations
-abbrev line_with : Settings → List Seat → Primary → Primary
+abbrev line_with : Settings → List ResumedStation → Primary → Primary
 line_with now seats line = reseated (link_of now.line) seats line
 
-abbrev commands_with : Settings → List Seat → tasks.State → tasks.State
+abbrev commands_with : Settings → List ResumedStation → tasks.State → tasks.State
 commands_with now seats s = commands.carried (map info_of now.stations) now.line.sizes
     now.tcp.select_ms
     now.tcp.max_age_ms (places seats) s
@@ -28,14 +28,15 @@ commands_with now seats s = commands.carried (map info_of now.stations) now.line
 pub returns : goal.returns
 returns c =
     let now = c.args.now.now in
-    let all : List Seat = seats c.args.before.now now in
+    let all : List ResumedStation = seats c.args.before.now now in
     let inside = c.side.inside in
     let there = c.deref.ensures.value ∙ c.in_ok-seats.ensures.all in
     let there_too = c.deref-2.ensures.value ∙ c.in_ok-seats.ensures.all in
     ap (λ (p : Primary). with_parts p c.in_ok-commands.commands inside.counts)
-    (c.in_ok-line.ensures ∙ ap (λ (l : List Seat). line_with now l inside.line) there)
+    (c.in_ok-line.ensures ∙ ap (λ (l : List ResumedStation). line_with now l inside.line) there)
     ∙ ap (λ (t : tasks.State). with_parts (line_with now all inside.line) t inside.counts)
-    (c.in_ok-commands.ensures ∙ ap (λ (l : List Seat). commands_with now l inside.commands)
+    (c.in_ok-commands.ensures
+    ∙ ap (λ (l : List ResumedStation). commands_with now l inside.commands)
     there_too)
     ∙ ap (λ (s : Serial). with_parts (line_with now all s.line) (commands_with now all s.commands)
     s.counts)

@@ -6,37 +6,37 @@ use Rattle.ft12.specs.declared.frame.LinkSize.TheVariants.{Two}
 use Rattle.ft12.specs.declared.frame.Frame.{Frame}
 use Rattle.ft12.specs.declared.frame.Frame.TheVariants as frame
 use Rattle.ft12.specs.declared.frame.Front.TheVariants as front
-use Rattle.ft12.specs.declared.stage.Kind.{Kind}
-use Rattle.ft12.specs.declared.stage.Kind.TheVariants.{Fixed, Variable}
-use Rattle.ft12.specs.declared.stage.Fields.{Fields}
-use Rattle.ft12.specs.declared.stage.Fields.TheVariants as fields
+use Rattle.ft12.specs.declared.stage.FrameKind.{FrameKind}
+use Rattle.ft12.specs.declared.stage.FrameKind.TheVariants.{Fixed, Variable}
+use Rattle.ft12.specs.declared.stage.FixedFields.{FixedFields}
+use Rattle.ft12.specs.declared.stage.FixedFields.TheVariants as fields
 use Rattle.ft12.specs.declared.stage.Summing.{Summing}
 use Rattle.ft12.specs.declared.stage.Summed.{Summed}
-use Rattle.ft12.specs.declared.stage.Stage.{Stage}
-use Rattle.ft12.specs.declared.stage.Stage.TheVariants as stage
+use Rattle.ft12.specs.declared.stage.DueOctet.{DueOctet}
+use Rattle.ft12.specs.declared.stage.DueOctet.TheVariants as stage
 use Rattle.ft12.specs.declared.stage.BareFrame.{BareFrame}
 use Rattle.ft12.specs.declared.stage.BareFrame.TheVariants as bare
-use Rattle.ft12.specs.declared.stage.Step.{Step}
-use Rattle.ft12.specs.declared.stage.Step.TheVariants as step
+use Rattle.ft12.specs.declared.stage.NextStage.{NextStage}
+use Rattle.ft12.specs.declared.stage.NextStage.TheVariants as step
 use Rattle.ft12.specs.Spelling.{address_len, user, header, IsOctet, FitsAddress}
 use Rattle.ft12.specs.Reading.{IsFront}
 
 -- the octets of the fields and of the data, as far as they came
-abbrev pub fields_octets : LinkSize → Fields → (kept : List ℕ) → List ℕ
+abbrev pub fields_octets : LinkSize → FixedFields → (kept : List ℕ) → List ℕ
 fields_octets size fields.Nothing kept = []
 fields_octets size (fields.Control c) kept = c ∷ []
 fields_octets size (fields.LowAddress c low) kept = c ∷ low ∷ []
 fields_octets size (fields.Address c a) kept = user size c a kept
 
 -- octets that fit, and no data before all fields came
-abbrev pub IsFields : LinkSize → Fields → List ℕ → Type 0
+abbrev pub IsFields : LinkSize → FixedFields → List ℕ → Type 0
 IsFields size fields.Nothing kept = kept ≡ []
 IsFields size (fields.Control c) kept = IsOctet c × (kept ≡ [])
 IsFields size (fields.LowAddress c low) kept = (size ≡ Two) × IsOctet c × IsOctet low × (kept ≡ [])
 IsFields size (fields.Address c a) kept = FitsAddress size c a × All IsOctet kept
 
 -- the octets before the control octet
-abbrev pub head : Kind → ℕ → List ℕ
+abbrev pub head : FrameKind → ℕ → List ℕ
 head Fixed len = 0x10 ∷ []
 head Variable len = header len
 
@@ -45,7 +45,7 @@ abbrev pub IsLength : LinkSize → ℕ → Type 0
 IsLength size len = (1 + address_len size ≤ len) × (len < 256)
 
 -- how many octets from the control octet to the last one of data
-abbrev pub IsLen : LinkSize → Kind → ℕ → Type 0
+abbrev pub IsLen : LinkSize → FrameKind → ℕ → Type 0
 IsLen size Fixed len = len ≡ 1 + address_len size
 IsLen size Variable len = IsLength size len
 
@@ -57,7 +57,7 @@ pub record IsSumming (size : LinkSize) (s : Summing) (kept : List ℕ) : Type 0 
   pub sum_is : s.sum ≡ sum (fields_octets size s.fields kept) % 256
 
 -- one of the octets of data is due, and not the last one
-abbrev pub IsDataDue : LinkSize → Fields → (len : ℕ) → List ℕ → Type 0
+abbrev pub IsDataDue : LinkSize → FixedFields → (len : ℕ) → List ℕ → Type 0
 IsDataDue size (fields.Address c a) len kept = 2 + address_len size + length kept < len
 IsDataDue size f len kept = ⊥
 
@@ -75,7 +75,7 @@ pub record IsSummed (size : LinkSize) (s : Summed) (kept : List ℕ) : Type 0 wh
 abbrev pub summed_octets : LinkSize → Summed → List ℕ → List ℕ
 summed_octets size s kept = head s.kind s.len ++ user size s.c s.a kept
 
-abbrev pub IsStage : LinkSize → Stage → List ℕ → Type 0
+abbrev pub IsStage : LinkSize → DueOctet → List ℕ → Type 0
 IsStage size stage.Start kept = kept ≡ []
 IsStage size stage.Length kept = kept ≡ []
 IsStage size (stage.LengthAgain len) kept = IsLength size len × (kept ≡ [])
@@ -85,7 +85,7 @@ IsStage size (stage.Sum s) kept = IsSummed size s kept
 IsStage size (stage.End s) kept = IsSummed size s kept
 
 -- the octets that came since the last frame
-abbrev pub so_far : LinkSize → Stage → (kept : List ℕ) → List ℕ
+abbrev pub so_far : LinkSize → DueOctet → (kept : List ℕ) → List ℕ
 so_far size stage.Start kept = []
 so_far size stage.Length kept = 0x68 ∷ []
 so_far size (stage.LengthAgain len) kept = 0x68 ∷ len ∷ []
@@ -107,23 +107,23 @@ HasData (bare.Fixed c a) kept = kept ≡ []
 HasData (bare.Data c a) kept = Unit {0}
 
 -- what octets are, and what is kept of them
-abbrev pub Steps : LinkSize → List ℕ → List ℕ → Step → Type 0
+abbrev pub Steps : LinkSize → List ℕ → List ℕ → NextStage → Type 0
 Steps size octets kept (step.Whole f) =
     IsFront size octets (front.Whole (frame_with f kept) (length octets)) × HasData f kept
 Steps size octets kept (step.More s) = IsStage size s kept × (so_far size s kept ≡ octets)
 Steps size octets kept (step.Never place why) = IsFront size octets (front.Never place why)
 
 -- the end octet is due
-abbrev pub is_end : Stage → Bool
+abbrev pub is_end : DueOctet → Bool
 is_end (stage.End s) = true
 is_end stage = false
 
 -- No frame can end at this octet: the end octet isn't due, and it isn't the single character.
-abbrev pub IsInner : Stage → (octet : ℕ) → Type 0
+abbrev pub IsInner : DueOctet → (octet : ℕ) → Type 0
 IsInner stage.Start octet = octet ≡ 0xE5 → ⊥
 IsInner (stage.End s) octet = ⊥
 IsInner stage octet = Unit {0}
 
-abbrev pub EndsNoFrame : Step → Type 0
+abbrev pub EndsNoFrame : NextStage → Type 0
 EndsNoFrame (step.Whole f) = ⊥
 EndsNoFrame step = Unit {0}

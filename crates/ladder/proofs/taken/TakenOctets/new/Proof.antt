@@ -21,11 +21,11 @@ use denote.Triple.Entry.{on_entry, alive}
 use denote.Triple.Spec.{Meets, triple_of}
 use denote.Triple.Table.{entered}
 use denote.Triple.Walked.{says, Stays, walk_of, Walks, ends_at, walked, walk_Meets}
-use Rattle.ladder.specs.contracts.taken.Taken.new.Key.{name as key}
-use Rattle.ladder.specs.contracts.taken.Taken.new as f
-use Rattle.ladder.proofs.taken.Taken.new.Statement as stated
-use Rattle.ladder.proofs.taken.Taken.new.Code as code
-use Rattle.ladder.specs.contracts.taken.Taken as made
+use Rattle.ladder.specs.contracts.taken.TakenOctets.new.Key.{name as key}
+use Rattle.ladder.specs.contracts.taken.TakenOctets.new as f
+use Rattle.ladder.proofs.taken.TakenOctets.new.Statement as stated
+use Rattle.ladder.proofs.taken.TakenOctets.new.Code as code
+use Rattle.ladder.specs.contracts.taken.TakenOctets as made
 
 abbrev stayed : Stays (f.ended).signature.params (f.ended).kept
 stayed = tt

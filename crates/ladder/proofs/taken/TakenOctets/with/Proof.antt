@@ -28,12 +28,12 @@ use denote.Triple.Spec.{Meets, triple_of}
 use denote.Triple.Table.{entered}
 use denote.Triple.Walked.{says, stay_none_ref, Stays, walk_of, Walks, ends_at, walked}
 use denote.Triple.Walked.{Goes-none_ref, walk_Meets}
-use Rattle.ladder.specs.contracts.taken.Taken.with.Key.{name as key}
-use Rattle.ladder.specs.contracts.taken.Taken.with as f
-use Rattle.ladder.proofs.taken.Taken.with.Statement as stated
-use Rattle.ladder.proofs.taken.Taken.with.Code as code
-use Rattle.ladder.specs.contracts.taken.Taken as taken
-use Rattle.ladder.specs.contracts.taken.Page as page
+use Rattle.ladder.specs.contracts.taken.TakenOctets.with.Key.{name as key}
+use Rattle.ladder.specs.contracts.taken.TakenOctets.with as f
+use Rattle.ladder.proofs.taken.TakenOctets.with.Statement as stated
+use Rattle.ladder.proofs.taken.TakenOctets.with.Code as code
+use Rattle.ladder.specs.contracts.taken.TakenOctets as taken
+use Rattle.ladder.specs.contracts.taken.OpenLines as page
 use Rattle.std.specs.Prelude.{string_bytes}
 use Rattle.std.proofs.Common.{◌++◌}
 

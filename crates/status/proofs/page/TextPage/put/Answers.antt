@@ -1,8 +1,8 @@
 use Rattle.std.proofs.Common.{sym, ◌∙◌, ap, length, take, ◌+◌, ◌++◌, List, ℕ, arith}
 use Rattle.std.proofs.lemmas.List.{with_items_is}
-use Rattle.status.specs.Page.{put}
+use Rattle.status.specs.TextPage.{put}
 use Rattle.status.proofs.Sheets.{seen, put_none, put_cut, put_whole}
-use Rattle.status.proofs.page.Page.put.Goals as goal
+use Rattle.status.proofs.page.TextPage.put.Goals as goal
 
 pub returns-then-self : goal.returns-then-self
 returns-then-self c =
