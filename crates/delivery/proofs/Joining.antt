@@ -10,7 +10,7 @@ use Rattle.apci.specs.declared.apdu.Apdu.{Apdu}
 use Rattle.link.specs.declared.service.Service.TheVariants.{Command}
 use Rattle.link.specs.declared.service.Asked.TheVariants.{Counted}
 use Rattle.link.specs.Carried.{commands_given_up}
-use Rattle.link.specs.Counts.{saturated}
+use Rattle.std.specs.Io.Iter.{u64_saturate}
 use Rattle.link.specs.Exchanges.{Exchanges, Sending, begun_by, received_current, timed_current}
 use Rattle.link.specs.Exchanges.{reports_of_exchanges}
 use Rattle.link.specs.Procedure.{is_held}
@@ -60,7 +60,7 @@ pub record Joins (p : Setup) (e : Exchanges) (w : Works) : Type 0 where
       e))
   pub fits : WaitsFit p w.serial.commands
   pub skips : w.serial.counts.skipped
-      ≡ saturated
+      ≡ u64_saturate
       (skipped_among p.sizes (reports_of_exchanges (front_of p.link.size) (address_at p.addresses)
       e))
 
@@ -160,7 +160,7 @@ module _ (laws : LinkLaws) (stay : AnswersStay) (p : Setup) where
         (sym (laws.due_reports p.link.size (address_at p.addresses) p.link.answer_ms at e))
         j.mirrors;
     fits = j.fits;
-    skips = j.skips ∙ ap (λ (l : List (ℕ × List ℕ)). saturated (skipped_among p.sizes l))
+    skips = j.skips ∙ ap (λ (l : List (ℕ × List ℕ)). u64_saturate (skipped_among p.sizes l))
         (sym (laws.due_reports p.link.size (address_at p.addresses) p.link.answer_ms at e));
   }
 
@@ -193,7 +193,7 @@ module _ (laws : LinkLaws) (stay : AnswersStay) (p : Setup) where
               (learnt.mirrors (reports_by e) j.mirrors);
           fits = learnt.fits j.fits;
           skips = learnt.skips (reports_by e) j.skips ∙ ap
-              (λ (l : List (ℕ × List ℕ)). saturated (skipped_among p.sizes l))
+              (λ (l : List (ℕ × List ℕ)). u64_saturate (skipped_among p.sizes l))
               (sym (laws.octets_report p.link p.addresses w.serial.line e octets j.matches));
         },
       )
@@ -229,7 +229,7 @@ module _ (laws : LinkLaws) (stay : AnswersStay) (p : Setup) where
             (command_reports p.sizes l)) (sym same) j.mirrors);
         fits = g.fits;
         skips = g.skipped ∙ j.skips
-            ∙ ap (λ (l : List (ℕ × List ℕ)). saturated (skipped_among p.sizes l)) (sym same);
+            ∙ ap (λ (l : List (ℕ × List ℕ)). u64_saturate (skipped_among p.sizes l)) (sym same);
       }
 
   -- The step before is done
@@ -322,7 +322,7 @@ module _ (laws : LinkLaws) (stay : AnswersStay) (p : Setup) where
         (command_reports p.sizes l))
         (sym (laws.next_reports p.link.size (address_at p.addresses) at (Some s) e)) j.mirrors);
     fits = put_fits stay p (is_first_command w.serial.line s) s.station w j.fits;
-    skips = j.skips ∙ ap (λ (l : List (ℕ × List ℕ)). saturated (skipped_among p.sizes l))
+    skips = j.skips ∙ ap (λ (l : List (ℕ × List ℕ)). u64_saturate (skipped_among p.sizes l))
         (sym (laws.next_reports p.link.size (address_at p.addresses) at (Some s) e));
   }
 

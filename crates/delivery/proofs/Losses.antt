@@ -8,7 +8,7 @@ use Rattle.ft12.specs.Fronts.{front_of}
 use Rattle.link.specs.Outstation.{all_done}
 use Rattle.link.specs.Delivery.{Session, learnt, reports, is_gap, pending_after, IsAllOrButLast}
 use Rattle.link.specs.Delivery.{HasReports}
-use Rattle.link.specs.Counts.{saturated}
+use Rattle.std.specs.Io.Iter.{u64_saturate}
 use Rattle.link.specs.Carried.{commands_given_up}
 use Rattle.link.specs.Exchanges.{Exchanges}
 use Rattle.link.specs.Gaps.{as_numbers, ended_with_gap, gaps_at}
@@ -33,14 +33,14 @@ as_logged station number (s ∷ (next ∷ later)) all =
     rest = ended_with_gap station (suc number) (next ∷ later)
 
     numbers : Bool → List ℕ
-    numbers b = as_numbers (if b then Some (saturated number) else None) ++ rest
+    numbers b = as_numbers (if b then Some (u64_saturate number) else None) ++ rest
 
     go : (b : Bool) → is_gap (pending_after station None s.exchanges) ≡ b
         → LoseAsReported station (suc number) (next ∷ later) rest →
         (LosesNone station s × LoseAsReported station (suc number) (next ∷ later)
-        (as_numbers (if b then Some (saturated number) else None) ++ rest))
-        ⊎ ((others : List ℕ) × (as_numbers (if b then Some (saturated number) else None) ++ rest
-        ≡ saturated number
+        (as_numbers (if b then Some (u64_saturate number) else None) ++ rest))
+        ⊎ ((others : List ℕ) × (as_numbers (if b then Some (u64_saturate number) else None) ++ rest
+        ≡ u64_saturate number
         ∷ others) × LosesLastAtMost station s × LoseAsReported station (suc number) (next ∷ later)
         others)
     go true e ih = inr (rest, refl, all.0.most, ih)

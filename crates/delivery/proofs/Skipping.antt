@@ -12,7 +12,7 @@ use Rattle.asdu.specs.Refusals.{is_read}
 use Rattle.asdu.specs.InformationObjects.{InformationObject, object_in, typed_objects, objects_of}
 use Rattle.asdu.specs.InformationObjects.{is_passed_on, is_typed_passed_on, only_if}
 use Rattle.asdu.specs.InformationObjects.{monitor_objects_of}
-use Rattle.link.specs.Counts.{saturated}
+use Rattle.std.specs.Io.Iter.{u64_saturate}
 use Rattle.gateway.specs.declared.counts.Tally.{Tally}
 use Rattle.gateway.specs.Objects.{monitor_objects}
 use Rattle.gateway.specs.Counting.{one_more, one_skipped, one_lost, is_answer_type, counted_by}
@@ -92,14 +92,14 @@ skipped_more sizes (x ∷ rs) r = go (is_skipped sizes x.1) (is_skipped sizes r.
     go false true ih = ih
     go false false ih = ih
 
-one_saturated : (n : ℕ) → one_more (saturated n) ≡ saturated (suc n)
+one_saturated : (n : ℕ) → one_more (u64_saturate n) ≡ u64_saturate (suc n)
 one_saturated n = omega arith
 
 -- a report that is no answer to a command
 pub skip_one : (sizes : Sizes) (station : ℕ) (report : List ℕ) (c : Tally) (rs : List (ℕ × List ℕ))
-    → is_command_report sizes report ≡ false → c.skipped ≡ saturated (skipped_among sizes rs) →
+    → is_command_report sizes report ≡ false → c.skipped ≡ u64_saturate (skipped_among sizes rs) →
     (counted sizes report c).skipped
-    ≡ saturated (skipped_among sizes (rs ++ (station, report) ∷ []))
+    ≡ u64_saturate (skipped_among sizes (rs ++ (station, report) ∷ []))
 skip_one sizes station report c rs plain h = go (length (monitor_objects sizes report) == 0)
     (is_command_report sizes report) plain (counting sizes report c plain)
     (skipped_more sizes rs (station, report))
@@ -109,11 +109,11 @@ skip_one sizes station report c rs plain h = go (length (monitor_objects sizes r
         → skipped_among sizes (rs ++ (station, report) ∷ [])
         ≡ skipped_by (none && not command) (skipped_among sizes rs) →
         (counted sizes report c).skipped
-        ≡ saturated (skipped_among sizes (rs ++ (station, report) ∷ []))
+        ≡ u64_saturate (skipped_among sizes (rs ++ (station, report) ∷ []))
     go none true is count more = cc
     go true false is count more = count ∙ ap one_more h ∙ one_saturated (skipped_among sizes rs)
-        ∙ ap saturated (sym more)
-    go false false is count more = count ∙ h ∙ ap saturated (sym more)
+        ∙ ap u64_saturate (sym more)
+    go false false is count more = count ∙ h ∙ ap u64_saturate (sym more)
 
 -- one that is
 pub skip_none : (sizes : Sizes) (station : ℕ) (report : List ℕ) (rs : List (ℕ × List ℕ))

@@ -15,7 +15,7 @@ use Rattle.link.specs.declared.service.Asked.TheVariants.{Status, Reset, Counted
 use Rattle.arrayvec.specs.ArrayVec.{ArrayVec}
 use Rattle.link.specs.declared.outcome.Outcome.{Outcome}
 use Rattle.link.specs.declared.outcome.Outcome.TheVariants as outcome
-use Rattle.link.specs.Counts.{saturated}
+use Rattle.std.specs.Io.Iter.{u64_saturate}
 use Rattle.link.specs.Exchanges.{Exchanges}
 use Rattle.link.specs.Requests.{IsUserData}
 use Rattle.link.specs.Primary.{Primary, is_command}
@@ -120,15 +120,15 @@ pub record IsLearnt (p : Setup) (o : Outcome) (w z : Works) : Type 0 where
       → AreValues p.sizes (mirrored_in z.history) (command_reports p.sizes (rs ++ report_in o))
   pub judged : judged_in z.history ≡ judged_in w.history
   pub skips : (rs : List (ℕ × List ℕ)) → w.serial.counts.skipped
-      ≡ saturated (skipped_among p.sizes rs)
-      → z.serial.counts.skipped ≡ saturated (skipped_among p.sizes (rs ++ report_in o))
+      ≡ u64_saturate (skipped_among p.sizes rs)
+      → z.serial.counts.skipped ≡ u64_saturate (skipped_among p.sizes (rs ++ report_in o))
 
 -- without a report
 same_skips : (sizes : Sizes) (n m : ℕ) (rs : List (ℕ × List ℕ)) → n ≡ m
-    → m ≡ saturated (skipped_among sizes rs)
-    → n ≡ saturated (skipped_among sizes (rs ++ []))
+    → m ≡ u64_saturate (skipped_among sizes rs)
+    → n ≡ u64_saturate (skipped_among sizes (rs ++ []))
 same_skips sizes n m rs same h = same ∙ h
-    ∙ ap (λ (l : List (ℕ × List ℕ)). saturated (skipped_among sizes l))
+    ∙ ap (λ (l : List (ℕ × List ℕ)). u64_saturate (skipped_among sizes l))
     (sym (append-nil rs))
 
 no_report : (sizes : Sizes) (vs : List AsduValue) (rs : List (ℕ × List ℕ))
@@ -155,7 +155,7 @@ same_learnt p o w z none quiet is = record {
   judged = ap (λ (x : Works). judged_in x.history) is;
   skips = λ rs h. same_skips p.sizes z.serial.counts.skipped w.serial.counts.skipped rs
       (ap (λ (x : Works). x.serial.counts.skipped) is) h
-      ∙ ap (λ (l : List (ℕ × List ℕ)). saturated (skipped_among p.sizes (rs ++ l))) (sym none);
+      ∙ ap (λ (l : List (ℕ × List ℕ)). u64_saturate (skipped_among p.sizes (rs ++ l))) (sym none);
 }
 
 gap_learnt : (p : Setup) (station session : ℕ) (w : Works)
@@ -267,7 +267,7 @@ module _ (stay : AnswersStay) (p : Setup) (at : ℕ) (station : ℕ) (asdu : Arr
             (sym (keeping mirrored_in mirrors_ignore pieces s matches))
             (more_mirrored v rs command value h);
         judged = keeping judged_in judged_ignore pieces s matches;
-        skips = λ rs h. h ∙ ap saturated (sym (skip_none p.sizes station asdu.items rs command));
+        skips = λ rs h. h ∙ ap u64_saturate (sym (skip_none p.sizes station asdu.items rs command));
       }
   command_report false v pieces command value = record {
     line = refl;
@@ -276,7 +276,7 @@ module _ (stay : AnswersStay) (p : Setup) (at : ℕ) (station : ℕ) (asdu : Arr
     fits = λ f. one_fits stay p (Mirror v at) (tasks_of w) tt f;
     mirrors = λ rs h. more_mirrored v rs command value h;
     judged = refl;
-    skips = λ rs h. h ∙ ap saturated (sym (skip_none p.sizes station asdu.items rs command));
+    skips = λ rs h. h ∙ ap u64_saturate (sym (skip_none p.sizes station asdu.items rs command));
   }
 
   report_learnt : (running b : Bool) (z : Works) → is_command_report p.sizes asdu.items ≡ b

@@ -1,7 +1,8 @@
 -- What the control centre sent, as the log shows when it came (IEC 60870-5-104, 5), and how old a
 -- command with a time tag was then (IEC 60870-5-104, 8: types 58 to 62; how old one may be is this
 -- gateway's own profile).
-use Rattle.std.specs.Prelude.{◌≡◌, ℕ, ◌+◌, ◌-◌, ◌^◌, ◌≤◌, min, Bool, List, [], ◌∷◌, ◌++◌, map}
+use Rattle.std.specs.Io.Iter.{u64_saturate}
+use Rattle.std.specs.Prelude.{◌≡◌, ℕ, ◌+◌, ◌-◌, ◌^◌, ◌≤◌, Bool, List, [], ◌∷◌, ◌++◌, map}
 use Rattle.std.specs.Prelude.{length, get_or, if◌then◌else◌}
 use Rattle.elements.specs.TimeTag.{verdict_of}
 use Rattle.elements.specs.declared.tag.Verdict.TheVariants.{Good}
@@ -89,7 +90,7 @@ pub record ShowsAt (log : Log) (at clock : ℕ) : Type 0 where
   pub logged : log ≡ since ++ Came now (WallIs number) ∷ before
   pub latest_logged : HasNoWall since
   pub shows : clock
-      ≡ min (number + (at - latest (Came now (WallIs number) ∷ before))) (2 ^ 64 - 1)
+      ≡ u64_saturate (number + (at - latest (Came now (WallIs number) ∷ before)))
 
 -- The seven octets at the end are a good time tag; a wall moment stands before in the log; and at
 -- the log's moment the two are at most so many milliseconds apart.

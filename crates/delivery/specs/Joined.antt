@@ -5,7 +5,7 @@ use Rattle.std.specs.Prelude.{◌≡◌, ℕ, ◌<◌, List, [], ◌∷◌, ◌+
 use Rattle.std.specs.Prelude.{if◌then◌else◌}
 use Rattle.asdu.specs.declared.sizes.Sizes.{Sizes}
 use Rattle.asdu.specs.Asdu.{AsduValue, IsAsdu}
-use Rattle.link.specs.Counts.{saturated}
+use Rattle.std.specs.Io.Iter.{u64_saturate}
 use Rattle.link.specs.Delivery.{learnt, commands}
 use Rattle.link.specs.Requests.{FitsAddress}
 use Rattle.link.specs.Matching.{Matches}
@@ -81,7 +81,7 @@ pub record IsJoined (p : Setup) (log : Log) (c : Course) : Type 0 where
       (command_reports p.sizes (reports_in p log))
   -- the reports that it counts as skipped are those of the log that are skipped
   pub skipped : c.works.serial.counts.skipped
-      ≡ saturated (skipped_among p.sizes (reports_in p log))
+      ≡ u64_saturate (skipped_among p.sizes (reports_in p log))
   -- and what it judged are the ASDUs of the I frames of its connections, each with what the wall
   -- clock showed when it had come
   pub judged : judged_in c.works.history

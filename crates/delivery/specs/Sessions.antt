@@ -2,7 +2,7 @@
 -- unbalanced transmission), as an operator is told of them (this gateway's own profile).
 use Rattle.std.specs.Prelude.{◌≡◌, ◌⊎◌, ℕ, suc, ◌+◌, ◌-◌, List, [], ◌∷◌, length, None}
 use Rattle.std.specs.Prelude.{if◌then◌else◌}
-use Rattle.link.specs.Counts.{saturated}
+use Rattle.std.specs.Io.Iter.{u64_saturate}
 use Rattle.link.specs.Outstation.{Turn, all_done}
 use Rattle.link.specs.Delivery.{Session, learnt, reports, is_gap, pending_after, IsAllOrButLast}
 use Rattle.gateway.specs.Log.{Log}
@@ -32,7 +32,7 @@ LoseAsReported station number [] logged = logged ≡ []
 LoseAsReported station number (session ∷ []) logged = logged ≡ []
 LoseAsReported station number (session ∷ (next ∷ later)) logged =
     (LosesNone station session × LoseAsReported station (suc number) (next ∷ later) logged)
-    ⊎ ((others : List ℕ) × (logged ≡ saturated number ∷ others) × LosesLastAtMost station session
+    ⊎ ((others : List ℕ) × (logged ≡ u64_saturate number ∷ others) × LosesLastAtMost station session
     × LoseAsReported station (suc number) (next ∷ later) others)
 
 -- how many of these have a gap: their latest request with a valid frame count bit is a poll that

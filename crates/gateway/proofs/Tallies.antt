@@ -7,7 +7,7 @@ use Rattle.asdu.specs.InformationObjects.{InformationObject, objects_of, is_pass
 use Rattle.elements.specs.declared.tag.Cp56.{Cp56}
 use Rattle.apci.specs.declared.apdu.Apdu.{Apdu}
 use Rattle.apci.specs.declared.apdu.Apdu.TheVariants.{I, S, U}
-use Rattle.link.specs.Counts.{saturated}
+use Rattle.std.specs.Io.Iter.{u64_saturate}
 use Rattle.link.specs.Exchanges.{Sending}
 use Rattle.link.specs.declared.outcome.Outcome.{Outcome}
 use Rattle.link.specs.declared.outcome.Outcome.TheVariants as outcome
@@ -42,13 +42,13 @@ use Rattle.gateway.specs.Tallies.{given_up_in, unpassed_in}
 use Rattle.gateway.proofs.Restarting.{kept_over}
 
 abbrev AreCounted : History → Tally → Type 0
-AreCounted h t = (t.lost ≡ saturated (given_up_in h))
-    × (t.mirrors ≡ saturated (unpassed_in false h))
+AreCounted h t = (t.lost ≡ u64_saturate (given_up_in h))
+    × (t.mirrors ≡ u64_saturate (unpassed_in false h))
 
 abbrev IsCounted : Works → Type 0
 IsCounted w = AreCounted w.history w.serial.counts
 
-one_saturated : (n m : ℕ) → n ≡ saturated m → one_more n ≡ saturated (m + 1)
+one_saturated : (n m : ℕ) → n ≡ u64_saturate m → one_more n ≡ u64_saturate (m + 1)
 one_saturated n m e = ap one_more e ∙ omega arith
 
 -- Own answers
@@ -104,9 +104,9 @@ kept : (xs : List (List ℕ)) (s : tasks.State) (h : History) (t : Tally) → un
     ≡ unpassed_in false h
     → AreCounted h t → AreCounted (logged_kept xs s h) t
 kept xs s h t e c = (
-  c.0 ∙ ap saturated (sym (lost_kept xs s h)),
+  c.0 ∙ ap u64_saturate (sym (lost_kept xs s h)),
   c.1
-      ∙ ap saturated (sym (unpassed_kept xs s h e)),
+      ∙ ap u64_saturate (sym (unpassed_kept xs s h e)),
 )
 
 -- What came of an exchange
@@ -121,9 +121,9 @@ passed : (v : AsduValue) (at : ℕ) (x : List ℕ) (xs : List (List ℕ)) (w : W
 passed v at x xs w c =
     let s : tasks.State = mirrors.mirrored v at w.serial.commands in
     let h : History = Mirrored at v ∷ w.history in (
-      c.0 ∙ ap saturated (sym (lost_kept (x ∷ xs) s h)),
+      c.0 ∙ ap u64_saturate (sym (lost_kept (x ∷ xs) s h)),
       c.1
-          ∙ ap saturated (sym (handed x xs s h false)),
+          ∙ ap u64_saturate (sym (handed x xs s h false)),
     )
 
 -- an answer to a command has an object, so it has a piece, with a tag or without

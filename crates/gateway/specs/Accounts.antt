@@ -2,7 +2,7 @@
 use Rattle.std.specs.Prelude.{◌≡◌, drop, ◌∷◌}
 use Rattle.std.specs.List.{flat_map}
 use Rattle.ft12.specs.Fronts.{front_of}
-use Rattle.link.specs.Counts.{saturated}
+use Rattle.std.specs.Io.Iter.{u64_saturate}
 use Rattle.link.specs.Exchanges.{all_of, spoilt_count}
 use Rattle.events.specs.Queue.{kept}
 use Rattle.gateway.specs.Log.{Log}
@@ -27,5 +27,5 @@ pub record IsAccounted (p : Setup) (s : State) (log : Log) : Type 0 where
       ≡ drop (first_unacknowledged (here_of course ∷ course.earlier)) (taken_objects p log)
   pub counts : s.serial.counts ≡ (done_in p log course).serial.counts
   pub spoilt : s.serial.line.spoilt
-      ≡ saturated (spoilt_count (front_of p.link.size) (address_at p.addresses)
+      ≡ u64_saturate (spoilt_count (front_of p.link.size) (address_at p.addresses)
       (all_of (exchanges_of p log)))

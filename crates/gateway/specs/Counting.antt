@@ -1,5 +1,6 @@
 -- What is counted of the reports that aren't passed on (profile).
-use Rattle.std.specs.Prelude.{ℕ, ◌+◌, min, Bool, not, ◌&&◌, List, [], ◌∷◌, if◌then◌else◌}
+use Rattle.std.specs.Io.Iter.{u64_saturate}
+use Rattle.std.specs.Prelude.{ℕ, ◌+◌, Bool, not, ◌&&◌, List, [], ◌∷◌, if◌then◌else◌}
 use Rattle.elements.specs.Types.{row}
 use Rattle.elements.specs.declared.types.TypeId.{TypeId}
 use Rattle.asdu.specs.declared.sizes.Sizes.{Sizes}
@@ -11,7 +12,7 @@ nothing_counted = record { skipped = 0; mirrors = 0; lost = 0 }
 
 -- a number of 64 bits that stays at its greatest
 abbrev pub one_more : ℕ → ℕ
-one_more n = min (n + 1) 18446744073709551615
+one_more n = u64_saturate (n + 1)
 
 abbrev pub one_skipped : Tally → Tally
 one_skipped c = record { skipped = one_more c.skipped; mirrors = c.mirrors; lost = c.lost }

@@ -1,6 +1,7 @@
 -- The wall clock, as the log tells it: milliseconds since 1970-01-01 UTC, which go on with the
 -- moments (profile).
-use Rattle.std.specs.Prelude.{ℕ, ◌+◌, ◌-◌, min, [], ◌∷◌, Option, Some, None, option_map}
+use Rattle.std.specs.Io.Iter.{u64_saturate}
+use Rattle.std.specs.Prelude.{ℕ, ◌+◌, ◌-◌, [], ◌∷◌, Option, Some, None, option_map}
 use Rattle.gateway.specs.declared.walls.Wall.{Wall}
 use Rattle.gateway.specs.Log.{Log, WallIs, Came, latest}
 
@@ -14,7 +15,7 @@ last_wall (entry ∷ log) = last_wall log
 -- At a later moment it is that number and the milliseconds since, a number of 64 bits that stays at
 -- its greatest. Nothing is known of it before it was told.
 abbrev pub wall_of : Option Wall → (at : ℕ) → Option ℕ
-wall_of logged at = option_map (λ w. min (w.number + (at - w.moment)) 18446744073709551615) logged
+wall_of logged at = option_map (λ w. u64_saturate (w.number + (at - w.moment))) logged
 
 -- as the log tells it, at this moment
 abbrev pub wall_on : Log → (at : ℕ) → Option ℕ

@@ -24,7 +24,7 @@ ghost use Rattle.gateway.specs.Serial.{answer_outcome};
 ghost use Rattle.gateway.specs.Frames.{transfers};
 ghost use Rattle.gateway.specs.Conversation.{KeepsCommands};
 ghost use Rattle.gateway.specs.One.{AreOne};
-ghost use Rattle.link.specs.Counts.{saturated};
+ghost use Rattle.std.specs.Io.Iter.{u64_saturate};
 ghost use Rattle.gateway.specs.Line.{done_in};
 ghost use Rattle.gateway.specs.Tallies.{given_up_in, unpassed_in};
 ghost use Rattle.gateway.specs.Works.{tasks_of};
@@ -97,10 +97,10 @@ pub fn courses_keep_commands()
 /// stations to commands that weren't passed on. Both stay at the greatest number of 64 bits.
 pub fn counts_match_commands()
     ensures lost { (p : Setup) (log : Log) (c : Course) → Runs p log c →
-        (done_in p log c).serial.counts.lost ≡ saturated (given_up_in (done_in p log c).history) }
+        (done_in p log c).serial.counts.lost ≡ u64_saturate (given_up_in (done_in p log c).history) }
     ensures mirrors { (p : Setup) (log : Log) (c : Course) → Runs p log c →
         (done_in p log c).serial.counts.mirrors
-        ≡ saturated (unpassed_in false (done_in p log c).history) }
+        ≡ u64_saturate (unpassed_in false (done_in p log c).history) }
 {}
 
 /// Between two steps nothing of the step before is left to be told or to be taken.

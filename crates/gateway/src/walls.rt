@@ -1,5 +1,6 @@
 //! The wall clock.
-ghost use Rattle.std.specs.Prelude.{◌≡◌, ◌+◌, ◌-◌, min};
+ghost use Rattle.std.specs.Io.Iter.{u64_saturate};
+ghost use Rattle.std.specs.Prelude.{◌≡◌, ◌+◌, ◌-◌};
 
 /// What the wall clock showed at a moment.
 #[derive(Clone, Copy)]
@@ -13,8 +14,7 @@ pub struct Wall {
 impl Wall {
     /// What it shows at a later moment.
     pub(crate) fn at(&self, moment: u64) -> u64
-        ensures { result ≡
-            min (self.now.number + (moment - self.now.moment)) 18446744073709551615 }
+        ensures { result ≡ u64_saturate (self.now.number + (moment - self.now.moment)) }
     {
         self.number
             .saturating_add(moment.saturating_sub(self.moment))

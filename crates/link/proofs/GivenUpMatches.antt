@@ -8,7 +8,7 @@ use Rattle.std.proofs.lemmas.List.{get_or-set_same, get_or-set_other, length-set
 use Rattle.ft12.specs.declared.frame.Front.{Front}
 use Rattle.ft12.specs.declared.frame.LinkSize.{LinkSize}
 use Rattle.link.specs.Answers.{Service}
-use Rattle.link.specs.Counts.{saturated}
+use Rattle.std.specs.Io.Iter.{u64_saturate}
 use Rattle.link.specs.Delivery.{is_gap, pending_after}
 use Rattle.link.specs.Exchanges.{Exchange, OpenExchange, Exchanges, all_of, as_list, marked, view}
 use Rattle.link.specs.Exchanges.{views, with_station, latest_marked, given_up_from, given_up_at}
@@ -217,11 +217,11 @@ same_session : (a : ℕ) (xs ys : List Exchange) → resets_in a xs ≡ resets_i
     → pending_after a None xs ≡ pending_after a None ys → session_in a xs ≡ session_in a ys
 same_session a xs ys resets pending =
     ap (λ (n : ℕ). record {
-      number = saturated n;
+      number = u64_saturate n;
       has_gap = is_gap (pending_after a None xs);
     }) resets
     ∙ ap (λ (m : Option Service). record {
-      number = saturated (resets_in a ys);
+      number = u64_saturate (resets_in a ys);
       has_gap = is_gap m;
     }) pending
 
@@ -265,7 +265,7 @@ given_up_says front settings addresses p e k within t =
           ∙ t.sessions i
           ∙ sym (set_view (λ (r : StationState). r.session) p.stations k s refl i);
       spoilt = t.spoilt
-          ∙ ap saturated (sym (ap (λ (xs : List OpenExchange). spoilt_count front
+          ∙ ap u64_saturate (sym (ap (λ (xs : List OpenExchange). spoilt_count front
           (λ i. slice_index addresses i) xs) (all_marked k e)
           ∙ marked_spoilt front (λ i. slice_index addresses i) k (all_of e)));
     }

@@ -12,7 +12,7 @@ use Rattle.link.specs.Secondary.{served_counted, served_new, served_class1, serv
 use Rattle.link.specs.Secondary.{unchanged, is_same}
 use Rattle.link.specs.Life.{Call, Report1, Report2, Receive, called, after, request_asked}
 use Rattle.link.specs.Life.{requests_received, turn_asked, turns_in, given1_at, given2_at, given1}
-use Rattle.link.specs.Life.{given2, reported1, reported2, saturated}
+use Rattle.link.specs.Life.{given2, reported1, reported2, u64_saturate}
 use Rattle.link.specs.Delivery.{reports, commands}
 use Rattle.link.proofs.Serving.{served_step, kept_address, kept_size}
 
@@ -54,9 +54,9 @@ pub record Accounts (s : Secondary) (request : Asked) (by : Served) : Type 0 whe
   pub class1 : given1_at request by.turn ++ by.state.class1 ≡ s.class1
   pub class2 : given2_at request by.turn ++ by.state.class2 ≡ s.class2
   pub accepted : s.accepted ++ commands by.turn.done ≡ by.state.accepted
-  pub given : by.state.given ≡ saturated (s.given + length (reports by.turn.done))
+  pub given : by.state.given ≡ u64_saturate (s.given + length (reports by.turn.done))
 
-same_count : (n : ℕ) → n < 2 ^ 64 → n ≡ saturated (n + 0)
+same_count : (n : ℕ) → n < 2 ^ 64 → n ≡ u64_saturate (n + 0)
 same_count n lt = omega arith
 
 nothing_done : (s : Secondary) (request : Asked) (answer : Option Frame) → s.given < 2 ^ 64
@@ -194,7 +194,7 @@ pub record Ledger (s : Secondary) (calls : List Call) : Type 0 where
       ++ reported2 calls
   pub accepted : s.accepted ++ commands (all_done (turns_in s calls)) ≡ (after s calls).accepted
   pub given : (after s calls).given
-      ≡ saturated (s.given + length (reports (all_done (turns_in s calls))))
+      ≡ u64_saturate (s.given + length (reports (all_done (turns_in s calls))))
 
 commands_more : (a b : List Effect) → commands (a ++ b) ≡ commands a ++ commands b
 commands_more [] b = refl
@@ -207,11 +207,11 @@ reports_more [] b = omega arith
 reports_more (Given r ∷ a) b = omega (arith, reports_more a b)
 reports_more (Accepted r ∷ a) b = reports_more a b
 
-count_twice : (g m n a b c : ℕ) → m ≡ saturated (g + a) → n ≡ saturated (m + b) → c ≡ a + b
-    → n ≡ saturated (g + c)
+count_twice : (g m n a b c : ℕ) → m ≡ u64_saturate (g + a) → n ≡ u64_saturate (m + b) → c ≡ a + b
+    → n ≡ u64_saturate (g + c)
 count_twice g m n a b c p q r = omega arith
 
-pub small_count : (n : ℕ) → saturated n < 2 ^ 64
+pub small_count : (n : ℕ) → u64_saturate n < 2 ^ 64
 small_count n = omega arith
 
 after_request : (granted : Bool) (s : Secondary) (request : Asked) (calls : List Call)
@@ -229,7 +229,7 @@ after_request : (granted : Bool) (s : Secondary) (request : Asked) (calls : List
     ++ all_done (turns_in (served granted s request).state calls))
     ≡ (after (served granted s request).state calls).accepted)
     × ((after (served granted s request).state calls).given
-    ≡ saturated (s.given + length (reports ((served granted s request).turn.done
+    ≡ u64_saturate (s.given + length (reports ((served granted s request).turn.done
     ++ all_done (turns_in (served granted s request).state calls)))))
 after_request granted s request calls lt rest =
     let by : Served = served granted s request in
@@ -335,7 +335,7 @@ ledger s (Receive granted (Some frame) ∷ calls) lt =
         ++ turns_in (received_reading granted s reading).state calls))
         ≡ (after (received_reading granted s reading).state calls).accepted)
         × ((after (received_reading granted s reading).state calls).given
-        ≡ saturated (s.given + length
+        ≡ u64_saturate (s.given + length
         (reports (all_done (turn_asked granted s reading
         ++ turns_in (received_reading granted s reading).state calls)))))
     go rest Foreign = let l = rest s lt in (l.class1, l.class2, l.accepted, l.given)

@@ -7,7 +7,7 @@ use Rattle.std.proofs.lemmas.List.{length-set}
 use Rattle.ft12.specs.declared.frame.Front.{Front}
 use Rattle.ft12.specs.declared.frame.Front.TheVariants.{Whole, More, Never}
 use Rattle.link.specs.Answers.{Frame, Single, Fixed, Data, Asked, Answer, answer_of}
-use Rattle.link.specs.Counts.{saturated}
+use Rattle.std.specs.Io.Iter.{u64_saturate}
 use Rattle.link.specs.Exchanges.{OpenExchange, Exchanges, all_of, as_list, whole_of}
 use Rattle.link.specs.Exchanges.{received_octets, received_current, timed, timed_current, begun_by}
 use Rattle.link.specs.Exchanges.{spoilt_count}
@@ -240,7 +240,7 @@ same_state front settings addresses p ended cur cur' o is t current keeps links 
           (past q (record { ended = ended; current = cur' }))) (sym is) links;
       flags = flags;
       sessions = sessions;
-      spoilt = t.spoilt ∙ ap saturated (sym count);
+      spoilt = t.spoilt ∙ ap u64_saturate (sym count);
     }
 
 -- the links that are known while nothing, or something, is outstanding
@@ -369,7 +369,7 @@ ask_says front settings addresses p e now may_poll stable t = go p.outstanding r
                   x.request)
                   (whole_of f)) stable.nothing) refl;
               spoilt = t.spoilt
-                  ∙ ap saturated
+                  ∙ ap u64_saturate
                   (sym (open_push front (λ i. slice_index addresses i)
                   (e.ended ++ as_list e.current) x refl));
             }
@@ -540,7 +540,8 @@ due_says front settings addresses p ended cur at t = go p.outstanding cur refl t
                   (whole_of (front x.octets))) w.station
                   ∙ unreceived front (slice_index addresses p.turn) x q.arrived w.arrived)
                   (t.spoilt
-                  ∙ ap saturated (open_push front (λ i. slice_index addresses i) ended x w.waits));
+                  ∙ ap u64_saturate (open_push front (λ i. slice_index addresses i) ended x
+                  w.waits));
             }
 
 -- `octets`
@@ -644,8 +645,9 @@ receive_says front settings addresses p ended cur octets stable t =
 
         spoilt : AreSpoilt front addresses p.spoilt (ended ++ grown x octets ∷ [])
         spoilt =
-            t.spoilt ∙ ap saturated (open_push front (λ i. slice_index addresses i) ended x w.waits)
-            ∙ ap saturated
+            t.spoilt
+            ∙ ap u64_saturate (open_push front (λ i. slice_index addresses i) ended x w.waits)
+            ∙ ap u64_saturate
             (sym (open_push front (λ i. slice_index addresses i) ended (grown x octets) w.waits))
 
         waits : (arrived : Option (List ℕ))

@@ -8,7 +8,7 @@ use Rattle.std.proofs.lemmas.Bool.{eqb-true, eqb-false}
 use Rattle.ft12.specs.declared.frame.Front.{Front}
 use Rattle.link.specs.Answers.{Service, Class1, Class2, Command, Asked, Status, Reset, Counted}
 use Rattle.link.specs.Answers.{Answer, Ready, Confirmed, Busy, Report, NoData, Unable}
-use Rattle.link.specs.Counts.{saturated}
+use Rattle.std.specs.Io.Iter.{u64_saturate}
 use Rattle.link.specs.Delivery.{pending_by, pending_after, is_reset, is_gap}
 use Rattle.link.specs.Exchanges.{Exchange, OpenExchange, answer_to, with_station, view, views}
 use Rattle.link.specs.Gaps.{resets_in}
@@ -34,10 +34,10 @@ session number has_gap = record { number = number; has_gap = has_gap }
 made : (n m : ℕ) (b c : Bool) → n ≡ m → b ≡ c → session n b ≡ session m c
 made n m b c e f = ap (λ (k : ℕ). session k b) e ∙ ap (λ (g : Bool). session m g) f
 
-keep : (n : ℕ) → saturated (n + 0) ≡ saturated n
+keep : (n : ℕ) → u64_saturate (n + 0) ≡ u64_saturate n
 keep n = omega arith
 
-more : (n : ℕ) → saturated (n + 1) ≡ saturated (saturated n + 1)
+more : (n : ℕ) → u64_saturate (n + 1) ≡ u64_saturate (u64_saturate n + 1)
 more n = omega arith
 
 gap_is_poll : (service : Service) → is_gap (Some service) ≡ is_poll service
@@ -62,9 +62,9 @@ resets_push a (y ∷ ys) x =
 
 -- it is what the exchange makes of the count of resets and of what is pending
 stepped : (request : Asked) (m : Option Answer) (n : ℕ) (pending : Option Service) →
-    session (saturated (n + (if is_reset request m then 1 else 0)))
+    session (u64_saturate (n + (if is_reset request m then 1 else 0)))
     (is_gap (pending_by request m pending))
-    ≡ step request m (session (saturated n) (is_gap pending))
+    ≡ step request m (session (u64_saturate n) (is_gap pending))
 unfolding session_answered
 stepped Status None n pending = made _ _ _ _ (keep n) refl
 stepped Status (Some Ready) n pending = made _ _ _ _ (keep n) refl
@@ -91,7 +91,7 @@ stepped (Counted fcb service) (Some Unable) n pending = made _ _ _ _ (keep n) (g
 session_push : (a : ℕ) (xs : List Exchange) (x : Exchange)
     → session_in a (xs ++ x ∷ []) ≡ step x.request (answer_to a x) (session_in a xs)
 session_push a xs x =
-    made _ _ _ _ (ap saturated (resets_push a xs x)) (ap is_gap (pending_push a None xs x))
+    made _ _ _ _ (ap u64_saturate (resets_push a xs x)) (ap is_gap (pending_push a None xs x))
     ∙ stepped x.request (answer_to a x) (resets_in a xs) (pending_after a None xs)
 
 -- ---- the exchanges of a line

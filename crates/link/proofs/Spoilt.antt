@@ -7,7 +7,7 @@ use Rattle.std.proofs.Common.{◌∷◌, ◌++◌, length, Option, Some, None, i
 use Rattle.std.proofs.Common.{arith, if◌then◌else◌}
 use Rattle.std.proofs.lemmas.List.Sums.{sum_by_push}
 use Rattle.ft12.specs.declared.frame.Front.{Front}
-use Rattle.link.specs.Counts.{saturated}
+use Rattle.std.specs.Io.Iter.{u64_saturate}
 use Rattle.link.specs.Answers.{Answer}
 use Rattle.link.specs.Exchanges.{OpenExchange, IsUnanswered, answer_to, view, is_spoilt}
 use Rattle.link.specs.Exchanges.{spoilt_count}
@@ -50,9 +50,10 @@ answered_push front address xs x answer is =
     (none_answered x.closed (not (length x.octets == 0)))
     ∙ omega arith
 
-missed_count : (has : Bool) (spoilt n : ℕ) → spoilt ≡ saturated n
-    → (if has then saturated (spoilt + 1) else spoilt) ≡ saturated (n + cond (has && true) 1 0)
-missed_count true spoilt n is = ap (λ (m : ℕ). saturated (m + 1)) is ∙ omega arith
+missed_count : (has : Bool) (spoilt n : ℕ) → spoilt ≡ u64_saturate n
+    → (if has then u64_saturate (spoilt + 1) else spoilt)
+    ≡ u64_saturate (n + cond (has && true) 1 0)
+missed_count true spoilt n is = ap (λ (m : ℕ). u64_saturate (m + 1)) is ∙ omega arith
 missed_count false spoilt n is = is ∙ omega arith
 
 -- One that is closed without an answer counts where octets came.
@@ -60,20 +61,20 @@ pub missed_push : (front : List ℕ → Front) (address : ℕ
     → ℕ) (xs : List OpenExchange) (x : OpenExchange) (has : Bool) (spoilt : ℕ) →
     x.closed ≡ true → has ≡ not (length x.octets == 0)
     → answer_to (address x.station) (view front x).exchange ≡ None
-    → spoilt ≡ saturated (spoilt_count front address xs) →
-    (if has then saturated (spoilt + 1) else spoilt)
-    ≡ saturated (spoilt_count front address (xs ++ x ∷ []))
+    → spoilt ≡ u64_saturate (spoilt_count front address xs) →
+    (if has then u64_saturate (spoilt + 1) else spoilt)
+    ≡ u64_saturate (spoilt_count front address (xs ++ x ∷ []))
 missed_push front address xs x has spoilt closed octets none is =
     missed_count has spoilt (spoilt_count front address xs) is
-    ∙ ap (λ (b : Bool). saturated (spoilt_count front address xs + cond (b && true) 1 0)) octets
-    ∙ ap (λ (m : Option Answer). saturated (spoilt_count front address xs
+    ∙ ap (λ (b : Bool). u64_saturate (spoilt_count front address xs + cond (b && true) 1 0)) octets
+    ∙ ap (λ (m : Option Answer). u64_saturate (spoilt_count front address xs
     + cond (not (length x.octets == 0)
     && is_none m) 1 0)) (sym none)
-    ∙ ap (λ (c : Bool). saturated (spoilt_count front address xs + cond (c
+    ∙ ap (λ (c : Bool). u64_saturate (spoilt_count front address xs + cond (c
     && (not (length x.octets == 0)
     && is_none (answer_to (address x.station) (view front x).exchange))) 1 0))
     (sym closed)
-    ∙ ap (λ (n : ℕ). saturated n) (sym (spoilt_push front address xs x))
+    ∙ ap (λ (n : ℕ). u64_saturate n) (sym (spoilt_push front address xs x))
 
 some_octets : (x : ℕ) (octets : List ℕ) → not (length (x ∷ octets) == 0) ≡ true
 some_octets x octets = grind arith

@@ -5,7 +5,7 @@ use Rattle.std.specs.Prelude.{ℕ, suc, ◌+◌, List, [], ◌∷◌, ◌++◌, 
 use Rattle.std.specs.Prelude.{if◌then◌else◌}
 use Rattle.ft12.specs.declared.frame.Front.{Front}
 use Rattle.link.specs.Answers.{Service}
-use Rattle.link.specs.Counts.{saturated}
+use Rattle.std.specs.Io.Iter.{u64_saturate}
 use Rattle.link.specs.Delivery.{is_reset, is_gap, pending_after, Session}
 use Rattle.link.specs.Exchanges.{Exchange, Exchanges, answer_to, all_of, views, with_station}
 
@@ -17,7 +17,7 @@ resets_in station (x ∷ xs) =
 
 -- the number of a session with this pending, where it has a gap
 abbrev pub gap_numbered : (number : ℕ) → (pending : Option Service) → Option ℕ
-gap_numbered number pending = if is_gap pending then Some (saturated number) else None
+gap_numbered number pending = if is_gap pending then Some (u64_saturate number) else None
 
 -- the number of the session that these exchanges leave, where it has a gap
 abbrev pub gap_in : (station : ℕ) → List Exchange → Option ℕ

@@ -1,6 +1,5 @@
 pub mod Control
 pub mod Answers
-pub mod Counts
 pub mod Exchanges
 pub mod Flags
 pub mod Procedure

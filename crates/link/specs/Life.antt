@@ -6,7 +6,7 @@ use Rattle.link.specs.Outstation.{Turn}
 use Rattle.link.specs.Delivery.{reports}
 use Rattle.link.specs.Requests.{Reading, Foreign, Unknown, Asks, reading_of}
 use Rattle.link.specs.Secondary.{Secondary, received_reading}
-pub use Rattle.link.specs.Counts.{saturated}
+pub use Rattle.std.specs.Io.Iter.{u64_saturate}
 
 -- a call, with what memory allowed; a frame is heard, or octets that are none
 pub data Call : Type 0 where

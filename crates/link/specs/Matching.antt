@@ -7,7 +7,7 @@ use Rattle.ft12.specs.declared.frame.Frame.{Frame}
 use Rattle.ft12.specs.declared.frame.Why.{Why}
 use Rattle.ft12.specs.Fronts.{front_of}
 use Rattle.link.specs.Answers.{Answer, answer_of}
-use Rattle.link.specs.Counts.{saturated}
+use Rattle.std.specs.Io.Iter.{u64_saturate}
 use Rattle.link.specs.Delivery.{is_gap, pending_after}
 use Rattle.link.specs.Exchanges.{Sending, Exchange, OpenExchange, Exchanges, all_of, whole_of}
 use Rattle.link.specs.Exchanges.{views, with_station, spoilt_count}
@@ -95,7 +95,7 @@ AreLinks front settings addresses stations xs =
 abbrev pub AreSpoilt : (front : List ℕ → Front) → (addresses : List ℕ) → (spoilt : ℕ) →
     List OpenExchange → Type 0
 AreSpoilt front addresses spoilt xs =
-    spoilt ≡ saturated (spoilt_count front (λ i. slice_index addresses i) xs)
+    spoilt ≡ u64_saturate (spoilt_count front (λ i. slice_index addresses i) xs)
 
 abbrev pub flags_of : StationState → Flags
 flags_of s = record { acd = s.acd; dfc = s.dfc }
@@ -110,7 +110,7 @@ AreFlags front addresses stations xs =
 -- the session that these exchanges with a station leave
 abbrev pub session_in : (station : ℕ) → List Exchange → SessionState
 session_in station xs = record {
-  number = saturated (resets_in station xs);
+  number = u64_saturate (resets_in station xs);
   has_gap = is_gap (pending_after station None xs);
 }
 

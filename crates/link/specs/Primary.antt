@@ -9,7 +9,7 @@ use Rattle.ft12.specs.Spelling.{spelling}
 use Rattle.link.specs.Answers.{Frame, Single, Fixed, Data, Command, Asked, Reset, Counted, Answer}
 use Rattle.link.specs.Answers.{Confirmed, Busy, Report, NoData, Unable, answer_of}
 use Rattle.link.specs.Control.{shows_acd, shows_dfc}
-use Rattle.link.specs.Counts.{saturated}
+use Rattle.std.specs.Io.Iter.{u64_saturate}
 use Rattle.link.specs.Exchanges.{Sending, whole_of}
 use Rattle.link.specs.Procedure.{LinkSettings, Down, after_answer, after_silence, is_held}
 use Rattle.link.specs.Procedure.{holds_command, has_repeats, goes_down}
@@ -164,7 +164,8 @@ phase_after answer phase = phase
 -- A confirmed reset begins the next session. What a poll asked for is known once it is answered,
 -- save that it couldn't be served.
 unfoldable pub session_answered : SessionState → Asked → Answer → SessionState
-session_answered s Reset Confirmed = record { number = saturated (s.number + 1); has_gap = false }
+session_answered s Reset Confirmed = record { number = u64_saturate (s.number + 1); has_gap =
+    false }
 session_answered s (Counted fcb service) Unable = s
 session_answered s (Counted fcb service) answer = record { number = s.number; has_gap = false }
 session_answered s request answer = s
@@ -327,7 +328,7 @@ unanswered p o =
       phase = if has_repeats p.settings s.link then p.phase else Over;
       again = has_repeats p.settings s.link;
       outstanding = None;
-      spoilt = if o.has_octets then saturated (p.spoilt + 1) else p.spoilt;
+      spoilt = if o.has_octets then u64_saturate (p.spoilt + 1) else p.spoilt;
     }
 
 abbrev pub is_late : Primary → Outstanding → (now : ℕ) → Bool

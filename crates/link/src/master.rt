@@ -2,7 +2,7 @@
 ghost use Rattle.std.specs.Prelude.{◌≡◌, ◌<◌, ◌≤◌, ◌+◌, List, [], All, length, map, take, drop};
 ghost use Rattle.std.specs.Prelude.{slice_index, ◌++◌, true, false, None, Some, IfSome, IfNone};
 ghost use Rattle.std.specs.Prelude.{IfOk, is_some, option_map, if◌then◌else◌};
-ghost use Rattle.link.specs.Counts.{saturated};
+ghost use Rattle.std.specs.Io.Iter.{u64_saturate};
 ghost use Rattle.link.specs.Turns.{IsPossible, Over, station_at, wished, picked};
 ghost use Rattle.ft12.specs.Borrowed.{owned, FitsMemory};
 ghost use Rattle.ft12.specs.Fronts.{front_of};
@@ -163,7 +163,7 @@ fn sends_command(outstanding: &Option<Awaited>) -> bool
 }
 
 fn spoilt_after(spoilt: u64, awaited: &Awaited) -> u64
-    ensures { result ≡ if awaited.now.has_octets then saturated (spoilt + 1) else spoilt }
+    ensures { result ≡ if awaited.now.has_octets then u64_saturate (spoilt + 1) else spoilt }
 {
     // Silence spoils nothing: the request was lost, or the station isn't there.
     if awaited.has_octets {

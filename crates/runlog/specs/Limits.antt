@@ -1,5 +1,6 @@
 -- At most a line a second of each kind (this gateway's own profile).
-use Rattle.std.specs.Prelude.{ℕ, ◌+◌, ◌-◌, ◌^◌, ◌≤◌, min, nat_le, Bool, true, false, List, [], ◌∷◌}
+use Rattle.std.specs.Io.Iter.{u64_saturate}
+use Rattle.std.specs.Prelude.{ℕ, ◌+◌, ◌-◌, ◌^◌, ◌≤◌, nat_le, Bool, true, false, List, [], ◌∷◌}
 use Rattle.std.specs.Prelude.{Option, Some, None}
 use Rattle.runlog.specs.declared.limit.Limit.{Limit}
 
@@ -18,7 +19,7 @@ is_minute_after (Some logged) now = nat_le 60000 (now - logged)
 
 -- a number that stays at the greatest of its type
 abbrev pub one_more : ℕ → ℕ
-one_more n = min (n + 1) (2 ^ 64 - 1)
+one_more n = u64_saturate (n + 1)
 
 -- a line that is logged says how many were left out before it
 abbrev pub asked_by : Bool → Limit → ℕ → Limit × Option ℕ

@@ -1,5 +1,6 @@
 -- The lines of a run, and what they are a function of (this gateway's own profile).
-use Rattle.std.specs.Prelude.{◌≡◌, ℕ, ◌-◌, ◌^◌, min, not, ◌&&◌, Bool, true, false, List, ◌∷◌}
+use Rattle.std.specs.Io.Iter.{u64_saturate}
+use Rattle.std.specs.Prelude.{◌≡◌, ℕ, ◌-◌, ◌^◌, not, ◌&&◌, Bool, true, false, List, ◌∷◌}
 use Rattle.std.specs.Prelude.{length, Option, Some, None, if◌then◌else◌}
 use Rattle.events.specs.Queue.{kept as pieces_kept}
 use Rattle.gateway.specs.Log.{Output}
@@ -70,7 +71,7 @@ PutsGone false old now action new = new ≡ old
 
 -- a number as it is logged: past the greatest of its type it stays there
 abbrev pub counted : ℕ → ℕ
-counted n = min n (2 ^ 64 - 1)
+counted n = u64_saturate n
 
 abbrev pub taken_in : State → ℕ
 taken_in gateway = counted (length (pieces_kept gateway.centre.queue))

@@ -1,5 +1,6 @@
 -- Which line follows from what passes the port (this gateway's own profile).
-use Rattle.std.specs.Prelude.{ℕ, ◌+◌, ◌-◌, ◌^◌, ◌==◌, min, nat_le, nat_lt, Bool, true, false, List}
+use Rattle.std.specs.Io.Iter.{u64_saturate}
+use Rattle.std.specs.Prelude.{ℕ, ◌+◌, ◌-◌, ◌^◌, ◌==◌, nat_le, nat_lt, Bool, true, false, List}
 use Rattle.std.specs.Prelude.{map, take, slice_get, slice_set, Option, Some, None, is_some}
 use Rattle.std.specs.Prelude.{option_map, if◌then◌else◌}
 use Rattle.ft12.specs.declared.frame.LinkSize.{LinkSize}
@@ -266,7 +267,7 @@ walled now shown w = record w { wall = Some (record { moment = now; shown = show
 
 -- what it shows at the moment of the latest event, as the run's clock has gone on since
 abbrev pub wall_at : (now : ℕ) → WallShown → ℕ
-wall_at now wall = min (wall.shown + (now - wall.moment)) (2 ^ 64 - 1)
+wall_at now wall = u64_saturate (wall.shown + (now - wall.moment))
 
 abbrev pub wall_of : Watching → Option ℕ
 wall_of w = option_map (wall_at w.moment) w.wall

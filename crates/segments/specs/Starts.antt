@@ -1,5 +1,6 @@
 -- What a start finds in a file (profile).
-use Rattle.std.specs.Prelude.{◌≡◌, ◌⊎◌, Bool, true, false, not, ◌||◌, ℕ, ◌+◌, ◌==◌, ◌<◌, ◌≤◌, min}
+use Rattle.std.specs.Io.Iter.{u64_saturate}
+use Rattle.std.specs.Prelude.{◌≡◌, ◌⊎◌, Bool, true, false, not, ◌||◌, ℕ, ◌+◌, ◌==◌, ◌<◌, ◌≤◌}
 use Rattle.std.specs.Prelude.{List, length, slice_index, take, position, Option, Some, None}
 use Rattle.sqlite_disk.specs.Disk.{Holds}
 use Rattle.statetext.specs.Sum.{sum_of}
@@ -89,7 +90,7 @@ ArePlaced sides.Db log db newest other = (newest ≡ db) × (other ≡ log)
 -- greatest of 64 bits
 abbrev pub IsAbove : ℕ → List ℕ → Type 0
 IsAbove number file = (head : SegmentHead) → Fits head → Holds file 0 (head_of head) →
-    min (head.number + 1) 18446744073709551615 ≤ number
+    u64_saturate (head.number + 1) ≤ number
 
 -- The other file is shut, or begins with the first line of a segment that isn't newer: so no newer
 -- one than the newest ever stood there.

@@ -1,7 +1,8 @@
 //! What a start finds in the two files.
 ghost use Rattle.std.specs.Option.{ForSome, is_some};
+ghost use Rattle.std.specs.Io.Iter.{u64_saturate};
 ghost use Rattle.std.specs.Prelude.{◌≡◌, ◌==◌, ℕ, ◌+◌, ◌-◌, ◌<◌, ◌≤◌, ◌^◌, false, true, List, None};
-ghost use Rattle.std.specs.Prelude.{drop, length, min, take, position, IsTrue, IfOk, IfNone};
+ghost use Rattle.std.specs.Prelude.{drop, length, take, position, IsTrue, IfOk, IfNone};
 ghost use Rattle.std.specs.Prelude.{IfSome};
 ghost use Rattle.std.specs.Prelude.{if◌then◌else◌};
 ghost use Rattle.sqlite_disk.specs.Disk.{Holds};
@@ -445,7 +446,7 @@ impl<D: Disk + Drop> Start<D> {
         requires other { IsTrue (D.Disk.is_clean older) → IsHeadIn (D.Disk.seen older) other_front }
         requires fits { FitsIn front }
         requires order { number_in other_front ≤ number_in front }
-        requires above { min (number_in front + 1) 18446744073709551615 ≤ number }
+        requires above { u64_saturate (number_in front + 1) ≤ number }
         ensures placed { (log db : List ℕ) →
             ArePlaced side log db (D.Disk.seen newer) (D.Disk.seen older) →
             IfOk result (λ s. ArePlaced s.side log db (newest_in s) (other_in s)) }

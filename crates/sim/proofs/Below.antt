@@ -11,7 +11,7 @@ use Rattle.link.specs.Outstation.{OutstationRun, all_done}
 use Rattle.link.specs.Delivery.{reports, commands}
 use Rattle.link.specs.Secondary.{Secondary, outstation_of}
 use Rattle.link.specs.Life.{Call, after, requests_received, turns_in, given1, given2, reported1}
-use Rattle.link.specs.Life.{reported2, saturated}
+use Rattle.link.specs.Life.{reported2, u64_saturate}
 
 -- whatever it is called for, a station keeps its size of addresses
 abbrev pub KeepsSize : Type 0
@@ -43,6 +43,7 @@ pub record Laws : Type 0 where
   pub accepted : (s : Secondary) (calls : List Call) → s.given < 2 ^ 64
       → s.accepted ++ commands (all_done (turns_in s calls)) ≡ (after s calls).accepted
   pub given : (s : Secondary) (calls : List Call) → s.given < 2 ^ 64
-      → (after s calls).given ≡ saturated (s.given + length (reports (all_done (turns_in s calls))))
+      → (after s calls).given
+      ≡ u64_saturate (s.given + length (reports (all_done (turns_in s calls))))
   pub address : (s : Secondary) (calls : List Call) → (after s calls).address ≡ s.address
   pub size : KeepsSize

@@ -11,7 +11,7 @@ use Rattle.link.specs.declared.service.Asked.TheVariants.{Status, Reset, Counted
 use Rattle.link.specs.declared.answer.Answer.{Answer}
 use Rattle.link.specs.declared.answer.Answer.TheVariants.{Ready, Confirmed, Busy, Report, NoData}
 use Rattle.link.specs.declared.answer.Answer.TheVariants.{Unable}
-use Rattle.link.specs.Counts.{saturated}
+use Rattle.std.specs.Io.Iter.{u64_saturate}
 use Rattle.link.specs.Delivery.{Session, with_first, before_reset, sessions, is_reset, learnt_by}
 use Rattle.link.specs.Delivery.{learnt, reports, is_gap, pending_by, pending_after}
 use Rattle.link.specs.Exchanges.{Exchange, answer_to}
@@ -32,27 +32,28 @@ abbrev pub tally_over : (a given : ℕ) → StationTally → List Exchange → L
 tally_over a given t [] turns = t
 tally_over a given t (x ∷ xs) [] = t
 tally_over a given t (x ∷ xs) (turn ∷ turns) = tally_over a (given + length (reports turn.done))
-    (tally_step a x (saturated given) t) xs turns
+    (tally_step a x (u64_saturate given) t) xs turns
 
 pub over_snoc : (a given : ℕ) (t : StationTally) (xs : List Exchange) (turns : List Turn)
     (x : Exchange)
     (turn : Turn)
     → length turns ≡ length xs →
     tally_over a given t (xs ++ x ∷ []) (turns ++ turn ∷ [])
-    ≡ tally_step a x (saturated (given + length (reports (all_done turns))))
+    ≡ tally_step a x (u64_saturate (given + length (reports (all_done turns))))
     (tally_over a given t xs turns)
 over_snoc a given t [] [] x turn e = let same : given ≡ given + 0 = omega arith in
-    ap (λ (n : ℕ). tally_step a x (saturated n) t) same
+    ap (λ (n : ℕ). tally_step a x (u64_saturate n) t) same
 over_snoc a given t [] (u ∷ us) x turn e = absurd (omega arith)
 over_snoc a given t (y ∷ ys) [] x turn e = absurd (omega arith)
 over_snoc a given t (y ∷ ys) (u ∷ us) x turn e =
     let sum : (given + length (reports u.done)) + length (reports (all_done us))
     ≡ given + length (reports (u.done ++ all_done us)) =
     omega (arith, length_more u.done (all_done us)) in
-    over_snoc a (given + length (reports u.done)) (tally_step a y (saturated given) t) ys us x turn
+    over_snoc a (given + length (reports u.done)) (tally_step a y (u64_saturate given) t) ys us x
+    turn
     (omega arith)
-    ∙ ap (λ (n : ℕ). tally_step a x (saturated n) (tally_over a (given + length (reports u.done))
-    (tally_step a y (saturated given) t) ys us)) sum
+    ∙ ap (λ (n : ℕ). tally_step a x (u64_saturate n) (tally_over a (given + length (reports u.done))
+    (tally_step a y (u64_saturate given) t) ys us)) sum
 
 -- One exchange
 
@@ -286,17 +287,17 @@ counts_reset : (a given : ℕ) (t s : StationTally) (pending : Option Service) (
     t.is_polled ≡ is_gap pending → learnt_by x.request (answer_to a x) ≡ []
     → pending_by x.request (answer_to a x) None ≡ None →
     Counts a (given + length (reports turn.done))
-    (tally_reset (record t { given = saturated given })) s None here ss →
+    (tally_reset (record t { given = u64_saturate given })) s None here ss →
     Counts a given t s pending (record { exchanges = []; turns = [] }) (with_first x turn here ∷ ss)
 counts_reset a given t s pending x turn here ss lt few less polled learns after h = record {
-  sessions = let all : s.sessions ≡ saturated (t.sessions + 1) + length ss = h.sessions in
+  sessions = let all : s.sessions ≡ u64_saturate (t.sessions + 1) + length ss = h.sessions in
       omega arith;
   gaps = gaps_so ss h.gaps;
   lost = lost_so ss h.lost;
 }
   where
     mid : StationTally
-    mid = tally_reset (record t { given = saturated given })
+    mid = tally_reset (record t { given = u64_saturate given })
 
     opened : not (mid.sessions == 0) ≡ true
     opened = let some : mid.sessions ≡ 0 → ⊥ = λ e. omega arith in
@@ -306,11 +307,11 @@ counts_reset a given t s pending x turn here ss lt few less polled learns after 
     gap = if is_gap pending && not (t.sessions == 0) then 1 else 0
 
     mid_gaps : mid.gaps ≡ t.gaps + gap
-    mid_gaps = ap (λ (b : Bool). if b && not (t.sessions == 0) then saturated (t.gaps + 1)
+    mid_gaps = ap (λ (b : Bool). if b && not (t.sessions == 0) then u64_saturate (t.gaps + 1)
         else t.gaps) polled
         ∙ go (is_gap pending && not (t.sessions == 0))
       where
-        go : (b : Bool) → (if b then saturated (t.gaps + 1) else t.gaps)
+        go : (b : Bool) → (if b then u64_saturate (t.gaps + 1) else t.gaps)
             ≡ t.gaps + (if b then 1 else 0)
         go true = omega arith
         go false = omega arith
@@ -413,7 +414,7 @@ counted a given t pending (x ∷ xs) (turn ∷ turns) long below polled =
     (omega arith) under same)
   where
     mid : StationTally
-    mid = tally_step a x (saturated given) t
+    mid = tally_step a x (u64_saturate given) t
 
     end : StationTally
     end = tally_over a (given + length (reports turn.done)) mid xs turns
@@ -435,12 +436,12 @@ counted a given t pending (x ∷ xs) (turn ∷ turns) long below polled =
         (if b then with_first x turn (before_reset a xs turns) ∷ sessions a xs turns
         else sessions a xs turns)
     go true now all_rest =
-        let first = begins x.request (answer_to a x) (saturated given) t now in
+        let first = begins x.request (answer_to a x) (u64_saturate given) t now in
         let sum : given + given_here (turn ∷ turns) < 2 ^ 64 = below.gives in
         let few : t.sessions + length (x ∷ xs) < 2 ^ 64 = below.sessions in
         let less : t.gaps + length (x ∷ xs) < 2 ^ 64 = below.gaps in
         let rarely : t.taken + length (x ∷ xs) < 2 ^ 64 = below.taken in
-        let next : StationTally = tally_reset (record t { given = saturated given }) in
+        let next : StationTally = tally_reset (record t { given = u64_saturate given }) in
         let room : AreBelow (given + length (reports turn.done)) next xs turns = record {
           sessions = omega arith;
           gaps = below_gaps (t.is_polled && not (t.sessions == 0)) less;
@@ -461,7 +462,7 @@ counted a given t pending (x ∷ xs) (turn ∷ turns) long below polled =
         (sessions a xs turns)) (sym first.is) rest)
       where
         below_gaps : (b : Bool) → t.gaps + length (x ∷ xs) < 2 ^ 64
-            → (if b then saturated (t.gaps + 1) else t.gaps) + length xs < 2 ^ 64
+            → (if b then u64_saturate (t.gaps + 1) else t.gaps) + length xs < 2 ^ 64
         below_gaps true lt = omega arith
         below_gaps false lt = omega arith
     go false still all_rest =
@@ -469,7 +470,8 @@ counted a given t pending (x ∷ xs) (turn ∷ turns) long below polled =
         let less : t.gaps + length (x ∷ xs) < 2 ^ 64 = below.gaps in
         let rarely : t.taken + length (x ∷ xs) < 2 ^ 64 = below.taken in
         let sum : given + given_here (turn ∷ turns) < 2 ^ 64 = below.gives in
-        let on = goes_on x.request (answer_to a x) (saturated given) pending t still (omega arith)
+        let on = goes_on x.request (answer_to a x) (u64_saturate given) pending t still
+        (omega arith)
         polled in
         let same : mid.sessions ≡ t.sessions = on.sessions in
         let as_many : mid.gaps ≡ t.gaps = on.gaps in

@@ -11,7 +11,7 @@ use Rattle.ft12.specs.declared.frame.Frame.{Frame}
 use Rattle.ft12.specs.Fronts.{front_of}
 use Rattle.ft12.specs.Spelling.{Fits}
 use Rattle.link.specs.declared.service.Asked.{Asked}
-use Rattle.link.specs.Counts.{saturated}
+use Rattle.std.specs.Io.Iter.{u64_saturate}
 use Rattle.link.specs.Delivery.{requests_of, reports}
 use Rattle.link.specs.Life.{Receive}
 use Rattle.link.specs.Exchanges.{Exchange, Exchanges, OpenExchange, Sending, as_list, all_of}
@@ -459,7 +459,7 @@ serves_none p rs more old new waiting next i first s t before tally h none same 
     }
 
 given_more : (n m : ℕ) (turns : List Turn) (turn : Turn) → n ≡ given_by_turns turns
-    → m ≡ saturated (n + length (reports turn.done)) → m ≡ given_by_turns (turns ++ turn ∷ [])
+    → m ≡ u64_saturate (n + length (reports turn.done)) → m ≡ given_by_turns (turns ++ turn ∷ [])
 given_more n m turns turn e f =
     let sum : length (reports (all_done (turns ++ turn ∷ [])))
     ≡ length (reports (all_done turns)) + length (reports turn.done) = done_more turns in

@@ -13,7 +13,7 @@ use Rattle.link.specs.declared.answer.Answer.TheVariants.{Unable}
 use Rattle.link.specs.declared.service.Asked.{Asked}
 use Rattle.link.specs.Delivery.{requests_of, reports}
 use Rattle.link.specs.Exchanges.{answer_to, all_of}
-use Rattle.link.specs.Life.{given1, given2, saturated}
+use Rattle.link.specs.Life.{given1, given2, u64_saturate}
 use Rattle.link.specs.Outstation.{Turn, OutstationRun, unreset, all_done}
 use Rattle.link.specs.Secondary.{Secondary, fresh_station, outstation_of}
 use Rattle.gateway.specs.declared.settings.StationSettings.{StationSettings}
@@ -256,7 +256,7 @@ served_so laws delivers steadies known idle losses c ds log waiting i s t faithf
             ∙ all.class2,
       );
       reported = reported_all i ds;
-      given = all.given ∙ ap saturated (zero-add (length (reports (all_done h.turns))));
+      given = all.given ∙ ap u64_saturate (zero-add (length (reports (all_done h.turns))));
       accepted = sym all.accepted;
       sessions_known = known p log i h.turns faithful lt honest;
       steady = steady;

@@ -12,7 +12,7 @@ use Rattle.ft12.specs.declared.frame.Front.TheVariants.{Whole}
 use Rattle.ft12.specs.Fronts.{front_of}
 use Rattle.link.specs.declared.service.Asked.{Asked}
 use Rattle.link.specs.Answers.{answer_of}
-use Rattle.link.specs.Counts.{saturated}
+use Rattle.std.specs.Io.Iter.{u64_saturate}
 use Rattle.link.specs.Delivery.{reports}
 use Rattle.link.specs.Exchanges.{OpenExchange, Exchanges, Sending, as_list, all_of, received_octets}
 use Rattle.link.specs.Exchanges.{received_current, timed_current, whole_of, view}
@@ -42,7 +42,7 @@ tally_ended p i ended turns = tally_over (address_at p.addresses i) 0 fresh_tall
     (its p.link.size i ended) turns
 
 abbrev pub given_by_turns : List Turn → ℕ
-given_by_turns turns = saturated (length (reports (all_done turns)))
+given_by_turns turns = u64_saturate (length (reports (all_done turns)))
 
 -- after all
 abbrev pub IsTallied : (p : Setup) (i : ℕ) (e : Exchanges) (turns : List Turn)
@@ -230,7 +230,7 @@ tally_all p i e turns waiting h t is = is ∙ go e.current h.latest
         by true same k =
             sym (over_snoc a 0 fresh_tally (its p.link.size i e.ended) h.done
             (view (front_of p.link.size) x).exchange k.0 h.long
-            ∙ ap (λ (n : ℕ). tally_step a (view (front_of p.link.size) x).exchange (saturated n)
+            ∙ ap (λ (n : ℕ). tally_step a (view (front_of p.link.size) x).exchange (u64_saturate n)
             (tally_ended p i e.ended h.done)) (let sum : 0 + length (reports (all_done h.done))
             ≡ length (reports (all_done h.done)) = omega arith in sum))
             ∙ ap

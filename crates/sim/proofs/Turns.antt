@@ -11,7 +11,7 @@ use Rattle.link.specs.declared.request.Reading.{Reading}
 use Rattle.link.specs.declared.request.Reading.TheVariants.{Asks}
 use Rattle.link.specs.Delivery.{reports, commands, given_by, accepted_by}
 use Rattle.link.specs.Life.{Call, Receive, request_asked, turn_asked, given1_at, given2_at, given1}
-use Rattle.link.specs.Life.{given2, saturated}
+use Rattle.link.specs.Life.{given2, u64_saturate}
 use Rattle.link.specs.Outstation.{Effect, Turn, silent, OutstationStep, OutstationRun, unreceived}
 use Rattle.link.specs.Outstation.{all_done}
 use Rattle.link.specs.Requests.{reading_of}
@@ -30,7 +30,7 @@ pub record Did (s : Secondary) (request : Asked) (turn : Turn) (t : Secondary) :
   class1 : given1_at request turn ++ t.class1 ≡ s.class1
   class2 : given2_at request turn ++ t.class2 ≡ s.class2
   accepted : s.accepted ++ commands turn.done ≡ t.accepted
-  pub given : t.given ≡ saturated (s.given + length (reports turn.done))
+  pub given : t.given ≡ u64_saturate (s.given + length (reports turn.done))
 
 did_nothing : (s : Secondary) (request : Asked) → s.given < 2 ^ 64 → Did s request silent s
 did_nothing s Status lt = record {
@@ -103,9 +103,10 @@ did_served laws s request granted readable lt =
     let accepts : s.accepted ++ commands (turn.done ++ []) ≡ t.accepted =
     subst (λ (m : Reading). s.accepted ++ commands (all_done (turn_asked granted s m ++ []))
     ≡ (received_reading granted s m).state.accepted) readable.1 (laws.accepted s calls lt) in
-    let gives : t.given ≡ saturated (s.given + length (reports (turn.done ++ []))) =
+    let gives : t.given ≡ u64_saturate (s.given + length (reports (turn.done ++ []))) =
     subst (λ (m : Reading). (received_reading granted s m).state.given
-    ≡ saturated (s.given + length (reports (all_done (turn_asked granted s m ++ []))))) readable.1
+    ≡ u64_saturate (s.given + length (reports (all_done (turn_asked granted s m ++ [])))))
+    readable.1
     (laws.given s calls lt) in
     record {
       step = subst (λ o. OutstationStep s.address (outstation_of s) request turn o) (sym run.2)
@@ -121,7 +122,7 @@ did_served laws s request granted readable lt =
           ∙ append-nil s.class2;
       accepted = ap (λ (l : List Effect). s.accepted ++ commands l) (sym (append-nil turn.done))
           ∙ accepts;
-      given = gives ∙ ap (λ (l : List Effect). saturated (s.given + length (reports l)))
+      given = gives ∙ ap (λ (l : List Effect). u64_saturate (s.given + length (reports l)))
           (append-nil turn.done);
     }
 
@@ -144,7 +145,7 @@ pub record DidAll (s : Secondary) (requests : List Asked) (turns : List Turn) (t
   pub class1 : given1 requests turns ++ t.class1 ≡ s.class1
   pub class2 : given2 requests turns ++ t.class2 ≡ s.class2
   pub accepted : s.accepted ++ commands (all_done turns) ≡ t.accepted
-  pub given : t.given ≡ saturated (s.given + length (reports (all_done turns)))
+  pub given : t.given ≡ u64_saturate (s.given + length (reports (all_done turns)))
 
 commands_more : (first rest : List Effect) → commands (first ++ rest)
     ≡ commands first ++ commands rest
@@ -164,11 +165,11 @@ pub length_more : (first rest : List Effect) → length (reports (first ++ rest)
 length_more first rest = ap length (reports_more first rest)
     ∙ length-append (reports first) (reports rest)
 
-count_twice : (g m n a b c : ℕ) → m ≡ saturated (g + a) → n ≡ saturated (m + b) → c ≡ a + b
-    → n ≡ saturated (g + c)
+count_twice : (g m n a b c : ℕ) → m ≡ u64_saturate (g + a) → n ≡ u64_saturate (m + b) → c ≡ a + b
+    → n ≡ u64_saturate (g + c)
 count_twice g m n a b c p q r = omega arith
 
-small_count : (n m : ℕ) → n ≡ saturated m → n < 2 ^ 64
+small_count : (n m : ℕ) → n ≡ u64_saturate m → n < 2 ^ 64
 small_count n m e = omega arith
 
 -- a request, and what those after it do

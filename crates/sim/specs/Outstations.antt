@@ -7,7 +7,7 @@ use Rattle.link.specs.Exchanges.{Sending}
 use Rattle.link.specs.Outstation.{Turn, silent, all_done}
 use Rattle.link.specs.Delivery.{requests_of, reports, commands, learnt, sessions, HasReports}
 use Rattle.link.specs.Delivery.{AcceptsSendings}
-use Rattle.link.specs.Life.{given1, given2, saturated}
+use Rattle.link.specs.Life.{given1, given2, u64_saturate}
 use Rattle.link.specs.Secondary.{Secondary, fresh_station, served}
 use Rattle.gateway.specs.declared.settings.Silence.TheVariants.{Hold}
 use Rattle.gateway.specs.Config.{Settings}
@@ -112,7 +112,7 @@ pub record HasServed (c : Settings) (ds : List Directive) (log : Log) (index : �
   -- the numbers of its closing line
   pub reported : count_by (reports_for index) ds
       ≡ length (flat_map (report_said index One) ds) + length (flat_map (report_said index Two) ds)
-  pub given : s.given ≡ saturated (length (reports (all_done turns)))
+  pub given : s.given ≡ u64_saturate (length (reports (all_done turns)))
   pub accepted : s.accepted ≡ commands (all_done turns)
   pub sessions_known : HasSessions (setup_of c) log index turns
   -- What was counted is what the sessions say. Of the reports that it gave in sessions that ended,

@@ -12,7 +12,7 @@ use Rattle.link.specs.declared.service.Asked.TheVariants.{Status, Reset, Counted
 use Rattle.link.specs.declared.answer.Answer.{Answer}
 use Rattle.link.specs.declared.answer.Answer.TheVariants.{Confirmed, Report, Unable}
 use Rattle.link.specs.Answers.{answer_of}
-use Rattle.link.specs.Counts.{saturated}
+use Rattle.std.specs.Io.Iter.{u64_saturate}
 use Rattle.link.specs.Exchanges.{OpenExchange, Sending, whole_of}
 use Rattle.link.specs.Secondary.{Secondary}
 use Rattle.link.specs.Turns.{is_poll}
@@ -38,8 +38,8 @@ tally_asked (Counted fcb service) given t =
 -- a reset is answered: it ends the session before it, if there is one
 abbrev pub tally_reset : StationTally → StationTally
 tally_reset t = record t {
-  sessions = saturated (t.sessions + 1);
-  gaps = if t.is_polled && not (t.sessions == 0) then saturated (t.gaps + 1) else t.gaps;
+  sessions = u64_saturate (t.sessions + 1);
+  gaps = if t.is_polled && not (t.sessions == 0) then u64_saturate (t.gaps + 1) else t.gaps;
   lost = t.given - t.taken;
   is_polled = false;
 }
@@ -47,7 +47,7 @@ tally_reset t = record t {
 -- a poll or a command is answered
 abbrev pub tally_served : Service → Answer → StationTally → StationTally
 tally_served service (Report asdu) t = record t {
-  taken = if is_poll service then saturated (t.taken + 1) else t.taken;
+  taken = if is_poll service then u64_saturate (t.taken + 1) else t.taken;
   is_polled = false;
 }
 tally_served service Unable t = t

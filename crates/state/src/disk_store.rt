@@ -1,7 +1,8 @@
 //! The log of a run in two files of a directory.
+ghost use Rattle.std.specs.Io.Iter.{u64_saturate};
 ghost use Rattle.std.specs.Prelude.{◌≡◌, ◌+◌, ◌≤◌, ◌++◌, ◌∷◌, [], List, ℕ, IfOk, IfSome, IsTrue};
 ghost use Rattle.std.specs.Prelude.{OnOk};
-ghost use Rattle.std.specs.Prelude.{Some, length, min, true, false};
+ghost use Rattle.std.specs.Prelude.{Some, length, true, false};
 ghost use Rattle.gateway.specs.Restored.{state_lines};
 ghost use Rattle.segments.specs.Head.{IsWholeText, whole_text};
 ghost use Rattle.segments.specs.Segment.{durable_of, file_of, text_of};
@@ -122,7 +123,7 @@ impl<F: Folder + Drop> DiskStore<F> {
         ensures newest { result ≡ true → SpareIs newest self.new.opened }
         ensures mark { result ≡ true → F.mark self.new.folder ≡ Some false }
         ensures bears { result ≡ true → Bears self.old.number self.new.opened }
-        ensures number { self.new.number ≡ min (self.old.number + 1) 18446744073709551615 }
+        ensures number { self.new.number ≡ u64_saturate (self.old.number + 1) }
         ensures least { self.old.number ≤ self.new.number }
         ensures settings { self.new.settings ≡ self.old.settings }
     {

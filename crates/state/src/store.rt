@@ -8,7 +8,8 @@ use gateway::Gateway;
 pub trait Store {
     ghost use Rattle.gateway.specs.Restored.{state_lines};
     ghost use Rattle.state.specs.Stores.{Stored};
-    ghost use Rattle.std.specs.Prelude.{◌≡◌, ℕ, ◌+◌, ◌≤◌, min, length, List, [], ◌∷◌, ◌++◌, Option};
+    ghost use Rattle.std.specs.Io.Iter.{u64_saturate};
+    ghost use Rattle.std.specs.Prelude.{◌≡◌, ℕ, ◌+◌, ◌≤◌, length, List, [], ◌∷◌, ◌++◌, Option};
     ghost use Rattle.std.specs.Prelude.{Some, Bool, true, false};
 
     ghost stored: { Self → Stored };
@@ -51,7 +52,7 @@ pub trait Store {
         ensures mark { result ≡ true → mark self.new ≡ Some false }
         ensures bears { result ≡ true → bears self.new (next self.old) }
         ensures above { result ≡ true →
-            min (next self.old + 1) 18446744073709551615 ≤ next self.new }
+            u64_saturate (next self.old + 1) ≤ next self.new }
         ensures next { next self.old ≤ next self.new }
         ensures settings { settings self.new ≡ settings self.old };
 

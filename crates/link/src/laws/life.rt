@@ -11,7 +11,7 @@ ghost use Rattle.link.specs.Tidings.{IsNew, IsNewReading, bit_of, answer_after, 
 ghost use Rattle.link.specs.Tidings.{do_wait, ShowsFlags, oldest, IsAnsweredBy};
 ghost use Rattle.link.specs.Life.{Call, Receive, after, requests_received, turns_in, given1};
 ghost use Rattle.link.specs.Life.{given2};
-ghost use Rattle.link.specs.Life.{reported1, reported2, saturated};
+ghost use Rattle.link.specs.Life.{reported1, reported2, u64_saturate};
 
 /// Whatever it is called for, a station runs as the outstation that a primary counts on, and hears
 /// each request to it. It gives the reports of each class in order, each once. Its address and its
@@ -29,7 +29,7 @@ pub fn station_is_an_outstation()
     ensures accepted { (s : Secondary) (calls : List Call) → s.given < 2 ^ 64 →
         s.accepted ++ commands (all_done (turns_in s calls)) ≡ (after s calls).accepted }
     ensures given { (s : Secondary) (calls : List Call) → s.given < 2 ^ 64 →
-        (after s calls).given ≡ saturated
+        (after s calls).given ≡ u64_saturate
         (s.given + length (reports (all_done (turns_in s calls)))) }
     ensures address { (s : Secondary) (calls : List Call) → (after s calls).address ≡ s.address }
     ensures size { (s : Secondary) (calls : List Call) → (after s calls).size ≡ s.size }

@@ -4,7 +4,7 @@ ghost use Rattle.std.specs.Prelude.{All};
 ghost use Rattle.std.specs.Prelude.{length, slice_index, Option, Some, None};
 ghost use Rattle.ft12.specs.declared.frame.Front.{Front};
 ghost use Rattle.ft12.specs.Fronts.{front_of};
-ghost use Rattle.link.specs.Counts.{saturated};
+ghost use Rattle.std.specs.Io.Iter.{u64_saturate};
 ghost use Rattle.link.specs.Exchanges.{Exchanges, OpenExchange, Sending, IsOutstanding};
 ghost use Rattle.link.specs.Exchanges.{IsUnanswered, no_exchanges, answer_to, all_of, view, views};
 ghost use Rattle.link.specs.Exchanges.{with_station, received_octets, timed, is_spoilt};
@@ -114,7 +114,7 @@ pub fn spoilt_exchanges_are_counted()
         0 < length addresses → All (FitsAddress settings.size) addresses →
         MayCallAll (start settings addresses) calls →
         (called_all (start settings addresses) calls).spoilt
-        ≡ saturated (spoilt_count (front_of settings.size) (λ i. slice_index addresses i)
+        ≡ u64_saturate (spoilt_count (front_of settings.size) (λ i. slice_index addresses i)
         (all_of (exchanged_all (start settings addresses) calls no_exchanges))) }
     ensures spoilt { (front : List ℕ → Front) (address : ℕ) (x : OpenExchange) →
         (is_spoilt front address x ≡ true) ↔
