@@ -8,7 +8,7 @@ use Rattle.apci.specs.declared.apdu.Uf.TheVariants.{StartAct, StartCon, StopAct,
 use Rattle.apci.specs.declared.apdu.Uf.TheVariants.{TestCon}
 use Rattle.apci.specs.declared.apdu.Apdu.TheVariants.{I, U}
 use Rattle.apci.specs.Spelling.{spelling, Fits}
-use Rattle.apci.specs.Examples.{IsSpelledSo, IsInformation, DifferFormats, IsRefusedSo}
+use Rattle.apci.specs.Examples.{IsSpelledSo, IsInformation, DistinctFormats, IsRefusedSo}
 use Rattle.apci.specs.Examples.{spelling_examples, refusal_examples}
 
 pub spellings_hold : AllByRecursion IsSpelledSo spelling_examples
@@ -53,7 +53,7 @@ unnumbered StopCon = refl
 unnumbered TestAct = refl
 unnumbered TestCon = refl
 
-pub formats_hold : DifferFormats
+pub formats_hold : DistinctFormats
 formats_hold = record {
   information = information;
   carried =

@@ -61,7 +61,7 @@ pub record IsInformation (octets : List ℕ) : Type 0 where
 
 -- The two lowest bits of the first control octet tell the format: 01 of an S format, 11 of a U
 -- format (5).
-pub record DifferFormats : Type 0 where
+pub record DistinctFormats : Type 0 where
   pub information : (ns nr : ℕ) (asdu : ArrayVec ℕ) → Fits (I ns nr asdu) →
       IsInformation (spelling (I ns nr asdu))
   -- each ASDU of 9 to 249 octets is carried (5.1)

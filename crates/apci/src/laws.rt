@@ -10,7 +10,7 @@ ghost use Rattle.apci.specs.Reading.{IsFront};
 ghost use Rattle.apci.specs.Places.{HavePlaces};
 ghost use Rattle.apci.specs.Refusals.{RefuseOctets};
 ghost use Rattle.std.specs.List.{AllByRecursion};
-ghost use Rattle.apci.specs.Examples.{IsSpelledSo, DifferFormats, IsRefusedSo, spelling_examples};
+ghost use Rattle.apci.specs.Examples.{IsSpelledSo, DistinctFormats, IsRefusedSo, spelling_examples};
 ghost use Rattle.apci.specs.Examples.{refusal_examples};
 
 /// Each APDU has one spelling.
@@ -37,7 +37,7 @@ pub fn spellings_cancel()
 /// The first control octet tells the format by its two lowest bits (IEC 60870-5-104, 5), and the
 /// length of an I format has room for an ASDU.
 pub fn formats_are_distinct()
-    ensures { DifferFormats }
+    ensures { DistinctFormats }
 {}
 
 /// An assembler that is fed the octets of an APDU, with anything behind them, hears that APDU,

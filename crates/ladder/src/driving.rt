@@ -21,7 +21,7 @@ const PART: u64 = 256;
 /// nothing more is printed, and the run goes on to its end: the second answer is whether all was
 /// printed. After `Device`, which says that the port failed or memory was refused to a line, what
 /// was printed are the lines of the run up to some turn before.
-pub fn drive_logged<P: Paged + Drop, W: Write>(
+pub fn drive_in_words<P: Paged + Drop, W: Write>(
     gateway: &mut Gateway,
     ladder: &mut Ladder<P>,
     turns: u64,

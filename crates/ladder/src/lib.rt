@@ -4,7 +4,7 @@
 //! unchanged, so what is proved of a run over a port holds of a run over it, and puts a line for
 //! each on a page of its own, with the frame as `words` has it. A [`Scribe`] remembers what is
 //! wanted for that: what came of a frame so far, and which request waits for an answer.
-//! [`drive_logged`] drives a gateway over a ladder and prints the lines while the run goes on.
+//! [`drive_in_words`] drives a gateway over a ladder and prints the lines while the run goes on.
 //!
 //! Proved: the log, the script and the failures are the inner port's, and the text that was printed
 //! is that of the run's log (`IsLadder`), line by line in its order: each event and action once,
@@ -21,7 +21,7 @@ mod rungs;
 mod scribe;
 mod taken;
 
-pub use driving::drive_logged;
+pub use driving::drive_in_words;
 pub use ladder::Ladder;
 pub use rungs::Style;
 pub use scribe::Scribe;

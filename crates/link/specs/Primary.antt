@@ -164,8 +164,11 @@ phase_after answer phase = phase
 -- A confirmed reset begins the next session. What a poll asked for is known once it is answered,
 -- save that it couldn't be served.
 unfoldable pub session_answered : SessionState → Asked → Answer → SessionState
-session_answered s Reset Confirmed = record { number = u64_saturate (s.number + 1); has_gap =
-    false }
+session_answered s Reset Confirmed = record {
+  number = u64_saturate (s.number + 1);
+  has_gap =
+      false;
+}
 session_answered s (Counted fcb service) Unable = s
 session_answered s (Counted fcb service) answer = record { number = s.number; has_gap = false }
 session_answered s request answer = s

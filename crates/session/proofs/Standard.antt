@@ -24,7 +24,7 @@ use Rattle.session.specs.History.{still_unacknowledged, is_valid_receive_number,
 use Rattle.session.specs.History.{confirmation_of, stop_confirmation_of, acknowledgement_of}
 use Rattle.session.specs.History.{function_of, has_passed, moments_of, moment_of, has_timed_out}
 use Rattle.session.specs.History.{is_acknowledgement_due, frame_due, newly_acknowledged}
-use Rattle.session.specs.Laws.{newly_acknowledged_by, LogsAcknowledged}
+use Rattle.session.specs.Laws.{newly_acknowledged_by, MatchesAcknowledged}
 use Rattle.session.specs.Runs.{Settings, IsInRange}
 use Rattle.session.proofs.Keeps.{Keeps, valid_in, reaches, three_tests, one_test, first_moment}
 
@@ -96,7 +96,7 @@ after frame now s =
 logs_after : (p : Settings) (s : Session) (h : History) → IsInRange p → Keeps p s h
     → (frame : Apdu) (now : ℕ)
     → refuses s frame ≡ false
-    → LogsAcknowledged (newly_acknowledged_by frame h) (after frame now s)
+    → MatchesAcknowledged (newly_acknowledged_by frame h) (after frame now s)
 logs_after p s h range keeps (I ns nr asdu) now passes =
     logs (newly nr s) s.unacknowledged (newly_acknowledged nr h) (omega arith)
     (newly_is nr p s h range keeps (three_tests _ _ (is_valid nr s) passes))
@@ -113,13 +113,13 @@ logs_after p s h range keeps (U TestCon) now passes = (refl, refl)
 pub acknowledges : (p : Settings) (s : Session) (h : History) → IsInRange p → Keeps p s h
     → (frame : Apdu) (now : ℕ)
     → refuses s frame ≡ false
-    → LogsAcknowledged (newly_acknowledged_by frame h) (taken frame now s)
+    → MatchesAcknowledged (newly_acknowledged_by frame h) (taken frame now s)
 acknowledges p s h range keeps frame now passes =
     let is : taken frame now s ≡ after frame now s = ap
     (λ (b : Bool). cond b (session.acknowledged 0 (record s { last_frame = now }))
     (after frame now s)) passes
     in
-    subst (LogsAcknowledged (newly_acknowledged_by frame h)) (sym is)
+    subst (MatchesAcknowledged (newly_acknowledged_by frame h)) (sym is)
     (logs_after p s h range keeps frame now passes)
 
 -- ---- 5.2: t1

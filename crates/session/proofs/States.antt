@@ -8,7 +8,7 @@ use Rattle.session.specs.declared.kinds.Transfer.{Transfer}
 use Rattle.session.specs.declared.kinds.Transfer.TheVariants.{Closed, Stopped, Started, Stopping}
 use Rattle.session.specs.Session.{Session, opens, transfers, stops, is_open, turned_to, refuses}
 use Rattle.session.specs.Session.{taken, after_frame, acknowledged, newly_by}
-use Rattle.session.specs.Laws.{LogsAcknowledged}
+use Rattle.session.specs.Laws.{MatchesAcknowledged}
 use Rattle.session.specs.Ends.{IsSilent}
 
 pub transferring_opens : (t : Transfer) → transfers t ≡ true → opens t ≡ true
@@ -57,7 +57,7 @@ taken_opens frame now s = by (refuses s frame) refl
         (opens_after frame now (acknowledged (newly_by frame s) (record s { last_frame = now })))
 
 pub refused_acknowledges : (frame : Apdu) (now : ℕ) (s : Session) → refuses s frame ≡ true
-    → LogsAcknowledged [] (taken frame now s)
+    → MatchesAcknowledged [] (taken frame now s)
 refused_acknowledges frame now s e = rw e (refl, refl)
 
 pub silent : (now : ℕ) (s : Session) → is_open s ≡ false → IsSilent now s

@@ -19,12 +19,12 @@ newly_acknowledged_by (S nr) h = newly_acknowledged nr h
 newly_acknowledged_by (U function) h = []
 
 -- so many frames of the queue, and so many own ones, are told as acknowledged
-abbrev pub LogsAcknowledged : List Unacknowledged → Session → Type 0
-LogsAcknowledged frames s =
+abbrev pub MatchesAcknowledged : List Unacknowledged → Session → Type 0
+MatchesAcknowledged frames s =
     (s.acked_queue ≡ from_queue frames) × (s.acked_own ≡ length frames - from_queue frames)
 
 -- a frame that is taken acknowledges what its N(R) counts
 abbrev pub Acknowledges : Session → History → Type 0
 Acknowledges s h =
     (frame : Apdu) (now : ℕ) → refuses s frame ≡ false →
-    LogsAcknowledged (newly_acknowledged_by frame h) (taken frame now s)
+    MatchesAcknowledged (newly_acknowledged_by frame h) (taken frame now s)

@@ -14,7 +14,7 @@ ghost use Rattle.session.specs.History.{IsNumbered, sent_frames, received_count,
 ghost use Rattle.session.specs.History.{still_unacknowledged, is_started, verdict_on};
 ghost use Rattle.session.specs.History.{confirmation_of, confirmation_owed, confirmations_due};
 ghost use Rattle.session.specs.History.{confirmations_sent, has_timed_out, frame_due};
-ghost use Rattle.session.specs.Laws.{AfterEachRun, Acknowledges, LogsAcknowledged};
+ghost use Rattle.session.specs.Laws.{AfterEachRun, Acknowledges, MatchesAcknowledged};
 ghost use Rattle.session.specs.Rules.{KeepsRules};
 ghost use Rattle.session.specs.SessionLaws.{SessionLaws};
 ghost use Rattle.session.specs.Ends.{after_confirm, after_pull, IsConfirmed, IsInTime, IsSilent};
@@ -50,7 +50,7 @@ pub fn frames_are_judged()
         (frame : Apdu) → outcome_of s frame ≡ verdict_on frame h) }
     ensures acknowledged { AfterEachRun (λ p s h. Acknowledges s h) }
     ensures refused { (frame : Apdu) (now : ℕ) (s : Session) → refuses s frame ≡ true →
-        LogsAcknowledged [] (taken frame now s) }
+        MatchesAcknowledged [] (taken frame now s) }
 {}
 
 /// A frame neither opens nor closes a connection, and without one nothing is due and nothing goes

@@ -30,8 +30,8 @@ does_not_answer Up = false
 does_not_answer Silent = true
 does_not_answer Down = true
 
-abbrev pub is_unreceived : StationView → Bool
-is_unreceived station = does_not_answer station.standing
+abbrev pub is_silent : StationView → Bool
+is_silent station = does_not_answer station.standing
 
 abbrev pub stands_up : LinkState → Bool
 stands_up NotAsked = false
@@ -59,7 +59,7 @@ is_critical s =
 abbrev pub is_warning : Snapshot → Bool
 is_warning s =
     not s.line.is_there || nat_lt (s.queue.places / 2) s.queue.taken
-    || list_any is_unreceived s.stations.now
+    || list_any is_silent s.stations.now
 
 abbrev pub judgement_of : Snapshot → Judgement
 judgement_of s =

@@ -36,17 +36,17 @@ fn is_full(queue: &Queue<'_>) -> bool
 }
 
 /// It doesn't answer.
-fn is_unreceived(station: &StationView<'_>) -> bool
-    ensures { result ≡ spec.is_unreceived station.now }
+fn is_silent(station: &StationView<'_>) -> bool
+    ensures { result ≡ spec.is_silent station.now }
 {
     matches!(station.standing, LinkState::Silent | LinkState::Down)
 }
 
 /// One of them doesn't answer.
-fn has_unreceived(stations: &[StationView<'_>]) -> bool
-    ensures { result ≡ list_any spec.is_unreceived stations.now }
+fn has_silent(stations: &[StationView<'_>]) -> bool
+    ensures { result ≡ list_any spec.is_silent stations.now }
 {
-    stations.iter().any(|station| is_unreceived(station))
+    stations.iter().any(|station| is_silent(station))
 }
 
 /// It is up.
@@ -79,7 +79,7 @@ fn is_warning(snapshot: &Snapshot<'_>) -> bool
 {
     !snapshot.line.is_there
         || snapshot.queue.places / 2 < snapshot.queue.taken
-        || has_unreceived(snapshot.stations)
+        || has_silent(snapshot.stations)
 }
 
 /// What the state calls for.

@@ -15,7 +15,7 @@ use crate::recorded::{pause_before, read_part};
 use crate::replay::{advance, close, fault_in, turns_of};
 use delivery::nothing_is_lost;
 use gateway::{Config, End, Gateway, steps_keep_their_order};
-use ladder::{Ladder, Scribe, Style, drive_logged};
+use ladder::{Ladder, Scribe, Style, drive_in_words};
 use std::alloc::Global;
 use std::io::{Read, Write};
 use traces::{Blocks, Pause};
@@ -103,7 +103,7 @@ fn write_part<W: Write>(
         return Err(Fault::NoMemory);
     };
     let mut ladder = Ladder::new(pause.over(lines), scribe);
-    let (end, is_whole) = drive_logged(gateway, &mut ladder, turns, was_whole, out);
+    let (end, is_whole) = drive_in_words(gateway, &mut ladder, turns, was_whole, out);
     let _page_is_clear = ladder.page();
     let _text_is_read = ladder.port().page();
     match end {

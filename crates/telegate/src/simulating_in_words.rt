@@ -18,7 +18,7 @@ use crate::fault::Fault;
 use crate::manner::style_of;
 use crate::printed::print_closing;
 use gateway::{Config, End, Gateway};
-use ladder::{Ladder, Scribe, drive_logged};
+use ladder::{Ladder, Scribe, drive_in_words};
 use sim::{Script, Sim};
 use std::alloc::Global;
 use std::io::Write;
@@ -44,7 +44,7 @@ pub(crate) fn simulate_in_words<W: Write>(
     let scribe = Scribe::new(alloc, style_of(config, is_coloured));
     let mut ladder = Ladder::new(sim, scribe);
     let turns = script.turns();
-    let (end, is_whole) = drive_logged(&mut gateway, &mut ladder, turns, true, out);
+    let (end, is_whole) = drive_in_words(&mut gateway, &mut ladder, turns, true, out);
     let _page_is_clear = ladder.page();
     let _line_stands = ladder.port().page();
     match end {

@@ -6,7 +6,7 @@ use Rattle.gateway.specs.Reports.{Setup}
 use Rattle.gateway.specs.Runs.{MoreEvents}
 use Rattle.pages.specs.Pouring.{IsPoured}
 use Rattle.ladder.proofs.Driven.{SoFar}
-use Rattle.ladder.proofs.driving.drive_logged.Given as goal
+use Rattle.ladder.proofs.driving.drive_in_words.Given as goal
 
 abbrev pub invariant-parts : goal.invariant-parts
 invariant-parts g l = record {
