@@ -17,7 +17,7 @@ use Rattle.apci.proofs.Apdus.{odd_function}
 use Rattle.apci.proofs.EachOctet.{state_more}
 use Rattle.apci.proofs.Exact.{one_front}
 
--- Octets from which an APDU may go on are heard as no more than that.
+-- Octets from which an APDU may go on are received as no more than that.
 received_open : (octets : List ℕ) (n : ℕ) (h : Received) (after : Assembly) → IsMore octets
     → Receives [] octets n h after
     → (after.so_far ≡ Some octets) × (after.whole ≡ None)

@@ -1,4 +1,4 @@
--- The worked examples hold, and formats are told apart by their bits.
+-- The worked examples hold, and the bits of formats distinguish them.
 use Rattle.std.proofs.Common.{◌≡◌, ℕ, ◌%◌, refl, arith, rules}
 use Rattle.std.specs.Prelude.{slice_index}
 use Rattle.std.specs.List.{AllByRecursion}

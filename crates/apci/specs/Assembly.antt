@@ -15,7 +15,7 @@ pub record Assembly : Type 0 where
   pub whole : Option Apdu
   pub looked : ℕ
 
--- What is heard of a piece after the octets so far is what stands at the front of both joined. n
+-- What is received in a piece after the octets so far is what stands at the front of both joined. n
 -- octets of the piece are taken.
 abbrev pub Receives : List ℕ → List ℕ → ℕ → Received → Assembly → Type 0
 Receives so_far piece n arrived.Whole after =
@@ -40,7 +40,7 @@ HasLooked so_far piece before n (arrived.Never place why) after =
     × (after ≡ min (2 ^ 64 - 1) (before + (decides + 1 - length so_far)))
 HasLooked so_far piece before n arrived.Deaf after = ⊥
 
--- The whole APDU is heard, its octets are taken, and the octets behind it begin the next one.
+-- The whole APDU is received, its octets are taken, and the octets behind it begin the next one.
 pub record IsReceivedWhole (a : Apdu) (n : ℕ) (h : Received) (after : Assembly) : Type 0 where
   pub received_is : h ≡ arrived.Whole
   pub whole : after.whole ≡ Some a

@@ -1,4 +1,4 @@
--- APDUs worked by hand from IEC 60870-5-104, 5: their octets, and what tells their formats apart.
+-- APDUs worked by hand from IEC 60870-5-104, 5: their octets, and what distinguishes their formats.
 use Rattle.std.specs.Prelude.{◌≡◌, ℕ, ◌%◌, ◌<◌, ◌≤◌, List, [], ◌∷◌, length, slice_index, All}
 use Rattle.arrayvec.specs.ArrayVec.{ArrayVec}
 use Rattle.apci.specs.declared.apdu.Uf.{Uf}
@@ -59,8 +59,8 @@ pub record IsInformation (octets : List ℕ) : Type 0 where
   pub at_most : slice_index octets 1 ≤ 253
   pub bit : slice_index octets 2 % 2 ≡ 0
 
--- The two lowest bits of the first control octet tell the format: 01 of an S format, 11 of a U
--- format (5).
+-- The two lowest bits of the first control octet give the format: 01 an S format, 11 a U format
+-- (5).
 pub record DistinctFormats : Type 0 where
   pub information : (ns nr : ℕ) (asdu : ArrayVec ℕ) → Fits (I ns nr asdu) →
       IsInformation (spelling (I ns nr asdu))
@@ -78,7 +78,7 @@ pub record Refused : Type 0 where
   pub place : ℕ
   pub why : Why
 
--- octets, the place of the one that decides, and the place and refusal that are told
+-- octets, the place of the one that decides, and the place and refusal that are given
 abbrev pub is_refused : List ℕ → ℕ → ℕ → Why → Refused
 is_refused octets decides place why =
     record { octets = octets; decides = decides; place = place; why = why }

@@ -1,5 +1,5 @@
 -- What stands at the front of octets: an APDU (IEC 60870-5-104, 5), the beginning of one, or
--- neither. Which refusal is told for which place is this gateway's own profile.
+-- neither. Which refusal is given for which place is this gateway's own profile.
 use Rattle.std.specs.Prelude.{◌≡◌, ℕ, ◌+◌, ◌%◌, ◌<◌, ◌≤◌, ◌==◌, ◌⊎◌, if◌then◌else◌, List, [], ◌∷◌}
 use Rattle.std.specs.Prelude.{◌++◌, length, take, slice_index, is_some, Option, Some, None}
 use Rattle.apci.specs.declared.apdu.Uf.{Uf}
@@ -47,7 +47,7 @@ function_of o =
     if o == 0x13 then Some StopAct else if o == 0x23 then Some StopCon else
     if o == 0x43 then Some TestAct else if o == 0x83 then Some TestCon else None
 
--- The place and the refusal that are told where the octet at a place decides. The control octet
+-- The place and the refusal that are given where the octet at a place decides. The control octet
 -- decides on the length too: an S or U format has 4, an I format at least 13.
 abbrev pub refusal : List ℕ → ℕ → ℕ × Why
 refusal octets place =

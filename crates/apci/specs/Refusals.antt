@@ -1,4 +1,4 @@
--- Which refusal is told for which octet, whatever stands behind it (this gateway's own profile).
+-- Which refusal is given for which octet, whatever stands behind it (this gateway's own profile).
 -- The least place that decides counts, and the control octet decides on the length too.
 use Rattle.std.specs.Prelude.{◌≡◌, ℕ, ◌%◌, ◌<◌, ◌≤◌, List, ◌∷◌, All, None}
 use Rattle.apci.specs.declared.apdu.Uf.{Uf}

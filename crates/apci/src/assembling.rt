@@ -17,7 +17,7 @@ use std::alloc::AllocError;
 use std::marker::Model;
 use std::mem;
 
-/// What an assembler hears in a piece.
+/// What an assembler receives in a piece.
 #[derive(Clone, Copy, Debug, PartialEq, Eq)]
 pub enum Received {
     /// The last octet of an APDU, which `take` answers.
@@ -261,7 +261,7 @@ fn look(looked: &mut u64, octet: &u8) -> u8
 }
 
 impl Assembler {
-    /// An assembler that has heard nothing.
+    /// An assembler that has received nothing.
     pub fn new() -> Self
         ensures so_far { result.so_far ≡ Some [] }
         ensures whole { result.whole ≡ None }
@@ -281,7 +281,7 @@ impl Assembler {
         ensures whole { IsMore octets.now → result.whole ≡ None }
     {
         let mut assembler = Assembler::new();
-        // What was heard shows in the assembler, and the caller asks for it there.
+        // What arrived shows in the assembler, and the caller asks for it there.
         let _arrived = assembler.feed(octets);
         assembler
     }
@@ -296,7 +296,7 @@ impl Assembler {
         self.state.put(&self.asdu, line)
     }
 
-    /// Whether it hears nothing until `clear`, since octets before began no APDU.
+    /// Whether it receives nothing until `clear`, since octets before began no APDU.
     pub fn is_deaf(&self) -> bool
         ensures { IsTrue result ↔ (self.now.so_far ≡ None) }
     {
@@ -317,9 +317,9 @@ impl Assembler {
         self.looked
     }
 
-    /// Takes octets of a piece, up to the last one of an APDU, and says how many and what was
-    /// heard. It takes them all where no APDU ends in the piece. After a refusal it takes and drops
-    /// all octets until `clear`. An APDU that wasn't taken before is dropped.
+    /// Takes octets of a piece, up to the last one of an APDU, and says how many and what arrived.
+    /// It takes them all where no APDU ends in the piece. After a refusal it takes and drops all
+    /// octets until `clear`. An APDU that wasn't taken before is dropped.
     pub fn feed(&mut self, piece: &[u8]) -> (usize, Received)
         ensures listening { IfSome self.old.so_far (λ so_far.
             Receives so_far piece.now result.0 result.1 self.new) }
@@ -389,7 +389,7 @@ impl Assembler {
         }
     }
 
-    /// The whole APDU that was heard last, if it isn't taken yet.
+    /// The whole APDU that arrived last, if it isn't taken yet.
     pub fn take(&mut self) -> Option<Apdu>
         ensures apdu { result ≡ self.old.whole }
         ensures rest { self.new ≡ record self.old { whole = None } }
@@ -408,7 +408,7 @@ impl Assembler {
         }
     }
 
-    /// Begins afresh: it hears again, and what had come of an APDU is forgotten.
+    /// Begins afresh: it receives again, and what had come of an APDU is forgotten.
     pub fn clear(&mut self)
         ensures so_far { self.new.so_far ≡ Some [] }
         ensures whole { self.new.whole ≡ None }

@@ -34,14 +34,14 @@ pub fn spellings_cancel()
     ensures { (a b : Apdu) (x y : List ℕ) → spelling a ++ x ≡ spelling b ++ y → (a ≡ b) × (x ≡ y) }
 {}
 
-/// The first control octet tells the format by its two lowest bits (IEC 60870-5-104, 5), and the
+/// The two lowest bits of the first control octet give the format (IEC 60870-5-104, 5), and the
 /// length of an I format has room for an ASDU.
 pub fn formats_are_distinct()
     ensures { DistinctFormats }
 {}
 
-/// An assembler that is fed the octets of an APDU, with anything behind them, hears that APDU,
-/// takes its octets and no more, and listens on: so it hears the APDUs of a stream one after
+/// An assembler that is fed the octets of an APDU, with anything behind them, receives that APDU,
+/// takes its octets and no more, and listens on: so it receives the APDUs of a stream one after
 /// another.
 pub fn apdus_are_received_one_after_another()
     ensures { (a : Apdu) (more : List ℕ) (n : ℕ) (arrived : Received) (after : Assembly) →

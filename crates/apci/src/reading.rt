@@ -101,7 +101,7 @@ fn u_format(len: u8, f: Uf, rest: &[u8]) -> FrontRef<'_>
 
 /// What stands at the front of the octets, with an ASDU where it stands.
 ///
-/// A refusal is told as soon as the octets seen decide it. An S or U format with a wrong length,
+/// A refusal is given as soon as the octets seen decide it. An S or U format with a wrong length,
 /// and an I format too short for an ASDU, are refused at place 1 once the first control octet has
 /// come.
 #[inline(always)]

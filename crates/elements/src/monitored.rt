@@ -71,7 +71,7 @@ impl Element for Diq {
 /// VTI, a step position, with quality (IEC 60870-5-101, 7.2.6.5 and 7.2.6.3).
 #[derive(Clone, Copy, Debug, PartialEq, Eq)]
 pub struct Vti {
-    /// The position in bits 6 to 0, in two's complement; bit 7 tells that the equipment is in a
+    /// The position in bits 6 to 0, in two's complement; bit 7 says that the equipment is in a
     /// transient state.
     pub vti: u8,
     /// QDS: OV in bit 0, BL in bit 4, SB in bit 5, NT in bit 6, IV in bit 7.
@@ -254,8 +254,8 @@ impl Element for Bcr {
     ghost writes_back = { λ xs n all. long_again xs n all };
 }
 
-/// COI, a cause of initialisation (IEC 60870-5-101, 7.2.6.21): the cause in bits 6 to 0; bit 7
-/// tells that parameters were changed.
+/// COI, a cause of initialisation (IEC 60870-5-101, 7.2.6.21): the cause in bits 6 to 0; bit 7 says
+/// that parameters were changed.
 #[derive(Clone, Copy, Debug, PartialEq, Eq)]
 pub struct Coi(pub u8);
 

@@ -1,4 +1,5 @@
--- Where a frame's octets come, it is heard, and nothing of what stands behind it is taken.
+-- Where a frame's octets come, the frame is received, and nothing of what stands behind it is
+-- taken.
 use Rattle.std.proofs.Common.{◌≡◌, ℕ, ◌+◌, List, [], ◌++◌, length, subst, arith}
 use Rattle.std.specs.Prelude.{Option}
 use Rattle.ft12.specs.declared.frame.LinkSize.{LinkSize}

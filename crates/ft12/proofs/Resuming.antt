@@ -20,7 +20,7 @@ use Rattle.ft12.specs.Spelling.{IsOctet}
 use Rattle.ft12.proofs.Frames.{spelling_fits}
 use Rattle.ft12.proofs.Exact.{one_front}
 
--- after nothing, the beginning of a frame isn't heard as anything else
+-- after nothing, the beginning of a frame isn't received as anything else
 pub is_more : (size : LinkSize) (octets : List ℕ) (n : ℕ) (h : Received)
     (so_far after : Option (List ℕ))
     → IsProperBeginning size octets → so_far ≡ Some []

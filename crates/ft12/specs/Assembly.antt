@@ -17,7 +17,7 @@ pub record Assembly : Type 0 where
   pub so_far : Option (List ℕ)
   pub looked : ℕ
 
--- What is heard of a piece after the octets so far is what stands at the front of both joined. n
+-- What is received in a piece after the octets so far is what stands at the front of both joined. n
 -- octets of the piece are taken.
 abbrev pub Receives : LinkSize → List ℕ → List ℕ → ℕ → Received → Option (List ℕ) → Type 0
 Receives size so_far piece n (arrived.Frame frame) after =
@@ -56,7 +56,7 @@ ReceivesInner size so_far piece n before looked None =
     (place : ℕ) × (why : Why) × IsFront size (so_far ++ piece) (front.Never place why)
     × (n ≡ length piece) × (looked ≡ min (before + (place + 1 - length so_far)) (2 ^ 64 - 1))
 
--- The whole frame is heard, its octets are taken, and the octets behind it begin the next one.
+-- The whole frame is received, its octets are taken, and the octets behind it begin the next one.
 pub record IsReceivedWhole (size : LinkSize) (frame : Frame) (n : ℕ) (h : Received)
     (after : Option (List ℕ)) : Type 0 where
   pub frame_is : h ≡ arrived.Frame frame

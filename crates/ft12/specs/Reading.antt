@@ -1,6 +1,6 @@
 -- What stands at the front of octets: a frame, the beginning of one, or neither.
--- The frames are those of IEC 60870-5-1 (6.2.4.2); where and how a refusal is told is this
--- gateway's own profile.
+-- The frames are those of IEC 60870-5-1 (6.2.4.2); which refusal is given, and for which place, is
+-- this gateway's own profile.
 use Rattle.std.specs.Prelude.{◌≡◌, ℕ, ◌+◌, ◌<◌, ◌≤◌, ◌==◌, if◌then◌else◌, List, ◌∷◌, ◌++◌, length}
 use Rattle.std.specs.Prelude.{take, slice_index}
 use Rattle.ft12.specs.declared.frame.LinkSize.{LinkSize}

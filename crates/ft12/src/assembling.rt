@@ -14,8 +14,9 @@ use arrayvec::ArrayVec;
 use std::alloc::AllocError;
 use std::marker::Model;
 
-/// What an assembler hears in a piece.
-// The frame is in it, as `apci` has none in its own (docs/DECISIONS.md, "What `Received` has in it").
+/// What an assembler receives in a piece.
+// The frame is in it, as `apci` has none in its own (docs/DECISIONS.md, "What `Received` has in
+// it").
 #[derive(Debug, PartialEq, Eq, Drop)]
 pub enum Received {
     /// A whole frame.
@@ -143,7 +144,7 @@ impl Assembler {
         self.looked
     }
 
-    /// Takes octets of a piece, up to the end of a frame, and says how many and what was heard.
+    /// Takes octets of a piece, up to the end of a frame, and says how many and what arrived.
     ///
     /// Where a frame ends in the piece, the octets after it are left to be fed again. Else all are
     /// taken. After `Never` all octets are taken and none is looked at, until `clear`.
@@ -189,7 +190,7 @@ impl Assembler {
     /// those that it takes, so that it makes no place for one; and where they begin none, all are
     /// taken and none is looked at, until `clear`.
     ///
-    /// Asks that the single character isn't next: `feed` hears that.
+    /// Asks that the single character isn't next: `feed` receives that.
     pub fn feed_inner(&mut self, piece: &[u8]) -> usize
         requires { self.old.so_far ≡ Some [] → slice_index piece.now 0 ≡ 0xE5 → ⊥ }
         ensures listening { IfSome self.old.so_far (λ so_far. ReceivesInner self.old.size so_far

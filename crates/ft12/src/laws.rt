@@ -71,8 +71,8 @@ pub fn spoilt_lines_are_no_lines()
         spoilt place x ++ rest ≡ spelling size g ++ more → ⊥ }
 {}
 
-/// An assembler that is fed the octets of a frame, with anything behind them, hears that frame,
-/// takes its octets and no more, and listens on: so it hears the frames of a stream one after
+/// An assembler that is fed the octets of a frame, with anything behind them, receives that frame,
+/// takes its octets and no more, and listens on: so it receives the frames of a stream one after
 /// another.
 pub fn frames_are_received_one_after_another()
     ensures { (size : LinkSize) (frame : Frame) (more : List ℕ) (n : ℕ) (arrived : Received)

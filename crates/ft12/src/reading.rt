@@ -133,7 +133,7 @@ pub fn front_ref(size: LinkSize, octets: &[u8]) -> FrontRef<'_>
 
 /// What stands at the front of the octets: a whole frame, the beginning of one, or neither.
 ///
-/// A refusal is told as soon as the octets decide it, and names the lowest place at which they
+/// A refusal is given as soon as the octets decide it, and names the lowest place at which they
 /// begin no frame. No octets are the beginning of a frame.
 pub fn front(size: LinkSize, octets: &[u8]) -> Front
     ensures right { IsFront size octets.now result }

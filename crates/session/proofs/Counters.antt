@@ -15,7 +15,7 @@ reached-valid a u nr small valid = omega arith
 reached-invalid : (a u nr : ℕ) → u < 32768 → u < left_of nr (a + u) → a + u < reached a nr
 reached-invalid a u nr small invalid = omega arith
 
--- the counters tell a valid N(R)
+-- the counters show whether an N(R) is valid
 pub valid_agrees : (a u nr next sent : ℕ) → u < 32768 → a + u ≡ sent → next ≡ sent % 32768
     → nat_le ((next + (32768 - nr % 32768)) % 32768) u ≡ nat_le (reached a nr) sent
 valid_agrees a u nr next sent small count counter =

@@ -1,4 +1,4 @@
--- Each call tells only what keeps the rules: its condition is the standard's, by what the session
+-- Each call logs only what keeps the rules: its condition is the standard's, by what the session
 -- keeps of the history.
 use Rattle.std.proofs.Common.{◌≡◌, ℕ, Bool, true, false, cond, nat_lt, List, [], ◌∷◌, length}
 use Rattle.std.proofs.Common.{Option, Some, None, refl, ap, sym, ◌∙◌, inl, inr}

@@ -18,7 +18,7 @@ newly_acknowledged_by (I ns nr asdu) h = newly_acknowledged nr h
 newly_acknowledged_by (S nr) h = newly_acknowledged nr h
 newly_acknowledged_by (U function) h = []
 
--- so many frames of the queue, and so many own ones, are told as acknowledged
+-- so many frames of the queue, and so many own ones, are given as acknowledged
 abbrev pub MatchesAcknowledged : List Unacknowledged → Session → Type 0
 MatchesAcknowledged frames s =
     (s.acked_queue ≡ from_queue frames) × (s.acked_own ≡ length frames - from_queue frames)

@@ -8,7 +8,7 @@ use Rattle.session.specs.History.{sent_frames, received_count, still_unacknowled
 use Rattle.session.specs.History.{verdict_on, confirmation_of, frame_due}
 use Rattle.session.specs.Runs.{Settings}
 
--- A frame is heard on an open connection, once all confirmations are out (5.3).
+-- A frame is received on an open connection, once all confirmations are out (5.3).
 pub record IsReceived (older : History) : Type 0 where
   pub connected : is_open older ≡ true
   pub confirmed : confirmation_of older ≡ None

@@ -34,7 +34,7 @@ pub record Run : Type 0 where
   pub session : Session
   pub history : History
 
--- how a frame that came is told, by what it led to
+-- how a frame that came is logged, by what it led to
 abbrev pub logged : Taken → Apdu → ℕ → Happened
 logged (Close cause) frame now = Refused now
 logged Asdu frame now = Came frame now

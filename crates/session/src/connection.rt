@@ -506,7 +506,7 @@ impl Session {
     fn is_savable(&self)
         ensures { IsSavable self.now }
     {
-        // Reading it tells the proof what its type bounds.
+        // Reading it gives the proof what its type bounds.
         let _unconfirmed = self.unconfirmed;
     }
 
@@ -552,8 +552,8 @@ impl Session {
         put_frames(&self.unacknowledged, sheet, line)
     }
 
-    /// A session with these settings and the state that the lines tell. This takes memory: room
-    /// for k frames. `Wrong` says that the lines tell none.
+    /// A session with these settings and the state that the lines give. This takes memory: room for
+    /// k frames. `Wrong` says that the lines give none.
     pub fn read_state<L: Lines>(
         alloc: Global,
         k: u16,

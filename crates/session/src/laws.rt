@@ -77,7 +77,7 @@ pub fn timers_are_kept()
         (now : ℕ) → (pulled now s).0 ≡ frame_due p.w p.t2 p.t3 now h) }
 {}
 
-/// Each entry of a history keeps the rules with what came before it: a frame is heard once all
+/// Each entry of a history keeps the rules with what came before it: a frame is received once all
 /// confirmations are out, an I frame goes out where it may, and another frame where it was due (5.1
 /// to 5.5).
 pub fn histories_keep_the_rules()

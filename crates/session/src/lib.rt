@@ -2,7 +2,7 @@
 //! counters, windows, timers, and start and stop of data transfer.
 //!
 //! A [`Session`] takes each [`Apdu`](apci::Apdu) that came, or a lent one where it stands, and says
-//! what it leads to ([`Taken`]); it tells which frames are due, and gives sent I frames their
+//! what it leads to ([`Taken`]); it says which frames are due, and gives sent I frames their
 //! numbers. Time is handed in, in ms. Octets, ASDUs and sockets are no matter of this crate, and it
 //! closes nothing: it says why ([`Close`]).
 //!

@@ -6,7 +6,7 @@ use Rattle.ft12.proofs.Beginnings.{proper_nil}
 use Rattle.ft12.proofs.Resuming.{is_more}
 use Rattle.ft12.proofs.assembling.Assembler.resumed.Goals as goal
 
--- The beginning of a frame is heard as one.
+-- The beginning of a frame is received as one.
 received_as_more : (c : goal.In_default) → IsProperBeginning c.args.size c.args.octets.now
     → c.feed.result.1 ≡ arrived.More
 received_as_more c is =
