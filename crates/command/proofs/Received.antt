@@ -1,4 +1,4 @@
--- A sign that no selection hears of changes none.
+-- A sign that concerns no selection changes none.
 use Rattle.std.proofs.Common.{◌≡◌, ℕ, ◌&&◌, ◌||◌, Bool, true, false, not, List, [], ◌∷◌, refl, sym}
 use Rattle.std.proofs.Common.{ap, ◌∙◌}
 use Rattle.std.specs.Prelude.{◌==◌, Option, Some, if◌then◌else◌}

@@ -263,7 +263,7 @@ module _ (sizes : Sizes) (stations : List StationInfo) (select_ms max_age_ms : �
         t.at_stage;
   }
 
-  -- what is told of own answers is no matter of selections
+  -- what is logged of own answers is no matter of selections
   other_stage : (h : History) (octets : List ℕ) (b : Bool) (k : ℕ) (c : Select) (st : SelectStage)
       → AtStage st k c h
       → AtStage st k c (Offered octets b ∷ h)

@@ -1,4 +1,4 @@
--- By which rule an ASDU from the control centre is refused, for those who tell of it; and what a
+-- By which rule an ASDU from the control centre is refused, for those who report it; and what a
 -- judgement looks at besides the settings.
 use Rattle.std.specs.Prelude.{ℕ, ◌+◌, ◌-◌, Bool, not, ◌&&◌, ◌||◌, ◌==◌, nat_lt, nat_le}
 use Rattle.std.specs.Prelude.{if◌then◌else◌, List, [], ◌∷◌, ◌++◌, length, map, count_by, Option}

@@ -48,7 +48,7 @@ new_state stations sizes select_ms max_age_ms = record {
   answers = [];
 }
 
--- selections hear of a sign
+-- each selection heeds a sign
 abbrev pub heeded : Sign → State → State
 heeded what s = record s { selections = filter_map (advanced s.select_ms what) s.selections }
 

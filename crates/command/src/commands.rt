@@ -212,7 +212,7 @@ impl Commands {
         })
     }
 
-    /// Selections hear of something.
+    /// Each selection heeds a sign.
     fn heed(&mut self, sign: Sign)
         ensures { self.new ≡ heeded sign self.old }
     {
@@ -222,7 +222,7 @@ impl Commands {
         }
     }
 
-    /// Selections hear of something. Apart, since few events do more than look.
+    /// Each selection heeds a sign. Apart, since few events do more than look.
     #[inline(never)]
     fn advance(&mut self, sign: &Sign)
         ensures { self.new ≡ heeded sign.now self.old }

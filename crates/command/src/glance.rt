@@ -7,7 +7,7 @@ use arrayvec::ArrayVec;
 use std::marker::Model;
 
 /// What the judgement of an ASDU looks at besides the settings: how many commands wait, and the
-/// selections. Whoever sees what goes by a gateway may take one before commands come, and tell
+/// selections. Whoever sees what goes by a gateway may take one before commands come, and say
 /// afterwards how each was judged ([`crate::Commands::refusal_at`]).
 #[derive(Drop)]
 pub struct Glance {

@@ -25,7 +25,7 @@ use arrayvec::ArrayVec;
 use asdu::Sizes;
 use std::alloc::Global;
 
-/// Whether a selection hears of the sign.
+/// Whether the sign concerns a selection.
 pub(crate) fn is_received(selections: &[Selection], select_ms: u64, sign: &Sign) -> bool
     ensures { result ≡ list_any (heeds select_ms sign.now) selections.now }
 {

@@ -6,7 +6,7 @@
 //! [`Commands::judge_command`] says whether an ASDU of the connection is forwarded or answered
 //! ([`Act`]). What is forwarded waits, in the line's sizes and with the station's own common
 //! address ([`Commands::waiting`]), until it goes out ([`Commands::on_line`]) and the station
-//! accepts it, is busy, or is given up. [`Commands::mirror`] hears what stations answer to
+//! accepts it, is busy, or is given up. [`Commands::mirror`] takes what stations answer to
 //! commands. Own answers are handed over and taken back first in, first out. The crate knows no
 //! frames, sockets or clock: moments are handed in, in ms, and never fall from call to call.
 //!
@@ -25,10 +25,10 @@
 //! speak of octets, in words of their own (specs/Standard) that no call is built of; a table of
 //! worked examples holds too.
 //!
-//! By which rule an ASDU is refused is told apart from its judgement ([`Commands::refusal_of`]),
+//! By which rule an ASDU is refused is asked apart from its judgement ([`Commands::refusal_of`]),
 //! and also behind it, by a [`Glance`] that was taken before ([`Commands::refusal_at`]). Proved:
-//! there is a rule exactly where the judgement is an own answer, and the rule that is told behind
-//! it is that of the state of which the glance was taken.
+//! there is a rule exactly where the judgement is an own answer, and the rule that is answered
+//! behind it is that of the state of which the glance was taken.
 //!
 //! What is kept is put as lines of numbers ([`Commands::put_state`]) and made again of them
 //! ([`Commands::read_state`]). Proved: each state that a `Commands` has is one that can be saved

@@ -21,7 +21,7 @@ pub enum Refusal {
     TagAhead(u64),
     /// Its time tag is no time, or says itself that it is wrong.
     TagInvalid,
-    /// Nobody can tell how old its time tag is: the wall's moment isn't known.
+    /// Nobody knows how old its time tag is: the wall's moment isn't known.
     WallUnknown,
     /// It is an execute that no live selection lets through.
     NotSelected,

@@ -34,7 +34,7 @@ pub(crate) struct Selection {
     pub stage: SelectStage,
 }
 
-/// What selections hear of.
+/// What concerns selections.
 #[derive(Clone, Copy)]
 pub(crate) enum Sign {
     /// A command goes out to the station for the first time.

@@ -78,8 +78,8 @@ fn is_recent(most: u64, wall: Option<u64>, verdict: Verdict) -> bool
         (Some(wall), Verdict::Good(instant)) => {
             wall.saturating_sub(instant) <= most && instant.saturating_sub(wall) <= most
         }
-        // Without a wall clock, or with a tag that says itself that it is wrong, nobody can tell
-        // how old the command is: too old.
+        // Without a wall clock, or with a tag that says itself that it is wrong, nobody knows how
+        // old the command is: too old.
         _ => false,
     }
 }

@@ -1,4 +1,4 @@
--- What an assembler hears is the computed front.
+-- What an assembler receives is the computed front.
 use Rattle.std.proofs.Common.{◌≡◌, ℕ, ◌+◌, ◌<◌, List, [], ◌∷◌, ◌++◌, length, take, ◌⊎◌, refl, sym}
 use Rattle.std.proofs.Common.{subst, arith, inl, inr, Option, Some, None, IfSome, IfNone, ap, ◌∙◌}
 use Rattle.std.proofs.lemmas.List.{take_all}
@@ -30,7 +30,7 @@ pub record IsFed (size : LinkSize) (so_far : Option (List ℕ)) (piece : List �
       after)
   pub deaf : IfNone so_far ((n ≡ length piece) × (outcome_for ≡ arrived.Deaf) × (after ≡ None))
 
--- the frame that was heard
+-- the frame that was received
 abbrev pub frame_of : Received → Option Frame
 frame_of (arrived.Frame frame) = Some frame
 frame_of arrived.More = None
@@ -55,7 +55,7 @@ fed_so law size (Some before) piece n (arrived.Never place why) after fed =
     (ap whole_of is, fed.listening.2 ∙ ap (λ (f : Front). open_octets (before ++ piece) f) is)
 fed_so law size (Some before) piece n arrived.Deaf after fed = absurd fed.listening
 
--- no frame was heard
+-- no frame was received
 pub quiet : (outcome_for : Received) → (outcome_for ≡ arrived.More)
     ⊎ ((place : ℕ) × (why : Why) × (outcome_for ≡ arrived.Never place why))
     ⊎ (outcome_for ≡ arrived.Deaf) → frame_of outcome_for ≡ None

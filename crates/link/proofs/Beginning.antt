@@ -158,7 +158,7 @@ status_answers a (Data control address body) answer is =
     go true e = cc
     go false e = cc
 
--- A link is available after an answer only where that tells its status, or it was before.
+-- A link is available after an answer only where that says that it is ready, or it was before.
 pub known_after : (a : ℕ) (request : Asked) (frame : Frame) (answer : Answer) (link : Link)
     → answer_of a request frame ≡ Some answer →
     after_answer request answer link ≡ Available → (request ≡ Status) × (answer ≡ Ready)

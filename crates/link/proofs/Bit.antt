@@ -13,7 +13,7 @@ use Rattle.link.specs.Outstation.{OutstationStep, unreceived, unable, arrived}
 use Rattle.link.specs.Delivery.{learnt_by, IsTrueFront, pending_by, MayOwe, is_reset}
 use Rattle.link.proofs.Refusals.{refused_service, refused_reset}
 
--- what the outstation has kept of a service that it has heard
+-- what the outstation has kept of a service that it has received
 pub record HasServed (station : ℕ) (fcb : Bool) (service : Service) (state : Outstation)
     (owed : List Effect) : Type 0 where
   pub frame : Frame
@@ -24,7 +24,7 @@ pub record HasServed (station : ℕ) (fcb : Bool) (service : Service) (state : O
   pub able : answer ≢ Unable
   pub owes : owed ≡ effects_of service answer
 
--- it hasn't heard a service with this bit
+-- it hasn't received a service with this bit
 pub record AwaitsBit (fcb : Bool) (state : Outstation) (owed : List Effect) : Type 0 where
   pub bit : state.bit ≡ Some (not fcb)
   pub owes : owed ≡ []
@@ -130,7 +130,7 @@ pub append-nil : (xs : List Effect) → xs ++ [] ≡ xs
 append-nil [] = refl
 append-nil (x ∷ xs) = ap (λ (ys : List Effect). x ∷ ys) (append-nil xs)
 
--- an unanswered service, of which the outstation is known to have heard it or not
+-- an unanswered service, of which it is known whether the outstation received it
 silence_agrees : (settings : LinkSettings) (station : ℕ) (fcb : Bool) (service : Service)
     (closed : Bool) (link : Link)
     (state : Outstation) (owed : List Effect) →

@@ -1,4 +1,4 @@
--- What tells the exchanges of a line tells the calls that led to them, too.
+-- What matches the exchanges of a line matches the calls that led to them, too.
 use Rattle.std.proofs.Common.{◌≡◌, ◌<◌, ℕ, Bool, List, [], ◌∷◌, ◌++◌, All, length, refl, sym, ap}
 use Rattle.std.proofs.Common.{subst, ◌∙◌, Option}
 use Rattle.ft12.specs.declared.frame.Front.{Front}

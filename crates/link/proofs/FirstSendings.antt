@@ -481,7 +481,7 @@ call_leaves p (Offer station asdu) may fits alone = offer_leaves p station asdu 
 call_leaves p Withdraw may fits alone = withdraw_leaves p
 call_leaves p (GivesUp station) may fits alone = give_up_leaves p station alone
 
--- Each call keeps what fits: so the primary tells some exchanges all the while.
+-- Each call keeps what fits: so the primary matches some exchanges all the while.
 pub in_order : (settings : LinkSettings) (addresses : List ℕ) → IsStable (front_of settings.size)
     → (p : Primary) (e : Exchanges) (calls : List Call) (station : ℕ) →
     MayCallAll p calls → Matches settings addresses p e → WaitAlone p

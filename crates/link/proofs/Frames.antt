@@ -28,7 +28,7 @@ data_fits size c a body control address octets short = (
       (arith, length-user size c a body, short),
 )
 
--- the front tells each whole frame
+-- the front is each whole frame
 pub logged_whole : (size : LinkSize) (octets : List ℕ) (result : Front)
     → ((other : Front) → IsFront size octets other → other ≡ result) →
     (frame : Frame) → IsLineFrame size frame octets → Whole frame (length octets) ≡ result

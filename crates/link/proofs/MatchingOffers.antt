@@ -1,4 +1,4 @@
--- What the exchanges tell is kept by `offer`, `withdraw` and `new`.
+-- `offer`, `withdraw` and `new` keep what the exchanges say.
 use Rattle.std.proofs.Common.{◌≡◌, ℕ, zero, suc, ◌<◌, slice_index, Bool, true}
 use Rattle.std.proofs.Common.{false, List, [], ◌∷◌, All, length, map, slice_set, Option, Some}
 use Rattle.std.proofs.Common.{None, refl, sym, subst, ◌∙◌}

@@ -1,4 +1,4 @@
--- What the caller is told is what the exchange shows.
+-- What the caller learns is what the exchange shows.
 use Rattle.std.proofs.Common.{◌≡◌, ℕ, suc, ◌||◌, ◌&&◌, not, nat_le, nat_lt, ◌+◌, slice_index, Bool}
 use Rattle.std.proofs.Common.{true, false, List, ◌++◌, Option, Some, None, option_and_then, refl}
 use Rattle.std.proofs.Common.{sym, ap, subst, ◌∙◌, inl, inr, if◌then◌else◌}
@@ -29,7 +29,7 @@ over_not front address x (inr (inl given)) out = let no : x.given_up ≡ false =
 over_not front address x (inr (inr a)) out = let now = said_now front address x (Some a.0) a.1 in
     let none = out.0 in cc
 
--- nothing is heard yet
+-- nothing has arrived yet
 none_yet : (front : List ℕ → Front) (address : ℕ) (x : OpenExchange) (h : Option (List ℕ))
     → IsReceived front address x h →
     option_and_then (answer_of address x.request) (whole_of (front x.octets)) ≡ None

@@ -1,4 +1,4 @@
--- A frame that stands in the first octets is heard as the machine hears the octets.
+-- A frame that stands in the first octets is received as the machine receives the octets.
 use Rattle.std.proofs.Common.{◌≡◌, ℕ, ◌<◌, ◌==◌, ◌||◌, Bool, true, false, not, List, [], ◌∷◌, ◌++◌}
 use Rattle.std.proofs.Common.{length, take, drop, Option, Some, None, option_map, refl, sym, ap}
 use Rattle.std.proofs.Common.{◌∙◌, append_assoc, ne_eqb, arith}
@@ -65,7 +65,7 @@ noted_twice false n octets lt =
     let some : length octets ≡ 0 → ⊥ = λ e. omega arith in
     rw (ne_eqb (length octets) 0 some) refl
 
--- Octets of which the first ones are gathered are heard by the others.
+-- Where the first octets are gathered, the others give what all give.
 pub rest_of : (front : List ℕ → Front) (p : Primary) (n : ℕ) (octets : List ℕ) → n < length octets →
     (received front (gathered n octets p) (drop n octets) ≡ received front p octets)
     × (received_outcome front (gathered n octets p) (drop n octets)

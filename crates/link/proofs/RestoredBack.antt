@@ -112,7 +112,7 @@ restored_same p settings h a x ss set eh ea ex es =
     ∙ ap (λ (o : Option Outstanding). primary_with p.settings q o ss) o
     ∙ ap (λ (ss : List StationState). primary_with p.settings q p.outstanding ss) es
 
--- what was heard of an answer is the beginning of a frame, or nothing
+-- what arrived of an answer is the beginning of a frame, or nothing
 pub received_begins : (p : Primary) (o : Option Outstanding) → ReceivedIsResumable p o
     → IsProperBeginning p.settings.size (octets_received o) ⊎ (octets_received o ≡ [])
 received_begins p None is = inr refl

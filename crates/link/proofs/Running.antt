@@ -1,4 +1,4 @@
--- Over every list of calls the primary tells the exchanges of its line.
+-- Over every list of calls the primary matches the exchanges of its line.
 use Rattle.std.proofs.Common.{ℕ, ◌<◌, List, [], ◌∷◌, All, length, slice_index, sym, subst}
 use Rattle.ft12.specs.Fronts.{front_of}
 use Rattle.link.specs.Exchanges.{Exchanges, no_exchanges, all_of, views, with_station}

@@ -45,7 +45,7 @@ fixed station request octet e =
     (self_comes station octet e)
     ∙ code_row request (octet % 16)
 
--- what is told of an answer, or that there is none
+-- the outcome of an answer, or that there is none
 chosen : (index : ℕ) (request : Asked) (b : Bool) (answer : Answer) (other : Option Answer) →
     outcome_of index request (if b then Some answer else other)
     ≡ (if b then outcome_of index request (Some answer) else outcome_of index request other)

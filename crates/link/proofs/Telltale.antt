@@ -1,4 +1,4 @@
--- What a station's answers tell of the reports that wait.
+-- What a station's answers show of the reports that wait.
 use Rattle.std.proofs.Common.{◌≡◌, ◌≢◌, ℕ, Bool, true, false, List, [], ◌∷◌, ◌++◌, Option, Some}
 use Rattle.std.proofs.Common.{None, refl, sym, ap, subst, ◌∙◌, arith, if◌then◌else◌}
 use Rattle.ft12.specs.declared.frame.LinkSize.{LinkSize}
@@ -114,7 +114,7 @@ new_served granted s fcb service new = go s.bit new
         else served_new granted s fcb service)
         (other_bit fcb old other)
 
--- an answer that tells what waits after it
+-- an answer that shows what waits after it
 abbrev pub MatchesAfter : Served → Type 0
 MatchesAfter by = ShowsFlags by.turn.answer (do_wait by.state.class1) false
 

@@ -8,7 +8,7 @@ use Rattle.link.specs.Requests.{Reading, Foreign, Unknown, Asks, reading_of}
 use Rattle.link.specs.Secondary.{Secondary, received_reading}
 pub use Rattle.std.specs.Io.Iter.{u64_saturate}
 
--- a call, with what memory allowed; a frame is heard, or octets that are none
+-- a call, with what memory allowed; a frame is received, or octets that are none
 pub data Call : Type 0 where
   Report1 : (granted : Bool) → (report : List ℕ) → Call
   Report2 : (granted : Bool) → (report : List ℕ) → Call
@@ -31,7 +31,7 @@ abbrev pub after : Secondary → List Call → Secondary
 after s [] = s
 after s (call ∷ calls) = after (called s call) calls
 
--- the requests that the station hears
+-- the requests that the station receives
 abbrev pub request_asked : Reading → List Asked
 request_asked Foreign = []
 request_asked Unknown = []
@@ -81,7 +81,7 @@ abbrev pub given2 : List Asked → List Turn → List (List ℕ)
 given2 (request ∷ requests) (turn ∷ turns) = given2_at request turn ++ given2 requests turns
 given2 requests turns = []
 
--- the reports of each class that it was given to tell
+-- the reports of each class that it was given
 abbrev pub reported1 : List Call → List (List ℕ)
 reported1 [] = []
 reported1 (Report1 true report ∷ calls) = report ∷ reported1 calls

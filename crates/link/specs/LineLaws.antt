@@ -76,7 +76,7 @@ pub record LineLaws : Type 0 where
       (e : Exchanges) (station : ℕ) →
       gaps_at (front_of size) addresses station (begun_by now s e)
       ≡ gaps_at (front_of size) addresses station e
-  -- What is told of octets is the answer of the outstanding exchange, if they complete it.
+  -- The outcome of octets is that of the outstanding exchange's answer, if they complete it.
   pub answer : (settings : LinkSettings) (addresses : List ℕ) (q : Primary) (e : Exchanges)
       (octets : List ℕ) (x : OpenExchange) → Matches settings addresses q e → e.current ≡ Some x →
       IsOutstanding (slice_index addresses x.station) (view (front_of settings.size) x).exchange →

@@ -21,7 +21,7 @@ use Rattle.link.specs.declared.outcome.Outcome.TheVariants as outcome
 use Rattle.link.specs.Holding.{IsFitting}
 use Rattle.link.specs.Runs.{AreCalled}
 
--- A reader of fronts tells each as soon as it is decided, and then sticks to it.
+-- A reader of fronts gives each as soon as it is decided, and then sticks to it.
 pub record IsStable (front : List ℕ → Front) : Type 0 where
   pub nothing : front [] ≡ More
   pub whole : (octets more : List ℕ) (frame : Frame) (n : ℕ) → front octets ≡ Whole frame n →
@@ -147,7 +147,7 @@ abbrev pub report_in : Outcome → List (ℕ × List ℕ)
 report_in (outcome.Report station asdu) = (station, asdu.items) ∷ []
 report_in other = []
 
--- the session of this station that an outcome tells the gap of
+-- the session of this station whose gap an outcome reports
 abbrev pub gap_in_outcome : (station : ℕ) → Outcome → List ℕ
 gap_in_outcome station (outcome.StartedGap other session) =
     if other == station then session ∷ [] else []

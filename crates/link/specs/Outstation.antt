@@ -51,7 +51,7 @@ is_refusal station (Fixed control address) =
     comes_from station control address && is_unable (function_code control)
 is_refusal station (Data control address body) = false
 
--- A counted request is heard by an outstation with this bit.
+-- An outstation with this bit receives a counted request.
 abbrev pub Serves : (station : ℕ) → Option Bool → Outstation → (fcb : Bool) → Service → Turn →
     Outstation → Type 0
 -- before the first reset there is no answer
@@ -65,7 +65,7 @@ Serves station (Some bit) old fcb service turn new =
     × (turn ≡ record { answer = Some frame; done = effects_of service answer })
     × (new ≡ record { bit = Some fcb; last = Some frame }))
 
--- The outstation hears the request, and is able to serve it.
+-- The outstation receives the request, and is able to serve it.
 abbrev pub Receives : (station : ℕ) → Outstation → Asked → Turn → Outstation → Type 0
 Receives station old Status turn new =
     (frame : Frame) × Says station Status Ready frame × (turn ≡ with_answer frame) × (new ≡ old)
@@ -78,9 +78,9 @@ Receives station old (Counted fcb service) turn new = Serves station old.bit old
 -- One request to the outstation.
 pub data OutstationStep (station : ℕ) (old : Outstation) (request : Asked) (turn : Turn)
     (new : Outstation) : Type 0 where
-  -- it isn't heard
+  -- it isn't received
   unreceived : turn ≡ silent → new ≡ old → OutstationStep station old request turn new
-  -- it is heard, and answered that the service isn't functioning or not implemented
+  -- it is received, and answered that the service isn't functioning or not implemented
   unable : (frame : Frame) → is_refusal station frame ≡ true → turn ≡ with_answer frame →
       new ≡ old → OutstationStep station old request turn new
   arrived : Receives station old request turn new → OutstationStep station old request turn new

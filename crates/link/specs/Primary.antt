@@ -255,7 +255,7 @@ received_from front p (Some o) octets = received_after front p (with_octets octe
 abbrev pub received : (front : List ℕ → Front) → Primary → List ℕ → Primary
 received front p octets = received_from front p p.outstanding octets
 
--- what the caller is told of an answer
+-- what the caller learns of an answer
 abbrev pub outcome_by : (station : ℕ) → Asked → Answer → Outcome
 outcome_by station Reset Confirmed = outcome.Started station
 outcome_by station (Counted fcb service) Confirmed = outcome.Accepted station
@@ -276,7 +276,7 @@ gap_of s = if s.has_gap then Some s.number else None
 abbrev pub turn_gap : Primary → Option ℕ
 turn_gap p = gap_of (station_at p.stations p.turn).session
 
--- A start that ends a session with a gap tells its number.
+-- A start that ends a session with a gap gives its number.
 abbrev pub started : (station : ℕ) → (gap : Option ℕ) → Outcome
 started station None = outcome.Started station
 started station (Some session) = outcome.StartedGap station session
@@ -345,7 +345,7 @@ due_from p (Some o) now = if is_late p o now then unanswered p o else p
 abbrev pub timed_out : Primary → (now : ℕ) → Primary
 timed_out p now = due_from p p.outstanding now
 
--- The caller is told where the station's link is down now.
+-- The caller learns where the station's link is down now.
 abbrev pub miss_outcome : Primary → Asked → Outcome
 miss_outcome p request =
     if goes_down request (after_silence p.settings request true

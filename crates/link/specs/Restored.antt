@@ -79,7 +79,7 @@ pub record IsSavable (p : Primary) : Type 0 where
   pub arrived : ReceivedIsResumable p p.outstanding
   pub octets : ReceivedAreOctets p.outstanding
 
--- what was outstanding, with what was heard of its answer
+-- what was outstanding, with what arrived of its answer
 abbrev pub outstanding_with : Option Outstanding → (arrived : Option (List ℕ)) → Option Outstanding
 outstanding_with None arrived = None
 outstanding_with (Some o) arrived = Some (record {
@@ -171,7 +171,7 @@ abbrev pub awaited_from : (deaf : Bool) → List ℕ → Option (Option Awaited)
 awaited_from deaf [] = None
 awaited_from deaf (kind ∷ ns) = awaited_by deaf kind ns
 
--- nothing can be heard any more
+-- nothing can be received any more
 abbrev pub is_deaf : Option Outstanding → Bool
 is_deaf None = true
 is_deaf (Some o) = is_none o.arrived
@@ -197,7 +197,7 @@ octets_received (Some o) = received_octets o.arrived
 abbrev pub octets_from : List ℕ → Option (List ℕ)
 octets_from ns = if list_all (λ n. nat_lt n 256) ns then Some ns else None
 
--- whether nothing can be heard any more, and what was heard
+-- whether nothing can be received any more, and what arrived
 abbrev pub listening : Option (List ℕ) → Option (Bool × List ℕ)
 listening None = None
 listening (Some octets) = Some (false, octets)

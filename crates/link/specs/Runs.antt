@@ -145,7 +145,7 @@ AreInOrder waiting (Withdrawn ∷ rest) = AreInOrder None rest
 
 -- Silence
 
--- A silence is told where it takes a link down that was up.
+-- A silence is reported where it takes a link down that was up.
 abbrev pub silence_outcome : (station : ℕ) → (before later : Link) → Outcome
 silence_outcome station before later =
     if is_up before && not (is_up later) then outcome.Down station else outcome.None

@@ -184,7 +184,7 @@ abbrev pub IsFrameReceived : Secondary → Frame → Option Frame → Secondary 
 IsFrameReceived old frame answer new = IsReadingReceived old (reading_of old.address frame) answer
     new
 
--- The station hears octets: a whole frame, or nothing.
+-- The station receives octets: a whole frame, or nothing.
 abbrev pub ReceivesOctets : Secondary → List ℕ → Option Frame → Secondary → Type 0
 ReceivesOctets old octets answer new =
     ((frame : Frame) × IsLineFrame old.size frame octets × IsFrameReceived old frame answer new)

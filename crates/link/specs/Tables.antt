@@ -1,5 +1,5 @@
 -- Which functions of a secondary station answer which request, by their numbers, and what the
--- caller is told of each (IEC 60870-5-2, 5.1.2: the function codes of a secondary station, and its
+-- caller learns of each (IEC 60870-5-2, 5.1.2: the function codes of a secondary station, and its
 -- procedures of unbalanced transmission; what E5 stands for is this gateway's own profile). A
 -- function that isn't in the row of a request is no answer to it.
 use Rattle.std.specs.Prelude.{ℕ, Bool, ◌==◌, List, [], ◌∷◌, Option, Some, None, if◌then◌else◌}
@@ -24,7 +24,7 @@ answer_in function [] = None
 answer_in function (entry ∷ entries) =
     if function == entry.0 then Some entry.1 else answer_in function entries
 
--- what the caller is told, of the station with this index
+-- what the caller learns, of the station with this index
 abbrev pub outcome_row : (station : ℕ) → Asked → List (ℕ × Outcome)
 outcome_row station Status =
     (11, outcome.None) ∷ (14, outcome.Down station) ∷ (15, outcome.Down station) ∷ []

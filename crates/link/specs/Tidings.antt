@@ -1,6 +1,6 @@
--- What a secondary station tells of the reports that wait (IEC 60870-5-2, 5.1: ACD and DFC; the
--- procedures of a secondary station), over whole lives: the reports that it was given to tell,
--- those that it gave, and its answers. That DFC is never set is its own choice.
+-- What a secondary station shows of the reports that wait (IEC 60870-5-2, 5.1: ACD and DFC; the
+-- procedures of a secondary station), over whole lives: the reports that it was given, those that
+-- it gave out, and its answers. That DFC is never set is its own choice.
 use Rattle.std.specs.Prelude.{◌≡◌, ◌≢◌, ℕ, Bool, true, false, List, [], ◌∷◌, ◌++◌, Option, Some}
 use Rattle.std.specs.Prelude.{None}
 use Rattle.ft12.specs.declared.frame.LinkSize.{LinkSize}

@@ -1,7 +1,7 @@
 //! Link procedures of unbalanced transmission (IEC 60870-5-2, over frames of format class FT1.2).
 //!
 //! [`Master`] is the primary station of one line: it says which request goes out next
-//! ([`Master::next`]), hears the octets that come back ([`Master::octets`]) and is told the time
+//! ([`Master::next`]), receives the octets that come back ([`Master::octets`]) and takes the time
 //! ([`Master::due`]). [`Station`] is the other end, a secondary station. Neither reads a clock, nor
 //! a line: moments and octets are handed in, requests and answers are handed out. Left out are
 //! balanced mode, user data without reply, requests for access demand, and links without an
@@ -22,24 +22,25 @@
 //!   ACD and DFC ([`flags_are_heeded`], [`class_1_polls_go_on`]), a command is sent for the first
 //!   time once, in order ([`commands_are_sent_in_order`]), what is offered waits until then
 //!   ([`offers_wait`]) and is taken where no other is under way ([`one_command_at_a_time`]), what
-//!   the caller is told is what the exchanges show ([`outcomes_are_answers`],
+//!   the caller learns is what the exchanges show ([`outcomes_are_answers`],
 //!   [`outcomes_bear_the_reports`]), and those that closed with octets but no answer are counted
 //!   ([`spoilt_exchanges_are_counted`]);
-//! - a reset that ends a session whose last report may be lost is told, and no other
+//! - a reset that ends a session whose last report may be lost is reported, and no other
 //!   ([`gaps_are_reported`], [`gaps_are_ended_sessions`]);
 //! - where a link is given up at a restart no other station changes
-//!   ([`giving_up_is_for_one_station`]), and the exchanges tell it ([`giving_up_is_logged`],
+//!   ([`giving_up_is_for_one_station`]), and the exchanges show it ([`giving_up_is_logged`],
 //!   [`the_latest_exchange_is_marked`]); where a line goes on with other settings each station that
 //!   goes on keeps its frame count bit ([`frame_count_bits_go_on`]), and what is known of its
 //!   session ([`sessions_go_on`]);
 //! - what the crates above go by is one record ([`line_keeps_the_procedures`]);
-//! - a station runs as an outstation that hears each request to it ([`station_is_an_outstation`]),
-//!   and its answers say what waits there ([`answers_show_what_waits`]);
+//! - a station runs as an outstation that receives each request to it
+//!   ([`station_is_an_outstation`]), and its answers say what waits there
+//!   ([`answers_show_what_waits`]);
 //! - a control octet is a value ([`Control`], [`controls_are_octets`]);
-//! - each of the sixteen functions of a secondary station is an answer to a request, or none, and
-//!   is told as its table says ([`answers_are_whole`]), each request has one control octet at each
-//!   address, and no other frame asks the same ([`requests_are_whole`]), and the reserved bit isn't
-//!   looked at ([`reserved_bits_are_not_looked_at`]);
+//! - each of the sixteen functions of a secondary station is an answer to a request, or none, with
+//!   the outcome that its table says ([`answers_are_whole`]), each request has one control octet at
+//!   each address, and no other frame asks the same ([`requests_are_whole`]), and the reserved bit
+//!   isn't looked at ([`reserved_bits_are_not_looked_at`]);
 //! - the tables of control octets, requests, answers, turns and outstations have worked examples
 //!   ([`controls_by_example`], [`answers_by_example`], [`requests_by_example`],
 //!   [`turns_by_example`], [`outstations_by_example`]);

@@ -450,11 +450,11 @@ impl Master {
         }
     }
 
-    /// Hears octets of the line, in any pieces, and says what came of the exchange: its answer is
-    /// the frame at the front of its octets. Those that come while no request is outstanding, and
-    /// those after an answer or after what can't be one, are dropped. A report is lent: from the
-    /// octets, where the whole answer stands there, and else from `room`, in which an answer is put
-    /// that came in pieces. Who has no room to give for each piece calls the parts of this one:
+    /// Receives octets of the line, in any pieces, and says what came of the exchange: its answer
+    /// is the frame at the front of its octets. Those that come while no request is outstanding,
+    /// and those after an answer or after what can't be one, are dropped. A report is lent: from
+    /// the octets, where the whole answer stands there, and else from `room`, in which an answer is
+    /// put that came in pieces. Who has no room to give for each piece calls the parts of this one:
     /// `receive_whole`, `gather_inner`, `gather` and `receive`, in this order.
     pub fn octets<'a>(&mut self, octets: &'a [u8], room: &'a mut Option<Frame>) -> Outcome<'a>
         ensures state { self.new ≡ received (front_of self.old.settings.size) self.old octets.now }
@@ -477,9 +477,9 @@ impl Master {
         }
     }
 
-    /// A part of `octets`. Hears octets of the line with a whole frame at their front, where a
+    /// A part of `octets`. Receives octets of the line with a whole frame at their front, where a
     /// request is outstanding and these are the first octets that come: that is its answer. Else
-    /// nothing is heard, and nothing changes.
+    /// nothing is received, and nothing changes.
     pub fn receive_whole<'a>(&mut self, octets: &'a [u8]) -> Option<Outcome<'a>>
         ensures whole { IfSome result (λ outcome.
             (self.new ≡ received (front_of self.old.settings.size) self.old octets.now)
@@ -509,8 +509,8 @@ impl Master {
 
     /// A part of `octets`. Gathers octets of the line up to one that may be the last of the answer,
     /// and says how many: all where none may. The others are to be gathered as well
-    /// ([`Master::gather`]), and then what is heard is what all of them say. It makes no place for
-    /// a frame, so it is the first call for octets that aren't a whole answer.
+    /// ([`Master::gather`]), and then what is received is what all of them say. It makes no place
+    /// for a frame, so it is the first call for octets that aren't a whole answer.
     pub fn gather_inner(&mut self, octets: &[u8]) -> usize
         ensures within { result ≤ length octets.now }
         ensures all { result ≡ length octets.now → (self.new
@@ -537,7 +537,7 @@ impl Master {
     /// A part of `octets`. Gathers octets of the line, in any pieces, up to the frame that is the
     /// answer: the one at the front of the octets of the exchange. Those that come while no request
     /// is outstanding, and those after an answer or after what can't be one, are dropped. The frame
-    /// is to be heard ([`Master::receive`]).
+    /// is to be received ([`Master::receive`]).
     #[inline(never)]
     pub fn gather(&mut self, octets: &[u8]) -> Option<Frame>
         ensures frame { result ≡ completed (front_of self.old.settings.size) self.old octets.now }
@@ -557,8 +557,8 @@ impl Master {
         }
     }
 
-    /// A part of `octets`. Hears the frame that is the answer to the outstanding request, and says
-    /// what came of the exchange. Asks for at most 253 octets of data.
+    /// A part of `octets`. Receives the frame that is the answer to the outstanding request, and
+    /// says what came of the exchange. Asks for at most 253 octets of data.
     #[inline(always)]
     pub fn receive<'a>(&mut self, frame: FrameRef<'a>) -> Outcome<'a>
         requires { FitsMemory frame }

@@ -1,4 +1,4 @@
-//! What the caller of a primary station is told of an exchange.
+//! What the caller of a primary station learns of an exchange.
 ghost use Rattle.std.specs.Prelude.{◌≡◌, ◌≤◌, length};
 ghost use Rattle.link.specs.Primary.{outcome_by, with_gap};
 
@@ -71,7 +71,7 @@ pub enum Outcome<'a> {
     Down(usize),
 }
 
-/// What an answer to the request is told as, where the station's session has this gap.
+/// The outcome of an answer to the request, where the station's session has this gap.
 pub(crate) fn outcome_for<'a>(
     station: usize,
     gap: Option<u64>,
@@ -91,7 +91,7 @@ pub(crate) fn outcome_for<'a>(
         (_, Answer::NoData) => Outcome::Empty(station),
         // Also of a station that was down already (docs/DECISIONS.md, "What is an outcome").
         (_, Answer::Unable) => Outcome::Down(station),
-        // The status was answered. The reset follows, and its answer is what is told.
+        // The status was answered. The reset follows, and its answer is what is reported.
         (_, _) => Outcome::None,
     }
 }

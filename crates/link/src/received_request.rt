@@ -1,4 +1,4 @@
-//! A request as a station hears it.
+//! A request as a station receives it.
 ghost use Rattle.std.specs.Prelude.{◌≡◌, ◌≤◌, [], length};
 ghost use Rattle.ft12.specs.Borrowed.{owned, FitsMemory};
 ghost use Rattle.link.specs.Answers.{answer_of};
@@ -12,7 +12,7 @@ use crate::service::{Asked, Service};
 use ft12::FrameRef;
 use std::marker::Model;
 
-/// A request as a station hears it: its user data may be as long as a frame has room for.
+/// A request as a station receives it: its user data may be as long as a frame has room for.
 #[derive(Drop)]
 pub struct ReceivedRequest {
     /// What is asked, but for the octets of a command.

@@ -292,11 +292,11 @@ impl Station {
         }
     }
 
-    /// Hears octets: answers a whole frame with PRM 1 to its own address, and nothing else. An
+    /// Receives octets: answers a whole frame with PRM 1 to its own address, and nothing else. An
     /// unchanged frame count bit gives the last answer again. With a new one a poll gives the
     /// oldest report of its class, and a command is accepted, or answered that the station is busy
-    /// where memory is refused. Requests that it doesn't know are answered that
-    /// they aren't implemented.
+    /// where memory is refused. Requests that it doesn't know are answered that they aren't
+    /// implemented.
     pub fn receive(&mut self, octets: &[u8]) -> Option<Frame>
         ensures arrived { ReceivesOctets self.old octets.now result self.new }
         ensures fits { IfSome result (Fits self.old.size) }

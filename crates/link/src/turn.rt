@@ -97,7 +97,7 @@ impl StationState {
             // As ACD is now, behind the command (docs/DECISIONS.md, "ACD when the polls begin").
             Phase::Polling if self.acd => Some(Wish::PollClass1(fcb, 1)),
             Phase::Polling => Some(Wish::PollClass2(fcb)),
-            // At most `burst`, so a station with much to tell doesn't keep the line from the
+            // At most `burst`, so a station with much to report doesn't keep the line from the
             // others.
             Phase::Class1Polling(sent) if self.acd && sent < burst => {
                 Some(Wish::PollClass1(fcb, sent + 1))
@@ -160,7 +160,7 @@ impl StationState {
             (Link::Held(_, service, _), Phase::Starting) if may_poll || !poll_service(service) => {
                 Some(Wish::SendHeld(Phase::Commanding))
             }
-            // Nothing passes it: a new bit would tell the station that its answer came
+            // Nothing passes it: a new bit would show the station that its answer came
             // (docs/DECISIONS.md, "A held service").
             (Link::Held(_, _, _), Phase::Starting) => None,
             (Link::Held(_, _, _), phase) if again => Some(Wish::SendHeld(phase)),

@@ -15,7 +15,7 @@ fn cut(line: &Line) -> Line
 {
     match line {
         Line::Free => Line::Free,
-        // It may act yet, but nobody is left to be told.
+        // It may act yet, but nobody is left to get its answer.
         Line::Holds(_) | Line::CutOff => Line::CutOff,
     }
 }

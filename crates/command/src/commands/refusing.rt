@@ -1,4 +1,4 @@
-//! By which rule an ASDU is refused, told apart from its judgement.
+//! By which rule an ASDU is refused, asked apart from its judgement.
 ghost use Rattle.std.specs.Prelude.{◌≡◌, ◌≤◌, false, length, is_some};
 ghost use Rattle.command.specs.Refusals.{tag_rule as rule_of_tag, form_rule as rule_of_form};
 ghost use Rattle.command.specs.Refusals.{fault_rule as rule_of_fault};
@@ -90,7 +90,7 @@ impl Commands {
 
     /// By which rule an ASDU was refused, or none where it was forwarded, by a glance that was
     /// taken before its judgement. The glance then is what it would have been after that judgement:
-    /// so of several ASDUs each is told in its turn, when all are judged.
+    /// so the rule of each of several ASDUs can be asked in its turn, when all are judged.
     pub fn refusal_at(
         &self,
         glance: &mut Glance,

@@ -51,8 +51,8 @@ pub fn frame_count_bits_go_on()
 
 /// What is known of a station's session outlives a restart: where its link is given up, where an
 /// exchange is broken off, and where it goes on with other settings, its session keeps its number,
-/// and that its last report may be lost, until the next reset is answered: so a gap is told then.
-/// Where it is marked, the station's own session has a gap, and no other session changes.
+/// and that its last report may be lost, until the next reset is answered: so a gap is reported
+/// then. Where it is marked, the station's own session has a gap, and no other session changes.
 pub fn sessions_go_on()
     ensures given_up { (p : Primary) (k j : ℕ) →
         (station_at (given_up k p).stations j).session ≡ (station_at p.stations j).session }
@@ -67,9 +67,9 @@ pub fn sessions_go_on()
         station_at (gap_marked k p).stations j ≡ station_at p.stations j }
 {}
 
-/// Where a primary tells the exchanges of its line, it tells them through giving up. By them a
-/// station awaits a command exactly where the machine says so. The link that is given up is the
-/// link of the exchanges that are marked, at one station and at all that await a command. The
+/// Where a primary matches the exchanges of its line, it still matches them after giving up. By
+/// them a station awaits a command exactly where the machine says so. The link that is given up is
+/// the link of the exchanges that are marked, at one station and at all that await a command. The
 /// reports of the exchanges, and the sessions of a station that ended with a gap, stay what they
 /// were.
 pub fn giving_up_is_logged()

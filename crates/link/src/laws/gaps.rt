@@ -1,4 +1,4 @@
-//! Gaps told: which answered resets end a session whose last report may be lost.
+//! Gaps reported: which answered resets end a session whose last report may be lost.
 ghost use Rattle.std.specs.Prelude.{◌≡◌, ◌++◌, ℕ, List, length, Option};
 ghost use Rattle.ft12.specs.declared.frame.LinkSize.{LinkSize};
 ghost use Rattle.ft12.specs.Fronts.{front_of};
@@ -15,8 +15,8 @@ ghost use Rattle.link.specs.Matching.{Matches, gap_in_outcome};
 use ft12::front_is_computed;
 
 /// Through the calls of a primary station, the sessions of a station that ended with a gap, by its
-/// exchanges, grow by exactly those that the outcomes tell. (That an answered reset without a gap
-/// is told as a start is said of all outcomes, by `outcomes_are_answers`.)
+/// exchanges, grow by exactly those that the outcomes report. (That an answered reset without a gap
+/// is reported as a start is said of all outcomes, by `outcomes_are_answers`.)
 pub fn gaps_are_reported()
     ensures octets { (settings : LinkSettings) (addresses : List ℕ) (p : Primary) (e : Exchanges)
         (octets : List ℕ) (station : ℕ) → Matches settings addresses p e →

@@ -13,9 +13,9 @@ ghost use Rattle.link.specs.Life.{Call, Receive, after, requests_received, turns
 ghost use Rattle.link.specs.Life.{given2};
 ghost use Rattle.link.specs.Life.{reported1, reported2, u64_saturate};
 
-/// Whatever it is called for, a station runs as the outstation that a primary counts on, and hears
-/// each request to it. It gives the reports of each class in order, each once. Its address and its
-/// size of addresses stay.
+/// Whatever it is called for, a station runs as the outstation that a primary counts on, and
+/// receives each request to it. It gives the reports of each class in order, each once. Its address
+/// and its size of addresses stay.
 pub fn station_is_an_outstation()
     ensures run { (s : Secondary) (calls : List Call) →
         OutstationRun s.address (outstation_of s) (requests_received s.address calls)

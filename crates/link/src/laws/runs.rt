@@ -53,9 +53,9 @@ pub fn turns_go_round()
         nth_after count place steps ≡ (place + steps) % count }
 {}
 
-/// What the caller is told of octets is the answer of the exchange that is outstanding, if they
-/// complete it. A moment that closes it is told where the station's link is down then. Where none
-/// is outstanding nothing happens, and nothing is told.
+/// What the caller learns of octets is the answer of the exchange that is outstanding, if they
+/// complete it. Where a moment closes it, the caller learns of a station whose link is down then.
+/// Where none is outstanding nothing happens, and nothing is reported.
 pub fn outcomes_are_answers()
     ensures octets { (settings : LinkSettings) (addresses : List ℕ) (p : Primary) (e : Exchanges)
         (octets : List ℕ) (x : OpenExchange) →

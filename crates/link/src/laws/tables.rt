@@ -11,9 +11,9 @@ ghost use Rattle.link.specs.Tables.{row, answer_in, outcome_row, outcome_in, dat
 ghost use Rattle.link.specs.Tables.{plain_row, counted_row, reading_in};
 
 /// For each request, each of the sixteen functions of a secondary station is an answer that its
-/// table says, or none, and so is what the caller is told of it. A frame that a primary station
-/// sent (PRM 1), or that has another address, answers nothing. An answer's ACD and DFC are its bits
-/// 5 and 4, and the single character has neither.
+/// table says, or none, and so is what the caller learns of it. A frame that a primary station sent
+/// (PRM 1), or that has another address, answers nothing. An answer's ACD and DFC are its bits 5
+/// and 4, and the single character has neither.
 pub fn answers_are_whole()
     ensures fixed { (station : ℕ) (request : Asked) (octet : ℕ) → octet / 64 % 2 ≡ 0 →
         answer_of station request (Fixed octet station)

@@ -155,7 +155,7 @@ impl Master {
     }
 
     /// Marks that of the latest session of the station with this index a report may be lost: that
-    /// is told where its link is reset.
+    /// is reported where its link is reset.
     pub fn mark_gap(&mut self, station: usize)
         requires { station < length self.old.stations }
         ensures { self.new ≡ gap_marked station self.old }

@@ -240,7 +240,7 @@ fn octets_from(alloc: Global, numbers: &[u64]) -> Result<Option<Vec<u8>>, AllocE
     Ok(Some(octets))
 }
 
-/// Whether nothing can be heard any more, and the octets that came of the answer.
+/// Whether nothing can be received any more, and the octets that came of the answer.
 fn received_by(
     alloc: Global,
     kind: u64,
@@ -258,8 +258,8 @@ fn received_by(
     }
 }
 
-/// What the second line says of the answer: whether nothing can be heard any more, and the octets
-/// that came.
+/// What the second line says of the answer: whether nothing can be received any more, and the
+/// octets that came.
 fn answered_with(alloc: Global, numbers: &[u64]) -> Result<Option<(bool, Vec<u8>)>, AllocError>
     ensures { IfOk result (λ o. option_map (λ h. (h.0, h.1.items)) o ≡ received_in numbers.now) }
 {
@@ -270,7 +270,7 @@ fn answered_with(alloc: Global, numbers: &[u64]) -> Result<Option<(bool, Vec<u8>
 }
 
 impl Master {
-    /// A primary station with these parts, where they fit the line, and where what was heard of an
+    /// A primary station with these parts, where they fit the line, and where what arrived of an
     /// answer is the beginning of a frame.
     fn restored(
         settings: LinkSettings,

@@ -3,7 +3,7 @@ use Rattle.std.specs.List.{filter_map}
 use Rattle.command.specs.Selection.{advanced as next_of}
 use Rattle.command.proofs.keeping.advance_all.Given as goal
 
--- those before the place have heard of the sign, and the others haven't
+-- those before the place have heeded the sign, and the others haven't
 abbrev pub invariant-selections : goal.invariant-selections
 invariant-selections l = record {
   whole : take l.place l.selections.items

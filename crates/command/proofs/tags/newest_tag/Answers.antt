@@ -10,7 +10,7 @@ use Rattle.command.specs.declared.content.Target.{Target}
 use Rattle.command.specs.declared.tags.Sending.{Sending}
 use Rattle.command.proofs.tags.newest_tag.Goals as goal
 
--- the last sending tells, where it has the target
+-- the last sending decides, where it has the target
 newest_last : (t : Target) (found : Option Cp56) (zs : List Sending) (z : Sending)
     → newest_tag t found (zs ++ z ∷ []) ≡ (if same_target z.target t then z.tag
     else newest_tag t found zs)
@@ -32,7 +32,7 @@ returns c =
     sym (ap (λ n. newest_tag c.args.target None (take n c.args.sendings.now.items)) none)
     ∙ c.sendings.invariant.others
 
--- what the sending at the place tells of all
+-- what the sending at the place adds
 heeded : (t : Target) (zs : List Sending) (place : ℕ) (z : Sending) → 1 ≤ place
     → slice_get zs (place - 1) ≡ Some z
     → newest_tag t None (take place zs) ≡ newest_tag t None zs

@@ -4,7 +4,7 @@ use Rattle.link.specs.Primary.{Primary}
 use Rattle.link.proofs.Receiving.{rest_received}
 use Rattle.link.proofs.master.Master.gather_inner.Goals as goal
 
--- the first octets are taken, and the others are heard with them
+-- the first octets are taken, and the others are received with them
 pub returns-in-Some-clause-rest : goal.returns-in-Some-clause-rest
 returns-in-Some-clause-rest c = λ lt.
     let p : Primary = c.args.self.now in
