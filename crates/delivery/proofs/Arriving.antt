@@ -180,7 +180,7 @@ arrivals_stay (U u ∷ older) logs more h =
 
 -- ---- The wall clock
 
--- an entry that tells no wall clock changes nothing
+-- an entry that gives no wall clock changes nothing
 further : (entry : LogEntry) (log : Log) (at clock : ℕ)
     → ((l : Log) → HasNoWall l → HasNoWall (entry ∷ l))
     → ShowsAt log at clock → ShowsAt (entry ∷ log) at clock

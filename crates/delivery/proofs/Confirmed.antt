@@ -85,7 +85,7 @@ confirmed_learnt s a missed pending (x ∷ xs) =
     (confirmed_learnt s a more later xs)
     ∙ sym (commands-append (learnt_by x.request (answer_to a x)) (learnt a xs))
 
--- what is still to be told confirms nothing, and sends nothing
+-- what is still to be logged confirms nothing, and sends nothing
 pub confirmed_alike : (k : ℕ) (o : Option ℕ) (w : Works)
     → confirmed_by (steps_logged k w.history) ≡ confirmed_by (steps_logged k (logged_silent o w))
 confirmed_alike k None w = refl

@@ -264,7 +264,7 @@ session_is : map (λ (s : Session). s.turns)
 unfolding front_of
 session_is = refl
 
--- What the course tells
+-- What the course logs
 
 abbrev logged : History
 logged = Refused 0 None ∷ Sent 0 (2 ∷ []) ∷ Sent 1 (3 ∷ []) ∷ Ended ∷ Accepted 0 ∷ Sent 0 (1 ∷ [])
@@ -274,7 +274,7 @@ logged_of_first : steps_logged 0 logged ≡ Begun (1 ∷ []) ∷ Confirmed (1 �
     ∷ Busy (2 ∷ []) ∷ []
 logged_of_first = refl
 
--- what is given up is told for its own station alone
+-- what is given up is logged for its own station alone
 logged_lost : steps_logged 0 (GivenUp 1 true ∷ GivenUp 0 true ∷ Sent 0 (1 ∷ []) ∷ [])
     ≡ Begun (1 ∷ []) ∷ Lost ∷ []
 logged_lost = refl
@@ -282,7 +282,7 @@ logged_lost = refl
 logged_of_second : steps_logged 1 logged ≡ Begun (3 ∷ []) ∷ []
 logged_of_second = refl
 
--- An ASDU is told with the moment of its entry of the log, and with no other.
+-- An ASDU is logged with the moment of its entry of the log, and with no other.
 at_its_moment : LogsAtMoments (Came 9 Ticked ∷ Came 5 (TcpIn []) ∷ [])
     (Judged 5 None from_centre None ∷ [])
 at_its_moment = (
@@ -338,9 +338,8 @@ received_in_order : map (λ (x : Arrival). x.asdu)
     ∷ [])) ≡ (1 ∷ []) ∷ (2 ∷ []) ∷ (3 ∷ []) ∷ []
 received_in_order = refl
 
--- A frame comes in two pieces, the wall clock is told between them, and again: the frame came with
--- its last
--- octet, and the ASDU after that wall moment.
+-- A frame comes in two pieces, and the wall clock is given between them: the frame came with its
+-- last octet, and the ASDU after that wall moment.
 
 abbrev in_pieces : Log
 in_pieces = Came 3 (TcpIn (0 ∷ 1 ∷ [])) ∷ Came 2 (WallIs 500)
@@ -420,7 +419,7 @@ not_given_twice h = go h.given h.received h.whole
     go (x ∷ (y ∷ given)) (inl h) whole = h.1
     go (x ∷ (y ∷ given)) (inr h) whole = h
 
--- stations with one address aren't told apart
+-- stations with one address aren't distinguished
 not_found : AreFound (5 ∷ 5 ∷ []) → ⊥
 not_found h = absurd (omega (arith, one_place 0 1 (h 1 (omega arith))))
   where

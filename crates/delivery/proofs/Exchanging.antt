@@ -1,5 +1,5 @@
 -- What an event or a request makes of the steps of commands, as the exchanges show them and as the
--- course tells them.
+-- course logs them.
 use Rattle.std.specs.Prelude.{◌==◌, ◌&&◌, ◌||◌, not, suc, nat_lt, option_and_then}
 use Rattle.link.specs.Answers.{answer_of}
 use Rattle.std.proofs.Common.{◌≡◌, ℕ, Bool, true, false, List, [], ◌∷◌, ◌++◌, map, Option, Some}
@@ -67,8 +67,8 @@ at_append front i (x ∷ xs) ys = go (x.station == i) (at_append front i xs ys)
 abbrev pub alone : ℕ → LineExchange → List Exchange
 alone i v = if v.station == i then v.exchange ∷ [] else []
 
--- What is told of a station's line is what its exchanges show; and the command that isn't done was
--- sent last.
+-- What is logged of a station's line is what its exchanges show; and the command that isn't done
+-- was sent last.
 pub record IsLogged (s : LinkSettings) (a : ℕ) (xs : List Exchange) (k : ℕ) (h : History) : Type
     0 where
   pub steps : steps_logged k h ≡ steps_in s a 0 None xs
@@ -142,7 +142,7 @@ alike_logged s a k xs request front later closed over given h new alike down sam
 
 -- An answer comes
 
--- what an outcome tells
+-- what an outcome logs
 abbrev pub logged_by : Outcome → History → History
 logged_by (outcome.Accepted station) h = Accepted station ∷ h
 logged_by (outcome.Busy station) h = Refused station None ∷ h
@@ -409,7 +409,7 @@ received_one s a k xs (Counted fcb (Command asdu)) front later (Some answer.NoDa
     proper same t =
     absurd proper
 
--- What is told of one station says nothing of another.
+-- What is logged of one station says nothing of another.
 
 accepted_far : (k j : ℕ) (h : History) → (k == j) ≡ false → line_logged k (Accepted j ∷ h)
     ≡ line_logged k h
@@ -500,7 +500,7 @@ received_far k j request (Some answer.Unable) h far = by_request request
 
 -- A request goes out
 
--- what a request tells that goes out, where it is a command's first sending
+-- what a request that goes out logs, where it is a command's first sending
 abbrev pub logged_asked : Bool → (station : ℕ) → Asked → History → History
 logged_asked true station (Counted fcb (Command asdu)) h = Sent station asdu ∷ h
 logged_asked first station request h = h
@@ -642,7 +642,7 @@ asked_one s a k xs (Counted fcb (Command asdu)) front (Held due service missed) 
 
 -- A moment ends an exchange without an answer
 
--- what silence tells
+-- what silence logs
 abbrev pub logged_due : Outcome → History → History
 logged_due (outcome.Down station) h = GivenUp station false ∷ h
 logged_due other h = h

@@ -1,4 +1,4 @@
--- What the works of the course tell of commands.
+-- What the works of the course log of commands.
 use Rattle.std.proofs.Common.{◌≡◌, ℕ, Bool, true, false, List, [], ◌∷◌, Option, Some, None, refl}
 use Rattle.std.proofs.Common.{◌∙◌, if◌then◌else◌}
 use Rattle.command.specs.State.{State, has_answer_place, offered, first_answer}
@@ -18,7 +18,7 @@ pub record Ignores {X : Type 0} (F : History → X) : Type 0 where
   pub answered : (octets : List ℕ) (h : History) → F (Answered octets ∷ h) ≡ F h
   pub ended : (h : History) → F (Ended ∷ h) ≡ F h
 
--- what is told of the line of station k
+-- what is logged of the line of station k
 pub record LineLogged : Type 0 where
   pub steps : List LineStep
   pub last : List ℕ

@@ -59,7 +59,7 @@ end_in_time p law log c r due xs =
     c.works.serial.silent c.works
     (all_made p log c r)) xs)
 
--- What is told bears the log's moments
+-- What is logged bears the log's moments
 
 are_more : (at : ℕ) (e : HistoryEntry) (h : History) → AreAt at (e ∷ []) → AreAt at h
     → AreAt at (e ∷ h)

@@ -1,4 +1,4 @@
--- The exchanges of the line, and what the course tells of them, as the line goes on.
+-- The exchanges of the line, and what the course logs of them, as the line goes on.
 use Rattle.std.specs.Prelude.{◌==◌, ◌&&◌, ◌||◌, not, nat_le, option_and_then, slice_index}
 use Rattle.std.proofs.Common.{◌≡◌, ◌≢◌, ℕ, ◌<◌, ◌+◌, eq-eqb, Bool, true, false, All, List, [], ◌∷◌}
 use Rattle.std.proofs.Common.{◌++◌}
@@ -145,7 +145,7 @@ pub record LinkLaws : Type 0 where
       (timed settings.answer_ms at x).closed ≡ false → (timed_out q at ≡ q)
       × (due_outcome q at ≡ outcome.None)
 
--- of commands a gap tells nothing
+-- of commands a gap logs nothing
 started_matches : (gap : Option ℕ) (station : ℕ) (h : History) → logged_by (started station gap) h
     ≡ h
 started_matches None station h = refl

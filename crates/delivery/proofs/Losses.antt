@@ -20,7 +20,7 @@ use Rattle.gateway.specs.Traffic.{HasRested}
 use Rattle.delivery.specs.Sessions.{ended, gaps_in, given_in, taken_in, LosesNone, LosesLastAtMost}
 use Rattle.delivery.specs.Sessions.{LoseAsReported}
 
--- each that ended is told where it has a gap
+-- each that ended is reported where it has a gap
 as_logged : (station number : ℕ) (ss : List Session) → AllByRecursion (λ s. HasReports station s) ss
     → LoseAsReported station number ss (ended_with_gap station number ss)
 as_logged station number [] all = refl
@@ -52,7 +52,7 @@ pub logged_so : (station : ℕ) (ss : List Session) (logged : List ℕ)
 logged_so station ss logged all is = subst (LoseAsReported station 1 ss) (sym is)
     (as_logged station 1 ss all)
 
--- once a step is over each gap is told, and a restart makes none
+-- once a step is over each gap is reported, and a restart makes none
 pub gaps_rested : (p : Setup) → ((e : Exchanges) (i : ℕ)
     → gaps_at (front_of p.link.size) p.addresses i
     (commands_given_up p.link (front_of p.link.size) p.addresses e)

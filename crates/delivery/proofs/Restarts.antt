@@ -1,4 +1,4 @@
--- A restart: what the exchanges show of the commands that it gives up, and what the course tells.
+-- A restart: what the exchanges show of the commands that it gives up, and what the course logs.
 use Rattle.std.specs.Prelude.{◌==◌, ◌&&◌, ◌||◌, not, suc, nat_lt}
 use Rattle.std.proofs.Common.{◌≡◌, ℕ, zero, ◌<◌, ◌≤◌, Bool, true, false, List, [], ◌∷◌, ◌++◌, map}
 use Rattle.std.proofs.Common.{length, Option, Some, None, refl, ap, sym, subst, ◌∙◌, ◌⊎◌, inl, inr}
@@ -155,7 +155,7 @@ given_logged s a k xs h new keeps holds same t = record {
   sent = ap (λ (l : LineLogged). l.sent) same ∙ t.sent ∙ sym (sendings_given a None xs);
 }
 
--- ---- What the course tells
+-- ---- What the course logs
 
 -- The works, where some stations' links have been given up: the line is what the exchanges make it,
 -- and what becomes of commands is what they show.

@@ -47,16 +47,16 @@ use Rattle.delivery.proofs.History.{one_fits, kept_fit}
 use Rattle.delivery.proofs.Exchanging.{logged_by, logged_asked, logged_due}
 use Rattle.delivery.proofs.Line.{LinkLaws}
 
--- The history once all is told
+-- The history once all is logged
 
 abbrev pub all_logged : Works → History
 all_logged w = logged_silent w.serial.silent w
 
--- where the step is done, nothing is still to be told
+-- where the step is done, nothing is still to be logged
 abbrev pub IsAllLogged : Works → Type 0
 IsAllLogged w = w.is_due ≡ false → w.serial.silent ≡ None
 
--- what is still to be told makes no difference
+-- what is still to be logged makes no difference
 pub logged_alike : (k : ℕ) (o : Option ℕ) (w z : Works) → line_logged k z.history
     ≡ line_logged k w.history
     → line_logged k (logged_silent o z) ≡ line_logged k (logged_silent o w)
@@ -70,7 +70,7 @@ logged_alike k (Some j) w z same =
           l.sent;
     } in r) same
 
--- what the line's silence tells
+-- what the line's silence logs
 pub silent_logged : (k : ℕ) (o : Outcome) (w : Works)
     → line_logged k (logged_silent (silent_by o) w)
     ≡ line_logged k (logged_due o w.history)
@@ -311,7 +311,7 @@ learnt_of stay p at running (outcome.Report station asdu) w z h =
 
 -- What changes nothing of the line
 
--- the same is told of the line, of stations' answers and of what waits
+-- the same is logged of the line, of stations' answers and of what waits
 pub record IsQuiet (p : Setup) (w z : Works) : Type 0 where
   pub logged : (k : ℕ) → line_logged k (all_logged z) ≡ line_logged k (all_logged w)
   pub left : IsAllLogged w → IsAllLogged z

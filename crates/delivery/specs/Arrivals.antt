@@ -80,8 +80,8 @@ HasNoWall [] = Unit {0}
 HasNoWall (Came now (WallIs number) ∷ log) = ⊥
 HasNoWall (entry ∷ log) = HasNoWall log
 
--- An event of the log told the wall clock, and by the latest such event it shows this at that
--- moment: the number that the event told and the milliseconds since, in 64 bits.
+-- An event of the log gave the wall clock, and by the latest such event it shows this at that
+-- moment: the number that the event gave and the milliseconds since, in 64 bits.
 pub record ShowsAt (log : Log) (at clock : ℕ) : Type 0 where
   pub since : Log
   pub now : ℕ

@@ -1,5 +1,5 @@
 -- Commands on a station's line: what the exchanges of the log show of them, and what the gateway's
--- course tells of them (IEC 60870-5-2, unbalanced transmission procedures: SEND/CONFIRM; IEC
+-- course logs of them (IEC 60870-5-2, unbalanced transmission procedures: SEND/CONFIRM; IEC
 -- 60870-5-101, 7.2).
 use Rattle.std.specs.Prelude.{◌≡◌, ℕ, suc, ◌==◌, ◌&&◌, ◌||◌, not, nat_lt, Bool, true, false}
 use Rattle.std.specs.Prelude.{List, [], ◌∷◌, ◌++◌, map}
@@ -98,7 +98,7 @@ confirmed_by [] = []
 confirmed_by (Confirmed asdu ∷ steps) = asdu ∷ confirmed_by steps
 confirmed_by (_ ∷ steps) = confirmed_by steps
 
--- As the course's history of commands tells it
+-- As the course's history of commands has it
 
 -- the command that was sent to station k last
 abbrev pub last_sent : ℕ → History → List ℕ
@@ -146,7 +146,7 @@ forwarded_in p k (_ ∷ h) = forwarded_in p k h
 
 -- As the control centre sent it
 
--- an ASDU that came, with what the log tells of the wall clock there
+-- an ASDU that came, with what the log says of the wall clock there
 abbrev pub as_judged : Arrival → List ℕ × Option ℕ
 as_judged x = (x.asdu, wall_on x.log (latest x.log))
 

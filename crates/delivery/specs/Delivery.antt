@@ -24,8 +24,9 @@ use Rattle.delivery.specs.Joined.{IsSetUp}
 
 -- The premises, of the station at this place in the settings
 
--- An outstation took these turns at the requests to it, each heard or not; and a frame at the front
--- of an exchange is its answer to that request. So no answer was late, and none was altered unseen.
+-- An outstation took these turns at the requests to it, each received or not; and a frame at the
+-- front of an exchange is its answer to that request. So no answer was late, and none was altered
+-- unseen.
 abbrev pub IsHonest : Setup → Log → ℕ → List Turn → Type 0
 IsHonest p log i turns =
     outstation.IsHonest (address_at p.addresses i) (exchanges_with p i log) turns
@@ -90,14 +91,13 @@ pub record IsRelayed (p : Setup) (log : Log) (i : ℕ) (turns : List Turn) : Typ
 
 -- Nothing is lost, and nothing taken twice: the monitor objects sent on each connection are a
 -- contiguous run of the objects taken, from the first that no earlier connection acknowledged. (The
--- log's one course tells which that is, also where a connection was closed for want of a place for
--- an own answer: its octets alone don't tell how far they were taken.) The
--- objects taken are a merge of those taken from the stations; and from an honest outstation whose
--- link stays up, what was taken is what it reported, or all but its last report. Each command that
--- is put on the line for the first time is one of the control centre's, given once, in the line's
--- octets and without a time tag, and came while its tag, if it had one, was fresh by the wall
--- moments of the log; and so is each that an honest outstation accepted, also where its link was
--- reset on the way.
+-- log's one course shows which that is, also where a connection was closed for want of a place for
+-- an own answer: its octets alone don't show how far they were taken.) The objects taken are a
+-- merge of those taken from the stations; and from an honest outstation whose link stays up, what
+-- was taken is what it reported, or all but its last report. Each command that is put on the line
+-- for the first time is one of the control centre's, given once, in the line's octets and without a
+-- time tag, and came while its tag, if it had one, was fresh by the wall moments of the log; and so
+-- is each that an honest outstation accepted, also where its link was reset on the way.
 pub record Delivers (p : Setup) (log : Log) : Type 0 where
   pub course : Course
   pub course_runs : Runs p log course

@@ -63,17 +63,17 @@ AreValues sizes _ _ = ⊥
 pub record IsJoined (p : Setup) (log : Log) (c : Course) : Type 0 where
   -- its primary station is what the exchanges make it
   pub matches : Matches p.link p.addresses c.works.serial.line (exchanges_of p log)
-  -- What it tells of commands on each station's line, which of them was confirmed and which found
+  -- What it logs of commands on each station's line, which of them was confirmed and which found
   -- the link busy, is what the exchanges show; and what stands on a line is given up exactly where
-  -- they show that its link goes down. What silence takes down is told in the same step, once the
-  -- event's frames are taken; so this is said of the history with what is still to be told.
+  -- they show that its link goes down. What silence takes down is logged in the same step, once the
+  -- event's frames are taken; so this is said of the history with what is still to be logged.
   pub steps : (k : ℕ) → steps_logged k (logged_silent c.works.serial.silent c.works)
       ≡ steps_in p.link (address_at p.addresses k) 0 None (exchanges_with p k log)
   -- once the step is done, nothing is
   pub all_logged : c.works.is_due ≡ false → c.works.serial.silent ≡ None
   pub sent : (k : ℕ) → sent_to k c.works.history
       ≡ first_sendings (address_at p.addresses k) None (exchanges_with p k log)
-  -- those confirmed are those that the exchanges told of as accepted by the outstation
+  -- those confirmed are those that the exchanges show as accepted by the outstation
   pub confirmed : (k : ℕ) → confirmed_by (steps_logged k c.works.history)
       ≡ commands (learnt (address_at p.addresses k) (exchanges_with p k log))
   -- the stations' answers to commands are, in order, the reports of command types that were taken

@@ -40,7 +40,7 @@ AreAt at (Judged now wall xs answer ∷ h) = (now ≡ at) × AreAt at h
 AreAt at (Mirrored now v ∷ h) = (now ≡ at) × AreAt at h
 AreAt at (_ ∷ h) = AreAt at h
 
--- What is told with each entry of the log bears the moment of that entry's step.
+-- What is logged with each entry of the log bears the moment of that entry's step.
 abbrev pub LogsAtMoments : Log → History → Type 0
 LogsAtMoments [] h = AreAt 0 h
 LogsAtMoments (entry ∷ log) h =

@@ -1,5 +1,5 @@
 -- Sessions of a station's link, from one answered reset to the next (IEC 60870-5-2, link reset in
--- unbalanced transmission), as an operator is told of them (this gateway's own profile).
+-- unbalanced transmission), as an operator learns of them (this gateway's own profile).
 use Rattle.std.specs.Prelude.{◌≡◌, ◌⊎◌, ℕ, suc, ◌+◌, ◌-◌, List, [], ◌∷◌, length, None}
 use Rattle.std.specs.Prelude.{if◌then◌else◌}
 use Rattle.std.specs.Io.Iter.{u64_saturate}
@@ -25,8 +25,8 @@ LosesLastAtMost station s =
     IsAllOrButLast (reports (all_done s.turns)) (reports (learnt station s.exchanges))
 
 -- Of these sessions, the first with this number, each that ended lost no report, or its number is
--- told as a gap and it lost its last report at most; and no others are told. (A session goes on
--- until its next answered reset: of the latest nothing is told.)
+-- reported as a gap and it lost its last report at most; and no others are reported. (A session
+-- goes on until its next answered reset: of the latest nothing is reported.)
 abbrev pub LoseAsReported : (station number : ℕ) → List Session → (logged : List ℕ) → Type 0
 LoseAsReported station number [] logged = logged ≡ []
 LoseAsReported station number (session ∷ []) logged = logged ≡ []
@@ -53,7 +53,7 @@ abbrev pub taken_in : (station : ℕ) → List Session → ℕ
 taken_in station [] = 0
 taken_in station (s ∷ ss) = length (reports (learnt station s.exchanges)) + taken_in station ss
 
--- What is told of the sessions of a link: how many resets were answered, with how many gaps
+-- What is reported of the sessions of a link: how many resets were answered, with how many gaps
 -- sessions ended, and how many reports, given in those that ended, were not taken.
 pub record SessionCounts : Type 0 where
   pub sessions : ℕ

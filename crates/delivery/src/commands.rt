@@ -59,7 +59,7 @@ pub fn the_course_is_the_logs()
 /// before; and once the timers of a step are done, and from its request on until the next event
 /// comes, each selection that is kept has a select that stands, and that, or its latest
 /// confirmation, came less than that before. What came from the control centre and what stations
-/// answered is told with the moment of its entry of the log.
+/// answered bears the moment of its entry of the log.
 pub fn selections_end_in_time()
     ensures { (p : Setup) (log : Log) (c : Course) → Runs p log c → KeepsSelections p log c }
 {

@@ -72,9 +72,9 @@ pub fn each_session_is_known()
     commands_are_accepted();
 }
 
-/// Where reports may be lost the log tells of it: between steps, each session of an honest
-/// outstation's link that ended lost no report, or is told as a gap, by its number from 1, and lost
-/// its last report at most. Nothing else is told as a gap.
+/// Where reports may be lost the log says so: between steps, each session of an honest outstation's
+/// link that ended lost no report, or is reported as a gap, by its number from 1, and lost its last
+/// report at most. Nothing else is reported as a gap.
 pub fn losses_are_reported()
     ensures { (p : Setup) (log : Log) (i : ℕ) (turns : List Turn) → IsFaithful p log →
         HasRested p log → i < length p.addresses → IsHonest p log i turns →

@@ -3,11 +3,11 @@
 //!
 //! Laws over every log of a gateway ([`gateway::drive`] promises that its log is faithful), with no
 //! body, since they hold of definitions. Upwards: [`nothing_is_lost`], and
-//! [`each_session_is_known`] for links that are reset on the way, where [`losses_are_reported`] as gaps
-//! and [`losses_have_gaps`] says how many there are at most. What comes of it to the control centre
-//! is one run, over closes and new connections: [`what_has_come_is_one_run`]. Downwards:
-//! [`each_command_is_given_once`]. Between them: [`the_course_is_the_logs`], that what the
-//! gateway's course tells of the line and of commands is what the octets of the log show; and
+//! [`each_session_is_known`] for links that are reset on the way, where [`losses_are_reported`] as
+//! gaps and [`losses_have_gaps`] says how many gaps there are at most. What comes of it to the
+//! control centre is one run, over closes and new connections: [`what_has_come_is_one_run`].
+//! Downwards: [`each_command_is_given_once`]. Between them: [`the_course_is_the_logs`], that what
+//! the gateway's course logs of the line and of commands is what the octets of the log show; and
 //! [`selections_end_in_time`], by the log's moments.
 //!
 //! Their premises are of the line alone: serial answers are neither late nor altered unseen

@@ -210,7 +210,7 @@ module _ (law : IsForOne) where
       → without_commands s ≡ s
   kept s none = kept_upto (length s.line.stations) s none
 
--- nothing is left to be told that wasn't before
+-- nothing is left to be reported that wasn't before
 
 one_silent : (k : ℕ) (s : Serial) → (command_given_up k s).silent ≡ s.silent
 one_silent k s = go (awaits_command s.line k)

@@ -1,4 +1,4 @@
--- The line's lemmas where a port may tell no log, in the form that answers cite.
+-- The line's lemmas where a port may give no log, in the form that answers cite.
 use Rattle.std.proofs.Common.{◌≡◌, ℕ, ◌≤◌, ◌+◌, ◌==◌, Bool, true, false, not, List, [], ◌∷◌, ◌++◌}
 use Rattle.std.proofs.Common.{length, refl, ap, sym, ◌∙◌, subst, arith, inl, inr, Option, Some}
 use Rattle.std.proofs.Common.{None}
@@ -94,7 +94,7 @@ module _ (laws : LineLaws) (p : Setup) (s : State) (log : Log) (a : Agrees p s l
   abbrev q : Primary
   q = (serial.offered s.serial).line
 
-  -- each gap is told
+  -- each gap is reported
   none_left : w.serial.gap ≡ None
   none_left = sym (gap_in Timed at (room_in p log a.course) w)
       ∙ ap (λ (z : Serial). z.gap) (sym a.stands.does) ∙ no_gap
@@ -322,9 +322,8 @@ ready_state : (s r : State) (p : Setup) (logged : Option Log) → IsReady p s r 
     → after_next r x ≡ asked_state s x
 ready_state s r p logged ready x = ap (λ (z : State). after_next z x) ready.is
 
--- the same where a port may tell no log: s is the state before commands were offered, r the one
--- after, t the
--- one once asked
+-- the same where a port may give no log: s is the state before commands were offered, r the one
+-- after, t the one once asked
 
 pub asked_none : (laws : LineLaws) (p : Setup) (logged : Option Log) (s r t : State) → s.serial.gap
     ≡ None → IsInTime s.moment s.centre.session
@@ -489,12 +488,12 @@ logged_settled p None s t is h = tt
 logged_settled p (Some log) s t is a = subst (λ x. Agrees p x log [] Timed) (sym is)
     (now_settled p s log a)
 
--- and each gap stays told
+-- and each gap stays reported
 pub still_logged : (s t : State) → t ≡ settled s → s.serial.gap ≡ None → t.serial.gap ≡ None
 still_logged s t is none = ap (λ (x : State). x.serial.gap) is ∙ settled_gap s.moment s.serial
     ∙ none
 
--- A gap is told
+-- A gap is reported
 
 one_more : (b : Bool) (xs : List ℕ) (session : ℕ) → (if b then xs ++ session ∷ [] else xs) ≡ xs
     ++ (if b then session ∷ [] else [])

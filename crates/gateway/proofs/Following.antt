@@ -1,4 +1,4 @@
--- Each step follows its log, where a port may tell none.
+-- Each step follows its log, where a port may give none.
 use Rattle.std.proofs.Common.{◌≡◌, ℕ, ◌+◌, Bool, true, false, List, [], ◌∷◌}
 use Rattle.std.proofs.Common.{length, refl, ap, sym, ◌∙◌, subst, arith, Option, Some, None}
 use Rattle.std.proofs.Common.{length-append}
@@ -83,7 +83,7 @@ step_follows laws p true logged s last spent h =
     follows laws p logged s (record { confirmed = last; spent = spent }) h
 step_follows laws p false logged s last spent h = tt
 
--- an event that a port told has come
+-- an event that a port gave has come
 pub come : (p : Setup) (logged after : Option Log) (s : State) (now : ℕ) (event : Input)
     (news : List LogEntry)
     → after ≡ with_news logged news → news ≡ Came now event ∷ [] → Follows p s logged

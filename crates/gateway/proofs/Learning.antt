@@ -77,7 +77,7 @@ is_left p s (Came now Restarted ∷ log) a =
     fresh_left p (Came now Restarted ∷ log) a.course a.stands.asks.0 a.stands.asks.1
 is_left p s (entry ∷ log) a = record { logged = a.stands.asks.2; none = a.stands.asks.0; is = refl }
 
--- no gap is left of the step before, and each is told
+-- no gap is left of the step before, and each is reported
 pub none_left : (p : Setup) (s : State) (log : Log) (a : Agrees p s log [] (resting log))
     → s.serial.gap ≡ None
 none_left p s log a = ap (λ (z : Serial). z.gap) (at_rest_works p s log a)

@@ -1,4 +1,4 @@
--- The moment of a step is the greatest that was told.
+-- The moment of a step is the greatest that was given.
 use Rattle.std.proofs.Common.{◌≡◌, ℕ, ◌≤◌, ◌<◌, nat_le, true, false, [], ◌∷◌, max, min, refl, sym}
 use Rattle.std.proofs.Common.{subst, inl, inr, le_trans, le_refl, le_of_lt, zero-le}
 use Rattle.std.specs.Prelude.{◌⊎◌}

@@ -43,7 +43,7 @@ pub offers_stay : (q r : Primary) (s t : tasks.State) → ((k : ℕ) → offered
     → t.waiting ≡ s.waiting → OffersWait q s → OffersWait r t
 offers_stay q r s t same waiting h = offers_keep q r s t same (same_waits s t waiting) h
 
--- a frame is heard
+-- a frame is received
 received_waits : (laws : CommandLaws) (f : Apdu) (now : ℕ) (wall : Option ℕ) (s : tasks.State)
     (k : ℕ)
     (x : List ℕ)

@@ -29,7 +29,7 @@ pub record AsduLaws : Type 0 where
   pub objects : (s : Sizes) (u : AsduValue) (xs : List ℕ) → IsAsdu s u xs → objects_of s xs
       ≡ value_objects u
 
--- objects tell what stands in an ASDU
+-- objects show what stands in an ASDU
 same_infos : (v : AsduValue) (is js : List Info) → map (object_in v) is ≡ map (object_in v) js
     → is ≡ js
 same_infos v [] [] e = refl

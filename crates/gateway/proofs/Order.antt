@@ -127,7 +127,7 @@ logged_before p log Timeout c why logged h = why.logged
 logged_before p log OwnAnswers c why logged h = logged h
 logged_before p log Replaced c why logged h = logged h
 
--- once the timers have closed a connection, the step has no gap left to tell
+-- once the timers have closed a connection, the step has no gap left to report
 late_logged : (p : Setup) (log : Log) (c : Course) → Runs p log c
     → list_any is_late (step_actions log) ≡ true
     → c.works.serial.gap ≡ None

@@ -1,4 +1,4 @@
--- The lemmas of Agreement where a port may tell no log, in the form that answers cite.
+-- The lemmas of Agreement where a port may give no log, in the form that answers cite.
 use Rattle.std.proofs.Common.{◌≡◌, ℕ, ◌<◌, ◌&&◌, ◌||◌, Bool, true, false, not, cond, List, [], ◌∷◌}
 use Rattle.std.proofs.Common.{length, arith, length-append, refl, ap, sym, ◌∙◌, subst, Option, Some}
 use Rattle.std.proofs.Common.{None, inl, inr}

@@ -79,7 +79,7 @@ StartMatches = (settings : LinkSettings) (addresses : List ℕ) → 0 < length a
     → All (FitsAddress settings.size) addresses
     → Matches settings addresses (start settings addresses) no_exchanges
 
--- nothing has been told yet
+-- nothing has been logged yet
 pub at_first : (c : Settings) → StartMatches → SessionLaws → CommandLaws → PassingLaws → LineLaws
     → AreStations c.line.link c.line.sizes.ca c.stations → IsTimely (session_of c.tcp)
     → Agrees (setup_of c) (first_state c) [] [] Fresh
@@ -147,7 +147,7 @@ timely t = record {
   patient = omega (arith, t.t1_in_range.0);
 }
 
--- at the start, of a port that tells an empty log
+-- at the start, of a port that gives an empty log
 
 pub first_follows : (c : Settings) (s : State) (logged : Option Log) → StartMatches → SessionLaws
     → CommandLaws → PassingLaws → LineLaws
@@ -169,7 +169,7 @@ logged_follows p s logged h e = subst (λ o. Follows p s o) (sym e) h
 pub nothing_rests : (p : Setup) (logged : Option Log) → logged ≡ Some [] → Rests p logged
 nothing_rests p logged e = subst (Rests p) (sym e) tt
 
--- what follows of each log that is told
+-- what follows of each log that is given
 pub of_logged : (P Q : Log → Type 0) (logged : Option Log) → IfSome logged P
     → ((log : Log) → P log → Q log) → IfSome logged Q
 of_logged P Q None h q = tt

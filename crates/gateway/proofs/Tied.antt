@@ -147,7 +147,7 @@ fault_cases P p2 p3 p4 sent older (S nr) cause e =
     one false e = cc
 fault_cases P p2 p3 p4 sent older (U u) cause e = cc
 
--- the connection once it heard one more frame
+-- the connection once it received one more frame
 abbrev pub received_more : Apdu → Connection → Connection
 received_more f c = record { sent_frames = c.sent_frames; received_frames = f ∷ c.received_frames }
 

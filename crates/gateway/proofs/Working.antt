@@ -98,7 +98,7 @@ kept_plain (x ∷ xs) s h k =
     either_plain (has_answer_place s) (kept_until xs (tasks.offered x s)) (tasks.offered x s)
     (kept_plain xs (tasks.offered x s) h.1 one) one
 
--- A frame is heard
+-- A frame is received
 
 pub received_overfull : (f : Apdu) (now : ℕ) (wall : Option ℕ) (w : Works)
     → has_place f now wall w.serial.commands ≡ false

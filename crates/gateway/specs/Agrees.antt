@@ -64,7 +64,7 @@ abbrev pub OffersWait : Primary → tasks.State → Type 0
 OffersWait q s = (k : ℕ) (octets : List ℕ) → offered_at q k ≡ Some octets →
     octets_waiting k s ≡ Some octets
 
--- what was told of gaps, and the one that is still to be told, are those of the exchanges
+-- the gaps that were reported, and the one that is still to be reported, are those of the exchanges
 abbrev pub GapsReported : Setup → Log → Option Gap → Type 0
 GapsReported p log gap = (station : ℕ) → gaps_reported station log ++ gap_for station gap
     ≡ gaps_of p station log
@@ -191,7 +191,7 @@ pub record Agrees (p : Setup) (s : State) (log : Log) (unjudged : List ℕ)
       (taken_pieces p log) course.earlier course.sent s.centre.queue.unsent
   pub before : Past p log course.earlier
 
--- the same where the port tells its log
+-- the same where the port gives its log
 abbrev pub Tracks : Setup → State → Option Log → List ℕ → Phase → Type 0
 Tracks p s logged unjudged phase = IfSome logged (λ log. Agrees p s log unjudged phase)
 

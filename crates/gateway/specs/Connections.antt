@@ -106,7 +106,7 @@ pub record BeginsWithFault (sent : ℕ) (received : List Apdu) (cause : Close)
 
 -- What stands behind the frames received: the beginning of a frame, or what closes the connection.
 -- Where that is an own answer without a place, what is left of the octets was dropped; which frames
--- came, the log's one course tells (the law `one_course`).
+-- came, the log's one course shows (the law `one_course`).
 abbrev pub IsBehind : Bool → ℕ → List Apdu → Option Close → List ℕ → Type 0
 IsBehind lacked_place sent received None rest = IsMore rest
 IsBehind lacked_place sent received (Some Grammar) rest = IsRefused rest
@@ -116,7 +116,7 @@ IsBehind lacked_place sent received (Some cause) rest = BeginsWithFault sent rec
 -- The frames of a connection are those that the grammar finds, one after another, in its joined
 -- octets. In the octets handed to TCP there is nothing else. In those received they go up to what
 -- closes the connection, if anything does. (The law `one_reading`: there are no other frames, and
--- no other cause, but for want of a place for an own answer, where the octets alone don't tell
+-- no other cause, but for want of a place for an own answer, where the octets alone don't show
 -- them.)
 pub record IsConnection (octets : Channel) (c : Connection) (fault : Option Close) : Type 0 where
   pub put : List Apdu

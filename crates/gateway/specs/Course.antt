@@ -132,8 +132,8 @@ HasAnswered p log c = IsUntouched log c ⊎ HasNothingDue p log c
 abbrev pub NoAnswerLate : Setup → Log → Course → Type 0
 NoAnswerLate p log c = has_timed_out p.session.t1 (latest log) c.talk ≡ false
 
--- The step has done what comes before the connection's frames: its gap is told, no answer is late,
--- and the line's request has gone out, or there is none (profile).
+-- The step has done what comes before the connection's frames: its gap is reported, no answer is
+-- late, and the line's request has gone out, or there is none (profile).
 pub record HasAsked (p : Setup) (log : Log) (c : Course) : Type 0 where
   pub logged : c.works.serial.gap ≡ None
   pub in_time : NoAnswerLate p log c
@@ -228,8 +228,8 @@ IsNext p log frame c = (confirmation_of c.talk ≡ Some frame)
     ⊎ ((confirmation_of c.talk ≡ None) × IsFlushed p log c × HasBegun log c)
 
 -- These octets go out: one frame, the next one, by the rules of 5.1 to 5.5; and none once an own
--- answer found no place. They go out behind a frame of the event, or once the step's gap is told,
--- its timers are done and its request has gone out (profile).
+-- answer found no place. They go out behind a frame of the event, or once the step's gap is
+-- reported, its timers are done and its request has gone out (profile).
 pub record HandsOver (p : Setup) (log : Log) (octets : List ℕ) (now : ℕ)
     (before after : Course) : Type 0 where
   pub frame : Apdu
@@ -255,7 +255,7 @@ pub record StandsNext (p : Setup) (log : Log) (cause : Close) (c : Course) : Typ
 
 -- An I frame or a test has been without an answer for t1 (5.2), and no cause stands before it: all
 -- that came was taken without fault and answered, each own answer found a place, and the gap of the
--- event is told.
+-- event is reported.
 pub record IsLate (p : Setup) (log : Log) (c : Course) : Type 0 where
   pub all : HasTakenAll (present log) c.talk
   pub answered : HasAnswered p log c
@@ -297,7 +297,7 @@ closed_course p cause is_open at c = ended_course is_open (works_at cause at c.w
 
 -- Steps
 
--- What the step before leaves when an event comes: its timers are done, its gap is told, and no
+-- What the step before leaves when an event comes: its timers are done, its gap is reported, and no
 -- request is left that may go out. A turn that has none ends.
 pub record IsLeft (p : Setup) (log : Log) (before after : Course) : Type 0 where
   pub logged : before.works.serial.gap ≡ None
@@ -330,8 +330,9 @@ Comes p log at Opened c d = d
 Comes p log at CutOff c d = d ≡ ended_course (present log).is_open (begun_works at c.works) c
 Comes p log at Restarted c d = (at ≡ latest log) × (d ≡ with_works (restarted_works c.works) c)
 
--- The gap of the session that the event's octets have ended is told, once all that came is taken
--- and answered, and each own answer found a place, and before the step's timers and its request.
+-- The gap of the session that the event's octets have ended is reported, once all that came is
+-- taken and answered, and each own answer found a place, and before the step's timers and its
+-- request.
 pub record ReportsGap (p : Setup) (log : Log) (station session : ℕ)
     (before after : Course) : Type 0 where
   pub all : HasTakenAll (present log) before.talk
@@ -341,9 +342,9 @@ pub record ReportsGap (p : Setup) (log : Log) (station session : ℕ)
   pub gap : before.works.serial.gap ≡ Some (record { station = station; session = session })
   pub is : after ≡ with_works (gapless_works before.works) before
 
--- The octets are the request that is next, its gap told, where the queue has the room that the log
--- shows, once all that came is taken and answered, and no answer is late; and a command that goes
--- out for the first time is the oldest that waits for its station.
+-- The octets are the request that is next, where the queue has the room that the log shows, once
+-- the gap is reported, all that came is taken and answered, and no answer is late; and a command
+-- that goes out for the first time is the oldest that waits for its station.
 pub record SendsNext (p : Setup) (log : Log) (octets : List ℕ)
     (before after : Course) : Type 0 where
   pub all : HasTakenAll (present log) before.talk

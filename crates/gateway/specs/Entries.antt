@@ -27,7 +27,7 @@ event_of (entries.Cut now) = Came now CutOff
 event_of (entries.Tick now) = Came now Ticked
 event_of (entries.Wall now number) = Came now (WallIs number)
 
--- an answer of a port tells this entry
+-- an answer of a port gives this entry
 pub record IsAnnounced (entry : Entry) (next : Next) (buf : List ℕ) : Type 0 where
   pub logged : logged_by next buf ≡ event_of entry ∷ []
   pub fits : FitsBuffer next

@@ -1,5 +1,5 @@
--- Gaps that are told: which sessions of a station's link ended so that a report may be lost (IEC
--- 60870-5-2, reset of remote link; that they are told is this gateway's own profile).
+-- Gaps that are reported: which sessions of a station's link ended so that a report may be lost
+-- (IEC 60870-5-2, reset of remote link; that they are reported is this gateway's own profile).
 use Rattle.std.specs.Prelude.{◌≡◌, ℕ, ◌==◌, if◌then◌else◌, List, [], ◌∷◌, ◌++◌, Option, Some, None}
 use Rattle.ft12.specs.Fronts.{front_of}
 use Rattle.link.specs.Gaps.{gaps_at}
@@ -13,7 +13,7 @@ use Rattle.gateway.specs.Reports.{Setup, exchanges_of}
 abbrev pub gaps_of : Setup → (station : ℕ) → Log → List ℕ
 gaps_of p station log = gaps_at (front_of p.link.size) p.addresses station (exchanges_of p log)
 
--- the sessions of a station that the log tells as ended with a gap, in order
+-- the sessions of a station that the log reports as ended with a gap, in order
 abbrev pub gaps_reported : (station : ℕ) → Log → List ℕ
 gaps_reported station [] = []
 gaps_reported station (Went now (GapOut other session) ∷ log) =
@@ -21,11 +21,11 @@ gaps_reported station (Went now (GapOut other session) ∷ log) =
     else gaps_reported station log
 gaps_reported station (entry ∷ log) = gaps_reported station log
 
--- each gap is told, and nothing else is
+-- each gap is reported, and nothing else is
 abbrev pub ReportsGaps : Setup → Log → Type 0
 ReportsGaps p log = (station : ℕ) → gaps_reported station log ≡ gaps_of p station log
 
--- the gap that is still to be told, if it is this station's
+-- the gap that is still to be reported, if it is this station's
 abbrev pub gap_for : (station : ℕ) → Option Gap → List ℕ
 gap_for station None = []
 gap_for station (Some gap) = if gap.station == station then gap.session ∷ [] else []

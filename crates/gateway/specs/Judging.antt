@@ -19,7 +19,7 @@ IsOnward On P = P
 IsOnward Over P = Unit {0}
 IsOnward Failed P = Unit {0}
 
--- how many failures of the device it tells
+-- how many failures of the device it reports
 abbrev pub faults_in : Progress → ℕ
 faults_in On = 0
 faults_in Over = 0

@@ -13,7 +13,7 @@ pub data Input : Type 0 where
   -- the wall clock shows so many milliseconds since 1970-01-01 UTC
   WallIs : (number : ℕ) → Input
   -- The gateway was started again: it goes on from what it had on disk, and gives up each command
-  -- that no station answered. No port tells it.
+  -- that no station answered. No port gives it.
   Restarted : Input
 
 -- what goes out
@@ -32,7 +32,7 @@ pub data LogEntry : Type 0 where
 abbrev pub Log : Type 0
 Log = List LogEntry
 
--- A log with these news. A port that tells no log goes on telling none.
+-- A log with these news. A port that gives no log goes on giving none.
 abbrev pub with_news : Option Log → Log → Option Log
 with_news None news = None
 with_news (Some log) news = Some (news ++ log)

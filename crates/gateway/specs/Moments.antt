@@ -3,7 +3,7 @@ use Rattle.std.specs.Prelude.{◌≡◌, ℕ, ◌≤◌, ◌⊎◌, min, [], ◌
 use Rattle.std.specs.List.{AllByRecursion}
 use Rattle.gateway.specs.Log.{Log, LogEntry, Came, Went}
 
--- An event bears the moment that its port told, and one past the greatest counts as that; an action
+-- An event bears the moment that its port gave, and one past the greatest counts as that; an action
 -- bears the moment of its step.
 abbrev pub moment_of : LogEntry → ℕ
 moment_of (Came now event) = min now 999999999999999
@@ -15,7 +15,7 @@ IsOneOf at [] = at ≡ 0
 IsOneOf at (Came now event ∷ log) = (at ≡ moment_of (Came now event)) ⊎ IsOneOf at log
 IsOneOf at (Went now action ∷ log) = IsOneOf at log
 
--- The moment at which a step acts is the greatest that was told so far: an event whose moment goes
+-- The moment at which a step acts is the greatest that was given so far: an event whose moment goes
 -- back is taken at the greatest one before it.
 pub record IsGreatest (log : Log) (at : ℕ) : Type 0 where
   pub counts : at ≤ 999999999999999

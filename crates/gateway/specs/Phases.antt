@@ -57,7 +57,7 @@ IsOut None = ⊥
 IsOut (Some o) = Unit {0}
 
 -- Until the request is asked for it is due. Then it is out, or there was none that might go out;
--- and no gap is left to be told.
+-- and no gap is left to be reported.
 abbrev pub IsAsked : Phase → (at : ℕ) → (room : Bool) → Works → Type 0
 IsAsked Asked at room w = (w.is_due ≡ true → sending (ready_works at w).serial.line room ≡ None)
     × (w.is_due ≡ false → IsOut w.serial.line.outstanding) × (w.serial.gap ≡ None)

@@ -17,7 +17,7 @@ input_of events.Cut = CutOff
 input_of events.Tick = Ticked
 input_of (events.Wall number) = WallIs number
 
--- a port tells each event but a restart
+-- a port gives each event but a restart
 abbrev pub IsOfPort : Input → Type 0
 IsOfPort Restarted = ⊥
 IsOfPort event = Unit {0}
@@ -45,7 +45,7 @@ FitsBuffer (answers.Line now len) = len ≤ 1024
 FitsBuffer (answers.Bytes now len) = len ≤ 1024
 FitsBuffer answer = Unit {0}
 
--- how many failures of the device an answer tells
+-- how many failures of the device an answer reports
 abbrev pub faults_of : Next → ℕ
 faults_of answers.Fault = 1
 faults_of answer = 0

@@ -19,7 +19,7 @@ use Rattle.gateway.specs.State.{State, HasPlaces, IsBetweenSteps}
 
 -- ---- What is written
 
--- when the wall clock told its number last, and that number
+-- when the wall clock gave its number last, and that number
 abbrev pub wall_numbers : Option Wall → List ℕ
 wall_numbers None = []
 wall_numbers (Some wall) = wall.moment ∷ wall.number ∷ []

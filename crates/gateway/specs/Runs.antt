@@ -10,26 +10,26 @@ UnlessDevice Finished P = P
 UnlessDevice Turns P = P
 UnlessDevice Device P = Unit {0}
 
--- how many failures of the device an end tells
+-- how many failures of the device an end reports
 abbrev pub faults_at : End → ℕ
 faults_at Finished = 0
 faults_at Turns = 0
 faults_at Device = 1
 
--- the events that a port has told, the oldest first
+-- the events that a port has given, the oldest first
 abbrev pub events_logged : Option Log → Option (List LogEntry)
 events_logged logged = option_map events_of logged
 
--- where the log is told, so many more events have come
+-- where the log is given, so many more events have come
 abbrev pub MoreEvents : ℕ → Option Log → Option Log → Type 0
 MoreEvents n old new = option_map length (events_logged new)
     ≡ option_map (λ events. length events + n) (events_logged old)
 
--- how many failures of the device a part of a step tells
+-- how many failures of the device a part of a step reports
 abbrev pub faults_unless : (went : Bool) → ℕ
 faults_unless went = if went then 0 else 1
 
--- What a part of a step leaves of its port, which tells its log, what is fixed of it, and how often
+-- What a part of a step leaves of its port, which gives its log, what is fixed of it, and how often
 -- its device failed: no event has come, what is fixed stays, and the device has failed so many
 -- times more.
 pub record Puts {S F : Type 0} (log : S → Option Log) (fixed : S → F) (failed : S →

@@ -32,10 +32,10 @@ pub record Serial : Type 0 where
   -- commands on their way, and own answers that wait
   pub commands : tasks.State
   pub counts : Tally
-  -- the station whose link this step's silence took down, which commands are told of once the event
-  -- is taken
+  -- the station whose link this step's silence took down: its command is given up once the event is
+  -- taken
   pub silent : Option ℕ
-  -- the gap of the session that the event's octets have ended, which is told before the step's
+  -- the gap of the session that the event's octets have ended, which is reported before the step's
   -- request
   pub gap : Option Gap
 
@@ -110,7 +110,7 @@ abbrev pub with_gap : (station session : ℕ) → Serial → Serial
 with_gap station session s =
     record s { gap = Some (record { station = station; session = session }) }
 
--- its gap is told
+-- its gap is reported
 abbrev pub without_gap : Serial → Serial
 without_gap s = record s { gap = None }
 
@@ -168,7 +168,7 @@ abbrev pub unless_silent : Option ℕ → Serial → Serial
 unless_silent None s = s
 unless_silent (Some station) s = given_up station s
 
--- the timers: what the line's silence ended is told, and selections end
+-- the timers: the command of a silent station is given up, and selections end
 abbrev pub settled : (at : ℕ) → Serial → Serial
 settled at s =
     let t : Serial = unless_silent s.silent s in record t {

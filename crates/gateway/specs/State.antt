@@ -33,8 +33,8 @@ pub record State : Type 0 where
 abbrev pub HasPlaces : Primary → Queue → Type 0
 HasPlaces line q = is_polling line ≡ true → 3 ≤ free_places q
 
--- What is empty between two steps: the silence and the gap of the step before are told, and each
--- whole frame is taken.
+-- What is empty between two steps: the silence of the step before is dealt with, its gap is
+-- reported, and each whole frame is taken.
 pub record IsBetweenSteps (s : State) : Type 0 where
   pub silent : s.serial.silent ≡ None
   pub gap : s.serial.gap ≡ None

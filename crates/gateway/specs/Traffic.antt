@@ -20,9 +20,9 @@ use Rattle.gateway.specs.Course.{Course, here_of, HasSentAll, HasAsked, IsCause,
 use Rattle.gateway.specs.Conversation.{KeepsRulesThroughout, IsTalkAtRest}
 use Rattle.gateway.specs.Line.{IsWaiting, IsLineAtRest}
 
--- The octets are a request to a station, while no exchange is outstanding and each gap is told, and
--- before octets to TCP, but for those behind a frame of the event; and a poll only where there is
--- room.
+-- The octets are a request to a station, while no exchange is outstanding and each gap is reported,
+-- and before octets to TCP, but for those behind a frame of the event; and a poll only where there
+-- is room.
 pub record IsRequest (p : Setup) (log : Log) (octets : List ℕ) : Type 0 where
   pub station : ℕ
   pub within : station < length p.addresses
@@ -39,8 +39,9 @@ abbrev pub HasCause : Setup → Close → Log → Type 0
 HasCause p cause log = ends cause ≡ true → ((present log).is_open ≡ true) × ((c : Course)
     × Runs p log c × IsCause p log cause c)
 
--- The session is the station's next one that ended with a gap. (Between steps each is told, so the
--- reset was answered in this step; and each is told before a request, so none went out since.)
+-- The session is the station's next one that ended with a gap. (Between steps each is reported, so
+-- the reset was answered in this step; and each is reported before a request, so none went out
+-- since.)
 abbrev pub IsNextGap : Setup → Log → (station session : ℕ) → Type 0
 IsNextGap p log station session = (other : ℕ) →
     gaps_reported other (Went (latest log) (GapOut station session) ∷ log) ≡ gaps_of p other log
@@ -73,7 +74,7 @@ ActsRightly p (entry ∷ log) = ActsRightly p log
 -- After a step nothing stands on the connection that closes it, and all that may be sent is sent:
 -- on the connection, where data transfer is started and the window isn't full, all objects and own
 -- answers, and each confirmation, S frame and test that is due; on the line, all but data for which
--- there is no room; and each gap is told.
+-- there is no room; and each gap is reported.
 pub record IsAtRest (p : Setup) (log : Log) : Type 0 where
   pub course : Course
   pub course_runs : Runs p log course
@@ -102,8 +103,8 @@ RestsBetweenSteps p (Went now action ∷ log) = RestsBetweenSteps p log
 
 -- What holds of every log of a gateway. A log has one course (the law `one_course`), so the courses
 -- that its parts speak of are this one and those before it. Of what the open connection received
--- perhaps only the first frames are told here, where the device failed in mid-step; `HasRested`
--- tells them all.
+-- perhaps only the first frames are named here, where the device failed in mid-step; `HasRested`
+-- names them all.
 pub record IsFaithful (p : Setup) (log : Log) : Type 0 where
   -- what the log shows of the connections, of the line and of commands
   pub course : Course

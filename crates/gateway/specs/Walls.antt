@@ -1,11 +1,11 @@
--- The wall clock, as the log tells it: milliseconds since 1970-01-01 UTC, which go on with the
+-- The wall clock, as the log gives it: milliseconds since 1970-01-01 UTC, which go on with the
 -- moments (profile).
 use Rattle.std.specs.Io.Iter.{u64_saturate}
 use Rattle.std.specs.Prelude.{ℕ, ◌+◌, ◌-◌, [], ◌∷◌, Option, Some, None, option_map}
 use Rattle.gateway.specs.declared.walls.Wall.{Wall}
 use Rattle.gateway.specs.Log.{Log, WallIs, Came, latest}
 
--- what the latest event of the wall clock told, and its moment
+-- what the latest event of the wall clock gave, and its moment
 abbrev pub last_wall : Log → Option Wall
 last_wall [] = None
 last_wall (Came now (WallIs number) ∷ log) =
@@ -13,10 +13,10 @@ last_wall (Came now (WallIs number) ∷ log) =
 last_wall (entry ∷ log) = last_wall log
 
 -- At a later moment it is that number and the milliseconds since, a number of 64 bits that stays at
--- its greatest. Nothing is known of it before it was told.
+-- its greatest. Nothing is known of it before it was given.
 abbrev pub wall_of : Option Wall → (at : ℕ) → Option ℕ
 wall_of logged at = option_map (λ w. u64_saturate (w.number + (at - w.moment))) logged
 
--- as the log tells it, at this moment
+-- as the log gives it, at this moment
 abbrev pub wall_on : Log → (at : ℕ) → Option ℕ
 wall_on log at = wall_of (last_wall log) at

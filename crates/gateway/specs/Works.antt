@@ -1,6 +1,6 @@
 -- What the gateway keeps beside the connection: the line's side, and what became of commands. Each
 -- entry of the log changes it (IEC 60870-5-101, 7.2.3). What happens to the line's side is said in
--- `Serial`; here it is told to the history of commands.
+-- `Serial`; here it is logged in the history of commands.
 use Rattle.std.specs.Prelude.{◌≡◌, ℕ, zero, suc, Bool, true, false, if◌then◌else◌, List, []}
 use Rattle.std.specs.Prelude.{◌∷◌, length}
 use Rattle.std.specs.Prelude.{Option, Some, None}
@@ -45,7 +45,7 @@ first_works p = record { serial = first_serial p; history = []; is_due = false }
 abbrev pub tasks_of : Works → Run
 tasks_of w = record { state = w.serial.commands; history = w.history }
 
--- what is told of commands once this is done with them, too
+-- what is logged of commands once this is done with them, too
 abbrev pub logged : Call → Works → History
 logged call w = (after_call call (tasks_of w)).history
 
@@ -202,7 +202,7 @@ octets_works octets w = record w { serial = serial.arrived octets w.serial }
 abbrev pub begun_works : (at : ℕ) → Works → Works
 begun_works at w = record w { serial = serial.timed at w.serial; is_due = true }
 
--- what the line's silence ended is told
+-- the command that the line's silence ended is logged as lost
 abbrev pub logged_silent : Option ℕ → Works → History
 logged_silent None w = w.history
 logged_silent (Some station) w = logged (Lose station) w
@@ -216,7 +216,7 @@ abbrev pub ready_works : (at : ℕ) → Works → Works
 ready_works at w =
     let t : Works = settled_works at w in record t { serial = serial.offered t.serial }
 
--- the gap is told
+-- the gap is reported
 abbrev pub gapless_works : Works → Works
 gapless_works w = record w { serial = serial.without_gap w.serial }
 

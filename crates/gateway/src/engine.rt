@@ -195,7 +195,7 @@ impl Gateway {
     /// A gateway at moment 0, without a connection. Only want of memory is answered by an `Err`.
     pub fn new(alloc: Global, config: &Config) -> Result<Gateway, NoMemory>
         ensures first { IfOk result (λ s. s ≡ first_state config.now) }
-        // It may begin with any port that tells an empty log.
+        // It may begin with any port that gives an empty log.
         ensures begins { IfOk result (λ s. Follows (setup_of config.now) s (Some [])) }
     {
         master_matches_the_log();

@@ -7,7 +7,7 @@ use crate::ports::{Action, Next};
 use std::marker::Model;
 
 /// The log of a run, the newest entry first, which only proofs read. It takes no memory, and its
-/// methods do nothing at run time. A port that has one tells its log, though it stores none of it.
+/// methods do nothing at run time. A port that has one gives its log, though it stores none of it.
 #[derive(Drop)]
 pub struct History {
     pub ghost entries: { List LogEntry },
@@ -43,7 +43,7 @@ impl History {
         History {}
     }
 
-    /// The log with the event that a port's answer tells, if it tells one: its octets are the front
+    /// The log with the event that a port's answer gives, if it gives one: its octets are the front
     /// of the buffer.
     pub fn came(&self, _next: &Next, _buf: &[u8; 1024]) -> History
         ensures { result.entries ≡ logged_by _next.now _buf.now ++ self.now.entries }

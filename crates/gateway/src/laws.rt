@@ -40,7 +40,7 @@ use link::line_keeps_the_procedures;
 
 /// The octets of a connection have one reading: its frames, and what closes it, if anything does;
 /// but for a connection that was closed for want of a place for an own answer, whose octets alone
-/// don't tell at which frame: of a log `one_course` tells it.
+/// don't show at which frame: of a log `one_course` shows it.
 pub fn one_reading()
     ensures { (octets : Channel) (c d : Connection) (fault other : Option Close) →
         octets.lacked_place ≡ false → IsConnection octets c fault → IsConnection octets d other →
@@ -67,8 +67,8 @@ pub fn one_course()
     line_keeps_the_procedures();
 }
 
-/// Of a log at most one cause to close the connection stands: so the one that is told is the first
-/// in the order of a step.
+/// Of a log at most one cause to close the connection stands: so the one that is reported is the
+/// first in the order of a step.
 pub fn one_cause()
     ensures { (p : Setup) (log : Log) (a b : Close) → ends a ≡ true → ends b ≡ true →
         HasCause p a log → HasCause p b log → a ≡ b }
@@ -103,7 +103,7 @@ pub fn counts_match_commands()
         ≡ u64_saturate (unpassed_in false (done_in p log c).history) }
 {}
 
-/// Between two steps nothing of the step before is left to be told or to be taken.
+/// Between two steps nothing of the step before is left to be reported or to be taken.
 pub fn steps_leave_nothing_open()
     ensures { (p : Setup) (s : State) (log : Log) → Follows p s (Some log) → IsBetweenSteps s }
 {}

@@ -58,12 +58,12 @@ pub enum Next {
     Fault,
 }
 
-/// Where events come from and actions go. A port that tells its log adds each event and each action
+/// Where events come from and actions go. A port that gives its log adds each event and each action
 /// to it; a call that fails adds nothing.
 pub trait Port {
     ghost use Rattle.gateway.specs.Ports.{logged_by, output_of, FitsBuffer, faults_of};
 
-    /// The log so far, the newest first, where the port tells it.
+    /// The log so far, the newest first, where the port gives it.
     ghost log: { Self → Option (List LogEntry) };
 
     /// How often the device failed.

@@ -16,9 +16,9 @@ pub enum LinkStart {
     /// There is no such station any more. A command that is held for it is counted as lost; what is
     /// queued of it goes out.
     Dropped,
-    /// Its link is reset, as if a poll were unanswered: so the gap is told.
+    /// Its link is reset, as if a poll were unanswered: so the gap is reported.
     ResetAfterGap,
-    /// Its link is reset. A gap is told where a poll was unanswered.
+    /// Its link is reset. A gap is reported where a poll was unanswered.
     Reset,
     /// It goes on.
     GoesOn,

@@ -450,7 +450,7 @@ impl Gateway {
         self.receive(octets, port)
     }
 
-    /// Tells the gap of the session that the event's octets have ended, if there is one.
+    /// Reports the gap of the session that the event's octets have ended, if there is one.
     fn report_gap<P: Port>(&mut self, port: &mut P) -> bool
         requires { P.failed port.old < u64.MAX }
         ensures kept { (p : Setup) → Tracks p self.old (P.log port.old) [] Idle →
@@ -470,7 +470,7 @@ impl Gateway {
         }
     }
 
-    /// Closes the connection where an answer is late, once each gap is told.
+    /// Closes the connection where an answer is late, once each gap is reported.
     fn close_if_late<P: Port>(&mut self, port: &mut P) -> bool
         requires ready { P.failed port.old < u64.MAX }
         requires logged { self.old.serial.gap ≡ None }
@@ -486,8 +486,8 @@ impl Gateway {
         }
     }
 
-    /// Puts out the line's next request, if there is one, once each gap is told and no answer is
-    /// late.
+    /// Puts out the line's next request, if there is one, once each gap is reported and no answer
+    /// is late.
     fn send_request<P: Port>(&mut self, port: &mut P) -> bool
         requires ready { P.failed port.old < u64.MAX }
         requires logged { self.old.serial.gap ≡ None }

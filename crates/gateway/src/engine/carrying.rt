@@ -214,8 +214,8 @@ impl Gateway {
     ///
     /// Each piece that is kept stays, in its order, and is unsent again: where there are more than
     /// places are set, nothing is polled until enough have gone. Stations are known by their link
-    /// addresses, and what becomes of their links is told by [`link_start`]; a command that is held
-    /// for a station whose link doesn't go on, or that is gone, is counted as lost. There is no
+    /// addresses, and [`link_start`] says what becomes of their links; a command that is held for a
+    /// station whose link doesn't go on, or that is gone, is counted as lost. There is no
     /// connection, and no exchange: a service without an answer is held, and is sent again at its
     /// station's turn. Counts, the moment and the wall clock stay. `Err` where there is no memory.
     pub fn carried(

@@ -42,7 +42,7 @@ use link::Master;
 use session::Session;
 use std::alloc::Global;
 
-/// What the first line of a state tells.
+/// What the first line of a state says.
 #[derive(Clone, Copy)]
 pub(crate) struct FirstLine {
     pub(crate) moment: u64,
@@ -122,7 +122,7 @@ fn octets_from(numbers: &[u64], octets: &mut Vec<u8>) -> Result<(), StateFault>
     Ok(())
 }
 
-/// An assembler that has these octets of an APDU, and is still to hear more.
+/// An assembler that has these octets of an APDU, and is still to receive more.
 fn resumed(octets: &[u8]) -> Option<Assembler>
     ensures back { IsMore octets.now → MatchOption result ⊥
         (λ a. (a.so_far ≡ Some octets.now) × (a.whole ≡ None)) }

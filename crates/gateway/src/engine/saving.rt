@@ -55,7 +55,7 @@ impl CentreSide {
 }
 
 impl Gateway {
-    /// Puts the moment, and what the wall clock told last, behind a line.
+    /// Puts the moment, and what the wall clock gave last, behind a line.
     fn put_clock(&self, line: &mut Vec<u64>) -> Result<(), AllocError>
         ensures { OnOk result (line.new.items ≡ line.old.items ++ clock_line self.now) }
     {

@@ -55,7 +55,7 @@ pub(crate) struct SerialSide {
     pub(crate) counts: Tally,
     /// The station whose link the step's silence took down.
     pub(crate) silent: Option<usize>,
-    /// The gap that is still to be told.
+    /// The gap that is still to be reported.
     pub(crate) gap: Option<Gap>,
 }
 
@@ -149,8 +149,8 @@ impl SerialSide {
     }
 
     /// Gathers octets of the line up to one that may be the last of the answer, and says how many:
-    /// all where none may, and then nothing comes of them. What is heard of the others is what is
-    /// heard of all.
+    /// all where none may, and then nothing comes of them. What is received with the others is what
+    /// is received with all.
     fn gather_inner(&mut self, octets: &[u8]) -> usize
         ensures within { result ≤ length octets.now }
         ensures all { result ≡ length octets.now → (self.new ≡ arrived octets.now self.old)
@@ -180,7 +180,7 @@ impl SerialSide {
         self.line.gather(octets)
     }
 
-    /// Hears the frame that is the answer, and says what came of the exchange.
+    /// Receives the frame that is the answer, and says what came of the exchange.
     fn receive_frame<'a>(&mut self, frame: FrameRef<'a>) -> Outcome<'a>
         requires { FitsMemory frame }
         ensures state { self.new ≡ record self.old {
@@ -284,7 +284,7 @@ impl SerialSide {
         self.commands.due(moment);
     }
 
-    /// The gap that is still to be told, if there is one.
+    /// The gap that is still to be reported, if there is one.
     fn take_gap(&mut self) -> Option<Gap>
         ensures gap { result ≡ self.old.gap }
         ensures state { self.new ≡ without_gap self.old }
@@ -511,7 +511,7 @@ impl Gateway {
         self.serial.run_command_timers(self.moment);
     }
 
-    /// The gap that is still to be told, if there is one: it is told now.
+    /// The gap that is still to be reported, if there is one: it is reported now.
     pub(crate) fn take_gap(&mut self) -> Option<Gap>
         ensures gap { result ≡ self.old.serial.gap }
         ensures state { self.new ≡ with_serial (without_gap self.old.serial) self.old }

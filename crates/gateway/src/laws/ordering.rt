@@ -20,7 +20,7 @@ pub fn steps_keep_their_order()
 {}
 
 /// Moments never fall: a step acts at the greatest moment, in milliseconds, that its events have
-/// told so far, so an event whose moment goes back is taken at the greatest before it, and one
+/// given so far, so an event whose moment goes back is taken at the greatest before it, and one
 /// whose moment is past 999999999999999 at that. Each action bears this moment.
 pub fn moments_never_fall()
     ensures step { (p : Setup) (log : Log) → IsFaithful p log → IsGreatest log (latest log) }
