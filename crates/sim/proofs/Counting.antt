@@ -217,7 +217,7 @@ begins Reset (Some (Report asdu)) given t now = let bad : ⊥ = cc in absurd bad
 begins Reset (Some NoData) given t now = let bad : ⊥ = cc in absurd bad
 begins Reset (Some Unable) given t now = let bad : ⊥ = cc in absurd bad
 
--- an answer tells of one report at most
+-- an answer brings one report at most
 pub effects_one : (service : Service) (answer : Answer)
     → length (reports (effects_of service answer)) < 2
 effects_one Class1 Ready = omega arith

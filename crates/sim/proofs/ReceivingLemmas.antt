@@ -1,4 +1,4 @@
--- The loop in which all stations hear.
+-- The loop in which all stations receive.
 use Rattle.std.proofs.Common.{◌≡◌, ℕ, zero, suc, ◌+◌, ◌<◌, ◌≤◌, List, [], ◌∷◌, ◌++◌, length, take}
 use Rattle.std.proofs.Common.{drop, get_or, slice_set, Option, Some, None, IfSome, refl, sym, ap}
 use Rattle.std.proofs.Common.{subst, ◌∙◌, inl, inr, arith}
@@ -20,7 +20,7 @@ use Rattle.sim.specs.Losses.{fate_of}
 use Rattle.sim.specs.Lives.{Plan, later, ReceivedByAll, IsPutOut, AreLived, requests_in}
 use Rattle.sim.proofs.Below.{KeepsSize}
 
--- the first i of the stations have heard
+-- the first i of the stations have received
 pub record ReceivedSoFar (octets : List ℕ) (initial : List Secondary) (i : ℕ)
     (answer : Option Frame)
     (stations : List Secondary) : Type 0 where
@@ -125,7 +125,7 @@ received_more octets initial stations i answer b joint s t lt so is receives fit
           same fit));
     }
 
--- all have heard
+-- all have received
 pub received_whole : (octets : List ℕ) (initial stations : List Secondary) (i : ℕ)
     (answer : Option Frame)
     → length initial ≤ i → ReceivedSoFar octets initial i answer stations

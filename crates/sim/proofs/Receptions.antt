@@ -1,4 +1,4 @@
--- What two stations hear of literal octets.
+-- What two stations receive of literal octets.
 use Rattle.std.proofs.Common.{◌≡◌, ℕ, ◌<◌, List, [], ◌∷◌, ◌++◌, length, Option, Some, None, refl}
 use Rattle.std.proofs.Common.{sym, ap, subst, ◌∙◌, inl, inr, arith}
 use Rattle.ft12.specs.declared.frame.LinkSize.{LinkSize}
@@ -24,13 +24,13 @@ Spoils = (size : LinkSize) (f g : Frame) (x rest : List ℕ) (place : ℕ) → I
     → place < length x
     → IsLineFrame size g (spoilt place x ++ rest) → ⊥
 
--- hearing these octets the station answers so, and stands so
+-- when it receives these octets the station answers so, and stands so
 abbrev pub IsSureOf : List ℕ → Secondary → Option Frame → Secondary → Type 0
 IsSureOf octets s a t = (answer : Option Frame) (new : Secondary)
     → ReceivesOctets s octets answer new
     → (answer ≡ a) × (new ≡ t)
 
--- A spelling is heard as its frame.
+-- A spelling is received as its frame.
 received_frame : Cancels → (s new : Secondary) (f : Frame) (answer : Option Frame) → Fits s.size f
     → ReceivesOctets s (spelling s.size f) answer new → IsFrameReceived s f answer new
 received_frame cancels s new f answer fits (inl h) =

@@ -189,7 +189,7 @@ receives_asked laws size octets r s t first same e (inr h) =
     (h.0 read.frame (subst (λ (z : LinkSize). IsLineFrame z read.frame octets) (sym same)
     read.line))
 
--- All hear
+-- All receive
 
 pub received_at : (octets : List ℕ) (ss ts : List Secondary) (answer : Option Frame) (k : ℕ)
     (d : Secondary)

@@ -197,7 +197,7 @@ did_more s mid t request requests turn turns one rest = record {
       (length_more turn.done (all_done turns));
 }
 
--- the requests, heard or not
+-- the requests, received or not
 abbrev pub asked_of : List (Bool × Asked) → List Asked
 asked_of rs = map (λ (r : Bool × Asked). r.1) rs
 

@@ -38,9 +38,9 @@ abbrev pub sending_event : Option (List ℕ) → (ack : ℕ) → Centre → Opti
 sending_event (Some asdu) ack c waiting = TcpIn (data_apdu c asdu)
 sending_event None ack c waiting = quiet_event ack c waiting
 
--- What a call gives where no wall clock is told, the first of seven that applies: a cut that is due
--- at it, the connection being open; an opening, where it isn't; STARTDT act, where it wasn't sent
--- on it yet; an I frame; an acknowledgement; an answer; a tick.
+-- What a call gives where no wall clock is given, the first of seven that applies: a cut that is
+-- due at it, the connection being open; an opening, where it isn't; STARTDT act, where it wasn't
+-- sent on it yet; an I frame; an acknowledgement; an answer; a tick.
 abbrev pub usual_event : List Directive → (call : ℕ) → Centre → Option (List ℕ) → Input
 usual_event ds call c waiting =
     if c.is_open && is_cut_at ds call then CutOff
@@ -48,7 +48,7 @@ usual_event ds call c waiting =
     else if not c.is_started then TcpIn start_apdu
     else sending_event (sent_at ds call) (ack_of ds) c waiting
 
--- The wall clock is told before anything else.
+-- The wall clock is given before anything else.
 abbrev pub walled_event : Option ℕ → Input → Input
 walled_event None usual = usual
 walled_event (Some number) usual = WallIs number

@@ -1,5 +1,5 @@
 -- What the worked examples of a simulated line speak of: the control centre on an open connection,
--- two stations and what they hear, and the texts of scripts.
+-- two stations and what they receive, and the texts of scripts.
 use Rattle.std.specs.Prelude.{◌≡◌, ℕ, true, false, List, [], ◌∷◌, ◌++◌, Option, Some}
 use Rattle.ft12.specs.declared.frame.Frame.{Frame}
 use Rattle.ft12.specs.declared.frame.LinkSize.TheVariants.{One}

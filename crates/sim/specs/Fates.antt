@@ -20,9 +20,9 @@ IsReceivedBy ds request = Contains ds (LoseRequest request) → ⊥
 abbrev pub IsNotLostBy : List Directive → (request : ℕ) → Type 0
 IsNotLostBy ds request = Contains ds (LoseAnswer request) → ⊥
 
--- A request isn't heard where a line `lose request` has its number. Else its answer is lost where a
--- line `lose answer` has it, or else spoilt where a line `spoil answer` has it. Where no line has
--- it, its answer comes.
+-- A request isn't received where a line `lose request` has its number. Else its answer is lost
+-- where a line `lose answer` has it, or else spoilt where a line `spoil answer` has it. Where no
+-- line has it, its answer comes.
 abbrev pub IsFate : List Directive → (request : ℕ) → RequestFate → Type 0
 IsFate ds request RequestLost = Contains ds (LoseRequest request)
 IsFate ds request AnswerLost = IsReceivedBy ds request × Contains ds (LoseAnswer request)
@@ -41,8 +41,8 @@ WaitsBy (AnswerSpoilt place) octets waiting =
 WaitsBy Answered octets waiting = waiting ≡ Some octets
 
 -- The request with this number went out to stations that stood so before, was answered so, and
--- left them so: all of it by the lines of the script that have its number. One that isn't heard is
--- answered by none and changes none; any other is heard by all.
+-- left them so: all of it by the lines of the script that have its number. One that isn't received
+-- is answered by none and changes none; all receive any other.
 pub record IsByItsLines (plan : Plan) (request : ℕ) (octets : List ℕ) (before : List Secondary)
     (answer : Option Frame) (after : List Secondary) (waiting : Option (List ℕ)) : Type 0 where
   pub fate : RequestFate

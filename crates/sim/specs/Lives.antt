@@ -55,7 +55,7 @@ abbrev pub later : Option Frame → Option Frame → Option Frame
 later a None = a
 later a (Some frame) = Some frame
 
--- Each station hears the octets. What comes is what the last one that answers says (only the one
+-- Each station receives the octets. What comes is what the last one that answers says (only the one
 -- that is asked answers).
 abbrev pub ReceivedByAll : List ℕ → List Secondary → Option Frame → List Secondary → Type 0
 ReceivedByAll octets [] answer [] = answer ≡ None
@@ -64,7 +64,7 @@ ReceivedByAll octets (s ∷ ss) answer (t ∷ ts) =
     × ReceivedByAll octets ss others ts × (answer ≡ later first others)
 ReceivedByAll octets ss answer ts = ⊥
 
--- a request that is lost is heard by none, any other by all
+-- a request that is lost is received by none, any other by all
 abbrev pub IsPutOut : RequestFate → List ℕ → List Secondary → Option Frame → List Secondary → Type 0
 IsPutOut RequestLost octets before answer stations = (answer ≡ None) × (stations ≡ before)
 IsPutOut fate octets before answer stations = ReceivedByAll octets before answer stations

@@ -55,7 +55,7 @@ turns_of ds = or_number (first_said turns_said ds) 0
 abbrev pub ack_of : List Directive → ℕ
 ack_of ds = or_number (first_said ack_said ds) 1
 
--- what the wall clock shows, in milliseconds since 1970-01-01 UTC: told at the first call
+-- what the wall clock shows, in milliseconds since 1970-01-01 UTC: given at the first call
 abbrev pub wall_of : List Directive → Option ℕ
 wall_of ds = first_said wall_said ds
 
@@ -84,7 +84,7 @@ abbrev pub spoilt_fate : Option ℕ → RequestFate
 spoilt_fate None = Answered
 spoilt_fate (Some place) = AnswerSpoilt place
 
--- what becomes of a request, by its number: it isn't heard, or else its answer is lost, or else
+-- what becomes of a request, by its number: it isn't received, or else its answer is lost, or else
 -- spoilt
 abbrev pub fate_of : List Directive → (request : ℕ) → RequestFate
 fate_of ds request =

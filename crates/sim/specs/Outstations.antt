@@ -27,19 +27,20 @@ use Rattle.sim.specs.Losses.{fate_of, report_said}
 use Rattle.sim.specs.Lives.{requests_in}
 use Rattle.sim.specs.Texts.{reports_for}
 
--- a request is heard unless it is lost
+-- a request is received unless it is lost
 abbrev pub is_received : RequestFate → Bool
 is_received RequestLost = false
 is_received AnswerLost = true
 is_received (AnswerSpoilt place) = true
 is_received Answered = true
 
--- a request, where it is one to the station with this index, and whether it is heard
+-- a request, where it is one to the station with this index, and whether it is received
 abbrev pub request_to : (index : ℕ) → (arrived : Bool) → Option Sending → List (Bool × Asked)
 request_to index arrived None = []
 request_to index arrived (Some s) = if s.station == index then (arrived, s.request) ∷ [] else []
 
--- the requests of a log to the station with this index, the oldest first, and whether it heard each
+-- the requests of a log to the station with this index, the oldest first, and whether it received
+-- each
 abbrev pub requests_to : Setup → List Directive → (index : ℕ) → Log → List (Bool × Asked)
 requests_to p ds index [] = []
 requests_to p ds index (Went now (LineOut octets) ∷ log) =
@@ -47,7 +48,7 @@ requests_to p ds index (Went now (LineOut octets) ∷ log) =
     ++ request_to index (is_received (fate_of ds (requests_in log + 1))) (sending_in p octets)
 requests_to p ds index (entry ∷ log) = requests_to p ds index log
 
--- At a request that it doesn't hear a station does nothing. At any other it does what `link`'s
+-- At a request that it doesn't receive a station does nothing. At any other it does what `link`'s
 -- station does, where it had memory or not.
 abbrev pub TakesTurn : (arrived : Bool) → (old : Secondary) → Asked → Turn → (new : Secondary)
     → Type 0
@@ -100,7 +101,7 @@ pub record IsCounted (counts : SessionCounts) (tally : StationTally) : Type 0 wh
 pub record HasServed (c : Settings) (ds : List Directive) (log : Log) (index : ℕ) (s : Secondary)
     (tally : StationTally) : Type 0 where
   pub turns : List Turn
-  -- It took these turns at the requests to it, and heard those that weren't lost.
+  -- It took these turns at the requests to it, and received those that weren't lost.
   pub took : TakesTurns (first_station c ds index) (requests_to (setup_of c) ds index log) turns s
   -- An outstation of IEC 60870-5-2 took these turns; and no answer came late, or altered unseen.
   pub honest : IsHonest (setup_of c) log index turns

@@ -18,9 +18,9 @@ pub enum Class {
 /// What becomes of a request.
 #[derive(Clone, Copy, Debug, PartialEq, Eq)]
 pub enum RequestFate {
-    /// No station hears it.
+    /// No station receives it.
     RequestLost,
-    /// It is heard, and its answer is lost.
+    /// It is received, and its answer is lost.
     AnswerLost,
     /// In its answer the octet at this place, modulo its length, is changed in all eight bits.
     AnswerSpoilt(u64),
@@ -41,7 +41,7 @@ pub enum Directive {
     /// The station with this index, from 0, has this report from the start: 1 to 253 octets, or 252
     /// with two-octet link addresses.
     Report(usize, Class, UserData),
-    /// The request with this number isn't heard.
+    /// The request with this number isn't received.
     LoseRequest(u64),
     /// The answer to the request with this number is lost.
     LoseAnswer(u64),

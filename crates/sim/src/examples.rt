@@ -135,10 +135,10 @@ pub fn losses_by_example()
         × (requests_in (Went 3 (LineOut []) ∷ Came 2 Ticked ∷ Went 1 (LineOut []) ∷ []) ≡ 2) }
 {}
 
-/// What stations hear, as literal octets, and how they answer (IEC 60870-5-2, 5.1: a reset of the
-/// link is confirmed, here by `E5`): a request that isn't lost is heard by all and answered by the
-/// one whose address it has, whatever becomes of that answer. Octets that are no frame are heard by
-/// none.
+/// What stations receive, as literal octets, and how they answer (IEC 60870-5-2, 5.1: a reset of
+/// the link is confirmed, here by `E5`): a request that isn't lost is received by all and answered
+/// by the one whose address it has, whatever becomes of that answer. Octets that are no frame are
+/// received by none.
 pub fn receptions_by_example()
     ensures arrived { Leaves Answered reset_of_1 (Some Single) (was_reset 1 ∷ unreset 2 ∷ [])
         × Leaves Answered reset_of_2 (Some Single) (unreset 1 ∷ was_reset 2 ∷ [])

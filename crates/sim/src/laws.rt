@@ -67,11 +67,11 @@ pub fn connections_are_counted()
 }
 
 /// A line of a script is about the one request, or the one call, whose number it has, whatever
-/// other lines there are. So a script that loses request n loses no other: a request isn't heard if
-/// and only if a line `lose request` has its number, and what becomes of its answer depends on the
-/// lines with its number alone. The connection is cut at the calls of the lines `cut`, and what is
-/// sent at a call is of a line `send` with its number. The number is that which the line's digits
-/// write.
+/// other lines there are. So a script that loses request n loses no other: a request isn't received
+/// if and only if a line `lose request` has its number, and what becomes of its answer depends on
+/// the lines with its number alone. The connection is cut at the calls of the lines `cut`, and what
+/// is sent at a call is of a line `send` with its number. The number is that which the line's
+/// digits write.
 pub fn each_line_is_about_its_number()
     ensures fates { (ds : List Directive) (request : ℕ) →
         IsFate ds request (fate_of ds request) }
@@ -98,8 +98,8 @@ pub fn each_line_is_about_its_number()
 
 /// The requests of a run are counted as they go out: what becomes of the one that has so many
 /// before it, and of its answer, is what the lines of the script with its number say. One that is
-/// lost is answered by none and leaves each station as it was, and any other is heard by all. What
-/// waits of an answer are its octets, or with one of them spoilt, or nothing where it is lost.
+/// lost is answered by none and leaves each station as it was, and any other is received by all.
+/// What waits of an answer are its octets, or with one of them spoilt, or nothing where it is lost.
 pub fn each_request_fares_by_its_lines()
     ensures { (plan : Plan) (log : Log) (answers : List (Option Frame))
         (stations : List Secondary) (now : ℕ) (octets : List ℕ) (answer : Option Frame) →

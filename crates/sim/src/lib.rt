@@ -2,7 +2,7 @@
 //! gateway's own profile, to show what a gateway does with losses).
 //!
 //! [`read_script`] reads a whole [`Script`], or names its first wrong line. [`Sim`] is the port of
-//! a gateway over it: stations (`link::Station`) that hear what isn't lost, and a control centre
+//! a gateway over it: stations (`link::Station`) that receive what isn't lost, and a control centre
 //! that acknowledges and sends. The lines of actions stand on its page ([`Sim::page`]), from which
 //! the program takes them to print them while the run goes on, and at the end of a whole run there
 //! are closing lines ([`Sim::closing`]). What the gateway does is no matter of this crate, no clock
@@ -12,7 +12,7 @@
 //! refused is the first that says nothing, or what no script can have beside the lines before it.
 //! It is an invariant of [`Sim`] that each event of its log is what the script gives at that call
 //! (the wall clock at the first, and else the first of seven that applies, `specs/Calls.antt`), and
-//! that its stations have heard each request that isn't lost, by every step of `link`'s machine,
+//! that its stations have received each request that isn't lost, by every step of `link`'s machine,
 //! and nothing else (`specs/Lives.antt`): an answer waits until it is given, or a next request goes
 //! out.
 //!
@@ -32,7 +32,7 @@
 //! lines with its number say ([`each_request_fares_by_its_lines`], `specs/Fates.antt`).
 //!
 //! Worked examples have literal texts and octets: of scripts ([`scripts_by_example`]), of what they
-//! do to requests and answers ([`losses_by_example`]), of what stations hear
+//! do to requests and answers ([`losses_by_example`]), of what stations receive
 //! ([`receptions_by_example`]), of calls ([`calls_by_example`]) and of closing lines
 //! ([`closing_lines_by_example`]).
 //!

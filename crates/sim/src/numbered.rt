@@ -46,7 +46,7 @@ impl Model for Numbered {
         a.unreceived a.lost a.cut a.spoilt a.sends };
 }
 
-/// Keeps the number of a request that isn't heard.
+/// Keeps the number of a request that isn't received.
 fn note_unreceived(unreceived: &mut BTreeSet<u64>, directive: &Directive) -> Result<(), AllocError>
     ensures { OnOk result ((q : ℕ) → contains nat_cmp unreceived.new q
         ≡ (loses_request q directive.now || contains nat_cmp unreceived.old q)) }

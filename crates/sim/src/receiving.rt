@@ -14,8 +14,8 @@ use link::Station;
 fn later_of(before: Option<Frame>, frame: Option<Frame>) -> Option<Frame>
     ensures { result ≡ later before frame }
 {
-    // Two that answer at once can't be heard apart on a line. Settings give each its own
-    // address, so this happens to none of our requests.
+    // Nobody can distinguish two that answer at once on a line. Settings give each its own address,
+    // so this happens to none of our requests.
     match frame {
         Some(frame) => Some(frame),
         None => before,
@@ -23,7 +23,7 @@ fn later_of(before: Option<Frame>, frame: Option<Frame>) -> Option<Frame>
 }
 
 #[tactic(auto, using(crate::proofs::ReceivingLemmas::received_none, crate::proofs::ReceivingLemmas::received_whole))]
-/// Each station hears the octets. The answer is that of the last one that answers.
+/// Each station receives the octets. The answer is that of the last one that answers.
 fn receive_all(stations: &mut [Station], octets: &[u8]) -> Option<Frame>
     ensures arrived { ReceivedByAll octets.now stations.old result stations.new }
     ensures fits { (size : LinkSize) → AllByRecursion (λ s. s.size ≡ size) stations.old
@@ -37,7 +37,7 @@ fn receive_all(stations: &mut [Station], octets: &[u8]) -> Option<Frame>
     answer
 }
 
-/// Puts a request out to the stations, of which each hears it where it isn't lost.
+/// Puts a request out to the stations, of which each receives it where it isn't lost.
 pub fn put_out(stations: &mut [Station], fate: RequestFate, octets: &[u8]) -> Option<Frame>
     ensures out { IsPutOut fate octets.now stations.old result stations.new }
     ensures fits { (size : LinkSize) → AllByRecursion (λ s. s.size ≡ size) stations.old

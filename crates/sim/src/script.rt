@@ -64,7 +64,7 @@ impl Script {
     }
 
     /// What the wall clock shows at the call with this number, in milliseconds since 1970-01-01
-    /// UTC; it is told at the first call alone.
+    /// UTC; it is given at the first call alone.
     pub fn wall_at(&self, call: u64) -> Option<u64>
         ensures { result ≡ wall_at self.now call }
     {

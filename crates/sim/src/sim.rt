@@ -250,7 +250,7 @@ impl<'a> Sim<'a> {
         }
     }
 
-    /// The next event comes, which an answer tells.
+    /// The next event comes, which an answer gives.
     fn come(&mut self, entry: &Entry, next: &Next, buf: &[u8; 1024]) -> Result<(), AllocError>
         requires open { self.old.standing.call < turns_of self.old.plan.directives }
         requires few { self.old.standing.call < u64.MAX }
@@ -273,7 +273,7 @@ impl<'a> Sim<'a> {
         Ok(())
     }
 
-    /// A request goes out: the stations hear it, or it is lost. What waits is gone.
+    /// A request goes out: the stations receive it, or it is lost. What waits is gone.
     fn ask(&mut self, now: u64, octets: &[u8]) -> Result<(), AllocError>
         ensures ok { OnOk result (self.new.log ≡ Went now (LineOut octets.now) ∷ self.old.log) }
         ensures err { OnErr result (self.new.log ≡ self.old.log) }
@@ -286,7 +286,7 @@ impl<'a> Sim<'a> {
             // No run is as long.
             return Err(AllocError);
         };
-        // Printed first: where memory is refused no station has heard the request.
+        // Printed first: where memory is refused no station has received the request.
         self.page.went(now, &Action::Line(octets))?;
         self.requests = requests;
         self.tallies
@@ -329,7 +329,7 @@ impl<'a> Sim<'a> {
         Ok(())
     }
 
-    /// A gap is told: nobody on the line or at the control centre hears of it.
+    /// A gap is reported: nobody on the line or at the control centre gets it.
     fn put_gap(&mut self, now: u64, station: usize, session: u64) -> Result<(), AllocError>
         ensures ok { OnOk result (self.new.log ≡ Went now (GapOut station session) ∷ self.old.log) }
         ensures err { OnErr result (self.new.log ≡ self.old.log) }

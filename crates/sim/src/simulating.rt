@@ -45,8 +45,8 @@ pub fn simulate<W: Write>(
     run(alloc, config, script, false, out, &mut io::sink())
 }
 
-/// The same as [`simulate`], and a long run tells `err` how far it has come; whether that takes it
-/// changes nothing.
+/// The same as [`simulate`], and a long run writes to `err` how far it has come; whether that takes
+/// it changes nothing.
 pub fn simulate_watched<W: Write, E: Write>(
     alloc: Global,
     config: &Config,
