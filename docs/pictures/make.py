@@ -99,7 +99,7 @@ def deployment():
 
 
 def report():
-    """The life of a report, where it can be lost, and what tells of it."""
+    """The life of a report, where it can be lost, and what reports it."""
     p = Picture(1000, 290, "The life of a report")
     places = [
         (20, "outstation", "keeps it until\nit is asked", "far"),
@@ -160,7 +160,7 @@ def crates():
     for x, title, words in ((20, "apci", "APDUs"), (260, "session", "numbers, timers"), (520, "command", "selections, answers")):
         p.box(x, 330, 140, 60, title, words)
     p.box(520, 190, 140, 70, "gateway", "one step an event")
-    p.box(800, 190, 160, 70, "delivery", "from station to centre:\n`nothing_is_lost`\n`losses_are_told`")
+    p.box(800, 190, 160, 70, "delivery", "from station to centre:\n`nothing_is_lost`\n`losses_are_reported`")
     p.way([(160, 80), (260, 80)])
     p.text(210, 70, "`front`", "small")
     p.way([(400, 80), (520, 80)])
