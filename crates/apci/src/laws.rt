@@ -45,7 +45,8 @@ pub fn formats_are_distinct()
 /// another.
 pub fn apdus_are_received_one_after_another()
     ensures { (a : Apdu) (more : List ℕ) (n : ℕ) (arrived : Received) (after : Assembly) →
-        Fits a → Receives [] (spelling a ++ more) n arrived after → IsReceivedWhole a n arrived after }
+        Fits a → Receives [] (spelling a ++ more) n arrived after →
+        IsReceivedWhole a n arrived after }
 {}
 
 /// Sequence numbers, length and ASDU have their places (IEC 60870-5-104, 5 and 5.1).

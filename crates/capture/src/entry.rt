@@ -122,7 +122,8 @@ fn action(
     moment: &[u8],
     rest: Option<&[u8]>,
 ) -> Result<Option<StoredEntry>, AllocError>
-    ensures logged { IfOk result (λ logged. option_map logged_of logged ≡ went_at (decimal_of moment.now)
+    ensures logged { IfOk result (λ logged. option_map logged_of logged
+        ≡ went_at (decimal_of moment.now)
         (action_from (parts_after 32 (option_copied rest.entry)))) }
     ensures fits { IfOk result (λ logged. IfSome logged FitsPacket) }
 {
@@ -171,7 +172,8 @@ fn sent(
 
 /// A close, with the number of its cause.
 fn close(now: u64, text: &[u8]) -> Option<StoredEntry>
-    ensures logged { option_map logged_of result ≡ went_at (Some now) (action_by (codes "X") text.now) }
+    ensures logged { option_map logged_of result
+        ≡ went_at (Some now) (action_by (codes "X") text.now) }
     ensures fits { IfSome result FitsPacket }
 {
     let number = read_decimal(text)?;

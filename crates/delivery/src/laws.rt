@@ -78,7 +78,8 @@ pub fn each_session_is_known()
 pub fn losses_are_reported()
     ensures { (p : Setup) (log : Log) (i : ℕ) (turns : List Turn) → IsFaithful p log →
         HasRested p log → i < length p.addresses → IsHonest p log i turns →
-        LoseAsReported (address_at p.addresses i) 1 (sessions_of p log i turns) (gaps_reported i log) }
+        LoseAsReported (address_at p.addresses i) 1 (sessions_of p log i turns)
+        (gaps_reported i log) }
 {
     each_session_is_known();
     gaps_are_ended_sessions();

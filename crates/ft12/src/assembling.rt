@@ -210,7 +210,8 @@ impl Assembler {
     /// Takes a piece of one octet where one of data is due that isn't the last one: the commonest
     /// piece of a line that is read octet by octet. Else nothing changes.
     fn take_data(&mut self, piece: &[u8]) -> bool
-        ensures taken { result ≡ true → IfSome self.old.so_far (λ so_far. ReceivesInner self.old.size
+        ensures taken { result ≡ true →
+            IfSome self.old.so_far (λ so_far. ReceivesInner self.old.size
             so_far piece.now 1 self.old.looked self.new.looked self.new.so_far) }
         ensures one { result ≡ true → length piece.now ≡ 1 }
         ensures listens { result ≡ true → self.old.so_far ≡ None → ⊥ }

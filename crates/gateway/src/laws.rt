@@ -97,7 +97,8 @@ pub fn courses_keep_commands()
 /// stations to commands that weren't passed on. Both stay at the greatest number of 64 bits.
 pub fn counts_match_commands()
     ensures lost { (p : Setup) (log : Log) (c : Course) → Runs p log c →
-        (done_in p log c).serial.counts.lost ≡ u64_saturate (given_up_in (done_in p log c).history) }
+        (done_in p log c).serial.counts.lost
+        ≡ u64_saturate (given_up_in (done_in p log c).history) }
     ensures mirrors { (p : Setup) (log : Log) (c : Course) → Runs p log c →
         (done_in p log c).serial.counts.mirrors
         ≡ u64_saturate (unpassed_in false (done_in p log c).history) }

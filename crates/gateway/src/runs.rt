@@ -100,7 +100,8 @@ pub fn drive<P: Port>(
 /// The event that a port's answer stands for, or the end of the run.
 fn event_of(next: Next, buf: &[u8; 1024]) -> Result<(u64, Event<'_>), End>
     requires { FitsBuffer next }
-    ensures came { IfOk result (λ come. logged_by next buf.now ≡ Came come.0 (input_of come.1) ∷ []) }
+    ensures came { IfOk result (λ come. logged_by next buf.now
+        ≡ Came come.0 (input_of come.1) ∷ []) }
     ensures healthy { OnOk result (faults_of next ≡ 0) }
     ensures none { OnErr result (logged_by next buf.now ≡ []) }
     ensures end { IfErr result (λ end. (faults_of next ≡ faults_at end)

@@ -563,7 +563,8 @@ impl Master {
     pub fn receive<'a>(&mut self, frame: FrameRef<'a>) -> Outcome<'a>
         requires { FitsMemory frame }
         ensures state { self.new ≡ answered_with self.old self.old.outstanding (owned frame.entry) }
-        ensures outcome { result ≡ answer_outcome self.old self.old.outstanding (owned frame.entry) }
+        ensures outcome { result
+            ≡ answer_outcome self.old self.old.outstanding (owned frame.entry) }
     {
         match self.outstanding.take() {
             None => Outcome::None,

@@ -531,7 +531,8 @@ impl<S: OctetStream, L: Listener + Drop, C: RunClock + Drop> Port for Live<S, L,
     /// has something or a tick is due.
     fn next(&mut self, buf: &mut [u8; 1024]) -> Next
         requires { self.old.failed < u64.MAX }
-        ensures logged { Some self.new.log ≡ with_news (Some self.old.log) (logged_by result buf.new) }
+        ensures logged { Some self.new.log
+            ≡ with_news (Some self.old.log) (logged_by result buf.new) }
         ensures fits { FitsBuffer result }
         ensures done { result ≡ Done → false ≡ true }
         ensures cause { self.new.failed ≡ self.old.failed + faults_of result }

@@ -32,7 +32,8 @@ pub fn records_by_example()
         (Went 5 (Closed Stopped) ∷ []) new → new.is_over ≡ false → new ≡ with_action }
     ensures refused { (new : Recording) → Puts false (recording (line (codes "5 T")) [])
         (Went 5 (Closed Stopped) ∷ []) new → new ≡ recording (line (codes "5 T")) [] }
-    ensures receives_more { (new : Recording) (buf : List ℕ) → Receives with_action (Tick 6) buf new →
+    ensures receives_more { (new : Recording) (buf : List ℕ) →
+        Receives with_action (Tick 6) buf new →
         new.is_over ≡ false → new
         ≡ recording (line (codes "5 T") ++ line (codes "5 > X 4") ++ line (codes "6 T")) [] }
     ensures ends { (new : Recording) (buf : List ℕ) → Receives with_action (Tick 6) buf new →

@@ -21,7 +21,8 @@ pub fn a_record_is_the_text_of_what_passed()
         old.is_over ≡ true → new ≡ passed news old }
     ensures over { (old new : Recording) → Gives old new → new.is_over ≡ true →
         new ≡ record old { is_over = true } }
-    ensures receives { (old new : Recording) (next : Next) (buf : List ℕ) → Receives old next buf new →
+    ensures receives { (old new : Recording) (next : Next) (buf : List ℕ) →
+        Receives old next buf new →
         new.is_over ≡ false →
         new.taken ≡ added (text_of old) (lines_of_log (logged_by next buf)) }
 {}

@@ -81,7 +81,8 @@ impl<P: Watched + Drop, S: LogSink + Drop> Port for RunLog<P, S> {
 
     fn next(&mut self, buf: &mut [u8; 1024]) -> Next
         requires { P.failed self.old.port < u64.MAX }
-        ensures logged { P.log self.new.port ≡ with_news (P.log self.old.port) (logged_by result buf.new) }
+        ensures logged { P.log self.new.port
+            ≡ with_news (P.log self.old.port) (logged_by result buf.new) }
         ensures fits { FitsBuffer result }
         ensures done { result ≡ Done → P.ended self.new.port ≡ true }
         ensures script { P.script self.new.port ≡ P.script self.old.port }

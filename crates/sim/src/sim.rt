@@ -345,7 +345,8 @@ impl<'a> Sim<'a> {
     fn give(&mut self, buf: &mut [u8; 1024]) -> Result<Next, AllocError>
         requires open { self.old.standing.call < turns_of self.old.plan.directives }
         requires few { self.old.standing.call < u64.MAX }
-        ensures logged { IfOk result (λ next. self.new.log ≡ logged_by next buf.new ++ self.old.log) }
+        ensures logged { IfOk result (λ next.
+            self.new.log ≡ logged_by next buf.new ++ self.old.log) }
         ensures fits { IfOk result FitsBuffer }
         ensures healthy { IfOk result (λ next. faults_of next ≡ 0) }
         ensures some { IfOk result (λ next. next ≡ Next.Done → ⊥) }

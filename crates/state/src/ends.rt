@@ -35,7 +35,8 @@ pub trait Ends {
     /// The next event of the port.
     fn next(&mut self, buf: &mut [u8; 1024]) -> Next
         requires { failed self.old < u64.MAX }
-        ensures arrived { deeds self.new ≡ map Received (logged_by result buf.new) ++ deeds self.old }
+        ensures arrived { deeds self.new
+            ≡ map Received (logged_by result buf.new) ++ deeds self.old }
         ensures logged { log self.new ≡ with_news (log self.old) (logged_by result buf.new) }
         ensures fits { FitsBuffer result }
         ensures done { result ≡ Done → ended self.new ≡ true }

@@ -194,7 +194,8 @@ impl<E: Ends + Drop> Port for Keeper<E> {
     /// came are on the disk.
     fn next(&mut self, buf: &mut [u8; 1024]) -> Next
         requires { E.failed self.old.ends + self.old.stops < u64.MAX }
-        ensures logged { E.log self.new.ends ≡ with_news (E.log self.old.ends) (logged_by result buf.new) }
+        ensures logged { E.log self.new.ends
+            ≡ with_news (E.log self.old.ends) (logged_by result buf.new) }
         ensures passes { passed (E.deeds self.new.ends)
             ≡ logged_by result buf.new ++ passed (E.deeds self.old.ends) }
         ensures fits { FitsBuffer result }

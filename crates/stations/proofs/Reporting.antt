@@ -147,7 +147,8 @@ reported_here passed i old view mid d report due same taken e q r lt at f =
     ap (λ (l : List Cue). record view { cues = l })
     (set_changed view.cues i (given_at passed) q r here at f)
     ∙ ap (λ (x : OutstationsState). record x { cues = changed_at i (given_at passed) x.cues }) e in
-    let reported : GivesDue passed i (Some d) old (record view { cues = slice_set view.cues i r }) = (
+    let reported : GivesDue passed i (Some d) old (record view { cues = slice_set view.cues i r })
+    = (
       true,
       mid,
       subst (λ (l : List ℕ). IsReported d.station d.class l old true mid) same taken,

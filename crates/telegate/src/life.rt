@@ -52,7 +52,8 @@ impl<P: Port + Drop> Port for Life<P> {
     fn next(&mut self, buf: &mut [u8; 1024]) -> Next
         requires { P.failed self.old.port < u64.MAX }
         ensures logged { behind self.new.before.entries (P.log self.new.port)
-            ≡ with_news (behind self.old.before.entries (P.log self.old.port)) (logged_by result buf.new) }
+            ≡ with_news (behind self.old.before.entries (P.log self.old.port))
+            (logged_by result buf.new) }
         ensures fits { FitsBuffer result }
         ensures done { result ≡ Done → P.ended self.new.port ≡ true }
         ensures script { fixture (P.script self.new.port) self.new.before.entries

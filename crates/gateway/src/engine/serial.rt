@@ -379,7 +379,8 @@ impl SerialSide {
     fn offer_all(&mut self)
         ensures state { self.new ≡ offered self.old }
         ensures matches { (settings : LinkSettings) (addresses : List ℕ) (e : Exchanges) →
-            Matches settings addresses self.old.line e → Matches settings addresses self.new.line e }
+            Matches settings addresses self.old.line e →
+            Matches settings addresses self.new.line e }
         ensures polls { is_polling self.new.line ≡ true → is_polling self.old.line ≡ true }
     {
         offers_wait();
@@ -396,7 +397,8 @@ impl SerialSide {
               offered_by (oldest station self.old.commands.waiting) station self.old.line;
         } }
         ensures matches { (settings : LinkSettings) (addresses : List ℕ) (e : Exchanges) →
-            Matches settings addresses self.old.line e → Matches settings addresses self.new.line e }
+            Matches settings addresses self.old.line e →
+            Matches settings addresses self.new.line e }
         ensures polls { is_polling self.new.line ≡ true → is_polling self.old.line ≡ true }
     {
         polls_wait_for_leave();

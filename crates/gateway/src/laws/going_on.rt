@@ -43,7 +43,8 @@ pub fn stations_go_on_by_their_addresses()
 /// other sizes, and each where a state is stale. So no frame count bit is carried into a link whose
 /// station may have taken another one, and no held service into another station.
 pub fn no_link_goes_on_but_of_a_station_as_it_was()
-    ensures { (goes_on : Bool) (before now : Settings) (s : State) (i : ℕ) (station : StationSettings) →
+    ensures { (goes_on : Bool) (before now : Settings) (s : State) (i : ℕ)
+        (station : StationSettings) →
         length s.serial.line.stations ≡ length before.stations →
         slice_get now.stations i ≡ Some station →
         is_up (station_at (carried goes_on before now s).serial.line.stations i).link ≡ true →

@@ -246,7 +246,8 @@ fn received_by(
     kind: u64,
     numbers: &[u64],
 ) -> Result<Option<(bool, Vec<u8>)>, AllocError>
-    ensures { IfOk result (λ o. option_map (λ h. (h.0, h.1.items)) o ≡ received_by kind numbers.now) }
+    ensures { IfOk result (λ o. option_map (λ h. (h.0, h.1.items)) o
+        ≡ received_by kind numbers.now) }
 {
     match (kind, numbers) {
         (0, []) => Ok(Some((true, Vec::new(alloc)))),

@@ -94,7 +94,8 @@ returns-in-Device-clause-begun g c = elim c.drive_in_words-end.ensures.so_far [
       let written = subst (λ (s : Scribing). IsPoured c.args.was_whole before old s.logged)
       (sym (ap (λ (l : Climbing Progress). l.scribe) c.new-ladder.ensures)) poured in
       writing_stopped style c.args.pause c.args.lines.now c.args.gateway.now start port fresh
-      c.drive_in_words-end.ensures.course whole scribe.poured behind.0 scribe.logged before new (same
+      c.drive_in_words-end.ensures.course whole scribe.poured behind.0 scribe.logged before new
+      (same
       ∙ behind.1) kept
       (subst (λ (s : Style). IsLadder s scribe.poured scribe.logged) style_is
       c.page-page_is_clear.ensures.poured)

@@ -44,7 +44,8 @@ returns-in-Turns g c =
     (subst (λ (s : Simulated). s.plan ≡ plan_of settings ds) is plan)
     c.stations-stations.ensures.rules.distinct
     (subst (λ (s : Simulated). calls_in s.log ≡ turns_of ds) is calls)
-    (subst (λ (s : Simulated). IsFaithful p s.log) is (c.drive_in_words-end.ensures.faithful p begun.0
+    (subst (λ (s : Simulated). IsFaithful p s.log) is (c.drive_in_words-end.ensures.faithful p
+    begun.0
     begun.1))
     (subst (λ (s : Simulated). HasRested p s.log) is
     (at_turns end (HasRested p port.log) c.in-Turns.is
@@ -52,7 +53,8 @@ returns-in-Turns g c =
     (subst (λ (s : Simulated). IsLadder (style_of settings c.args.is_coloured) s.log scribe.logged)
     is
     (words_of_all (style_of settings c.args.is_coloured) scribe port.log style
-    (at_turns end (Some port.log ≡ Some scribe.poured) c.in-Turns.is c.drive_in_words-end.ensures.all)
+    (at_turns end (Some port.log
+    ≡ Some scribe.poured) c.in-Turns.is c.drive_in_words-end.ensures.all)
     c.page-page_is_clear.ensures.poured))
     (c.drive_in_words-end.ensures.logged before
     (subst (λ (s : Scribing). IsPoured true before before s.logged) (sym blank)
@@ -89,7 +91,8 @@ returns-in-Finished g c =
     (subst (λ (s : Simulated). s.plan ≡ plan_of settings ds) is plan)
     c.stations-stations.ensures.rules.distinct
     (subst (λ (s : Simulated). calls_in s.log ≡ turns_of ds) is calls)
-    (subst (λ (s : Simulated). IsFaithful p s.log) is (c.drive_in_words-end.ensures.faithful p begun.0
+    (subst (λ (s : Simulated). IsFaithful p s.log) is (c.drive_in_words-end.ensures.faithful p
+    begun.0
     begun.1))
     (subst (λ (s : Simulated). HasRested p s.log) is
     (at_finish end (HasRested p port.log) c.in-Finished.is
