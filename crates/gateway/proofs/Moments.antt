@@ -5,7 +5,7 @@ use Rattle.std.specs.Prelude.{◌⊎◌}
 use Rattle.std.specs.List.{AllByRecursion}
 use Rattle.std.proofs.Math.Nat.{le-max_left, le-max_right, max-le, min-le_right, max-eq_left}
 use Rattle.std.proofs.Math.Nat.{max-eq_right}
-use Rattle.std.proofs.lemmas.Bool.Decides.{leb_matches}
+use Rattle.std.proofs.lemmas.Bool.Decides.{leb_tells}
 use Rattle.gateway.specs.Log.{Log, Input, Output, Came, Went, latest, last_moment}
 use Rattle.gateway.specs.Reports.{Setup}
 use Rattle.gateway.specs.Traffic.{ActsRightly}
@@ -21,7 +21,7 @@ later a b h (entry ∷ log) all = (le_trans all.0 h, later a b h log all.1)
 -- an event comes
 came_logged : (now : ℕ) (event : Input) (log : Log) → IsOneOf (latest log) log →
     IsOneOf (max (latest log) (min now last_moment)) (Came now event ∷ log)
-came_logged now event log old = by_order (leb_matches (latest log) (min now last_moment))
+came_logged now event log old = by_order (leb_tells (latest log) (min now last_moment))
   where
     by_order : ((nat_le (latest log) (min now last_moment) ≡ true)
         × (latest log ≤ min now last_moment))
