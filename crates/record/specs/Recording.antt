@@ -7,7 +7,7 @@ use Rattle.record.specs.Written.{log_in, IsWritten}
 use Rattle.std.specs.Prelude.{◌≡◌, ℕ, Bool, true, false, List, [], ◌++◌, Option, Some, None, IfSome}
 use Rattle.std.specs.Prelude.{if◌then◌else◌}
 
--- a text with another one behind it, if the text is said
+-- a text with another one behind it, if the text is given
 abbrev pub added : Option (List ℕ) → List ℕ → Option (List ℕ)
 added None more = None
 added (Some text) more = Some (text ++ more)
@@ -40,7 +40,7 @@ pub record IsKept (r : Recording) : Type 0 where
   pub written : IsWritten (text_of r)
   pub whole : r.is_over ≡ false → IfSome r.missed (λ log. log ≡ [])
 
--- the first of two logs that is said
+-- the first of two logs that is given
 abbrev pub logged_first : Option Log → Option Log → Option Log
 logged_first None other = other
 logged_first (Some log) other = Some log

@@ -14,7 +14,7 @@ pub record IsText (text : List ℕ) : Type 0 where
   pub lines : lines_of_log (log_in text) ≡ text
   pub printable : AllByRecursion IsPrintable (log_in text)
 
--- if a text is said, it is the lines of a log
+-- if a text is given, it is the lines of a log
 abbrev pub IsWritten : Option (List ℕ) → Type 0
 IsWritten logged = IfSome logged IsText
 

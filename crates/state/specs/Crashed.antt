@@ -18,11 +18,11 @@ use Rattle.state.specs.Deeds.{Deeds, waiting}
 use Rattle.state.specs.Replays.{AreRead, events_in_front, whole_lines}
 use Rattle.state.specs.Stores.{head, safe}
 
--- an event that the line of a trace can log
+-- an event that the line of a trace can hold
 abbrev pub IsWritable : LogEntry → Type 0
 IsWritable event = (logged : Event) × FitsTrace logged × (event ≡ came logged)
 
--- it can log the event of a port's answer, whose octets fit the buffer
+-- it can hold the event of a port's answer, whose octets fit the buffer
 abbrev pub FitsLine : Next → Type 0
 FitsLine (answers.Line now len) = (now ≤ last_moment) × (1 ≤ len)
 FitsLine (answers.Open now) = now ≤ last_moment

@@ -18,7 +18,7 @@ pub trait Ends {
     ghost use Rattle.std.specs.Prelude.{Option, nat_lt, if◌then◌else◌, MatchResult};
     ghost use Rattle.std.specs.Option.{is_some};
 
-    /// The log of the port, as the port says it.
+    /// The log of the port, as the port gives it.
     ghost log: { Self → Option (List LogEntry) };
 
     ghost failed: { Self → ℕ };

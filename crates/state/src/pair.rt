@@ -89,7 +89,7 @@ impl<P: Watched + Drop, F: Folder + Drop> Pair<P, DiskStore<F>> {
     }
 }
 
-/// A line can log the event of this answer: its moment has 15 digits at most, and it has octets.
+/// A line can hold the event of this answer: its moment has 15 digits at most, and it has octets.
 fn is_writable(next: Next) -> bool
     ensures { result ≡ true → FitsLine next }
 {

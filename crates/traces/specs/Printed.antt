@@ -83,7 +83,7 @@ HasNoMark text = list_any (λ b. b == 33) text ≡ false
 
 -- Traces
 
--- what a trace can log: moments and numbers of 15 digits at most, and 1 to 1,024 octets
+-- what a trace can hold: moments and numbers of 15 digits at most, and 1 to 1,024 octets
 abbrev pub FitsTrace : Event → Type 0
 FitsTrace (events.line now octets) =
     (now ≤ last_moment) × IsBytes octets × (1 ≤ length octets) × (length octets ≤ 1024)
