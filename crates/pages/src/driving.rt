@@ -92,7 +92,10 @@ fn pour<P: Paged, W: Write>(port: &mut P, is_whole: bool, out: &mut W) -> bool
         IsPoured is_whole before (W.contents out.old) (lines_of_actions (P.poured port.old)) →
         IsPoured result before (W.contents out.new) (lines_of_actions (P.poured port.new)) }
 {
+    // No line is kept that went out: proofs alone know the log (docs/DECISIONS.md, "`replay` and
+    // `sim` print while they run").
     let page = port.page();
+    // An output that fails ends no run (docs/DECISIONS.md, "An output that fails").
     let is_taken = is_whole && print(page, out).is_ok();
     port.clear_page();
     is_taken

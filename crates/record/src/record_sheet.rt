@@ -56,6 +56,7 @@ impl<'a, R> StandardOutput<'a, R> {
 }
 
 impl<R: Print + Eprint> RecordSheet for StandardOutput<'_, R> {
+    // Standard output says no text (docs/DECISIONS.md, "A record's log").
     ghost taken = { λ _. None };
 
     ghost missed = { λ _. None };

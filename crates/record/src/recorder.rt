@@ -65,6 +65,9 @@ impl<P: Port + Drop, W: RecordSheet + Drop> Port for Recorder<P, W> {
         ensures receives { Receives self.old.pen result buf.new self.new.pen }
     {
         let next = self.port.next(buf);
+        // If it were written behind the step, a kill could lose an event whose actions had gone out
+        // (docs/DECISIONS.md, "An event's line comes first"). A tick too is written: the time of an
+        // exchange or a selection may end by it alone (docs/DECISIONS.md, "Ticks are in").
         self.pen.note_event(next, buf);
         self.pen.give();
         next

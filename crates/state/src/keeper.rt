@@ -234,6 +234,8 @@ impl<E: Ends + Drop> Port for Keeper<E> {
         ensures asks { is_stopped self.new.standing self.old.bears_loss ≡ false →
             self.new.stops ≡ self.old.stops }
     {
+        // Else a restart could repeat a command under a bit that is new to the station
+        // (docs/DECISIONS.md, "Nothing goes out before the disk").
         self.standing = settle(&mut self.ends, self.standing);
         if is_stopped(self.standing, self.bears_loss) {
             self.stops += 1;

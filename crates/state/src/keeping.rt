@@ -88,6 +88,7 @@ pub(crate) fn is_stopped(standing: Standing, bears_loss: bool) -> bool
 {
     match standing {
         Standing::Lost(Loss::Marked) => !bears_loss,
+        // Else the next start would trust an old state (docs/DECISIONS.md, "A disk that fails").
         Standing::Lost(Loss::Unmarked) => true,
         Standing::Synced | Standing::Waiting(_) => false,
     }

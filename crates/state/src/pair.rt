@@ -119,6 +119,7 @@ fn take<S: Store>(alloc: Global, store: &mut S, next: Next, buf: &[u8; 1024]) ->
     if append_event(alloc, &mut line, next, buf).is_err() {
         return false;
     }
+    // Without a sum of its own: no crash needs one (docs/DECISIONS.md, "No sum by line").
     store.append(line.as_bytes())
 }
 

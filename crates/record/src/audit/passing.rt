@@ -23,6 +23,7 @@ pub fn part_of(block: &[u8], is_last: bool) -> Option<&[u8]>
     if !is_last {
         return Some(block);
     }
+    // A process that is killed leaves half a line (docs/DECISIONS.md, "A record may end anywhere").
     match memrchr(LINE_FEED, block) {
         Some(end) => Some(&block[..end]),
         None => None,
@@ -52,6 +53,7 @@ enum LineKind {
 pub fn is_cut(line: &[u8]) -> bool
     ensures { result ≡ is_cut line.now }
 {
+    // Half an event can't be completed (docs/DECISIONS.md, "A line with `!`").
     memchr(b'!', line).is_some()
 }
 
