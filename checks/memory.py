@@ -26,6 +26,8 @@ SETTINGS = "[line]\nlink = 1\ncause = 1\nca = 1\nioa = 2\nqueue = 65535\nanswer_
     f"[[station]]\naddress = {n}\nca = {n}\nselect = {'true' if n % 2 == 0 else 'false'}\n" for n in range(1, STATIONS + 1)
 )
 
+# Counted at the process: the queue and the session's ring take `Global`, so no test can pass in an
+# allocator that counts (docs/DECISIONS.md, "Requests for memory").
 # The number of requests stands in the file that REQUESTS names, for another process to read at any moment.
 LIBRARY = r"""
 #define _GNU_SOURCE

@@ -148,6 +148,7 @@ fn short_of(octets: &[u8]) -> Option<Short>
 fn octet_by_octet(octets: &[u8]) -> FrontRef<'_>
     ensures { IsFront octets.now (owned_front result) }
 {
+    // No octets are a proper beginning (docs/DECISIONS.md, "No octets at all").
     let Some((start, rest)) = octets.split_first() else {
         return FrontRef::More;
     };

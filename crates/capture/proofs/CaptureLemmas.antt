@@ -248,7 +248,7 @@ line_carried size false entries =
 
 -- ---- Lines
 
--- a line that tells an entry, and one that tells none
+-- a line that logs an entry, and one that logs none
 logged_blocks : (c : Captured) (logged : Option LogEntry) (lines : List (List ℕ)) →
     blocks_of_lines (after_logged c logged) lines
     ≡ flat_map blocks_of (packets_in (after_logged c logged) (filter_map entry_logged lines)) →

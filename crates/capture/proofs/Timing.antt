@@ -37,7 +37,7 @@ latest_bounded [] = omega arith
 latest_bounded (Came now event ∷ log) = let below = latest_bounded log in omega arith
 latest_bounded (Went now action ∷ log) = latest_bounded log
 
--- what the wall clock shows at a moment, by the latest event that told it
+-- what the wall clock shows at a moment, by the latest event that gave it
 wall_is : (log : Log) (at : ℕ) → at ≤ 999999999999999 →
     min ((clock_of log).wall + (at - (clock_of log).wall_at)) (2 ^ 64 - 1)
     ≡ unwrap_or (wall_on log at) at

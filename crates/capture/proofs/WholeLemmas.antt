@@ -87,7 +87,7 @@ put_one a b line p q is put behind = record {
   new_is = behind;
 }
 
--- a wrong line tells nothing
+-- a wrong line logs nothing
 none_logged : (line : List ℕ) → is_line line ≡ false → entry_logged line ≡ None
 none_logged line wrong = by (is_skipped line) (entry_logged line) wrong
   where

@@ -51,7 +51,8 @@ unfoldable pub block : (interface micros : ℕ) → (packet comment : List ℕ) 
 block interface micros packet comment =
     front interface micros packet comment ++ (sized packet ++ back packet comment)
 
--- A section header: type, length, byte order, version 1.0, a length of the section that isn't told.
+-- A section header: type, length, byte order, version 1.0, a length of the section that isn't
+-- given.
 abbrev pub section_header : List ℕ
 section_header =
     0x0A ∷ 0x0D ∷ 0x0D ∷ 0x0A ∷ 28 ∷ 0 ∷ 0 ∷ 0 ∷ 0x4D ∷ 0x3C ∷ 0x2B ∷ 0x1A ∷ 1 ∷ 0 ∷ 0 ∷ 0

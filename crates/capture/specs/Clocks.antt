@@ -23,8 +23,8 @@ abbrev pub micros_of : Clock → ℕ
 micros_of clock =
     min (min (clock.wall + (clock.latest - clock.wall_at)) (2 ^ 64 - 1) * 1000) (2 ^ 64 - 1)
 
--- The same of a log: the wall clock at its latest moment, by the latest event that told it. Before
--- it is told, the moment itself counts as the time.
+-- The same of a log: the wall clock at its latest moment, by the latest event that gave it. Before
+-- any gave it, the moment itself counts as the time.
 abbrev pub time_of : Log → ℕ
 time_of log = min (unwrap_or (wall_on log (latest log)) (latest log) * 1000) (2 ^ 64 - 1)
 

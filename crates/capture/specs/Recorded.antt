@@ -1,4 +1,4 @@
--- What a line of a record or of a trace tells (texts of this gateway's own profile): an event as a
+-- What a line of a record or of a trace logs (texts of this gateway's own profile): an event as a
 -- trace has it, or an action with the mark `>` behind its moment.
 use Rattle.std.specs.Prelude.{ℕ, ◌==◌, ◌||◌, Bool, if◌then◌else◌, List, [], ◌∷◌, codes, Option}
 use Rattle.std.specs.Prelude.{None, is_some, option_map}
@@ -32,7 +32,7 @@ action_from (kind ∷ text ∷ []) = action_by kind text
 action_from (kind ∷ station ∷ session ∷ []) = gap_by kind station session
 action_from fields = None
 
--- what the fields of a line tell
+-- what the fields of a line log
 abbrev pub entry_from : List (List ℕ) → Option LogEntry
 entry_from [] = None
 entry_from (moment ∷ []) = None
@@ -40,7 +40,7 @@ entry_from (moment ∷ second ∷ fields) =
     if bytes_eq second (codes ">") then went_at (decimal_of moment) (action_from fields)
     else option_map came (event_from (moment ∷ second ∷ fields))
 
--- what a line tells; an empty one and a comment tell nothing
+-- what a line logs; an empty one and a comment log nothing
 abbrev pub entry_logged : List ℕ → Option LogEntry
 entry_logged line =
     if is_skipped line then None else entry_from (slice_split (λ b. b == 32) line)

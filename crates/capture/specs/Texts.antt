@@ -19,7 +19,7 @@ use Rattle.capture.specs.declared.whole.CaptureFault.TheVariants.{NoMemory}
 
 -- ---- Lines
 
--- a line that was cut short tells nothing
+-- a line that was cut short logs nothing
 abbrev pub kept_line : List ℕ → List ℕ
 kept_line line = if is_cut line then [] else line
 
@@ -27,7 +27,7 @@ kept_line line = if is_cut line then [] else line
 abbrev pub kept_lines : (text : List ℕ) → List (List ℕ)
 kept_lines text = map kept_line (whole_lines text)
 
--- each tells an event or an action, or is empty or a comment
+-- each logs an event or an action, or is empty or a comment
 abbrev pub are_lines : List (List ℕ) → Bool
 are_lines lines = list_all is_line lines
 

@@ -10,7 +10,7 @@ pub(crate) struct Clock {
     /// The greatest moment so far.
     pub(crate) latest: u64,
     /// What the wall clock showed, in milliseconds since 1970-01-01 UTC, and the moment at which it
-    /// did. Before it is told, 1970 at moment 0.
+    /// did. Before its first event, 1970 at moment 0.
     pub(crate) wall: u64,
     pub(crate) wall_at: u64,
 }

@@ -15,8 +15,8 @@ use session::Close;
 use std::alloc::{AllocError, Global};
 use traces::{cut, read_decimal, read_octets};
 
-/// What a line tells, which is neither empty nor a comment. `None` where it is neither an event nor
-/// an action; an `Err` is want of memory.
+/// What a line logs, which is neither empty nor a comment. `None` if it is neither an event nor an
+/// action; an `Err` is want of memory.
 pub(crate) fn read_entry(alloc: Global, line: &[u8]) -> Result<Option<StoredEntry>, AllocError>
     ensures logged { IfOk result (λ logged. option_map logged_of logged
         ≡ entry_from (slice_split (λ b. b == 32) line.now)) }

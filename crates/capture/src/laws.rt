@@ -19,7 +19,7 @@ pub fn segments_carry_the_octets()
         joined is_up (sent_in c deeds) ≡ flat_map (octets_of is_up) deeds }
 {}
 
-/// Whatever a record tells: the data of the segments that go one way, joined, are the octets that
+/// Whatever a record logs: the data of the segments that go one way, joined, are the octets that
 /// TCP took or brought by the lines of the record, in their order; and those of the packets of the
 /// line are the octets that the line took or brought. So no line's octets are left out, none come
 /// twice, and none go the other way.
@@ -45,7 +45,7 @@ pub fn segments_run_on()
         RunOn 0 0 (segments_in (packets_in (begun size) entries)) }
 {}
 
-/// A capture is made of the entries that its lines tell: what each line adds, one after another, is
+/// A capture is made of the entries that its lines log: what each line adds, one after another, is
 /// a header, the blocks of their packets, and nothing else.
 pub fn lines_are_captured()
     ensures { (size : LinkSize) (lines : List (List ℕ)) → capture_of size lines

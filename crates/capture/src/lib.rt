@@ -10,22 +10,22 @@
 //! packet of the line without octets, whose comment says the station and the session.
 //!
 //! Proved: what each call appends are the octets of one definition (`specs/Captures.antt`), and a
-//! line that is neither an event nor an action, nor empty or a comment, is told, and appends
+//! line that is neither an event nor an action, nor empty or a comment, is reported, and appends
 //! nothing. Above it, for every record: the data of the segments that go one way, joined, are the
 //! octets that TCP took or brought by its lines, and so for the line
 //! ([`captures_carry_the_octets`]); the packets of each line stand at the time of the wall clock
 //! ([`packets_stand_at_their_times`]); each end numbers its segments on, from SYN to FIN or RST,
 //! and acknowledges what the other has sent ([`segments_run_on`]); a file is its header, the blocks
-//! of what the lines tell, and nothing else ([`lines_are_captured`]).
+//! of what the lines log, and nothing else ([`lines_are_captured`]).
 //!
 //! [`capture_text`] writes the capture of a whole record, which is read block by block, and which
 //! lines of it were cut short it knows as `audit` does. Proved: what it writes is the file of the
-//! events and actions that the record's lines tell; at the first line that tells neither, that of
+//! events and actions that the record's lines log; at the first line that logs neither, that of
 //! those before it; and where a read, the output or memory fails, a beginning of it.
 //!
 //! An action stands at the moment of the event before it, which in a record is its own. Before the
-//! wall clock is told, moments count from 1970-01-01 UTC. That Wireshark reads what the formats
-//! say is only tested.
+//! first event of the wall clock, moments count from 1970-01-01 UTC. That Wireshark reads what the
+//! formats say is only tested.
 #![tactic(auto)]
 
 mod capturing;

@@ -121,10 +121,10 @@ fn finish<W: Write>(capture: &mut Capture, page: &mut Page, out: &mut W) -> Resu
 }
 
 /// Writes the capture of a record whose line has link addresses of this size. The record is read
-/// once, block by block, and what its lines tell is written before more is read, so that who
-/// records a run can be followed. A last line that was cut short is left out, and so is one that
-/// is marked so. At the first line that is neither an event nor an action the capture of those
-/// before it ends.
+/// once, block by block, and what its lines log is written before more is read, so that who records
+/// a run can be followed. A last line that was cut short is left out, and so is one that is marked
+/// so. At the first line that is neither an event nor an action the capture of those before it
+/// ends.
 pub fn capture_text<R: Read + Drop, W: Write>(
     alloc: Global,
     link: LinkSize,

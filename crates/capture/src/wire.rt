@@ -134,7 +134,7 @@ fn put_frames(
     Ok(end)
 }
 
-/// What a gap of a station, from 0, at the end of one of its sessions is told by.
+/// The comment that reports a gap of a station, from 0, at the end of one of its sessions.
 #[tactic(auto, using(crate::proofs::Lengths::gap_short))]
 fn gap_comment(alloc: Global, station: usize, session: u64) -> Result<String, AllocError>
     ensures text { IfOk result (λ text. string_bytes text ≡ comment_of_gap station session) }
@@ -280,8 +280,8 @@ impl Wire {
     }
 
     /// Puts a gap of a station, from 0, at the end of one of its sessions. The frame that brought
-    /// it was put before it is told, so that it has a packet of its own (docs/DECISIONS.md, "A gap
-    /// in a capture").
+    /// it was put before the gap is reported, so that it has a packet of its own
+    /// (docs/DECISIONS.md, "A gap in a capture").
     pub(crate) fn gap(
         &mut self,
         page: &mut Page,

@@ -40,6 +40,8 @@ pub trait Sheet {
     ghost written: { Self → List (List ℕ) };
 
     /// Puts a line of numbers.
+    // Numbers and no text, so that no part's proof deals with digits (docs/DECISIONS.md, "Lines of
+    // numbers").
     fn put(&mut self, line: &[u64]) -> Result<(), StateFault>
         ensures { OnOk result (written self.new ≡ written self.old ++ line.now ∷ []) };
 

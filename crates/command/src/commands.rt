@@ -554,6 +554,8 @@ impl Commands {
         if objects.next().is_some() {
             return None;
         }
+        // Not by the element: a station may answer with another one (docs/DECISIONS.md, "Which tag
+        // an answer bears").
         let target = Target {
             kind: head.kind,
             ca: head.ca,
@@ -568,7 +570,8 @@ impl Commands {
         requires ca { ca ≡ (value_of asdu.now).ca }
         ensures { self.new ≡ all_over (value_of asdu.now) (value_of asdu.now).infos self.old }
     {
-        // An end too early costs a second select; one too late may operate a switch.
+        // An end too early costs a second select; one too late may operate a switch
+        // (docs/DECISIONS.md, "A negative confirmation with several objects").
         for object in asdu.objects() {
             self.heed(Sign::Over(Target {
                 kind,

@@ -256,6 +256,8 @@ impl Selection {
         ensures { result ≡ live select_ms now self.now.stage }
     {
         match self.stage {
+            // By the step's moment, before the timers take it off (docs/DECISIONS.md, "A live
+            // selection").
             SelectStage::Live(since) => now.saturating_sub(since) < select_ms,
             SelectStage::Queued(_) | SelectStage::Sent | SelectStage::Accepted => false,
         }

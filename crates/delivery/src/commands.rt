@@ -77,6 +77,8 @@ pub fn selections_end_in_time()
 /// too, whatever is lost, whatever times out, and however often the link is reset. (The connections
 /// of the course are those of the log: `IsFaithful`.)
 pub fn each_command_is_given_once()
+    // A sublist, and no equation: a command that still waits when its connection ends is taken back
+    // (docs/DECISIONS.md, "The commands' half of the theorem").
     ensures sent { (p : Setup) (log : Log) (i : ℕ) (f : IsFaithful p log) → IsSetUp p →
         AreCommandsOf p i (arrivals log (here_of f.course ∷ f.course.earlier))
         (first_sendings (address_at p.addresses i) None (exchanges_with p i log)) }

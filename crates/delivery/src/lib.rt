@@ -21,6 +21,8 @@
 //! report is ever polled, or that a command is ever put on the line or accepted.
 #![tactic(auto)]
 
+// Apart from the gateway, of which it needs the log and `IsFaithful` alone: so the gateway's chain
+// stays short (docs/DECISIONS.md, "`delivery` stands apart").
 mod commands;
 mod laws;
 mod received;

@@ -44,6 +44,8 @@ pub fn one_front()
 /// The computed front is the front of the octets, and the only one. Once it is a frame or a refusal
 /// it stays so, whatever octets come; a spelling is read back.
 pub fn front_is_computed()
+    // Of any numbers: no frame goes on with one above 255, so the crates above needn't carry that
+    // all numbers are octets (docs/DECISIONS.md, "The computed front").
     ensures right { (size : LinkSize) (octets : List ℕ) →
         IsFront size octets (front_of size octets) }
     ensures only { (size : LinkSize) (octets : List ℕ) (front : Front) → IsFront size octets front →

@@ -120,6 +120,7 @@ fn variable(size: LinkSize, rest: &[u8]) -> FrontRef<'_>
 pub fn front_ref(size: LinkSize, octets: &[u8]) -> FrontRef<'_>
     ensures { IsFront size octets.now (owned_front result) }
 {
+    // No octets are a proper beginning (docs/DECISIONS.md, "No octets at all").
     let Some((start, rest)) = octets.split_first() else {
         return FrontRef::More;
     };

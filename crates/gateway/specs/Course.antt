@@ -42,7 +42,8 @@ use Rattle.gateway.specs.Works.{restarted_works}
 
 pub record Course : Type 0 where
   -- what was said on the open connection: frames that came and frames that went out, each with its
-  -- moment, the latest first
+  -- moment, the latest first; within a step the log leaves open where a frame that came stands
+  -- among those that went out (docs/DECISIONS.md, "The history of a connection")
   pub talk : History
   -- its I frames that went out, the oldest first
   pub sent : List Sent
@@ -354,6 +355,8 @@ pub record SendsNext (p : Setup) (log : Log) (octets : List ℕ)
   pub due : before.works.is_due ≡ true
   pub logged : before.works.serial.gap ≡ None
   pub request : Sending
+  -- the one that the turns give, as the line's machine has it: there are no shorter words
+  -- (docs/DECISIONS.md, "Requests by the turns")
   pub next : sending (ready_works (latest log) before.works).serial.line (room_in p log before)
       ≡ Some request
   pub spelled_so : octets ≡ line.spelling p.link.size

@@ -51,7 +51,8 @@ abbrev pub sent_to : List ℕ → (ℕ × Asked) → Option Sending
 sent_to addresses request =
     option_map (λ i. record { station = i; request = request.1 }) (index_of request.0 addresses)
 
--- the request that octets are, and the place of its station
+-- the request that octets are, and the place of its station; it is read back from the octets, so
+-- that the exchanges of a log compute (docs/DECISIONS.md, "Exchanges read their request back")
 abbrev pub sending_in : Setup → List ℕ → Option Sending
 sending_in p octets = option_and_then (sent_to p.addresses) (request_in p.link.size octets)
 

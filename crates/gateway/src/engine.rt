@@ -63,6 +63,8 @@ pub(crate) enum Arrival {
 pub struct Gateway {
     serial: SerialSide,
     centre: CentreSide,
+    // The sizes and the moment stand beside the two sides, since both read them (docs/DECISIONS.md,
+    // "The gateway's two sides").
     sizes: Sizes,
     moment: u64,
     /// What the wall clock showed last.

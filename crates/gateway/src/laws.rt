@@ -42,6 +42,10 @@ use link::line_keeps_the_procedures;
 /// but for a connection that was closed for want of a place for an own answer, whose octets alone
 /// don't show at which frame: of a log `one_course` shows it.
 pub fn one_reading()
+    // Left out are connections whose octets end with the frame whose answer found no place
+    // (docs/DECISIONS.md, "A connection closed by cause 6"). That there is one reading is a law,
+    // since a computed parser would write the grammar twice (docs/DECISIONS.md, "Received frames
+    // are a relation").
     ensures { (octets : Channel) (c d : Connection) (fault other : Option Close) →
         octets.lacked_place ≡ false → IsConnection octets c fault → IsConnection octets d other →
         (c ≡ d) × (fault ≡ other) }
@@ -84,6 +88,8 @@ pub fn one_cause()
 /// each was answered as the first rule that applies has it. As many wait, over all stations, as
 /// were forwarded on the connection and not sent, and each that has to pass was forwarded.
 pub fn courses_keep_commands()
+    // The course folds the commands' machine; these are the standard's rules, of the history that
+    // it leaves (docs/DECISIONS.md, "Commands by their machine").
     ensures { (p : Setup) (log : Log) (c : Course) → Runs p log c →
         KeepsCommands p (tasks_of c.works) }
 {

@@ -61,6 +61,8 @@ pub enum Next {
 /// Where events come from and actions go. A port that gives its log adds each event and each action
 /// to it; a call that fails adds nothing.
 pub trait Port {
+    // Ports over a text stand in crates of their own: the gateway knows no text (docs/DECISIONS.md,
+    // "Ports in crates of their own").
     ghost use Rattle.gateway.specs.Ports.{logged_by, output_of, FitsBuffer, faults_of};
 
     /// The log so far, the newest first, where the port gives it.

@@ -554,6 +554,8 @@ impl Gateway {
         if !self.send_request(port) {
             return false;
         }
+        // Behind the request: only what a frame of the event brings about goes out before it
+        // (docs/DECISIONS.md, "A request before frames").
         self.flush(port)
     }
 }

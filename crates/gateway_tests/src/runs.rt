@@ -42,7 +42,7 @@ fn config(alloc: Global) -> Result<Config, AllocError> {
     Ok(Config::new(line, tcp, stations))
 }
 
-/// A port that has no event, and takes each action. It tells no log.
+/// A port that has no event, and takes each action. It gives no log.
 #[derive(Drop)]
 struct Sink;
 

@@ -1,5 +1,5 @@
-//! The values that files of settings give, and where a live run finds its ends. Which faults are
-//! told is shown by checks/faults.py.
+//! The values that files of settings give, and where a live run finds its ends. checks/faults.py
+//! shows which faults are reported.
 use asdu::{CaSize, CauseSize, IoaSize, Sizes};
 use ft12::LinkSize;
 use gateway::{LineSettings, Silence, StationSettings, TcpSettings};

@@ -1,5 +1,5 @@
-//! What traces say, and what is written, by both ports over a text. Which line of a wrong text is
-//! told is shown by checks/faults.py, and which octets can be given alone by checks/shows.py.
+//! What traces say, and what is written, by both ports over a text. checks/faults.py shows which
+//! line of a wrong text is reported, and checks/shows.py which octets can be given alone.
 use gateway::{Action, Entry, Next, Port, StoredEntry};
 use session::Close;
 use std::alloc::Global;

@@ -33,7 +33,7 @@ place_of text at = fold next_place first_place (take at text)
 abbrev pub place_words : Place → List ℕ
 place_words p = codes "line " ++ decimal p.line ++ codes ", column " ++ decimal p.column
 
--- What is told of where a value stands: its place and the value as it is written; or, where the key
+-- What is said of where a value stands: its place and the value as it is written; or, if the key
 -- isn't there, the line of the header that it belongs below.
 abbrev pub value_line : List ℕ → Span → List ℕ
 value_line text s =

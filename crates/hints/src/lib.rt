@@ -3,7 +3,7 @@
 //! where two have one number.
 //!
 //! [`explain`] gives these lines for the fault that `settings` found, and [`explain_site`] for that
-//! of `sitefile`. Proved: where a place is told, the value of that key stands there, or the key
+//! of `sitefile`. Proved: where a place is given, the value of that key stands there, or the key
 //! belongs there (`toml_places`); the words are those of `specs/Explained.antt`; of a site's
 //! stations the first that is wrong is meant. Which station of settings is meant is tested, and
 //! which other one has its number.

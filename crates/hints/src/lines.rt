@@ -1,4 +1,4 @@
-//! The lines that are told.
+//! The lines of a hint.
 ghost use Rattle.std.specs.Prelude.{◌≡◌, ◌≤◌, length, IfOk, string_bytes};
 ghost use Rattle.hints.specs.Explained.{IsInside, found_line, gap_line, place_of, place_words};
 ghost use Rattle.hints.specs.Explained.{twin_line, value_line, wanted_line};
@@ -52,7 +52,7 @@ fn gap_line(alloc: Global, text: &[u8], at: usize) -> Result<Vec<u8>, AllocError
     Ok(line.into_bytes())
 }
 
-/// What is wanted of a key, or where the keys are told, where there is no such key.
+/// What is wanted of a key, or, if there is no such key, the page that lists the keys.
 pub(crate) fn wanted_line(alloc: Global, file: File, path: &str) -> Result<String, AllocError>
     ensures { IfOk result (λ s. string_bytes s ≡ wanted_line file path.now) }
 {

@@ -1,4 +1,4 @@
--- Events and actions that are told one after another.
+-- Events and actions that are described one after another.
 use Rattle.std.proofs.Common.{◌≡◌, ℕ, ◌<◌, ◌≤◌, ◌-◌, Bool, not, List, [], ◌∷◌, ◌++◌, length, take}
 use Rattle.std.proofs.Common.{drop, Option, refl, sym, subst, ap, ◌∙◌, append_assoc, arith}
 use Rattle.std.proofs.lemmas.List.{append-nil, length-drop, take_all}
@@ -34,7 +34,7 @@ nothing_logged style old new a b same e = λ log taken logged.
     (subst (λ (xs : List ℕ). IsLoggedTo style log old (taken ++ xs)) (sym e) logged)
 
 module _ (style : Style) (now : ℕ) (first : Remembered) (octets text : List ℕ) where
-  -- so much of a piece of the line was told: what is told of the rest comes behind it
+  -- so much of a piece of the line was described: what is said of the rest comes behind it
   pub record FramesTo (mind : Remembered) (left written : List ℕ) : Type 0 where
     pub so_far : List ℕ
     pub written_is : written ≡ text ++ so_far

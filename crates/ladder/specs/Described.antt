@@ -1,4 +1,4 @@
--- What a ladder tells of a run: the lines of its log, the oldest first (texts of this gateway's own
+-- What a ladder says of a run: the lines of its log, the oldest first (texts of this gateway's own
 -- profile).
 use Rattle.std.specs.Prelude.{◌≡◌, ◌<◌, ℕ, Bool, true, false, not, codes, List, [], ◌∷◌, ◌++◌, drop}
 use Rattle.std.specs.Prelude.{length, Option, Some, None, IsTrue, ◌↔◌}
@@ -40,7 +40,7 @@ first_remembered size = record {
 
 -- ---- Octets of the line
 
--- so many octets of a piece are taken, and this is heard (IEC 60870-5-1, 6.2.4.2)
+-- so many octets of a piece are taken, and this is received (IEC 60870-5-1, 6.2.4.2)
 abbrev pub Listens : LinkSize → Option (List ℕ) → (piece : List ℕ) → (n : ℕ) → LineReceived
     → (later : Option (List ℕ)) → Type 0
 Listens size None piece n arrived later =
@@ -116,7 +116,7 @@ unfoldable pub wall_line : (is_coloured : Bool) → (now wall : ℕ) → List �
 wall_line is_coloured now wall =
     head is_coloured now Inside [] ++ (codes "the wall clock shows " ++ (decimal wall ++ 10 ∷ []))
 
--- the octets of the latest request again are told so
+-- if these are the octets of the latest request again, the remark says so
 pub record IsRequest (latest octets remark : List ℕ) : Type 0 where
   pub is_repeat : Bool
   pub repeats : IsTrue is_repeat ↔ (latest ≡ octets)
@@ -142,7 +142,7 @@ pub record IsActionLogged (style : Style) (before : Remembered) (now : ℕ) (act
   pub line : IsActionLine style.sizes style.is_coloured now remark action lines
 
 -- the lines of an entry of the log; where only time passes there is none, nor for a restart, which
--- no port tells
+-- no port gives
 abbrev pub IsEntryLogged : Style → (before : Remembered) → LogEntry → (after : Remembered)
     → (lines : List ℕ) → Type 0
 IsEntryLogged style before (Came now (LineIn octets)) after lines =
@@ -177,7 +177,7 @@ pub record IsLadder (style : Style) (log : Log) (text : List ℕ) : Type 0 where
   pub mind : Remembered
   pub logged : IsLoggedTo style log mind text
 
--- behind any log these news are told so
+-- behind any log these news are described so
 abbrev pub LogsNews : Style → (old : Remembered) → (news : Log) → (new : Remembered)
     → (old_text new_text : List ℕ) → Type 0
 LogsNews style old news new old_text new_text =

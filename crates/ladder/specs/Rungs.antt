@@ -94,7 +94,7 @@ pub record IsActionLine (s : LineSizes) (is_coloured : Bool) (now : ℕ) (remark
   pub are_words : AreActionWords s action words
   pub joined : line ≡ head is_coloured now (way_of action) remark ++ words
 
--- ---- What is heard of the line
+-- ---- What is received from the line
 
 -- the octets of the latest request again
 abbrev pub repeat_remark : Bool → List ℕ

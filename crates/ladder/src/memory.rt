@@ -84,7 +84,7 @@ impl Memory {
     }
 
     /// Takes octets of a piece of the line, up to the end of a frame, and says how many and what
-    /// was heard.
+    /// was received.
     pub(crate) fn receive_line(&mut self, piece: &[u8]) -> (usize, Received)
         ensures arrived { Listens self.old.size self.old.line piece.now result.0 result.1
             self.new.line }

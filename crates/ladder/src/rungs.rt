@@ -22,7 +22,7 @@ pub(crate) enum Way {
     ToOutstation,
     FromCentre,
     ToCentre,
-    /// The gateway itself tells something.
+    /// The gateway itself reports something.
     Inside,
 }
 
@@ -197,7 +197,7 @@ fn late_remark(is_late: bool) -> &'static str
     if is_late { ", late" } else { "" }
 }
 
-/// A remark on what is heard of the line.
+/// A remark on what is received from the line.
 fn received_remark(is_late: bool, arrived: &Received) -> &'static str
     ensures { result.now ≡ remark_of is_late arrived.now }
 {

@@ -95,6 +95,7 @@ pub trait Listener {
         ensures noted { attempts self.new ≡ attempted (attempts self.old) (is_some result) };
 
     /// How many were refused so far, and the address of the last of them.
+    // `run --log` logs this (docs/DECISIONS.md, "`Listener::refused`").
     fn refused(&self) -> RefusedPeers;
 }
 

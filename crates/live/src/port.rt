@@ -124,6 +124,8 @@ impl<S: OctetStream, L: Listener + Drop, C: RunClock + Drop> Live<S, L, C> {
           log = [];
         } }
     {
+        // Of the settings it needs how long an answer is awaited (docs/DECISIONS.md, "What
+        // `Live::new` takes").
         Live::awaiting(line, listener, clock, allow_list, config.line().answer_ms)
     }
 
@@ -243,7 +245,8 @@ impl<S: OctetStream, L: Listener + Drop, C: RunClock + Drop> Live<S, L, C> {
         if self.is_cut_due {
             self.is_cut_due = false;
             self.end_connection();
-            // A cut is an event of the connection: the round goes on behind that.
+            // A cut is an event of the connection: the round goes on behind that
+            // (docs/DECISIONS.md, "A cut that is due").
             self.first = EventSource::Connection.after();
             return Some(SourceEvent::Cut);
         }
@@ -371,6 +374,8 @@ impl<S: OctetStream, L: Listener + Drop, C: RunClock + Drop> Live<S, L, C> {
         ensures given { GivesEvent now self.old found result buf.now self.new }
     {
         let mut taken = found;
+        // To cut the connection, the simpler rule, lost one in six stalls (docs/DECISIONS.md, "Late
+        // octets of a control centre").
         if self.timing.is_behind(now) {
             if let Some(SourceEvent::Bytes(len)) = found {
                 self.held.hold(&buf[..len]);
@@ -471,7 +476,8 @@ impl<S: OctetStream, L: Listener + Drop, C: RunClock + Drop> Live<S, L, C> {
             Action::Line(octets) => {
                 // What came before is no answer to it: the exchange before is over, and what is
                 // late of it the station gives again, since a request that wasn't answered is
-                // repeated with its frame count bit.
+                // repeated with its frame count bit (docs/DECISIONS.md, "Octets that wait before a
+                // request").
                 let late = self.line.drop_waiting();
                 self.late_octets = self.late_octets.saturating_add(late);
                 // A request that the line doesn't take is lost.
@@ -515,6 +521,8 @@ impl<S: OctetStream + Reached, L: Listener + Drop, C: RunClock + Drop> Live<S, L
 }
 
 impl<S: OctetStream, L: Listener + Drop, C: RunClock + Drop> Port for Live<S, L, C> {
+    // Sockets say nothing, so the port says what passed (docs/DECISIONS.md, "A live port says its
+    // log").
     ghost log = { λ ends. Some ends.log };
 
     ghost failed = { λ ends. ends.failed };

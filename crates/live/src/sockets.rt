@@ -390,6 +390,8 @@ impl<R: Net<Listener = TcpListener, Stream = TcpStream> + Eprint> Listener
             match self.listener.accept() {
                 Ok((stream, address)) => {
                     self.is_shut = false;
+                    // Addresses and no names, before the open connection is touched
+                    // (docs/DECISIONS.md, "`run --allow` compares addresses").
                     let address = address.ip().to_canonical();
                     if allow_list.allows(address) {
                         // The newest: a control centre that comes again has left the ones before.
@@ -403,6 +405,8 @@ impl<R: Net<Listener = TcpListener, Stream = TcpStream> + Eprint> Listener
                     // Who came has gone again.
                     ErrorKind::Interrupted | ErrorKind::ConnectionAborted => {}
                     _ => {
+                        // It counts as no visitor, and is said once until one is accepted
+                        // (docs/DECISIONS.md, "A visitor who can't be accepted").
                         self.say_shut(&fault);
                         break;
                     }

@@ -104,7 +104,7 @@ pub(crate) fn read_once<S: SystemStream>(stream: &mut S, buf: &mut [u8; 1024]) -
 /// Reads once, and goes on where octets came that don't end as a line frame does, for as long as
 /// each call brings some, 15 times at the most. Behind a whole frame it waits for nothing.
 // Where a device server gives an answer octet by octet each octet would else be an event, and a
-// line of the state on disk.
+// line of the state on disk (docs/DECISIONS.md, "A look until a frame ends").
 pub(crate) fn read_line<S: SystemStream>(stream: &mut S, buf: &mut [u8; 1024]) -> Got
     ensures fits { FitsBuffer result }
     ensures reads { ReadsLine (S.calls stream.old) result buf.new (S.calls stream.new) }
@@ -163,6 +163,8 @@ pub(crate) fn write_once<S: SystemStream>(stream: &mut S, octets: &[u8]) -> bool
     ensures { WritesAll (S.calls stream.old) octets.now result (S.calls stream.new) }
 {
     match stream.send(octets) {
+        // A part that is taken counts as not taken: on the line the checksum shows it
+        // (docs/DECISIONS.md, "One call for a write").
         Ok(count) => count == octets.len(),
         Err(_) => false,
     }

@@ -42,7 +42,9 @@ impl Timing {
         if now.saturating_sub(request.moment) < self.answer_ms {
             return now;
         }
-        // The eve of that end, one ms before it.
+        // The eve of that end, one ms before it. To take the moment before a look that found
+        // nothing would be simpler, but could still end an exchange too early (docs/DECISIONS.md,
+        // "The moment of a live event").
         request.moment + self.answer_ms.saturating_sub(1)
     }
 

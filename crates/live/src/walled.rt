@@ -11,7 +11,8 @@ pub(crate) struct Walled {
     /// The clock's moment then, in ms; none before the first time.
     given: Option<u64>,
     /// The ends have been looked at since.
-    // Else a gateway that stalls for a second at each call would give nothing but the wall clock.
+    // Else a gateway that stalls for a second at each call would give nothing but the wall clock
+    // (docs/DECISIONS.md, "The wall clock in a live run").
     has_looked: bool,
 }
 

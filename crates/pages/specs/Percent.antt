@@ -1,4 +1,4 @@
--- What a long run tells on a terminal while it goes on (texts of this gateway's own profile).
+-- What a long run shows on a terminal while it goes on (texts of this gateway's own profile).
 use Rattle.std.specs.Prelude.{ℕ, ◌*◌, ◌/◌, List, [], ◌∷◌, ◌++◌, codes}
 use Rattle.std.specs.Fmt.{decimal}
 
@@ -6,7 +6,7 @@ use Rattle.std.specs.Fmt.{decimal}
 abbrev pub percent_of : (done all : ℕ) → ℕ
 percent_of done all = done * 100 / all
 
--- they are told from the beginning of the line on
+-- they are shown from the beginning of the line on
 abbrev pub percent_text : (percent : ℕ) → List ℕ
 percent_text percent = 13 ∷ decimal percent ++ codes " %"
 

@@ -1,4 +1,4 @@
-//! Runs that print while they go on, and tell on a terminal how far they have come.
+//! Runs that print while they go on, and show on a terminal how far they have come.
 ghost use Rattle.std.specs.Prelude.{◌≡◌, ℕ, List, Option, ◌<◌, ◌≤◌, false, true, IfSome, Some};
 ghost use Rattle.gateway.specs.Accounts.{IsAccounted};
 ghost use Rattle.gateway.specs.Agrees.{Follows, Rests};
@@ -18,14 +18,14 @@ use std::io::Write;
 /// and 1.3 MB at most, where each has as many APDUs to answer as it can bring.
 const PART: u64 = 256;
 
-/// So many turns pass before it is told how far a run has come: 2^19, about half a second.
+/// So many turns pass before a run shows how far it has come: 2^19, about half a second.
 const STRIDE: u64 = 524_288;
 
 /// Takes the events of a port one after another, at most so many, as `drive_on` does, and prints
 /// the lines of the actions as they are made. Where the output fails, or has failed before, nothing
 /// more is printed, and the run goes on to its end: the second answer is whether all was printed.
-/// Where a run of more than one stride is watched, standard error tells after each how far it has
-/// come, and is blank again at the end; whether it takes that changes nothing.
+/// If a run of more than one stride is watched, standard error shows after each how far it has
+/// come, and is blank again at the end. Whether it takes that changes nothing.
 pub fn drive_printed<P: Paged, W: Write, E: Write>(
     gateway: &mut Gateway,
     port: &mut P,
@@ -55,7 +55,7 @@ pub fn drive_printed<P: Paged, W: Write, E: Write>(
     ensures poured { (before : Option (List ℕ)) →
         IsPoured was_whole before (W.contents out.old) (lines_of_actions (P.poured port.old)) →
         IsPoured result.1 before (W.contents out.new) (lines_of_actions (P.poured port.new)) }
-    // Where nobody looks on, nothing is told.
+    // If nobody looks on, nothing is shown.
     ensures unwatched { is_watched ≡ false → err.new ≡ err.old }
 {
     // `replay` and `sim` share it (docs/DECISIONS.md, "The driver that prints").
@@ -92,13 +92,16 @@ fn pour<P: Paged, W: Write>(port: &mut P, is_whole: bool, out: &mut W) -> bool
         IsPoured is_whole before (W.contents out.old) (lines_of_actions (P.poured port.old)) →
         IsPoured result before (W.contents out.new) (lines_of_actions (P.poured port.new)) }
 {
+    // No line is kept that went out: proofs alone know the log (docs/DECISIONS.md, "`replay` and
+    // `sim` print while they run").
     let page = port.page();
+    // An output that fails ends no run (docs/DECISIONS.md, "An output that fails").
     let is_taken = is_whole && print(page, out).is_ok();
     port.clear_page();
     is_taken
 }
 
-/// Tells how far a run has come after each stride, where that is to be told.
+/// Shows how far a run has come after each stride, if that is to be shown.
 fn show_after<E: Write>(is_shown: bool, done: u64, all: u64, err: &mut E)
     requires within { done ≤ all }
     requires some { 0 < all }

@@ -2,12 +2,12 @@
 //!
 //! A [`Paged`] port puts those lines on a page. [`drive_printed`] drives a gateway over one, as
 //! `gateway::drive_on` does, and takes the lines off the page from time to time and prints them, so
-//! that a run of any length takes the room of a part of its lines. Where it is watched it tells how
+//! that a run of any length takes the room of a part of its lines. If it is watched, it shows how
 //! far it has come. [`print`] writes one text whole, and [`print_behind`] one behind others.
 //!
 //! Proved: what `drive_on` promises of the run; that what was printed is the lines of all actions
 //! of the log, in their order, and nothing else, or, where the output failed, a beginning of them;
-//! and which percent are told. What a terminal makes of them isn't.
+//! and which percent are shown. What a terminal makes of them isn't.
 #![tactic(auto)]
 
 mod driving;

@@ -1,4 +1,4 @@
-//! How far a long run has come, as a terminal is told it.
+//! How far a long run has come, as a terminal shows it.
 ghost use Rattle.std.specs.Prelude.{◌≡◌, ◌<◌, ◌≤◌, false, OnOk};
 ghost use Rattle.std.specs.Io.KnownBytes.{Appends};
 ghost use Rattle.pages.specs.Percent.{percent_of, percent_text, blank_text};
@@ -6,7 +6,7 @@ ghost use Rattle.pages.specs.Percent.{percent_of, percent_text, blank_text};
 use std::io;
 use std::io::Write;
 
-/// Takes what was told from the terminal, where something was.
+/// Takes what was shown from the terminal, if something was.
 pub fn blank_if<E: Write>(is_shown: bool, err: &mut E)
     ensures { is_shown ≡ false → err.new ≡ err.old }
 {
@@ -15,7 +15,7 @@ pub fn blank_if<E: Write>(is_shown: bool, err: &mut E)
     }
 }
 
-/// Tells which part of so many turns, or octets, is done, over what stands on the line.
+/// Shows which part of so many turns, or octets, is done, over what stands on the line.
 pub fn show_percent<E: Write>(done: u64, all: u64, err: &mut E) -> io::Result<()>
     requires within { done ≤ all }
     requires some { 0 < all }
@@ -35,7 +35,7 @@ fn percent(done: u64, all: u64) -> u8
     (u128::from(done) * 100 / u128::from(all)) as u8
 }
 
-/// Blanks the line on which percent were told.
+/// Blanks the line on which percent were shown.
 fn blank<E: Write>(err: &mut E) -> io::Result<()>
     ensures { OnOk result (Appends (E.contents err.old) (E.contents err.new) blank_text) }
 {

@@ -50,7 +50,7 @@ fn is_information(octets: &[u8], ns: u16, nr: u16) -> bool
         && encode(&apdu.to_apdu()).as_slice() == octets
 }
 
-/// Octets that begin no APDU, the place that decides it or is told, and why.
+/// Octets that begin no APDU, the place that decides it or is reported, and why.
 const REFUSED: [(&[u8], usize, Why); 21] = [
     (&[0x00], 0, Why::Start),
     (&[0xE5, 0x03, 0x05], 0, Why::Start),
@@ -75,7 +75,7 @@ const REFUSED: [(&[u8], usize, Why); 21] = [
     (&[0x68, 0x04, 0x43, 0x01, 0x01, 0x01], 3, Why::Control),
 ];
 
-/// Whether the octets are refused at this place for this, read or heard.
+/// Whether the octets are refused at this place for this, read or received.
 fn is_refused(octets: &[u8], place: usize, why: Why) -> bool {
     if front(octets) != Front::Never(place, why)
         || front_ref(octets) != FrontRef::Never(place, why)
@@ -119,7 +119,7 @@ fn apdus_of_each_format_and_refusals(rt: HostRuntime) {
     assert!(rt; front(&[]) == Front::More);
 }
 
-/// What a piece gives: how many octets are taken, what is heard, and the APDU that is whole.
+/// What a piece gives: how many octets are taken, what is received, and the APDU that is whole.
 #[derive(PartialEq, Drop)]
 struct Fed {
     taken: usize,
@@ -268,8 +268,8 @@ fn long_report() -> [u8; 252] {
     octets
 }
 
-/// Whether octets that are cut in two here are heard as `front` finds them, each looked at at most
-/// once.
+/// Whether octets that are cut in two here are received as `front` finds them, each looked at at
+/// most once.
 fn is_received_alike(octets: &[u8], cut: usize) -> bool
     requires { cut ≤ length octets.now }
 {
@@ -285,7 +285,7 @@ fn is_received_alike(octets: &[u8], cut: usize) -> bool
     alike && at_first.taken == cut && assembler.looked() <= octets.len() as u64
 }
 
-/// Whether each octet, one after another, is heard as `front` finds those that came.
+/// Whether each octet, one after another, is received as `front` finds those that came.
 fn is_received_octet_by_octet(octets: &[u8]) -> bool {
     let mut assembler = Assembler::new();
     for (i, octet) in octets.iter().enumerate() {
@@ -301,7 +301,7 @@ fn is_received_octet_by_octet(octets: &[u8]) -> bool {
     true
 }
 
-/// Whether octets are heard as `front` finds them, cut in two at each place.
+/// Whether octets are received as `front` finds them, cut in two at each place.
 fn is_received_alike_at_each_cut(octets: &[u8]) -> bool {
     for cut in 0..octets.len() {
         if !is_received_alike(octets, cut) {
@@ -311,7 +311,7 @@ fn is_received_alike_at_each_cut(octets: &[u8]) -> bool {
     true
 }
 
-/// Whether the report is heard octet by octet with any octet at this place.
+/// Whether the report is received octet by octet with any octet at this place.
 fn is_received_with_each_octet_at(place: usize) -> bool
     requires { place < 21 }
 {
@@ -325,7 +325,7 @@ fn is_received_with_each_octet_at(place: usize) -> bool
     true
 }
 
-/// Whether each of the APDUs is heard alike at each cut.
+/// Whether each of the APDUs is received alike at each cut.
 fn are_received_alike() -> bool {
     APDUS
         .iter()

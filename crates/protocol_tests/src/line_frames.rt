@@ -1,4 +1,4 @@
-//! What no clause says: that the compiled code reads, writes and hears the frames of real lines.
+//! What no clause says: that the compiled code reads, writes and receives the frames of real lines.
 
 use ft12::{
     Assembler, Frame, FrameRef, Front, FrontRef, LinkSize, Received, Why, encode, front, front_ref,

@@ -6,7 +6,7 @@ use events::{Events, NoMemory};
 use std::alloc::Global;
 use std::test::Fail;
 
-/// An ASDU of nine octets, told apart by its octets.
+/// An ASDU of nine octets of this value, which distinguishes it from the others.
 fn piece(octet: u8) -> Piece
     ensures { length result.items ≡ 9 }
 {

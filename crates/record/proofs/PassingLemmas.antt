@@ -23,7 +23,7 @@ use Rattle.record.specs.declared.audit.passing.LineCounts.{LineCounts}
 
 -- One line
 
--- a line that was cut short tells nothing
+-- a line that was cut short logs nothing
 pub cut_action : (line : List ℕ) → is_cut line ≡ true → is_action line ≡ false
 cut_action line cut = ap (λ (b : Bool). if b then false
     else is_marked (slice_split (λ b. b == 32) line)) cut
@@ -48,7 +48,7 @@ plain_line line uncut is =
     ap (λ (b : Bool). if b then [] else if is_cut line then [] else line) is
     ∙ ap (λ (b : Bool). if b then [] else line) uncut
 
--- What a line tells
+-- What a line logs
 
 pub kind_cut : (line buf : List ℕ) → is_cut line ≡ true → IsKind line buf kinds.Neither
 kind_cut line buf cut =
@@ -67,7 +67,7 @@ right_logged line event = by (is_skipped line) (event_in line)
     by false None h = cc
     by false (Some e) h = refl
 
--- a line that tells an event tells that alone
+-- a line that logs an event logs that alone
 one_event : (line : List ℕ) (x : LogEntry) (more : List LogEntry) → (x ∷ []) ++ more
     ≡ events_in (line ∷ [])
     → (x ∷ [] ≡ events_in (line ∷ [])) × (is_wrong line ≡ false)
@@ -138,7 +138,7 @@ kind_event line buf left (answers.Wall now number) uncut plain one first some ri
 kind_event line buf left answers.Done uncut plain one first some right = absurd (some refl)
 kind_event line buf left answers.Fault uncut plain one first some right = absurd (right refl)
 
--- an answer tells one event
+-- an answer gives one event
 one_logged : (next : Next) (buf : List ℕ) → logs_event next ≡ true → length (logged_by next buf) ≡ 1
 one_logged (answers.Line now len) buf logs = refl
 one_logged (answers.Open now) buf logs = refl

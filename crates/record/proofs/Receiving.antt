@@ -11,7 +11,7 @@ pub receives : (old noted new : Recording) (next : Next) (buf : List ℕ)
     Receives old next buf new
 receives old noted new next buf notes gives = record { noted = noted; notes = notes; gives = gives }
 
--- where both logs were told it, the first of the two was told it
+-- if both logs got the news, the first of the two got it
 pub logged_both : (a b new_a new_b : Option Log) (news : Log) → new_a ≡ with_news a news
     → new_b ≡ with_news b news
     → logged_first new_a new_b ≡ with_news (logged_first a b) news

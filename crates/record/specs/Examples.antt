@@ -1,4 +1,4 @@
--- What the worked examples of a record speak of: lines, and records that a sheet tells.
+-- What the worked examples of a record speak of: lines, and records whose text a sheet gives.
 use Rattle.std.specs.Prelude.{ℕ, false, List, [], ◌∷◌, ◌++◌, codes, Some}
 use Rattle.record.specs.Recording.{Recording}
 

@@ -20,7 +20,7 @@ is_marked (moment ∷ second ∷ fields) = bytes_eq second (codes ">")
 abbrev pub is_cut : List ℕ → Bool
 is_cut line = list_any (λ b. b == 33) line
 
--- a line tells an action, and no event
+-- a line logs an action, and no event
 abbrev pub is_action : List ℕ → Bool
 is_action line = if is_cut line then false else is_marked (slice_split (λ b. b == 32) line)
 

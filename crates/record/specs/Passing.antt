@@ -20,8 +20,8 @@ use Rattle.record.specs.declared.audit.passing.LineCounts.{LineCounts}
 abbrev pub IsOneLine : List ℕ → Type 0
 IsOneLine line = lines_of line ≡ line ∷ []
 
--- what a line tells: an event, which is right; an action; neither, and is right; or it can't be
--- told
+-- what a line logs: an event, which is right; an action; neither, and is right; or this is left
+-- open
 abbrev pub IsKind : List ℕ → (buf : List ℕ) → LineKind → Type 0
 IsKind line buf (kinds.Event next) =
     (is_action line ≡ false) × (logged_by next buf ≡ events_in (event_line line ∷ []))
@@ -31,8 +31,8 @@ IsKind line buf kinds.Neither =
     (is_action line ≡ false) × (events_in (event_line line ∷ []) ≡ []) × IsRight (event_line line)
 IsKind line buf kinds.Wrong = Unit {0}
 
--- Of these lines some were passed, which told these events, and those were counted; the others are
--- left.
+-- Of these lines some were passed, which logged these events, and those were counted; the others
+-- are left.
 pub record Passes (news : List LogEntry) (lines : List (List ℕ)) (before : LineCounts)
     (left : List (List ℕ)) (after : LineCounts) : Type 0 where
   pub logged : news ++ events_in (event_lines left) ≡ events_in (event_lines lines)
@@ -41,11 +41,11 @@ pub record Passes (news : List LogEntry) (lines : List (List ℕ)) (before : Lin
   pub events : after.events ≡ before.events + length news
   pub actions : after.actions + count_by is_action left ≡ before.actions + count_by is_action lines
 
--- a line tells one event or action at most
+-- a line logs one event or action at most
 abbrev pub IsTally : LineCounts → Type 0
 IsTally tally = tally.events + tally.actions ≤ tally.lines
 
--- An answer tells the first event of these lines, where it tells one.
+-- An answer gives the first event of these lines, if it gives one.
 pub record IsNext (lines : List (List ℕ)) (before : LineCounts) (next : Next) (buf : List ℕ)
     (left : Option (List ℕ)) (after : LineCounts) : Type 0 where
   pub passes : Passes (logged_by next buf) lines before (parts_after 10 left) after

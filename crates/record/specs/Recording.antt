@@ -7,14 +7,14 @@ use Rattle.record.specs.Written.{log_in, IsWritten}
 use Rattle.std.specs.Prelude.{◌≡◌, ℕ, Bool, true, false, List, [], ◌++◌, Option, Some, None, IfSome}
 use Rattle.std.specs.Prelude.{if◌then◌else◌}
 
--- a text, and one behind it, where it is told
+-- a text with another one behind it, if the text is given
 abbrev pub added : Option (List ℕ) → List ℕ → Option (List ℕ)
 added None more = None
 added (Some text) more = Some (text ++ more)
 
--- what the sheet took, where it tells that; the lines that are held back until the next event is
--- asked for; whether the sheet took no more, or memory ran out, which ends the record; and what
--- passed unwritten, where the sheet tells that
+-- what the sheet took, if it says that; the lines that are held back until the next event is asked
+-- for; whether the sheet took no more, or memory ran out, which ends the record; and what passed
+-- unwritten, if the sheet says that
 pub record Recording : Type 0 where
   pub taken : Option (List ℕ)
   pub held : List ℕ
@@ -25,7 +25,7 @@ pub record Recording : Type 0 where
 abbrev pub text_of : Recording → Option (List ℕ)
 text_of r = added r.taken r.held
 
--- what a text tells, and what passed unwritten, the newest first
+-- what a text logs, and what passed unwritten, the newest first
 abbrev pub logged_behind : Option (List ℕ) → Option Log → Option Log
 logged_behind None missed = None
 logged_behind (Some text) None = None
@@ -40,7 +40,7 @@ pub record IsKept (r : Recording) : Type 0 where
   pub written : IsWritten (text_of r)
   pub whole : r.is_over ≡ false → IfSome r.missed (λ log. log ≡ [])
 
--- the first of two logs that is told
+-- the first of two logs that is given
 abbrev pub logged_first : Option Log → Option Log → Option Log
 logged_first None other = other
 logged_first (Some log) other = Some log

@@ -174,6 +174,8 @@ pub fn audit_text<R: Read + Drop>(
         standing: Agreement::Level(Vec::new(alloc)),
     };
     'auditing: for _ in 0..u64::MAX {
+        // It is read once, and on after a line that differs: a wrong line behind that is reported
+        // first (docs/DECISIONS.md, "`audit` reads its record once").
         advance(&mut blocks)?;
         let part = part_of(blocks.lines(), blocks.is_over());
         course = run_part(alloc, &mut gateway, course, part)?;

@@ -3,14 +3,14 @@
 //! [`Recorder`] is a port around any port: it passes each event and each action on unchanged, so
 //! what is proved of a run over a port holds of a run over it, and writes them down: an event as a
 //! trace has it, an action as a run over a trace prints it. The line of an event goes to a
-//! [`RecordSheet`] before the gateway hears of the event, with the lines of the step before it.
+//! [`RecordSheet`] before the gateway receives the event, with the lines of the step before it.
 //!
-//! Proved, for any port and any sheet that tells what it took: what was taken and what is held are
+//! Proved, for any port and any sheet that says what it took: what was taken and what is held are
 //! the lines of all that passed, in their order, until the record is over; it is over where the
 //! sheet takes no more or memory ran out, and the text stays as it is from then on, at the end of a
-//! line, while events and actions pass as before. The recorder's log is what this text tells, line
-//! by line, and behind it what the sheet was told that it missed: so what is proved of a run's log
-//! is proved of its record. Where the sheet doesn't tell them the log is that of the port inside.
+//! line, while events and actions pass as before. The recorder's log is what this text logs, line
+//! by line, and behind it what the sheet learned that it missed. So what is proved of a run's log
+//! is proved of its record. If the sheet doesn't say these, the log is that of the port inside.
 //!
 //! [`audit_text`] compares a recorded run with the run over its events.
 #![tactic(auto)]

@@ -102,6 +102,8 @@ impl<W: RecordSheet + Drop> Pen<W> {
         if self.sheet.take(self.held.octets()) {
             self.held.clear();
         } else {
+            // The record ends, and not the run (docs/DECISIONS.md, "A record that can't be
+            // written").
             self.end();
         }
     }

@@ -4,7 +4,7 @@ ghost use Rattle.std.specs.Prelude.{None};
 use gateway::{Action, Next};
 use std::io::{Eprint, Print};
 
-/// Where a text goes. One that tells what it took adds each text that it took, and one that tells
+/// Where a text goes. A sheet that says what it took adds each text that it took. One that says
 /// what passed unwritten adds that.
 pub trait RecordSheet {
     ghost use Rattle.gateway.specs.Log.{LogEntry, Went, with_news};
@@ -12,10 +12,10 @@ pub trait RecordSheet {
     ghost use Rattle.record.specs.Recording.{added};
     ghost use Rattle.std.specs.Prelude.{◌≡◌, ℕ, ◌∷◌, [], List, Option, if◌then◌else◌};
 
-    /// What it took, where it tells that.
+    /// What it took, if it says that.
     ghost taken: { Self → Option (List ℕ) };
 
-    /// What passed once the record was over, the newest first, where it tells that.
+    /// What passed once the record was over, the newest first, if it says that.
     ghost missed: { Self → Option (List LogEntry) };
 
     /// Takes a text. `false` says that it didn't: a front of the text may then stand where it goes.
@@ -42,7 +42,7 @@ pub trait RecordSheet {
             ≡ with_news (missed self.old) (Went now (output_of action.now) ∷ []) };
 }
 
-/// Standard output. Where the record ends before the run a line on standard error tells it.
+/// Standard output. If the record ends before the run, a line on standard error says so.
 #[derive(Drop)]
 pub struct StandardOutput<'a, R> {
     rt: &'a R,
@@ -56,6 +56,7 @@ impl<'a, R> StandardOutput<'a, R> {
 }
 
 impl<R: Print + Eprint> RecordSheet for StandardOutput<'_, R> {
+    // Standard output says no text (docs/DECISIONS.md, "A record's log").
     ghost taken = { λ _. None };
 
     ghost missed = { λ _. None };

@@ -11,8 +11,8 @@ use gateway::{Action, Gateway, Next, Port};
 use live::{EndsSight, Notice, Watched};
 
 /// A port that passes each event and each action of another one on unchanged, and writes them down.
-/// Once the record is over they pass unwritten. Where the sheet tells what it took and what it
-/// missed, the log is what the record's text tells, and behind that what was missed.
+/// Once the record is over they pass unwritten. If the sheet says what it took and what it missed,
+/// the log is what the record's text logs, and behind that what was missed.
 #[derive(Drop)]
 pub struct Recorder<P: Port + Drop, W: RecordSheet + Drop> {
     port: P,
@@ -39,7 +39,7 @@ impl<P: Port + Drop, W: RecordSheet + Drop> Recorder<P, W> {
 impl<P: Port + Drop, W: RecordSheet + Drop> Port for Recorder<P, W> {
     ghost use Rattle.record.specs.Recording.{log_of, logged_first};
 
-    /// What it wrote down, where its sheet tells that, or else the log of the port inside.
+    /// What it wrote down, if its sheet says that, or else the log of the port inside.
     ghost log = { λ r. logged_first (log_of r.pen) (P.log r.port) };
 
     ghost failed = { λ r. P.failed r.port };
@@ -65,6 +65,9 @@ impl<P: Port + Drop, W: RecordSheet + Drop> Port for Recorder<P, W> {
         ensures receives { Receives self.old.pen result buf.new self.new.pen }
     {
         let next = self.port.next(buf);
+        // If it were written behind the step, a kill could lose an event whose actions had gone out
+        // (docs/DECISIONS.md, "An event's line comes first"). A tick too is written: the time of an
+        // exchange or a selection may end by it alone (docs/DECISIONS.md, "Ticks are in").
         self.pen.note_event(next, buf);
         self.pen.give();
         next

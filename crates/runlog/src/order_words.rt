@@ -63,7 +63,7 @@ fn write_value<W: fmt::Write>(value: Value, f: &mut fmt::Formatter<W>) -> fmt::R
     }
 }
 
-/// Writes what a line tells of a command.
+/// Writes what a line says of a command.
 pub(crate) fn write_order<W: fmt::Write>(order: &Order, f: &mut fmt::Formatter<W>) -> fmt::Result
     ensures { WritesOnOk W.write_str_gives f.old result (spec.order_words order.now) f.new }
 {

@@ -29,7 +29,7 @@ use Rattle.segments.proofs.HeadLemmas.{eight_bytes, four_bytes, head_length, num
 use Rattle.segments.proofs.HeadLemmas.{same_head, sum_at, whole_behind}
 use Rattle.segments.proofs.Zeros.{kept_before_zero, others_before_zero}
 
--- A first line tells its numbers
+-- A first line gives its numbers
 
 number_logged : (a b : ℕ) → a < 2 ^ 64 → b < 2 ^ 64
     → encode_lower (to_be_bytes w64 a) ≡ encode_lower (to_be_bytes w64 b) → a ≡ b

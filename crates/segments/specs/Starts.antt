@@ -52,7 +52,7 @@ is_doubtful front true behind = not (is_shut front)
 is_doubtful front false behind = not (is_shut front) || not (is_shut behind)
 
 -- the file has a segment with this first line, and this checkpoint, whose length and whose sum the
--- line tells
+-- line says
 pub record IsFoundIn (file : List ℕ) (head : SegmentHead) (text : List ℕ) : Type 0 where
   pub first : Holds file 0 (head_of head)
   pub octets : length text ≡ head.octets

@@ -11,7 +11,7 @@ use hex::decode_to_slice;
 use statetext::put_hexadecimal;
 use std::alloc::{AllocError, Global};
 
-/// What the first line of a segment tells.
+/// What the first line of a segment says.
 #[derive(Clone, Copy, Debug, PartialEq, Eq)]
 pub struct SegmentHead {
     /// Which segment it is: they count up.
@@ -78,7 +78,7 @@ fn are_same(first: &[u8], second: &[u8]) -> bool
     first == second
 }
 
-/// What a line tells, if it is the first one of a segment: then it is printed anew as it was.
+/// What a line says, if it is the first one of a segment: then it is printed anew as it was.
 pub(crate) fn parse(alloc: Global, text: &[u8]) -> Result<Option<SegmentHead>, AllocError>
     ensures is { IfOk result (λ found. IfSome found (λ head. text.now ≡ head_of head)) }
     ensures all { (head : SegmentHead) → Fits head → text.now ≡ head_of head →

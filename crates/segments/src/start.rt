@@ -402,7 +402,7 @@ impl<D: Disk + Drop> Start<D> {
         ensures fits { IfOk result (λ s. IfSome s.checkpoint (λ c. Fits c.head)) }
         // So the other one may be written over.
         ensures backed { IfOk result (λ s. AreClean s → IsBacked (newest_in s) (other_in s)) }
-        // A start changes neither file, and tells in which one the newest segment stands.
+        // A start changes neither file, and answers in which one the newest segment stands.
         ensures placed { IfOk result (λ s. ArePlaced s.side (D.Disk.seen files.log)
             (D.Disk.seen files.db) (newest_in s) (other_in s)) }
         // The next segment's number is above that of each first line that stands in a file, whether

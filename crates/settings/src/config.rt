@@ -105,6 +105,8 @@ fn read_known(alloc: Global, root: &Table) -> Result<Config, ConfigFault>
     ensures { IsKnownOf (known_settings (table_view root.now)) values_of result }
 {
     let config = read_gateway(alloc, root)?;
+    // Every command judges these too, though only `run` needs them (docs/DECISIONS.md, "All
+    // settings are judged").
     judge_live(section(root, "live", "live.line")?)?;
     Ok(config)
 }

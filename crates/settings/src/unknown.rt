@@ -97,8 +97,8 @@ fn knows_live(key: &str) -> bool
 pub(crate) fn refuse_unknown(alloc: Global, root: &Table) -> Result<(), ConfigFault>
     ensures { IsRefusedFor (unknown_paths (table_view root.now)) result }
 {
-    // The least one, since a table keeps no order of the file that could be told by.
-    // Printed as it is, joined by dots (docs/DECISIONS.md, "An unknown key").
+    // The least one, since a table keeps no order of the file by which one could be chosen. Printed
+    // as it is, joined by dots (docs/DECISIONS.md, "An unknown key").
     match least(unknown_paths(alloc, root)?) {
         None => Ok(()),
         Some(path) => Err(ConfigFault::Unknown(path)),

@@ -74,7 +74,7 @@ abbrev pub typed_lines : Sizes → List ℕ → Option TypeId → List ℕ
 typed_lines s xs None = []
 typed_lines s xs (Some t) = asdu_lines (value_at s t xs)
 
--- the lines of an ASDU, or the line that tells why the octets are none
+-- the lines of an ASDU, or the line that says why the octets are none
 abbrev pub lines_by : Sizes → List ℕ → Option ℕ → List ℕ
 lines_by s xs None = typed_lines s xs (type_of (slice_index xs 0))
 lines_by s xs (Some why) = codes "asdu refused " ++ decimal why ++ 10 ∷ []

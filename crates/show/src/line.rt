@@ -78,7 +78,7 @@ fn push_frame(
             let control = control_text(alloc, c)?;
             let octets = body.len();
             writeln!(lines, "data {control} address={a} octets={octets}")?;
-            // Its verdict is the frame's: what an ASDU lacks is told where it stands.
+            // Its verdict is the frame's: what an ASDU lacks is said where it stands.
             return push_unit(alloc, lines, sizes.asdu, body);
         }
     }

@@ -127,7 +127,7 @@ abbrev pub AreTexts : Result (Option (List (List ℕ))) Path
     → Result (Option (Vec (String Global) Global)) SiteFault → Type 0
 AreTexts known result = IsKnownOf known (λ v. option_map texts_in v) result
 
--- a wrong key is the first; an unknown one is told where no key is wrong
+-- a wrong key is the first; an unknown one is reported if no key is wrong
 abbrev pub IsFirstFault : Members → SiteFault → Type 0
 IsFirstFault root NotToml = ⊥
 IsFirstFault root (Key path) = known_site root ≡ Err path.now

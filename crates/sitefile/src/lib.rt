@@ -3,7 +3,7 @@
 //!
 //! [`read_site`] reads a file's octets, or answers the first fault. Proved: each value is that of
 //! its key; a wrong key is the first wrong one in the definition's order (`specs/Site.antt`); an
-//! unknown key is told only where no key is wrong; a file without fault is never refused but for
+//! unknown key is reported only if no key is wrong; a file without fault is never refused but for
 //! want of memory. [`site_values`] says in words what is wanted of a key, and [`wrong_station`]
 //! which of several stations is meant.
 #![tactic(auto)]

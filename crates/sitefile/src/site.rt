@@ -41,7 +41,7 @@ pub struct Places {
 pub struct Flags {
     /// It ends where its state can't be kept any more.
     pub state_or_stop: bool,
-    /// It tells what happens.
+    /// It logs what happens.
     pub log: bool,
     /// Each line of that begins with how severe it is.
     pub log_severity: bool,

@@ -55,7 +55,7 @@ fn go_their_way(rt: &impl Abort, commands: &mut Commands) {
     commands.on_line(0);
     assert!(rt; commands.waiting(0).is_none());
     commands.accepted(0);
-    // The link is busy: the control centre is told.
+    // The link is busy: the control centre gets an answer.
     assert!(rt;
         matches!(
             commands.judge_command(&INTERROGATION, 60, None),

@@ -74,7 +74,7 @@ fn a_script_is_simulated(rt: HostRuntime) -> Result<(), Fail> {
     let mut out = Vec::new(alloc);
     simulate(alloc, &config, &script, &mut out)?;
     assert!(rt; out.as_slice() == SIMULATED);
-    // A run of one stride tells nothing.
+    // A run of one stride shows nothing.
     let (mut watched, mut logged) = (Vec::new(alloc), Vec::new(alloc));
     simulate_watched(alloc, &config, &script, &mut watched, &mut logged)?;
     assert!(rt; watched.as_slice() == SIMULATED && logged.is_empty());

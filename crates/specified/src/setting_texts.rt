@@ -31,7 +31,7 @@ fn settings_of_a_file(rt: HostRuntime) -> Result<(), Fail> {
             Some(ConfigFault::Key("tcp.t2_ms"))
         )
     );
-    // A live run has to be told where its line is.
+    // A live run has to learn where its line is.
     let nowhere =
         b"[line]\nlink = 1\ncause = 1\nca = 1\nioa = 2\n[[station]]\naddress = 1\nca = 1\n";
     assert!(rt; read_config(alloc, nowhere, false).is_ok());

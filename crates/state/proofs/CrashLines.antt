@@ -36,7 +36,7 @@ is_feed = λ b. b == 10
 abbrev HasNoFeed : List ℕ → Type 0
 HasNoFeed text = All (λ b. (b == 10) ≡ false) text
 
--- the first line of a text tells this event, and the others are those of this text
+-- the first line of a text logs this event, and the others are those of this text
 record IsAhead (event : LogEntry) (whole text : List ℕ) : Type 0 where
   logged : events_in_front (whole_lines whole) ≡ event ∷ events_in_front (whole_lines text)
   count : length (whole_lines whole) ≡ 1 + length (whole_lines text)

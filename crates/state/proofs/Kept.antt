@@ -19,7 +19,7 @@ pub some_waits : (deeds : Deeds) (moment : ℕ) → since_of (waiting deeds) ≡
 some_waits deeds moment since none =
     let both : None ≡ Some moment = sym (ap since_of none) ∙ since in absurd (cc)
 
--- events are heard
+-- events are received
 
 in_time : (news : Log) (deeds : Deeds) → IsInTime deeds → IsInTime (map Received news ++ deeds)
 in_time [] deeds time = time
@@ -34,7 +34,7 @@ received_right bears news old new is time right = subst (AreRight bears) (sym is
     all [] = right
     all (event ∷ news) = (in_time news old time, all news)
 
--- it stood so before they were heard
+-- it stood so before they were received
 pub received_stands : (s : Standing) (news : Log) (old new : Deeds) → IsStanding s old
     → new ≡ map Received news ++ old
     → HasReceived s news new

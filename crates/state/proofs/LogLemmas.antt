@@ -1,4 +1,4 @@
--- What a log tells as it is begun, appended to and synced.
+-- What a log says as it is begun, appended to and synced.
 use Rattle.std.proofs.Common.{◌≡◌, ◌∙◌, ℕ, ◌≤◌, List, [], ◌∷◌, ◌++◌, length, take, drop, ap, refl}
 use Rattle.std.proofs.Common.{arith}
 use Rattle.std.proofs.lemmas.List.{drop-append-le, take-append-le, take_all}

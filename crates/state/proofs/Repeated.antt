@@ -1,4 +1,4 @@
--- What is heard again, line by line.
+-- What is received again, line by line.
 use Rattle.std.proofs.Common.{◌≡◌, ◌∙◌, ℕ, ◌≤◌, Bool, true, false, List, [], ◌∷◌, ◌++◌, length, map}
 use Rattle.std.proofs.Common.{Option, Some, None, ap, sym, subst, refl, append_assoc, arith}
 use Rattle.std.proofs.Common.{if◌then◌else◌}
@@ -54,7 +54,7 @@ logged_nothing f text None is all = refl
 logged_nothing f text (Some other) is all =
     let no : [] ≡ other ∷ [] = all ∙ one_of f text other is in absurd (cc)
 
--- the first of the entries is the event that the line tells
+-- the first of the entries is the event that the line logs
 announced : (text : List ℕ) (entries others : List Entry) (entry : Entry) (next : Next)
     (buf : List ℕ)
     → lines_of text ≡ text ∷ [] → map event_of entries ≡ filter_map logged (lines_of text)
@@ -79,7 +79,7 @@ announced_first text [] entry next buf some is one are a = absurd (omega arith)
 announced_first text (first ∷ others) entry next buf some is one are a =
     announced text (first ∷ others) others entry next buf one are (ap (λ e. e ∷ others) (sym is)) a
 
--- without entries it tells none
+-- without entries it logs none
 pub unannounced : (text : List ℕ) (entries : List Entry) (buf : List ℕ) → lines_of text ≡ text ∷ []
     → map event_of entries ≡ filter_map logged (lines_of text) → entries ≡ []
     → IsLogged (logged text) None buf
@@ -98,7 +98,7 @@ by_number : (wrong : Bool) (n : ℕ) → (if wrong then Some 1 else None) ≡ So
 by_number true n is = refl
 by_number false n is = absurd (cc)
 
--- a wrong line tells none
+-- a wrong line logs none
 pub wrongly_logged : (text : List ℕ) (n : ℕ) (buf : List ℕ) → lines_of text ≡ text ∷ []
     → first_wrong 1 (lines_of text) ≡ Some n → IsLogged (logged text) None buf
 wrongly_logged text n buf one wrong =
@@ -148,7 +148,7 @@ none_left [] others buf first = refl
 none_left (text ∷ lines) others buf first = nothing_logged (logged text) buf (events_in_front lines)
     first.0
 
--- behind an event no gap was told yet
+-- behind an event no gap was reported yet
 no_gap_by : (found : Option Event) (next : Next) (buf : List ℕ) → IsLogged found (Some next) buf
     → (log : Log)
     → last_gap (logged_by next buf ++ log) ≡ None
@@ -167,7 +167,7 @@ no_gap_yet : (lines others : List (List ℕ)) (next : Next) (buf : List ℕ)
 no_gap_yet [] others next buf first log = absurd (cc)
 no_gap_yet (text ∷ lines) others next buf first log = no_gap_by (logged text) next buf first.0 log
 
--- an event was heard
+-- an event was received
 pub one_more : (events : List LogEntry) (coming others : List (List ℕ)) (is_over : Bool)
     (news more earlier : Log)
     (failed : ℕ) (gap : Option ReportedGap) (next : Next) (buf : List ℕ)

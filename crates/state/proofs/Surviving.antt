@@ -34,7 +34,7 @@ use Rattle.state.specs.declared.opened.Opened.TheVariants as opens
 use Rattle.state.proofs.CrashLines.{all_read, lines_left}
 use Rattle.state.proofs.Histories.{all_written}
 
--- Events that a line can tell
+-- Events that a line can hold
 
 pub writable : (next : Next) (buf : List ℕ) → FitsBuffer next → FitsLine next
     → 1024 ≤ length buf → AllByRecursion IsPrintable (logged_by next buf)
@@ -158,7 +158,7 @@ module _ {D : Type 0} {g : Ghosts D} where
             subst (HasNoOther (outcomes_of current.segment)) is (mixed mixing);
       }
 
-  -- a log that takes no lines tells no head
+  -- a log that takes no lines has no head
   pub none_survives : (opened : Opened D g) → (stored_in opened).head ≡ []
       → ((stored_in opened).head ≡ [] → ⊥) → SurvivesAsLogged opened
   none_survives opened none some = absurd (some none)

@@ -46,8 +46,8 @@ HasRead c log lines s =
     (first : State) (rest : List (List ℕ)) → lines ≡ state_lines first ++ rest → IsSavable first
     → Follows (setup_of c) first (Some log) → Follows (setup_of c) s (Some log)
 
--- The gateway has heard these events behind the state that some lines say, whose log was this one;
--- the whole log has them too.
+-- The gateway has received these events behind the state that some lines say, whose log was this
+-- one; the whole log has them too.
 abbrev pub IsRead : Settings → (log : Log) → (lines : List (List ℕ)) → (events : List ℕ)
     → Option ReportedGap → (whole : Log) → State → Type 0
 IsRead c log lines events gap whole s =
@@ -73,7 +73,7 @@ pub record BearsNumber (file : List ℕ) (number : ℕ) : Type 0 where
   pub found : IsFoundIn file head body
   pub is : number ≡ head.number
 
--- Each whole line behind the checkpoint of the file's segment tells an event.
+-- Each whole line behind the checkpoint of the file's segment logs an event.
 abbrev pub AreLinesRead : List ℕ → Type 0
 AreLinesRead file = (head : SegmentHead) (body : List ℕ) → Fits head → IsFoundIn file head body →
     AreRead (whole_lines (lines_behind body file))
@@ -87,8 +87,8 @@ GoesOnWith c log lines whole s =
     → Follows (setup_of c) first (Some log) → Rests (setup_of c) (Some log)
     → Follows (setup_of c) s (Some whole) × Rests (setup_of c) (Some whole)
 
--- It has heard the events behind the state that these lines say, and has then given up each command
--- without an answer. The whole log has this restart at its end, and the gateway follows it.
+-- It has received the events behind the state that these lines say, and has then given up each
+-- command without an answer. The whole log has this restart at its end, and the gateway follows it.
 pub record WentOn (c : Settings) (log : Log) (lines : List (List ℕ)) (events : List ℕ)
     (gap : Option ReportedGap) (whole : Log) (s : State) : Type 0 where
   pub left : State

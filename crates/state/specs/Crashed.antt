@@ -18,11 +18,11 @@ use Rattle.state.specs.Deeds.{Deeds, waiting}
 use Rattle.state.specs.Replays.{AreRead, events_in_front, whole_lines}
 use Rattle.state.specs.Stores.{head, safe}
 
--- an event that the line of a trace can tell
+-- an event that the line of a trace can hold
 abbrev pub IsWritable : LogEntry → Type 0
 IsWritable event = (logged : Event) × FitsTrace logged × (event ≡ came logged)
 
--- it can tell the event of a port's answer, whose octets fit the buffer
+-- it can hold the event of a port's answer, whose octets fit the buffer
 abbrev pub FitsLine : Next → Type 0
 FitsLine (answers.Line now len) = (now ≤ last_moment) × (1 ≤ len)
 FitsLine (answers.Open now) = now ≤ last_moment
@@ -44,12 +44,12 @@ pub record HasLog (outcomes : List ℕ → Type 0) (number : ℕ) (body : List �
       (length (lines_of_log synced))
   pub mixed : HasNoOther outcomes (whole_text number body ++ lines_of_log (waiting ++ synced))
 
--- these lines tell these events, the oldest first, and each line tells one
+-- these lines log these events, the oldest first, and each line logs one
 pub record LogAll (lines : List (List ℕ)) (events : Log) : Type 0 where
   pub logged : events_in_front lines ≡ reverse events
   pub each : AreRead lines
 
--- These lines tell all events that were synced, and the oldest of those that waited; the others are
+-- These lines log all events that were synced, and the oldest of those that waited; the others are
 -- lost.
 pub record AreLeft (waiting synced : Log) (lines : List (List ℕ)) : Type 0 where
   pub lost : Log

@@ -1,5 +1,5 @@
--- What is done where the events of a run are kept on a disk, in one history: the gateway hears an
--- event, its line goes to the log on the disk, the log is synced, an action is handed out
+-- What is done where the events of a run are kept on a disk, in one history: the gateway receives
+-- an event, its line goes to the log on the disk, the log is synced, an action is handed out
 -- (profile).
 use Rattle.std.specs.Prelude.{◌≡◌, ℕ, ◌-◌, ◌<◌, ◌⊎◌, Bool, true, false, List, [], ◌∷◌, map, Option}
 use Rattle.std.specs.Prelude.{Some, None}
@@ -13,7 +13,7 @@ use Rattle.state.specs.declared.trail.Done.{Done}
 use Rattle.state.specs.declared.trail.Done.TheVariants as done
 
 pub data Deed : Type 0 where
-  -- the gateway is about to hear an event
+  -- the gateway is about to receive an event
   Received : (event : LogEntry) → Deed
   -- the line of an event was appended to the log
   Appended : (event : LogEntry) → Deed
@@ -30,7 +30,7 @@ pub data Deed : Type 0 where
 abbrev pub Deeds : Type 0
 Deeds = List Deed
 
--- the events that were heard
+-- the events that were received
 abbrev pub arrived : Deeds → Log
 arrived [] = []
 arrived (Received event ∷ deeds) = event ∷ arrived deeds
@@ -40,7 +40,7 @@ arrived (Begun state ∷ deeds) = arrived deeds
 arrived (GivenUp loss ∷ deeds) = arrived deeds
 arrived (PutOut action ∷ deeds) = arrived deeds
 
--- what passed at the port: the events that were heard, and the actions that were handed out
+-- what passed at the port: the events that were received, and the actions that were handed out
 abbrev pub passed : Deeds → Log
 passed [] = []
 passed (Received event ∷ deeds) = event ∷ passed deeds
@@ -114,23 +114,22 @@ abbrev pub span : Log → ℕ
 span [] = 0
 span (event ∷ log) = moment_of event - oldest event log
 
--- all events that were heard are on the disk
+-- all received events are on the disk
 abbrev pub IsAllOnDisk : Deeds → Type 0
 IsAllOnDisk deeds = (is_kept deeds ≡ true) × (on_disk deeds ≡ arrived deeds)
 
--- an action may go out: all events that were heard are on the disk, or the state there is marked as
--- stale
+-- an action may go out: all received events are on the disk, or the state there is marked as stale
 abbrev pub IsSafe : Deeds → Type 0
 IsSafe deeds = IsAllOnDisk deeds ⊎ (loss_of deeds ≡ Some Marked)
 
--- no event waits for the disk while others are heard for a second
+-- no event waits for the disk while others are received for a second
 abbrev pub IsInTime : Deeds → Type 0
 IsInTime deeds = (is_some (loss_of deeds) ≡ true) ⊎ (span (waiting deeds) < 1000)
 
--- When a deed may be done, behind these. An action is handed out where all events that were heard
--- are on the disk, or where the store has failed, the state on the disk is marked as stale and that
--- is borne. None is heard while one waits for the disk for a second. A log whose store has failed
--- is neither appended to nor synced again, and none is synced for nothing.
+-- When a deed may be done, behind these. An action is handed out where all received events are on
+-- the disk, or where the store has failed, the state on the disk is marked as stale and that is
+-- borne. No event is received while one has waited for the disk for a second. A log whose store has
+-- failed is neither appended to nor synced again, and none is synced for nothing.
 abbrev pub MayBe : (bears : Bool) → Deed → Deeds → Type 0
 MayBe bears (PutOut action) deeds =
     IsAllOnDisk deeds ⊎ ((loss_of deeds ≡ Some Marked) × (bears ≡ true))

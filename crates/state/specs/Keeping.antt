@@ -11,9 +11,9 @@ use Rattle.state.specs.Standings.{IsStanding, Renews, is_lost}
 use Rattle.state.specs.declared.renewal.Patience.{Patience}
 use Rattle.state.specs.declared.standing.Standing.{Standing}
 
--- the ends that it stands between; how far the events that were heard are on the disk; whether the
--- run goes on where the store has failed; how often it was stopped for that; and what was tried and
--- told while the state wasn't kept
+-- the ends that it stands between; how far the received events are on the disk; whether the run
+-- goes on where the store has failed; how often it was stopped for that; and what was tried and
+-- reported while the state wasn't kept
 pub record Keeping (E : Type 0) : Type 0 where
   pub ends : E
   pub standing : Standing
@@ -44,7 +44,7 @@ pub record HasLooked {E : Type 0} (deeds : E → Deeds) (old : Keeping E) (state
   pub waits : is_lost old.standing ≡ true → is_try_due old.patience ≡ false → new ≡ old
   pub looks : (new ≡ old) ⊎ Renews (deeds old.ends) state (deeds new.ends)
 
--- it looks, and then tells what is to be told
+-- it looks, and then gives what is to be reported
 pub record HasTended {E : Type 0} (deeds : E → Deeds) (old : Keeping E) (state : State)
     (new : Keeping E) (notice : Option Notice) : Type 0 where
   pub looked : Keeping E

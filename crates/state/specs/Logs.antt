@@ -17,7 +17,7 @@ pub record IsHeaded (settings : List ℕ) (lines : List (List ℕ)) (text : List
   pub is : text ≡ whole_text number body
   pub says : lines_in body ≡ settings ∷ lines
 
--- what a text tells of which so many octets come before the events, and so many are on the disk
+-- what a text says of which so many octets come before the events, and so many are on the disk
 abbrev pub logged_by : (head durable : ℕ) → List ℕ → Stored
 logged_by head durable text = record {
   head = lines_in (drop 87 (take head text));
@@ -57,7 +57,7 @@ module _ {D : Type 0} {g : Ghosts D} where
   leaves_in (opens.Both newest spare) = λ file. Unit {0}
   leaves_in (opens.Current c) = outcomes_of c.segment
 
-  -- Whatever a crash leaves of that file: the segment with the head that the log tells, and behind
+  -- Whatever a crash leaves of that file: the segment with the head that the log says, and behind
   -- it the log's lines, as far as they are synced. Where a crash leaves each octet old or new, each
   -- octet there is one of the log, or 0.
   pub record SurvivesAsLogged (opened : Opened D g) : Type 0 where

@@ -15,7 +15,7 @@ use Rattle.state.specs.declared.opened.Opened.TheVariants as opens
 use Rattle.state.specs.declared.start.Beginning.{Beginning}
 use Rattle.state.specs.declared.start.Beginning.TheVariants as beginnings
 
--- A new gateway, before which nothing passed. It may begin with any port that tells an empty log.
+-- A new gateway, before which nothing passed. It may begin with any port that gives an empty log.
 pub record IsNew (c : Settings) (o : Origin) : Type 0 where
   pub gateway : o.gateway ≡ first_state c
   pub gap : o.gap ≡ None

@@ -1,4 +1,4 @@
--- When a log is begun anew, and when it is told that none is kept (profile).
+-- When a log is begun anew, and when the keeper reports that none is kept (profile).
 use Rattle.std.specs.Prelude.{ℕ, ◌-◌, nat_le, nat_lt, Bool, true, false, if◌then◌else◌, Option}
 use Rattle.std.specs.Prelude.{Some, None, [], ◌∷◌}
 use Rattle.gateway.specs.Log.{Log}
@@ -25,12 +25,12 @@ has_passed ms (Some since) now = nat_le ms (now - since)
 abbrev pub is_try_due : Patience → Bool
 is_try_due p = has_passed 10000 p.tried p.moment
 
--- once it was told
+-- once it was reported
 abbrev pub again : Option ℕ → Option Notice
 again None = None
 again (Some logged) = Some KeptAgain
 
--- it is told at once and then each minute, and told once when the state is kept again
+-- that the state isn't kept is reported at once and then each minute; that it is kept again, once
 abbrev pub notice_of : (is_given_up : Bool) → Patience → Option Notice
 notice_of true p = if has_passed 60000 p.logged p.moment then Some NotKept else None
 notice_of false p = again p.logged

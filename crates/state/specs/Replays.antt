@@ -1,4 +1,4 @@
--- A gateway that hears again what it had heard (profile).
+-- A gateway that receives again what it had received (profile).
 use Rattle.std.specs.Prelude.{◌≡◌, ℕ, Bool, true, false, List, [], ◌∷◌, ◌++◌, Option, Some, None}
 use Rattle.std.specs.Prelude.{length}
 use Rattle.gateway.specs.Agrees.{Follows, Rests}
@@ -13,7 +13,7 @@ use Rattle.traces.specs.Event.{Event}
 use Rattle.traces.specs.Progress.{came}
 use Rattle.traces.specs.Trace.{lines_of, logged}
 
--- a port's answer tells this event
+-- a port's answer gives this event
 pub record IsEvent (event : LogEntry) (next : Next) (buf : List ℕ) : Type 0 where
   pub logged : logged_by next buf ≡ event ∷ []
   pub fits : FitsBuffer next
@@ -30,36 +30,36 @@ whole_parts (part ∷ next ∷ parts) = part ∷ whole_parts (next ∷ parts)
 unfoldable pub whole_lines : List ℕ → List (List ℕ)
 whole_lines text = whole_parts (lines_of text)
 
--- the event of a line, if it tells one, before these
+-- the event of a line, if it logs one, before these
 abbrev pub before_those : Option Event → List LogEntry → List LogEntry
 before_those None events = []
 before_those (Some event) events = came event ∷ events
 
--- the events that lines tell, up to the first line that tells none
+-- the events that lines log, up to the first line that logs none
 abbrev pub events_in_front : List (List ℕ) → List LogEntry
 events_in_front [] = []
 events_in_front (line ∷ lines) = before_those (logged line) (events_in_front lines)
 
--- each of these lines tells an event
+-- each of these lines logs an event
 abbrev pub AreRead : List (List ℕ) → Type 0
 AreRead lines = length (events_in_front lines) ≡ length lines
 
--- a port's answer tells this event, if there is one
+-- a port's answer gives this event, if there is one
 abbrev pub IsLogged : Option Event → Option Next → (buf : List ℕ) → Type 0
 IsLogged None found buf = found ≡ None
 IsLogged (Some event) None buf = ⊥
 IsLogged (Some event) (Some next) buf = IsEvent (came event) next buf
 
--- the answer of a port that has the event of the first line, if that tells one; the others follow
+-- the answer of a port that has the event of the first line, if that logs one; the others follow
 abbrev pub IsFirst : (lines others : List (List ℕ)) → Option Next → (buf : List ℕ) → Type 0
 IsFirst [] others found buf = found ≡ None
 IsFirst (line ∷ lines) others found buf = IsLogged (logged line) found buf × (others ≡ lines)
 
--- a gap that was told: the station by its place, and the session
+-- a gap that was reported: the station by its place, and the session
 abbrev pub ReportedGap : Type 0
 ReportedGap = ℕ × ℕ
 
--- how far a replay has come: the lines that are still to come, unless it is over; what was heard
+-- how far a replay has come: the lines that are still to come, unless it is over; what was received
 -- and done in it, the newest first; the log before it; and how often a line couldn't be read
 pub record Replaying : Type 0 where
   pub coming : List (List ℕ)
@@ -67,7 +67,7 @@ pub record Replaying : Type 0 where
   pub news : Log
   pub earlier : Log
   pub failed : ℕ
-  -- the gap that the latest step told
+  -- the gap that the latest step reported
   pub gap : Option ReportedGap
 
 abbrev pub events_left : (is_over : Bool) → List (List ℕ) → List LogEntry
@@ -77,7 +77,7 @@ events_left false coming = events_in_front coming
 abbrev pub log_of : Replaying → Log
 log_of r = r.news ++ r.earlier
 
--- the gap that an action tells
+-- the gap that an action reports
 abbrev pub gap_of : Output → Option ReportedGap
 gap_of (LineOut octets) = None
 gap_of (TcpOut octets) = None
@@ -89,7 +89,7 @@ abbrev pub or_gap : Option ReportedGap → Option ReportedGap → Option Reporte
 or_gap None gap = gap
 or_gap (Some newest) gap = Some newest
 
--- the latest gap that was told behind the latest event
+-- the latest gap that was reported behind the latest event
 abbrev pub last_gap : Log → Option ReportedGap
 last_gap [] = None
 last_gap (Came now event ∷ log) = None
@@ -102,9 +102,9 @@ pub record IsRepeating (events : List LogEntry) (r : Replaying) : Type 0 where
       events_of (log_of r) ++ events_left r.is_over r.coming ≡ events_of r.earlier ++ events
   pub gap : r.gap ≡ last_gap r.news
 
--- The gateway has heard these events behind this log: it follows a whole log that goes on from this
--- one with these events, and with the actions of their steps; and the last of these has told this
--- gap.
+-- The gateway has received these events behind this log: it follows a whole log that goes on from
+-- this one with these events, and with the actions of their steps; and the last of these has
+-- reported this gap.
 pub record IsReplayed (p : Setup) (log : Log) (events : List LogEntry) (gap : Option ReportedGap)
     (whole : Log) (s : State) : Type 0 where
   pub news : Log

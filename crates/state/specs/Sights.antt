@@ -14,14 +14,14 @@ use Rattle.state.specs.declared.looking.Sight.{Sight}
 use Rattle.state.specs.declared.start.Beginning.{Beginning}
 use Rattle.state.specs.declared.start.Beginning.TheVariants as beginnings
 
--- how many of these lines tell an event, up to the first that tells none, and how many there are
+-- how many of these lines log an event, up to the first that logs none, and how many there are
 pub record AreCounted (lines : List (List ℕ)) (events all : ℕ) : Type 0 where
   pub logged : events ≡ length (events_in_front lines)
   pub whole : all ≡ length lines
 
 -- A file has this log, behind what passed before: the settings at its head are a file of settings
--- that can be read, and the gateway with these has heard the events behind the state at its head,
--- as one does that goes on with the log (`WentOn`). It has given up nothing yet.
+-- that can be read, and the gateway with these has received the events behind the state at its
+-- head, as one does that goes on with the log (`WentOn`). It has given up nothing yet.
 pub record IsSeen (log : Log) (file : List ℕ) (s : Seen) : Type 0 where
   pub number : BearsNumber file s.number
   pub begins : ℕ

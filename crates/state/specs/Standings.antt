@@ -1,4 +1,4 @@
--- How far the events that were heard are on the disk, as a keeper knows it (profile).
+-- How far the received events are on the disk, as a keeper knows it (profile).
 use Rattle.std.specs.Prelude.{◌≡◌, ℕ, Bool, true, false, not, [], ◌∷◌, ◌++◌, map, Option, Some}
 use Rattle.std.specs.Prelude.{None, ◌⊎◌}
 use Rattle.gateway.specs.Log.{Log}
@@ -16,7 +16,7 @@ abbrev pub since_of : Log → Option ℕ
 since_of [] = None
 since_of (event ∷ log) = Some (oldest event log)
 
--- the log has all events that were heard, and some wait for the disk since this moment
+-- the log has all received events, and some wait for the disk since this moment
 pub record IsWaiting (moment : ℕ) (deeds : Deeds) : Type 0 where
   pub kept : is_kept deeds ≡ true
   pub whole : appended deeds ≡ arrived deeds
@@ -50,13 +50,13 @@ IsSettled standings.Synced = Unit {0}
 IsSettled (standings.Waiting since) = ⊥
 IsSettled (standings.Lost loss) = Unit {0}
 
--- the moment of an answer's event, if it tells one
+-- the moment of an answer's event, if it gives one
 abbrev pub IsMomentOf : Option ℕ → Log → Type 0
 IsMomentOf None news = news ≡ []
 IsMomentOf (Some now) [] = ⊥
 IsMomentOf (Some now) (event ∷ news) = (moment_of event ≡ now) × (news ≡ [])
 
--- it stood so, and then these events were heard
+-- it stood so, and then these events were received
 pub record HasReceived (standing : Standing) (news : Log) (deeds : Deeds) : Type 0 where
   pub earlier : Deeds
   pub stood : IsStanding standing earlier

@@ -48,8 +48,8 @@ safe (Begun state ∷ deeds) = []
 safe (GivenUp loss ∷ deeds) = safe deeds
 safe (PutOut action ∷ deeds) = safe deeds
 
--- what a store tells: the lines at the head of its log, the text behind them, and how
--- much of that text is on the disk
+-- what a store says: the lines at the head of its log, the text behind them, and how much of that
+-- text is on the disk
 pub record Stored : Type 0 where
   pub head : List (List ℕ)
   pub text : List ℕ
@@ -68,8 +68,8 @@ IsStored settings deeds stored = is_kept deeds ≡ true → stored ≡ record {
   safe = lines_of_log (safe deeds);
 }
 
--- Where the state is kept it isn't marked as stale on the disk. Where the store has failed, and it
--- is told that the mark was made, the mark stands.
+-- Where the state is kept it isn't marked as stale on the disk. Where the store has failed, and the
+-- history says that the mark was made, the mark stands.
 pub record IsMarked (deeds : Deeds) (mark : Option Bool) : Type 0 where
   pub kept : is_kept deeds ≡ true → mark ≡ Some false
   pub lost : loss_of deeds ≡ Some Marked → mark ≡ Some true

@@ -43,9 +43,10 @@ pub struct Origin {
     pub moment: Option<u64>,
     /// What was made of what was found.
     pub beginning: Beginning,
-    /// The gap that the last step before the end told, if it did: it may not have been seen.
+    /// The gap that the last step before the end reported, if it reported one. Nobody may have seen
+    /// it.
     pub gap: Option<ReportedGap>,
-    /// What passed in the lives before, as far as the directory tells it.
+    /// What passed in the lives before, as far as the directory shows it.
     pub before: History,
     /// The state was kept under other settings.
     pub is_moved: bool,
@@ -62,7 +63,7 @@ pub struct Begun<F: Folder + Drop> {
 #[derive(Drop)]
 pub(crate) struct Resumed {
     pub(crate) gateway: Gateway,
-    /// The gap that its last step told, if it did.
+    /// The gap that its last step reported, if it reported one.
     gap: Option<ReportedGap>,
     /// What passed before.
     before: History,
@@ -293,7 +294,7 @@ fn go_on<K: Lineage, D: Disk + Drop>(
     Ok(without_commands(resumed))
 }
 
-/// The gateway hears again what was kept, under the settings that wrote it, and is then moved to
+/// The gateway receives again what was kept, under the settings that wrote it. It is then moved to
 /// these. `is_moved` says that they are others.
 fn move_on<K: Lineage, D: Disk + Drop>(
     alloc: Global,

@@ -24,7 +24,7 @@ pub(crate) fn count_all<L: EventLines + Drop>(alloc: Global, lines: L) -> Result
     Err(StateFault::NoMemory)
 }
 
-/// How many lines tell an event, up to the first that tells none.
+/// How many lines log an event, up to the first that logs none.
 pub(crate) fn count_logged<L: EventLines + Drop>(alloc: Global, lines: L) -> Result<u64, StateFault>
     ensures logged { IfOk result (λ n. n ≡ length (events_in_front (L.coming lines))) }
     ensures fault { IfErr result (λ fault. fault ≡ StateFault.Wrong → ⊥) }
@@ -42,7 +42,7 @@ pub(crate) fn count_logged<L: EventLines + Drop>(alloc: Global, lines: L) -> Res
     Err(StateFault::NoMemory)
 }
 
-/// Whether a line comes next that tells an event.
+/// Whether a line comes next that logs an event.
 fn logs_next<L: EventLines>(
     alloc: Global,
     lines: &mut L,

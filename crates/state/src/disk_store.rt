@@ -147,7 +147,7 @@ impl<F: Folder + Drop> DiskStore<F> {
         self.unmark()
     }
 
-    /// Whatever a crash leaves now of the file of a log that was begun has what the store tells of
+    /// Whatever a crash leaves now of the file of a log that was begun has what the store says of
     /// it: the head, the lines that are synced, and nothing else but the beginning of those that
     /// wait. No octet of a line may be 0.
     #[tactic(auto, using(crate::proofs::Surviving::none_survives))]

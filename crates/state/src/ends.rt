@@ -1,4 +1,4 @@
-//! What a keeper stands between: a port, and a store for what it hears.
+//! What a keeper stands between: a port, and a store for the events that it receives.
 
 use crate::loss::Loss;
 use gateway::{Action, Gateway, Next};
@@ -18,7 +18,7 @@ pub trait Ends {
     ghost use Rattle.std.specs.Prelude.{Option, nat_lt, if◌then◌else◌, MatchResult};
     ghost use Rattle.std.specs.Option.{is_some};
 
-    /// The log of the port, as a port tells it.
+    /// The log of the port, as the port gives it.
     ghost log: { Self → Option (List LogEntry) };
 
     ghost failed: { Self → ℕ };

@@ -24,9 +24,9 @@ use live::{EndsSight, Failure, Notice, Watched};
 use std::marker::Model;
 
 /// A port that passes each event and each action of another one on unchanged. The line of each
-/// event goes to the log of a store before the gateway hears it, and no action is handed out before
-/// all events that were heard are on the disk. Where the store has failed, the run goes on without
-/// it, if that is borne and the state on the disk is marked as stale, or else the port has failed.
+/// event goes to the log of a store before the gateway receives it. No action is handed out before
+/// all received events are on the disk. Where the store has failed, the run goes on without it, if
+/// that is borne and the state on the disk is marked as stale, or else the port has failed.
 #[derive(Drop)]
 pub struct Keeper<E: Ends + Drop> {
     ends: E,
@@ -81,7 +81,7 @@ impl<E: Ends + Drop> Keeper<E> {
     }
 
     /// Looks at the gateway between two steps: begins a new log with its state, where that is due.
-    /// The state is that to which all events that were heard have led.
+    /// The state is that to which all received events have led.
     pub fn look(&mut self, gateway: &Gateway)
         ensures port { IsPortLeft E.log E.failed E.ended E.script self.old.ends self.new.ends }
         ensures left { (self.new.stops ≡ self.old.stops)
@@ -133,7 +133,7 @@ impl<E: Ends + Drop> Keeper<E> {
         }
     }
 
-    /// What is to be told of the state now, if anything: that it isn't kept, at once and each
+    /// What is to be reported of the state now, if anything: that it isn't kept, at once and each
     /// minute, and that it is kept again.
     pub fn notice(&mut self) -> Option<Notice>
         ensures notice { result ≡ notice_of (is_lost self.old.standing) self.old.patience }
@@ -144,7 +144,7 @@ impl<E: Ends + Drop> Keeper<E> {
             .notice(matches!(self.standing, Standing::Lost(_)))
     }
 
-    /// How far the events that were heard are on the disk.
+    /// How far the received events are on the disk.
     pub fn standing(&self) -> Standing
         ensures { IsOrderly self.now.bears_loss result (E.deeds self.now.ends) }
     {
@@ -235,6 +235,8 @@ impl<E: Ends + Drop> Port for Keeper<E> {
         ensures asks { is_stopped self.new.standing self.old.bears_loss ≡ false →
             self.new.stops ≡ self.old.stops }
     {
+        // Else a restart could repeat a command under a bit that is new to the station
+        // (docs/DECISIONS.md, "Nothing goes out before the disk").
         self.standing = settle(&mut self.ends, self.standing);
         if is_stopped(self.standing, self.bears_loss) {
             self.stops += 1;

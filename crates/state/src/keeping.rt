@@ -11,7 +11,7 @@ use crate::loss::Loss;
 use crate::standing::Standing;
 use gateway::Next;
 
-/// How long an event may wait for the disk while others are heard, in ms.
+/// How long an event may wait for the disk while others are received, in ms.
 const LONGEST_WAIT_MS: u64 = 1_000;
 
 /// The moment of an event, if a port has one.
@@ -45,7 +45,7 @@ pub(crate) fn settle<E: Ends>(ends: &mut E, standing: Standing) -> Standing
     }
 }
 
-/// Keeps the event that was just heard, whose octets are the front of the buffer: its line is
+/// Keeps the event that was just received, whose octets are the front of the buffer: its line is
 /// appended, and the log is synced where an event waits for that too long, or where none comes any
 /// more.
 pub(crate) fn keep<E: Ends>(
@@ -88,6 +88,7 @@ pub(crate) fn is_stopped(standing: Standing, bears_loss: bool) -> bool
 {
     match standing {
         Standing::Lost(Loss::Marked) => !bears_loss,
+        // Else the next start would trust an old state (docs/DECISIONS.md, "A disk that fails").
         Standing::Lost(Loss::Unmarked) => true,
         Standing::Synced | Standing::Waiting(_) => false,
     }

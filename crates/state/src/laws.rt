@@ -19,8 +19,8 @@ ghost use Rattle.state.specs.declared.beginning.Origin.{Origin};
 use crate::start::Beginning;
 use sqlite_disk::Disk;
 
-/// Whatever action was handed out: when it was, all events that had been heard were on the disk, or
-/// the state there was marked as stale; and where a loss isn't borne, they were on the disk.
+/// Whatever action was handed out: when it was, all received events were on the disk, or the state
+/// there was marked as stale; and where a loss isn't borne, they were on the disk.
 pub fn nothing_goes_out_before_it_is_on_disk()
     ensures safe { (bears : Bool) (later earlier : Deeds) (action : LogEntry) →
         AreRight bears (later ++ PutOut action ∷ earlier) → IsSafe earlier }
@@ -39,7 +39,7 @@ pub fn what_is_on_disk_is_in_the_log()
 /// No crash leaves a line that can't be read. The lines of events were appended behind a
 /// checkpoint, and some of them were synced. Whatever a crash leaves of the file, a start reads
 /// there the lines of all synced events, those of the oldest events that waited, and nothing else.
-/// So a line that can't be read tells of damage, and no power cut resets a link by it.
+/// So a line that can't be read shows damage, and no power cut resets a link by it.
 pub fn no_crash_leaves_another_line<D: Disk>()
     ensures left { (mine : D) (number : ℕ) (body : List ℕ) (later synced : Log) (c : List ℕ) →
         HasLog (D.Disk.may_leave mine) number body later synced → D.Disk.may_leave mine c →

@@ -39,9 +39,9 @@ pub struct Seen {
     pub settings: Vec<u8>,
     /// How many lines stand behind its head.
     pub lines: u64,
-    /// How many of them tell an event, up to the first that tells none.
+    /// How many of them log an event, up to the first that logs none.
     pub events: u64,
-    /// The gateway that has heard these events. It has given up nothing yet.
+    /// The gateway that has received these events. It has given up nothing yet.
     pub gateway: Gateway,
 }
 

@@ -89,7 +89,7 @@ impl<P: Watched + Drop, F: Folder + Drop> Pair<P, DiskStore<F>> {
     }
 }
 
-/// A line can tell the event of this answer: its moment has 15 digits at most, and it has octets.
+/// A line can hold the event of this answer: its moment has 15 digits at most, and it has octets.
 fn is_writable(next: Next) -> bool
     ensures { result ≡ true → FitsLine next }
 {
@@ -119,6 +119,7 @@ fn take<S: Store>(alloc: Global, store: &mut S, next: Next, buf: &[u8; 1024]) ->
     if append_event(alloc, &mut line, next, buf).is_err() {
         return false;
     }
+    // Without a sum of its own: no crash needs one (docs/DECISIONS.md, "No sum by line").
     store.append(line.as_bytes())
 }
 

@@ -1,4 +1,4 @@
-//! When a log is begun anew, and when it is told that none is kept.
+//! When a log is begun anew, and when the keeper reports that none is kept.
 ghost use Rattle.std.specs.Prelude.{◌≡◌, ℕ, List};
 ghost use Rattle.state.specs.Renewals.{after_notice, has_passed, is_renewal_due, is_try_due};
 ghost use Rattle.state.specs.Renewals.{moment_after, notice_of};
@@ -14,7 +14,7 @@ const MOST_OCTETS: u64 = 3_900_000;
 /// How long it takes until a new log is tried again, in ms.
 const RETRY_MS: u64 = 10_000;
 
-/// How long it takes until it is told again that the state isn't kept, in ms.
+/// How long it takes until the keeper reports again that the state isn't kept, in ms.
 const NOTICE_MS: u64 = 60_000;
 
 /// Whether a log is begun anew, whose events have so many octets.
@@ -24,14 +24,14 @@ pub fn is_renewal_due(events: u64) -> bool
     MOST_OCTETS < events
 }
 
-/// What was tried and told while the state wasn't kept: moments in ms.
+/// What was tried and reported while the state wasn't kept: moments in ms.
 #[derive(Clone, Copy)]
 pub struct Patience {
     /// That of the latest event.
     pub moment: u64,
     /// When a new log was tried last, and couldn't be begun.
     pub tried: Option<u64>,
-    /// When it was told last that the state isn't kept.
+    /// When the keeper last reported that the state isn't kept.
     pub logged: Option<u64>,
 }
 
@@ -46,14 +46,14 @@ fn has_passed(ms: u64, since: Option<u64>, now: u64) -> bool
 }
 
 impl Patience {
-    /// Where nothing was tried and told.
+    /// Nothing was tried or reported yet.
     pub const NEW: Patience = Patience {
         moment: 0,
         tried: None,
         logged: None,
     };
 
-    /// An event came, if this tells one.
+    /// An event came, if this answer has one.
     pub(crate) fn receive(&mut self, next: Next)
         ensures { (buf : List ℕ) → self.new ≡ record self.old {
           moment = moment_after (logged_by next buf) self.old.moment;
@@ -73,7 +73,7 @@ impl Patience {
         has_passed(RETRY_MS, self.tried, self.moment)
     }
 
-    /// What is to be told now, if anything.
+    /// What is to be reported now, if anything.
     pub fn notice(&mut self, is_given_up: bool) -> Option<Notice>
         ensures notice { result ≡ notice_of is_given_up self.old }
         ensures after { self.new ≡ after_notice result self.old }

@@ -1,4 +1,4 @@
-//! A gateway hears again what it had heard.
+//! A gateway receives again what it had received.
 ghost use Rattle.std.specs.Prelude.{◌≡◌, ◌∷◌, [], List, Some, None, IfErr, IfOk, true, false};
 ghost use Rattle.gateway.specs.Log.{LogEntry};
 ghost use Rattle.gateway.specs.Agrees.{Follows, Rests};
@@ -61,20 +61,20 @@ impl ReplayScript for Brand {
     ghost events = { [] };
 }
 
-/// A gap that was told: the station by its place among the settings, from 0, and the session
+/// A gap that was reported: the station by its place among the settings, from 0, and the session
 /// numbered from 1.
 pub type ReportedGap = (usize, u64);
 
 /// What a replay leaves.
 #[derive(Drop)]
 pub struct Replayed {
-    /// The gap that its last step told, if it did.
+    /// The gap that its last step reported, if it reported one.
     pub gap: Option<ReportedGap>,
     /// The log before it, with the events of the replay and what the gateway did on them.
     pub log: History,
 }
 
-/// The gap that an action tells, if it is one.
+/// The gap that an action reports, if it reports one.
 fn gap_of(action: &Action<'_>) -> Option<ReportedGap>
     ensures { result ≡ gap_of (output_of action.now) }
 {
@@ -84,7 +84,7 @@ fn gap_of(action: &Action<'_>) -> Option<ReportedGap>
     }
 }
 
-/// A port that gives the events that lines tell, up to the first line that tells none, and puts no
+/// A port that gives the events that lines log, up to the first line that logs none. It puts no
 /// action out. A line that can't be read is a fault.
 #[derive(Drop)]
 struct Repeater<K: ReplayScript, L: EventLines + Drop> {
@@ -94,7 +94,7 @@ struct Repeater<K: ReplayScript, L: EventLines + Drop> {
     line: Vec<u8>,
     is_over: bool,
     history: History,
-    /// The gap that the latest step told, if it did.
+    /// The gap that the latest step reported, if it reported one.
     gap: Option<ReportedGap>,
     fault: StateFault,
     failures: u64,
@@ -133,7 +133,7 @@ fn known(_news: &History) -> History
     History::before()
 }
 
-/// Gives the event that a line tells, if it tells one, as a port does: its octets are put at the
+/// Gives the event that a line logs, if it logs one, as a port does: its octets are put at the
 /// front of the buffer.
 #[tactic(auto, using(crate::proofs::Repeated::unannounced, crate::proofs::Repeated::wrongly_logged))]
 fn announce_line(
@@ -170,7 +170,7 @@ pub(crate) fn next_event<L: EventLines>(
     announce_line(alloc, line.as_slice(), buf)
 }
 
-/// Whether each of these lines tells an event.
+/// Whether each of these lines logs an event.
 pub(crate) fn are_read<L: EventLines + Drop>(alloc: Global, lines: L) -> Result<bool, StateFault>
     ensures all { IfOk result (λ are. are ≡ true → AreRead (L.coming lines)) }
     ensures others { IfOk result (λ are. are ≡ false → AreRead (L.coming lines) → ⊥) }
@@ -220,14 +220,14 @@ impl<K: ReplayScript, L: EventLines + Drop> Repeater<K, L> {
         self.fault
     }
 
-    /// The gap that the latest step told, if it did.
+    /// The gap that the latest step reported, if it reported one.
     fn gap(&self) -> Option<ReportedGap>
         ensures { result ≡ self.now.gap }
     {
         self.gap
     }
 
-    /// The log before the replay, with what was heard and done in it.
+    /// The log before the replay, with what was received and done in it.
     fn log(&self) -> History
         ensures { result.entries ≡ log_of self.now }
     {
@@ -332,8 +332,8 @@ fn repeat<K: ReplayScript, L: EventLines + Drop>(
     }
 }
 
-/// Brings a gateway to where these lines lead: it hears their events again, up to the first line
-/// that tells none, and what it does goes nowhere. After an `Err` the gateway is given up; it is
+/// Brings a gateway to where these lines lead. It receives their events again, up to the first line
+/// that logs none, and what it does goes nowhere. After an `Err` the gateway is given up; it is
 /// never `Wrong`, whatever the lines are.
 pub fn replay<K: Lineage, L: EventLines + Drop>(
     alloc: Global,

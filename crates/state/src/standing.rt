@@ -1,8 +1,8 @@
-//! How far the events that were heard are on the disk.
+//! How far the received events are on the disk.
 
 use crate::loss::Loss;
 
-/// How far the events that were heard are on the disk.
+/// How far the received events are on the disk.
 #[derive(Clone, Copy, Debug, PartialEq, Eq)]
 pub enum Standing {
     /// All of them are.

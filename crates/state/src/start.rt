@@ -22,10 +22,10 @@ pub enum Found {
 pub enum Beginning {
     /// With a new gateway.
     Anew,
-    /// What is there is put aside, and this is told; then with a new gateway.
+    /// With a new gateway. What is there is put aside, and this is reported.
     PutAside,
     /// With the state that was kept. What is queued is delivered, each link is reset, and the gap
-    /// is told.
+    /// is reported.
     LinksReset,
     /// With the state that was kept.
     GoesOn,

@@ -3,7 +3,7 @@
 use crate::loss::Loss;
 use gateway::Gateway;
 
-/// A log of lines behind the state of a gateway, which tells what it has, and what of it is on the
+/// A log of lines behind the state of a gateway. It says what it has, and what of it is on the
 /// disk.
 pub trait Store {
     ghost use Rattle.gateway.specs.Restored.{state_lines};

@@ -37,6 +37,8 @@ pub fn stood_in(rt: &HostRuntime, path: &str) -> io::Result<Stood> {
         return Err(ErrorKind::NotADirectory.into());
     }
     let is_held = is_held(rt, path)?;
+    // Whole, into memory: a file that is read so can't change under the judgement, though a run may
+    // write meanwhile (docs/DECISIONS.md, "A look at a state").
     let log = held_in_memory(rt, path, "segments-wal")?;
     let db = held_in_memory(rt, path, "segments")?;
     Ok(Stood {

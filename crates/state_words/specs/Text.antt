@@ -18,7 +18,7 @@ use Rattle.state.specs.declared.start.Beginning.{Beginning}
 use Rattle.state_words.specs.Notes.{note_of, note_of_queue, note_of_settings}
 use Rattle.state_words.specs.Stations.{station_lines}
 
--- the words of the log, if there is anything to tell
+-- the words of the log, if there is anything to say
 abbrev pub note_line : Option Note → List ℕ
 note_line None = []
 note_line (Some note) = words note ++ 10 ∷ []
@@ -59,7 +59,7 @@ unread_line true events lines =
 abbrev pub moment_words : (moment : ℕ) → List ℕ
 moment_words moment = codes "moment in ms " ++ decimal moment
 
--- what the wall clock showed when it was told last, and when that was
+-- what the wall clock showed at its latest event, and when that was
 abbrev pub wall_words : Option Wall → List ℕ
 wall_words None = codes ", wall clock not told yet" ++ 10 ∷ []
 wall_words (Some wall) =
@@ -70,7 +70,7 @@ abbrev pub gateway_lines : State → List ℕ
 gateway_lines s = moment_words s.moment ++ wall_words s.wall
     ++ station_lines s.serial.line 0 s.serial.line.stations
 
--- what a run would tell that goes on with it
+-- what a run that goes on with it would report
 abbrev pub notes_lines : (is_moved : Bool) → Seen → List ℕ
 notes_lines is_moved s =
     note_line (note_of_settings is_moved) ++ note_line (Some (note_of_queue s.gateway))
@@ -105,7 +105,7 @@ IsMovedFrom None seen is_moved = is_moved ≡ false
 IsMovedFrom (Some text) None is_moved = is_moved ≡ false
 IsMovedFrom (Some text) (Some s) is_moved = IsMoved s.settings.items text is_moved
 
--- this text tells it
+-- this text says it
 pub record IsStateText (is_held is_stale : Bool) (given : Option (List ℕ)) (o : Sight)
     (text : List ℕ) : Type 0 where
   pub is_moved : Bool

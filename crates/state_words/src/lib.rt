@@ -1,10 +1,10 @@
-//! What is told of a state that is kept: the notes of a start, and lines for who looks at its
+//! What is said of a state that is kept: the notes of a start, and lines for who looks at its
 //! directory.
 //!
-//! [`describe_state`] puts into lines what `state::look` has found: how a run would begin, in the words
-//! that it would log then; the segment that counts; and how the links stand behind its events.
-//! Proved: the text is this function of what was found ([`describe_state`]'s contract), and the link of
-//! a station is shown as a request without an answer so far leaves it.
+//! [`describe_state`] puts into lines what `state::look` has found: how a run would begin, in the
+//! words that it would log then; the segment that counts; and how the links stand behind its
+//! events. Proved: the text is this function of what was found ([`describe_state`]'s contract), and
+//! the link of a station is shown as a request without an answer so far leaves it.
 #![tactic(auto)]
 
 mod notes;

@@ -6,7 +6,7 @@ use gateway::Gateway;
 use runlog::{Note, taken_places};
 use state::Beginning;
 
-/// What tells what is made of the state in a directory, if there is anything to tell.
+/// The note that says what is made of the state in a directory, if there is anything to say.
 pub fn note_of(beginning: Beginning) -> Option<Note>
     ensures { result ≡ spec.note_of beginning }
 {
@@ -18,7 +18,7 @@ pub fn note_of(beginning: Beginning) -> Option<Note>
     }
 }
 
-/// What tells that the state was kept under other settings, if it was.
+/// The note that says that the state was kept under other settings, if it was.
 pub fn note_of_settings(is_moved: bool) -> Option<Note>
     ensures { result ≡ spec.note_of_settings is_moved }
 {
@@ -29,7 +29,7 @@ pub fn note_of_settings(is_moved: bool) -> Option<Note>
     }
 }
 
-/// What tells with how many pieces a run goes on.
+/// The note that says with how many pieces a run goes on.
 pub fn note_of_queue(gateway: &Gateway) -> Note
     ensures { result ≡ spec.note_of_queue gateway.now }
 {

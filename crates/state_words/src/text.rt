@@ -11,7 +11,7 @@ use segments::Side;
 use state::{Seen, Sight};
 use std::alloc::{AllocError, Global};
 
-/// Appends the words of the log, if there is anything to tell.
+/// Appends the words of the log, if there is anything to say.
 fn push_note(text: &mut String, note: Option<Note>) -> Result<(), AllocError>
     ensures { OnOk result (string_bytes text.new ≡ string_bytes text.old ++ spec.note_line note) }
 {
@@ -21,7 +21,7 @@ fn push_note(text: &mut String, note: Option<Note>) -> Result<(), AllocError>
     }
 }
 
-/// What tells that a run has the directory, if one has.
+/// The note that says that a run has the directory, if one has.
 fn held_note(is_held: bool) -> Option<Note>
     ensures { result ≡ spec.held_note is_held }
 {
@@ -136,7 +136,7 @@ fn push_gateway(text: &mut String, gateway: &Gateway) -> Result<(), AllocError>
     push_stations(text, gateway.line())
 }
 
-/// What a run would tell that goes on with a log.
+/// What a run that goes on with a log would report.
 fn push_notes(text: &mut String, seen: &Seen, is_moved: bool) -> Result<(), AllocError>
     ensures { OnOk result (string_bytes text.new ≡ string_bytes text.old
         ++ spec.notes_lines is_moved seen.now) }

@@ -1,4 +1,4 @@
-//! The sum CRC-32 of octets, which tells a text that has rotted.
+//! The sum CRC-32 of octets, which shows that a text has rotted.
 ghost use Rattle.std.specs.Prelude.{◌≡◌, bit_xor};
 ghost use Rattle.statetext.specs.Sum.{divided, remainder_after};
 

@@ -143,6 +143,8 @@ fn timed(
         class,
         report,
         every,
+        // Not at the start, for which there is `report` (docs/DECISIONS.md, "`every` begins at
+        // MS").
         due: Some(ms),
     }))
 }

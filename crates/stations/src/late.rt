@@ -26,7 +26,7 @@ impl Model for Late {
 }
 
 impl Late {
-    /// These octets, so many ms behind a request that was heard just now.
+    /// These octets, so many ms behind a request that was received just now.
     pub(crate) fn new(octets: ArrayVec<u8, 261>, ms: u64) -> Late
         ensures { result ≡ record { octets = octets.items; ms = ms; since = None } }
     {

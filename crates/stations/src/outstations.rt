@@ -179,6 +179,8 @@ impl Outstations {
             return back;
         };
         if let Some(octets) = back {
+            // In the place of one that waits: a secondary station keeps its latest answer alone
+            // (docs/DECISIONS.md, "One late answer").
             self.late = Some(Late::new(octets, ms));
         }
         None
@@ -192,6 +194,8 @@ impl Outstations {
             self.new }
     {
         let back = self.ask(request);
+        // First lost or spoilt, then late: so the lines of `sim` keep their meaning
+        // (docs/DECISIONS.md, "`delay` beside `lose` and `spoil`").
         self.hold(back)
     }
 
@@ -258,6 +262,8 @@ impl Outstations {
         ensures { self.new ≡ record self.old { late = None; so_far = [] } }
     {
         self.line.clear();
+        // Lost, as octets on a broken way are (docs/DECISIONS.md, "A late answer over a cut
+        // connection").
         self.late = None;
     }
 
@@ -271,6 +277,8 @@ impl Outstations {
         if late.is_due(now) {
             return Some(late.into_octets());
         }
+        // With the look that found its request: no clock is read between two answers
+        // (docs/DECISIONS.md, "When a late answer's time begins").
         late.begin(now);
         self.late = Some(late);
         None

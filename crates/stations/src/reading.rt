@@ -107,6 +107,8 @@ fn put_commented(text: &mut Vec<u8>, line: &[u8]) -> Result<(), AllocError>
     ensures { OnOk result (text.new.items ≡ text.old.items ++ commented line.now) }
 {
     if is_cue_line(line) {
+        // A comment stands in its place, so a line keeps its number (docs/DECISIONS.md, "Lines of
+        // its own").
         text.push(b'#')?;
     } else {
         text.extend_from_slice(line)?;

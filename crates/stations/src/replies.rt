@@ -30,6 +30,8 @@ fn is_interrogation(kind: TypeId) -> bool
 fn is_command(kind: TypeId) -> bool
     ensures { result ≡ is_command kind }
 {
+    // An interrogation is confirmed and terminated, and the script says what is reported
+    // (docs/DECISIONS.md, "An interrogation brings no data").
     is_process_command(kind) || is_interrogation(kind)
 }
 

@@ -42,6 +42,8 @@ impl<L: Listener + Drop> TimedServer<L> {
         self.begin(now);
         self.place.give_late(now);
         self.give_reports(now);
+        // Behind the looks: no answer to a command says that its confirmation waits
+        // (docs/DECISIONS.md, "A round for a reply").
         self.place.reply_all();
     }
 
@@ -50,6 +52,8 @@ impl<L: Listener + Drop> TimedServer<L> {
         ensures { self.new
             ≡ record self.old { start = begun now self.old.place self.old.start } }
     {
+        // If it began with the listening, reports would be due before anybody is there
+        // (docs/DECISIONS.md, "When time begins").
         if self.start.is_none() && self.place.is_met() {
             self.start = Some(now);
         }

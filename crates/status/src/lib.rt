@@ -11,7 +11,7 @@
 //! Proved: the body of each page is a small function of the snapshot, text for text, with what is
 //! written in place of octets that would mean something else. The status, the fields and the body
 //! of an answer are functions of what is asked. What is asked is read by the grammar of `httparse`:
-//! a request that isn't whole, one that is too long, and what is none are told apart. What a
+//! it distinguishes a request that isn't whole, one that is too long, and what is none. What a
 //! visitor was written is a beginning of the answer on the desk of that seat, in its order, nothing
 //! twice and nothing left out, however the stream takes it. After a turn nobody has been there for
 //! two seconds. A page goes out whole or not at all ([`a_text_stands_whole_or_not_at_all`]). Of

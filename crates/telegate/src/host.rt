@@ -329,6 +329,8 @@ fn path_of(name: &str) -> &str {
 /// the text of the log or of the record would go out on it. They are opened for reading alone, so
 /// that what is written there fails, as it does where they are closed.
 fn standard_descriptors<R: Files>(rt: &R) -> io::Result<(R::File, R::File, R::File)> {
+    // For reading alone: a record or a log that goes there ends as one that can't be written
+    // (docs/DECISIONS.md, "Closed standard descriptors").
     let first = File::open(rt, NOWHERE)?;
     let second = File::open(rt, NOWHERE)?;
     Ok((first, second, File::open(rt, NOWHERE)?))

@@ -93,6 +93,8 @@ fn pen_of<T: RunSite>(site: &T, record: bool) -> Pen<T::Sheet>
     ensures { logged_first (log_of result) (Some []) ≡ Some [] }
 {
     if record {
+        // Anew behind a restart too: a run goes on from its state, which is synced, and a record
+        // isn't (docs/DECISIONS.md, "A record isn't gone on with").
         Pen::new(site.alloc(), site.sheet(), Vec::new(site.alloc()))
     } else {
         Pen::idle(site.alloc(), site.sheet())
@@ -119,6 +121,8 @@ fn opened<T: RunSite>(
     ensures clock { IfOk result (λ ends. T.begins_at ends.clock moment) }
     ensures fault { IfErr result IsEndFault }
 {
+    // First, so that a second run by mistake takes nothing from the first (docs/DECISIONS.md, "The
+    // listener before the line").
     let listener = listener_of(site, logger)?;
     let line = match site.line(redial) {
         Ok(line) => line,

@@ -68,7 +68,8 @@ use std::{env, io};
 fn main(rt: HostRuntime) -> ExitCode {
     let mut out = rt.stdout();
     let mut err = rt.stderr();
-    // Lines that pass on a terminal say by their moments how far a run has come.
+    // Lines that pass on a terminal say by their moments how far a run has come (docs/DECISIONS.md,
+    // "How far a run has come").
     let is_watched = err.is_terminal() && !out.is_terminal();
     let has_colours = shows_colours(out.is_terminal(), &env::var(&rt, "NO_COLOR"));
     let system = System {

@@ -30,6 +30,8 @@ pub fn perform<W: Write, E: Write>(
 ) -> u8
     ensures { Performs job.now (W.contents out.old) (W.contents out.new) result }
 {
+    // No replay: its trace is read by blocks, and never stands in a `Job` (docs/DECISIONS.md, "No
+    // replay in `perform`").
     match job {
         Job::Show101(sizes, hex, words) => give(&show101(alloc, *sizes, *hex, *words), out, err),
         Job::Show104(hex, words) => give(&show104(alloc, *hex, *words), out, err),

@@ -85,6 +85,8 @@ pub(crate) fn replay<S: Source, W: Write, E: Write>(
             run(alloc, &config, text, &course, out, err)
         }
         Manner::Words { is_coloured } => {
+            // In words alone: a plain replay refuses a line of an action, as any wrong line
+            // (docs/DECISIONS.md, "A record in words").
             let as_record = is_record(alloc, text)?;
             let text = open(trace)?;
             judge_text(alloc, text, as_record)?;

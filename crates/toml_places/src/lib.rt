@@ -1,12 +1,12 @@
 //! Where a value stands in the text of a TOML document, or where it would have to stand.
 //!
-//! [`find_value`] tells which octets of a text write the value of a key, and [`find_gap`] behind
-//! which header a key belongs that isn't there. [`place_at`] tells the line and the column of an
-//! octet. Proved: where a text stands in place of those octets, or behind that header, the document
-//! has that text's value under the key, and it had another one before; the place is the first of
-//! which that holds; and where none is told there is none that this crate looks for. It looks for
-//! keys as they are mostly written: spelt out, the value on one line and without brackets in
-//! brackets.
+//! [`find_value`] gives the octets of a text that write the value of a key. [`find_gap`] gives the
+//! header behind which a key belongs that isn't there. [`place_at`] gives the line and the column
+//! of an octet. Proved: where a text stands in place of those octets, or behind that header, the
+//! document has that text's value under the key, and it had another one before; the place is the
+//! first of which that holds; and where none is given there is none that this crate looks for. It
+//! looks for keys as they are mostly written: spelt out, the value on one line and without brackets
+//! in brackets.
 #![tactic(auto)]
 
 mod changes;

@@ -2,7 +2,7 @@
 ghost use Rattle.std.specs.Prelude.{◌≡◌, ◌+◌, ◌<◌, ◌≤◌, length, take, fold};
 ghost use Rattle.toml_places.specs.Lines.{first_place, next_place};
 
-/// A place in a text, as an editor tells it: both numbers begin with 1, and columns count
+/// A place in a text, as an editor shows it: both numbers begin with 1, and columns count
 /// characters.
 #[derive(Clone, Copy, Debug, PartialEq, Eq)]
 pub struct Place {

@@ -186,7 +186,7 @@ agrees_at table f (suc n) h i lt =
 pub value_small : (octet v : ℕ) → hex_digit_value octet ≡ Some v → v < 16
 value_small octet v is = grind (arith)
 
--- a letter's low digit is 1 to 6, and bit 6 tells letters from decimal digits
+-- a letter's low digit is 1 to 6, and bit 6 distinguishes letters from decimal digits
 pub value_by_arithmetic : (octet : ℕ) → is_hex_digit octet ≡ true
     → hex_digit_value octet ≡ Some ((octet % 16 + octet / 64 * 9) % 16)
 value_by_arithmetic c is =

@@ -31,13 +31,13 @@ came_entry (Cut now) = refl
 came_entry (Tick now) = refl
 came_entry (Wall now number) = refl
 
--- a skipped line tells no event
+-- a skipped line logs no event
 pub events_skip : (lines rest : List (List ℕ)) (line : List ℕ) → lines ≡ line ∷ rest
     → is_skipped line ≡ true
     → events_in rest ≡ events_in lines
 events_skip lines rest line is e = rw (is, e)
 
--- a line that is an event tells it
+-- a line that is an event logs it
 pub events_next : (entry : Entry) (lines rest : List (List ℕ)) (line : List ℕ) → lines ≡ line ∷ rest
     → is_skipped line ≡ false → event_in line ≡ Some (event_of entry)
     → entry_event entry ∷ events_in rest ≡ events_in lines

@@ -232,7 +232,7 @@ lined_gap a b c d text =
     ∙ append_assoc (a ++ b) c (32 ∷ d)
     ∙ append_assoc a b (c ++ 32 ∷ d))
 
--- a line of fields that tells this entry
+-- a line of fields that gives this entry
 record IsShaped (line : List ℕ) (entry : LogEntry) : Type 0 where
   field : List ℕ
   fields : List (List ℕ)
@@ -398,7 +398,7 @@ entry_unmarked entry ok =
 
 -- Logs
 
--- what a log tells, before what follows it
+-- what a log gives, before what follows it
 abbrev logged_before : Log → Option (List LogEntry) → Option (List LogEntry)
 logged_before [] after = after
 logged_before (entry ∷ log) after = logged_before log (before_those (Some entry) after)

@@ -8,11 +8,11 @@ use Rattle.gateway.specs.Entries.{FitsPort}
 use Rattle.traces.specs.Event.{Event, event_of, event_in}
 use Rattle.traces.specs.Trace.{is_skipped, logged, first_wrong}
 
--- what is read so far, before what these lines tell
+-- what is read so far, before what these lines log
 abbrev pub with_logged : List Entry → List (List ℕ) → List Event
 with_logged entries lines = map event_of entries ++ filter_map logged lines
 
--- a skipped line tells nothing and isn't wrong
+-- a skipped line logs nothing and isn't wrong
 pub logged_skip : (es : List Entry) (lines rest : List (List ℕ)) (line : List ℕ)
     → lines ≡ line ∷ rest
     → is_skipped line ≡ true → with_logged es rest ≡ with_logged es lines
@@ -23,7 +23,7 @@ pub wrong_skip : (n : ℕ) (lines rest : List (List ℕ)) (line : List ℕ) → 
     → first_wrong (n + 1) rest ≡ first_wrong n lines
 wrong_skip n lines rest line is e = rw (is, e)
 
--- a line that is an event tells it and isn't wrong
+-- a line that is an event logs it and isn't wrong
 pub logged_next : (es : List Entry) (x : Entry) (lines rest : List (List ℕ)) (line : List ℕ)
     → lines ≡ line ∷ rest
     → is_skipped line ≡ false → event_in line ≡ Some (event_of x) → with_logged (es ++ x ∷ []) rest

@@ -1,5 +1,5 @@
 -- The text of a log (texts of this gateway's own profile): a line for each event, as a trace has
--- it, and one for each action, as a run prints it; and what such a text tells, line by line.
+-- it, and one for each action, as a run prints it; and what such a text logs, line by line.
 use Rattle.std.specs.Prelude.{◌≡◌, ℕ, ◌-◌, ◌<◌, ◌≤◌, ◌^◌, ◌==◌, nat_le, ◌&&◌, false, if◌then◌else◌}
 use Rattle.std.specs.Prelude.{List, [], ◌∷◌, ◌++◌, codes, length, Option, Some, None, option_map}
 use Rattle.std.specs.Option.{option_and_then}
@@ -29,7 +29,7 @@ event_line now letter octets =
     decimal now ++ (32 ∷ letter ∷ 32 ∷ []) ++ encode_upper octets ++ 10 ∷ []
 
 -- octets from the line (S), a connection opens (O), octets from it (R), it is cut (C), a tick (T),
--- or the wall clock (W); a restart, which no port tells, has no line
+-- or the wall clock (W); a restart, which no port gives, has no line
 abbrev pub line_of_event : ℕ → Input → List ℕ
 line_of_event now (LineIn octets) = decimal now ++ codes " S " ++ encode_upper octets ++ 10 ∷ []
 line_of_event now Opened = decimal now ++ codes " O" ++ 10 ∷ []
@@ -83,7 +83,7 @@ HasNoMark text = list_any (λ b. b == 33) text ≡ false
 
 -- Traces
 
--- what a trace can tell: moments and numbers of 15 digits at most, and 1 to 1,024 octets
+-- what a trace can hold: moments and numbers of 15 digits at most, and 1 to 1,024 octets
 abbrev pub FitsTrace : Event → Type 0
 FitsTrace (events.line now octets) =
     (now ≤ last_moment) × IsBytes octets × (1 ≤ length octets) × (length octets ≤ 1024)
@@ -94,7 +94,7 @@ FitsTrace (events.cut now) = now ≤ last_moment
 FitsTrace (events.tick now) = now ≤ last_moment
 FitsTrace (events.wall now number) = (now ≤ last_moment) × (number ≤ last_moment)
 
--- the first line of this text tells this event in a trace, and the others are those of this text
+-- the first line of this text logs this event in a trace, and the others are those of this text
 pub record IsFirstOf (event : Event) (whole text : List ℕ) : Type 0 where
   pub line : List ℕ
   pub lines : lines_of whole ≡ line ∷ lines_of text
@@ -158,7 +158,7 @@ went_at None action = None
 went_at (Some now) None = None
 went_at (Some now) (Some action) = Some (Went now action)
 
--- what the fields of a line tell: an action has the mark `>` behind its moment
+-- what the fields of a line log: an action has the mark `>` behind its moment
 abbrev pub entry_from : List (List ℕ) → Option LogEntry
 entry_from (moment ∷ kind ∷ []) = came_at (number_in moment) (bare_by kind)
 entry_from (moment ∷ kind ∷ text ∷ []) = came_at (number_in moment) (valued_by kind text)
@@ -169,11 +169,11 @@ entry_from (moment ∷ mark ∷ kind ∷ station ∷ session ∷ []) =
     else None
 entry_from fields = None
 
--- the entry that a line tells, if it tells one
+-- the entry that a line gives, if it gives one
 abbrev pub entry_in : List ℕ → Option LogEntry
 entry_in line = entry_from (slice_split (λ b. b == 32) line)
 
--- an entry before those that follow, where all of them are told
+-- an entry before those that follow, where all of them are given
 abbrev pub before_those : Option LogEntry → Option (List LogEntry) → Option (List LogEntry)
 before_those None entries = None
 before_those (Some entry) None = None
@@ -192,7 +192,7 @@ abbrev pub entries_of_parts : List (List ℕ) → Option (List LogEntry)
 entries_of_parts [] = None
 entries_of_parts (line ∷ lines) = entries_of_lines line lines
 
--- what a text tells, the oldest first; nothing where a line tells no entry, or lacks its line feed
+-- what a text gives, the oldest first; nothing if a line gives no entry, or lacks its line feed
 abbrev pub entries_in : List ℕ → Option (List LogEntry)
 entries_in text = entries_of_parts (slice_split (λ b. b == 10) text)
 

@@ -24,7 +24,7 @@ came (cut now) = Came now CutOff
 came (tick now) = Came now Ticked
 came (wall now number) = Came now (WallIs number)
 
--- the events that lines tell
+-- the events that lines log
 abbrev pub events_in : List (List ℕ) → List LogEntry
 events_in lines = map came (filter_map logged lines)
 
@@ -106,13 +106,13 @@ pub record IsProgress (p : Progress) : Type 0 where
       → first_wrong 1 (lines_of p.part.text) ≡ None
   pub first : p.started ≡ false → p.left ≡ Some p.part.text
 
--- whether an answer tells an event
+-- whether an answer gives an event
 abbrev pub logs_event : Next → Bool
 logs_event answers.Done = false
 logs_event answers.Fault = false
 logs_event next = true
 
--- An answer tells the first event of these lines, where there is one and no wrong line before it,
+-- An answer gives the first event of these lines, where there is one and no wrong line before it,
 -- and these are left; then none of the others is wrong.
 pub record IsFirst (lines : List (List ℕ)) (left : Option (List ℕ)) (next : Next)
     (buf : List ℕ) : Type 0 where

@@ -19,11 +19,11 @@ abbrev pub is_skipped : List ℕ → Bool
 is_skipped [] = true
 is_skipped (b ∷ _) = b == 35
 
--- the event that a line tells; an empty line and a comment tell none
+-- the event that a line logs; an empty line and a comment log none
 abbrev pub logged : List ℕ → Option Event
 logged line = if is_skipped line then None else event_in line
 
--- a line that tells nothing, though it is neither empty nor a comment
+-- a line that logs nothing, though it is neither empty nor a comment
 abbrev pub is_wrong : List ℕ → Bool
 is_wrong line = not (is_skipped line) && is_none (event_in line)
 
@@ -32,7 +32,7 @@ abbrev pub first_wrong : ℕ → List (List ℕ) → Option ℕ
 first_wrong n [] = None
 first_wrong n (l ∷ ls) = if is_wrong l then Some n else first_wrong (n + 1) ls
 
--- no line is wrong, and the entries are the events that the lines tell, in their order
+-- no line is wrong, and the entries are the events that the lines log, in their order
 abbrev pub AreEntriesOf : List (List ℕ) → List Entry → Type 0
 AreEntriesOf lines entries =
     (first_wrong 1 lines ≡ None) × (map event_of entries ≡ filter_map logged lines)

@@ -59,7 +59,7 @@ fn digit_of(octet: u8) -> u8
     ensures digit { is_ascii_digit octet ≡ nat_le result 9 }
     ensures value { result ≤ 9 → result ≡ octet - 48 }
 {
-    // Wrapping, so one comparison tells the digits from all other octets.
+    // Wrapping, so one comparison distinguishes the digits from all other octets.
     octet.wrapping_sub(b'0')
 }
 

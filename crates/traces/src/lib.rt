@@ -7,16 +7,16 @@
 //! the log of the run, and writes the line of each action (`append_line`) to a writer. `TextPort`
 //! is the port over the text itself, or over one part of it after another (`Pause`): it stores no
 //! log, and prints the actions (`Printout`), their `Moment` spelled once for all actions of a step
-//! (`print_action_at`). `judge` tells the first wrong line of a part. What the gateway does with
+//! (`print_action_at`). `judge` gives the first wrong line of a part. What the gateway does with
 //! the events, and with moments that go back, is its own matter. Proved: the entries are the events
-//! that the lines tell, in their order, and no line is wrong; a line that is refused is the first
+//! that the lines log, in their order, and no line is wrong; a line that is refused is the first
 //! that is neither empty, nor a comment, nor an event; an entry's octets fit what a port gives at
 //! once; `read_octets` answers the octets that the digits spell, and nothing for any other text;
 //! the events of `Trace`'s log and those still to come are always the tick and all entries; and
 //! unless a write failed, its writer has got the lines of the log's actions in their order, and
 //! nothing else; and each line that is printed, of an event or an action, reads back as that very
-//! entry ([`printed_lines_read_back`], [`printed_lines_by_example`]). What lines of a trace tell
-//! has literal examples too ([`trace_lines_by_example`]).
+//! entry ([`printed_lines_read_back`], [`printed_lines_by_example`]). Literal examples, too, show
+//! what the lines of a trace log ([`trace_lines_by_example`]).
 //!
 //! `Blocks` reads a text on, block by block, each of whole lines: the blocks are the text, and one
 //! line feed parts two of them.

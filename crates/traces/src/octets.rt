@@ -310,7 +310,7 @@ fn digit_value(octet: u8) -> u8
     ensures value { is_hex_digit octet ≡ true → hex_digit_value octet ≡ Some result }
     ensures small { result < 16 }
 {
-    // A letter's low digit is 1 to 6, and bit 6 tells letters from decimal digits.
+    // A letter's low digit is 1 to 6, and bit 6 distinguishes letters from decimal digits.
     (octet % 16 + octet / 64 * 9) % 16
 }
 

@@ -27,6 +27,7 @@ pub trait HeldBefore {
 impl HeldBefore for Brand {
     ghost use Rattle.std.specs.Prelude.{None};
 
+    // By default nothing is known (docs/DECISIONS.md, "`Trace<W, B>`").
     ghost held = { None };
 }
 

@@ -62,7 +62,7 @@ impl Printout {
         self.history.again()
     }
 
-    /// An event has come, which an answer tells.
+    /// An event has come, which an answer gives.
     pub fn came(&mut self, next: &Next, buf: &[u8; 1024])
         ensures { self.new ≡ record self.old { log = logged_by next.now buf.now ++ self.old.log } }
     {

@@ -1,11 +1,11 @@
-//! What lines of a trace tell, by worked examples: literal texts.
+//! What lines of a trace log, by worked examples: literal texts.
 ghost use Rattle.std.specs.Prelude.{◌≡◌, ◌++◌, ◌∷◌, [], codes, replicate, true, false, Some, None};
 ghost use Rattle.traces.specs.Event.{line, opening, received, cut, tick, wall};
 ghost use Rattle.traces.specs.Fields.{octets_of};
 ghost use Rattle.traces.specs.Trace.{first_wrong, is_skipped, lines_of, logged};
 
-/// What each line of a trace tells, the edges of its numbers, what no line tells, and the first
-/// wrong line of a text (docs/TEXTS.md has them in words).
+/// What each line of a trace logs, the edges of its numbers, what no line logs, and the first wrong
+/// line of a text (docs/TEXTS.md has them in words).
 pub fn trace_lines_by_example()
     ensures events { (logged (codes "10 S E500") ≡ Some (line 10 (229 ∷ 0 ∷ [])))
         × (logged (codes "40 R 680b") ≡ Some (received 40 (104 ∷ 11 ∷ [])))

@@ -172,7 +172,7 @@ pub fn first_event<'a>(text: Option<&'a [u8]>, buf: &mut [u8; 1024]) -> (Next, O
     (Next::Fault, left)
 }
 
-/// Whether an answer tells an event.
+/// Whether an answer gives an event.
 fn is_event(next: Next) -> bool
     ensures { result ≡ logs_event next }
 {

@@ -1,4 +1,4 @@
--- Octets told frame by frame (this gateway's own profile).
+-- Octets described frame by frame (this gateway's own profile).
 use Rattle.std.specs.Prelude.{ℕ, ◌<◌, Bool, true, false, List, [], ◌++◌, take, drop}
 use Rattle.show.specs.Line.{IsLineShown}
 use Rattle.show.specs.Tcp.{IsTcpShown}
@@ -24,8 +24,8 @@ abbrev pub both : Condition → Condition → Condition
 both Good other = other
 both Faulty other = Faulty
 
--- Octets are told frame by frame, each alone and in their order, and those at whose front no frame
--- is whole all together; so nothing is left out, and nothing told twice.
+-- Octets are described frame by frame, each alone and in their order, and those at whose front no
+-- frame is whole all together. So nothing is left out, and nothing described twice.
 pub data AreFramesDescribed (IsEnd : (octets : List ℕ) → (end : ℕ) → Type 0)
     (IsLogged : (octets text : List ℕ) → Condition → Type 0)
     : (octets text : List ℕ) → Condition → Type 0 where

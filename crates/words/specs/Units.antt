@@ -33,7 +33,7 @@ unfoldable pub cause_words : ℕ → List ℕ
 cause_words n =
     cause_text (n % 64) ++ (mark 6 n (codes ", negative") ++ mark 7 n (codes ", test"))
 
--- an originator that is told (7.2.3)
+-- an originator that is shown (7.2.3)
 unfoldable pub originator_text : ℕ → List ℕ
 originator_text n = if n == 0 then [] else codes ", originator " ++ decimal n
 

@@ -1,4 +1,4 @@
-//! Octets told frame by frame, in words or with a fact a line.
+//! Octets described frame by frame, in words or with a fact a line.
 ghost use Rattle.std.specs.Prelude.{◌≡◌, IfOk, string_bytes};
 ghost use Rattle.words.specs.Described.{AreApdusDescribed, AreLineFramesDescribed, both as both_of};
 ghost use Rattle.words.specs.Described.{IsLineDescribed};
@@ -27,7 +27,7 @@ pub fn describe_line(
     }
 }
 
-/// What stands at the front of octets of the connection, told so.
+/// What stands at the front of octets of the connection, described so.
 pub fn describe_apdu(alloc: Global, octets: &[u8], words: bool) -> Result<Shown, AllocError>
     ensures { IfOk result (λ shown.
         IsTcpDescribed words octets.now (string_bytes shown.lines) shown.condition) }
@@ -39,8 +39,8 @@ pub fn describe_apdu(alloc: Global, octets: &[u8], words: bool) -> Result<Shown,
     }
 }
 
-/// Tells octets of the line frame by frame, and those at whose front no frame is whole together.
-/// They are as they should be where each frame is.
+/// Describes octets of the line frame by frame, and those at whose front no frame is whole
+/// together. They are as they should be where each frame is.
 pub fn describe_line_frames(
     alloc: Global,
     sizes: LineSizes,
@@ -63,7 +63,8 @@ pub fn describe_line_frames(
     Ok(Shown { lines, condition })
 }
 
-/// Tells octets of the connection APDU by APDU, and those at whose front none is whole together.
+/// Describes octets of the connection APDU by APDU, and those at whose front none is whole
+/// together.
 pub fn describe_apdus(alloc: Global, octets: &[u8], words: bool) -> Result<Shown, AllocError>
     ensures { IfOk result (λ shown.
         AreApdusDescribed words octets.now (string_bytes shown.lines) shown.condition) }

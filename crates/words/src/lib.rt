@@ -5,7 +5,7 @@
 //! time tags in words; or why the octets are no such frame, and the first wrong place. The
 //! condition is that of `show_line` and `show_tcp`. `push_line_frame` and `push_apdu` append a
 //! frame that was read. The standard's names are those of `elements`. `read_line_of_octets` reads
-//! octets in hexadecimal with blanks, of which `line_end` and `apdu_end` tell the first frame's
+//! octets in hexadecimal with blanks, of which `line_end` and `apdu_end` give the first frame's
 //! end.
 //!
 //! Proved: each text is an exact function of the frame (`AreLineWords`, `AreConnectionWords`), for

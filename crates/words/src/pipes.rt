@@ -34,7 +34,7 @@ fn without_blanks(alloc: Global, text: &[u8]) -> Result<Vec<u8>, AllocError>
 }
 
 /// Where the frame at the front of octets of the line ends. They all go together where no frame is
-/// whole there: `words_of_line` tells why.
+/// whole there: `words_of_line` says why.
 #[tactic(auto, using(crate::proofs::Ends::line_moves))]
 pub fn line_end(size: LinkSize, octets: &[u8]) -> usize
     requires { 0 < length octets.now }
@@ -49,7 +49,7 @@ pub fn line_end(size: LinkSize, octets: &[u8]) -> usize
 }
 
 /// Where the APDU at the front of octets of the connection ends. They all go together where no APDU
-/// is whole there: `words_of_connection` tells why.
+/// is whole there: `words_of_connection` says why.
 #[tactic(auto, using(crate::proofs::Ends::apdu_moves))]
 pub fn apdu_end(octets: &[u8]) -> usize
     requires { 0 < length octets.now }

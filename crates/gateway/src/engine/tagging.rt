@@ -23,7 +23,8 @@ fn tagged_piece(piece: &[u8], tag: &Cp56) -> Option<Piece>
     let Ok(asdu) = read(Sizes::TCP, piece) else {
         return None;
     };
-    // An answer about several objects belongs to no single command.
+    // An answer about several objects belongs to no single command. With SQ 1, too, one object is
+    // one (docs/DECISIONS.md, "An answer with SQ 1 and one object").
     if !is_plain_command(asdu.kind) || asdu.number() != 1 {
         return None;
     }

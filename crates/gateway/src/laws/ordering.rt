@@ -14,6 +14,8 @@ ghost use Rattle.gateway.specs.Setups.{setup_of};
 /// nor t3 is 0, hold of all settings: with a 0 an S frame or a test would be due at once on a
 /// connection that has just replaced another.
 pub fn steps_keep_their_order()
+    // A law, and no field of `IsFaithful`: it follows from what a request, a close and a frame need
+    // (docs/DECISIONS.md, "The order of actions in a step").
     ensures setups { (p : Setup) (log : Log) → 0 < p.session.w → 0 < p.session.t3 →
         IsFaithful p log → KeepsOrder log }
     ensures settings { (c : Settings) (log : Log) → IsFaithful (setup_of c) log → KeepsOrder log }

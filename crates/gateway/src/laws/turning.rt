@@ -28,6 +28,8 @@ use link::{
 /// answer; that ends its visit, and the next visit of that station resets its link. (Settings have
 /// 1 to 32 stations, each with an address, and a burst of at least one.)
 pub fn logs_keep_turns()
+    // None of it is read off the machine: a machine and a course that leave out a call together
+    // break this law (docs/DECISIONS.md, "The calls of a log").
     ensures { (c : Settings) (s : State) (log : Log) →
         AreStations c.line.link c.line.sizes.ca c.stations → 1 ≤ c.line.burst →
         Follows (setup_of c) s (Some log) → KeepsTurns (setup_of c) log }

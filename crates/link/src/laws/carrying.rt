@@ -98,6 +98,8 @@ pub fn giving_up_is_logged()
 /// The mark of a link that was given up stands behind the latest exchange with its station, and
 /// behind no other.
 pub fn the_latest_exchange_is_marked()
+    // A mark, and no exchange of its own: nothing goes out when a link is given up
+    // (docs/DECISIONS.md, "A mark for a link given up").
     ensures itself { (front : List ℕ → Front) (k : ℕ) (e : Exchanges) →
         exchanges_at front k (given_up_at k e) ≡ latest_given_up (exchanges_at front k e) }
     ensures others { (front : List ℕ → Front) (k j : ℕ) (e : Exchanges) → j ≢ k →

@@ -4,8 +4,8 @@ ghost use Rattle.std.specs.Prelude.{◌≤◌, length};
 
 use super::*;
 
-/// Whether octets that are cut in two here are heard as `front` finds them, each looked at at most
-/// once.
+/// Whether octets that are cut in two here are received as `front` finds them, each looked at at
+/// most once.
 fn is_received_alike(size: LinkSize, octets: &[u8], cut: usize) -> bool
     requires { cut ≤ length octets.now }
 {
@@ -25,7 +25,7 @@ fn is_received_alike(size: LinkSize, octets: &[u8], cut: usize) -> bool
     goes_on && assembler.looked() == decided as u64
 }
 
-/// Whether they are heard alike whole, cut at each place, and with each octet spoilt.
+/// Whether they are received alike whole, cut at each place, and with each octet spoilt.
 fn is_received_alike_at_each_cut(size: LinkSize, octets: &[u8]) -> bool {
     for cut in 0..octets.len() {
         if !is_received_alike(size, octets, cut) {

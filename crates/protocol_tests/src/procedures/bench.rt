@@ -40,7 +40,8 @@ pub(super) enum Expected<'a> {
 pub(super) enum Step<'a> {
     /// The first station is asked for its status at moment 0, and reset at 10.
     Opens,
-    /// The first station is asked for its status and reset again, at this moment. This is told.
+    /// The first station is asked for its status and reset again, at this moment. The primary
+    /// answers this.
     Restarts(u64, Expected<'a>),
     /// The next request, at this moment, has these octets.
     Sends(u64, &'a [u8]),
@@ -49,9 +50,9 @@ pub(super) enum Step<'a> {
     Asks(u64, bool, &'a [u8], RequestKind, bool),
     /// No request goes out at this moment, with this leave to poll.
     Rests(u64, bool),
-    /// Octets of the line come, of which this is told.
+    /// Octets of the line come, and the primary answers this.
     Receives(&'a [u8], Expected<'a>),
-    /// The time is looked at, of which this is told.
+    /// The time is looked at, and the primary answers this.
     Due(u64, Expected<'a>),
     /// So many exchanges were spoilt by now.
     Spoilt(u64),
@@ -154,7 +155,7 @@ impl Bench {
         }
     }
 
-    /// Whether this is told of octets that come.
+    /// Whether the primary answers this to octets that come.
     fn receives(&mut self, octets: &[u8], expected: Expected<'_>) -> bool {
         is_expected(&self.master.octets(octets, &mut None), expected)
     }
@@ -164,7 +165,8 @@ impl Bench {
         !asdu.is_empty() && asdu.len() <= 12 && self.master.offer(0, asdu)
     }
 
-    /// The first station is asked for its status and reset, at these moments: whether this is told.
+    /// The first station is asked for its status and reset, at these moments: whether the primary
+    /// answers this.
     fn starts(&mut self, (first, then): (u64, u64), expected: Expected<'_>) -> bool {
         self.sends(first, &[0x10, 0x49, 0x01, 0x4A, 0x16])
             && self.receives(&[0x10, 0x0B, 0x01, 0x0C, 0x16], Expected::None)

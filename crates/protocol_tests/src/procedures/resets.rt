@@ -1,4 +1,4 @@
-//! Resets of a station that was up: a gap is told where the session's latest service was a poll
+//! Resets of a station that was up: a gap is reported if the session's latest service was a poll
 //! that wasn't answered by 8, 9 or E5.
 
 use super::bench::{Expected, Script, Step};

@@ -134,7 +134,7 @@ fn catch_up(number: u64, line: Vec<u8>, page: &[u8]) -> Result<Agreement, AllocE
         return Ok(Agreement::Behind(number, line));
     }
     if is_same(line.as_slice(), other) {
-        // That can't be: a run goes on with an event, and this line tells none.
+        // That can't be: a run goes on with an event, and this line logs none.
         return Err(AllocError);
     }
     Ok(Agreement::Differs(number))

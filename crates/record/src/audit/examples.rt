@@ -4,7 +4,7 @@ ghost use Rattle.record.specs.Examples.{line};
 ghost use Rattle.record.specs.Lines.{event_lines, first_difference, is_action, is_cut};
 ghost use Rattle.record.specs.Lines.{whole_lines};
 
-/// Which lines of a record are whole, which tell an action and which were cut short; the lines of
+/// Which lines of a record are whole, which log an action and which were cut short; the lines of
 /// its events; and its first line that isn't the run's (docs/TEXTS.md has them in words).
 pub fn record_lines_by_example()
     ensures lines { (whole_lines (line (codes "1 T") ++ codes "1 > S 10") ≡ codes "1 T" ∷ [])

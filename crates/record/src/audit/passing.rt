@@ -23,13 +23,14 @@ pub fn part_of(block: &[u8], is_last: bool) -> Option<&[u8]>
     if !is_last {
         return Some(block);
     }
+    // A process that is killed leaves half a line (docs/DECISIONS.md, "A record may end anywhere").
     match memrchr(LINE_FEED, block) {
         Some(end) => Some(&block[..end]),
         None => None,
     }
 }
 
-/// How many lines were passed, and how many of them tell an event or an action.
+/// How many lines were passed, and how many of them log an event or an action.
 #[derive(Clone, Copy)]
 pub(crate) struct LineCounts {
     pub(crate) lines: u64,
@@ -37,7 +38,7 @@ pub(crate) struct LineCounts {
     pub(crate) actions: u64,
 }
 
-/// What a line tells.
+/// What a line logs.
 #[derive(Clone, Copy)]
 enum LineKind {
     /// An event, as a port gives it: its octets are the front of a buffer.
@@ -52,6 +53,7 @@ enum LineKind {
 pub fn is_cut(line: &[u8]) -> bool
     ensures { result ≡ is_cut line.now }
 {
+    // Half an event can't be completed (docs/DECISIONS.md, "A line with `!`").
     memchr(b'!', line).is_some()
 }
 
@@ -68,7 +70,7 @@ fn is_marked(line: &[u8]) -> bool
     }
 }
 
-/// Whether a line tells an action, and no event.
+/// Whether a line logs an action, and no event.
 pub fn is_action(line: &[u8]) -> bool
     ensures { result ≡ is_action line.now }
 {
@@ -86,7 +88,7 @@ pub fn event_line(line: &[u8]) -> &[u8]
     line
 }
 
-/// What a line tells. The octets of an event are put at the front of the buffer.
+/// What a line logs. The octets of an event are put at the front of the buffer.
 fn kind_of(line: &[u8], buf: &mut [u8; 1024]) -> LineKind
     requires { IsOneLine line.now }
     ensures { IsKind line.now buf.new result }
@@ -105,8 +107,8 @@ fn kind_of(line: &[u8], buf: &mut [u8; 1024]) -> LineKind
     }
 }
 
-/// Judges a line. It is wrong where it tells neither an event nor an action, though it is neither
-/// empty nor a comment, and wasn't cut short.
+/// Judges a line. It is wrong if it logs neither an event nor an action, though it is neither empty
+/// nor a comment, and wasn't cut short.
 fn judge_line(line: &[u8]) -> Result<(), TextFault>
     requires { IsOneLine line.now }
     ensures { IsLineJudged line.now result }

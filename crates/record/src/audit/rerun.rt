@@ -200,6 +200,8 @@ impl<'a> Port for Rerun<'a> {
             return Next::Fault;
         }
         let (next, left, tally) = next_event(self.left, self.tally, buf);
+        // Events are compared too: the run prints them anew, so a record has one form
+        // (docs/DECISIONS.md, "Events are compared too").
         if print_event(self.alloc, &mut self.page, next, buf).is_err() {
             self.failures += 1;
             return Next::Fault;

@@ -126,6 +126,8 @@ impl Outstations {
             NextReply::Nothing => {}
             NextReply::NoReply => self.advance(station),
             NextReply::Reply(reply) => {
+                // If it finds no room, those behind it wait too, so that they keep the order of the
+                // commands (docs/DECISIONS.md, "A reply waits for the one before it").
                 if self.report(station, Class::One, reply.octets()) {
                     self.advance(station);
                 }

@@ -90,6 +90,8 @@ impl Outstations {
         let Some(due) = self.due(line, passed) else {
             return;
         };
+        // One a line waits at most: a slow line makes no queue without an end (docs/DECISIONS.md,
+        // "A report that is due").
         if self.report(due.station, due.class, due.report.octets()) {
             self.cues[line].give(passed);
         }

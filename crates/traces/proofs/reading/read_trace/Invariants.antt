@@ -7,9 +7,8 @@ use Rattle.traces.specs.Fields.{parts_after}
 use Rattle.traces.specs.Trace.{lines_of, logged, first_wrong}
 use Rattle.traces.proofs.reading.read_trace.Given as goal
 
--- what is read, and what the lines that are left tell, are what all lines tell; and the first wrong
--- line is
--- among those left
+-- what is read, and what the lines that are left log, are what all lines log; and the first wrong
+-- line is among those left
 abbrev pub invariant-loop-number : goal.invariant-loop-number
 invariant-loop-number l = record {
   logged : map event_of l.entries.items ++ filter_map logged (parts_after 10 (option_copied l.left))

@@ -5,7 +5,7 @@ use Rattle.traces.specs.Fields.{parts_after}
 use Rattle.traces.specs.Progress.{events_in, IsRight}
 use Rattle.traces.proofs.text_port.first_event.Given as goal
 
--- the lines that were skipped told no event
+-- the lines that were skipped logged no event
 abbrev pub invariant-reading : goal.invariant-reading
 invariant-reading l = record {
   logged : events_in (parts_after 10 (option_copied l.left))

@@ -1,4 +1,4 @@
--- So many lines were passed, none of which tells an event.
+-- So many lines were passed, none of which logs an event.
 use Rattle.std.proofs.Common.{◌+◌, ◌≤◌, []}
 use Rattle.std.specs.Option.{option_copied}
 use Rattle.traces.specs.Fields.{parts_after}
