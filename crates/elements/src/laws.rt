@@ -1,8 +1,9 @@
 //! What the standard says of types, elements and time tags, each law called for its contract.
-ghost use Rattle.std.specs.Prelude.{◌≡◌, ◌≤◌, ℕ, List, slice_index};
+ghost use Rattle.std.specs.Prelude.{◌≡◌, ◌≤◌, ◌<◌, ℕ, List, slice_index};
 ghost use Rattle.std.specs.List.{AllByRecursion};
 ghost use Rattle.elements.specs.declared.tag.Verdict.TheVariants.{Good};
-ghost use Rattle.elements.specs.Moments.{Moment, Exists, tag_of, instant};
+ghost use Rattle.elements.specs.Moments.{Moment, Exists, tag_of, instant, tag_with, IsOfMoment};
+ghost use Rattle.elements.specs.Octets.{AreOctets};
 ghost use Rattle.elements.specs.Standard.{TypesAreTheStandards, NamesAreTheStandards};
 ghost use Rattle.elements.specs.Standard.{LayoutExamples, IsShownSo, IsJudgedSo};
 ghost use Rattle.elements.specs.Standard.{value_examples, tag_examples};
@@ -35,4 +36,13 @@ pub fn tags_of_moments_are_good()
     ensures good { (m : Moment) → Exists m → verdict_of (tag_of m) ≡ Good (instant m) }
     ensures marked { (octets : List ℕ) (instant : ℕ) → 128 ≤ slice_index octets 2 →
         verdict_of octets ≡ Good instant → ⊥ }
+{}
+
+/// A tag is good only if there is a moment that it names, and its instant is that moment's. Summer
+/// time (SU) and the reserved bits play no part.
+pub fn good_tags_name_moments()
+    ensures only { (octets : List ℕ) (since : ℕ) → AreOctets octets →
+        verdict_of octets ≡ Good since → IsOfMoment octets since }
+    ensures reserved { (m : Moment) (minute hour month year : ℕ) → Exists m → minute < 2 →
+        verdict_of (tag_with m minute hour month year) ≡ Good (instant m) }
 {}

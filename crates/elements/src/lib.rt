@@ -27,8 +27,8 @@ mod types;
 pub use commands::{Dco, Qoi, Rco, Sco, SeNva, SeSva};
 pub use element::Element;
 pub use laws::{
-    names_are_the_standards, tags_of_moments_are_good, types_are_the_standards,
-    worked_examples_hold,
+    good_tags_name_moments, names_are_the_standards, tags_of_moments_are_good,
+    types_are_the_standards, worked_examples_hold,
 };
 pub use monitored::{Bcr, Bsi, Coi, Diq, Nva, Siq, Sva, Vti};
 pub use names::{cause_name, type_name};

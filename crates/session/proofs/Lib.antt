@@ -5,3 +5,5 @@ pub mod Standard
 pub mod Obeyed
 pub mod Ordered
 mod ReadBack
+pub mod Examples
+pub mod Origins

@@ -6,4 +6,5 @@ pub mod Laws
 pub mod Rules
 pub mod Ends
 pub mod SessionLaws
+pub mod Examples
 pub mod Restored

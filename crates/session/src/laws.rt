@@ -4,12 +4,14 @@
 //! calls answer by what the standard makes of that history.
 
 ghost use Rattle.std.specs.Prelude.{◌≡◌, ℕ, ◌%◌, ◌<◌, ◌≤◌, ◌&&◌, ◌++◌, List, [], true, false, None};
-ghost use Rattle.std.specs.Prelude.{nat_lt, length, option_to_list};
+ghost use Rattle.std.specs.Prelude.{nat_lt, length, option_to_list, suc, ◌∷◌};
 ghost use Rattle.apci.specs.declared.apdu.Apdu.{Apdu};
 ghost use Rattle.session.specs.declared.kinds.Origin.{Origin};
 ghost use Rattle.session.specs.declared.kinds.Unacknowledged.{Unacknowledged};
 ghost use Rattle.session.specs.Session.{Session, is_open, is_transferring, may_send, refuses};
 ghost use Rattle.session.specs.Session.{outcome_of, timed_out, confirmed, pulled, sent, taken};
+ghost use Rattle.session.specs.Session.{from_queue};
+ghost use Rattle.session.specs.declared.kinds.Origin.TheVariants.{Queue, Own};
 ghost use Rattle.session.specs.History.{IsNumbered, sent_frames, received_count, reached};
 ghost use Rattle.session.specs.History.{still_unacknowledged, is_started, verdict_on};
 ghost use Rattle.session.specs.History.{confirmation_of, confirmation_owed, confirmations_due};
@@ -19,6 +21,9 @@ ghost use Rattle.session.specs.Rules.{KeepsRules};
 ghost use Rattle.session.specs.SessionLaws.{SessionLaws};
 ghost use Rattle.session.specs.Ends.{after_confirm, after_pull, IsConfirmed, IsInTime, IsSilent};
 ghost use Rattle.session.specs.Ends.{AreInOrder};
+ghost use Rattle.session.specs.Examples.{IsRight, number_examples, transfer_examples};
+ghost use Rattle.session.specs.Examples.{timer_examples};
+ghost use Rattle.std.specs.List.{AllByRecursion};
 
 /// N(R) is judged by the least number that isn't below the acknowledged count and equals it modulo
 /// 32768.
@@ -115,6 +120,24 @@ pub fn frames_stay_in_order()
         AreInOrder 0 (sent kind now s).unacknowledged now }
     ensures taken { (frame : Apdu) (now : ℕ) (s : Session) → AreInOrder 0 s.unacknowledged now →
         AreInOrder 0 (taken frame now s).unacknowledged now }
+{}
+
+/// Frames of the queue and own answers are counted apart, each as what it went out.
+pub fn origins_are_counted_apart()
+    ensures none { from_queue [] ≡ 0 }
+    ensures queue { (moment : ℕ) (others : List Unacknowledged) →
+        from_queue (record { kind = Queue; moment = moment } ∷ others)
+        ≡ suc (from_queue others) }
+    ensures own { (moment : ℕ) (others : List Unacknowledged) →
+        from_queue (record { kind = Own; moment = moment } ∷ others) ≡ from_queue others }
+{}
+
+/// Connections worked by hand: which numbers frames bear and when they may go out, what a frame
+/// leads to and acknowledges, which confirmations are due, and when t1, t2 and t3 have run out.
+pub fn worked_examples_hold()
+    ensures numbers { AllByRecursion IsRight number_examples }
+    ensures transfer { AllByRecursion IsRight transfer_examples }
+    ensures timers { AllByRecursion IsRight timer_examples }
 {}
 
 /// What a crate that keeps a session needs of it, in one: the rules of clause 5, and what each call

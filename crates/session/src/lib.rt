@@ -27,6 +27,7 @@ pub use connection::{NoMemory, Session};
 pub use kinds::{Close, Origin, Taken, Transfer, Unacknowledged};
 pub use laws::{
     calls_come_to_an_end, connections_begin_by_open, frames_are_judged, frames_are_numbered,
-    frames_stay_in_order, histories_keep_the_rules, reached_is_least, session_keeps_the_standard,
-    timers_are_kept, transfer_is_controlled, window_is_kept,
+    frames_stay_in_order, histories_keep_the_rules, origins_are_counted_apart, reached_is_least,
+    session_keeps_the_standard, timers_are_kept, transfer_is_controlled, window_is_kept,
+    worked_examples_hold,
 };
