@@ -14,7 +14,9 @@ use Rattle.link.specs.Primary.{Primary, Outstanding}
 use Rattle.link.specs.Matching.{IsAllowed}
 use Rattle.link.specs.declared.seat.ResumedStation.{ResumedStation}
 use Rattle.link.specs.Carried.{station_left, released_from, released, station_carried, seated}
-use Rattle.link.specs.Carried.{reseated, bit_of}
+use Rattle.link.specs.Carried.{reseated, bit_of, service_of}
+use Rattle.link.specs.Answers.{Service}
+use Rattle.link.proofs.Links.{set_view}
 
 -- a request that may be sent leaves the bit as it is where it has no answer
 bit_left : (settings : LinkSettings) (request : Asked) (link : Link) → MaySend link request
@@ -81,3 +83,41 @@ number p = go p.outstanding
     go (Some o) =
         length-set p.stations p.turn (station_left p.settings (station_at p.stations p.turn)
         o.request)
+
+pub service_carried : (retries address : ℕ) (s : StationState)
+    → service_of (station_carried retries address s).link ≡ service_of s.link
+service_carried retries address s = go s.link
+  where
+    go : (link : Link) → service_of (station_carried retries address (record s { link = link })).link
+        ≡ service_of link
+    go Down = refl
+    go Available = refl
+    go (Next fcb) = refl
+    go (Held fcb service missed) = refl
+
+pub broken_off : (p : Primary) (o : Outstanding) (fcb : Bool) (service : Service)
+    → p.turn < length p.stations → p.outstanding ≡ Some o → o.request ≡ Counted fcb service
+    → service_of (station_at (released p).stations p.turn).link ≡ Some (Counted fcb service)
+broken_off p o fcb service within out is =
+    ap (λ (x : Option Outstanding). service_of (station_at (released_from p x).stations p.turn).link)
+    out
+    ∙ ap (λ (s : StationState). service_of s.link) (get_or-set_same p.stations p.turn
+    (station_left p.settings (station_at p.stations p.turn) o.request) no_station within)
+    ∙ ap (λ (r : Asked). service_of (after_silence p.settings r false
+    (station_at p.stations p.turn).link)) is
+
+pub flags_released : (p : Primary) (k : ℕ)
+    → ((station_at (released p).stations k).acd ≡ (station_at p.stations k).acd)
+    × ((station_at (released p).stations k).dfc ≡ (station_at p.stations k).dfc)
+flags_released p k = go p.outstanding
+  where
+    go : (o : Option Outstanding)
+        → ((station_at (released_from p o).stations k).acd ≡ (station_at p.stations k).acd)
+        × ((station_at (released_from p o).stations k).dfc ≡ (station_at p.stations k).dfc)
+    go None = (refl, refl)
+    go (Some o) = (
+      set_view (λ (s : StationState). s.acd) p.stations p.turn
+          (station_left p.settings (station_at p.stations p.turn) o.request) refl k,
+      set_view (λ (s : StationState). s.dfc) p.stations p.turn
+          (station_left p.settings (station_at p.stations p.turn) o.request) refl k,
+    )

@@ -1,4 +1,7 @@
 pub mod Assembling
+pub mod Timed
+pub mod OneVisits
+pub mod Lost
 pub mod Beginning
 pub mod Choice
 pub mod Choosing

@@ -1,8 +1,9 @@
 -- How often a service without an answer is sent.
 use Rattle.std.specs.Prelude.{◌||◌}
 use Rattle.std.proofs.Common.{◌≡◌, ℕ, suc, ◌+◌, ◌<◌, ◌≤◌, nat_lt, nat_le, Bool, true, false, List}
-use Rattle.std.proofs.Common.{[], ◌∷◌, length, Option, Some, None, refl, sym, ap, subst, ◌∙◌, arith}
-use Rattle.std.proofs.Common.{if◌then◌else◌}
+use Rattle.std.proofs.Common.{[], ◌∷◌, length, Option, None, refl, ap, ◌∙◌, arith}
+use Rattle.std.proofs.Common.{if◌then◌else◌, ◌⊎◌, inl, inr}
+use Rattle.std.proofs.lemmas.Bool.{cases_lt}
 use Rattle.std.specs.List.{AllByRecursion}
 use Rattle.link.specs.Answers.{Service, Asked, Counted, Answer}
 use Rattle.link.specs.Exchanges.{Exchange, answer_to}
@@ -107,3 +108,78 @@ up settings station fcb service [] all some few = absurd (omega (arith, some))
 up settings station fcb service (x ∷ xs) all some few =
     ap (λ (l : Link). is_up l) (from_next settings station fcb service x xs all few)
     ∙ up_by settings fcb service (length (x ∷ xs))
+
+-- ---- where the service is held
+
+last : (settings : LinkSettings) (fcb : Bool) (service : Service) (n : ℕ) → settings.hold ≡ true
+    → settings.retries < n
+    → held settings fcb service n ≡ Held fcb service (suc settings.retries)
+last settings fcb service n hold gt =
+    let e : nat_lt settings.retries n ≡ true = grind arith in rw e (rw hold refl)
+
+-- The station's link holds a service that was sent as often as its repeats, or more often.
+spent : (settings : LinkSettings) (station : ℕ) (fcb : Bool) (service : Service) (link : Link)
+    (x : Exchange) (xs : List Exchange) → settings.hold ≡ true
+    → settings.retries ≤ missed_so_far link
+    → AllByRecursion (IsMissed station fcb service) (x ∷ xs)
+    → has_repeats settings (link_after settings station link (x ∷ xs)) ≡ false
+spent settings station fcb service link x [] hold few all =
+    let here : after settings station x link ≡ Held fcb service (suc settings.retries) =
+    after_missed settings station fcb service x link all.0
+    ∙ last settings fcb service (suc (missed_so_far link)) hold (omega (arith, few)) in
+    ap (λ (l : Link). has_repeats settings l) here
+    ∙ (let e : nat_le (suc settings.retries) settings.retries ≡ false = grind arith in e)
+spent settings station fcb service link x (y ∷ ys) hold few all =
+    let next = after settings station x link in
+    let here : next ≡ Held fcb service (suc settings.retries) =
+    after_missed settings station fcb service x link all.0
+    ∙ last settings fcb service (suc (missed_so_far link)) hold (omega (arith, few)) in
+    let count : missed_so_far next ≡ suc settings.retries =
+    ap (λ (l : Link). missed_so_far l) here in
+    spent settings station fcb service next y ys hold (omega (arith, count)) all.1
+
+counted : (settings : LinkSettings) (station : ℕ) (fcb : Bool) (service : Service) (link : Link)
+    (x : Exchange) (xs : List Exchange) → settings.hold ≡ true
+    → AllByRecursion (IsMissed station fcb service) (x ∷ xs)
+    → has_repeats settings (link_after settings station link (x ∷ xs))
+    ≡ nat_le (missed_so_far link + length (x ∷ xs)) settings.retries
+counted settings station fcb service link x [] hold all =
+    ap (λ (l : Link). has_repeats settings l) (after_missed settings station fcb service x link all.0)
+    ∙ again_by settings fcb service (suc (missed_so_far link))
+    ∙ ap (λ (n : ℕ). nat_le n settings.retries)
+    (let e : suc (missed_so_far link) ≡ missed_so_far link + 1 = omega arith in e)
+counted settings station fcb service link x (y ∷ ys) hold all =
+    go (counted settings station fcb service (after settings station x link) y ys hold all.1)
+    (cases_lt (missed_so_far link) settings.retries)
+  where
+    next : Link
+    next = after settings station x link
+
+    go : has_repeats settings (link_after settings station next (y ∷ ys))
+        ≡ nat_le (missed_so_far next + length (y ∷ ys)) settings.retries
+        → (missed_so_far link < settings.retries) ⊎ (settings.retries ≤ missed_so_far link)
+        → has_repeats settings (link_after settings station next (y ∷ ys))
+        ≡ nat_le (missed_so_far link + suc (length (y ∷ ys))) settings.retries
+    go rest (inl lt) =
+        let count : missed_so_far next ≡ suc (missed_so_far link) =
+        ap (λ (l : Link). missed_so_far l) (after_missed settings station fcb service x link all.0)
+        ∙ still settings fcb service (suc (missed_so_far link)) (omega (arith, lt)) in
+        rest
+        ∙ ap (λ (n : ℕ). nat_le n settings.retries)
+        (let e : missed_so_far next + length (y ∷ ys)
+        ≡ missed_so_far link + suc (length (y ∷ ys)) = omega (arith, count) in e)
+    go rest (inr le) =
+        spent settings station fcb service link x (y ∷ ys) hold le all
+        ∙ (let e : false ≡ nat_le (missed_so_far link + suc (length (y ∷ ys))) settings.retries =
+        grind (arith, le) in e)
+
+pub once : (settings : LinkSettings) (station : ℕ) (fcb : Bool) (service : Service)
+    (xs : List Exchange) → settings.hold ≡ true
+    → AllByRecursion (IsMissed station fcb service) xs → 0 < length xs
+    → has_repeats settings (link_after settings station (Next fcb) xs)
+    ≡ nat_le (length xs) settings.retries
+once settings station fcb service [] hold all some = absurd (omega (arith, some))
+once settings station fcb service (x ∷ xs) hold all some =
+    counted settings station fcb service (Next fcb) x xs hold all
+    ∙ ap (λ (n : ℕ). nat_le n settings.retries)
+    (let e : 0 + length (x ∷ xs) ≡ length (x ∷ xs) = omega arith in e)

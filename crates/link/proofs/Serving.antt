@@ -7,7 +7,7 @@ use Rattle.link.specs.Answers.{Frame, Fixed, Service, Class1, Class2, Command, A
 use Rattle.link.specs.Answers.{Counted, Answer, Ready, Confirmed, Busy, Report, NoData, Unable}
 use Rattle.link.specs.Answers.{Says, code_answer, data_answer}
 use Rattle.link.specs.Control.{is_secondary}
-use Rattle.link.specs.Outstation.{effects_of, Serves, OutstationStep, arrived}
+use Rattle.link.specs.Outstation.{effects_of, Receives, Serves, OutstationStep, arrived}
 use Rattle.link.specs.Secondary.{Secondary, outstation_of, control_of, short_of, data_frame, Served}
 use Rattle.link.specs.Secondary.{unchanged, served_class1, served_class2, served_command}
 use Rattle.link.specs.Secondary.{served_new, is_same, served_counted, served}
@@ -41,13 +41,13 @@ reset_says : (station : ℕ) (reports : List (List ℕ))
 reset_says station [] = refl
 reset_says station (r ∷ rs) = fixed_says station 32 Reset Confirmed refl refl
 
-command_says : (station : ℕ) (fcb : Bool) (asdu : List ℕ) (reports : List (List ℕ))
+pub command_says : (station : ℕ) (fcb : Bool) (asdu : List ℕ) (reports : List (List ℕ))
     → Says station (Counted fcb (Command asdu)) Confirmed (short_of 0 station reports)
 command_says station fcb asdu [] = refl
 command_says station fcb asdu (r ∷ rs) = fixed_says station 32 (Counted fcb (Command asdu))
     Confirmed refl refl
 
-busy_says : (station : ℕ) (fcb : Bool) (asdu : List ℕ) (reports : List (List ℕ))
+pub busy_says : (station : ℕ) (fcb : Bool) (asdu : List ℕ) (reports : List (List ℕ))
     → Says station (Counted fcb (Command asdu)) Busy (Fixed (control_of 1 reports) station)
 busy_says station fcb asdu [] = fixed_says station 1 (Counted fcb (Command asdu)) Busy refl refl
 busy_says station fcb asdu (r ∷ rs) = fixed_says station 33 (Counted fcb (Command asdu)) Busy refl
@@ -154,18 +154,19 @@ serves granted s (Some bit) fcb service = go (is_same fcb bit) refl
     go true e = inl (same_is fcb bit e, refl, refl)
     go false e = inr (other_is fcb bit e, serves_new granted s fcb service)
 
+pub served_so : (granted : Bool) (s : Secondary) (request : Asked) →
+    Receives s.address (outstation_of s) request (served granted s request).turn
+    (outstation_of (served granted s request).state)
+served_so granted s Status =
+    (Fixed (control_of 11 s.class1) s.address, status_says s.address s.class1, refl, refl)
+served_so granted s Reset =
+    (short_of 0 s.address s.class1, reset_says s.address s.class1, refl, refl)
+served_so granted s (Counted fcb service) = serves granted s s.bit fcb service
+
 pub served_step : (granted : Bool) (s : Secondary) (request : Asked) →
     OutstationStep s.address (outstation_of s) request (served granted s request).turn
     (outstation_of (served granted s request).state)
-served_step granted s Status = arrived (
-  Fixed (control_of 11 s.class1) s.address,
-  status_says s.address s.class1,
-  refl,
-  refl,
-)
-served_step granted s Reset =
-    arrived (short_of 0 s.address s.class1, reset_says s.address s.class1, refl, refl)
-served_step granted s (Counted fcb service) = arrived (serves granted s s.bit fcb service)
+served_step granted s request = arrived (served_so granted s request)
 
 pub kept_address : (granted : Bool) (s : Secondary) (request : Asked)
     → (served granted s request).state.address ≡ s.address

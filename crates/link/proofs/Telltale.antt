@@ -12,9 +12,11 @@ use Rattle.link.specs.Secondary.{served_new, is_same, served_counted, served, re
 use Rattle.link.specs.Life.{Call, Report1, Report2, Receive, called, after, request_asked}
 use Rattle.link.specs.Life.{requests_received, turns_in, given1, given2}
 use Rattle.link.specs.Tidings.{bit_by, bit_after, IsNew, IsNewReading, bit_of, answer_after, Wait1}
-use Rattle.link.specs.Tidings.{Wait2, do_wait, ShowsFlags, oldest, IsAnsweredBy}
+use Rattle.link.specs.Tidings.{Wait2, do_wait, ShowsFlags, oldest, IsAnsweredBy, taken_or_busy}
+use Rattle.link.specs.Tidings.{not_implemented}
 use Rattle.link.proofs.Lives.{ledger, stays}
-use Rattle.link.proofs.Serving.{kept_address, none1_says, none2_says, data_says}
+use Rattle.link.proofs.Serving.{kept_address, none1_says, none2_says, data_says, command_says}
+use Rattle.link.proofs.Serving.{busy_says}
 
 -- ---- the bit
 
@@ -304,3 +306,45 @@ gives_class2 size address calls granted frame fcb waiting is new w =
     (subst (λ (l : List (List ℕ)). IsAnsweredBy (served_class2 s fcb s.class2).turn.answer s.address
     (Counted fcb Class2) (oldest l))
     (waits2 size address calls waiting w) (class2_says s fcb s.class2)))
+
+command_answer : (granted : Bool) (s : Secondary) (fcb : Bool) (asdu : List ℕ) →
+    IsAnsweredBy (served_command granted s fcb asdu).turn.answer s.address
+    (Counted fcb (Command asdu)) (taken_or_busy granted)
+command_answer true s fcb asdu =
+    (short_of 0 s.address s.class1, refl, command_says s.address fcb asdu s.class1)
+command_answer false s fcb asdu =
+    (Fixed (control_of 1 s.class1) s.address, refl, busy_says s.address fcb asdu s.class1)
+
+pub takes_command : (size : LinkSize) (address : ℕ) (calls : List Call) (granted : Bool)
+    (frame : Frame) (fcb : Bool) (asdu : List ℕ) →
+    reading_of address frame ≡ Asks (Counted fcb (Command asdu))
+    → IsNew (bit_of address calls) (Counted fcb (Command asdu)) →
+    IsAnsweredBy (answer_after size address calls granted frame) address
+    (Counted fcb (Command asdu)) (taken_or_busy granted)
+takes_command size address calls granted frame fcb asdu is new =
+    let s : Secondary = after (fresh_station size address) calls in
+    let by = asked_counted granted s address frame fcb (Command asdu) is
+    (subst (λ (b : Option Bool). IsNew b (Counted fcb (Command asdu)))
+    (own_bit size address calls) new) in
+    subst (λ (v : Served). IsAnsweredBy v.turn.answer address (Counted fcb (Command asdu))
+    (taken_or_busy granted)) (sym by)
+    (subst (λ (a : ℕ). IsAnsweredBy (served_command granted s fcb asdu).turn.answer a
+    (Counted fcb (Command asdu)) (taken_or_busy granted))
+    (own_address size address calls) (command_answer granted s fcb asdu))
+
+unknown_answer : (address : ℕ) (waiting : List (List ℕ))
+    → Fixed (control_of 15 waiting) address ≡ not_implemented address waiting
+unknown_answer address [] = refl
+unknown_answer address (r ∷ rs) = refl
+
+pub refuses_unknown : (size : LinkSize) (address : ℕ) (calls : List Call) (granted : Bool)
+    (frame : Frame) (waiting : List (List ℕ)) →
+    reading_of address frame ≡ Unknown → Wait1 size address calls waiting →
+    answer_after size address calls granted frame ≡ Some (not_implemented address waiting)
+refuses_unknown size address calls granted frame waiting is w =
+    let s : Secondary = after (fresh_station size address) calls in
+    ap (λ (r : Reading). (received_reading granted s r).turn.answer) is
+    ∙ ap (λ (l : List (List ℕ)). Some (Fixed (control_of 15 l) s.address))
+    (waits1 size address calls waiting w)
+    ∙ ap (λ (a : ℕ). Some (Fixed (control_of 15 waiting) a)) (own_address size address calls)
+    ∙ ap (λ (f : Frame). Some f) (unknown_answer address waiting)

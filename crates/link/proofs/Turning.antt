@@ -1,10 +1,12 @@
 -- Whose turn comes next.
-use Rattle.std.proofs.Common.{◌≡◌, ℕ, zero, suc, ◌<◌, Bool, false, List, length, Option, Some, None}
+use Rattle.std.proofs.Common.{[], ◌∷◌, ◌≡◌, ℕ, zero, suc, ◌<◌, Bool, false, List, length, Option, Some, None}
 use Rattle.std.proofs.Common.{refl, sym, ap, subst, ◌∙◌, ◌⊎◌, inl, inr, arith}
 use Rattle.link.specs.Exchanges.{Sending}
 use Rattle.link.specs.Turns.{StationState, Starting, Wanted, Chosen, station_at, wanted}
 use Rattle.link.specs.Turns.{place_after, chosen_or, first_after}
-use Rattle.link.specs.Primary.{Outstanding, Primary, sending_by, sending_from, sending}
+use Rattle.link.specs.Answers.{Status}
+use Rattle.link.specs.Procedure.{LinkSettings}
+use Rattle.link.specs.Primary.{Outstanding, Primary, sending_by, sending_from, sending, start}
 use Rattle.link.specs.Runs.{nth_after, BeginsTurn, HaveNone}
 
 -- the first of so many stations after a place that has a request
@@ -194,3 +196,9 @@ either_turn p may_poll s sent = go (present p may_poll) refl
           request =
               ap (λ (z : Sending). z.request) at;
         })
+
+pub first_turn : (settings : LinkSettings) (addresses : List ℕ) (may_poll : Bool)
+    → 0 < length addresses
+    → sending (start settings addresses) may_poll ≡ Some (record { station = 0; request = Status })
+first_turn settings [] may_poll some = absurd (omega (arith, some))
+first_turn settings (a ∷ rest) may_poll some = refl

@@ -236,7 +236,7 @@ pub data IsAsked (front : List ℕ → Front) (addresses : List ℕ) (p : Primar
       → p'.turn ≡ c.station →
       InVisit front addresses p' e' 1 → IsAsked front addresses p may_poll many p' e' s
 
-may_want : (p : Primary) (e : Exchanges) (front : List ℕ
+pub may_want : (p : Primary) (e : Exchanges) (front : List ℕ
     → Front) (addresses : List ℕ) (may_poll again : Bool) (place : ℕ) (phase : Phase) (w : Wanted) →
     MatchesBy front p.settings addresses p e → place < length p.stations →
     wanted p.settings.burst may_poll again (station_at p.stations place) phase ≡ Some w
@@ -376,7 +376,7 @@ abbrev pub MayBeThere : Primary → Option Chosen → Type 0
 MayBeThere p None = Unit {0}
 MayBeThere p (Some c) = c.station < length p.stations
 
-rest_there : (front : List ℕ → Front) (addresses : List ℕ) (p : Primary) (e : Exchanges)
+pub rest_there : (front : List ℕ → Front) (addresses : List ℕ) (p : Primary) (e : Exchanges)
     (may_poll : Bool)
     → MatchesBy front p.settings addresses p e →
     MayBeThere p (first_after p.settings.burst may_poll p.stations (length p.stations) p.turn)

@@ -371,7 +371,7 @@ serve_follows settings may_poll again s Available Polling left some plan more = 
 serve_follows settings may_poll again s Available (Class1Polling sent) left some plan more = tt
 serve_follows settings may_poll again s Available Over left some plan more = tt
 
-over_wants : (burst : ℕ) (may_poll : Bool) (s : StationState) (link : Link)
+pub over_wants : (burst : ℕ) (may_poll : Bool) (s : StationState) (link : Link)
     → wanted_by burst may_poll false s link Over ≡ None
 over_wants burst may_poll s Down = refl
 over_wants burst may_poll s Available = refl

@@ -2,7 +2,7 @@
 use Rattle.std.specs.Prelude.{ℕ, zero, suc, ◌==◌, ◌&&◌, ◌||◌, min, Bool, true, false, List, length}
 use Rattle.std.specs.Prelude.{map, slice_set, Option, Some, None, if◌then◌else◌}
 use Rattle.ft12.specs.declared.frame.Front.{Front}
-use Rattle.link.specs.Answers.{Asked}
+use Rattle.link.specs.Answers.{Asked, Counted}
 use Rattle.link.specs.Exchanges.{Exchanges, given_up_at}
 use Rattle.link.specs.Flags.{link_at}
 use Rattle.link.specs.Procedure.{LinkSettings, Link, Down, Available, Next, Held, holds_command}
@@ -164,3 +164,8 @@ bit_of Down = None
 bit_of Available = None
 bit_of (Next fcb) = Some fcb
 bit_of (Held fcb service missed) = Some fcb
+
+-- the service without an answer that the link holds
+abbrev pub service_of : Link → Option Asked
+service_of (Held fcb service missed) = Some (Counted fcb service)
+service_of link = None

@@ -32,3 +32,5 @@ pub mod Carried
 pub mod Marks
 pub mod Bits
 pub mod Repeats
+pub mod Timing
+pub mod OneVisit

@@ -4,7 +4,8 @@
 use Rattle.std.specs.Prelude.{◌≡◌, ◌≢◌, ℕ, Bool, true, false, List, [], ◌∷◌, ◌++◌, Option, Some}
 use Rattle.std.specs.Prelude.{None}
 use Rattle.ft12.specs.declared.frame.LinkSize.{LinkSize}
-use Rattle.link.specs.Answers.{Frame, Asked, Status, Reset, Counted, Answer, Report, NoData, Says}
+use Rattle.link.specs.Answers.{Frame, Fixed, Asked, Status, Reset, Counted, Answer, Confirmed, Busy}
+use Rattle.link.specs.Answers.{Report, NoData, Says}
 use Rattle.link.specs.Flags.{flags_in}
 use Rattle.link.specs.Requests.{Reading, Foreign, Unknown, Asks, reading_of}
 use Rattle.link.specs.Secondary.{fresh_station, received_reading}
@@ -83,3 +84,13 @@ oldest (report ∷ reports) = Report report
 abbrev pub IsAnsweredBy : Option Frame → (address : ℕ) → Asked → Answer → Type 0
 IsAnsweredBy answer address request says =
     (frame : Frame) × (answer ≡ Some frame) × Says address request says frame
+
+-- that it confirms a command, where there is memory for it, or else that it is busy
+abbrev pub taken_or_busy : (granted : Bool) → Answer
+taken_or_busy true = Confirmed
+taken_or_busy false = Busy
+
+-- that the service isn't implemented (function 15), with ACD where reports of class 1 wait
+abbrev pub not_implemented : (address : ℕ) → (waiting : List (List ℕ)) → Frame
+not_implemented address [] = Fixed 0x0F address
+not_implemented address (report ∷ reports) = Fixed 0x2F address

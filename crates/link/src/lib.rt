@@ -79,7 +79,7 @@ pub use examples::{
     answers_by_example, controls_by_example, outstations_by_example, requests_by_example,
     turns_by_example,
 };
-pub use laws::asking::next_changes_nothing;
+pub use laws::asking::{answers_have_their_time, next_changes_nothing};
 pub use laws::at_once::{
     polls_follow_commands, repeats_are_as_many_as_set, repeats_come_at_once,
     turns_go_on_behind_held_services,
@@ -90,9 +90,11 @@ pub use laws::carrying::{
     the_latest_exchange_is_marked,
 };
 pub use laws::flags::flags_are_heeded;
-pub use laws::gaps::{gaps_are_ended_sessions, gaps_are_reported};
+pub use laws::gaps::{gaps_are_ended_sessions, gaps_are_lost_polls, gaps_are_reported};
 pub use laws::leave::{polls_wait_for_leave, rests_mean};
-pub use laws::life::{answers_show_what_waits, station_is_an_outstation};
+pub use laws::life::{
+    answers_show_what_waits, station_is_an_outstation, station_serves_each_request,
+};
 pub use laws::offers::{offers_wait, one_command_at_a_time};
 pub use laws::precedence::commands_go_before_polls;
 pub use laws::refinement::{
@@ -104,7 +106,7 @@ pub use laws::runs::{
     spoilt_exchanges_are_counted, turns_go_round,
 };
 pub use laws::tables::{answers_are_whole, requests_are_whole, reserved_bits_are_not_looked_at};
-pub use laws::visits::{no_station_starves, turns_end};
+pub use laws::visits::{a_turn_is_one_visit, no_station_starves, turns_end};
 pub use laws::{
     line_keeps_the_procedures, master_matches_the_log, outcomes_bear_the_reports,
     requests_are_read_back, requests_wait_their_turn, services_need_a_station_that_is_up,

@@ -6,6 +6,8 @@ ghost use Rattle.link.specs.Turns.{station_at};
 ghost use Rattle.link.specs.Procedure.{LinkSettings, is_up, holds_command};
 ghost use Rattle.link.specs.Primary.{Primary, start, asked, sending};
 ghost use Rattle.link.specs.Holding.{IsFitting};
+ghost use Rattle.link.specs.Runs.{Call};
+ghost use Rattle.link.specs.Timing.{AnswersHaveTheirTime};
 
 /// A request that went out is outstanding: nothing is next, and asking changes nothing. Where none
 /// is next, none is next after asking, either; and a primary that has just been made has a request.
@@ -25,4 +27,12 @@ pub fn next_changes_nothing()
     ensures free { (p : Primary) (may_poll : Bool) → IsFitting p → p.outstanding ≡ None →
         sending p may_poll ≡ None →
         (i : ℕ) → i < length p.stations → holds_command (station_at p.stations i).link ≡ false }
+{}
+
+/// Whatever is called: a request is awaited for `answer_ms`. A moment that is earlier, counted from
+/// the moment at which it went out, changes nothing. One that isn't leaves no request outstanding,
+/// whatever octets came meanwhile.
+pub fn answers_have_their_time()
+    ensures { (settings : LinkSettings) (addresses : List ℕ) (calls : List Call) →
+        AnswersHaveTheirTime (start settings addresses) None calls }
 {}

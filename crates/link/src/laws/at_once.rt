@@ -1,5 +1,5 @@
 //! Repeats come at once, and polls behind a command.
-ghost use Rattle.std.specs.Prelude.{◌≡◌, ◌<◌, ◌≤◌, ◌||◌, ℕ, suc, nat_le, Bool, List, length, None};
+ghost use Rattle.std.specs.Prelude.{◌≡◌, ◌<◌, ◌≤◌, ◌||◌, ℕ, suc, nat_le, Bool, true, List, length, None};
 ghost use Rattle.std.specs.List.{AllByRecursion};
 ghost use Rattle.link.specs.Answers.{Service};
 ghost use Rattle.link.specs.AtOnce.{RepeatsComeAtOnce, PollsFollowCommands, TurnsGoOn};
@@ -20,7 +20,8 @@ pub fn repeats_come_at_once()
 
 /// An unanswered service is repeated as often as the settings say. It has a repeat left as long as
 /// it was sent no more often than `retries` says, each time without an answer, and then none. Until
-/// then its link stays up, and behind the last repeat only where `hold` says so.
+/// then its link stays up, and behind the last repeat only where `hold` says so. A service that is
+/// held then has no repeat left however often it is sent, so it goes out once a turn.
 pub fn repeats_are_as_many_as_set()
     ensures again { (settings : LinkSettings) (station : ℕ) (fcb : Bool) (service : Service)
         (sent : List Exchange) →
@@ -34,6 +35,11 @@ pub fn repeats_are_as_many_as_set()
         length sent ≤ suc settings.retries →
         is_up (link_after settings station (Next fcb) sent)
         ≡ (settings.hold || nat_le (length sent) settings.retries) }
+    ensures once { (settings : LinkSettings) (station : ℕ) (fcb : Bool) (service : Service)
+        (sent : List Exchange) → settings.hold ≡ true →
+        AllByRecursion (IsMissed station fcb service) sent → 0 < length sent →
+        has_repeats settings (link_after settings station (Next fcb) sent)
+        ≡ nat_le (length sent) settings.retries }
 {}
 
 /// Whatever is called: where the latest request of the line is a command that was answered, and the

@@ -1,5 +1,5 @@
 //! What giving up the link to a station does to the line.
-ghost use Rattle.std.specs.Prelude.{◌≡◌, ◌≢◌, ◌<◌, ℕ, true, false, List, length, slice_get, Some};
+ghost use Rattle.std.specs.Prelude.{◌≡◌, ◌≢◌, ◌<◌, ℕ, Bool, true, false, List, length, slice_get, Some};
 ghost use Rattle.ft12.specs.declared.frame.Front.{Front};
 ghost use Rattle.ft12.specs.declared.frame.LinkSize.{LinkSize};
 ghost use Rattle.ft12.specs.Fronts.{front_of};
@@ -8,12 +8,13 @@ ghost use Rattle.link.specs.Gaps.{exchanges_at, gaps_at};
 ghost use Rattle.link.specs.Marks.{latest_given_up};
 ghost use Rattle.link.specs.Procedure.{LinkSettings};
 ghost use Rattle.link.specs.Turns.{StationState, station_at};
-ghost use Rattle.link.specs.Primary.{Primary};
+ghost use Rattle.link.specs.Answers.{Service, Counted};
+ghost use Rattle.link.specs.Primary.{Primary, Outstanding};
 ghost use Rattle.link.specs.Leave.{is_polling};
 ghost use Rattle.link.specs.Matching.{IsAllowed, Matches};
 ghost use Rattle.link.specs.Carried.{awaits_command, station_given_up, given_up};
 ghost use Rattle.link.specs.Carried.{gap_marked, released, station_carried, seated, reseated};
-ghost use Rattle.link.specs.Carried.{bit_of, without_commands, awaits_command_in};
+ghost use Rattle.link.specs.Carried.{bit_of, service_of, without_commands, awaits_command_in};
 ghost use Rattle.link.specs.Carried.{commands_given_up};
 ghost use Rattle.link.specs.declared.seat.ResumedStation.{ResumedStation};
 
@@ -35,7 +36,8 @@ pub fn giving_up_is_for_one_station()
 
 /// A station that goes on keeps its frame count bit: where an exchange is broken off whose request
 /// was one that may be sent, and where the station goes on with other settings; and it goes on in
-/// the seat that has its place, and in no other.
+/// the seat that has its place, and in no other. It also keeps the service that has no answer,
+/// which is sent again with that bit, and what its latest answer showed by ACD and DFC.
 pub fn frame_count_bits_go_on()
     ensures released { (p : Primary) (k : ℕ) → p.turn < length p.stations →
         IsAllowed p.stations p.turn p.outstanding →
@@ -47,6 +49,17 @@ pub fn frame_count_bits_go_on()
         station_at (reseated settings seats p).stations i
         ≡ seated settings.retries seat.address p.stations seat.before }
     ensures number { (p : Primary) → length (released p).stations ≡ length p.stations }
+    ensures service { (retries address : ℕ) (s : StationState) →
+        service_of (station_carried retries address s).link ≡ service_of s.link }
+    ensures broken_off { (p : Primary) (o : Outstanding) (fcb : Bool) (service : Service) →
+        p.turn < length p.stations → p.outstanding ≡ Some o → o.request ≡ Counted fcb service →
+        service_of (station_at (released p).stations p.turn).link ≡ Some (Counted fcb service) }
+    ensures flags { (retries address : ℕ) (s : StationState) →
+        ((station_carried retries address s).acd ≡ s.acd)
+        × ((station_carried retries address s).dfc ≡ s.dfc) }
+    ensures released_flags { (p : Primary) (k : ℕ) →
+        ((station_at (released p).stations k).acd ≡ (station_at p.stations k).acd)
+        × ((station_at (released p).stations k).dfc ≡ (station_at p.stations k).dfc) }
 {}
 
 /// What is known of a station's session outlives a restart: where its link is given up, where an

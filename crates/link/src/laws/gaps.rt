@@ -1,14 +1,17 @@
 //! Gaps reported: which answered resets end a session whose last report may be lost.
-ghost use Rattle.std.specs.Prelude.{◌≡◌, ◌++◌, ℕ, List, length, Option};
+ghost use Rattle.std.specs.Prelude.{◌≡◌, ◌⊎◌, ◌++◌, ◌∷◌, ℕ, true, false, List, length, Option};
+ghost use Rattle.std.specs.Prelude.{None};
+ghost use Rattle.std.specs.List.{AllByRecursion};
 ghost use Rattle.ft12.specs.declared.frame.LinkSize.{LinkSize};
 ghost use Rattle.ft12.specs.Fronts.{front_of};
-ghost use Rattle.link.specs.Delivery.{IsHonest, sessions};
+ghost use Rattle.link.specs.Delivery.{IsHonest, sessions, is_gap, is_reset, pending_after};
 ghost use Rattle.link.specs.Exchanges.{Exchange, Exchanges, Sending, received_current};
 ghost use Rattle.link.specs.Exchanges.{timed_current};
-ghost use Rattle.link.specs.Exchanges.{begun_by};
-ghost use Rattle.link.specs.Gaps.{gaps_in, gaps_at, ended_with_gap};
+ghost use Rattle.link.specs.Exchanges.{answer_to, begun_by};
+ghost use Rattle.link.specs.Gaps.{gaps_in, gaps_at, ended_with_gap, HasNoOutcome, is_by_the_way};
+ghost use Rattle.link.specs.Leave.{is_poll_request};
 ghost use Rattle.link.specs.Outstation.{Turn};
-ghost use Rattle.link.specs.Procedure.{LinkSettings, Down, KeepsFrameCountBit};
+ghost use Rattle.link.specs.Procedure.{LinkSettings, Down, KeepsFrameCountBit, is_service};
 ghost use Rattle.link.specs.Primary.{Primary, received, received_outcome};
 ghost use Rattle.link.specs.Matching.{Matches, gap_in_outcome};
 
@@ -48,4 +51,26 @@ pub fn gaps_are_ended_sessions()
         gaps_in station xs ≡ ended_with_gap station 1 (sessions station xs turns) }
     ensures honest { (station : ℕ) (xs : List Exchange) (turns : List Turn) →
         IsHonest station xs turns → length xs ≡ length turns }
+{}
+
+/// A session has a gap exactly where its latest service is a poll that has no outcome: one that
+/// wasn't answered, or was answered that it couldn't be served. So none has a gap whose latest
+/// service was served, or is a command, or that has no service.
+pub fn gaps_are_lost_polls()
+    ensures poll { (station : ℕ) (before later : List Exchange) (x : Exchange) →
+        is_poll_request x.request ≡ true → HasNoOutcome station x →
+        AllByRecursion (λ y. is_by_the_way station y ≡ true) later →
+        is_gap (pending_after station None (before ++ x ∷ later)) ≡ true }
+    ensures served { (station : ℕ) (before later : List Exchange) (x : Exchange) →
+        is_service x.request ≡ true →
+        (is_poll_request x.request ≡ false) ⊎ (HasNoOutcome station x → ⊥) →
+        AllByRecursion (λ y. is_by_the_way station y ≡ true) later →
+        is_gap (pending_after station None (before ++ x ∷ later)) ≡ false }
+    ensures reset { (station : ℕ) (before later : List Exchange) (x : Exchange) →
+        is_reset x.request (answer_to station x) ≡ true →
+        AllByRecursion (λ y. is_by_the_way station y ≡ true) later →
+        is_gap (pending_after station None (before ++ x ∷ later)) ≡ false }
+    ensures none { (station : ℕ) (xs : List Exchange) →
+        AllByRecursion (λ y. is_by_the_way station y ≡ true) xs →
+        is_gap (pending_after station None xs) ≡ false }
 {}

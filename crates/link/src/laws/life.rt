@@ -2,13 +2,14 @@
 ghost use Rattle.std.specs.Prelude.{◌≡◌, ◌<◌, ◌+◌, ◌^◌, ◌∷◌, ◌++◌, [], ℕ, Bool, false, List};
 ghost use Rattle.std.specs.Prelude.{length, Some};
 ghost use Rattle.ft12.specs.declared.frame.LinkSize.{LinkSize};
-ghost use Rattle.link.specs.Answers.{Frame, Class1, Class2, Counted};
-ghost use Rattle.link.specs.Requests.{Asks, reading_of};
-ghost use Rattle.link.specs.Outstation.{OutstationRun, all_done};
+ghost use Rattle.link.specs.Answers.{Frame, Class1, Class2, Command, Counted};
+ghost use Rattle.link.specs.Requests.{Asks, Unknown, reading_of};
+ghost use Rattle.link.specs.Outstation.{OutstationRun, ServingRun, all_done};
 ghost use Rattle.link.specs.Delivery.{reports, commands};
 ghost use Rattle.link.specs.Secondary.{Secondary, outstation_of};
 ghost use Rattle.link.specs.Tidings.{IsNew, IsNewReading, bit_of, answer_after, Wait1, Wait2};
 ghost use Rattle.link.specs.Tidings.{do_wait, ShowsFlags, oldest, IsAnsweredBy};
+ghost use Rattle.link.specs.Tidings.{taken_or_busy, not_implemented};
 ghost use Rattle.link.specs.Life.{Call, Receive, after, requests_received, turns_in, given1};
 ghost use Rattle.link.specs.Life.{given2};
 ghost use Rattle.link.specs.Life.{reported1, reported2, u64_saturate};
@@ -56,4 +57,23 @@ pub fn answers_show_what_waits()
         IsNew (bit_of address calls) (Counted fcb Class2) → Wait2 size address calls waiting →
         IsAnsweredBy (answer_after size address calls granted frame) address (Counted fcb Class2)
         (oldest waiting) }
+{}
+
+/// Whatever it is called for, a station serves each request to it, at whatever address: none is
+/// passed over, and none that it knows is refused. A command is confirmed, unless memory is
+/// refused. What it doesn't know is answered by function 15.
+pub fn station_serves_each_request()
+    ensures run { (s : Secondary) (calls : List Call) →
+        ServingRun s.address (outstation_of s) (requests_received s.address calls)
+        (turns_in s calls) (outstation_of (after s calls)) }
+    ensures command { (size : LinkSize) (address : ℕ) (calls : List Call) (granted : Bool)
+        (frame : Frame) (fcb : Bool) (asdu : List ℕ) →
+        reading_of address frame ≡ Asks (Counted fcb (Command asdu)) →
+        IsNew (bit_of address calls) (Counted fcb (Command asdu)) →
+        IsAnsweredBy (answer_after size address calls granted frame) address
+        (Counted fcb (Command asdu)) (taken_or_busy granted) }
+    ensures unknown { (size : LinkSize) (address : ℕ) (calls : List Call) (granted : Bool)
+        (frame : Frame) (waiting : List (List ℕ)) →
+        reading_of address frame ≡ Unknown → Wait1 size address calls waiting →
+        answer_after size address calls granted frame ≡ Some (not_implemented address waiting) }
 {}

@@ -4,6 +4,7 @@ ghost use Rattle.std.specs.Prelude.{All};
 ghost use Rattle.std.specs.Prelude.{length, slice_index, Option, Some, None};
 ghost use Rattle.ft12.specs.declared.frame.Front.{Front};
 ghost use Rattle.ft12.specs.Fronts.{front_of};
+ghost use Rattle.link.specs.Answers.{Status};
 ghost use Rattle.std.specs.Io.Iter.{u64_saturate};
 ghost use Rattle.link.specs.Exchanges.{Exchanges, OpenExchange, Sending, IsOutstanding};
 ghost use Rattle.link.specs.Exchanges.{IsUnanswered, no_exchanges, answer_to, all_of, view, views};
@@ -39,7 +40,8 @@ pub fn frame_count_bits_are_kept()
 
 /// Turns go round: the present turn goes on as long as it has a request. Then the first station has
 /// its turn, round from the one after the last served, that has a request. Where none goes out,
-/// none has one. Round means in the order of the stations, and behind the last the first again.
+/// none has one. Round means in the order of the stations, and behind the last the first again. The
+/// first turn is the first station's.
 pub fn turns_go_round()
     ensures goes_on { (p : Primary) (may_poll : Bool) (w : Wanted) → p.outstanding ≡ None →
         wanted p.settings.burst may_poll p.again (station_at p.stations p.turn) p.phase ≡ Some w →
@@ -51,6 +53,9 @@ pub fn turns_go_round()
         sending p may_poll ≡ None → HaveNone p may_poll }
     ensures order { (count place steps : ℕ) → place < count →
         nth_after count place steps ≡ (place + steps) % count }
+    ensures first { (settings : LinkSettings) (addresses : List ℕ) (may_poll : Bool) →
+        0 < length addresses → sending (start settings addresses) may_poll
+        ≡ Some (record { station = 0; request = Status }) }
 {}
 
 /// What the caller learns of octets is the answer of the exchange that is outstanding, if they

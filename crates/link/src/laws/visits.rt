@@ -3,11 +3,12 @@ ghost use Rattle.std.specs.Prelude.{◌≡◌, ◌≤◌, ◌<◌, ◌*◌, ◌-
 ghost use Rattle.ft12.specs.Fronts.{front_of};
 ghost use Rattle.link.specs.Answers.{Reset};
 ghost use Rattle.link.specs.Exchanges.{Exchange, all_of, no_exchanges, views};
-ghost use Rattle.link.specs.Procedure.{LinkSettings, Link};
+ghost use Rattle.link.specs.Procedure.{LinkSettings, Link, Down};
 ghost use Rattle.link.specs.Requests.{FitsAddress};
 ghost use Rattle.link.specs.Primary.{start};
 ghost use Rattle.link.specs.Runs.{Call, MayCallAll, called_all, exchanged_all};
-ghost use Rattle.link.specs.Visits.{AreInVisits, EndsReady, IsVisit, most_of_visit};
+ghost use Rattle.link.specs.Visits.{AreInVisits, EndsReady, IsVisit, most_of_visit, whole_visit};
+ghost use Rattle.link.specs.OneVisit.{TurnsAreVisits};
 ghost use Rattle.link.specs.Waits.{AlwaysWants, stations_asked, waited};
 
 use ft12::front_is_computed;
@@ -51,6 +52,21 @@ pub fn no_station_starves()
         waited station 0 (stations_asked
         (called_all (start settings addresses) first) later) ≤ most_of_visit settings *
         (length addresses - 1) }
+{
+    front_is_computed();
+}
+
+/// Whatever is called, a turn is one visit. The first is the first station's. A request goes on
+/// with the visit only as far as that still has it, and a held service only while it has repeats.
+/// It is over, too, where nothing went out when something might have. Then the first station has
+/// its visit, round from the one behind it, that has a request: the same station again only where
+/// no other has one. So `burst` and the one new command are limits while others wait.
+pub fn a_turn_is_one_visit()
+    ensures { (settings : LinkSettings) (addresses : List ℕ) (calls : List Call) →
+        0 < length addresses → All (FitsAddress settings.size) addresses → 0 < settings.burst →
+        MayCallAll (start settings addresses) calls →
+        TurnsAreVisits (start settings addresses)
+        (record { station = 0; left = whole_visit settings Down }) calls }
 {
     front_is_computed();
 }

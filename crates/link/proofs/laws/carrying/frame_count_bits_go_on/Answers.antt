@@ -1,3 +1,4 @@
+use Rattle.std.proofs.Common.{refl}
 use Rattle.link.proofs.GoingOn as on
 use Rattle.link.proofs.laws.carrying.frame_count_bits_go_on.Goals as goal
 
@@ -7,4 +8,8 @@ returns c = record {
   carried = on.bits_carried;
   seats = on.seats_stay;
   number = on.number;
+  service = on.service_carried;
+  broken_off = on.broken_off;
+  flags = λ retries address s. (refl, refl);
+  released_flags = on.flags_released;
 }

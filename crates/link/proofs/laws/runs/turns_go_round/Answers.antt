@@ -1,5 +1,5 @@
 use Rattle.link.proofs.Round.{nth_is}
-use Rattle.link.proofs.Turning.{goes_on, passes_on, rests}
+use Rattle.link.proofs.Turning.{goes_on, passes_on, rests, first_turn}
 use Rattle.link.proofs.laws.runs.turns_go_round.Goals as goal
 
 pub returns-clause-goes_on : goal.returns-clause-goes_on
@@ -13,3 +13,6 @@ returns-clause-rests c = λ p may_poll free none. rests p may_poll free none
 
 pub returns-clause-order : goal.returns-clause-order
 returns-clause-order c = nth_is
+
+pub returns-clause-first : goal.returns-clause-first
+returns-clause-first c = first_turn

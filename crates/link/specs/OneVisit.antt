@@ -1,0 +1,58 @@
+-- A turn is one visit (this gateway's own profile, over the procedures of IEC 60870-5-2): when a
+-- visit has had what it may have, or nothing went out, the other stations come first.
+use Rattle.std.specs.Prelude.{◌≡◌, ◌⊎◌, ℕ, Bool, true, List, [], ◌∷◌, Option, Some, None}
+use Rattle.link.specs.Exchanges.{Sending}
+use Rattle.link.specs.Procedure.{is_held, has_repeats}
+use Rattle.link.specs.Turns.{station_at}
+use Rattle.link.specs.Primary.{Outstanding, Primary, sending}
+use Rattle.link.specs.Runs.{Call, Next, called, BeginsTurn}
+use Rattle.link.specs.Visits.{Left, whole_visit, MayFollow}
+
+-- which visit the latest requests are: its station, and what it may still have
+pub record Present : Type 0 where
+  pub station : ℕ
+  pub left : Left
+
+-- nothing more
+abbrev pub nothing_left : Left
+nothing_left = record { plan = []; repeats = 0 }
+
+-- The request is one that the visit still has. A held service has a repeat left.
+abbrev pub GoesOn : Primary → Present → Sending → (later : Left) → Type 0
+GoesOn p v s later =
+    (s.station ≡ v.station)
+    × (is_held (station_at p.stations s.station).link ≡ true →
+    has_repeats p.settings (station_at p.stations s.station).link ≡ true)
+    × MayFollow p.settings (station_at p.stations s.station).link v.left s.request later
+
+-- It begins another visit: that of the first station, round from the one behind this visit's
+-- station, that has a request.
+abbrev pub Begins : Primary → (may_poll : Bool) → Present → Sending → (later : Left) → Type 0
+Begins p may_poll v s later =
+    BeginsTurn (record p { turn = v.station }) may_poll s
+    × MayFollow p.settings (station_at p.stations s.station).link
+    (whole_visit p.settings (station_at p.stations s.station).link) s.request later
+
+-- What a request makes of the visit. It is over where nothing went out.
+abbrev pub IsVisited : Primary → (may_poll : Bool) → Option Sending → (before after : Present) →
+    Type 0
+IsVisited p may_poll None v v' = v' ≡ record { station = v.station; left = nothing_left }
+IsVisited p may_poll (Some s) v v' =
+    (v'.station ≡ s.station) × (GoesOn p v s v'.left ⊎ Begins p may_poll v s v'.left)
+
+-- Nothing goes out while a request is outstanding.
+abbrev pub IsVisitedBy : Primary → (may_poll : Bool) → Option Outstanding →
+    (before after : Present) → Type 0
+IsVisitedBy p may_poll (Some o) v v' = v' ≡ v
+IsVisitedBy p may_poll None v v' = IsVisited p may_poll (sending p may_poll) v v'
+
+-- what a call makes of the visit
+abbrev pub VisitStep : Primary → Call → (before after : Present) → Type 0
+VisitStep p (Next now may_poll) v v' = IsVisitedBy p may_poll p.outstanding v v'
+VisitStep p call v v' = v' ≡ v
+
+-- The requests of these calls go on with the visit, and then with one visit each, in turn.
+abbrev pub TurnsAreVisits : Primary → Present → List Call → Type 0
+TurnsAreVisits p v [] = Unit {0}
+TurnsAreVisits p v (call ∷ calls) =
+    (v' : Present) × VisitStep p call v v' × TurnsAreVisits (called p call) v' calls
