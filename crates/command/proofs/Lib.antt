@@ -13,6 +13,7 @@ pub mod Lines
 pub mod Runs
 pub mod Ruled
 pub mod Passing
+pub mod SelectsKept
 pub mod Full
 pub mod Converse
 pub mod Distinct

@@ -30,7 +30,8 @@ use Rattle.command.proofs.Bridge.{machine_select, standing_read, standing_good, 
 use Rattle.command.proofs.Tied.{Tied, AtStage, station_at, select_of, Perhaps, all_kept, all_mapped}
 use Rattle.command.proofs.Passing.{Found, Waits, Goes, Taken, Lives, Gone, Late, Past, none_by}
 use Rattle.command.proofs.Passing.{waits_none, none_is_some, some_is}
-use Rattle.command.proofs.Full.{Stands, run_full}
+use Rattle.command.proofs.SelectsKept.{Stands}
+use Rattle.command.proofs.Full.{run_full}
 use Rattle.command.proofs.Runs.{run_holds, Holds}
 
 both : {X : Type 0} (P Q R : X → Type 0) → ((x : X) → P x → Q x → R x) → (xs : List X)

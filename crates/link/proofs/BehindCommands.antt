@@ -12,7 +12,7 @@ use Rattle.link.specs.Runs.{Call, Octets, Due, Offer, Withdraw, GivesUp, called}
 use Rattle.link.specs.Runs as runs
 use Rattle.link.specs.Bursts.{is_answered}
 use Rattle.link.specs.AtOnce.{latest_after, poll_by, TurnGoesOn, PollIsNext, PollsFollowCommands}
-use Rattle.link.proofs.Repeating.{IsBeforePolls, Follows, waits, ended, Matches, none_out}
+use Rattle.link.proofs.Following.{IsBeforePolls, Follows, waits, ended, Matches, none_out}
 use Rattle.link.proofs.Repeating.{turn_sends, call_matches}
 
 -- what the turn has next: the poll that ACD asks for, or the command that waits

@@ -31,7 +31,8 @@ use Rattle.link.proofs.Leaving.{set_none, without_links}
 use Rattle.link.proofs.Preceding.{IsChosen, here, there, is_chosen}
 use Rattle.link.proofs.Links.{set_view}
 use Rattle.link.proofs.Bursting.{not_both, silent_down}
-use Rattle.link.proofs.Repeating.{IsBeforePolls, none_out, held_is}
+use Rattle.link.proofs.Following.{IsBeforePolls, none_out}
+use Rattle.link.proofs.Repeating.{held_is}
 use Rattle.link.proofs.BehindCommands.{goes_on}
 
 -- A service is sent again at once only where repeats are left, and nothing is outstanding.

@@ -13,7 +13,8 @@ use Rattle.link.specs.Carried.{given_up}
 use Rattle.link.specs.Runs.{Call, Next, Octets, Due, Offer, Withdraw, GivesUp, called, exchanged}
 use Rattle.link.specs.Runs.{MayCall, MayCallAll, called_all, exchanged_all, AreCalled}
 use Rattle.link.specs.Matching.{IsStable, AreLinks, past, MatchesBy, Matches}
-use Rattle.link.proofs.Matching.{SaysBy, says, matches, links_said, receive_says, due_says}
+use Rattle.link.proofs.Matching.{SaysBy, says, matches, links_said, due_says}
+use Rattle.link.proofs.Answering.{receive_says}
 use Rattle.link.proofs.MatchingOffers.{start_says}
 use Rattle.link.proofs.Matching.{ask_says}
 use Rattle.link.proofs.MatchingOffers.{offer_says, withdraw_says}

@@ -13,7 +13,7 @@ use Rattle.link.specs.Delivery.{with_first, before_reset, sessions}
 use Rattle.link.specs.Gaps.{resets_in, gap_numbered, gap_in, as_numbers, gaps_from, ended_with_gap}
 use Rattle.link.proofs.OneMore.{nil, pending_push, resets_push}
 use Rattle.link.proofs.Marks.{down_mark}
-use Rattle.link.proofs.Sessions.{reset_learns}
+use Rattle.link.proofs.KnownFrom.{reset_learns}
 
 -- what a session has been so far, and the rest of it
 abbrev pub continued : (part : List Exchange) → (done : List Turn) → Session → Session

@@ -23,8 +23,10 @@ use Rattle.link.proofs.Choice.{place_fits}
 use Rattle.link.proofs.Resting.{left}
 use Rattle.link.proofs.Running.{call_matches, calls_match}
 use Rattle.link.proofs.Called.{start_matches}
-use Rattle.link.proofs.VisitRuns.{InVisit, Stays, IsAsked, nothing, goes_on, begins, in_visits}
-use Rattle.link.proofs.VisitRuns.{many_most, asked_visits, received_visits, due_visits}
+use Rattle.link.proofs.VisitAsked.{InVisit, IsAsked, nothing, goes_on, begins, in_visits}
+use Rattle.link.proofs.VisitRuns.{Stays}
+use Rattle.link.proofs.VisitAsked.{many_most, asked_visits}
+use Rattle.link.proofs.VisitRuns.{received_visits, due_visits}
 use Rattle.link.proofs.VisitRuns.{offer_visits}
 use Rattle.link.proofs.VisitRuns.{withdraw_visits, start_visits}
 use Rattle.link.proofs.VisitsGiven.{give_up_visits}

@@ -19,10 +19,13 @@ pub mod Resets
 pub mod Waiting
 pub mod Spoilt
 pub mod Matching
+pub mod Answering
 pub mod MatchingOffers
 pub mod Bit
+pub mod Sendings
 pub mod Commands
 pub mod Refusals
+pub mod KnownFrom
 pub mod Sessions
 pub mod Frames
 pub mod Lives
@@ -40,6 +43,7 @@ pub mod UnderWay
 pub mod Heeding
 pub mod Visiting
 pub mod Statuses
+pub mod VisitAsked
 pub mod VisitRuns
 pub mod VisitsGiven
 pub mod Fairness
@@ -50,6 +54,7 @@ pub mod RestoredBack
 pub mod Preceding
 pub mod Tabled
 pub mod Bursting
+pub mod Following
 pub mod Repeating
 pub mod BehindCommands
 pub mod GivenUp

@@ -40,7 +40,7 @@ use Rattle.link.proofs.Turning.{IsFound, found, present}
 use Rattle.link.proofs.Visiting.{HasPlan, Awaits, IsReady, over, starting, serving, IsStarting}
 use Rattle.link.proofs.Visiting.{IsRepeatable, Follows, FollowsIt, over_wants, ready_follows}
 use Rattle.link.proofs.Visiting.{begin_follows}
-use Rattle.link.proofs.VisitRuns.{FitsPhase, MayBeThere, rest_there, may_want}
+use Rattle.link.proofs.VisitAsked.{FitsPhase, MayBeThere, rest_there, may_want}
 use Rattle.link.proofs.Statuses.{answered_ready, missed_ready}
 
 -- the machine stands in this visit

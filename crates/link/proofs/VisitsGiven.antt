@@ -20,7 +20,8 @@ use Rattle.link.specs.Carried.{station_given_up, given_up}
 use Rattle.link.proofs.Beginning.{begun_given_up}
 use Rattle.link.proofs.GivenUpMatches.{latest_from}
 use Rattle.link.proofs.Visiting.{Leads, over}
-use Rattle.link.proofs.VisitRuns.{shown, link_left, IsLatest, FitsPhase, InVisit, Stays, one_longer}
+use Rattle.link.proofs.VisitAsked.{shown, link_left, IsLatest, FitsPhase, InVisit, one_longer}
+use Rattle.link.proofs.VisitRuns.{Stays}
 
 -- ---- the mark, on a line
 

@@ -1,11 +1,12 @@
--- What the looks of a turn leave as it was: the log, the clock, and when the wall clock was given.
+-- What the looks of a turn leave as it was: what is fixed, the log, the clock, and when the wall
+-- clock was given.
 use Rattle.std.proofs.Common.{◌≡◌, ℕ, true, false, Bool, List, [], ◌∷◌, Option, Some, None, refl}
-use Rattle.std.proofs.Common.{◌∙◌}
+use Rattle.std.proofs.Common.{ap, ◌∙◌}
 use Rattle.gateway.specs.Log.{Log}
 use Rattle.live.specs.Timing.{Moments, is_behind}
 use Rattle.live.specs.Ends.{LiveEnds, Peer, Answers, taken_by, turn_by, sources_by, held_by, round}
 use Rattle.live.specs.Ends.{look, unless_found, next_round, looked_at, found_at, after}
-use Rattle.live.specs.Ends.{nothing_more, accepted}
+use Rattle.live.specs.Ends.{nothing_more, accepted, Fixture, fixed_of}
 use Rattle.live.specs.declared.found.SourceEvent.{SourceEvent}
 use Rattle.live.specs.declared.found.SourceEvent.TheVariants as found
 use Rattle.live.specs.declared.source.EventSource.{EventSource}
@@ -99,91 +100,63 @@ taken_same part p true buf (Some found.Cut) e = refl
 taken_same part p true buf (Some (found.Line len)) e = refl
 taken_same part p true buf (Some found.Fault) e = refl
 
--- such parts
-abbrev pub log_of : LiveEnds → Log
-log_of e = e.log
+-- What is taken from such a part is one too.
+pub apart_by : {A B : Type 0} (part : LiveEnds → A) → Apart part → (f : A → B)
+    → Apart (λ e. f (part e))
+apart_by part p f = record {
+  looked = λ s t a buf e. ap f (p.looked s t a buf e);
+  moved = λ s e. ap f (p.moved s e);
+  ended = λ e s. ap f (p.ended e s);
+  given = λ e s. ap f (p.given e s);
+  kept = λ e held. ap f (p.kept e held);
+}
 
-log_at_listener : (v : Option Peer) (e : LiveEnds) → (accepted v e).log ≡ e.log
-log_at_listener None e = refl
-log_at_listener (Some peer) e = refl
+-- what no look touches
+abbrev pub untouched : LiveEnds → Fixture × Log × Walled × Moments
+untouched e = (fixed_of e, e.log, e.walled, e.clock)
 
-log_looked : (s : EventSource) (t : ℕ) (a : Answers) (buf : List ℕ) (e : LiveEnds)
-    → log_of (looked_at s t a buf e) ≡ log_of e
-log_looked Listener t a buf e = log_at_listener a.peer e
-log_looked Connection t a buf e = refl
-log_looked Line t a buf e = refl
+at_listener : (v : Option Peer) (e : LiveEnds) → untouched (accepted v e) ≡ untouched e
+at_listener None e = refl
+at_listener (Some peer) e = refl
 
-pub log_apart : Apart log_of
-log_apart = record {
-  looked = log_looked;
+untouched_looked : (s : EventSource) (t : ℕ) (a : Answers) (buf : List ℕ) (e : LiveEnds)
+    → untouched (looked_at s t a buf e) ≡ untouched e
+untouched_looked Listener t a buf e = at_listener a.peer e
+untouched_looked Connection t a buf e = refl
+untouched_looked Line t a buf e = refl
+
+untouched_apart : Apart untouched
+untouched_apart = record {
+  looked = untouched_looked;
   moved = λ s e. refl;
   ended = λ e s. refl;
   given = λ e s. refl;
   kept = λ e held. refl;
 }
 
-abbrev pub walled_of : LiveEnds → Walled
-walled_of e = e.walled
-
-walled_at_listener : (v : Option Peer) (e : LiveEnds) → (accepted v e).walled ≡ e.walled
-walled_at_listener None e = refl
-walled_at_listener (Some peer) e = refl
-
-walled_looked : (s : EventSource) (t : ℕ) (a : Answers) (buf : List ℕ) (e : LiveEnds)
-    → walled_of (looked_at s t a buf e) ≡ walled_of e
-walled_looked Listener t a buf e = walled_at_listener a.peer e
-walled_looked Connection t a buf e = refl
-walled_looked Line t a buf e = refl
-
-pub walled_apart : Apart walled_of
-walled_apart = record {
-  looked = walled_looked;
-  moved = λ s e. refl;
-  ended = λ e s. refl;
-  given = λ e s. refl;
-  kept = λ e held. refl;
-}
-
-abbrev pub clock_of : LiveEnds → Moments
-clock_of e = e.clock
-
-clock_at_listener : (v : Option Peer) (e : LiveEnds) → (accepted v e).clock ≡ e.clock
-clock_at_listener None e = refl
-clock_at_listener (Some peer) e = refl
-
-clock_looked : (s : EventSource) (t : ℕ) (a : Answers) (buf : List ℕ) (e : LiveEnds)
-    → clock_of (looked_at s t a buf e) ≡ clock_of e
-clock_looked Listener t a buf e = clock_at_listener a.peer e
-clock_looked Connection t a buf e = refl
-clock_looked Line t a buf e = refl
-
-pub clock_apart : Apart clock_of
-clock_apart = record {
-  looked = clock_looked;
-  moved = λ s e. refl;
-  ended = λ e s. refl;
-  given = λ e s. refl;
-  kept = λ e held. refl;
-}
+pub fixed_apart : Apart fixed_of
+fixed_apart = apart_by untouched untouched_apart (λ u. u.0)
 
 abbrev pub allow_list_of : LiveEnds → AllowList
 allow_list_of e = e.allow_list
 
-allow_list_at_listener : (v : Option Peer) (e : LiveEnds) → (accepted v e).allow_list ≡ e.allow_list
-allow_list_at_listener None e = refl
-allow_list_at_listener (Some peer) e = refl
-
-allow_list_looked : (s : EventSource) (t : ℕ) (a : Answers) (buf : List ℕ) (e : LiveEnds)
-    → allow_list_of (looked_at s t a buf e) ≡ allow_list_of e
-allow_list_looked Listener t a buf e = allow_list_at_listener a.peer e
-allow_list_looked Connection t a buf e = refl
-allow_list_looked Line t a buf e = refl
-
 pub allow_list_apart : Apart allow_list_of
-allow_list_apart = record {
-  looked = allow_list_looked;
-  moved = λ s e. refl;
-  ended = λ e s. refl;
-  given = λ e s. refl;
-  kept = λ e held. refl;
-}
+allow_list_apart = apart_by untouched untouched_apart (λ u. u.0.allow_list)
+
+abbrev pub log_of : LiveEnds → Log
+log_of e = e.log
+
+pub log_apart : Apart log_of
+log_apart = apart_by untouched untouched_apart (λ u. u.1)
+
+abbrev pub walled_of : LiveEnds → Walled
+walled_of e = e.walled
+
+pub walled_apart : Apart walled_of
+walled_apart = apart_by untouched untouched_apart (λ u. u.2)
+
+abbrev pub clock_of : LiveEnds → Moments
+clock_of e = e.clock
+
+pub clock_apart : Apart clock_of
+clock_apart = apart_by untouched untouched_apart (λ u. u.3)

@@ -3,15 +3,14 @@ use Rattle.std.proofs.Common.{◌≡◌, ℕ, ◌<◌, ◌≤◌, true, false, B
 use Rattle.std.proofs.Common.{Some, None, refl, sym, ap, subst, arith, ◌∙◌, ◌⊎◌, inl, inr}
 use Rattle.gateway.specs.declared.ports.Next.{Next}
 use Rattle.gateway.specs.declared.ports.Next.TheVariants as next
-use Rattle.gateway.specs.Log.{Log, Output, LineOut, TcpOut, Closed, GapOut}
-use Rattle.session.specs.declared.kinds.Close.{Close}
+use Rattle.gateway.specs.Log.{Log, Output}
 use Rattle.session.specs.declared.kinds.Close.TheVariants as close
 use Rattle.live.specs.Timing.{is_behind, line_looked_at, moment_at}
 use Rattle.live.specs.OctetStreams.{Happening, StreamHistory, WasQuiet, noted, Attempts, attempted}
 use Rattle.live.specs.Ends.{LiveEnds, Peer, Answers, Turns, LogsTurn, LogsPut, as_logged, IsTurn}
 use Rattle.live.specs.Ends.{QuietRounds, NoRound, OneRound, TurnsToEnds, event_at, taken_by}
 use Rattle.live.specs.Ends.{looking, clock_read_at, turn_by, sources_by, held_by, round, look}
-use Rattle.live.specs.Ends.{nothing_more, after, written_open, closed_by, after_action}
+use Rattle.live.specs.Ends.{nothing_more, after}
 use Rattle.live.specs.InTurn.{IsMore, IsMoreAt, IsLookedAt, LooksBefore, BeginsBehind, IsFarBehind}
 use Rattle.live.proofs.Rounds.{quiet_reads}
 use Rattle.live.specs.declared.found.SourceEvent.{SourceEvent}
@@ -21,6 +20,7 @@ use Rattle.live.specs.declared.source.EventSource.TheVariants.{Listener, Connect
 use Rattle.live.specs.declared.timing.Timing.{Timing}
 use Rattle.live.specs.declared.ends.Got.{Got}
 use Rattle.live.specs.declared.ends.Got.TheVariants.{Octets, Quiet, Gone}
+use Rattle.live.proofs.Beside.{action_beside}
 
 -- one more
 more_one : {A : Type 0} (before : List A) (x : A) → length before < length (x ∷ before)
@@ -210,35 +210,15 @@ pub behind : (old new : LiveEnds) (event : Next) (buf : List ℕ) → LogsTurn o
 behind old new event buf l = behind_by old (as_logged old.log new) event buf l.turns
 
 -- an action leaves it
-written_first : (b : Bool) (octets : List ℕ) (taken : Bool) (p : Option Peer) (e : LiveEnds)
-    → (written_open b octets taken p e).first ≡ e.first
-written_first true octets taken p e = refl
-written_first false octets taken None e = refl
-written_first false octets taken (Some peer) e = refl
-
-closed_first : (c : Close) (e : LiveEnds) → (closed_by c e).first ≡ e.first
-closed_first close.Grammar e = refl
-closed_first close.SendNumber e = refl
-closed_first close.ReceiveNumber e = refl
-closed_first close.Stopped e = refl
-closed_first close.Timeout e = refl
-closed_first close.OwnAnswers e = refl
-closed_first close.Replaced e = refl
-
-action_first : (moment : ℕ) (action : Output) (written : ℕ) (taken : Bool) (late : ℕ) (e : LiveEnds)
-    → (after_action moment action written taken late e).first ≡ e.first
-action_first moment (LineOut octets) written taken late e = refl
-action_first moment (TcpOut octets) written taken late e =
-    written_first e.is_cut_due octets taken e.connection e
-action_first moment (Closed cause) written taken late e = closed_first cause e
-action_first moment (GapOut station session) written taken late e = refl
+abbrev first_of : LiveEnds → EventSource
+first_of e = e.first
 
 pub put_first : (old new : LiveEnds) (moment : ℕ) (action : Output) → LogsPut old moment action new
     → new.first ≡ old.first
 put_first old new moment action l =
-    ap (λ (e : LiveEnds). e.first) l.puts.done
-    ∙ action_first moment action l.puts.written l.puts.taken
-    l.puts.late old
+    ap first_of l.puts.done
+    ∙ action_beside first_of (λ e. refl) (λ moment octets written taken late e. refl) moment action
+    l.puts.written l.puts.taken l.puts.late old
 
 -- at least as much has happened
 IsLeast : {A : Type 0} → (before now : Option (List A)) → Type 0

@@ -1,9 +1,7 @@
 -- The late octets are those that the line dropped.
-use Rattle.std.proofs.Common.{◌≡◌, ℕ, Bool, true, false, List, Option, Some, None}
-use Rattle.std.proofs.Common.{refl, sym, ap, subst, ◌∙◌}
+use Rattle.std.proofs.Common.{◌≡◌, ℕ, Bool, List, Option, Some, None, refl, sym, ap, subst, ◌∙◌}
 use Rattle.std.specs.Prelude.{option_map}
 use Rattle.gateway.specs.Log.{Output, LineOut, TcpOut, Closed, GapOut}
-use Rattle.session.specs.declared.kinds.Close.{Close}
 use Rattle.session.specs.declared.kinds.Close.TheVariants as close
 use Rattle.live.specs.OctetStreams.{Dropped, Wrote, StreamHistory, IsNew, looked, noted}
 use Rattle.live.specs.Ends.{LiveEnds, Peer, Answers, PutsOut, as_logged, looked_at, accepted, more}
@@ -12,11 +10,11 @@ use Rattle.live.specs.Late.{dropped_of, IsLate, CountsLate}
 use Rattle.live.specs.Passed.{LiveRun, Begun, Turned, Put}
 use Rattle.live.proofs.Apart.{Apart}
 use Rattle.live.proofs.Rounds.{Aside}
-use Rattle.live.proofs.Noting.{turn_still}
 use Rattle.live.specs.declared.source.EventSource.{EventSource}
 use Rattle.live.specs.declared.source.EventSource.TheVariants.{Listener, Connection, Line}
 use Rattle.live.specs.declared.ends.Got.{Got}
 use Rattle.live.specs.declared.ends.Got.TheVariants.{Octets, Quiet, Gone}
+use Rattle.live.proofs.Beside.{written_beside, closed_beside}
 
 -- how many octets are late, and how many the line dropped, where it notes that
 abbrev late_of : LiveEnds → ℕ × Option ℕ
@@ -59,21 +57,6 @@ asked_late : (late n : ℕ) (octets : List ℕ) (taken : Bool) (h : StreamHistor
 asked_late late n octets taken None logged = tt
 asked_late late n octets taken (Some before) logged = ap (more late) logged
 
-written_late : (b : Bool) (octets : List ℕ) (taken : Bool) (p : Option Peer) (e : LiveEnds)
-    → late_of (written_open b octets taken p e) ≡ late_of e
-written_late true octets taken p e = refl
-written_late false octets taken None e = refl
-written_late false octets taken (Some peer) e = refl
-
-closed_late : (c : Close) (e : LiveEnds) → late_of (closed_by c e) ≡ late_of e
-closed_late close.Grammar e = refl
-closed_late close.SendNumber e = refl
-closed_late close.ReceiveNumber e = refl
-closed_late close.Stopped e = refl
-closed_late close.Timeout e = refl
-closed_late close.OwnAnswers e = refl
-closed_late close.Replaced e = refl
-
 -- where both are as they were
 noted_still : (old new : LiveEnds) → late_of new ≡ late_of old → CountsLate old → CountsLate new
 noted_still old new same logged =
@@ -85,9 +68,9 @@ action_late moment (LineOut octets) written taken late e logged =
     asked_late late e.late octets taken e.line logged
 action_late moment (TcpOut octets) written taken late e logged =
     noted_still e (written_open e.is_cut_due octets taken e.connection e)
-    (written_late e.is_cut_due octets taken e.connection e) logged
+    (ap late_of (written_beside e.is_cut_due octets taken e.connection e)) logged
 action_late moment (Closed cause) written taken late e logged =
-    noted_still e (closed_by cause e) (closed_late cause e) logged
+    noted_still e (closed_by cause e) (ap late_of (closed_beside cause e)) logged
 action_late moment (GapOut station session) written taken late e logged = logged
 
 put_late : (old new : LiveEnds) (moment : ℕ) (action : Output) → PutsOut old moment action new

@@ -1,4 +1,5 @@
 pub mod Apart
+pub mod Beside
 pub mod Rounds
 pub mod Turns
 pub mod Puts

@@ -1,56 +1,25 @@
 -- The log of the port over live ends. Looks and actions leave it as it was; it is treated apart.
-use Rattle.std.proofs.Common.{◌≡◌, ℕ, true, false, Bool, List, [], ◌∷◌, ◌++◌, Option, Some, None}
-use Rattle.std.proofs.Common.{refl, sym, ap, subst, ◌∙◌, inl, inr}
+use Rattle.std.proofs.Common.{◌≡◌, ℕ, List, [], ◌∷◌, ◌++◌, Some, refl, sym, ap, subst, ◌∙◌}
 use Rattle.gateway.specs.declared.ports.Next.{Next}
-use Rattle.gateway.specs.Log.{with_news, Went, Output, LineOut, TcpOut, Closed, GapOut}
+use Rattle.gateway.specs.Log.{with_news, Went, Output}
 use Rattle.gateway.specs.Ports.{logged_by}
-use Rattle.session.specs.declared.kinds.Close.{Close}
 use Rattle.session.specs.declared.kinds.Close.TheVariants as close
-use Rattle.live.specs.Timing.{is_behind}
-use Rattle.live.specs.Ends.{LiveEnds, Peer, Turns, PutsOut, LogsTurn, LogsPut, as_logged, looking}
-use Rattle.live.specs.Ends.{clock_read_at}
-use Rattle.live.specs.Ends.{written_open, closed_by, after_action}
-use Rattle.live.proofs.Apart.{log_of, log_apart, taken_same}
-use Rattle.live.proofs.Rounds.{log_aside, looks_kept}
-use Rattle.live.specs.declared.found.SourceEvent.{SourceEvent}
+use Rattle.live.specs.Ends.{LiveEnds, Turns, PutsOut, LogsTurn, LogsPut, as_logged}
+use Rattle.live.proofs.Apart.{log_of}
+use Rattle.live.proofs.Beside.{action_beside}
+use Rattle.live.proofs.Rounds.{log_aside, turn_still}
 
 pub turns_same : (old new : LiveEnds) (event : Next) (buf : List ℕ) → Turns old event buf new
     → new.log ≡ old.log
-turns_same old new event buf (inl t) = ap (λ (e : LiveEnds). e.log) t.given.ends
-turns_same old new event buf (inr t) =
-    ap (λ (p : Option SourceEvent × LiveEnds). log_of p.1) t.given.ends
-    ∙ (taken_same log_of log_apart (is_behind t.found.timing t.now) buf t.f t.found
-    ∙ looks_kept log_of log_aside t.first (looking (clock_read_at t.first old)) t.now t.f buf
-    t.found
-    t.looks)
-
-written_same : (b : Bool) (octets : List ℕ) (taken : Bool) (p : Option Peer) (e : LiveEnds)
-    → (written_open b octets taken p e).log ≡ e.log
-written_same true octets taken p e = refl
-written_same false octets taken None e = refl
-written_same false octets taken (Some peer) e = refl
-
-closed_same : (c : Close) (e : LiveEnds) → (closed_by c e).log ≡ e.log
-closed_same close.Grammar e = refl
-closed_same close.SendNumber e = refl
-closed_same close.ReceiveNumber e = refl
-closed_same close.Stopped e = refl
-closed_same close.Timeout e = refl
-closed_same close.OwnAnswers e = refl
-closed_same close.Replaced e = refl
-
-action_same : (moment : ℕ) (action : Output) (written : ℕ) (taken : Bool) (late : ℕ) (e : LiveEnds)
-    → (after_action moment action written taken late e).log ≡ e.log
-action_same moment (LineOut octets) written taken late e = refl
-action_same moment (TcpOut octets) written taken late e =
-    written_same e.is_cut_due octets taken e.connection e
-action_same moment (Closed cause) written taken late e = closed_same cause e
-action_same moment (GapOut station session) written taken late e = refl
+turns_same old new event buf t =
+    turn_still log_of log_aside (λ e now shown. refl) old new event buf t (λ e. refl)
 
 pub puts_same : (old new : LiveEnds) (moment : ℕ) (action : Output) → PutsOut old moment action new
     → new.log ≡ old.log
 puts_same old new moment action p =
-    ap (λ (e : LiveEnds). e.log) p.done ∙ action_same moment action p.written p.taken p.late old
+    ap log_of p.done
+    ∙ action_beside log_of (λ e. refl) (λ moment octets written taken late e. refl) moment action
+    p.written p.taken p.late old
 
 -- the event of a turn, once it is logged
 pub next_noted : (old mid new : LiveEnds) (event : Next) (buf : List ℕ) → Turns old event buf mid

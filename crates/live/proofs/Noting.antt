@@ -1,21 +1,19 @@
 -- Ends that note what happens at them go on noting it.
 use Rattle.std.proofs.Common.{◌≡◌, ℕ, Bool, true, false, List, Option, Some, None, is_some, refl}
-use Rattle.std.proofs.Common.{ap, ◌∙◌, inl, inr}
-use Rattle.gateway.specs.declared.ports.Next.{Next}
-use Rattle.gateway.specs.Log.{Output, LineOut, TcpOut, Closed, GapOut}
-use Rattle.session.specs.declared.kinds.Close.{Close}
+use Rattle.std.proofs.Common.{ap, ◌∙◌}
+use Rattle.gateway.specs.Log.{Output}
 use Rattle.session.specs.declared.kinds.Close.TheVariants as close
-use Rattle.live.specs.Timing.{Moments, read_at, is_behind}
+use Rattle.live.specs.Timing.{Moments, read_at}
 use Rattle.live.specs.OctetStreams.{Happening, Dropped, StreamHistory, noted, Attempts, attempted}
-use Rattle.live.specs.Ends.{LiveEnds, Peer, Answers, Turns, PutsOut, as_logged, looking, looked_at}
-use Rattle.live.specs.Ends.{accepted}
-use Rattle.live.specs.Ends.{clock_read_at, wall_given_at, written_open, closed_by, after_action}
+use Rattle.live.specs.OctetStreams.{Wrote}
+use Rattle.live.specs.Ends.{LiveEnds, Peer, Answers, PutsOut, as_logged, looked_at, accepted}
+use Rattle.live.specs.Ends.{after_action}
 use Rattle.live.specs.Passed.{LiveRun, Begun, Turned, Put, NotesStill}
-use Rattle.live.proofs.Apart.{Apart, taken_same}
-use Rattle.live.proofs.Rounds.{Aside, looks_kept}
-use Rattle.live.specs.declared.found.SourceEvent.{SourceEvent}
+use Rattle.live.proofs.Apart.{Apart, apart_by, clock_of, clock_apart}
+use Rattle.live.proofs.Rounds.{Aside}
 use Rattle.live.specs.declared.source.EventSource.{EventSource}
 use Rattle.live.specs.declared.source.EventSource.TheVariants.{Listener, Connection, Line}
+use Rattle.live.proofs.Beside.{action_beside}
 
 -- one more keeps it noted
 noted_still : (h : StreamHistory) (new : Happening) → is_some (noted h new) ≡ is_some h
@@ -82,93 +80,24 @@ listener_aside =
     } in
     record { apart = apart; read = λ now e. refl }
 
-clock_at_listener : (v : Option Peer) (e : LiveEnds) → notes_clock (accepted v e) ≡ notes_clock e
-clock_at_listener None e = refl
-clock_at_listener (Some peer) e = refl
-
-clock_looked : (s : EventSource) (t : ℕ) (a : Answers) (buf : List ℕ) (e : LiveEnds)
-    → notes_clock (looked_at s t a buf e) ≡ notes_clock e
-clock_looked Listener t a buf e = clock_at_listener a.peer e
-clock_looked Connection t a buf e = refl
-clock_looked Line t a buf e = refl
-
 clock_aside : Aside notes_clock
 clock_aside =
-    let apart : Apart notes_clock = record {
-      looked = clock_looked;
-      moved = λ s e. refl;
-      ended = λ e s. refl;
-      given = λ e s. refl;
-      kept = λ e held. refl;
-    } in
-    record { apart = apart; read = λ now e. read_still e.clock now }
-
--- a turn
-pub turn_still : {A : Type 0} (part : LiveEnds → A) → Aside part
-    → ((e : LiveEnds) (now shown : ℕ) → part (wall_given_at now shown e) ≡ part e)
-    → (old new : LiveEnds) (event : Next) (buf : List ℕ) → Turns old event buf new
-    → ((e : LiveEnds) → part (looking e) ≡ part e) → part new ≡ part old
-turn_still part p wall old new event buf (inl t) look =
-    ap part t.given.ends ∙ (wall (clock_read_at t.begun old) t.begun t.given.shown
-    ∙ p.read t.begun old)
-turn_still part p wall old new event buf (inr t) look =
-    ap (λ (q : Option SourceEvent × LiveEnds). part q.1) t.given.ends
-    ∙ (taken_same part p.apart (is_behind t.found.timing t.now) buf t.f t.found
-    ∙ (looks_kept part p t.first (looking (clock_read_at t.first old)) t.now t.f buf t.found t.looks
-    ∙ (look (clock_read_at t.first old) ∙ p.read t.first old)))
+    record { apart = apart_by clock_of clock_apart is_some; read = λ now e. read_still e.clock now }
 
 -- an action
-written_line : (b : Bool) (octets : List ℕ) (taken : Bool) (p : Option Peer) (e : LiveEnds)
-    → (written_open b octets taken p e).line ≡ e.line
-written_line true octets taken p e = refl
-written_line false octets taken None e = refl
-written_line false octets taken (Some peer) e = refl
-
-written_listener : (b : Bool) (octets : List ℕ) (taken : Bool) (p : Option Peer) (e : LiveEnds)
-    → (written_open b octets taken p e).listener ≡ e.listener
-written_listener true octets taken p e = refl
-written_listener false octets taken None e = refl
-written_listener false octets taken (Some peer) e = refl
-
-written_clock : (b : Bool) (octets : List ℕ) (taken : Bool) (p : Option Peer) (e : LiveEnds)
-    → (written_open b octets taken p e).clock ≡ e.clock
-written_clock true octets taken p e = refl
-written_clock false octets taken None e = refl
-written_clock false octets taken (Some peer) e = refl
-
--- a close
-Same : LiveEnds → LiveEnds → Type 0
-Same a b = (a.line ≡ b.line) × (a.listener ≡ b.listener) × (a.clock ≡ b.clock)
-
-closed_same : (c : Close) (e : LiveEnds) → Same (closed_by c e) e
-unfolding Same
-closed_same close.Grammar e = (refl, refl, refl)
-closed_same close.SendNumber e = (refl, refl, refl)
-closed_same close.ReceiveNumber e = (refl, refl, refl)
-closed_same close.Stopped e = (refl, refl, refl)
-closed_same close.Timeout e = (refl, refl, refl)
-closed_same close.OwnAnswers e = (refl, refl, refl)
-closed_same close.Replaced e = (refl, refl, refl)
-
 action_still : (moment : ℕ) (action : Output) (written : ℕ) (taken : Bool) (late : ℕ) (e : LiveEnds)
     → NotesStill e (after_action moment action written taken late e)
-unfolding Same
-action_still moment (LineOut octets) written taken late e =
-    record {
-      line = noted_still (noted e.line (Dropped late)) _ ∙ noted_still e.line _;
-      listener = refl;
-      clock = read_still e.clock written;
-    }
-action_still moment (TcpOut octets) written taken late e = record {
-  line = ap is_some (written_line e.is_cut_due octets taken e.connection e);
-  listener = ap is_some (written_listener e.is_cut_due octets taken e.connection e);
-  clock = ap is_some (written_clock e.is_cut_due octets taken e.connection e);
+action_still moment action written taken late e = record {
+  line = action_beside notes_line (λ e. refl) (λ moment octets written taken late e.
+      noted_still (noted e.line (Dropped late)) (Wrote octets taken)
+      ∙ noted_still e.line (Dropped late))
+      moment action written taken late e;
+  listener = action_beside notes_listener (λ e. refl)
+      (λ moment octets written taken late e. refl) moment action written taken late e;
+  clock = action_beside notes_clock (λ e. refl)
+      (λ moment octets written taken late e. read_still e.clock written) moment action written taken
+      late e;
 }
-action_still moment (Closed cause) written taken late e =
-    let same = closed_same cause e in
-    record { line = ap is_some same.0; listener = ap is_some same.1; clock = ap is_some same.2 }
-action_still moment (GapOut station session) written taken late e =
-    record { line = refl; listener = refl; clock = refl }
 
 put_still : (old new : LiveEnds) (moment : ℕ) (action : Output) → PutsOut old moment action new
     → NotesStill old new

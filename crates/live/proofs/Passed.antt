@@ -7,22 +7,18 @@ use Rattle.gateway.specs.Ports.{logged_by}
 use Rattle.session.specs.declared.kinds.Close.{Close}
 use Rattle.session.specs.declared.kinds.Close.TheVariants as close
 use Rattle.live.specs.OctetStreams.{Happening, Gave, WasQuiet, WasGone, Dropped, Wrote}
-use Rattle.live.specs.OctetStreams.{StreamHistory, IsNew}
-use Rattle.live.specs.OctetStreams.{noted}
-use Rattle.live.specs.OctetStreams.{Attempts, attempted}
+use Rattle.live.specs.OctetStreams.{StreamHistory, IsNew, noted, Attempts, attempted}
 use Rattle.live.specs.Timing.{is_behind, moment_at}
 use Rattle.live.specs.Ends.{LiveEnds, Peer, IsAllowedPeer, Answers, QuietRounds, NoRound, OneRound}
-use Rattle.live.specs.Ends.{LooksOn}
-use Rattle.live.specs.Ends.{Turns, PutsOut, as_logged, looking, event_at, taken_by, clock_read_at}
-use Rattle.live.specs.Ends.{turn_by}
-use Rattle.live.specs.Ends.{sources_by, held_by, IsFront, round, look, unless_found, next_round}
-use Rattle.live.specs.Ends.{looked_at, after, nothing_more, accepted, of_peer, of_open, of_line}
-use Rattle.live.specs.Ends.{read_from, written_open, closed_by, after_action}
+use Rattle.live.specs.Ends.{LooksOn, Turns, PutsOut, as_logged, looking, event_at, taken_by}
+use Rattle.live.specs.Ends.{clock_read_at, turn_by, sources_by, held_by, IsFront, round, look}
+use Rattle.live.specs.Ends.{unless_found, next_round, looked_at, after, nothing_more, accepted}
+use Rattle.live.specs.Ends.{of_peer, of_open, of_line, read_from, written_open, closed_by}
+use Rattle.live.specs.Ends.{after_action}
 use Rattle.std.proofs.lemmas.List.{append-nil}
 use Rattle.live.specs.Passed.{given, line_in, line_out, centre_in, centre_out, LogsLine}
 use Rattle.live.specs.Passed.{LogsWritten, LogsStream, LogsCentre, LogsListener, LogsEnds}
-use Rattle.live.specs.Passed.{IsFreshRun}
-use Rattle.live.specs.Passed.{HasNoAttempts, opened_in, LiveRun, Begun, Turned, Put}
+use Rattle.live.specs.Passed.{IsFreshRun, HasNoAttempts, opened_in, LiveRun, Begun, Turned, Put}
 use Rattle.live.specs.declared.allow_list.AllowList.{AllowList}
 use Rattle.live.specs.declared.found.SourceEvent.{SourceEvent}
 use Rattle.live.specs.declared.found.SourceEvent.TheVariants as found
@@ -30,6 +26,7 @@ use Rattle.live.specs.declared.source.EventSource.{EventSource}
 use Rattle.live.specs.declared.source.EventSource.TheVariants.{Listener, Connection, Line}
 use Rattle.live.specs.declared.ends.Got.{Got}
 use Rattle.live.specs.declared.ends.Got.TheVariants.{Octets, Quiet, Gone}
+use Rattle.live.proofs.Beside.{beside, written_beside}
 
 -- one more happening at the line
 line_quiet : (i : List ℕ) (o : List (List ℕ)) (h : StreamHistory) → LogsLine i o h
@@ -399,18 +396,6 @@ written_logs i o octets taken false None e due is h =
 written_logs i o octets taken false (Some peer) e due is h =
     stream_wrote e.held i o octets taken peer.stream h
 
-written_line : (octets : List ℕ) (taken d : Bool) (c : Option Peer) (e : LiveEnds)
-    → (written_open d octets taken c e).line ≡ e.line
-written_line octets taken true c e = refl
-written_line octets taken false None e = refl
-written_line octets taken false (Some peer) e = refl
-
-written_listener : (octets : List ℕ) (taken d : Bool) (c : Option Peer) (e : LiveEnds)
-    → (written_open d octets taken c e).listener ≡ e.listener
-written_listener octets taken true c e = refl
-written_listener octets taken false None e = refl
-written_listener octets taken false (Some peer) e = refl
-
 closed_logs : (log : Log) (c : Close) (e : LiveEnds) → LogsEnds log e → LogsEnds log (closed_by c e)
 closed_logs log close.Grammar e h = (h.0, tt, h.2)
 closed_logs log close.SendNumber e h = (h.0, tt, h.2)
@@ -434,14 +419,16 @@ action_logs log moment (TcpOut octets) written taken late e h =
     let P : StreamHistory → Type 0 = λ l. LogsLine (line_in log) (line_out log) l in
     let D : Attempts → Type 0 = λ v. LogsListener (opened_in log) v in
     let after = written_open e.is_cut_due octets taken e.connection e in
+    let beside_it : beside after ≡ beside e =
+    written_beside e.is_cut_due octets taken e.connection e in
     let K : List ℕ → Type 0 =
     λ k. LogsCentre after.is_cut_due k (centre_in log) (octets ∷ centre_out log)
     after.connection in (
-      subst P (sym (written_line octets taken e.is_cut_due e.connection e)) h.0,
+      subst P (sym (ap (λ (x : LiveEnds). x.line) beside_it)) h.0,
       subst K (sym (written_held octets taken e.is_cut_due e.connection e))
           (written_logs (centre_in log) (centre_out log) octets taken e.is_cut_due e.connection e
           refl refl h.1),
-      subst D (sym (written_listener octets taken e.is_cut_due e.connection e)) h.2,
+      subst D (sym (ap (λ (x : LiveEnds). x.listener) beside_it)) h.2,
     )
 action_logs log moment (Closed cause) written taken late e h = closed_logs log cause e h
 action_logs log moment (GapOut station session) written taken late e h = h

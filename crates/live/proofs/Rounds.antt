@@ -1,21 +1,20 @@
 -- What rounds of looks leave as it was, and when they begin.
 use Rattle.std.proofs.Common.{◌≡◌, ℕ, true, false, Bool, List, [], ◌∷◌, Option, Some, None, refl}
-use Rattle.std.proofs.Common.{sym, ap, subst, ◌∙◌}
+use Rattle.std.proofs.Common.{sym, ap, subst, ◌∙◌, inl, inr}
 use Rattle.live.specs.Timing.{is_behind, line_looked_at}
 use Rattle.live.specs.Ends.{LiveEnds, Peer, Answers, IsTurn, QuietRounds, NoRound, OneRound}
-use Rattle.live.specs.Ends.{LooksOn}
-use Rattle.live.specs.Ends.{clock_read_at, turn_by, sources_by, held_by, look, unless_found}
-use Rattle.live.specs.Ends.{next_round}
-use Rattle.live.specs.Ends.{looked_at, after, nothing_more, accepted, of_peer, of_open, of_line}
-use Rattle.live.specs.Ends.{read_from}
+use Rattle.live.specs.Ends.{LooksOn, clock_read_at, turn_by, sources_by, held_by, look}
+use Rattle.live.specs.Ends.{unless_found, next_round, looked_at, after, nothing_more, accepted}
+use Rattle.live.specs.Ends.{of_peer, of_open, of_line, read_from, Turns, looking, wall_given_at}
 use Rattle.live.proofs.Apart.{Apart, turn_same, log_of, log_apart, walled_of, walled_apart}
-use Rattle.live.proofs.Apart.{allow_list_of, allow_list_apart}
+use Rattle.live.proofs.Apart.{allow_list_of, allow_list_apart, taken_same}
 use Rattle.live.specs.declared.found.SourceEvent.{SourceEvent}
 use Rattle.live.specs.declared.source.EventSource.{EventSource}
 use Rattle.live.specs.declared.source.EventSource.TheVariants.{Listener, Connection, Line}
 use Rattle.live.specs.declared.timing.Timing.{Timing}
 use Rattle.live.specs.declared.ends.Got.{Got}
 use Rattle.live.specs.declared.ends.Got.TheVariants.{Octets, Quiet, Gone}
+use Rattle.gateway.specs.declared.ports.Next.{Next}
 
 -- a part of the ends that neither a look touches nor the clock
 pub record Aside {A : Type 0} (part : LiveEnds → A) : Type 0 where
@@ -56,6 +55,20 @@ looks_kept part p first old now f buf new l =
     ap part l.done
     ∙ (p.read now l.found ∙ (turn_kept part p.apart l.begun l.before l.found f buf l.turn
     ∙ quiet_kept part p old first l.count l.begun l.before l.quiet))
+
+-- a turn
+pub turn_still : {A : Type 0} (part : LiveEnds → A) → Aside part
+    → ((e : LiveEnds) (now shown : ℕ) → part (wall_given_at now shown e) ≡ part e)
+    → (old new : LiveEnds) (event : Next) (buf : List ℕ) → Turns old event buf new
+    → ((e : LiveEnds) → part (looking e) ≡ part e) → part new ≡ part old
+turn_still part p wall old new event buf (inl t) look =
+    ap part t.given.ends ∙ (wall (clock_read_at t.begun old) t.begun t.given.shown
+    ∙ p.read t.begun old)
+turn_still part p wall old new event buf (inr t) look =
+    ap (λ (q : Option SourceEvent × LiveEnds). part q.1) t.given.ends
+    ∙ (taken_same part p.apart (is_behind t.found.timing t.now) buf t.f t.found
+    ∙ (looks_kept part p t.first (looking (clock_read_at t.first old)) t.now t.f buf t.found t.looks
+    ∙ (look (clock_read_at t.first old) ∙ p.read t.first old)))
 
 -- a round that found nothing looked at the line
 IsLineReadBy : (begun : ℕ) → Timing → Option SourceEvent → Timing → Type 0

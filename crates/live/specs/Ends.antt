@@ -17,7 +17,7 @@ use Rattle.live.specs.declared.ends.Got.{Got}
 use Rattle.live.specs.declared.ends.Got.TheVariants.{Octets, Quiet, Gone}
 use Rattle.live.specs.Timing.{Moments, read_at, moment_at, is_behind, is_awaited, line_looked_at}
 use Rattle.live.specs.Timing.{asked_at}
-use Rattle.live.specs.Walls.{is_wall_due, given_at_moment}
+use Rattle.live.specs.Walls.{is_wall_due, given_at_moment, never_given}
 use Rattle.live.specs.declared.timing.Timing.{Timing}
 use Rattle.live.specs.declared.walled.Walled.{Walled}
 use Rattle.live.specs.declared.found.SourceEvent.{SourceEvent}
@@ -59,6 +59,27 @@ pub record LiveEnds : Type 0 where
   pub walls : Moments
   pub walled : Walled
   pub log : Log
+
+-- the ends where a run begins, before anything has come; an answer is awaited for so long, in ms
+abbrev pub begun_with : AllowList → (line : StreamHistory) → (listener : Attempts)
+    → (clock walls : Moments) → (answer_ms : ℕ) → LiveEnds
+begun_with allow_list line listener clock walls answer_ms = record {
+  allow_list = allow_list;
+  line = line;
+  connection = None;
+  held = [];
+  listener = listener;
+  clock = clock;
+  first = Listener;
+  is_cut_due = false;
+  goes_on = false;
+  failed = 0;
+  late = 0;
+  timing = record { answer_ms = answer_ms; looked = 0; request = None };
+  walls = walls;
+  walled = never_given;
+  log = [];
+}
 
 -- what is fixed of a port from its start: who may connect, how long an answer is awaited, in ms,
 -- and whether the run goes on after a restart

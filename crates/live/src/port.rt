@@ -2,13 +2,12 @@
 ghost use Rattle.std.specs.Prelude.{◌≡◌, ◌≢◌, ℕ, ◌+◌, ◌<◌, ◌≤◌, true, false, List, [], ◌∷◌, ◌++◌};
 ghost use Rattle.std.specs.Prelude.{length, take, Some, None, IfSome, option_map};
 ghost use Rattle.gateway.specs.Ports.{FitsBuffer, faults_of, output_of, logged_by};
-ghost use Rattle.live.specs.Ends.{LiveEnds, Peer, after, clock_read_at, IsTurn, GivesEvent};
-ghost use Rattle.live.specs.Ends.{GivesWall, Turns};
+ghost use Rattle.live.specs.Ends.{LiveEnds, Peer, after, begun_with, clock_read_at, IsTurn};
+ghost use Rattle.live.specs.Ends.{GivesEvent, GivesWall, Turns};
 ghost use Rattle.live.specs.Ends.{PutsOut, LogsTurn, LogsPut, as_logged, FitsFound, IsWritten};
 ghost use Rattle.live.specs.Ends.{LooksOn, failure_of, faults_in, is_tick_due};
 ghost use Rattle.live.specs.Timing.{is_behind, moment_at};
 ghost use Rattle.live.specs.Looks.{LooksInRound, LooksAt};
-ghost use Rattle.live.specs.Walls.{never_given};
 ghost use Rattle.gateway.specs.Log.{with_news, Went};
 ghost use Rattle.gateway.specs.declared.ports.Next.TheVariants.{Done};
 
@@ -106,23 +105,8 @@ impl<S: OctetStream, L: Listener + Drop, C: RunClock + Drop> Live<S, L, C> {
         allow_list: AllowList,
         config: &Config,
     ) -> Live<S, L, C>
-        ensures { result ≡ record {
-          allow_list = allow_list;
-          line = S.history line;
-          connection = None;
-          held = [];
-          listener = L.attempts listener;
-          clock = C.moments clock;
-          first = sources.Listener;
-          is_cut_due = false;
-          goes_on = false;
-          failed = 0;
-          late = 0;
-          timing = record { answer_ms = config.now.line.answer_ms; looked = 0; request = None };
-          walls = C.walls clock;
-          walled = never_given;
-          log = [];
-        } }
+        ensures { result ≡ begun_with allow_list (S.history line) (L.attempts listener)
+            (C.moments clock) (C.walls clock) config.now.line.answer_ms }
     {
         // Of the settings it needs how long an answer is awaited (docs/DECISIONS.md, "What
         // `Live::new` takes").
@@ -137,23 +121,8 @@ impl<S: OctetStream, L: Listener + Drop, C: RunClock + Drop> Live<S, L, C> {
         allow_list: AllowList,
         answer_ms: u64,
     ) -> Live<S, L, C>
-        ensures { result ≡ record {
-          allow_list = allow_list;
-          line = S.history line;
-          connection = None;
-          held = [];
-          listener = L.attempts listener;
-          clock = C.moments clock;
-          first = sources.Listener;
-          is_cut_due = false;
-          goes_on = false;
-          failed = 0;
-          late = 0;
-          timing = record { answer_ms = answer_ms; looked = 0; request = None };
-          walls = C.walls clock;
-          walled = never_given;
-          log = [];
-        } }
+        ensures { result ≡ begun_with allow_list (S.history line) (L.attempts listener)
+            (C.moments clock) (C.walls clock) answer_ms }
     {
         Live {
             allow_list,

@@ -1,4 +1,6 @@
 pub mod CrashLemmas
+pub mod SegmentLemmas
+pub mod HeldLemmas
 pub mod HeadLemmas
 pub mod Fronts
 pub mod Zeros

@@ -560,7 +560,7 @@ impl<D: Disk> Start<D> {
 
     /// The octets behind the checkpoint, up to the first octet 0 or the file's end: the lines that
     /// were appended, and what a crash left of one.
-    #[tactic(auto, using(crate::proofs::CrashLemmas::read_rest))]
+    #[tactic(auto, using(crate::proofs::HeldLemmas::read_rest))]
     pub fn events(&mut self, alloc: Global) -> Result<Vec<u8>, SegmentFault>
         ensures text { IfOk result (λ text. IsTrue (D.Disk.is_clean (newest_of self.new)) →
             text.items ≡ events_in self.new) }

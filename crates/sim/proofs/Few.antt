@@ -18,7 +18,7 @@ use Rattle.sim.specs.Losses.{fate_of}
 use Rattle.sim.specs.Lives.{requests_in}
 use Rattle.sim.specs.Outstations.{is_received, request_to, requests_to}
 use Rattle.sim.proofs.Counting.{effects_one}
-use Rattle.sim.proofs.Honest.{same_asked}
+use Rattle.sim.proofs.Awaited.{same_asked}
 use Rattle.sim.proofs.Turns.{asked_of, length_more}
 
 one_request : (i : ℕ) (received_it : Bool) (m : Option Sending)

@@ -14,6 +14,8 @@ pub mod Counting
 pub mod Fronts
 pub mod Exchanging
 pub mod Tallying
+pub mod Addressed
+pub mod Awaited
 pub mod Honest
 pub mod Few
 pub mod Serviceable

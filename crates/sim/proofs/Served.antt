@@ -48,7 +48,9 @@ use Rattle.sim.proofs.BeginningLemmas.{begun_sizes}
 use Rattle.sim.proofs.ReceivingLemmas.{length_lived}
 use Rattle.sim.proofs.Turns.{asked_of, DidAll, did_all}
 use Rattle.sim.proofs.Fronts.{HasFronts, all_fronts}
-use Rattle.sim.proofs.Honest.{FitsPlan, Serves, serves, same_asked}
+use Rattle.sim.proofs.Addressed.{FitsPlan}
+use Rattle.sim.proofs.Awaited.{same_asked}
+use Rattle.sim.proofs.Honest.{Serves, serves}
 use Rattle.sim.proofs.Standing.{one_life}
 use Rattle.sim.proofs.Serviceable.{never_unable, willing_turns}
 

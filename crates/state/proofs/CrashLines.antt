@@ -22,7 +22,7 @@ use Rattle.traces.specs.Event.{Event}
 use Rattle.traces.specs.Printed.{IsFirstOf, line_of_entry, lines_of_log}
 use Rattle.traces.specs.Progress.{came}
 use Rattle.traces.specs.Trace.{lines_of}
-use Rattle.traces.proofs.ReadingBack.{event_logged}
+use Rattle.traces.proofs.EventLineLemmas.{event_logged}
 use Rattle.state.specs.Beginnings.{AreLinesRead}
 use Rattle.state.specs.Crashed.{AreLeft, HasLog, IsWritable, LogAll}
 use Rattle.state.specs.Replays.{AreRead, before_those, events_in_front, whole_lines, whole_parts}

@@ -1,5 +1,6 @@
 use Rattle.std.proofs.Common.{◌∙◌}
-use Rattle.segments.proofs.CrashLemmas.{publish_crash, publish_seen, ok_of, on_ok}
+use Rattle.segments.proofs.CrashLemmas.{ok_of, on_ok}
+use Rattle.segments.proofs.SegmentLemmas.{publish_crash, publish_seen}
 use Rattle.segments.proofs.gate.publish.Goals as goal
 
 pub returns-in_err-done-3-clause-crash : goal.returns-in_err-done-3-clause-crash

@@ -1,4 +1,4 @@
-use Rattle.segments.proofs.CrashLemmas.{zeroed_more}
+use Rattle.segments.proofs.SegmentLemmas.{zeroed_more}
 use Rattle.segments.proofs.gate.write_zeros.Goals as goal
 
 pub loop-i-preserved : goal.loop-i-preserved

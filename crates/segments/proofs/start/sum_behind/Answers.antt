@@ -1,6 +1,6 @@
 use Rattle.std.proofs.Common.{◌≡◌, ◌<◌, ◌∙◌, ℕ, List, length, drop, take, subst, sym, arith}
 use Rattle.statetext.specs.Sum.{remainder_after}
-use Rattle.segments.proofs.CrashLemmas.{summed_piece}
+use Rattle.segments.proofs.HeldLemmas.{summed_piece}
 use Rattle.segments.proofs.start.sum_behind.Goals as goal
 
 pub loop-at-preserved : goal.loop-at-preserved

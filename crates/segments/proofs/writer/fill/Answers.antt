@@ -1,6 +1,7 @@
 use Rattle.std.proofs.Common.{◌∙◌, ◌≤◌, ap, List, ℕ, ◌++◌, drop, arith, length}
-use Rattle.segments.proofs.CrashLemmas.{whole_open, published_length, published_text}
-use Rattle.segments.proofs.CrashLemmas.{published_blank, ended_length, at_deref}
+use Rattle.segments.proofs.SegmentLemmas.{whole_open}
+use Rattle.segments.proofs.HeldLemmas.{published_length, published_text}
+use Rattle.segments.proofs.HeldLemmas.{published_blank, ended_length, at_deref}
 use Rattle.segments.proofs.writer.fill.Goals as goal
 
 pub returns-in-Ok-clause-text : goal.returns-in-Ok-clause-text

@@ -1,6 +1,6 @@
 use Rattle.std.proofs.Common.{drop}
 use Rattle.segments.specs.Written.{text_in}
-use Rattle.segments.proofs.CrashLemmas.{body_length, prepared_text, zeros_here}
+use Rattle.segments.proofs.HeldLemmas.{body_length, prepared_text, zeros_here}
 use Rattle.segments.proofs.writer.prepare.Goals as goal
 
 pub returns-clause-text : goal.returns-clause-text

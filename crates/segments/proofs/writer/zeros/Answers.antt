@@ -1,5 +1,5 @@
 use Rattle.std.proofs.Common.{refl}
-use Rattle.segments.proofs.CrashLemmas.{zeros_blank}
+use Rattle.segments.proofs.HeldLemmas.{zeros_blank}
 use Rattle.segments.proofs.writer.zeros.Goals as goal
 
 pub returns-in-Ok-clause-blank : goal.returns-in-Ok-clause-blank

@@ -1,5 +1,5 @@
 use Rattle.traces.proofs.ReadingBack.{first_read, log_above, log_read, log_unmarked, actions_read}
-use Rattle.traces.proofs.ReadingBack.{event_logged}
+use Rattle.traces.proofs.EventLineLemmas.{event_logged}
 use Rattle.traces.proofs.laws.printed_lines_read_back.Goals as goal
 
 pub returns-clause-first : goal.returns-clause-first

@@ -2,7 +2,8 @@ use Rattle.std.proofs.Common.{refl, ap, None, []}
 use Rattle.link.specs.Procedure.{Down}
 use Rattle.link.specs.Outstation.{unreset}
 use Rattle.link.specs.Delivery.{commands}
-use Rattle.link.proofs.Sessions.{known_from, steady_from, latest_known, known_all}
+use Rattle.link.proofs.KnownFrom.{known_from, steady_from}
+use Rattle.link.proofs.Sessions.{latest_known, known_all}
 use Rattle.link.proofs.Commands.{sendings_from, sendings_steady, accepts, all_accept, accepts_every}
 use Rattle.link.proofs.Commands.{all_accept_every}
 use Rattle.link.proofs.laws.refinement.commands_are_accepted.Goals as goal

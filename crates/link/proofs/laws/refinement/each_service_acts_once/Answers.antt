@@ -1,7 +1,8 @@
 use Rattle.std.proofs.Common.{refl, None, []}
 use Rattle.link.specs.Procedure.{Down}
 use Rattle.link.specs.Outstation.{unreset}
-use Rattle.link.proofs.Sessions.{steady_from, latest_known, known_all, reports_known}
+use Rattle.link.proofs.KnownFrom.{steady_from}
+use Rattle.link.proofs.Sessions.{latest_known, known_all, reports_known}
 use Rattle.link.proofs.laws.refinement.each_service_acts_once.Goals as goal
 
 pub returns-clause-known : goal.returns-clause-known

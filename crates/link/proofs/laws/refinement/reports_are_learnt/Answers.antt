@@ -1,7 +1,8 @@
 use Rattle.std.proofs.Common.{refl, None, []}
 use Rattle.link.specs.Procedure.{Down}
 use Rattle.link.specs.Outstation.{unreset}
-use Rattle.link.proofs.Sessions.{known_from, all_have_reports}
+use Rattle.link.proofs.KnownFrom.{known_from}
+use Rattle.link.proofs.Sessions.{all_have_reports}
 use Rattle.link.proofs.laws.refinement.reports_are_learnt.Goals as goal
 
 pub returns : goal.returns

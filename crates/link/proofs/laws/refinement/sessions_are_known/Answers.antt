@@ -1,7 +1,8 @@
 use Rattle.std.proofs.Common.{refl, None, []}
 use Rattle.link.specs.Procedure.{Down}
 use Rattle.link.specs.Outstation.{unreset}
-use Rattle.link.proofs.Sessions.{known_from, all_in_sessions}
+use Rattle.link.proofs.KnownFrom.{known_from}
+use Rattle.link.proofs.Sessions.{all_in_sessions}
 use Rattle.link.proofs.laws.refinement.sessions_are_known.Goals as goal
 
 pub returns-clause-each : goal.returns-clause-each

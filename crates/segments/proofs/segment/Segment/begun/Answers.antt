@@ -2,7 +2,7 @@ use Rattle.std.proofs.Common.{◌∙◌, ap, refl, subst, sym, take, arith}
 use Rattle.std.proofs.lemmas.List.{append-nil}
 use Rattle.segments.specs.Head.{IsWholeText}
 use Rattle.segments.specs.Written.{text_in}
-use Rattle.segments.proofs.CrashLemmas.{all_begins, all_mixed}
+use Rattle.segments.proofs.SegmentLemmas.{all_begins, all_mixed}
 use Rattle.segments.proofs.Crashes.{whole_begun}
 use Rattle.segments.proofs.segment.Segment.begun.Goals as goal
 

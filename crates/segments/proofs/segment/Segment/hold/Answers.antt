@@ -1,5 +1,5 @@
 use Rattle.std.proofs.Common.{arith}
-use Rattle.segments.proofs.CrashLemmas.{held_text, held_begins, held_if}
+use Rattle.segments.proofs.HeldLemmas.{held_text, held_begins, held_if}
 use Rattle.segments.proofs.segment.Segment.hold.Goals as goal
 
 pub returns-in-Ok-clause-text : goal.returns-in-Ok-clause-text

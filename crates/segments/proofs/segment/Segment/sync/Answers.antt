@@ -1,7 +1,7 @@
 use Rattle.std.proofs.Common.{ℕ, List, take, arith, subst, sym}
 use Rattle.segments.specs.Crash.{IsBlankFrom}
 use Rattle.segments.specs.Head.{IsWholeText}
-use Rattle.segments.proofs.CrashLemmas.{all_begins, all_mixed}
+use Rattle.segments.proofs.SegmentLemmas.{all_begins, all_mixed}
 use Rattle.segments.proofs.segment.Segment.sync.Goals as goal
 
 pub invariant_of-self-clause-blank : goal.invariant_of-self-clause-blank

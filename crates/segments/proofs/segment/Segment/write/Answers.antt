@@ -1,7 +1,7 @@
 use Rattle.std.proofs.Common.{◌∙◌, arith}
 use Rattle.std.proofs.lemmas.Bool.{false≢true}
-use Rattle.segments.proofs.CrashLemmas.{failed_kept, failed_mixed, written_again, written_kept}
-use Rattle.segments.proofs.CrashLemmas.{written_mixed, long_again}
+use Rattle.segments.proofs.SegmentLemmas.{failed_kept, failed_mixed, written_again, written_kept}
+use Rattle.segments.proofs.SegmentLemmas.{written_mixed, long_again}
 use Rattle.segments.proofs.Crashes.{whole_written}
 use Rattle.segments.proofs.segment.Segment.write.Goals as goal
 

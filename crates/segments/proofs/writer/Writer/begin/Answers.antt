@@ -1,4 +1,4 @@
-use Rattle.segments.proofs.CrashLemmas.{nothing_held, nothing_summed}
+use Rattle.segments.proofs.HeldLemmas.{nothing_held, nothing_summed}
 use Rattle.segments.proofs.writer.Writer.begin.Goals as goal
 
 pub invariant_of-result-clause-summed : goal.invariant_of-result-clause-summed

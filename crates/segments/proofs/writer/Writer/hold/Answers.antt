@@ -1,4 +1,4 @@
-use Rattle.segments.proofs.CrashLemmas.{held_more, summed_more}
+use Rattle.segments.proofs.HeldLemmas.{held_more, summed_more}
 use Rattle.segments.proofs.writer.Writer.hold.Goals as goal
 
 pub returns-in-Ok-clause-put : goal.returns-in-Ok-clause-put
