@@ -29,3 +29,4 @@ pub mod Received
 pub mod Glances
 pub mod Outlived
 pub mod Faultless
+pub mod Numbers
