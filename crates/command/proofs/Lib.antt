@@ -30,3 +30,4 @@ pub mod Received
 pub mod Glances
 pub mod Outlived
 pub mod Faultless
+pub mod Numbers
