@@ -2,7 +2,6 @@
 use Rattle.std.proofs.Common.{◌≡◌, ℕ, List, refl, ap, ◌∙◌}
 use Rattle.gateway.specs.declared.ports.Next.{Next}
 use Rattle.gateway.specs.Log.{Log, Output}
-use Rattle.session.specs.declared.kinds.Close.TheVariants as close
 use Rattle.live.specs.Ends.{LiveEnds, Turns, PutsOut, as_logged, fixed_of}
 use Rattle.live.proofs.Rounds.{Aside, turn_still}
 use Rattle.live.proofs.Beside.{action_beside}

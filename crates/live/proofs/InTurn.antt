@@ -4,7 +4,6 @@ use Rattle.std.proofs.Common.{Some, None, refl, sym, ap, subst, arith, ◌∙◌
 use Rattle.gateway.specs.declared.ports.Next.{Next}
 use Rattle.gateway.specs.declared.ports.Next.TheVariants as next
 use Rattle.gateway.specs.Log.{Log, Output}
-use Rattle.session.specs.declared.kinds.Close.TheVariants as close
 use Rattle.live.specs.Timing.{is_behind, line_looked_at, moment_at}
 use Rattle.live.specs.OctetStreams.{Happening, StreamHistory, WasQuiet, noted, Attempts, attempted}
 use Rattle.live.specs.Ends.{LiveEnds, Peer, Answers, Turns, LogsTurn, LogsPut, as_logged, IsTurn}

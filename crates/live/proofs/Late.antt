@@ -2,7 +2,6 @@
 use Rattle.std.proofs.Common.{◌≡◌, ℕ, Bool, List, Option, Some, None, refl, sym, ap, subst, ◌∙◌}
 use Rattle.std.specs.Prelude.{option_map}
 use Rattle.gateway.specs.Log.{Output, LineOut, TcpOut, Closed, GapOut}
-use Rattle.session.specs.declared.kinds.Close.TheVariants as close
 use Rattle.live.specs.OctetStreams.{Dropped, Wrote, StreamHistory, IsNew, looked, noted}
 use Rattle.live.specs.Ends.{LiveEnds, Peer, Answers, PutsOut, as_logged, looked_at, accepted, more}
 use Rattle.live.specs.Ends.{written_open, closed_by, after_action}

@@ -3,7 +3,6 @@ use Rattle.std.proofs.Common.{◌≡◌, ℕ, List, [], ◌∷◌, ◌++◌, Som
 use Rattle.gateway.specs.declared.ports.Next.{Next}
 use Rattle.gateway.specs.Log.{with_news, Went, Output}
 use Rattle.gateway.specs.Ports.{logged_by}
-use Rattle.session.specs.declared.kinds.Close.TheVariants as close
 use Rattle.live.specs.Ends.{LiveEnds, Turns, PutsOut, LogsTurn, LogsPut, as_logged}
 use Rattle.live.proofs.Apart.{log_of}
 use Rattle.live.proofs.Beside.{action_beside}

@@ -66,8 +66,8 @@ pub record FitsPlan (p : Setup) (plan : Plan) : Type 0 where
   pub fresh : (i : ℕ) (d : Secondary) → d.given ≡ 0 → (get_or plan.stations i d).given ≡ 0
 
 pub record AreThese (p : Setup) (size : LinkSize) (stations : List Secondary) : Type 0 where
-  addresses : map (λ (s : Secondary). s.address) stations ≡ p.addresses
-  sizes : AllByRecursion (λ s. s.size ≡ size) stations
+  pub addresses : map (λ (s : Secondary). s.address) stations ≡ p.addresses
+  pub sizes : AllByRecursion (λ s. s.size ≡ size) stations
 
 these_out : Laws → (p : Setup) (size : LinkSize) (fate : RequestFate) (octets : List ℕ)
     (ss ts : List Secondary)
@@ -158,12 +158,12 @@ put_quiet laws p fate octets ss ts answer i d these lt never h = go fate h
     go Answered k = all k
 
 -- its turn at a request to it
-record TurnAt (size : LinkSize) (fate : RequestFate) (answer : Option Frame) (s t : Secondary)
+pub record TurnAt (size : LinkSize) (fate : RequestFate) (answer : Option Frame) (s t : Secondary)
     (r : Asked)
     (x : OpenExchange) : Type 0 where
-  turn : Turn
-  took : TakesTurn (is_received fate) s r turn t
-  may : MayCome size (arriving size fate answer) x turn
+  pub turn : Turn
+  pub took : TakesTurn (is_received fate) s r turn t
+  pub may : MayCome size (arriving size fate answer) x turn
 
 pub put_asked : (laws : Laws) (p : Setup) (fate : RequestFate) (octets : List ℕ)
     (ss ts : List Secondary)

@@ -68,7 +68,7 @@ fn request_in(size: LinkSize, octets: &[u8]) -> Option<(u16, ReceivedRequest)>
 
 #[tactic(auto, using(crate::proofs::Places::place_here, crate::proofs::Places::place_more, crate::proofs::Places::place_none))]
 /// The place of the station with this link address.
-fn index_of(address: u16, stations: &[gateway::Station]) -> Option<usize>
+fn index_of(address: u16, stations: &[gateway::StationSettings]) -> Option<usize>
     ensures { result ≡ index_of address (map (λ s. s.address) stations.now) }
 {
     for (index, station) in stations.iter().enumerate() {
@@ -89,7 +89,7 @@ fn sending_in(config: &Config, octets: &[u8]) -> Option<(usize, ReceivedRequest)
 }
 
 /// The link address of the station at this place, or 0.
-fn address_at(stations: &[gateway::Station], index: usize) -> u16
+fn address_at(stations: &[gateway::StationSettings], index: usize) -> u16
     ensures { result ≡ address_at (map (λ s. s.address) stations.now) index }
 {
     match stations.get(index) {
