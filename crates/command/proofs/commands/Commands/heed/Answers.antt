@@ -3,7 +3,7 @@ use Rattle.std.specs.List.{list_any}
 use Rattle.command.specs.Selection.{heeds}
 use Rattle.command.specs.State.{State}
 use Rattle.command.specs.declared.selection.Selection.{Selection}
-use Rattle.command.proofs.Received.{unreceived_logged}
+use Rattle.command.proofs.Heeded.{unreceived_logged}
 use Rattle.command.proofs.commands.Commands.heed.Goals as goal
 
 pub returns-else-is_received : goal.returns-else-is_received
