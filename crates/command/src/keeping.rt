@@ -26,7 +26,7 @@ use asdu::Sizes;
 use std::alloc::Global;
 
 /// Whether the sign concerns a selection.
-pub(crate) fn is_received(selections: &[Selection], select_ms: u64, sign: &Sign) -> bool
+pub(crate) fn is_heeded(selections: &[Selection], select_ms: u64, sign: &Sign) -> bool
     ensures { result ≡ list_any (heeds select_ms sign.now) selections.now }
 {
     selections
