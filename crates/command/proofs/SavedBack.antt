@@ -4,7 +4,7 @@ use Rattle.std.proofs.Common.{List, [], ◌∷◌, ◌++◌, length, take, drop,
 use Rattle.std.proofs.Common.{Ok, Err, MatchResult, refl, sym, ap, ◌∙◌, arith, append_assoc}
 use Rattle.std.specs.List.{list_all}
 use Rattle.std.proofs.lemmas.List.{take_more, drop_more, length-map}
-use Rattle.command.specs.Saved.{is_heeded, is_for_line, waiting_numbers, is_savable_waiting}
+use Rattle.command.specs.Saved.{is_received, is_for_line, waiting_numbers, is_savable_waiting}
 use Rattle.command.specs.Saved.{waiting_in, are_octets, is_answer, is_savable_answer}
 use Rattle.command.specs.Restored.{HasSettings, ArePartsOf, IsSavable, state_with, is_long}
 use Rattle.command.specs.Restored.{are_long}
@@ -75,7 +75,7 @@ reaches (x ∷ xs) ys = let h = reaches xs ys in grind (arith, h)
 pub waiting_back : (w : Waiting) → is_savable_waiting w ≡ true → waiting_in (waiting_numbers w)
     ≡ Some w
 waiting_back w e =
-    let h = both (is_heeded w.received) (is_for_line w.octets) e in
+    let h = both (is_received w.received) (is_for_line w.octets) e in
     rw (
       reaches w.received w.octets,
       taken w.received w.octets,

@@ -28,8 +28,8 @@ octets_in most ns = if nat_le (length ns) most && are_octets ns then Some ns els
 -- ---- Commands that wait: the station, how many octets came, these, and those for the line
 
 -- octets of a command as it came, as many as its type says
-abbrev pub is_heeded : List ℕ → Bool
-is_heeded xs =
+abbrev pub is_received : List ℕ → Bool
+is_received xs =
     nat_le (length xs) 19 && are_octets xs && length xs == command_len (slice_index xs 0)
 
 -- octets for the line
@@ -37,7 +37,7 @@ abbrev pub is_for_line : List ℕ → Bool
 is_for_line xs = nat_le (length xs) 12 && are_octets xs && nat_le 1 (length xs)
 
 abbrev pub received_in : List ℕ → Option (List ℕ)
-received_in ns = if is_heeded ns then Some ns else None
+received_in ns = if is_received ns then Some ns else None
 
 abbrev pub for_line_in : List ℕ → Option (List ℕ)
 for_line_in ns = if is_for_line ns then Some ns else None
@@ -46,7 +46,7 @@ abbrev pub waiting_numbers : Waiting → List ℕ
 waiting_numbers w = w.station ∷ length w.received ∷ (w.received ++ w.octets)
 
 abbrev pub is_savable_waiting : Waiting → Bool
-is_savable_waiting w = is_heeded w.received && is_for_line w.octets
+is_savable_waiting w = is_received w.received && is_for_line w.octets
 
 abbrev pub waiting_with : ℕ → Option (List ℕ) → Option (List ℕ) → Option Waiting
 waiting_with station (Some received) (Some octets) =
@@ -69,7 +69,7 @@ line_numbers CutOff = 2 ∷ []
 
 abbrev pub is_savable_line : Line → Bool
 is_savable_line Free = true
-is_savable_line (Holds received) = is_heeded received
+is_savable_line (Holds received) = is_received received
 is_savable_line CutOff = true
 
 -- nothing may follow

@@ -4,7 +4,7 @@ ghost use Rattle.std.specs.Prelude.{length, map, OnOk};
 ghost use Rattle.std.specs.List.{list_all};
 ghost use Rattle.command.specs.Command.{element_octets};
 ghost use Rattle.command.specs.Restored.{list_lines};
-ghost use Rattle.command.specs.Saved.{are_octets, is_heeded, is_for_line, is_answer};
+ghost use Rattle.command.specs.Saved.{are_octets, is_received, is_for_line, is_answer};
 ghost use Rattle.command.specs.Saved.{waiting_numbers, is_savable_waiting, line_numbers};
 ghost use Rattle.command.specs.Saved.{is_savable_line, field_numbers, are_fields, stage_number};
 ghost use Rattle.command.specs.Saved.{stage_detail, selection_numbers, is_savable_selection};
