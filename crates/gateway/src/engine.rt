@@ -145,7 +145,7 @@ fn commands(alloc: Global, config: &Config) -> Result<Commands, NoMemory>
         config.tcp().select_ms,
         config.tcp().max_age_ms,
     )
-    .map_err(|_| { NoMemory })
+    .map_err(|_| NoMemory)
 }
 
 /// An empty queue.

@@ -237,9 +237,8 @@ impl Gateway {
         ensures open { IsOnward result (is_open self.new.centre.session ≡ true) }
         ensures puts { Puts P.log P.script P.failed port.old port.new (faults_in result) }
     {
-        match self.judge(apdu) {
-            Some(cause) => return self.shut(cause, port),
-            None => {}
+        if let Some(cause) = self.judge(apdu) {
+            return self.shut(cause, port);
         }
         // Behind each APDU and not once a piece: the next one is taken when no confirmation is
         // due.

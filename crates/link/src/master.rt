@@ -253,9 +253,7 @@ impl Master {
                     has_gap: false,
                 },
             };
-            if stations.push(station).is_err() {
-                return Err(NoMemory);
-            }
+            stations.push(station).map_err(|_| NoMemory)?;
         }
         Ok(Master {
             settings,

@@ -234,9 +234,8 @@ fn cut_at_zero(text: &mut Vec<u8>)
 {
     // No line has an octet 0, and zeros were there before the lines (docs/DECISIONS.md, "A line
     // that can't be read").
-    match place_of_zero(text) {
-        Some(end) => text.truncate(end),
-        None => {}
+    if let Some(end) = place_of_zero(text) {
+        text.truncate(end);
     }
 }
 

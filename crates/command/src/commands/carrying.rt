@@ -41,9 +41,7 @@ fn lines_carried(
     let mut kept = Vec::new(alloc);
     for place in before {
         let line = line_carried(lines, *place);
-        if kept.push(line).is_err() {
-            return Err(NoMemory);
-        }
+        kept.push(line).map_err(|_| NoMemory)?;
     }
     Ok(kept)
 }

@@ -66,9 +66,7 @@ fn seats(alloc: Global, before: &Config, now: &Config) -> Result<Vec<ResumedStat
             address: station.address,
             before: place_of(station.address, before.stations()),
         };
-        if found.push(seat).is_err() {
-            return Err(NoMemory);
-        }
+        found.push(seat).map_err(|_| NoMemory)?;
     }
     Ok(found)
 }
@@ -94,9 +92,7 @@ fn places(alloc: Global, seats: &[ResumedStation]) -> Result<Vec<Option<usize>>,
 {
     let mut found = Vec::new(alloc);
     for seat in seats {
-        if found.push(seat.before).is_err() {
-            return Err(NoMemory);
-        }
+        found.push(seat.before).map_err(|_| NoMemory)?;
     }
     Ok(found)
 }

@@ -193,9 +193,7 @@ impl Master {
         let mut stations = Vec::new(alloc);
         for seat in seats {
             let station = seated(settings.retries, &self.stations, *seat);
-            if stations.push(station).is_err() {
-                return Err(NoMemory);
-            }
+            stations.push(station).map_err(|_| NoMemory)?;
         }
         Ok(Master {
             settings,

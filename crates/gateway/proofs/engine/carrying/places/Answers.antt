@@ -9,7 +9,7 @@ loop-seat-preserved c =
     let i = c.loop-seat.seat-index in
     let other : ResumedStation = record { address = 0; before = None } in
     let d = c.push.ensures.items in
-    let e = c.is_err.ensures in
+    let e = c.map_err.ensures in
     let place : Option ℕ = (get_or c.args.seats.now i other).before in
     let items : c.push.new.self.items ≡ c.loop-seat.found.items ++ place ∷ [] = search rules in
     items ∙ one_more (λ (s : ResumedStation). s.before) c.args.seats.now i other

@@ -13,7 +13,7 @@ pub loop-seat-preserved : goal.loop-seat-preserved
 loop-seat-preserved c =
     let P : StationState → Type 0 = FitsStation c.args.settings.size in
     let d = c.push.ensures.items in
-    let e = c.is_err.ensures in
+    let e = c.map_err.ensures in
     let items : c.push.new.self.items ≡ c.loop-seat.stations.items ++ c.seated-station.result ∷ [] =
     search rules in
     let before : All (FitsStation c.self.inside.settings.size) c.deref.result.now =
