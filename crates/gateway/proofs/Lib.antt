@@ -1,6 +1,7 @@
 pub mod Counters
 pub mod AnswerTypes
 pub mod Stale
+pub mod CountsGoOn
 pub mod Pieces
 pub mod Unconfirmed
 pub mod Tied

@@ -3,7 +3,7 @@ ghost use Rattle.std.specs.Prelude.{◌≡◌, Ok};
 ghost use Rattle.toml.specs.Data.{Members};
 ghost use Rattle.settings.specs.Live.{Places};
 ghost use Rattle.settings.specs.Settings.{Values, known_settings, known_live};
-ghost use Rattle.settings.specs.Named.{AreNamed};
+ghost use Rattle.settings.specs.Named.{AreNamed, MayBeRead};
 
 /// Each setting that is read is the value that stands in the file under its own key, or its own
 /// default where none does, and is within its own bounds: no other key, no other table and no
@@ -13,4 +13,14 @@ pub fn settings_are_named()
         AreNamed root v }
     ensures live { (root : Members) (v : Values) (places : Places) →
         known_live root ≡ Ok (v, places) → AreNamed root v }
+{}
+
+/// And the other way round: a file in which each setting stands under its own key, within its own
+/// bounds, or has a default, is read, and gives these settings. So no value within its bounds is
+/// refused, neither the least nor the greatest, and no station whatever its place, its addresses
+/// and how many there are of 1 to 32, as long as no two have one address. (Keys that no table may
+/// have are looked for behind this.)
+pub fn named_settings_are_read()
+    ensures { (root : Members) (v : Values) → AreNamed root v → MayBeRead root v →
+        known_settings root ≡ Ok v }
 {}
