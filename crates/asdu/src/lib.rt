@@ -36,7 +36,10 @@ pub use laws::{
 pub use objects::{Object, Objects};
 pub use reading::{head, read};
 pub use sizes::{CaSize, CauseSize, IoaSize, Sizes};
-pub use tagging::{is_plain_command, is_tagged_command, retag, retagged_commands_come_back, untag};
+pub use tagging::{
+    is_plain_command, is_tagged_command, retag, retagged_commands_come_back,
+    tags_stand_behind_the_element, untag,
+};
 pub use translation::{Piece, Pieces, Translation, translate};
 pub use unit::{Asdu, Refused};
 pub use writing::{can_write, write};

@@ -1,8 +1,9 @@
 //! Commands with and without a time tag.
-ghost use Rattle.std.specs.Prelude.{◌≡◌, ℕ, List, length, true};
+ghost use Rattle.std.specs.Prelude.{◌≡◌, ◌+◌, ◌-◌, ◌∷◌, ◌++◌, ℕ, List, length, take, drop, true};
+ghost use Rattle.std.specs.Prelude.{slice_index};
 ghost use Rattle.elements.specs.Octets.{AreOctets};
 ghost use Rattle.asdu.specs.declared.sizes.Sizes.{Sizes};
-ghost use Rattle.asdu.specs.Asdu.{AsduValue, FitsSizes, IsAsdu};
+ghost use Rattle.asdu.specs.Asdu.{AsduValue, FitsSizes, IsAsdu, spelled};
 ghost use Rattle.asdu.specs.Fields.{number_at};
 ghost use Rattle.asdu.specs.Sizes.{tcp};
 ghost use Rattle.asdu.specs.Reading.{value_of};
@@ -79,4 +80,18 @@ fn octets_of(tag: Cp56) -> [u8; 7]
 pub fn retagged_commands_come_back()
     ensures { (s : Sizes) (tag : List ℕ) (v : AsduValue) → FitsSizes s v →
         names_plain_command v.kind ≡ true → untagged (tagged tag v) ≡ v }
+{}
+
+/// A command with a time tag has the octets of the same command without it, but for its type, which
+/// is 13 above, and behind its element the seven octets of the tag, as they are: with SU, IV and
+/// the reserved bits (IEC 60870-5-104, 8).
+pub fn tags_stand_behind_the_element()
+    ensures tagged { (s : Sizes) (tag : List ℕ) (v : AsduValue) → FitsSizes s v →
+        length v.infos ≡ 1 → names_plain_command v.kind ≡ true → length tag ≡ 7 → AreOctets tag →
+        spelled s (tagged tag v)
+        ≡ ((slice_index (spelled s v) 0 + 13) ∷ drop 1 (spelled s v)) ++ tag }
+    ensures untagged { (s : Sizes) (v : AsduValue) → FitsSizes s v →
+        length v.infos ≡ 1 → names_tagged_command v.kind ≡ true →
+        spelled s (untagged v) ≡ (slice_index (spelled s v) 0 - 13)
+        ∷ take (length (spelled s v) - 7 - 1) (drop 1 (spelled s v)) }
 {}

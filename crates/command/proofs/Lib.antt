@@ -26,7 +26,8 @@ pub mod OwnAnswers
 pub mod SavedBack
 pub mod Places
 pub mod Wholes
-pub mod Received
+pub mod Heeded
 pub mod Glances
 pub mod Outlived
 pub mod Faultless
+pub mod Numbers

@@ -230,6 +230,12 @@ selected select answer = Mirror answer 80 ∷ Accept 0 ∷ PutOnLine 0 ∷ judge
 abbrev pub confirmed : List Call
 confirmed = selected (asdu 45 6 1 (129 ∷ [])) (mirror CScNa1 7 1 (129 ∷ []))
 
+-- the same select and confirmation at these moments
+abbrev pub confirmed_at_moments : (came con : ℕ) → List Call
+confirmed_at_moments came con =
+    Mirror (mirror CScNa1 7 1 (129 ∷ [])) con ∷ Accept 0 ∷ PutOnLine 0
+    ∷ judge (asdu 45 6 1 (129 ∷ [])) came ∷ []
+
 -- its execute, and the negative answer to it
 abbrev pub execute : List ℕ
 execute = asdu 45 6 1 (1 ∷ [])

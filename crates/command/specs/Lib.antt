@@ -15,6 +15,7 @@ pub mod Rules
 pub mod Laws
 pub mod CommandLaws
 pub mod Examples
+pub mod Numbers
 pub mod Saved
 pub mod Restored
 pub mod Refusals

@@ -23,7 +23,7 @@ use crate::judging::{
     negative_cause,
 };
 use crate::keeping::{
-    advance_all, count_others, count_waiting, cut_all, free_lines, is_received, is_used_at,
+    advance_all, count_others, count_waiting, cut_all, free_lines, is_heeded, is_used_at,
     kept_stations, place_of, push_copies, refusal_at, station_number,
 };
 use crate::mirrors::{element_of, is_con};
@@ -217,7 +217,7 @@ impl Commands {
         ensures { self.new ≡ heeded sign self.old }
     {
         // Each event comes by here, and few change a selection.
-        if is_received(self.selections.as_slice(), self.select_ms, &sign) {
+        if is_heeded(self.selections.as_slice(), self.select_ms, &sign) {
             self.advance(&sign);
         }
     }

@@ -20,13 +20,13 @@ use crate::content::{Target, read_command, refuse, write_command};
 use crate::judging::{is_for, negative_cause};
 use crate::selection::{Selection, Sign};
 use crate::station::StationInfo;
-use crate::waiting::{Line, LineOctets, Received, Waiting};
+use crate::waiting::{CommandAsdu, Line, LineOctets, Waiting};
 use arrayvec::ArrayVec;
 use asdu::Sizes;
 use std::alloc::Global;
 
 /// Whether the sign concerns a selection.
-pub(crate) fn is_received(selections: &[Selection], select_ms: u64, sign: &Sign) -> bool
+pub(crate) fn is_heeded(selections: &[Selection], select_ms: u64, sign: &Sign) -> bool
     ensures { result ≡ list_any (heeds select_ms sign.now) selections.now }
 {
     selections
@@ -232,7 +232,7 @@ fn push_copy(
         waiting.push_reserved(Waiting {
             station: number,
             // As it came: the answer mirrors it, and its tag is wanted when it goes out.
-            received: Received::copied(octets),
+            received: CommandAsdu::copied(octets),
             octets: LineOctets::new(write_command(sizes, station.ca, command)),
         });
     }

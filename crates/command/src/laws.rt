@@ -13,7 +13,7 @@ ghost use Rattle.asdu.specs.Asdu.{AsduValue};
 ghost use Rattle.asdu.specs.InformationObjects.{monitor_objects_of};
 ghost use Rattle.asdu.specs.Sizes.{tcp};
 ghost use Rattle.command.specs.Octets.{answer};
-ghost use Rattle.command.specs.State.{State, octets_waiting, sent, line_of, refusal_of};
+ghost use Rattle.command.specs.State.{State, octets_waiting, sent, line_of, refusal_of, is_used};
 ghost use Rattle.command.specs.Judging.{judged};
 ghost use Rattle.command.specs.Mirrors.{mirrored, tag_for};
 ghost use Rattle.asdu.specs.declared.sizes.Sizes.{Sizes};
@@ -31,6 +31,8 @@ ghost use Rattle.command.specs.Selections.{AreDistinct, IsStanding, IsInTime};
 ghost use Rattle.command.specs.Examples.{OctetExamples, IsRight, WaitsSo, rule_examples};
 ghost use Rattle.command.specs.Examples.{selection_examples, line_examples, tag_examples, BearsIt};
 ghost use Rattle.command.specs.Examples.{mirror_examples};
+ghost use Rattle.command.specs.Numbers.{AddressesAreRead, ObjectsAreRead, TargetsAreCompared};
+ghost use Rattle.command.specs.Numbers.{ElementsAreRead, TimesAreKept};
 ghost use Rattle.command.specs.Laws.{AfterEachRun, AtEachMoment, AfterEachDue};
 ghost use Rattle.command.specs.CommandLaws.{CommandLaws, RunLaws};
 ghost use Rattle.command.specs.Carried.{carried};
@@ -221,6 +223,17 @@ pub fn worked_examples_hold()
     ensures mirrors { AllByRecursion BearsIt mirror_examples }
 {}
 
+/// The rules say the same of a command whatever its numbers are: each common address of a station,
+/// each object address, each octet of an element, each place of a station, and each setting of the
+/// times.
+pub fn rules_hold_for_all_numbers()
+    ensures addresses { AddressesAreRead }
+    ensures objects { ObjectsAreRead }
+    ensures targets { TargetsAreCompared }
+    ensures elements { ElementsAreRead }
+    ensures times { TimesAreKept }
+{}
+
 /// What crates above use of these laws, in one record; and the same of a state and a history that
 /// calls leave, for those that keep no calls.
 pub fn commands_keep_the_rules()
@@ -249,4 +262,19 @@ pub fn nothing_of_a_connection_outlives_new_settings()
     ensures lines { (stations : List StationInfo) (sizes : Sizes) (select_ms max_age_ms : ℕ)
         (before : List (Option ℕ)) (s : State) (k : ℕ) →
         refusal_of (line_of k (carried stations sizes select_ms max_age_ms before s)) ≡ None }
+{}
+
+/// What stands on a station's line over a change of settings still stands there, whatever place the
+/// station has now, so that the station's silence is still counted as a command that is given up. On
+/// the line of a station that is new nothing stands.
+pub fn what_is_on_a_line_outlives_new_settings()
+    ensures stays { (stations : List StationInfo) (sizes : Sizes) (select_ms max_age_ms : ℕ)
+        (before : List (Option ℕ)) (s : State) (k place : ℕ) →
+        slice_get before k ≡ Some (Some place) →
+        is_used (line_of k (carried stations sizes select_ms max_age_ms before s))
+        ≡ is_used (line_of place s) }
+    ensures new { (stations : List StationInfo) (sizes : Sizes) (select_ms max_age_ms : ℕ)
+        (before : List (Option ℕ)) (s : State) (k : ℕ) →
+        slice_get before k ≡ Some None →
+        is_used (line_of k (carried stations sizes select_ms max_age_ms before s)) ≡ false }
 {}

@@ -17,7 +17,7 @@ use crate::content::{Command, CommandElement, Target, command_octets_of};
 use crate::saving::Saved;
 use crate::selection::{SelectStage, Selection};
 use crate::tags::{MOST_SENDINGS, Sending, TAG_OCTETS, read_tag};
-use crate::waiting::{Line, LineOctets, Received, Waiting};
+use crate::waiting::{CommandAsdu, Line, LineOctets, Waiting};
 use arrayvec::ArrayVec;
 use checkpoint::{Lines, StateFault};
 use circular_buffer::HeapCircularBuffer;
@@ -42,14 +42,14 @@ pub(crate) fn octets_from<const N: usize>(numbers: &[u64]) -> Option<ArrayVec<u8
 }
 
 /// A command as it came.
-fn received_from(numbers: &[u64]) -> Option<Received>
+fn received_from(numbers: &[u64]) -> Option<CommandAsdu>
     ensures { result ≡ received_in numbers.now }
 {
     let octets: ArrayVec<u8, 19> = octets_from(numbers)?;
     if octets.is_empty() || octets.len() != command_octets_of(octets[0]) {
         return None;
     }
-    Some(Received::copied(octets.as_slice()))
+    Some(CommandAsdu::copied(octets.as_slice()))
 }
 
 /// A command as it goes to its station.

@@ -8,11 +8,11 @@ use std::marker::Model;
 
 /// The ASDU of a command as it came from the control centre.
 #[derive(Drop)]
-pub(crate) struct Received {
+pub(crate) struct CommandAsdu {
     octets: ArrayVec<u8, 19>,
 }
 
-impl Model for Received {
+impl Model for CommandAsdu {
     ghost Value = { List ℕ };
 
     ghost view = { λ a. a.octets.items };
@@ -20,9 +20,9 @@ impl Model for Received {
     ghost invariant = { λ a. length a.octets.items ≡ command_len (slice_index a.octets.items 0) };
 }
 
-impl Received {
+impl CommandAsdu {
     /// Keeps a copy of the octets.
-    pub(crate) fn copied(octets: &[u8]) -> Received
+    pub(crate) fn copied(octets: &[u8]) -> CommandAsdu
         requires whole { length octets.now ≡ command_len (slice_index octets.now 0) }
         requires fits { length octets.now ≤ 19 }
         ensures { result ≡ octets.now }
@@ -31,7 +31,7 @@ impl Received {
         let Ok(()) = copy.try_extend_from_slice(octets) else {
             unreachable!();
         };
-        Received { octets: copy }
+        CommandAsdu { octets: copy }
     }
 
     pub(crate) fn as_slice(&self) -> &[u8]
@@ -78,7 +78,7 @@ impl LineOctets {
 #[derive(Drop)]
 pub(crate) struct Waiting {
     pub station: usize,
-    pub received: Received,
+    pub received: CommandAsdu,
     pub octets: LineOctets,
 }
 
@@ -87,7 +87,7 @@ pub(crate) struct Waiting {
 pub(crate) enum Line {
     Free,
     /// A command of the open connection, as it came.
-    Holds(Received),
+    Holds(CommandAsdu),
     /// A command whose connection has ended.
     CutOff,
 }

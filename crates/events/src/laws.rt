@@ -1,6 +1,8 @@
 //! What a queue keeps after every list of calls.
 
-ghost use Rattle.std.specs.Prelude.{ℕ, List};
+ghost use Rattle.std.specs.Prelude.{◌≡◌, ◌-◌, ℕ, List, length};
+ghost use Rattle.events.specs.Queue.{Queue, kept, free_places};
+ghost use Rattle.events.specs.Carried.{carried};
 ghost use Rattle.events.specs.Runs.{Call, AreMade, KeepsAll};
 
 /// After every list of calls that could be made the queue keeps what was pushed and isn't
@@ -8,4 +10,14 @@ ghost use Rattle.events.specs.Runs.{Call, AreMade, KeepsAll};
 /// latest rewind.
 pub fn pieces_are_kept_in_order()
     ensures { (places : ℕ) (calls : List Call) → AreMade places calls → KeepsAll places calls }
+{}
+
+/// A queue that goes on with another number of places keeps each piece in its order, sent or not.
+/// All go out again, and a place is free for each that isn't taken, also where the pieces are more
+/// than the places.
+pub fn pieces_outlive_other_places()
+    ensures pieces { (places : ℕ) (q : Queue) → kept (carried places q) ≡ kept q }
+    ensures unsent { (places : ℕ) (q : Queue) → (carried places q).unsent ≡ kept q }
+    ensures free { (places : ℕ) (q : Queue) →
+        free_places (carried places q) ≡ places - length (kept q) }
 {}

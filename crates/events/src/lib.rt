@@ -32,7 +32,7 @@ mod restoring;
 mod ring;
 
 use asdu::{Asdu, Piece, Pieces, Translation};
-pub use laws::pieces_are_kept_in_order;
+pub use laws::{pieces_are_kept_in_order, pieces_outlive_other_places};
 use ring::PieceRing;
 use std::alloc::Global;
 use std::marker::Model;

@@ -9,8 +9,8 @@ use Rattle.asdu.specs.InformationObjects.{InformationObject}
 use Rattle.apci.specs.declared.apdu.Apdu.{Apdu}
 use Rattle.apci.specs.declared.apdu.Apdu.TheVariants.{I, S, U}
 use Rattle.apci.specs.Spelling.{spelling, Fits}
-use Rattle.session.specs.declared.kinds.Origin.{Origin}
-use Rattle.session.specs.declared.kinds.Origin.TheVariants.{Queue as FromQueue, Own}
+use Rattle.session.specs.declared.kinds.FrameOrigin.{FrameOrigin}
+use Rattle.session.specs.declared.kinds.FrameOrigin.TheVariants.{Queue as FromQueue, Own}
 use Rattle.session.specs.Session as session
 use Rattle.session.specs.Session.{Session, may_send}
 use Rattle.events.specs.Queue.{free_places}
@@ -211,7 +211,7 @@ past_put p log earlier now f e settled on fits talk b = record {
 -- An I frame goes out
 
 -- the course once an I frame of this kind has gone out
-abbrev data_course : State → List ℕ → Origin → (moment : ℕ) → Works → Course → Course
+abbrev data_course : State → List ℕ → FrameOrigin → (moment : ℕ) → Works → Course → Course
 data_course s asdu kind moment w c = record {
   talk = talk.Sent s.centre.session.next_sent s.centre.session.next_received kind moment ∷ c.talk;
   sent = c.sent ++ record {
@@ -239,7 +239,7 @@ data_own s asdu moment c none =
     (if b then c.works else answered_works c.works) c) none
 
 -- an I frame with this ASDU goes out
-module _ (p : Setup) (s t : State) (log : Log) (unjudged asdu : List ℕ) (kind : Origin)
+module _ (p : Setup) (s t : State) (log : Log) (unjudged asdu : List ℕ) (kind : FrameOrigin)
     (phase : Phase) (w : Works)
     (a : Agrees p s log unjudged phase) where
   abbrev data_log : Log

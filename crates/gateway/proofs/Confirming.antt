@@ -7,7 +7,7 @@ use Rattle.session.specs.Session as session
 use Rattle.session.specs.Session.{Session, may_send}
 use Rattle.gateway.specs.Log.{Log}
 use Rattle.gateway.specs.Reports.{Setup}
-use Rattle.session.specs.declared.kinds.Origin.{Origin}
+use Rattle.session.specs.declared.kinds.FrameOrigin.{FrameOrigin}
 use Rattle.gateway.specs.State.{State, with_session}
 use Rattle.gateway.specs.Phases.{Judged}
 use Rattle.session.specs.Ends.{after_confirm, after_pull, IsConfirmed, IsInTime}
@@ -149,14 +149,15 @@ pull_clear law s t is clear = record {
       pull_spent s t is clear.spent;
 }
 
-pub data_confirmed : ((kind : Origin) (now : ℕ) (s : Session) → may_send s ≡ true → IsConfirmed s
-    → IsConfirmed (session.sent kind now s)) → (s t : State) (kind : Origin) → IsData s t kind
+pub data_confirmed : ((kind : FrameOrigin) (now : ℕ) (s : Session) → may_send s ≡ true
+    → IsConfirmed s
+    → IsConfirmed (session.sent kind now s)) → (s t : State) (kind : FrameOrigin) → IsData s t kind
     → IsConfirmed s.centre.session → IsConfirmed t.centre.session
 data_confirmed law s t kind d h =
     subst IsConfirmed (sym d.session) (law kind s.moment s.centre.session d.may h)
 
-pub data_in_time : ((kind : Origin) (now : ℕ) (s : Session) → 0 < s.t1 → IsInTime now s
-    → IsInTime now (session.sent kind now s)) → (s t : State) (kind : Origin) → IsData s t kind
+pub data_in_time : ((kind : FrameOrigin) (now : ℕ) (s : Session) → 0 < s.t1 → IsInTime now s
+    → IsInTime now (session.sent kind now s)) → (s t : State) (kind : FrameOrigin) → IsData s t kind
     → StaysInTime s t
 data_in_time law s t kind d some h = (
   subst (λ m. IsInTime m t.centre.session) (sym d.moment)

@@ -1,4 +1,6 @@
 pub mod Counters
+pub mod AnswerTypes
+pub mod Stale
 pub mod Pieces
 pub mod Unconfirmed
 pub mod Tied

@@ -16,8 +16,8 @@ use Rattle.gateway.specs.Reports.{Setup}
 use Rattle.gateway.specs.Traffic.{IsFaithful}
 use Rattle.gateway.specs.Runs.{events_logged}
 use Rattle.link.specs.LineLaws.{LineLaws}
-use Rattle.session.specs.declared.kinds.Origin.{Origin}
-use Rattle.session.specs.declared.kinds.Origin.TheVariants.{Queue as FromQueue, Own}
+use Rattle.session.specs.declared.kinds.FrameOrigin.{FrameOrigin}
+use Rattle.session.specs.declared.kinds.FrameOrigin.TheVariants.{Queue as FromQueue, Own}
 use Rattle.gateway.specs.State.{State, with_centre, with_sides, with_session, disconnected}
 use Rattle.gateway.specs.Centre.{Centre}
 use Rattle.gateway.specs.Phases.{Phase, Timed, Asked, IsFlushing}
@@ -113,12 +113,12 @@ sends_data s f t (inl h) = sends_own s f t h.0 h.1
 sends_data s f t (inr h) = sends_piece s f t h.0 h.1 h.2
 
 -- what every I frame leaves of the state
-pub record IsData (s t : State) (kind : Origin) : Type 0 where
+pub record IsData (s t : State) (kind : FrameOrigin) : Type 0 where
   pub may : may_send s.centre.session ≡ true
   pub session : t.centre.session ≡ session.sent kind s.moment s.centre.session
   pub moment : t.moment ≡ s.moment
 
-pub data_sent : (s : State) (f : Apdu) (t : State) → SendsData s f t → (kind : Origin)
+pub data_sent : (s : State) (f : Apdu) (t : State) → SendsData s f t → (kind : FrameOrigin)
     × IsData s t kind
 data_sent s f t (inl h) = (
   Own,

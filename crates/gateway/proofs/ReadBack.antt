@@ -13,7 +13,7 @@ use Rattle.apci.specs.declared.apdu.Apdu.{Apdu}
 use Rattle.checkpoint.specs.declared.StateFault.{StateFault}
 use Rattle.gateway.specs.declared.counts.Tally.{Tally}
 use Rattle.gateway.specs.declared.walls.Wall.{Wall}
-use Rattle.gateway.specs.declared.engine.restoring.FirstLine.{FirstLine}
+use Rattle.gateway.specs.declared.engine.restoring.ClockLine.{ClockLine}
 use Rattle.gateway.specs.Serial.{Serial}
 use Rattle.gateway.specs.State.{State, HasPlaces, IsBetweenSteps}
 use Rattle.gateway.specs.Restored.{wall_numbers, clock_line, clock_of, clock_from, tally_line}
@@ -24,7 +24,7 @@ by_wall : (moment : ℕ) (wall : Option Wall)
 by_wall moment None = refl
 by_wall moment (Some wall) = refl
 
-pub clock_is : (s : State) (ns : List ℕ) (r : Option FirstLine) → ns ≡ clock_line s
+pub clock_is : (s : State) (ns : List ℕ) (r : Option ClockLine) → ns ≡ clock_line s
     → r ≡ clock_from ns
     → r ≡ Some (clock_of s)
 clock_is s ns r is e = e ∙ ap clock_from is ∙ by_wall s.moment s.wall
@@ -39,10 +39,10 @@ pub next_line : (x y : List ℕ) (xs ys all : List (List ℕ)) → all ≡ x ∷
     → (y ≡ x) × (ys ≡ xs)
 next_line x y xs ys all e f = let g : y ∷ ys ≡ x ∷ xs = sym f ∙ e in (cc, cc)
 
-pub same_clock : (a b : FirstLine) (r : Option FirstLine) → r ≡ Some a → r ≡ Some b → a ≡ b
+pub same_clock : (a b : ClockLine) (r : Option ClockLine) → r ≡ Some a → r ≡ Some b → a ≡ b
 same_clock a b r e f = cc
 
-pub no_clock : (b : FirstLine) (r : Option FirstLine) → r ≡ None → r ≡ Some b → ⊥
+pub no_clock : (b : ClockLine) (r : Option ClockLine) → r ≡ None → r ≡ Some b → ⊥
 no_clock b r e f = cc
 
 pub same_tally : (a b : Tally) (r : Option Tally) → r ≡ Some a → r ≡ Some b → a ≡ b
@@ -91,7 +91,7 @@ centre_back (Err fault) c a q s left h e f g k none whole rest = λ wrong.
     absurd (h (ap (λ (x : Session). from_queue x.unacknowledged) e ∙ whole
     ∙ ap (λ (x : Queue). length x.sent) (sym k)))
 
-abbrev state_of : Serial → Centre → Sizes → FirstLine → State
+abbrev state_of : Serial → Centre → Sizes → ClockLine → State
 state_of serial centre sizes clock =
     record {
       serial = serial;
@@ -102,7 +102,7 @@ state_of serial centre sizes clock =
           clock.wall;
     }
 
-pub state_back : (r : Result State StateFault) (sizes : Sizes) (clock : FirstLine) (serial : Serial)
+pub state_back : (r : Result State StateFault) (sizes : Sizes) (clock : ClockLine) (serial : Serial)
     (centre : Centre)
     (s : State) (left : Type 0) → MatchResult r (λ g. g ≡ state_of serial centre sizes clock)
     (λ fault. HasPlaces serial.line centre.queue → ⊥)
@@ -119,7 +119,7 @@ state_back (Err fault) sizes clock serial centre s left h e f k z places rest = 
     (subst (λ (x : Centre). HasPlaces s.serial.line x.queue) (sym f) places)))
 
 -- and it is between two steps
-pub joined_between : (r : Result State StateFault) (sizes : Sizes) (clock : FirstLine)
+pub joined_between : (r : Result State StateFault) (sizes : Sizes) (clock : ClockLine)
     (serial : Serial)
     (centre : Centre)
     → MatchResult r (λ g. g ≡ state_of serial centre sizes clock)

@@ -12,7 +12,7 @@ use Rattle.apci.specs.declared.apdu.Uf.TheVariants.{StartAct, StartCon, StopAct,
 use Rattle.apci.specs.declared.apdu.Uf.TheVariants.{TestCon}
 use Rattle.apci.specs.Spelling.{spelling, Fits}
 use Rattle.apci.specs.Reading.{IsMore}
-use Rattle.session.specs.declared.kinds.Origin.{Origin}
+use Rattle.session.specs.declared.kinds.FrameOrigin.{FrameOrigin}
 use Rattle.session.specs.declared.kinds.Taken.{Taken}
 use Rattle.session.specs.declared.kinds.Taken.TheVariants.{Nothing, Asdu, Close as Closes}
 use Rattle.session.specs.Session as session
@@ -139,7 +139,7 @@ takes s h f now on ready goes =
     (and_from (session.is_open s) (is_none (confirmed s).0) on (ap is_none ready))
     ∙ ap (λ x. at (session.taken f now s) (x ∷ h)) (logged_came (outcome_of s f) f now goes)
 
-pub sends : (s : Session) (h : History) (asdu : List ℕ) (kind : Origin) (now : ℕ) → may_send s
+pub sends : (s : Session) (h : History) (asdu : List ℕ) (kind : FrameOrigin) (now : ℕ) → may_send s
     ≡ true
     → kind_of asdu ≡ kind → after_call (Send kind now) (at s h)
     ≡ at (session.sent kind now s)

@@ -14,7 +14,7 @@ use Rattle.session.specs.declared.kinds.Taken.TheVariants.{Nothing, Asdu, Close 
 use Rattle.session.specs.declared.kinds.Close.{Close}
 use Rattle.session.specs.declared.kinds.Taken.{Taken}
 use Rattle.session.specs.declared.kinds.Close.TheVariants.{SendNumber, ReceiveNumber, Stopped}
-use Rattle.session.specs.declared.kinds.Origin.TheVariants.{Queue as FromQueue, Own}
+use Rattle.session.specs.declared.kinds.FrameOrigin.TheVariants.{Queue as FromQueue, Own}
 use Rattle.session.specs.Session as session
 use Rattle.session.specs.Session.{Session, is_close, outcome_of, after_frame, from_queue}
 use Rattle.session.specs.Session.{is_transferring, may_send, is_valid, newly, newly_by, left_by}

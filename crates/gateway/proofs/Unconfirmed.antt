@@ -5,7 +5,7 @@ use Rattle.std.proofs.Common.{◌∷◌, ◌++◌, length, take, drop, refl, ap,
 use Rattle.std.proofs.lemmas.List.{map-append, drop-map, drop-drop, length-drop, length-append}
 use Rattle.std.proofs.lemmas.List.{drop-append-le, append-nil}
 use Rattle.session.specs.declared.kinds.Unacknowledged.{Unacknowledged}
-use Rattle.session.specs.declared.kinds.Origin.TheVariants.{Queue as FromQueue, Own}
+use Rattle.session.specs.declared.kinds.FrameOrigin.TheVariants.{Queue as FromQueue, Own}
 use Rattle.session.specs.Session.{is_from_queue, from_queue}
 use Rattle.gateway.specs.Frames.{IsNumberedFrom, Sent}
 use Rattle.gateway.specs.Objects.{has_objects}

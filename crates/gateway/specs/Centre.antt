@@ -4,7 +4,7 @@
 use Rattle.std.specs.Prelude.{◌≡◌, ℕ, is_some, true, List, [], length, Option, Some, None}
 use Rattle.apci.specs.declared.apdu.Apdu.{Apdu}
 use Rattle.apci.specs.declared.apdu.Apdu.TheVariants.{I}
-use Rattle.session.specs.declared.kinds.Origin.TheVariants.{Queue as FromQueue, Own}
+use Rattle.session.specs.declared.kinds.FrameOrigin.TheVariants.{Queue as FromQueue, Own}
 use Rattle.session.specs.Session as session
 use Rattle.session.specs.Session.{Session, from_queue}
 use Rattle.session.specs.Runs.{Settings}

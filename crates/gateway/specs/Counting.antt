@@ -1,6 +1,6 @@
 -- What is counted of the reports that aren't passed on (profile).
 use Rattle.std.specs.Io.Iter.{u64_saturate}
-use Rattle.std.specs.Prelude.{ℕ, ◌+◌, Bool, not, ◌&&◌, List, [], ◌∷◌, if◌then◌else◌}
+use Rattle.std.specs.Prelude.{ℕ, ◌+◌, ◌==◌, Bool, not, ◌&&◌, ◌||◌, List, [], ◌∷◌, if◌then◌else◌}
 use Rattle.elements.specs.Types.{row}
 use Rattle.elements.specs.declared.types.TypeId.{TypeId}
 use Rattle.asdu.specs.declared.sizes.Sizes.{Sizes}
@@ -30,6 +30,12 @@ is_answer_type t = not (row t).monitor && not (row t).tagged
 
 -- By the first object of the report: one that can't be read has none. Those of monitor types are
 -- passed on, save for a negative 'unknown type'; answers to commands are none of the queue's.
+-- the types by which commands are answered, by their numbers (IEC 60870-5-101, 7.2.1.1): single,
+-- double and step command, normalized and scaled set point, interrogation
+abbrev pub is_answer_code : ℕ → Bool
+is_answer_code code =
+    code == 45 || code == 46 || code == 47 || code == 48 || code == 49 || code == 100
+
 abbrev pub counted_by : List InformationObject → Tally → Tally
 counted_by [] c = one_skipped c
 counted_by (o ∷ objects) c =

@@ -17,8 +17,8 @@ use Rattle.link.specs.Requests.{request_frame}
 use Rattle.link.specs.Primary.{sending}
 use Rattle.session.specs.declared.kinds.Close.{Close}
 use Rattle.session.specs.declared.kinds.Close.TheVariants.{Timeout, OwnAnswers, Replaced}
-use Rattle.session.specs.declared.kinds.Origin.{Origin}
-use Rattle.session.specs.declared.kinds.Origin.TheVariants.{Queue, Own}
+use Rattle.session.specs.declared.kinds.FrameOrigin.{FrameOrigin}
+use Rattle.session.specs.declared.kinds.FrameOrigin.TheVariants.{Queue, Own}
 use Rattle.session.specs.History as talk
 use Rattle.session.specs.History.{History, is_started, still_unacknowledged, confirmation_of}
 use Rattle.session.specs.History.{frame_due, has_timed_out}
@@ -187,7 +187,7 @@ pub record TakesFrames (p : Setup) (log : Log) (now : ℕ) (before after : Cours
 -- Frames that go out
 
 -- an ASDU with monitor objects is the queue's, any other an own answer
-abbrev pub kind_of : List ℕ → Origin
+abbrev pub kind_of : List ℕ → FrameOrigin
 kind_of asdu = if has_objects asdu then Queue else Own
 
 -- what is said where a frame goes out

@@ -10,7 +10,7 @@ use Rattle.command.specs.Restored.{HasSettings as HaveCommandSettings}
 use Rattle.events.specs.Restored.{queue_lines, IsSavable as IsSavableQueue}
 use Rattle.gateway.specs.declared.counts.Tally.{Tally}
 use Rattle.gateway.specs.declared.walls.Wall.{Wall}
-use Rattle.gateway.specs.declared.engine.restoring.FirstLine.{FirstLine}
+use Rattle.gateway.specs.declared.engine.restoring.ClockLine.{ClockLine}
 use Rattle.gateway.specs.Config.{Settings}
 use Rattle.gateway.specs.Setups.{link_of, info_of}
 use Rattle.gateway.specs.Serial.{Serial}
@@ -80,10 +80,10 @@ pub record HasSettings (c : Settings) (s : State) : Type 0 where
 
 -- ---- What is read
 
-abbrev pub clock_of : State → FirstLine
+abbrev pub clock_of : State → ClockLine
 clock_of s = record { moment = s.moment; wall = s.wall }
 
-abbrev pub clock_from : List ℕ → Option FirstLine
+abbrev pub clock_from : List ℕ → Option ClockLine
 clock_from (moment ∷ []) = Some (record { moment = moment; wall = None })
 clock_from (moment ∷ since ∷ number ∷ []) =
     Some (record { moment = moment; wall = Some (record { moment = since; number = number }) })

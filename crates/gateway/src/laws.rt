@@ -3,6 +3,7 @@ pub(crate) mod deciding;
 pub(crate) mod going_on;
 pub(crate) mod going_out;
 pub(crate) mod ordering;
+pub(crate) mod passing_on;
 pub(crate) mod restarts;
 pub(crate) mod turning;
 

@@ -55,12 +55,14 @@ pub use entries::{Entry, StoredEntry, announce, cause_number, keep};
 pub use history::History;
 pub use laws::deciding::what_comes_decides_what_goes_out;
 pub use laws::going_on::{
-    no_link_goes_on_but_of_a_station_as_it_was, stations_go_on_by_their_addresses,
+    a_stale_state_leaves_gaps, no_link_goes_on_but_of_a_station_as_it_was,
+    stations_go_on_by_their_addresses, what_is_kept_goes_on,
 };
 pub use laws::going_out::{
     data_wait_for_confirmations, frames_bear_whole_pieces, reports_wait_for_own_answers,
 };
 pub use laws::ordering::{moments_never_fall, steps_keep_their_order};
+pub use laws::passing_on::answers_have_the_types_of_commands;
 pub use laws::restarts::restarts_give_up_commands;
 pub use laws::turning::{logs_keep_turns, one_list_of_calls};
 pub use laws::{

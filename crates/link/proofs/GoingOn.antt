@@ -88,7 +88,8 @@ pub service_carried : (retries address : ℕ) (s : StationState)
     → service_of (station_carried retries address s).link ≡ service_of s.link
 service_carried retries address s = go s.link
   where
-    go : (link : Link) → service_of (station_carried retries address (record s { link = link })).link
+    go : (link : Link)
+        → service_of (station_carried retries address (record s { link = link })).link
         ≡ service_of link
     go Down = refl
     go Available = refl
@@ -99,7 +100,8 @@ pub broken_off : (p : Primary) (o : Outstanding) (fcb : Bool) (service : Service
     → p.turn < length p.stations → p.outstanding ≡ Some o → o.request ≡ Counted fcb service
     → service_of (station_at (released p).stations p.turn).link ≡ Some (Counted fcb service)
 broken_off p o fcb service within out is =
-    ap (λ (x : Option Outstanding). service_of (station_at (released_from p x).stations p.turn).link)
+    ap
+    (λ (x : Option Outstanding). service_of (station_at (released_from p x).stations p.turn).link)
     out
     ∙ ap (λ (s : StationState). service_of s.link) (get_or-set_same p.stations p.turn
     (station_left p.settings (station_at p.stations p.turn) o.request) no_station within)

@@ -1,6 +1,7 @@
 -- Which sessions have a gap.
 use Rattle.std.specs.Prelude.{◌&&◌, not}
-use Rattle.std.proofs.Common.{◌≡◌, ◌⊎◌, ℕ, Bool, true, false, List, [], ◌∷◌, ◌++◌, Option, Some, None}
+use Rattle.std.proofs.Common.{◌≡◌, ◌⊎◌, ℕ, Bool, true, false, List, [], ◌∷◌, ◌++◌, Option, Some}
+use Rattle.std.proofs.Common.{None}
 use Rattle.std.proofs.Common.{refl, ap, ◌∙◌, inl, inr}
 use Rattle.std.specs.List.{AllByRecursion}
 use Rattle.link.specs.Answers.{Service, Class1, Class2, Command, Asked, Status, Reset, Counted}
@@ -46,7 +47,8 @@ left_by : (a : ℕ) (before later : List Exchange) (x : Exchange)
     ≡ is_gap (pending_by x.request (answer_to a x) (pending_after a None before))
 left_by a before later x all =
     ap (λ (p : Option Service). is_gap p) (pending_append a None before (x ∷ later)
-    ∙ pending_stays a (pending_by x.request (answer_to a x) (pending_after a None before)) later all)
+    ∙ pending_stays a (pending_by x.request (answer_to a x) (pending_after a None before)) later
+    all)
 
 poll_gap : (service : Service) → is_poll_request (Counted true service) ≡ true
     → is_gap (Some service) ≡ true

@@ -144,7 +144,8 @@ counted : (settings : LinkSettings) (station : ℕ) (fcb : Bool) (service : Serv
     → has_repeats settings (link_after settings station link (x ∷ xs))
     ≡ nat_le (missed_so_far link + length (x ∷ xs)) settings.retries
 counted settings station fcb service link x [] hold all =
-    ap (λ (l : Link). has_repeats settings l) (after_missed settings station fcb service x link all.0)
+    ap (λ (l : Link). has_repeats settings l) (after_missed settings station fcb service x link
+    all.0)
     ∙ again_by settings fcb service (suc (missed_so_far link))
     ∙ ap (λ (n : ℕ). nat_le n settings.retries)
     (let e : suc (missed_so_far link) ≡ missed_so_far link + 1 = omega arith in e)

@@ -61,7 +61,8 @@ octets_since front p octets since (Some o) e is = go o.arrived
         → IsSince (received_after front p (with_octets octets o) before octets).outstanding since
     go None = is
     go (Some before) =
-        took_since p (with_octets octets o) (open_octets (before ++ octets) (front (before ++ octets)))
+        took_since p (with_octets octets o)
+        (open_octets (before ++ octets) (front (before ++ octets)))
         since is (whole_of (front (before ++ octets)))
 
 due_since : (p : Primary) (at : ℕ) (since : Option ℕ) → (o : Option Outstanding)

@@ -73,4 +73,5 @@ HasNoOutcome station x = (answer_to station x ≡ None) ⊎ (answer_to station x
 
 -- It is no service, and no reset that was confirmed.
 abbrev pub is_by_the_way : (station : ℕ) → Exchange → Bool
-is_by_the_way station x = not (is_service x.request) && not (is_reset x.request (answer_to station x))
+is_by_the_way station x = not (is_service x.request)
+    && not (is_reset x.request (answer_to station x))

@@ -14,7 +14,8 @@
 //! - over every list of calls the exchanges of the line keep the frame count bit of each station
 //!   ([`frame_count_bits_are_kept`], [`master_matches_the_log`]), no request goes out while one is
 //!   outstanding ([`requests_wait_their_turn`]), turns go round the stations ([`turns_go_round`]),
-//!   a turn ends ([`turns_end`]) and no station starves ([`no_station_starves`]), an unanswered
+//!   a turn ends ([`turns_end`]), it is one visit ([`a_turn_is_one_visit`]) and no station starves
+//!   ([`no_station_starves`]), an answer has its time ([`answers_have_their_time`]), an unanswered
 //!   service is sent again at once ([`repeats_come_at_once`]) and as often as is set
 //!   ([`repeats_are_as_many_as_set`]), a command that waits goes out before any new poll
 //!   ([`commands_go_before_polls`]) and polls follow it in its turn ([`polls_follow_commands`]), as
@@ -26,7 +27,7 @@
 //!   [`outcomes_bear_the_reports`]), and those that closed with octets but no answer are counted
 //!   ([`spoilt_exchanges_are_counted`]);
 //! - a reset that ends a session whose last report may be lost is reported, and no other
-//!   ([`gaps_are_reported`], [`gaps_are_ended_sessions`]);
+//!   ([`gaps_are_reported`], [`gaps_are_ended_sessions`], [`gaps_are_lost_polls`]);
 //! - where a link is given up at a restart no other station changes
 //!   ([`giving_up_is_for_one_station`]), and the exchanges show it ([`giving_up_is_logged`],
 //!   [`the_latest_exchange_is_marked`]); where a line goes on with other settings each station that
@@ -34,8 +35,8 @@
 //!   session ([`sessions_go_on`]);
 //! - what the crates above go by is one record ([`line_keeps_the_procedures`]);
 //! - a station runs as an outstation that receives each request to it
-//!   ([`station_is_an_outstation`]), and its answers say what waits there
-//!   ([`answers_show_what_waits`]);
+//!   ([`station_is_an_outstation`]) and serves it ([`station_serves_each_request`]), and its
+//!   answers say what waits there ([`answers_show_what_waits`]);
 //! - a control octet is a value ([`Control`], [`controls_are_octets`]);
 //! - each of the sixteen functions of a secondary station is an answer to a request, or none, with
 //!   the outcome that its table says ([`answers_are_whole`]), each request has one control octet at

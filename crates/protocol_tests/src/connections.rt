@@ -2,7 +2,7 @@ ghost use Rattle.std.specs.Prelude.{◌<◌};
 
 use apci::{Apdu, Front, FrontRef, Short, Uf, front, front_ref};
 use arrayvec::ArrayVec;
-use session::{Close, NoMemory, Origin, Session, Taken, Unacknowledged};
+use session::{Close, FrameOrigin, NoMemory, Session, Taken, Unacknowledged};
 use std::alloc::Global;
 use std::test::Fail;
 
@@ -18,7 +18,7 @@ enum Step {
     Acked(usize, usize),
     Confirm(Option<Short>),
     /// An I frame of this kind goes out at this moment, with these N(S) and N(R).
-    Send(Origin, u64, u16, u16),
+    Send(FrameOrigin, u64, u16, u16),
     /// No I frame may go out.
     Holds,
     /// So many I frames of the queue go out at 6, from this N(S) on.
@@ -45,7 +45,7 @@ fn report(ns: u16, nr: u16) -> Apdu {
 }
 
 /// Whether an I frame may go out, and has these N(S) and N(R).
-fn sends(session: &mut Session, kind: Origin, now: u64, numbers: (u16, u16)) -> bool {
+fn sends(session: &mut Session, kind: FrameOrigin, now: u64, numbers: (u16, u16)) -> bool {
     session.may_send() && session.sent(kind, now) == numbers
 }
 
@@ -53,7 +53,7 @@ fn sends(session: &mut Session, kind: Origin, now: u64, numbers: (u16, u16)) -> 
 fn sends_many(session: &mut Session, first: u16, count: u16) -> bool {
     for place in 0..count {
         let ns = first.wrapping_add(place) % 32768;
-        if !sends(session, Origin::Queue, 6, (ns, 0)) {
+        if !sends(session, FrameOrigin::Queue, 6, (ns, 0)) {
             return false;
         }
     }
@@ -64,9 +64,9 @@ fn sends_many(session: &mut Session, first: u16, count: u16) -> bool {
 fn sends_window(session: &mut Session) -> bool {
     for ns in 1..=32767u16 {
         let kind = if ns % 3 == 0 {
-            Origin::Own
+            FrameOrigin::Own
         } else {
-            Origin::Queue
+            FrameOrigin::Queue
         };
         if !sends(session, kind, 6, (ns, 0)) {
             return false;
@@ -81,7 +81,7 @@ fn acknowledges_each(session: &mut Session) -> bool {
         let acknowledge = Apdu::S {
             nr: (ns + 1) % 32768,
         };
-        let goes = sends(session, Origin::Queue, 6, (ns, 0));
+        let goes = sends(session, FrameOrigin::Queue, 6, (ns, 0));
         if !goes || session.take(&acknowledge, 6) != Taken::Nothing || session.acked() != (1, 0) {
             return false;
         }
@@ -182,7 +182,7 @@ const COURSES: [Course; 4] = [
             Step::Confirm(Some(Short::U(Uf::StartCon))),
             Step::Confirm(None),
             Step::Runs(true),
-            Step::Send(Origin::Queue, 6, 0, 0),
+            Step::Send(FrameOrigin::Queue, 6, 0, 0),
             Step::Due(15005, None),
             Step::Due(15006, Some(Close::Timeout)),
         ],
@@ -192,7 +192,7 @@ const COURSES: [Course; 4] = [
         false,
         STARTED,
         &[
-            Step::Send(Origin::Queue, 6, 0, 0),
+            Step::Send(FrameOrigin::Queue, 6, 0, 0),
             Step::Take(Short::U(Uf::StopAct), 7, Taken::Nothing),
             Step::Confirm(None),
             Step::Holds,
@@ -211,7 +211,7 @@ const COURSES: [Course; 4] = [
             // A STARTDT act forgets a pending STOPDT act.
             Step::Take(Short::U(Uf::StartAct), 12, Taken::Nothing),
             Step::Confirm(Some(Short::U(Uf::StartCon))),
-            Step::Send(Origin::Queue, 13, 1, 1),
+            Step::Send(FrameOrigin::Queue, 13, 1, 1),
             Step::Take(Short::U(Uf::StopAct), 14, Taken::Nothing),
             Step::Confirm(None),
             Step::Take(Short::U(Uf::StartAct), 15, Taken::Nothing),
@@ -242,7 +242,7 @@ const COURSES: [Course; 4] = [
             Step::Pull(50000, Some(Short::S { nr: 1 })),
             Step::Pull(50000, None),
             Step::Report(1, 0, 50001, Taken::Asdu),
-            Step::Send(Origin::Own, 50002, 0, 2),
+            Step::Send(FrameOrigin::Own, 50002, 0, 2),
             Step::Pull(60001, None),
         ],
     ),
@@ -252,7 +252,7 @@ const COURSES: [Course; 4] = [
         STARTED,
         &[
             Step::Report(0, 0, 6, Taken::Asdu),
-            Step::Send(Origin::Queue, 6, 0, 1),
+            Step::Send(FrameOrigin::Queue, 6, 0, 1),
             Step::Take(Short::U(Uf::TestAct), 7, Taken::Nothing),
             Step::Cut,
             Step::IsOpen(false),
@@ -264,7 +264,7 @@ const COURSES: [Course; 4] = [
             Step::Open(100000),
             Step::Confirm(None),
             Step::Take(Short::U(Uf::StartAct), 100001, Taken::Nothing),
-            Step::Send(Origin::Queue, 100002, 0, 0),
+            Step::Send(FrameOrigin::Queue, 100002, 0, 0),
         ],
     ),
 ];
@@ -314,7 +314,7 @@ const FAULTS: [Course; 6] = [
         false,
         STARTED,
         &[
-            Step::Send(Origin::Queue, 6, 0, 0),
+            Step::Send(FrameOrigin::Queue, 6, 0, 0),
             Step::Take(Short::S { nr: 1 }, 7, Taken::Nothing),
             Step::Take(Short::S { nr: 0 }, 8, Taken::Close(Close::ReceiveNumber)),
             Step::Acked(0, 0),
@@ -331,7 +331,10 @@ const ROUNDS: [Course; 4] = [
         "numbers of frames that go out run over",
         false,
         STARTED,
-        &[Step::AcknowledgeEach, Step::Send(Origin::Queue, 6, 0, 0)],
+        &[
+            Step::AcknowledgeEach,
+            Step::Send(FrameOrigin::Queue, 6, 0, 0),
+        ],
     ),
     (
         "numbers of frames that come run over",
@@ -340,7 +343,7 @@ const ROUNDS: [Course; 4] = [
         &[
             Step::ReportAll,
             Step::Report(0, 0, 6, Taken::Asdu),
-            Step::Send(Origin::Own, 6, 0, 1),
+            Step::Send(FrameOrigin::Own, 6, 0, 1),
         ],
     ),
     (
@@ -370,13 +373,13 @@ const ROUNDS: [Course; 4] = [
         true,
         STARTED,
         &[
-            Step::Send(Origin::Queue, 6, 0, 0),
+            Step::Send(FrameOrigin::Queue, 6, 0, 0),
             Step::Take(Short::S { nr: 1 }, 6, Taken::Nothing),
             Step::SendWindow,
             Step::Holds,
             Step::Take(Short::S { nr: 0 }, 6, Taken::Nothing),
             Step::Acked(21845, 10922),
-            Step::Send(Origin::Queue, 6, 0, 0),
+            Step::Send(FrameOrigin::Queue, 6, 0, 0),
         ],
     ),
 ];
@@ -446,15 +449,15 @@ fn the_ring_has_what_is_unacknowledged(rt: HostRuntime) -> Result<(), Fail> {
     }
     let mut session = started(rt.alloc(), 12)?;
     let steps = [
-        Step::Send(Origin::Queue, 6, 0, 0),
-        Step::Send(Origin::Own, 7, 1, 0),
-        Step::Send(Origin::Own, 7, 2, 0),
+        Step::Send(FrameOrigin::Queue, 6, 0, 0),
+        Step::Send(FrameOrigin::Own, 7, 1, 0),
+        Step::Send(FrameOrigin::Own, 7, 2, 0),
         Step::Take(Short::S { nr: 1 }, 8, Taken::Nothing),
         Step::Acked(1, 0),
     ];
     assert!(rt; all_answer(&mut session, &steps));
     let own = Unacknowledged {
-        kind: Origin::Own,
+        kind: FrameOrigin::Own,
         moment: 7,
     };
     let ring = session.into_ring();
@@ -534,7 +537,7 @@ fn are_alike(lent: &mut Session, kept: &mut Session) -> bool {
 /// How many of the frames, in their order, lead to the same whether they are lent or copied.
 fn count_alike(lent: &mut Session, kept: &mut Session) -> usize {
     let mut count: usize = 0;
-    let send = Step::Send(Origin::Queue, 6, 0, 0);
+    let send = Step::Send(FrameOrigin::Queue, 6, 0, 0);
     if !answers(lent, &send) || !answers(kept, &send) {
         return count;
     }

@@ -22,8 +22,8 @@ use Rattle.segments.specs.Starts.{BeginsNewer, IsBacked, IsFoundIn, IsHeadIn, Is
 use Rattle.segments.specs.Starts.{number_in}
 use Rattle.segments.specs.Written.{text_in}
 use Rattle.segments.specs.declared.head.SegmentHead.{SegmentHead}
-use Rattle.segments.specs.declared.start.Front.{Front}
-use Rattle.segments.specs.declared.start.Front.TheVariants as fronts
+use Rattle.segments.specs.declared.start.FileFront.{FileFront}
+use Rattle.segments.specs.declared.start.FileFront.TheVariants as fronts
 use Rattle.segments.proofs.Fronts.{head_letter, head_within, not_shut, same_octets}
 use Rattle.segments.proofs.HeadLemmas.{eight_bytes, four_bytes, head_length, number_at, octets_at}
 use Rattle.segments.proofs.HeadLemmas.{same_head, sum_at, whole_behind}
@@ -346,7 +346,7 @@ whole_written number begins stored seen seen' held whole le within long same =
         (omega (arith, length-take-le stored file fits, le)))
         ∙ ap (take begins) (take-append-drop stored file)
 
-pub backs_other : (own other : List ℕ) (number begins : ℕ) (front : Front)
+pub backs_other : (own other : List ℕ) (number begins : ℕ) (front : FileFront)
     → IsWholeText number (take begins own) → begins ≤ length own → IsHeadIn other front
     → number_in front ≤ number → IsBacked own other
 backs_other own other number begins front whole within behind order head text fits found =
@@ -363,7 +363,7 @@ backs_other own other number begins front whole within behind order head text fi
       order = omega (arith, here, order);
     }
 
-pub newer_front : (file : List ℕ) (front : Front) (number : ℕ) → IsHeadIn file front
+pub newer_front : (file : List ℕ) (front : FileFront) (number : ℕ) → IsHeadIn file front
     → number < number_in front → BeginsNewer number file
 newer_front file fronts.Shut number begins lt = absurd (omega (arith, lt))
 newer_front file (fronts.Head head) number begins lt = (head, begins.begins, lt)

@@ -16,8 +16,8 @@ use Rattle.segments.specs.Starts.{IsBacked, IsBackedBy, IsFoundIn, IsWholeIn}
 use Rattle.segments.specs.Starts.{IsHeadIn, IsNewest, IsShut, IsSound, is_doubtful, is_other}
 use Rattle.segments.specs.Starts.{is_shut, number_in, other_side}
 use Rattle.segments.specs.declared.head.SegmentHead.{SegmentHead}
-use Rattle.segments.specs.declared.start.Front.{Front}
-use Rattle.segments.specs.declared.start.Front.TheVariants as fronts
+use Rattle.segments.specs.declared.start.FileFront.{FileFront}
+use Rattle.segments.specs.declared.start.FileFront.TheVariants as fronts
 use Rattle.segments.specs.declared.start.Side.{Side}
 use Rattle.segments.specs.declared.start.Side.TheVariants as sides
 use Rattle.segments.proofs.HeadLemmas.{head_first, head_length}
@@ -134,7 +134,7 @@ found_sum file head text read long holds found = elim (cases_lt 0 (length text))
     empty (x ∷ l) is = absurd (omega arith)
 
 -- A number above that of a first line
-pub above_front : (file : List ℕ) (front : Front) (number : ℕ) → IsHeadIn file front
+pub above_front : (file : List ℕ) (front : FileFront) (number : ℕ) → IsHeadIn file front
     → min (number_in front + 1) 18446744073709551615 ≤ number → IsAbove number file
 above_front file front number begins le head fits holds =
     let e : number_in front ≡ head.number = ap number_in (begins.heads head fits holds) in
@@ -142,7 +142,7 @@ above_front file front number begins le head fits holds =
 
 -- Two files
 
-pub first_newest : (newer older : List ℕ) (front other : Front) → IsHeadIn newer front
+pub first_newest : (newer older : List ℕ) (front other : FileFront) → IsHeadIn newer front
     → IsHeadIn older other
     → number_in other ≤ number_in front → IsNewest newer older
 first_newest newer older front other begins behind order own head text others fits fits' found
@@ -156,7 +156,7 @@ second_newest newest other none own head text others fits fits' found found' =
     absurd (none head others fits' found')
 
 -- a file that no crash leaves otherwise begins with a segment or is shut
-pub not_other : (file : List ℕ) (front : Front) → IsHeadIn file front → IsSound file
+pub not_other : (file : List ℕ) (front : FileFront) → IsHeadIn file front → IsSound file
     → is_other front ≡ false
 not_other file fronts.Shut begins sound = refl
 not_other file (fronts.Head head) begins sound = refl
@@ -164,25 +164,26 @@ not_other file fronts.Other begins (inl shut) = absurd (begins.begins shut)
 not_other file fronts.Other begins (inr found) =
     let no = begins.heads found.0 found.2 found.3.first in absurd (cc)
 
-shut_front : (file : List ℕ) (front : Front) → IsHeadIn file front → IsShut file → is_shut front
+shut_front : (file : List ℕ) (front : FileFront) → IsHeadIn file front → IsShut file → is_shut front
     ≡ true
 shut_front file fronts.Shut begins shut = refl
 shut_front file (fronts.Head head) begins shut = absurd (not_shut file head begins.begins shut)
 shut_front file fronts.Other begins shut = absurd (begins.begins shut)
 
 -- where it has no segment it is shut
-pub sound_shut : (file : List ℕ) (front : Front) → IsHeadIn file front → HasNone file → IsSound file
+pub sound_shut : (file : List ℕ) (front : FileFront) → IsHeadIn file front → HasNone file
+    → IsSound file
     → is_shut front ≡ true
 sound_shut file front begins none (inl shut) = shut_front file front begins shut
 sound_shut file front begins none (inr found) = absurd (none found.0 found.1 found.2 found.3)
 
-pub by_shut : (file : List ℕ) (front : Front) → IsHeadIn file front → is_shut front ≡ true
+pub by_shut : (file : List ℕ) (front : FileFront) → IsHeadIn file front → is_shut front ≡ true
     → IsShut file
 by_shut file fronts.Shut begins is = begins.begins
 by_shut file (fronts.Head head) begins is = absurd (cc)
 by_shut file fronts.Other begins is = absurd (cc)
 
-pub not_doubtful : (front behind : Front) (is_found : Bool) → is_shut front ≡ true
+pub not_doubtful : (front behind : FileFront) (is_found : Bool) → is_shut front ≡ true
     → (is_found ≡ false → is_shut behind ≡ true)
     → is_doubtful front is_found behind ≡ false
 not_doubtful front behind true shut unless = ap not shut
@@ -232,7 +233,7 @@ placed_other sides.Db log db a b h = (h.1, h.0)
 
 -- No newer segment stood in the other file
 
-pub sure_first : (newer older : List ℕ) (front other : Front) (own : SegmentHead)
+pub sure_first : (newer older : List ℕ) (front other : FileFront) (own : SegmentHead)
     → IsHeadIn newer front
     → IsHeadIn older other → number_in other ≤ number_in front → front ≡ fronts.Head own
     → is_other other ≡ false
@@ -240,18 +241,18 @@ pub sure_first : (newer older : List ℕ) (front other : Front) (own : SegmentHe
 sure_first newer older front fronts.Shut own begins behind order is sure = inl behind.begins
 sure_first newer older front (fronts.Head head) own begins behind order is sure =
     let mine : Holds newer 0 (head_of own) =
-    subst (λ (f : Front). BeginsSo newer f) is begins.begins in
+    subst (λ (f : FileFront). BeginsSo newer f) is begins.begins in
     let number : number_in front ≡ own.number = ap number_in is in
     inr (own, head, mine, behind.begins, omega (arith, order, number))
 sure_first newer older front fronts.Other own begins behind order is sure = absurd (cc)
 
-pub sure_second : (newer older : List ℕ) (front behind : Front) (is_found : Bool)
+pub sure_second : (newer older : List ℕ) (front behind : FileFront) (is_found : Bool)
     → IsHeadIn newer front
     → is_found ≡ true → is_doubtful front is_found behind ≡ false → HasNoNewer older newer
 sure_second newer older front behind true begins some sure =
     inl (by_shut newer front begins (shut_of front sure))
   where
-    shut_of : (f : Front) → not (is_shut f) ≡ false → is_shut f ≡ true
+    shut_of : (f : FileFront) → not (is_shut f) ≡ false → is_shut f ≡ true
     shut_of fronts.Shut e = refl
     shut_of (fronts.Head head) e = absurd (cc)
     shut_of fronts.Other e = absurd (cc)
@@ -268,7 +269,8 @@ if_some_map (Some x) p all = all x p
 
 -- Which file may be written over
 
-pub backed_first : (newer older : List ℕ) (front other : Front) (own : SegmentHead) (text : List ℕ)
+pub backed_first : (newer older : List ℕ) (front other : FileFront) (own : SegmentHead)
+    (text : List ℕ)
     → IsHeadIn older other → number_in other ≤ number_in front → front ≡ fronts.Head own
     → FitsIn front
     → IsFoundIn newer own text → IsBacked newer older
@@ -287,7 +289,7 @@ backed_first newer older front other own text behind order is fits found head ot
 pub backed_none : (newest spare : List ℕ) → HasNone spare → IsBacked newest spare
 backed_none newest spare none head text fits found = absurd (none head text fits found)
 
-pub backed_by_log : (whole : Bool) (side : Side) (log db : List ℕ) (first second : Front)
+pub backed_by_log : (whole : Bool) (side : Side) (log db : List ℕ) (first second : FileFront)
     → side ≡ (if whole then sides.Log else sides.Db)
     → IsHeadIn db second → number_in second ≤ number_in first → FitsIn first
     → (whole ≡ true → IsWholeIn log first) → (whole ≡ false → HasNone log)
@@ -299,7 +301,7 @@ backed_by_log true side log db first second is behind order fits some none =
 backed_by_log false side log db first second is behind order fits some none =
     subst (λ (s : Side). IsBackedBy s log db) (sym is) (backed_none db log (none refl))
 
-pub backed_by_db : (whole : Bool) (side : Side) (log db : List ℕ) (first second : Front)
+pub backed_by_db : (whole : Bool) (side : Side) (log db : List ℕ) (first second : FileFront)
     → side ≡ (if whole then sides.Db else sides.Log)
     → IsHeadIn log first → number_in first ≤ number_in second → FitsIn second
     → (whole ≡ true → IsWholeIn db second) → (whole ≡ false → HasNone db)
@@ -326,7 +328,7 @@ behind_first file octets within = record {
     count = length-take-le octets (drop 87 file) (omega (arith, within, length-drop 87 file))
 
 -- A file begins so, and this is the sum of the octets behind the first line.
-pub record IsSummed (file : List ℕ) (front : Front) (head : SegmentHead) (octets sum : ℕ) : Type
+pub record IsSummed (file : List ℕ) (front : FileFront) (head : SegmentHead) (octets sum : ℕ) : Type
     0 where
   pub is : front ≡ fronts.Head head
   pub begins : IsHeadIn file front
@@ -334,7 +336,7 @@ pub record IsSummed (file : List ℕ) (front : Front) (head : SegmentHead) (octe
   pub within : 87 + octets ≤ length file
   pub sum_is : sum ≡ sum_of (take octets (drop 87 file))
 
-pub summed_from : (old between new : List ℕ) (front : Front) (head : SegmentHead) (o : Option ℕ)
+pub summed_from : (old between new : List ℕ) (front : FileFront) (head : SegmentHead) (o : Option ℕ)
     (octets sum : ℕ) → between ≡ old → new ≡ between → front ≡ fronts.Head head
     → IsHeadIn old front → o ≡ Some octets → IfSome o (λ n. n ≡ head.octets)
     → IfSome o (λ n. 87 + n ≤ length between) → sum ≡ sum_of (take octets (drop 87 new))
@@ -349,7 +351,7 @@ summed_from old between new front head o octets sum same same' is begins some co
       sum_is = sum_is;
     }
 
-pub whole_by_sum : (file : List ℕ) (front : Front) (head : SegmentHead) (octets sum : ℕ)
+pub whole_by_sum : (file : List ℕ) (front : FileFront) (head : SegmentHead) (octets sum : ℕ)
     → IsSummed file front head octets sum → sum ≡ head.sum → IsWholeIn file front
 whole_by_sum file front head octets sum s same = (
   head,
@@ -364,7 +366,7 @@ whole_by_sum file front head octets sum s same = (
   },
 )
 
-pub none_by_sum : (file : List ℕ) (front : Front) (own : SegmentHead) (octets sum : ℕ)
+pub none_by_sum : (file : List ℕ) (front : FileFront) (own : SegmentHead) (octets sum : ℕ)
     → IsSummed file front own octets sum → (sum ≡ own.sum → ⊥) → HasNone file
 none_by_sum file front own octets sum s differ head text fits found =
     let heads : fronts.Head head ≡ fronts.Head own =

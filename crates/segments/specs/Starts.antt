@@ -6,8 +6,8 @@ use Rattle.sqlite_disk.specs.Disk.{Holds}
 use Rattle.statetext.specs.Sum.{sum_of}
 use Rattle.segments.specs.Head.{Fits, head_of}
 use Rattle.segments.specs.declared.head.SegmentHead.{SegmentHead}
-use Rattle.segments.specs.declared.start.Front.{Front}
-use Rattle.segments.specs.declared.start.Front.TheVariants as fronts
+use Rattle.segments.specs.declared.start.FileFront.{FileFront}
+use Rattle.segments.specs.declared.start.FileFront.TheVariants as fronts
 use Rattle.segments.specs.declared.start.Side.{Side}
 use Rattle.segments.specs.declared.start.Side.TheVariants as sides
 
@@ -20,34 +20,34 @@ abbrev pub IsShut : List ℕ → Type 0
 IsShut file = (length file < 2) ⊎ (slice_index file 0 ≡ 0)
 
 -- it is shut, or begins with this first line of a segment, or with something else
-abbrev pub BeginsSo : List ℕ → Front → Type 0
+abbrev pub BeginsSo : List ℕ → FileFront → Type 0
 BeginsSo file fronts.Shut = IsShut file
 BeginsSo file (fronts.Head head) = Holds file 0 (head_of head)
 BeginsSo file fronts.Other = IsShut file → ⊥
 
 -- so does the file begin, and with no other first line of a segment
-pub record IsHeadIn (file : List ℕ) (front : Front) : Type 0 where
+pub record IsHeadIn (file : List ℕ) (front : FileFront) : Type 0 where
   pub begins : BeginsSo file front
   pub heads : (head : SegmentHead) → Fits head → Holds file 0 (head_of head)
       → front ≡ fronts.Head head
 
-abbrev pub number_in : Front → ℕ
+abbrev pub number_in : FileFront → ℕ
 number_in fronts.Shut = 0
 number_in (fronts.Head head) = head.number
 number_in fronts.Other = 0
 
-abbrev pub is_shut : Front → Bool
+abbrev pub is_shut : FileFront → Bool
 is_shut fronts.Shut = true
 is_shut (fronts.Head head) = false
 is_shut fronts.Other = false
 
-abbrev pub is_other : Front → Bool
+abbrev pub is_other : FileFront → Bool
 is_other fronts.Shut = false
 is_other (fronts.Head head) = false
 is_other fronts.Other = true
 
 -- a file without a segment isn't shut, or, where none was found in the other one, either isn't
-abbrev pub is_doubtful : (front : Front) → (is_found : Bool) → (behind : Front) → Bool
+abbrev pub is_doubtful : (front : FileFront) → (is_found : Bool) → (behind : FileFront) → Bool
 is_doubtful front true behind = not (is_shut front)
 is_doubtful front false behind = not (is_shut front) || not (is_shut behind)
 
@@ -125,12 +125,12 @@ IsBackedBy sides.Log log db = IsBacked log db
 IsBackedBy sides.Db log db = IsBacked db log
 
 -- a file that begins so has a segment that is whole
-abbrev pub IsWholeIn : List ℕ → Front → Type 0
+abbrev pub IsWholeIn : List ℕ → FileFront → Type 0
 IsWholeIn file front = (head : SegmentHead) × (text : List ℕ) × (front ≡ fronts.Head head)
     × IsFoundIn file head text
 
 -- the numbers of a first line have so few digits
-abbrev pub FitsIn : Front → Type 0
+abbrev pub FitsIn : FileFront → Type 0
 FitsIn fronts.Shut = Unit {0}
 FitsIn (fronts.Head head) = Fits head
 FitsIn fronts.Other = Unit {0}

@@ -53,7 +53,7 @@ impl Side {
 
 /// How a file begins.
 #[derive(Clone, Copy)]
-pub(crate) enum Front {
+pub(crate) enum FileFront {
     /// It is shut, or it was never written: it has no segment.
     Shut,
     /// With the first line of a segment.
@@ -63,7 +63,7 @@ pub(crate) enum Front {
 }
 
 /// How a file begins. No crash leaves one that isn't shut and has no segment.
-pub(crate) fn front_at<D: Disk>(alloc: Global, file: &mut D) -> Result<Front, SegmentFault>
+pub(crate) fn front_at<D: Disk>(alloc: Global, file: &mut D) -> Result<FileFront, SegmentFault>
     requires { IsTrue (D.Disk.is_usable file.old) }
     ensures head { IfOk result (λ front. IsTrue (D.Disk.is_clean file.new) →
         IsHeadIn (D.Disk.seen file.new) front) }
@@ -75,7 +75,7 @@ pub(crate) fn front_at<D: Disk>(alloc: Global, file: &mut D) -> Result<Front, Se
         return Err(SegmentFault::Device);
     };
     if octets < 2 {
-        return Ok(Front::Shut);
+        return Ok(FileFront::Shut);
     }
     let mut first = [0];
     if file.read_at(0, &mut first).is_err() {
@@ -83,18 +83,18 @@ pub(crate) fn front_at<D: Disk>(alloc: Global, file: &mut D) -> Result<Front, Se
     }
     // This octet is written last: with 0 there the segment was never finished, or the file is shut.
     if first[0] == 0 {
-        return Ok(Front::Shut);
+        return Ok(FileFront::Shut);
     }
     if octets < HEAD {
-        return Ok(Front::Other);
+        return Ok(FileFront::Other);
     }
     let mut row = [0; HEAD];
     if file.read_at(0, &mut row).is_err() {
         return Err(SegmentFault::Device);
     }
     match parse(alloc, &row) {
-        Ok(Some(head)) => Ok(Front::Head(head)),
-        Ok(None) => Ok(Front::Other),
+        Ok(Some(head)) => Ok(FileFront::Head(head)),
+        Ok(None) => Ok(FileFront::Other),
         Err(_) => Err(SegmentFault::NoMemory),
     }
 }
@@ -278,22 +278,22 @@ pub struct Start<D: Disk> {
 }
 
 /// Whether a file begins with something else than a segment.
-fn is_other(front: Front) -> bool
+fn is_other(front: FileFront) -> bool
     ensures { result ≡ is_other front }
 {
-    matches!(front, Front::Other)
+    matches!(front, FileFront::Other)
 }
 
 /// Whether a file is shut.
-fn is_shut(front: Front) -> bool
+fn is_shut(front: FileFront) -> bool
     ensures { result ≡ is_shut front }
 {
-    matches!(front, Front::Shut)
+    matches!(front, FileFront::Shut)
 }
 
 /// Whether files are doubtful of which the one with the higher number has no segment: it isn't
 /// shut; or, where none was found in the other one either, that one isn't.
-fn is_doubtful(front: Front, is_found: bool, other_front: Front) -> bool
+fn is_doubtful(front: FileFront, is_found: bool, other_front: FileFront) -> bool
     ensures { result ≡ is_doubtful front is_found other_front }
 {
     if is_found {
@@ -304,12 +304,12 @@ fn is_doubtful(front: Front, is_found: bool, other_front: Front) -> bool
 }
 
 /// The number of a segment, or 0.
-pub(crate) fn number_of(front: Front) -> u64
+pub(crate) fn number_of(front: FileFront) -> u64
     ensures { result ≡ number_in front }
 {
     match front {
-        Front::Head(head) => head.number,
-        Front::Shut | Front::Other => 0,
+        FileFront::Head(head) => head.number,
+        FileFront::Shut | FileFront::Other => 0,
     }
 }
 
@@ -317,20 +317,20 @@ pub(crate) fn number_of(front: Front) -> u64
 fn found_in<D: Disk>(
     alloc: Global,
     file: &mut D,
-    front: Front,
+    front: FileFront,
 ) -> Result<Option<FoundHead>, SegmentFault>
     requires usable { IsTrue (D.Disk.is_usable file.old) }
     requires head { IsTrue (D.Disk.is_clean file.old) → IsHeadIn (D.Disk.seen file.old) front }
     ensures found { IfOk result (λ found. IfSome found (λ c. IsTrue (D.Disk.is_clean file.new) →
         IsFoundIn (D.Disk.seen file.new) c.head c.text.items)) }
-    ensures head { IfOk result (λ found. IfSome found (λ c. front ≡ Front.Head c.head)) }
+    ensures head { IfOk result (λ found. IfSome found (λ c. front ≡ FileFront.Head c.head)) }
     ensures none { IfOk result (λ found. IfNone found (IsTrue (D.Disk.is_clean file.new) →
         HasNone (D.Disk.seen file.new))) }
     ensures usable { IsTrue (D.Disk.is_usable file.new) }
     ensures clean { IsTrue (D.Disk.is_clean file.new) → IsTrue (D.Disk.is_clean file.old) }
     ensures seen { D.Disk.seen file.new ≡ D.Disk.seen file.old }
 {
-    let Front::Head(head) = front else {
+    let FileFront::Head(head) = front else {
         return Ok(None);
     };
     match text_at(alloc, file, &head)? {
@@ -340,7 +340,7 @@ fn found_in<D: Disk>(
 }
 
 /// Whether a file that begins so has a segment that is whole.
-fn is_whole<D: Disk>(alloc: Global, file: &mut D, front: Front) -> Result<bool, SegmentFault>
+fn is_whole<D: Disk>(alloc: Global, file: &mut D, front: FileFront) -> Result<bool, SegmentFault>
     requires usable { IsTrue (D.Disk.is_usable file.old) }
     requires head { IsTrue (D.Disk.is_clean file.old) → IsHeadIn (D.Disk.seen file.old) front }
     ensures some { IfOk result (λ is. is ≡ true → IsTrue (D.Disk.is_clean file.new) →
@@ -351,7 +351,7 @@ fn is_whole<D: Disk>(alloc: Global, file: &mut D, front: Front) -> Result<bool, 
     ensures clean { IsTrue (D.Disk.is_clean file.new) → IsTrue (D.Disk.is_clean file.old) }
     ensures seen { D.Disk.seen file.new ≡ D.Disk.seen file.old }
 {
-    let Front::Head(head) = front else {
+    let FileFront::Head(head) = front else {
         return Ok(false);
     };
     let Some(octets) = octets_behind(file, &head)? else {
@@ -434,9 +434,9 @@ impl<D: Disk + Drop> Start<D> {
     fn choose(
         alloc: Global,
         newer: D,
-        front: Front,
+        front: FileFront,
         older: D,
-        other_front: Front,
+        other_front: FileFront,
         side: Side,
         number: u64,
     ) -> Result<Start<D>, SegmentFault>

@@ -10,7 +10,7 @@ use Rattle.apci.specs.declared.apdu.Apdu.TheVariants.{I, S, U}
 use Rattle.apci.specs.declared.apdu.Uf.{Uf}
 use Rattle.apci.specs.declared.apdu.Uf.TheVariants.{StartAct, StartCon, StopAct, StopCon, TestAct}
 use Rattle.apci.specs.declared.apdu.Uf.TheVariants.{TestCon}
-use Rattle.session.specs.declared.kinds.Origin.{Origin}
+use Rattle.session.specs.declared.kinds.FrameOrigin.{FrameOrigin}
 use Rattle.session.specs.declared.kinds.Unacknowledged.{Unacknowledged}
 use Rattle.session.specs.declared.kinds.Taken.{Taken}
 use Rattle.session.specs.declared.kinds.Taken.TheVariants.{Nothing, Asdu, Close}
@@ -337,7 +337,7 @@ came p frame now s h range keeps connected drained Nothing e =
 
 -- ---- frames go out
 
-data_sent : (p : Settings) (kind : Origin) (now : ℕ) (s : Session) (h : History) → Keeps p s h
+data_sent : (p : Settings) (kind : FrameOrigin) (now : ℕ) (s : Session) (h : History) → Keeps p s h
     → may_send s ≡ true
     → Keeps p (session.sent kind now s) (Sent s.next_sent s.next_received kind now ∷ h)
 data_sent p kind now s h keeps may =
@@ -597,7 +597,7 @@ if_taken holds frame now r = cond holds (record {
   history = logged (outcome_of r.session frame) frame now ∷ r.history;
 }) r
 
-abbrev pub if_sent : Bool → Origin → ℕ → Run → Run
+abbrev pub if_sent : Bool → FrameOrigin → ℕ → Run → Run
 if_sent holds kind now r = cond holds (record {
   session = session.sent kind now r.session;
   history = Sent r.session.next_sent r.session.next_received kind now ∷ r.history;
@@ -614,7 +614,7 @@ taken_keeps p frame now r range keeps true may =
     (outcome_of r.session frame) refl
 taken_keeps p frame now r range keeps false may = keeps
 
-sent_keeps : (p : Settings) (kind : Origin) (now : ℕ) (r : Run) → Keeps p r.session r.history
+sent_keeps : (p : Settings) (kind : FrameOrigin) (now : ℕ) (r : Run) → Keeps p r.session r.history
     → (b : Bool)
     → may_send r.session ≡ b
     → Keeps p (if_sent b kind now r).session (if_sent b kind now r).history

@@ -5,7 +5,7 @@ use Rattle.std.proofs.Common.{Option, Some, None, refl, ap, sym, ◌∙◌, inl,
 use Rattle.std.specs.Prelude.{is_none}
 use Rattle.std.proofs.lemmas.Bool.{and_parts, ltb-true}
 use Rattle.apci.specs.declared.apdu.Apdu.{Apdu}
-use Rattle.session.specs.declared.kinds.Origin.{Origin}
+use Rattle.session.specs.declared.kinds.FrameOrigin.{FrameOrigin}
 use Rattle.session.specs.declared.kinds.Taken.{Taken}
 use Rattle.session.specs.declared.kinds.Taken.TheVariants.{Nothing, Asdu, Close}
 use Rattle.session.specs.Session as session
@@ -56,7 +56,7 @@ take_rules p frame now r range keeps rules true may =
     (outcome_of r.session frame) refl
 take_rules p frame now r range keeps rules false may = rules
 
-send_rules : (p : Settings) (kind : Origin) (now : ℕ) (r : Run) → Keeps p r.session r.history
+send_rules : (p : Settings) (kind : FrameOrigin) (now : ℕ) (r : Run) → Keeps p r.session r.history
     → KeepsRules p r.history
     → (b : Bool) → may_send r.session ≡ b
     → KeepsRules p (if_sent b kind now r).history

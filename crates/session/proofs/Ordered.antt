@@ -7,7 +7,7 @@ use Rattle.apci.specs.declared.apdu.Apdu.{Apdu}
 use Rattle.apci.specs.declared.apdu.Apdu.TheVariants.{I, S, U}
 use Rattle.apci.specs.declared.apdu.Uf.TheVariants.{StartAct, StartCon, StopAct, StopCon, TestAct}
 use Rattle.apci.specs.declared.apdu.Uf.TheVariants.{TestCon}
-use Rattle.session.specs.declared.kinds.Origin.{Origin}
+use Rattle.session.specs.declared.kinds.FrameOrigin.{FrameOrigin}
 use Rattle.session.specs.declared.kinds.Unacknowledged.{Unacknowledged}
 use Rattle.session.specs.declared.kinds.Transfer.TheVariants as Transfer
 use Rattle.session.specs.Session as session
@@ -22,7 +22,7 @@ pub later : (from : ℕ) (frames : List Unacknowledged) (before now : ℕ) → b
 later from [] before now le order = omega arith
 later from (u ∷ us) before now le order = (order.0, later u.moment us before now le order.1)
 
-pub one_more : (from : ℕ) (frames : List Unacknowledged) (kind : Origin) (now : ℕ)
+pub one_more : (from : ℕ) (frames : List Unacknowledged) (kind : FrameOrigin) (now : ℕ)
     → AreInOrder from frames now
     → AreInOrder from (frames ++ record { kind = kind; moment = now } ∷ []) now
 one_more from [] kind now order = (order, omega arith)

@@ -1,7 +1,7 @@
 -- Frames of the queue and own answers are counted apart.
 use Rattle.std.proofs.Common.{◌≡◌, ℕ, suc, ◌+◌, cond, List, ◌∷◌, arith}
 use Rattle.std.proofs.lemmas.List.Sums.{sum_by-cons}
-use Rattle.session.specs.declared.kinds.Origin.TheVariants.{Queue, Own}
+use Rattle.session.specs.declared.kinds.FrameOrigin.TheVariants.{Queue, Own}
 use Rattle.session.specs.declared.kinds.Unacknowledged.{Unacknowledged}
 use Rattle.session.specs.Session.{is_from_queue, from_queue}
 

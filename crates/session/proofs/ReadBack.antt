@@ -9,8 +9,8 @@ use Rattle.std.proofs.lemmas.List.{append-nil, length-append}
 use Rattle.apci.specs.declared.apdu.Uf.{Uf}
 use Rattle.apci.specs.declared.apdu.Uf.TheVariants.{StartAct, StartCon, StopAct, StopCon, TestAct}
 use Rattle.apci.specs.declared.apdu.Uf.TheVariants.{TestCon}
-use Rattle.session.specs.declared.kinds.Origin.{Origin}
-use Rattle.session.specs.declared.kinds.Origin.TheVariants.{Queue, Own}
+use Rattle.session.specs.declared.kinds.FrameOrigin.{FrameOrigin}
+use Rattle.session.specs.declared.kinds.FrameOrigin.TheVariants.{Queue, Own}
 use Rattle.session.specs.declared.kinds.Unacknowledged.{Unacknowledged}
 use Rattle.session.specs.declared.kinds.Transfer.{Transfer}
 use Rattle.session.specs.declared.kinds.Transfer.TheVariants.{Closed, Stopped, Started, Stopping}
@@ -29,7 +29,7 @@ transfer_back Stopped = refl
 transfer_back Started = refl
 transfer_back Stopping = refl
 
-kind_back : (k : Origin) → kind_from (kind_number k) ≡ Some k
+kind_back : (k : FrameOrigin) → kind_from (kind_number k) ≡ Some k
 kind_back Queue = refl
 kind_back Own = refl
 
@@ -85,7 +85,7 @@ transfer_only (suc (suc (suc (suc n)))) t e =
     ) refl) in
     absurd cc
 
-kind_only : (n : ℕ) (k : Origin) → kind_from n ≡ Some k → n ≡ kind_number k
+kind_only : (n : ℕ) (k : FrameOrigin) → kind_from n ≡ Some k → n ≡ kind_number k
 kind_only zero k e = let same : Queue ≡ k = cc in ap kind_number same
 kind_only (suc zero) k e = let same : Own ≡ k = cc in ap kind_number same
 kind_only (suc (suc n)) k e =
@@ -123,7 +123,7 @@ moment_only [] m e = let same : None ≡ m = cc in ap moment_numbers same
 moment_only (n ∷ []) m e = let same : Some n ≡ m = cc in ap moment_numbers same
 moment_only (n ∷ o ∷ ns) m e = absurd cc
 
-frame_by : (n moment : ℕ) (f : Unacknowledged) (o : Option Origin) → kind_from n ≡ o
+frame_by : (n moment : ℕ) (f : Unacknowledged) (o : Option FrameOrigin) → kind_from n ≡ o
     → frame_with o moment ≡ Some f
     → n ∷ moment ∷ [] ≡ frame_line f
 frame_by n moment f None is e = absurd cc

@@ -7,7 +7,7 @@ use Rattle.apci.specs.declared.apdu.Apdu.{Apdu}
 use Rattle.apci.specs.declared.apdu.Apdu.TheVariants.{I, S, U}
 use Rattle.apci.specs.declared.apdu.Uf.TheVariants.{StartAct, StartCon, StopAct, StopCon, TestAct}
 use Rattle.apci.specs.declared.apdu.Uf.TheVariants.{TestCon}
-use Rattle.session.specs.declared.kinds.Origin.TheVariants.{Queue, Own}
+use Rattle.session.specs.declared.kinds.FrameOrigin.TheVariants.{Queue, Own}
 use Rattle.session.specs.declared.kinds.Close.TheVariants as close
 use Rattle.session.specs.declared.kinds.Taken.{Taken}
 use Rattle.session.specs.declared.kinds.Taken.TheVariants.{Nothing, Asdu, Close}

@@ -9,7 +9,7 @@ use Rattle.apci.specs.declared.apdu.Apdu.TheVariants.{I, S, U}
 use Rattle.apci.specs.declared.apdu.Uf.{Uf}
 use Rattle.apci.specs.declared.apdu.Uf.TheVariants.{StartAct, StartCon, StopAct, StopCon, TestAct}
 use Rattle.apci.specs.declared.apdu.Uf.TheVariants.{TestCon}
-use Rattle.session.specs.declared.kinds.Origin.{Origin}
+use Rattle.session.specs.declared.kinds.FrameOrigin.{FrameOrigin}
 use Rattle.session.specs.declared.kinds.Unacknowledged.{Unacknowledged}
 use Rattle.session.specs.declared.kinds.Close.TheVariants.{SendNumber, ReceiveNumber, Stopped}
 use Rattle.session.specs.declared.kinds.Taken.{Taken}
@@ -23,7 +23,7 @@ pub data Happened : Type 0 where
   -- a frame came that closes the connection
   Refused : ℕ → Happened
   -- an I frame went out: its N(S) and N(R), where it came from, and when
-  Sent : ℕ → ℕ → Origin → ℕ → Happened
+  Sent : ℕ → ℕ → FrameOrigin → ℕ → Happened
   -- this S or U frame went out
   Went : Apdu → ℕ → Happened
 

@@ -4,8 +4,8 @@ use Rattle.std.specs.Prelude.{length, Option, Some, None}
 use Rattle.apci.specs.declared.apdu.Uf.{Uf}
 use Rattle.apci.specs.declared.apdu.Uf.TheVariants.{StartAct, StartCon, StopAct, StopCon, TestAct}
 use Rattle.apci.specs.declared.apdu.Uf.TheVariants.{TestCon}
-use Rattle.session.specs.declared.kinds.Origin.{Origin}
-use Rattle.session.specs.declared.kinds.Origin.TheVariants.{Queue, Own}
+use Rattle.session.specs.declared.kinds.FrameOrigin.{FrameOrigin}
+use Rattle.session.specs.declared.kinds.FrameOrigin.TheVariants.{Queue, Own}
 use Rattle.session.specs.declared.kinds.Unacknowledged.{Unacknowledged}
 use Rattle.session.specs.declared.kinds.Transfer.{Transfer}
 use Rattle.session.specs.declared.kinds.Transfer.TheVariants.{Closed, Stopped, Started, Stopping}
@@ -21,7 +21,7 @@ transfer_number Stopped = 1
 transfer_number Started = 2
 transfer_number Stopping = 3
 
-abbrev pub kind_number : Origin → ℕ
+abbrev pub kind_number : FrameOrigin → ℕ
 kind_number Queue = 0
 kind_number Own = 1
 
@@ -104,7 +104,7 @@ transfer_from n =
     if n == 0 then Some Closed else if n == 1 then Some Stopped
     else if n == 2 then Some Started else if n == 3 then Some Stopping else None
 
-abbrev pub kind_from : ℕ → Option Origin
+abbrev pub kind_from : ℕ → Option FrameOrigin
 kind_from n = if n == 0 then Some Queue else if n == 1 then Some Own else None
 
 abbrev pub reply_from : ℕ → Option (Option Uf)
@@ -120,7 +120,7 @@ moment_from [] = Some None
 moment_from (moment ∷ []) = Some (Some moment)
 moment_from ns = None
 
-abbrev pub frame_with : Option Origin → (moment : ℕ) → Option Unacknowledged
+abbrev pub frame_with : Option FrameOrigin → (moment : ℕ) → Option Unacknowledged
 frame_with None moment = None
 frame_with (Some kind) moment = Some (record { kind = kind; moment = moment })
 

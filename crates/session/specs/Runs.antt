@@ -2,7 +2,7 @@
 use Rattle.std.specs.Prelude.{ℕ, ◌<◌, ◌&&◌, Bool, if◌then◌else◌, List, [], ◌∷◌, is_none, Option}
 use Rattle.std.specs.Prelude.{Some, None}
 use Rattle.apci.specs.declared.apdu.Apdu.{Apdu}
-use Rattle.session.specs.declared.kinds.Origin.{Origin}
+use Rattle.session.specs.declared.kinds.FrameOrigin.{FrameOrigin}
 use Rattle.session.specs.declared.kinds.Taken.{Taken}
 use Rattle.session.specs.declared.kinds.Taken.TheVariants.{Nothing, Asdu, Close}
 use Rattle.session.specs.Session.{Session, new_session, opened, closed, is_open, taken, outcome_of}
@@ -26,7 +26,7 @@ pub data Call : Type 0 where
   Open : ℕ → Call
   Cut : Call
   Take : Apdu → ℕ → Call
-  Send : Origin → ℕ → Call
+  Send : FrameOrigin → ℕ → Call
   Confirm : ℕ → Call
   Pull : ℕ → Call
 

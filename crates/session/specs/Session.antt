@@ -7,8 +7,8 @@ use Rattle.apci.specs.declared.apdu.Apdu.TheVariants.{I, S, U}
 use Rattle.apci.specs.declared.apdu.Uf.{Uf}
 use Rattle.apci.specs.declared.apdu.Uf.TheVariants.{StartAct, StartCon, StopAct, StopCon, TestAct}
 use Rattle.apci.specs.declared.apdu.Uf.TheVariants.{TestCon}
-use Rattle.session.specs.declared.kinds.Origin.{Origin}
-use Rattle.session.specs.declared.kinds.Origin.TheVariants.{Queue, Own}
+use Rattle.session.specs.declared.kinds.FrameOrigin.{FrameOrigin}
+use Rattle.session.specs.declared.kinds.FrameOrigin.TheVariants.{Queue, Own}
 use Rattle.session.specs.declared.kinds.Unacknowledged.{Unacknowledged}
 use Rattle.session.specs.declared.kinds.Transfer.{Transfer}
 use Rattle.session.specs.declared.kinds.Transfer.TheVariants as Transfer
@@ -111,7 +111,7 @@ abbrev pub may_send : Session → Bool
 may_send s = is_transferring s && nat_lt (length s.unacknowledged) s.k
 
 -- an I frame of this kind goes out
-abbrev pub sent : Origin → ℕ → Session → Session
+abbrev pub sent : FrameOrigin → ℕ → Session → Session
 sent kind now s = record s {
   unacknowledged = s.unacknowledged ++ record { kind = kind; moment = now } ∷ [];
   next_sent = (s.next_sent + 1) % 32768;
@@ -129,7 +129,7 @@ is_valid nr s = nat_le (left_by nr s) (length s.unacknowledged)
 abbrev pub newly : ℕ → Session → ℕ
 newly nr s = length s.unacknowledged - left_by nr s
 
-abbrev pub is_from_queue : Origin → Bool
+abbrev pub is_from_queue : FrameOrigin → Bool
 is_from_queue Queue = true
 is_from_queue Own = false
 

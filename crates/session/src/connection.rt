@@ -13,7 +13,7 @@ ghost use Rattle.session.specs.Session.{Session as Machine};
 ghost use Rattle.session.specs.Restored.{session_lines, numbers_line, numbers_of, dues_line};
 ghost use Rattle.session.specs.Restored.{dues_of, IsSavable, HasSettings};
 
-use crate::kinds::{Close, Origin, Taken, Transfer, Unacknowledged};
+use crate::kinds::{Close, FrameOrigin, Taken, Transfer, Unacknowledged};
 use crate::saving::{
     put_frames, put_moment, read_dues, read_frames, read_numbers, reply_number, transfer_number,
 };
@@ -186,7 +186,7 @@ impl Session {
     }
 
     /// Counts an I frame of this kind as sent now, and answers its N(S) and N(R).
-    pub fn sent(&mut self, kind: Origin, now: u64) -> (u16, u16)
+    pub fn sent(&mut self, kind: FrameOrigin, now: u64) -> (u16, u16)
         requires { can_send self.old ≡ true }
         ensures numbers { result ≡ (self.old.next_sent, self.old.next_received) }
         ensures session { self.new ≡ after_sent kind now self.old }
@@ -614,6 +614,6 @@ fn from_queue(frames: &HeapCircularBuffer<Unacknowledged>, count: usize) -> usiz
     frames
         .iter()
         .take(count)
-        .filter(|frame| matches!(frame.kind, Origin::Queue))
+        .filter(|frame| matches!(frame.kind, FrameOrigin::Queue))
         .count()
 }

@@ -2,7 +2,7 @@
 
 /// Where a sent I frame came from.
 #[derive(Clone, Copy, Debug, PartialEq, Eq)]
-pub enum Origin {
+pub enum FrameOrigin {
     /// From the queue of pieces of reports.
     Queue,
     /// An answer of the gateway's own.
@@ -13,7 +13,7 @@ pub enum Origin {
 #[derive(Clone, Copy, Debug, PartialEq, Eq)]
 pub struct Unacknowledged {
     /// Where it came from.
-    pub kind: Origin,
+    pub kind: FrameOrigin,
     /// When it was sent, in ms.
     pub moment: u64,
 }

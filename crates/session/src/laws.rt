@@ -6,12 +6,12 @@
 ghost use Rattle.std.specs.Prelude.{◌≡◌, ℕ, ◌%◌, ◌<◌, ◌≤◌, ◌&&◌, ◌++◌, List, [], true, false, None};
 ghost use Rattle.std.specs.Prelude.{nat_lt, length, option_to_list, suc, ◌∷◌};
 ghost use Rattle.apci.specs.declared.apdu.Apdu.{Apdu};
-ghost use Rattle.session.specs.declared.kinds.Origin.{Origin};
+ghost use Rattle.session.specs.declared.kinds.FrameOrigin.{FrameOrigin};
 ghost use Rattle.session.specs.declared.kinds.Unacknowledged.{Unacknowledged};
 ghost use Rattle.session.specs.Session.{Session, is_open, is_transferring, may_send, refuses};
 ghost use Rattle.session.specs.Session.{outcome_of, timed_out, confirmed, pulled, sent, taken};
 ghost use Rattle.session.specs.Session.{from_queue};
-ghost use Rattle.session.specs.declared.kinds.Origin.TheVariants.{Queue, Own};
+ghost use Rattle.session.specs.declared.kinds.FrameOrigin.TheVariants.{Queue, Own};
 ghost use Rattle.session.specs.History.{IsNumbered, sent_frames, received_count, reached};
 ghost use Rattle.session.specs.History.{still_unacknowledged, is_started, verdict_on};
 ghost use Rattle.session.specs.History.{confirmation_of, confirmation_owed, confirmations_due};
@@ -97,11 +97,11 @@ pub fn calls_come_to_an_end()
         IsConfirmed (after_confirm (after_confirm (after_confirm s))) }
     ensures pulls { (now : ℕ) (s : Session) →
         (pulled now (after_pull now (after_pull now s))).0 ≡ None }
-    ensures confirmed_sent { (kind : Origin) (now : ℕ) (s : Session) → may_send s ≡ true →
+    ensures confirmed_sent { (kind : FrameOrigin) (now : ℕ) (s : Session) → may_send s ≡ true →
         IsConfirmed s → IsConfirmed (sent kind now s) }
     ensures confirmed_pull { (now : ℕ) (s : Session) → IsConfirmed s →
         IsConfirmed (after_pull now s) }
-    ensures in_time_sent { (kind : Origin) (now : ℕ) (s : Session) → 0 < s.t1 → IsInTime now s →
+    ensures in_time_sent { (kind : FrameOrigin) (now : ℕ) (s : Session) → 0 < s.t1 → IsInTime now s →
         IsInTime now (sent kind now s) }
     ensures in_time_confirm { (now : ℕ) (s : Session) → IsInTime now s →
         IsInTime now (after_confirm s) }
@@ -116,7 +116,7 @@ pub fn calls_come_to_an_end()
 pub fn frames_stay_in_order()
     ensures later { (frames : List Unacknowledged) (before now : ℕ) → before ≤ now →
         AreInOrder 0 frames before → AreInOrder 0 frames now }
-    ensures sent { (kind : Origin) (now : ℕ) (s : Session) → AreInOrder 0 s.unacknowledged now →
+    ensures sent { (kind : FrameOrigin) (now : ℕ) (s : Session) → AreInOrder 0 s.unacknowledged now →
         AreInOrder 0 (sent kind now s).unacknowledged now }
     ensures taken { (frame : Apdu) (now : ℕ) (s : Session) → AreInOrder 0 s.unacknowledged now →
         AreInOrder 0 (taken frame now s).unacknowledged now }

@@ -24,7 +24,7 @@ mod laws;
 mod saving;
 
 pub use connection::{NoMemory, Session};
-pub use kinds::{Close, Origin, Taken, Transfer, Unacknowledged};
+pub use kinds::{Close, FrameOrigin, Taken, Transfer, Unacknowledged};
 pub use laws::{
     calls_come_to_an_end, connections_begin_by_open, frames_are_judged, frames_are_numbered,
     frames_stay_in_order, histories_keep_the_rules, origins_are_counted_apart, reached_is_least,

@@ -11,7 +11,7 @@ ghost use Rattle.session.specs.Restored.{numbers_line, dues_line, frame_line, fr
 ghost use Rattle.session.specs.Restored.{frame_from, numbers_from, numbers_of, dues_from, dues_of};
 ghost use Rattle.session.specs.Restored.{IsSavable};
 
-use crate::kinds::{Origin, Transfer, Unacknowledged};
+use crate::kinds::{FrameOrigin, Transfer, Unacknowledged};
 use apci::Uf;
 use checkpoint::{Lines, Sheet, StateFault};
 use circular_buffer::HeapCircularBuffer;
@@ -61,21 +61,21 @@ fn transfer_from(number: u64) -> Option<Transfer>
     }
 }
 
-fn kind_number(kind: Origin) -> u64
+fn kind_number(kind: FrameOrigin) -> u64
     ensures { result ≡ kind_number kind }
 {
     match kind {
-        Origin::Queue => 0,
-        Origin::Own => 1,
+        FrameOrigin::Queue => 0,
+        FrameOrigin::Own => 1,
     }
 }
 
-fn kind_from(number: u64) -> Option<Origin>
+fn kind_from(number: u64) -> Option<FrameOrigin>
     ensures { result ≡ kind_from number }
 {
     match number {
-        0 => Some(Origin::Queue),
-        1 => Some(Origin::Own),
+        0 => Some(FrameOrigin::Queue),
+        1 => Some(FrameOrigin::Own),
         _ => None,
     }
 }

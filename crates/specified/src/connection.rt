@@ -1,6 +1,6 @@
 //! One connection: the crate `session` (IEC 60870-5-104, 5.1 to 5.5).
 use apci::{Apdu, ApduRef, Uf};
-use session::{Close, NoMemory, Origin, Session, Taken};
+use session::{Close, FrameOrigin, NoMemory, Session, Taken};
 use std::process::Abort;
 
 #[test]
@@ -29,7 +29,7 @@ fn starts_and_stops(rt: &impl Abort, session: &mut Session) {
     assert_eq!(rt; session.due(15_005), None);
     assert!(rt; session.runs());
     assert!(rt; session.may_send());
-    assert_eq!(rt; session.sent(Origin::Queue, 6), (0, 1));
+    assert_eq!(rt; session.sent(FrameOrigin::Queue, 6), (0, 1));
     assert_eq!(rt; session.due(15_005), None);
     assert_eq!(rt; session.due(15_006), Some(Close::Timeout));
     // A stop is confirmed once no sent I frame is unacknowledged.

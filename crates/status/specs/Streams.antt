@@ -1,18 +1,18 @@
 -- What a stream gives and takes, and what it keeps of it (this gateway's own profile).
 use Rattle.std.specs.Prelude.{◌≡◌, ℕ, ◌≤◌, List, [], ◌++◌, take, Option, Some, None}
-use Rattle.status.specs.declared.streams.Received.{Received}
-use Rattle.status.specs.declared.streams.Received.TheVariants as got
+use Rattle.status.specs.declared.streams.StreamLook.{StreamLook}
+use Rattle.status.specs.declared.streams.StreamLook.TheVariants as got
 use Rattle.status.specs.declared.streams.Took.{Took}
 use Rattle.status.specs.declared.streams.Took.TheVariants as took
 
 -- octets are at least one, and within the buffer
-abbrev pub FitsBuffer : Received → Type 0
+abbrev pub FitsBuffer : StreamLook → Type 0
 FitsBuffer (got.Octets len) = (1 ≤ len) × (len ≤ 1024)
 FitsBuffer got.Quiet = Unit {0}
 FitsBuffer got.Gone = Unit {0}
 
 -- the octets that a look found
-abbrev pub got_of : Received → (buf : List ℕ) → List ℕ
+abbrev pub got_of : StreamLook → (buf : List ℕ) → List ℕ
 got_of (got.Octets len) buf = take len buf
 got_of got.Quiet buf = []
 got_of got.Gone buf = []

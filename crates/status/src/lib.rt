@@ -53,5 +53,5 @@ pub use snapshot::{
     CentreView, Keeping, LineView, LinkState, Queue, Setting, Snapshot, StationView,
 };
 pub use sockets::{VisitorListener, VisitorSocket};
-pub use streams::{Received, Stream, StreamSource, Took};
+pub use streams::{Stream, StreamLook, StreamSource, Took};
 pub use visitors::Visitors;

@@ -12,7 +12,7 @@ use crate::answer::make_answer;
 use crate::page::TextPage;
 use crate::request::{Inquiry, asked_of};
 use crate::snapshot::Snapshot;
-use crate::streams::{Received, Stream, Took};
+use crate::streams::{Stream, StreamLook, Took};
 use std::alloc::{AllocError, Global};
 
 /// How many octets a request may have.
@@ -111,12 +111,12 @@ fn receive<S: Stream>(stream: &mut S, request: &mut TextPage) -> bool
 {
     let mut octets = [0; 1024];
     match stream.read(&mut octets) {
-        Received::Octets(len) => {
+        StreamLook::Octets(len) => {
             request.put(&octets[..len]);
             true
         }
-        Received::Quiet => true,
-        Received::Gone => false,
+        StreamLook::Quiet => true,
+        StreamLook::Gone => false,
     }
 }
 
@@ -125,7 +125,7 @@ fn drain<S: Stream>(stream: &mut S) -> bool
     ensures taken { S.taken stream.new ≡ S.taken stream.old }
 {
     let mut octets = [0; 1024];
-    !matches!(stream.read(&mut octets), Received::Gone)
+    !matches!(stream.read(&mut octets), StreamLook::Gone)
 }
 
 /// Hands a stream octets, and answers how many it took; none where it is broken.

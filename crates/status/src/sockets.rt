@@ -1,7 +1,7 @@
 //! The streams of visitors on the system's sockets. No call waits.
 ghost use Rattle.std.specs.Prelude.{None};
 
-use crate::streams::{Received, Stream, StreamSource, Took};
+use crate::streams::{Stream, StreamLook, StreamSource, Took};
 use std::io;
 use std::io::{ErrorKind, Read, Write};
 use std::net::{Net, OpenListener, OpenStream, Shutdown, SocketAddr, TcpListener, TcpStream};
@@ -15,12 +15,12 @@ impl Stream for VisitorSocket {
 
     ghost taken = { λ _. None };
 
-    fn read(&mut self, buf: &mut [u8; 1024]) -> Received {
+    fn read(&mut self, buf: &mut [u8; 1024]) -> StreamLook {
         match self.0.read(buf) {
-            Ok(0) => Received::Gone,
-            Ok(len) => Received::Octets(len),
-            Err(fault) if is_quiet(&fault) => Received::Quiet,
-            Err(_) => Received::Gone,
+            Ok(0) => StreamLook::Gone,
+            Ok(len) => StreamLook::Octets(len),
+            Err(fault) if is_quiet(&fault) => StreamLook::Quiet,
+            Err(_) => StreamLook::Gone,
         }
     }
 

@@ -2,7 +2,7 @@
 
 /// What one look at a stream finds.
 #[derive(Clone, Copy, Debug, PartialEq, Eq)]
-pub enum Received {
+pub enum StreamLook {
     /// So many octets, at the front of the buffer: 1 to 1,024.
     Octets(usize),
     /// Nothing yet.
@@ -32,7 +32,7 @@ pub trait Stream: Drop {
     ghost taken: { Self → Passed };
 
     /// Looks once. Octets are put at the front of the buffer.
-    fn read(&mut self, buf: &mut [u8; 1024]) -> Received
+    fn read(&mut self, buf: &mut [u8; 1024]) -> StreamLook
         ensures fits { FitsBuffer result }
         ensures given { given self.new ≡ more_passed (given self.old) (got_of result buf.new) }
         ensures taken { taken self.new ≡ taken self.old };

@@ -25,7 +25,7 @@ use super::{Arrival, Gateway};
 use apci::{Apdu, ApduRef, Assembler, FrontRef, Received, Short, front_ref, write_information};
 use asdu::Asdu;
 use events::Events;
-use session::{Close, Origin, Session, Taken};
+use session::{Close, FrameOrigin, Session, Taken};
 use std::marker::Model;
 
 /// The session of the connection, the octets of a frame that isn't whole, and the pieces that no
@@ -194,7 +194,7 @@ impl CentreSide {
         ensures within { result ≤ 255 }
         ensures state { self.new ≡ own_sent moment self.old }
     {
-        let (ns, nr) = self.session.sent(Origin::Own, moment);
+        let (ns, nr) = self.session.sent(FrameOrigin::Own, moment);
         write_information(octets, ns, nr, asdu)
     }
 
@@ -212,7 +212,7 @@ impl CentreSide {
             return None;
         }
         let asdu = self.queue.unsent()?;
-        let (ns, nr) = self.session.sent(Origin::Queue, moment);
+        let (ns, nr) = self.session.sent(FrameOrigin::Queue, moment);
         let count = write_information(octets, ns, nr, asdu);
         self.queue.mark_sent();
         Some(count)

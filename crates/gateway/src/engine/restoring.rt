@@ -44,20 +44,20 @@ use std::alloc::Global;
 
 /// What the first line of a state says.
 #[derive(Clone, Copy)]
-pub(crate) struct FirstLine {
+pub(crate) struct ClockLine {
     pub(crate) moment: u64,
     pub(crate) wall: Option<Wall>,
 }
 
-fn clock_from(numbers: &[u64]) -> Option<FirstLine>
+fn clock_from(numbers: &[u64]) -> Option<ClockLine>
     ensures { result ≡ clock_from numbers.now }
 {
     match numbers {
-        [moment] => Some(FirstLine {
+        [moment] => Some(ClockLine {
             moment: *moment,
             wall: None,
         }),
-        [moment, since, number] => Some(FirstLine {
+        [moment, since, number] => Some(ClockLine {
             moment: *moment,
             wall: Some(Wall {
                 moment: *since,
@@ -81,7 +81,7 @@ fn tally_from(numbers: &[u64]) -> Option<Tally>
     }
 }
 
-fn read_clock<L: Lines>(lines: &mut L, line: &mut Vec<u64>) -> Result<FirstLine, StateFault>
+fn read_clock<L: Lines>(lines: &mut L, line: &mut Vec<u64>) -> Result<ClockLine, StateFault>
     ensures { (s : State) (rest : List (List ℕ)) → L.coming lines.old ≡ clock_line s ∷ rest →
         MatchResult result (λ c. (c ≡ clock_of s) × (L.coming lines.new ≡ rest))
         (λ fault. fault ≡ Wrong → ⊥) }
@@ -310,7 +310,7 @@ impl Gateway {
     /// These parts, where three places are free while a poll is out.
     fn joined(
         sizes: Sizes,
-        clock: FirstLine,
+        clock: ClockLine,
         serial: SerialSide,
         centre: CentreSide,
     ) -> Result<Gateway, StateFault>

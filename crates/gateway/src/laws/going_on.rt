@@ -1,5 +1,7 @@
 //! What becomes of each station where a gateway goes on with other settings.
-ghost use Rattle.std.specs.Prelude.{◌≡◌, ◌<◌, ℕ, Bool, true, Some, None, length, slice_get};
+ghost use Rattle.std.specs.Prelude.{◌≡◌, ◌<◌, ℕ, [], Bool, true, false, Some, None, length};
+ghost use Rattle.std.specs.Prelude.{slice_get};
+ghost use Rattle.events.specs.Queue.{kept};
 ghost use Rattle.link.specs.Procedure.{is_up};
 ghost use Rattle.link.specs.Turns.{station_at};
 ghost use Rattle.link.specs.Primary.{station_down};
@@ -10,7 +12,7 @@ ghost use Rattle.gateway.specs.State.{State};
 ghost use Rattle.gateway.specs.Carried.{place_of, start_of, station_started, carried};
 ghost use Rattle.gateway.specs.Unchanged.{MayGoOn};
 
-use link::{frame_count_bits_go_on, giving_up_is_for_one_station};
+use link::{frame_count_bits_go_on, giving_up_is_for_one_station, sessions_go_on};
 
 /// Each station of the new settings is the one that had its link address before, whatever places
 /// they have: it goes on, or its link is down, as the table says of it, and of no other. Where it
@@ -52,3 +54,38 @@ pub fn no_link_goes_on_but_of_a_station_as_it_was()
 {
     stations_go_on_by_their_addresses();
 }
+
+/// Where a state is stale, what its stations gave since isn't known: the session of each station
+/// that goes on has a gap then, which is reported at its next answered reset. Where a state is
+/// trusted, each such session stays as it was.
+pub fn a_stale_state_leaves_gaps()
+    ensures stale { (before now : Settings) (s : State) (i k : ℕ) (station : StationSettings) →
+        slice_get now.stations i ≡ Some station →
+        place_of station.address before.stations ≡ Some k →
+        k < length s.serial.line.stations →
+        (station_at (carried false before now s).serial.line.stations i).session
+        ≡ record (station_at s.serial.line.stations k).session { has_gap = true } }
+    ensures trusted { (before now : Settings) (s : State) (i k : ℕ) (station : StationSettings) →
+        slice_get now.stations i ≡ Some station →
+        place_of station.address before.stations ≡ Some k →
+        k < length s.serial.line.stations →
+        (station_at (carried true before now s).serial.line.stations i).session
+        ≡ (station_at s.serial.line.stations k).session }
+{
+    stations_go_on_by_their_addresses();
+    sessions_go_on();
+}
+
+/// No piece of a report is dropped where a gateway goes on with other settings, and none changes
+/// its place: each that was kept is kept, to be sent anew, even if the queue has fewer places now.
+/// The moment and the wall clock go on too.
+pub fn what_is_kept_goes_on()
+    ensures pieces { (goes_on : Bool) (before now : Settings) (s : State) →
+        kept (carried goes_on before now s).centre.queue ≡ kept s.centre.queue }
+    ensures unsent { (goes_on : Bool) (before now : Settings) (s : State) →
+        (carried goes_on before now s).centre.queue.sent ≡ [] }
+    ensures moment { (goes_on : Bool) (before now : Settings) (s : State) →
+        (carried goes_on before now s).moment ≡ s.moment }
+    ensures wall { (goes_on : Bool) (before now : Settings) (s : State) →
+        (carried goes_on before now s).wall ≡ s.wall }
+{}

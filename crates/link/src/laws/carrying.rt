@@ -1,5 +1,6 @@
 //! What giving up the link to a station does to the line.
-ghost use Rattle.std.specs.Prelude.{◌≡◌, ◌≢◌, ◌<◌, ℕ, Bool, true, false, List, length, slice_get, Some};
+ghost use Rattle.std.specs.Prelude.{◌≡◌, ◌≢◌, ◌<◌, ℕ, Bool, true, false, List, length, slice_get};
+ghost use Rattle.std.specs.Prelude.{Some};
 ghost use Rattle.ft12.specs.declared.frame.Front.{Front};
 ghost use Rattle.ft12.specs.declared.frame.LinkSize.{LinkSize};
 ghost use Rattle.ft12.specs.Fronts.{front_of};

@@ -10,7 +10,7 @@ use std::alloc::Global;
 
 /// What is lost of the exchange with this number.
 #[derive(Clone, Copy)]
-struct Loss {
+struct LostExchange {
     exchange: usize,
     request: bool,
 }
@@ -29,7 +29,7 @@ fn receive(master: &mut Master, octets: &[u8]) -> Option<u8> {
 }
 
 /// The first octets of the reports that the master took, as one number in base 16.
-fn taken(master: &mut Master, station: &mut Station, loss: Loss) -> u64 {
+fn taken(master: &mut Master, station: &mut Station, loss: LostExchange) -> u64 {
     let mut taken: u64 = 0;
     let mut now: u64 = 0;
     for exchange in 0..24 {
@@ -78,7 +78,7 @@ fn report_five(station: &mut Station) -> Result<(), NoMemory>
 }
 
 /// The reports that a master takes of that station, as one number, and how many the station gave.
-fn taken_and_given(alloc: Global, loss: Loss) -> Result<(u64, u64), NoMemory> {
+fn taken_and_given(alloc: Global, loss: LostExchange) -> Result<(u64, u64), NoMemory> {
     let mut station = station(alloc)?;
     let mut master = Master::new(alloc, settings((0, true, 8)), &[1])?;
     let taken = taken(&mut master, &mut station, loss);
@@ -89,7 +89,7 @@ fn taken_and_given(alloc: Global, loss: Loss) -> Result<(u64, u64), NoMemory> {
 fn each_report_comes_once(rt: HostRuntime) -> Result<(), NoMemory> {
     for exchange in 0..16 {
         for request in [true, false] {
-            let loss = Loss { exchange, request };
+            let loss = LostExchange { exchange, request };
             assert!(rt;
                 taken_and_given(rt.alloc(), loss)? == (0x12345, 5),
                 "at {exchange}"

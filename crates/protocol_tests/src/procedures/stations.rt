@@ -15,7 +15,7 @@ const POLL: [u8; 5] = [0x10, 0x7B, 0x01, 0x7C, 0x16];
 
 /// What a request is answered with.
 #[derive(Clone, Copy)]
-enum Answer<'a> {
+enum ExpectedAnswer<'a> {
     Nothing,
     Single,
     /// A frame of fixed length with this control octet.
@@ -31,18 +31,18 @@ enum Step<'a> {
     Report1(&'a [u8]),
     Report2(&'a [u8]),
     /// Octets of the line come, and are answered so.
-    Receives(&'a [u8], Answer<'a>),
+    Receives(&'a [u8], ExpectedAnswer<'a>),
     /// So many reports were given by now.
     Given(u64),
 }
 
 /// Whether this is the answer of station 1.
-fn is_answer(answer: &Option<Frame>, wanted: Answer<'_>) -> bool {
+fn is_answer(answer: &Option<Frame>, wanted: ExpectedAnswer<'_>) -> bool {
     match (answer, wanted) {
-        (None, Answer::Nothing) => true,
-        (Some(Frame::Single), Answer::Single) => true,
-        (Some(Frame::Fixed { c, a: 1 }), Answer::Fixed(control)) => *c == control,
-        (Some(Frame::Data { c, a: 1, body }), Answer::Report(control, octets)) => {
+        (None, ExpectedAnswer::Nothing) => true,
+        (Some(Frame::Single), ExpectedAnswer::Single) => true,
+        (Some(Frame::Fixed { c, a: 1 }), ExpectedAnswer::Fixed(control)) => *c == control,
+        (Some(Frame::Data { c, a: 1, body }), ExpectedAnswer::Report(control, octets)) => {
             *c == control && body.as_slice() == octets
         }
         _ => false,
@@ -83,13 +83,13 @@ const SCRIPTS: [(&str, &[Step<'static>]); 3] = [
         "a report is given once",
         &[
             Step::Report2(&[1, 2, 3]),
-            Step::Receives(&POLL, Answer::Nothing),
-            Step::Receives(&STATUS, Answer::Fixed(0x0B)),
-            Step::Receives(&RESET, Answer::Single),
-            Step::Receives(&POLL, Answer::Report(0x08, &[1, 2, 3])),
-            Step::Receives(&POLL, Answer::Report(0x08, &[1, 2, 3])),
+            Step::Receives(&POLL, ExpectedAnswer::Nothing),
+            Step::Receives(&STATUS, ExpectedAnswer::Fixed(0x0B)),
+            Step::Receives(&RESET, ExpectedAnswer::Single),
+            Step::Receives(&POLL, ExpectedAnswer::Report(0x08, &[1, 2, 3])),
+            Step::Receives(&POLL, ExpectedAnswer::Report(0x08, &[1, 2, 3])),
             Step::Given(1),
-            Step::Receives(&[0x10, 0x5B, 0x01, 0x5C, 0x16], Answer::Single),
+            Step::Receives(&[0x10, 0x5B, 0x01, 0x5C, 0x16], ExpectedAnswer::Single),
         ],
     ),
     (
@@ -97,21 +97,30 @@ const SCRIPTS: [(&str, &[Step<'static>]); 3] = [
         &[
             Step::Report1(&[7]),
             Step::Report1(&[8]),
-            Step::Receives(&STATUS, Answer::Fixed(0x2B)),
-            Step::Receives(&RESET, Answer::Fixed(0x20)),
-            Step::Receives(&POLL, Answer::Fixed(0x29)),
-            Step::Receives(&[0x10, 0x5A, 0x01, 0x5B, 0x16], Answer::Report(0x28, &[7])),
-            Step::Receives(&[0x10, 0x7A, 0x01, 0x7B, 0x16], Answer::Report(0x08, &[8])),
+            Step::Receives(&STATUS, ExpectedAnswer::Fixed(0x2B)),
+            Step::Receives(&RESET, ExpectedAnswer::Fixed(0x20)),
+            Step::Receives(&POLL, ExpectedAnswer::Fixed(0x29)),
+            Step::Receives(
+                &[0x10, 0x5A, 0x01, 0x5B, 0x16],
+                ExpectedAnswer::Report(0x28, &[7]),
+            ),
+            Step::Receives(
+                &[0x10, 0x7A, 0x01, 0x7B, 0x16],
+                ExpectedAnswer::Report(0x08, &[8]),
+            ),
             Step::Given(2),
         ],
     ),
     (
         "other requests",
         &[
-            Step::Receives(&[0x10, 0x49, 0x02, 0x4B, 0x16], Answer::Nothing),
-            Step::Receives(&[0x10, 0x0B, 0x01, 0x0C, 0x16], Answer::Nothing),
-            Step::Receives(&[0x10, 0x49, 0x01, 0x4A, 0x16, 0xE5], Answer::Nothing),
-            Step::Receives(&[0x10, 0x44, 0x01, 0x45, 0x16], Answer::Fixed(0x0F)),
+            Step::Receives(&[0x10, 0x49, 0x02, 0x4B, 0x16], ExpectedAnswer::Nothing),
+            Step::Receives(&[0x10, 0x0B, 0x01, 0x0C, 0x16], ExpectedAnswer::Nothing),
+            Step::Receives(
+                &[0x10, 0x49, 0x01, 0x4A, 0x16, 0xE5],
+                ExpectedAnswer::Nothing,
+            ),
+            Step::Receives(&[0x10, 0x44, 0x01, 0x45, 0x16], ExpectedAnswer::Fixed(0x0F)),
         ],
     ),
 ];

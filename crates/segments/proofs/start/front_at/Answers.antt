@@ -1,7 +1,7 @@
 use Rattle.std.proofs.Common.{◌≡◌, ◌<◌, ◌≤◌, length, List, ℕ, IsTrue, sym, subst, ◌∙◌, lit<, arith}
 use Rattle.sqlite_disk.specs.Disk.{Holds}
 use Rattle.segments.specs.Starts.{IsHeadIn}
-use Rattle.segments.specs.declared.start.Front.TheVariants as fronts
+use Rattle.segments.specs.declared.start.FileFront.TheVariants as fronts
 use Rattle.segments.proofs.Fronts.{gone_well, head_line, other_line, other_short}
 use Rattle.segments.proofs.start.front_at.Goals as goal
 

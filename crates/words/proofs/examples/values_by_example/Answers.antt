@@ -20,4 +20,5 @@ returns-clause-totals c = (refl, refl, refl, refl, refl)
 
 pub returns-clause-commands : goal.returns-clause-commands
 unfolding values_open
-returns-clause-commands c = (refl, refl, refl, refl, refl, refl, refl, refl, refl, refl, refl, refl, refl)
+returns-clause-commands c =
+    (refl, refl, refl, refl, refl, refl, refl, refl, refl, refl, refl, refl, refl)

@@ -3,7 +3,7 @@ use Rattle.std.specs.Option.{is_some}
 use Rattle.segments.specs.Starts.{HasNoNewer, IsAbove, IsBacked, IsFoundIn, IsHeadIn, IsNewest}
 use Rattle.segments.specs.Starts.{IsSound, other_side}
 use Rattle.segments.specs.declared.start.FoundHead.{FoundHead}
-use Rattle.segments.specs.declared.start.Front.TheVariants as fronts
+use Rattle.segments.specs.declared.start.FileFront.TheVariants as fronts
 use Rattle.segments.proofs.Fronts.{above_front, backed_first, first_newest, not_doubtful, of_both}
 use Rattle.segments.proofs.Fronts.{of_four}
 use Rattle.segments.proofs.Fronts.{of_missing, of_none, of_some, of_three, placed_as, placed_other}

@@ -24,34 +24,34 @@ accepted_stays f at live z true Sent e = absurd (let no : ⊥ = cc in no)
 accepted_stays f at live z true Accepted e = at z
 accepted_stays f at live z true (Live since) e = live since z
 
-pub unreceived_stays : (ms : ℕ) (what : Sign) (z : Selection) → heeds ms what z ≡ false
+pub unheeded_stays : (ms : ℕ) (what : Sign) (z : Selection) → heeds ms what z ≡ false
     → advanced ms what z ≡ Some z
-unreceived_stays ms (sign.Sending station) z e =
+unheeded_stays ms (sign.Sending station) z e =
     accepted_stays after_sending (λ z. refl) (λ since z. refl) z (z.station == station) z.stage e
-unreceived_stays ms (sign.Acceptance station) z e =
+unheeded_stays ms (sign.Acceptance station) z e =
     accepted_stays after_acceptance (λ z. refl) (λ since z. refl) z (z.station == station) z.stage e
-unreceived_stays ms (sign.Loss station) z e =
+unheeded_stays ms (sign.Loss station) z e =
     accepted_stays after_loss (λ z. refl) (λ since z. refl) z (z.station == station) z.stage e
-unreceived_stays ms (sign.Over target) z e = rw e refl
-unreceived_stays ms (sign.Con target element now) z e = rw e refl
-unreceived_stays ms (sign.Time now) z e = rw e refl
+unheeded_stays ms (sign.Over target) z e = rw e refl
+unheeded_stays ms (sign.Con target element now) z e = rw e refl
+unheeded_stays ms (sign.Time now) z e = rw e refl
 
 neither : (a b : Bool) → (a || b) ≡ false → (a ≡ false) × (b ≡ false)
 neither true b e = absurd (let no : ⊥ = cc in no)
 neither false b e = (refl, e)
 
-unreceived : (ms : ℕ) (what : Sign) (zs : List Selection) → list_any (heeds ms what) zs ≡ false
+unheeded : (ms : ℕ) (what : Sign) (zs : List Selection) → list_any (heeds ms what) zs ≡ false
     → filter_map (advanced ms what) zs ≡ zs
-unreceived ms what [] e = refl
-unreceived ms what (z ∷ zs) e =
+unheeded ms what [] e = refl
+unheeded ms what (z ∷ zs) e =
     let parts = neither (heeds ms what z) (list_any (heeds ms what) zs) e in
     ap (λ (o : Option Selection). cons_option o (filter_map (advanced ms what) zs))
-    (unreceived_stays ms what z parts.0)
-    ∙ ap (λ (ys : List Selection). z ∷ ys) (unreceived ms what zs parts.1)
+    (unheeded_stays ms what z parts.0)
+    ∙ ap (λ (ys : List Selection). z ∷ ys) (unheeded ms what zs parts.1)
 
-pub unreceived_logged : (what : Sign) (s : State) → list_any (heeds s.select_ms what) s.selections
+pub unheeded_logged : (what : Sign) (s : State) → list_any (heeds s.select_ms what) s.selections
     ≡ false
     → s ≡ heeded what s
-unreceived_logged what s e =
+unheeded_logged what s e =
     ap (λ (zs : List Selection). record s { selections = zs })
-    (sym (unreceived s.select_ms what s.selections e))
+    (sym (unheeded s.select_ms what s.selections e))

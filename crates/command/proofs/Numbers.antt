@@ -1,0 +1,323 @@
+-- The rules say the same whatever the numbers of a command are.
+use Rattle.std.proofs.Common.{◌≡◌, ℕ, zero, suc, ◌+◌, ◌-◌, ◌%◌, ◌^◌, ◌<◌, ◌≤◌, ◌⊎◌, inl, inr}
+use Rattle.std.proofs.Common.{Bool, true, false, not, List, [], ◌∷◌, refl, sym, ap, ◌∙◌, arith}
+use Rattle.std.specs.Prelude.{◌==◌, ◌&&◌, ◌||◌, nat_lt, nat_le, slice_get, slice_index, Option}
+use Rattle.std.specs.Prelude.{Some}
+use Rattle.std.specs.List.{list_any}
+use Rattle.std.proofs.lemmas.Bool.{eq-eqb, eqb-true, and_parts, lt-ltb, le-ltb, le-leb}
+use Rattle.elements.specs.Types.{row}
+use Rattle.elements.specs.TimeTag.{verdict_of}
+use Rattle.asdu.specs.Sizes.{ioa_len}
+use Rattle.asdu.specs.declared.sizes.Sizes.{Sizes}
+use Rattle.command.specs.declared.station.StationInfo.{StationInfo}
+use Rattle.command.specs.Standard.{plain_type}
+use Rattle.command.specs.Standard.{is_for_station, is_for_each, station_of, IsFresh, is_fresh}
+use Rattle.command.specs.Standard.{unknown_station, unknown_object, not_fresh}
+use Rattle.command.specs.Standard.{has_tag, is_activation, tag_of}
+use Rattle.command.specs.Numbers.{Numbers, command_with, address_of, object_of}
+use Rattle.command.specs.Numbers.{AddressesAreRead, ObjectsAreRead, TargetsAreCompared}
+use Rattle.command.specs.Numbers.{ElementsAreRead, TimesAreKept}
+
+-- ---- tests
+
+unequal : (a b : ℕ) → (a ≡ b → ⊥) → (a == b) ≡ false
+unequal a b other = go (a == b) refl
+  where
+    go : (t : Bool) → (a == b) ≡ t → (a == b) ≡ false
+    go true is = absurd (other (eqb-true a b is))
+    go false is = is
+
+or_right : (a b : Bool) → b ≡ true → (a || b) ≡ true
+or_right true b is = refl
+or_right false b is = is
+
+or_left : (a b : Bool) → a ≡ true → (a || b) ≡ true
+or_left true b is = refl
+or_left false b is = cc
+
+-- ---- common addresses
+
+own : (kind : ℕ) (n : Numbers) (rest : List ℕ) (station : StationInfo)
+    → address_of n ≡ station.ca
+    → is_for_station (command_with kind n rest) station ≡ true
+own kind n rest station is = or_left (address_of n == station.ca) _
+    (eq-eqb (address_of n) station.ca is)
+
+for_each : (n : Numbers) (rest : List ℕ) → n.ca_low ≡ 255 → n.ca_high ≡ 255
+    → is_for_each (command_with 100 n rest) ≡ true
+for_each n rest low high = eq-eqb (address_of n) 65535 (omega (arith, low, high))
+
+each : (n : Numbers) (rest : List ℕ) (station : StationInfo) → n.ca_low ≡ 255 → n.ca_high ≡ 255
+    → is_for_station (command_with 100 n rest) station ≡ true
+each n rest station low high =
+    or_right (address_of n == station.ca) (is_for_each (command_with 100 n rest))
+    (for_each n rest low high)
+
+no_other : (kind : ℕ) (n : Numbers) (rest : List ℕ) (station : StationInfo)
+    → (address_of n ≡ station.ca → ⊥)
+    → (kind ≡ 100 → address_of n ≡ 65535 → ⊥)
+    → is_for_station (command_with kind n rest) station ≡ false
+no_other kind n rest station apart not_all =
+    let own : (address_of n == station.ca) ≡ false = unequal (address_of n) station.ca apart in
+    rw own (go (kind == 100) (address_of n == 65535) refl refl)
+  where
+    go : (a b : Bool) → (kind == 100) ≡ a → (address_of n == 65535) ≡ b
+        → ((kind == 100) && (address_of n == 65535)) ≡ false
+    go false b is other = rw is refl
+    go true false is other = rw (is, other) refl
+    go true true is other =
+        absurd (not_all (eqb-true kind 100 is) (eqb-true (address_of n) 65535 other))
+
+any_is : (stations : List StationInfo) (k : ℕ) (station : StationInfo) (p : StationInfo → Bool)
+    → slice_get stations k ≡ Some station
+    → p station ≡ true
+    → list_any p stations ≡ true
+any_is [] k station p at is = cc
+any_is (st ∷ sts) zero station p at is =
+    or_left (p st) (list_any p sts) ((let same : st ≡ station = cc in ap p same) ∙ is)
+any_is (st ∷ sts) (suc k) station p at is =
+    or_right (p st) (list_any p sts) (any_is sts k station p at is)
+
+known : (stations : List StationInfo) (k kind : ℕ) (n : Numbers) (rest : List ℕ)
+    (station : StationInfo)
+    → slice_get stations k ≡ Some station
+    → address_of n ≡ station.ca
+    → (unknown_station stations (command_with kind n rest)).applies ≡ false
+known stations k kind n rest station at is =
+    ap (λ (b : Bool). not (b || is_for_each (command_with kind n rest)))
+    (any_is stations k station (is_for_station (command_with kind n rest)) at
+    (own kind n rest station is))
+
+all_known : (stations : List StationInfo) (n : Numbers) (rest : List ℕ) → n.ca_low ≡ 255
+    → n.ca_high ≡ 255
+    → (unknown_station stations (command_with 100 n rest)).applies ≡ false
+all_known stations n rest low high =
+    ap not (or_right (list_any (is_for_station (command_with 100 n rest)) stations)
+    (is_for_each (command_with 100 n rest)) (for_each n rest low high))
+
+first : (stations : List StationInfo) (k kind : ℕ) (n : Numbers) (rest : List ℕ)
+    (station : StationInfo)
+    → slice_get stations k ≡ Some station
+    → address_of n ≡ station.ca
+    → ((j : ℕ) (other : StationInfo) → j < k → slice_get stations j ≡ Some other
+    → address_of n ≡ other.ca
+    → ⊥)
+    → station_of stations (command_with kind n rest) ≡ k
+first [] k kind n rest station at is none = cc
+first (st ∷ sts) zero kind n rest station at is none =
+    let same : st.ca ≡ station.ca = ap (λ (o : StationInfo). o.ca) (let e : st ≡ station = cc in
+    e) in
+    let own : (address_of n == st.ca) ≡ true = eq-eqb (address_of n) st.ca (is ∙ sym same) in
+    rw own refl
+first (st ∷ sts) (suc k) kind n rest station at is none =
+    let other : (address_of n == st.ca) ≡ false =
+    unequal (address_of n) st.ca (none 0 st (omega arith) refl) in
+    rw other (ap suc (first sts k kind n rest station at is
+    (λ j it less there same. none (suc j) it (omega (arith, less)) there same)))
+
+pub addresses_hold : AddressesAreRead
+addresses_hold = record {
+  own = own;
+  each = each;
+  no_other = no_other;
+  known = known;
+  all_known = all_known;
+  first = first;
+}
+
+-- ---- object addresses
+
+named : (sizes : Sizes) (kind : ℕ) (n : Numbers) (rest : List ℕ) → (kind ≡ 100 → ⊥)
+    → 0 < object_of n
+    → object_of n < 256 ^ ioa_len sizes.ioa
+    → (unknown_object sizes (command_with kind n rest)).applies ≡ false
+named sizes kind n rest apart some small =
+    let a : (kind == 100) ≡ false = unequal kind 100 apart in
+    let b : nat_lt 0 (object_of n) ≡ true = lt-ltb 0 (object_of n) some in
+    let c : nat_lt (object_of n) (256 ^ ioa_len sizes.ioa) ≡ true =
+    lt-ltb (object_of n) (256 ^ ioa_len sizes.ioa) small in
+    rw (a, b, c) refl
+
+zero_object : (sizes : Sizes) (kind : ℕ) (n : Numbers) (rest : List ℕ) → (kind ≡ 100 → ⊥)
+    → object_of n ≡ 0
+    → (unknown_object sizes (command_with kind n rest)).applies ≡ true
+zero_object sizes kind n rest apart none =
+    let a : (kind == 100) ≡ false = unequal kind 100 apart in
+    let b : nat_lt 0 (object_of n) ≡ false = le-ltb 0 (object_of n) (omega (arith, none)) in
+    rw (a, b) refl
+
+past : (sizes : Sizes) (kind : ℕ) (n : Numbers) (rest : List ℕ) → (kind ≡ 100 → ⊥)
+    → 256 ^ ioa_len sizes.ioa ≤ object_of n
+    → (unknown_object sizes (command_with kind n rest)).applies ≡ true
+past sizes kind n rest apart high =
+    let a : (kind == 100) ≡ false = unequal kind 100 apart in
+    let c : nat_lt (object_of n) (256 ^ ioa_len sizes.ioa) ≡ false =
+    le-ltb (object_of n) (256 ^ ioa_len sizes.ioa) high in
+    rw (a, c) (go (nat_lt 0 (object_of n)))
+  where
+    go : (b : Bool) → not (b && false) ≡ true
+    go true = refl
+    go false = refl
+
+station_object : (sizes : Sizes) (n : Numbers) (rest : List ℕ) → object_of n ≡ 0
+    → (unknown_object sizes (command_with 100 n rest)).applies ≡ false
+station_object sizes n rest none =
+    let a : (object_of n == 0) ≡ true = eq-eqb (object_of n) 0 none in
+    rw a refl
+
+other_object : (sizes : Sizes) (n : Numbers) (rest : List ℕ) → 0 < object_of n
+    → (unknown_object sizes (command_with 100 n rest)).applies ≡ true
+other_object sizes n rest some =
+    let a : (object_of n == 0) ≡ false =
+    unequal (object_of n) 0 (λ e. absurd (omega (arith, e, some))) in
+    rw a refl
+
+pub objects_hold : ObjectsAreRead
+objects_hold = record {
+  named = named;
+  zero = zero_object;
+  past = past;
+  station = station_object;
+  other = other_object;
+}
+
+-- ---- targets
+
+three_equal : (a b c d e f : ℕ) → a ≡ b → c ≡ d → e ≡ f
+    → ((a == b) && (c == d) && (e == f)) ≡ true
+three_equal a b c d e f x y z =
+    let p : (a == b) ≡ true = eq-eqb a b x in
+    let q : (c == d) ≡ true = eq-eqb c d y in
+    let r : (e == f) ≡ true = eq-eqb e f z in
+    rw (p, q, r) refl
+
+three_only : (a b c d e f : ℕ) → ((a == b) && (c == d) && (e == f)) ≡ true
+    → (a ≡ b) × (c ≡ d) × (e ≡ f)
+three_only a b c d e f is = go (a == b) (c == d) (e == f) refl refl refl is
+  where
+    go : (p q r : Bool) → (a == b) ≡ p → (c == d) ≡ q → (e == f) ≡ r → (p && q && r) ≡ true
+        → (a ≡ b) × (c ≡ d) × (e ≡ f)
+    go true true true x y z is = (eqb-true a b x, eqb-true c d y, eqb-true e f z)
+    go false q r x y z is = cc
+    go true false r x y z is = cc
+    go true true false x y z is = cc
+
+pub targets_hold : TargetsAreCompared
+targets_hold = record {
+  equal = λ j k n m r s x y z. three_equal (plain_type j) (plain_type k) (address_of n)
+      (address_of m) (object_of n) (object_of m) x y z;
+  only_equal = λ j k n m r s is. three_only (plain_type j) (plain_type k) (address_of n)
+      (address_of m) (object_of n) (object_of m) is;
+  answered = λ k n r v i x y z. three_equal (plain_type k) (row v.kind).code (address_of n) v.ca
+      (object_of n) i.address x y z;
+  only_answered = λ k n r v i is. three_only (plain_type k) (row v.kind).code (address_of n) v.ca
+      (object_of n) i.address is;
+}
+
+-- ---- elements
+
+one_equal : (x y : ℕ) → x % 128 ≡ y % 128 → ((x % 128 == y % 128) && true) ≡ true
+one_equal x y is = (let p : (x % 128 == y % 128) ≡ true = eq-eqb (x % 128) (y % 128) is in
+    rw p refl)
+
+one_only : (x y : ℕ) → ((x % 128 == y % 128) && true) ≡ true → x % 128 ≡ y % 128
+one_only x y is = eqb-true (x % 128) (y % 128) (and_parts (x % 128 == y % 128) true is).0
+
+point_equal : (a b x c d y : ℕ) → a ≡ c → b ≡ d → x % 128 ≡ y % 128
+    → ((a == c) && ((b == d) && ((x % 128 == y % 128) && true))) ≡ true
+point_equal a b x c d y e f g =
+    let p : (a == c) ≡ true = eq-eqb a c e in
+    let q : (b == d) ≡ true = eq-eqb b d f in
+    let r : (x % 128 == y % 128) ≡ true = eq-eqb (x % 128) (y % 128) g in
+    rw (p, q, r) refl
+
+point_only : (a b x c d y : ℕ)
+    → ((a == c) && ((b == d) && ((x % 128 == y % 128) && true))) ≡ true
+    → (a ≡ c) × (b ≡ d) × (x % 128 ≡ y % 128)
+point_only a b x c d y is =
+    let first = and_parts (a == c) _ is in
+    let second = and_parts (b == d) _ first.1 in
+    (eqb-true a c first.0, eqb-true b d second.0, one_only x y second.1)
+
+permitted : (x : ℕ) → (x % 4 ≡ 1) ⊎ (x % 4 ≡ 2) → not (not ((x % 4 == 0) || (x % 4 == 3))) ≡ false
+permitted x (inl is) = rw is refl
+permitted x (inr is) = rw is refl
+
+forbidden : (x : ℕ) → (x % 4 ≡ 0) ⊎ (x % 4 ≡ 3) → not (not ((x % 4 == 0) || (x % 4 == 3))) ≡ true
+forbidden x (inl is) = rw is refl
+forbidden x (inr is) = rw is refl
+
+group : (x : ℕ) → 20 ≤ x → x ≤ 36 → not (nat_lt 19 x && nat_lt x 37) ≡ false
+group x low high =
+    let p : nat_lt 19 x ≡ true = lt-ltb 19 x (omega (arith, low)) in
+    let q : nat_lt x 37 ≡ true = lt-ltb x 37 (omega (arith, high)) in
+    rw (p, q) refl
+
+below : (x : ℕ) → x < 20 → not (nat_lt 19 x && nat_lt x 37) ≡ true
+below x low = (let p : nat_lt 19 x ≡ false = le-ltb 19 x (omega (arith, low)) in rw p refl)
+
+above : (x : ℕ) → 36 < x → not (nat_lt 19 x && nat_lt x 37) ≡ true
+above x high =
+    let p : nat_lt 19 x ≡ true = lt-ltb 19 x (omega (arith, high)) in
+    let q : nat_lt x 37 ≡ false = le-ltb x 37 (omega (arith, high)) in
+    rw (p, q) refl
+
+pub elements_hold : ElementsAreRead
+elements_hold = record {
+  single = λ n m x y. (one_equal x y, one_only x y);
+  double = λ n m x y. (one_equal x y, one_only x y);
+  step = λ n m x y. (one_equal x y, one_only x y);
+  normalised = λ n m a b x c d y. (point_equal a b x c d y, point_only a b x c d y);
+  scaled = λ n m a b x c d y. (point_equal a b x c d y, point_only a b x c d y);
+  tagged_single = λ t n m x y. (one_equal x y, one_only x y);
+  tagged_double = λ t n m x y. (one_equal x y, one_only x y);
+  tagged_step = λ t n m x y. (one_equal x y, one_only x y);
+  tagged_normalised = λ t n m a b x c d y. (point_equal a b x c d y, point_only a b x c d y);
+  tagged_scaled = λ t n m a b x c d y. (point_equal a b x c d y, point_only a b x c d y);
+  double_states = λ n x. (permitted x, forbidden x);
+  step_states = λ n x. (permitted x, forbidden x);
+  tagged_double_states = λ t n x. (permitted x, forbidden x);
+  tagged_step_states = λ t n x. (permitted x, forbidden x);
+  single_states = λ n x. refl;
+  values = λ n a b x. refl;
+  groups = λ n x low high. group x low high;
+  below = λ n x low. below x low;
+  above = λ n x high. above x high;
+}
+
+-- ---- times
+
+fresh : (most : ℕ) (wall : Option ℕ) (xs : List ℕ) → IsFresh most wall xs
+    → (not_fresh most wall xs).applies ≡ false
+fresh most wall xs is =
+    let old : nat_le is.clock (is.instant + most) ≡ true =
+    le-leb is.clock (is.instant + most) is.not_old in
+    let ahead : nat_le is.instant (is.clock + most) ≡ true =
+    le-leb is.instant (is.clock + most) is.not_ahead in
+    let fresh : is_fresh most wall (verdict_of (tag_of xs)) ≡ true =
+    ap (λ w. is_fresh most w (verdict_of (tag_of xs))) is.known
+    ∙ ap (is_fresh most (Some is.clock)) is.good
+    ∙ rw (old, ahead) refl in
+    ap (λ (b : Bool). has_tag (slice_index xs 0) && is_activation xs && not b) fresh
+    ∙ go (has_tag (slice_index xs 0)) (is_activation xs)
+  where
+    go : (a b : Bool) → (a && b && false) ≡ false
+    go true true = refl
+    go true false = refl
+    go false b = refl
+
+pub times_hold : TimesAreKept
+times_hold = record {
+  passes = λ select_ms max_age_ms came con now soon early.
+      (let p : nat_lt (con - came) select_ms ≡ true = lt-ltb (con - came) select_ms soon in
+      let q : nat_lt (now - con) select_ms ≡ true = lt-ltb (now - con) select_ms early in
+      rw (p, q) refl);
+  late_execute = λ select_ms max_age_ms came con now soon late.
+      (let p : nat_lt (con - came) select_ms ≡ true = lt-ltb (con - came) select_ms soon in
+      let q : nat_lt (now - con) select_ms ≡ false = le-ltb (now - con) select_ms late in
+      rw (p, q) refl);
+  late_confirmation = λ select_ms max_age_ms came con now late.
+      (let p : nat_lt (con - came) select_ms ≡ false = le-ltb (con - came) select_ms late in
+      rw p refl);
+  fresh = fresh;
+}

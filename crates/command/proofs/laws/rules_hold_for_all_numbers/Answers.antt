@@ -1,0 +1,18 @@
+use Rattle.command.proofs.Numbers.{addresses_hold, objects_hold, targets_hold, elements_hold}
+use Rattle.command.proofs.Numbers.{times_hold}
+use Rattle.command.proofs.laws.rules_hold_for_all_numbers.Goals as goal
+
+pub returns-clause-addresses : goal.returns-clause-addresses
+returns-clause-addresses c = addresses_hold
+
+pub returns-clause-objects : goal.returns-clause-objects
+returns-clause-objects c = objects_hold
+
+pub returns-clause-targets : goal.returns-clause-targets
+returns-clause-targets c = targets_hold
+
+pub returns-clause-elements : goal.returns-clause-elements
+returns-clause-elements c = elements_hold
+
+pub returns-clause-times : goal.returns-clause-times
+returns-clause-times c = times_hold

@@ -1,0 +1,200 @@
+-- What the rules say of a command whatever its numbers are (IEC 60870-5-101, 7.2.3 to 7.2.6 and
+-- 7.3.2): each octet of a command with one object is given here, in the sizes of IEC 60870-5-104.
+use Rattle.std.specs.Prelude.{◌≡◌, ℕ, ◌+◌, ◌*◌, ◌-◌, ◌%◌, ◌^◌, ◌<◌, ◌≤◌, ◌⊎◌, true, false, List, []}
+use Rattle.std.specs.Prelude.{◌∷◌, slice_get, Option, Some, None}
+use Rattle.elements.specs.Types.{row}
+use Rattle.asdu.specs.Asdu.{AsduValue, Info}
+use Rattle.asdu.specs.Sizes.{ioa_len}
+use Rattle.asdu.specs.declared.sizes.Sizes.{Sizes}
+use Rattle.command.specs.declared.station.StationInfo.{StationInfo}
+use Rattle.command.specs.Standard.{plain_type, have_one_target, have_one_element, is_object_of}
+use Rattle.command.specs.Standard.{is_for_station, station_of, IsFresh, unknown_station}
+use Rattle.command.specs.Standard.{unknown_object, not_permitted, not_fresh}
+use Rattle.command.specs.Judging.{judged}
+use Rattle.command.specs.Calls.{run}
+use Rattle.command.specs.Examples.{sizes, stations, execute, refused, confirmed_at_moments}
+
+-- cause octet, originator, common address and object address, each low octet first
+pub record Numbers : Type 0 where
+  pub cause : ℕ
+  pub originator : ℕ
+  pub ca_low : ℕ
+  pub ca_high : ℕ
+  pub low : ℕ
+  pub middle : ℕ
+  pub high : ℕ
+
+-- a command of this type with one object; its element and its tag follow
+abbrev pub command_with : (kind : ℕ) → Numbers → List ℕ → List ℕ
+command_with kind n rest =
+    kind ∷ 1 ∷ n.cause ∷ n.originator ∷ n.ca_low ∷ n.ca_high ∷ n.low ∷ n.middle ∷ n.high ∷ rest
+
+abbrev pub address_of : Numbers → ℕ
+address_of n = n.ca_low + 256 * n.ca_high
+
+abbrev pub object_of : Numbers → ℕ
+object_of n = n.low + 256 * n.middle + 65536 * n.high
+
+-- the seven octets of a time tag
+pub record Tag : Type 0 where
+  pub a : ℕ
+  pub b : ℕ
+  pub c : ℕ
+  pub d : ℕ
+  pub e : ℕ
+  pub f : ℕ
+  pub g : ℕ
+
+abbrev pub seven : Tag → List ℕ
+seven t = t.a ∷ t.b ∷ t.c ∷ t.d ∷ t.e ∷ t.f ∷ t.g ∷ []
+
+-- ---- Common addresses (7.2.4)
+
+-- A command is for each station with its common address, and an interrogation to 65535 for all. Of
+-- several stations the first counts.
+pub record AddressesAreRead : Type 0 where
+  pub own : (kind : ℕ) (n : Numbers) (rest : List ℕ) (station : StationInfo) →
+      address_of n ≡ station.ca → is_for_station (command_with kind n rest) station ≡ true
+  pub each : (n : Numbers) (rest : List ℕ) (station : StationInfo) → n.ca_low ≡ 255 →
+      n.ca_high ≡ 255 → is_for_station (command_with 100 n rest) station ≡ true
+  pub no_other : (kind : ℕ) (n : Numbers) (rest : List ℕ) (station : StationInfo) →
+      (address_of n ≡ station.ca → ⊥) → (kind ≡ 100 → address_of n ≡ 65535 → ⊥) →
+      is_for_station (command_with kind n rest) station ≡ false
+  pub known : (stations : List StationInfo) (k kind : ℕ) (n : Numbers) (rest : List ℕ)
+      (station : StationInfo) → slice_get stations k ≡ Some station →
+      address_of n ≡ station.ca →
+      (unknown_station stations (command_with kind n rest)).applies ≡ false
+  pub all_known : (stations : List StationInfo) (n : Numbers) (rest : List ℕ) →
+      n.ca_low ≡ 255 → n.ca_high ≡ 255 →
+      (unknown_station stations (command_with 100 n rest)).applies ≡ false
+  pub first : (stations : List StationInfo) (k kind : ℕ) (n : Numbers) (rest : List ℕ)
+      (station : StationInfo) → slice_get stations k ≡ Some station →
+      address_of n ≡ station.ca →
+      ((j : ℕ) (other : StationInfo) → j < k → slice_get stations j ≡ Some other →
+      address_of n ≡ other.ca → ⊥) → station_of stations (command_with kind n rest) ≡ k
+
+-- ---- Object addresses (7.2.5)
+
+-- an interrogation is of object 0, any other command of an object that the line can name
+pub record ObjectsAreRead : Type 0 where
+  pub named : (sizes : Sizes) (kind : ℕ) (n : Numbers) (rest : List ℕ) → (kind ≡ 100 → ⊥) →
+      0 < object_of n → object_of n < 256 ^ ioa_len sizes.ioa →
+      (unknown_object sizes (command_with kind n rest)).applies ≡ false
+  pub zero : (sizes : Sizes) (kind : ℕ) (n : Numbers) (rest : List ℕ) → (kind ≡ 100 → ⊥) →
+      object_of n ≡ 0 → (unknown_object sizes (command_with kind n rest)).applies ≡ true
+  pub past : (sizes : Sizes) (kind : ℕ) (n : Numbers) (rest : List ℕ) → (kind ≡ 100 → ⊥) →
+      256 ^ ioa_len sizes.ioa ≤ object_of n →
+      (unknown_object sizes (command_with kind n rest)).applies ≡ true
+  pub station : (sizes : Sizes) (n : Numbers) (rest : List ℕ) → object_of n ≡ 0 →
+      (unknown_object sizes (command_with 100 n rest)).applies ≡ false
+  pub other : (sizes : Sizes) (n : Numbers) (rest : List ℕ) → 0 < object_of n →
+      (unknown_object sizes (command_with 100 n rest)).applies ≡ true
+
+-- ---- Targets
+
+-- A select and an execute have one target if they have equal types on the line, common addresses
+-- and object addresses. So have a command and an object of an answer.
+pub record TargetsAreCompared : Type 0 where
+  pub equal : (j k : ℕ) (n m : Numbers) (r s : List ℕ) → plain_type j ≡ plain_type k →
+      address_of n ≡ address_of m → object_of n ≡ object_of m →
+      have_one_target (command_with j n r) (command_with k m s) ≡ true
+  pub only_equal : (j k : ℕ) (n m : Numbers) (r s : List ℕ) →
+      have_one_target (command_with j n r) (command_with k m s) ≡ true →
+      (plain_type j ≡ plain_type k) × (address_of n ≡ address_of m) × (object_of n ≡ object_of m)
+  pub answered : (k : ℕ) (n : Numbers) (r : List ℕ) (v : AsduValue) (i : Info) →
+      plain_type k ≡ (row v.kind).code → address_of n ≡ v.ca → object_of n ≡ i.address →
+      is_object_of (command_with k n r) v i ≡ true
+  pub only_answered : (k : ℕ) (n : Numbers) (r : List ℕ) (v : AsduValue) (i : Info) →
+      is_object_of (command_with k n r) v i ≡ true →
+      (plain_type k ≡ (row v.kind).code) × (address_of n ≡ v.ca) × (object_of n ≡ i.address)
+
+-- ---- Elements (7.2.6.15 to 7.2.6.17, 7.2.6.22 and 7.2.6.39)
+
+-- one octet: all but S/E counts
+abbrev pub HasOneOctet : (kind : ℕ) → (ℕ → List ℕ) → Type 0
+HasOneOctet kind rest =
+    (n m : Numbers) (x y : ℕ) →
+    (x % 128 ≡ y % 128
+    → have_one_element (command_with kind n (rest x)) (command_with kind m (rest y)) ≡ true)
+    × (have_one_element (command_with kind n (rest x)) (command_with kind m (rest y)) ≡ true
+    → x % 128 ≡ y % 128)
+
+-- the value of a set point and its QOS: all but S/E counts
+abbrev pub HasSetPoint : (kind : ℕ) → (ℕ → ℕ → ℕ → List ℕ) → Type 0
+HasSetPoint kind rest =
+    (n m : Numbers) (a b x c d y : ℕ) →
+    (a ≡ c → b ≡ d → x % 128 ≡ y % 128
+    → have_one_element (command_with kind n (rest a b x)) (command_with kind m (rest c d y)) ≡ true)
+    × (have_one_element (command_with kind n (rest a b x)) (command_with kind m (rest c d y)) ≡ true
+    → (a ≡ c) × (b ≡ d) × (x % 128 ≡ y % 128))
+
+-- states 1 and 2 are permitted, 0 and 3 aren't, whatever the other bits are
+abbrev pub HasTwoStates : (kind : ℕ) → (ℕ → List ℕ) → Type 0
+HasTwoStates kind rest =
+    (n : Numbers) (x : ℕ) →
+    ((x % 4 ≡ 1) ⊎ (x % 4 ≡ 2)
+    → (not_permitted (command_with kind n (rest x))).applies ≡ false)
+    × ((x % 4 ≡ 0) ⊎ (x % 4 ≡ 3)
+    → (not_permitted (command_with kind n (rest x))).applies ≡ true)
+
+abbrev pub one_octet : ℕ → List ℕ
+one_octet x = x ∷ []
+
+abbrev pub set_point : ℕ → ℕ → ℕ → List ℕ
+set_point a b x = a ∷ b ∷ x ∷ []
+
+abbrev pub one_octet_tagged : Tag → ℕ → List ℕ
+one_octet_tagged t x = x ∷ seven t
+
+abbrev pub set_point_tagged : Tag → ℕ → ℕ → ℕ → List ℕ
+set_point_tagged t a b x = a ∷ b ∷ x ∷ seven t
+
+pub record ElementsAreRead : Type 0 where
+  pub single : HasOneOctet 45 one_octet
+  pub double : HasOneOctet 46 one_octet
+  pub step : HasOneOctet 47 one_octet
+  pub normalised : HasSetPoint 48 set_point
+  pub scaled : HasSetPoint 49 set_point
+  pub tagged_single : (t : Tag) → HasOneOctet 58 (one_octet_tagged t)
+  pub tagged_double : (t : Tag) → HasOneOctet 59 (one_octet_tagged t)
+  pub tagged_step : (t : Tag) → HasOneOctet 60 (one_octet_tagged t)
+  pub tagged_normalised : (t : Tag) → HasSetPoint 61 (set_point_tagged t)
+  pub tagged_scaled : (t : Tag) → HasSetPoint 62 (set_point_tagged t)
+  pub double_states : HasTwoStates 46 one_octet
+  pub step_states : HasTwoStates 47 one_octet
+  pub tagged_double_states : (t : Tag) → HasTwoStates 59 (one_octet_tagged t)
+  pub tagged_step_states : (t : Tag) → HasTwoStates 60 (one_octet_tagged t)
+  pub single_states : (n : Numbers) (x : ℕ) →
+      (not_permitted (command_with 45 n (one_octet x))).applies ≡ false
+  pub values : (n : Numbers) (a b x : ℕ) →
+      (not_permitted (command_with 48 n (set_point a b x))).applies ≡ false
+  -- 20 asks the station, and 21 to 36 its groups
+  pub groups : (n : Numbers) (x : ℕ) → 20 ≤ x → x ≤ 36 →
+      (not_permitted (command_with 100 n (one_octet x))).applies ≡ false
+  pub below : (n : Numbers) (x : ℕ) → x < 20 →
+      (not_permitted (command_with 100 n (one_octet x))).applies ≡ true
+  pub above : (n : Numbers) (x : ℕ) → 36 < x →
+      (not_permitted (command_with 100 n (one_octet x))).applies ≡ true
+
+-- ---- Times (this gateway's own profile)
+
+-- A select that came at a moment and was confirmed at another lets its execute through: less than
+-- select_ms from the select to the confirmation, and less than that from there on.
+pub record TimesAreKept : Type 0 where
+  pub passes : (select_ms max_age_ms came con now : ℕ) → con - came < select_ms →
+      now - con < select_ms →
+      (judged execute now None
+      (run stations sizes select_ms max_age_ms (confirmed_at_moments came con)).state).0
+      ≡ None
+  pub late_execute : (select_ms max_age_ms came con now : ℕ) → con - came < select_ms →
+      select_ms ≤ now - con →
+      (judged execute now None
+      (run stations sizes select_ms max_age_ms (confirmed_at_moments came con)).state).0
+      ≡ refused
+  pub late_confirmation : (select_ms max_age_ms came con now : ℕ) → select_ms ≤ con - came →
+      (judged execute now None
+      (run stations sizes select_ms max_age_ms (confirmed_at_moments came con)).state).0
+      ≡ refused
+  -- and a fresh tag is never too old
+  pub fresh : (max_age_ms : ℕ) (wall : Option ℕ) (xs : List ℕ) → IsFresh max_age_ms wall xs →
+      (not_fresh max_age_ms wall xs).applies ≡ false
