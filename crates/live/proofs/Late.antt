@@ -9,7 +9,7 @@ use Rattle.live.specs.Ends.{written_open, closed_by, after_action}
 use Rattle.live.specs.Late.{dropped_of, IsLate, CountsLate}
 use Rattle.live.specs.Passed.{LiveRun, Begun, Turned, Put}
 use Rattle.live.proofs.Apart.{Apart}
-use Rattle.live.proofs.Rounds.{Aside}
+use Rattle.live.proofs.Rounds.{Aside, turn_still}
 use Rattle.live.specs.declared.source.EventSource.{EventSource}
 use Rattle.live.specs.declared.source.EventSource.TheVariants.{Listener, Connection, Line}
 use Rattle.live.specs.declared.ends.Got.{Got}

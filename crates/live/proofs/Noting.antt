@@ -10,7 +10,7 @@ use Rattle.live.specs.Ends.{LiveEnds, Peer, Answers, PutsOut, as_logged, looked_
 use Rattle.live.specs.Ends.{after_action}
 use Rattle.live.specs.Passed.{LiveRun, Begun, Turned, Put, NotesStill}
 use Rattle.live.proofs.Apart.{Apart, apart_by, clock_of, clock_apart}
-use Rattle.live.proofs.Rounds.{Aside}
+use Rattle.live.proofs.Rounds.{Aside, turn_still}
 use Rattle.live.specs.declared.source.EventSource.{EventSource}
 use Rattle.live.specs.declared.source.EventSource.TheVariants.{Listener, Connection, Line}
 use Rattle.live.proofs.Beside.{action_beside}
