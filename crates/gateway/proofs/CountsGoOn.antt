@@ -1,5 +1,6 @@
 -- What is counted goes on at other settings.
-use Rattle.std.proofs.Common.{◌≡◌, ℕ, zero, suc, Bool, true, false, length, Option, Some, None, refl}
+use Rattle.std.proofs.Common.{◌≡◌, ℕ, zero, suc, Bool, true, false, length, Option, Some, None}
+use Rattle.std.proofs.Common.{refl}
 use Rattle.std.proofs.Common.{◌∙◌, if◌then◌else◌}
 use Rattle.link.specs.Primary.{Outstanding, Primary}
 use Rattle.link.specs.Carried.{released, released_from}

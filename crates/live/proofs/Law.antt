@@ -82,7 +82,8 @@ at_clock None now Holds h = tt
 at_clock (Some before) now Holds h = h
 
 -- the clock has given this
-pub clock_read : (now : ℕ) (b : Bool) (buf : List ℕ) (f : Option SourceEvent) (old found new : LiveEnds)
+pub clock_read : (now : ℕ) (b : Bool) (buf : List ℕ) (f : Option SourceEvent)
+    (old found new : LiveEnds)
     (taken : Option SourceEvent)
     → found ≡ clock_read_at now old → (taken, new) ≡ taken_by b buf f found → new.clock
     ≡ read_at old.clock now

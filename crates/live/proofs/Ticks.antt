@@ -33,7 +33,8 @@ pub record Begins (start : LiveEnds) (first count begun : ℕ) (e : LiveEnds) (b
   pub asked : e.timing.request ≡ start.timing.request
   pub waits : e.timing.answer_ms ≡ start.timing.answer_ms
   pub looked : (e.timing.looked ≡ start.timing.looked) ⊎ IsOneOf quiet e.timing.looked
-  pub in_time : (r : WrittenRequest) → start.timing.request ≡ Some r → is_awaited start.timing ≡ true
+  pub in_time : (r : WrittenRequest) → start.timing.request ≡ Some r → is_awaited start.timing
+      ≡ true
       → All (λ m. m - r.written < start.timing.answer_ms) quiet
 
 -- what no tick being due says

@@ -61,7 +61,8 @@ some_since : (given : Option ℕ) (begun : ℕ) → is_due_since given true begu
 some_since None begun undue = λ none. absurd (cc)
 some_since (Some t) begun undue = λ none. absurd (cc)
 
-pub looked_walled : (old new : LiveEnds) (event : Next) (buf : List ℕ) → TurnsToEnds old event buf new
+pub looked_walled : (old new : LiveEnds) (event : Next) (buf : List ℕ)
+    → TurnsToEnds old event buf new
     → new.walled ≡ record old.walled { has_looked = true }
 looked_walled old new event buf t =
     ap (λ (p : Option SourceEvent × LiveEnds). walled_of p.1) t.given.ends

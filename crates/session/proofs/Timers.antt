@@ -49,7 +49,8 @@ pub t2_due : (w t2 t3 now moment : ℕ) (h : History) (others : List ℕ)
     → frame_due w t2 t3 now h ≡ Some (acknowledgement_of h)
 t2_due w t2 t3 now moment h others at late =
     let passed : nat_le t2 (now - moment) ≡ true = le-leb t2 (now - moment) (omega (arith, late)) in
-    let due : (nat_le w (length (unconfirmed_moments h)) || has_passed t2 now (unconfirmed_moments h))
+    let due : (nat_le w (length (unconfirmed_moments h))
+    || has_passed t2 now (unconfirmed_moments h))
     ≡ true =
     or_right (nat_le w (length (unconfirmed_moments h)))
     (has_passed t2 now (unconfirmed_moments h))

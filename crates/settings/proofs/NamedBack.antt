@@ -125,10 +125,10 @@ ioa_back ioa.Two = refl
 ioa_back ioa.Three = refl
 
 same_sizes : (s : Sizes) → record {
-      cause = cause_size (cause_len s.cause);
-      ca = ca_size (ca_len s.ca);
-      ioa = ioa_size (ioa_len s.ioa);
-    } ≡ s
+  cause = cause_size (cause_len s.cause);
+  ca = ca_size (ca_len s.ca);
+  ioa = ioa_size (ioa_len s.ioa);
+} ≡ s
 same_sizes s =
     ap (λ (x : CauseSize). let made : Sizes = record {
       cause = x;
@@ -190,7 +190,8 @@ line_back t l is =
 
 tcp_back : (t : Option Members) (v : Tcp) → IsTcpOf t v → tcp_settings t ≡ Ok v
 tcp_back t v is =
-    next_is _ _ v.k _ (whole_back (codes "k") (codes "tcp.k") 1 32767 (Some 12) t _ (omega arith) is.k)
+    next_is _ _ v.k _ (whole_back (codes "k") (codes "tcp.k") 1 32767 (Some 12) t _ (omega arith)
+    is.k)
     (next_is _ _ v.w _
     (whole_back (codes "w") (codes "tcp.w") 1 32767 (Some 8) t _ (omega arith) is.w)
     (next_is _ _ v.t1_ms _

@@ -8,6 +8,6 @@ returns c = record {
   moment = λ goes_on before now s. refl;
   wall = λ goes_on before now s. refl;
   counts = λ goes_on before now s. (
-    let a = all_stay goes_on before now s.serial in (a.skipped, a.mirrors, a.spoilt)
-  );
+      let a = all_stay goes_on before now s.serial in (a.skipped, a.mirrors, a.spoilt)
+      );
 }
