@@ -3,3 +3,4 @@ pub mod SettingsLemmas
 pub mod StationLemmas
 pub mod UnknownLemmas
 mod Naming
+mod Reading

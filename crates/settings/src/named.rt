@@ -4,6 +4,7 @@ ghost use Rattle.toml.specs.Data.{Members};
 ghost use Rattle.settings.specs.Live.{Places};
 ghost use Rattle.settings.specs.Settings.{Values, known_settings, known_live};
 ghost use Rattle.settings.specs.Named.{AreNamed};
+ghost use Rattle.settings.specs.Right.{AreRight};
 
 /// Each setting that is read is the value that stands in the file under its own key, or its own
 /// default where none does, and is within its own bounds: no other key, no other table and no
@@ -13,4 +14,11 @@ pub fn settings_are_named()
         AreNamed root v }
     ensures live { (root : Members) (v : Values) (places : Places) →
         known_live root ≡ Ok (v, places) → AreNamed root v }
+{}
+
+/// Each file without a fault is read, and gives these very settings: where each setting stands under
+/// its key, or is its default, and is within its bounds, nothing is refused. So no number within its
+/// bounds is refused, as common address 255 where it has two octets.
+pub fn right_settings_are_read()
+    ensures { (root : Members) (v : Values) → AreRight root v → known_settings root ≡ Ok v }
 {}
