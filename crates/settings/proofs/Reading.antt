@@ -1,15 +1,14 @@
 -- A file without a fault is read.
-use Rattle.std.proofs.Common.{◌≡◌, ℕ, ◌-◌, ◌≤◌, ◌<◌, ◌&&◌, Bool, true, false, List, [], ◌∷◌, ◌++◌}
-use Rattle.std.proofs.Common.{length, suc, Option, Some, None, Result, Ok, Err, refl, sym, ap, subst}
+use Rattle.std.proofs.Common.{◌≡◌, ℕ, ◌-◌, ◌≤◌, ◌<◌, Bool, true, false, List, [], ◌∷◌, ◌++◌}
+use Rattle.std.proofs.Common.{length, suc, Option, Some, None, Result, Ok, refl, sym, ap}
 use Rattle.std.proofs.Common.{◌∙◌, arith, append_assoc}
 use Rattle.std.proofs.lemmas.List.{append-nil}
 use Rattle.std.proofs.lemmas.Bool.{le-leb}
 use Rattle.std.proofs.lemmas.Slice.Eq.{bytes_eq-Decides}
-use Rattle.std.specs.Prelude.{ℤ, pos, ◌^◌, ◌==◌, codes, nat_lt, nat_le, if◌then◌else◌, is_some}
+use Rattle.std.specs.Prelude.{ℤ, pos, ◌^◌, ◌==◌, codes, is_some}
 use Rattle.std.specs.Prelude.{option_and_then}
 use Rattle.std.specs.List.{list_any}
-use Rattle.std.specs.Str.{bytes_eq}
-use Rattle.toml.specs.Data.{Data, Items, no_items, item, Members, get_member, as_integer, as_bool}
+use Rattle.toml.specs.Data.{Data, Items, no_items, item, Members, get_member, as_integer}
 use Rattle.toml.specs.Data.{as_str, as_array, as_table}
 use Rattle.ft12.specs.declared.frame.LinkSize.{LinkSize}
 use Rattle.ft12.specs.declared.frame.LinkSize.TheVariants as link
@@ -20,22 +19,21 @@ use Rattle.asdu.specs.declared.sizes.CaSize.{CaSize}
 use Rattle.asdu.specs.declared.sizes.CaSize.TheVariants as ca
 use Rattle.asdu.specs.declared.sizes.IoaSize.{IoaSize}
 use Rattle.asdu.specs.declared.sizes.IoaSize.TheVariants as ioa
-use Rattle.asdu.specs.declared.sizes.Sizes.{Sizes}
 use Rattle.asdu.specs.Sizes.{cause_len, ca_len, ioa_len}
 use Rattle.gateway.specs.declared.settings.Silence.{Silence}
 use Rattle.gateway.specs.declared.settings.Silence.TheVariants.{Hold, Reset}
 use Rattle.gateway.specs.declared.settings.StationSettings.{StationSettings}
 use Rattle.settings.specs.Faults.{Path, ◌>>=◌}
 use Rattle.settings.specs.Keys.{Row, row, given_at, number_of, number_or, judged, whole_of}
-use Rattle.settings.specs.Keys.{flag_in, flag_or, flag_of, table_or, section_or, section_of}
+use Rattle.settings.specs.Keys.{flag_or, flag_of, table_or, section_or, section_of}
 use Rattle.settings.specs.Line.{Line, line_settings, sizes_of, waits_of, silence_of, silence_word}
 use Rattle.settings.specs.Line.{link_size, cause_size, ca_size, ioa_size}
 use Rattle.settings.specs.Live.{text_in, text_or, word_of, live_keys}
 use Rattle.settings.specs.Named.{table_at, IsNumber, IsFlag, IsSilence, IsLineOf, IsTcpOf}
-use Rattle.settings.specs.Named.{SaysSilence, IsStationOf, AreStationsOf, AreNamed}
+use Rattle.settings.specs.Named.{SaysSilence, IsStationOf, AreStationsOf}
 use Rattle.settings.specs.Right.{IsTableThere, IsTextThere, AreNew, AreRight}
 use Rattle.settings.specs.Settings.{Values, gateway_values, known_settings}
-use Rattle.settings.specs.Stations.{distinct_number, address_row, ca_row, address_of, ca_of}
+use Rattle.settings.specs.Stations.{distinct_number, address_of, ca_of}
 use Rattle.settings.specs.Stations.{station_in, station_of, stations_from, stations_in, stations_of}
 use Rattle.settings.specs.Stations.{count_of, greatest_address, greatest_ca}
 use Rattle.settings.specs.Tcp.{Tcp, tcp_settings}

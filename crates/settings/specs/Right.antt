@@ -1,10 +1,9 @@
 -- Files without a fault, by their keys (this gateway's own profile; docs/SETTINGS.md is the same
 -- table).
-use Rattle.std.specs.Prelude.{◌≡◌, ℕ, ◌≤◌, codes, Bool, true, false, List, [], ◌∷◌, ◌++◌, ◌==◌}
-use Rattle.std.specs.Prelude.{length, Option, Some, is_some, Contains, All}
+use Rattle.std.specs.Prelude.{◌≡◌, ℕ, ◌≤◌, codes, true, false, List, [], ◌∷◌, ◌++◌, ◌==◌}
+use Rattle.std.specs.Prelude.{length, Option, Some, is_some}
 use Rattle.std.specs.List.{list_any}
-use Rattle.toml.specs.Data.{Data, Items, no_items, item, Members, get_member, as_str, as_table}
-use Rattle.toml.specs.Data.{as_array}
+use Rattle.toml.specs.Data.{Data, Members, get_member, as_str, as_table}
 use Rattle.gateway.specs.declared.settings.StationSettings.{StationSettings}
 use Rattle.settings.specs.Keys.{given_at}
 use Rattle.settings.specs.Named.{AreNamed, table_at}
