@@ -1,12 +1,15 @@
 -- The rules say the same whatever the numbers of a command are.
 use Rattle.std.proofs.Common.{◌≡◌, ℕ, zero, suc, ◌+◌, ◌-◌, ◌%◌, ◌^◌, ◌<◌, ◌≤◌, ◌⊎◌, inl, inr}
-use Rattle.std.proofs.Common.{Bool, true, false, not, List, [], ◌∷◌, refl, sym, ap, ◌∙◌, arith}
+use Rattle.std.proofs.Common.{◌++◌, Bool, true, false, not, List, [], ◌∷◌, refl, sym, ap, ◌∙◌}
+use Rattle.std.proofs.Common.{arith}
 use Rattle.std.specs.Prelude.{◌==◌, ◌&&◌, ◌||◌, nat_lt, nat_le, slice_get, slice_index, Option}
 use Rattle.std.specs.Prelude.{Some}
 use Rattle.std.specs.List.{list_any}
+use Rattle.std.proofs.lemmas.List.Folds.{list_any-append}
 use Rattle.std.proofs.lemmas.Bool.{eq-eqb, eqb-true, and_parts, lt-ltb, le-ltb, le-leb}
 use Rattle.elements.specs.Types.{row}
 use Rattle.elements.specs.TimeTag.{verdict_of}
+use Rattle.asdu.specs.Asdu.{AsduValue, Info}
 use Rattle.asdu.specs.Sizes.{ioa_len}
 use Rattle.asdu.specs.declared.sizes.Sizes.{Sizes}
 use Rattle.command.specs.declared.station.StationInfo.{StationInfo}
@@ -14,6 +17,7 @@ use Rattle.command.specs.Standard.{plain_type}
 use Rattle.command.specs.Standard.{is_for_station, is_for_each, station_of, IsFresh, is_fresh}
 use Rattle.command.specs.Standard.{unknown_station, unknown_object, not_fresh}
 use Rattle.command.specs.Standard.{has_tag, is_activation, tag_of}
+use Rattle.command.specs.Standard.{refuses_command, is_negative_confirmation, is_object_of}
 use Rattle.command.specs.Numbers.{Numbers, command_with, address_of, object_of}
 use Rattle.command.specs.Numbers.{AddressesAreRead, ObjectsAreRead, TargetsAreCompared}
 use Rattle.command.specs.Numbers.{ElementsAreRead, TimesAreKept}
@@ -202,6 +206,19 @@ three_only a b c d e f is = go (a == b) (c == d) (e == f) refl refl refl is
     go true false r x y z is = cc
     go true true false x y z is = cc
 
+refused : (xs : List ℕ) (v : AsduValue) (before behind : List Info) (i : Info)
+    → is_negative_confirmation v.cause ≡ true
+    → v.infos ≡ before ++ i ∷ behind
+    → is_object_of xs v i ≡ true
+    → refuses_command xs v ≡ true
+refused xs v before behind i negative at is =
+    let among : list_any (is_object_of xs v) v.infos ≡ true =
+    ap (list_any (is_object_of xs v)) at
+    ∙ list_any-append (is_object_of xs v) before (i ∷ behind)
+    ∙ or_right (list_any (is_object_of xs v) before) (list_any (is_object_of xs v) (i ∷ behind))
+    (or_left (is_object_of xs v i) (list_any (is_object_of xs v) behind) is) in
+    rw (negative, among) refl
+
 pub targets_hold : TargetsAreCompared
 targets_hold = record {
   equal = λ j k n m r s x y z. three_equal (plain_type j) (plain_type k) (address_of n)
@@ -212,6 +229,7 @@ targets_hold = record {
       (object_of n) i.address x y z;
   only_answered = λ k n r v i is. three_only (plain_type k) (row v.kind).code (address_of n) v.ca
       (object_of n) i.address is;
+  refused = refused;
 }
 
 -- ---- elements

@@ -1,7 +1,7 @@
 -- What the rules say of a command whatever its numbers are (IEC 60870-5-101, 7.2.3 to 7.2.6 and
 -- 7.3.2): each octet of a command with one object is given here, in the sizes of IEC 60870-5-104.
 use Rattle.std.specs.Prelude.{◌≡◌, ℕ, ◌+◌, ◌*◌, ◌-◌, ◌%◌, ◌^◌, ◌<◌, ◌≤◌, ◌⊎◌, true, false, List, []}
-use Rattle.std.specs.Prelude.{◌∷◌, slice_get, Option, Some, None}
+use Rattle.std.specs.Prelude.{◌∷◌, ◌++◌, slice_get, Option, Some, None}
 use Rattle.elements.specs.Types.{row}
 use Rattle.asdu.specs.Asdu.{AsduValue, Info}
 use Rattle.asdu.specs.Sizes.{ioa_len}
@@ -9,7 +9,8 @@ use Rattle.asdu.specs.declared.sizes.Sizes.{Sizes}
 use Rattle.command.specs.declared.station.StationInfo.{StationInfo}
 use Rattle.command.specs.Standard.{plain_type, have_one_target, have_one_element, is_object_of}
 use Rattle.command.specs.Standard.{is_for_station, station_of, IsFresh, unknown_station}
-use Rattle.command.specs.Standard.{unknown_object, not_permitted, not_fresh}
+use Rattle.command.specs.Standard.{unknown_object, not_permitted, not_fresh, refuses_command}
+use Rattle.command.specs.Standard.{is_negative_confirmation}
 use Rattle.command.specs.Judging.{judged}
 use Rattle.command.specs.Calls.{run}
 use Rattle.command.specs.Examples.{sizes, stations, execute, refused, confirmed_at_moments}
@@ -107,6 +108,10 @@ pub record TargetsAreCompared : Type 0 where
   pub only_answered : (k : ℕ) (n : Numbers) (r : List ℕ) (v : AsduValue) (i : Info) →
       is_object_of (command_with k n r) v i ≡ true →
       (plain_type k ≡ (row v.kind).code) × (address_of n ≡ v.ca) × (object_of n ≡ i.address)
+  -- a negative confirmation refuses it, whatever objects stand before its own and behind it
+  pub refused : (xs : List ℕ) (v : AsduValue) (before behind : List Info) (i : Info) →
+      is_negative_confirmation v.cause ≡ true → v.infos ≡ before ++ i ∷ behind →
+      is_object_of xs v i ≡ true → refuses_command xs v ≡ true
 
 -- ---- Elements (7.2.6.15 to 7.2.6.17, 7.2.6.22 and 7.2.6.39)
 

@@ -265,8 +265,8 @@ pub fn nothing_of_a_connection_outlives_new_settings()
 {}
 
 /// What stands on a station's line over a change of settings still stands there, whatever place the
-/// station has now, so that the station's silence is still counted as a command that is given up. On
-/// the line of a station that is new nothing stands.
+/// station has now. So the station's silence is still counted as a command that is given up. On the
+/// line of a station that is new nothing stands.
 pub fn what_is_on_a_line_outlives_new_settings()
     ensures stays { (stations : List StationInfo) (sizes : Sizes) (select_ms max_age_ms : ℕ)
         (before : List (Option ℕ)) (s : State) (k place : ℕ) →

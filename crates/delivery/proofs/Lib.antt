@@ -7,6 +7,8 @@ pub mod Sublists
 pub mod Steps
 pub mod History
 pub mod Exchanging
+pub mod Requests
+pub mod LinkLaws
 pub mod Line
 pub mod Skipping
 pub mod Works

@@ -44,8 +44,9 @@ use Rattle.gateway.proofs.Waiting.{AnswersStay, AllFitLine, oldest_fits}
 use Rattle.delivery.proofs.History.{LineLogged, line_logged, line_ignores, mirrors_ignore}
 use Rattle.delivery.proofs.History.{judged_ignore, keeping, sending_own, judging, WaitsFit}
 use Rattle.delivery.proofs.History.{one_fits, kept_fit}
-use Rattle.delivery.proofs.Exchanging.{logged_by, logged_asked, logged_due}
-use Rattle.delivery.proofs.Line.{LinkLaws}
+use Rattle.delivery.proofs.Exchanging.{logged_by}
+use Rattle.delivery.proofs.Requests.{logged_asked, logged_due}
+use Rattle.delivery.proofs.LinkLaws.{LinkLaws}
 
 -- The history once all is logged
 

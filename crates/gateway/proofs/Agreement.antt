@@ -1,30 +1,23 @@
--- Each thing that is logged keeps the agreement of state and log.
-use Rattle.std.proofs.Common.{◌≡◌, ℕ, zero, suc, ◌+◌, ◌-◌, ◌%◌, ◌<◌, ◌≤◌, ◌&&◌, ◌||◌, Bool, true}
-use Rattle.std.proofs.Common.{false, not, nat_lt, nat_le}
-use Rattle.std.proofs.Common.{List, [], ◌∷◌, ◌++◌, length, take, drop, refl, ap, sym, ◌∙◌, subst}
-use Rattle.std.proofs.Common.{arith, length-append, Some, None, zero-add, inl, inr}
-use Rattle.std.specs.Prelude.{if◌then◌else◌}
-use Rattle.std.specs.List.{flat_map}
-use Rattle.std.specs.Prelude.{◌⊎◌}
+-- Each frame that goes out keeps the agreement of state and log.
+use Rattle.std.proofs.Common.{◌≡◌, ℕ, ◌+◌, ◌-◌, ◌%◌, ◌<◌, ◌≤◌, true, false, not, nat_lt, List, []}
+use Rattle.std.proofs.Common.{◌∷◌, ◌++◌, length, take, drop, refl, ap, sym, ◌∙◌, subst, arith}
+use Rattle.std.proofs.Common.{length-append, Some, None, zero-add, inl, inr}
+use Rattle.std.specs.Prelude.{if◌then◌else◌, ◌⊎◌}
 use Rattle.std.proofs.lemmas.List.{take-append-le}
-use Rattle.std.proofs.lemmas.Bool.{false≢true, lt-ltb, le-ltb, lt-leb, cases_lt}
+use Rattle.std.proofs.lemmas.Bool.{false≢true, lt-ltb, le-ltb, cases_lt}
 use Rattle.asdu.specs.InformationObjects.{InformationObject}
 use Rattle.apci.specs.declared.apdu.Apdu.{Apdu}
 use Rattle.apci.specs.declared.apdu.Apdu.TheVariants.{I, S, U}
-use Rattle.apci.specs.declared.apdu.Uf.TheVariants.{StartAct, StartCon, StopAct, StopCon, TestAct}
-use Rattle.apci.specs.declared.apdu.Uf.TheVariants.{TestCon}
 use Rattle.apci.specs.Spelling.{spelling, Fits}
 use Rattle.session.specs.declared.kinds.FrameOrigin.{FrameOrigin}
 use Rattle.session.specs.declared.kinds.FrameOrigin.TheVariants.{Queue as FromQueue, Own}
 use Rattle.session.specs.Session as session
 use Rattle.session.specs.Session.{Session, may_send}
 use Rattle.events.specs.Queue.{free_places}
-use Rattle.gateway.specs.Objects.{objects, has_objects}
+use Rattle.gateway.specs.Objects.{has_objects}
 use Rattle.gateway.specs.Log.{Log, Went, TcpOut, latest}
-use Rattle.gateway.specs.Streams.{spelled}
 use Rattle.gateway.specs.Frames.{Sent, Connection, data_frames, acknowledged_count}
-use Rattle.gateway.specs.Frames.{acknowledged_reports, reports_among, objects_of_frames}
-use Rattle.gateway.specs.Frames.{IsNumberedFrom, IsInOrder}
+use Rattle.gateway.specs.Frames.{acknowledged_reports, reports_among, IsNumberedFrom, IsInOrder}
 use Rattle.gateway.specs.Connections.{is_replaced, Channel, sending, present}
 use Rattle.gateway.specs.Reports.{Setup, taken_objects, taken_pieces, reports_in, parts_of_all}
 use Rattle.gateway.specs.Polls.{has_room}
@@ -37,32 +30,28 @@ use Rattle.gateway.specs.Centre.{Centre, next_frame}
 use Rattle.gateway.specs.State.{State, with_session, piece_sent, own_sent}
 use Rattle.gateway.specs.Works.{has_lacked_place, Works, answered_works}
 use Rattle.command.specs.State.{oldest}
-use Rattle.command.specs.History as happened
 use Rattle.gateway.specs.Course.{Course, here_of, came_frames, room_by, room_in, kind_of}
-use Rattle.gateway.specs.Course.{logged_sent}
-use Rattle.gateway.specs.Course.{with_sent, HasSentAll, IsFlushed, IsUntouched, HasBegun}
-use Rattle.gateway.specs.Course.{IsNextData}
-use Rattle.gateway.specs.Course.{IsTouched, HasAsked}
-use Rattle.gateway.specs.Phases.{Phase, Fresh, Taking, Judged, Idle, Crowded, Timed, Asked, IsPast}
-use Rattle.gateway.specs.Behind.{EndsFrame}
-use Rattle.gateway.specs.Phases.{IsLeftIn, IsFlushing, IsPhase, works_in, IsAsked, IsPlaced}
+use Rattle.gateway.specs.Course.{logged_sent, with_sent, IsFlushed, HasBegun, IsNextData, IsTouched}
+use Rattle.gateway.specs.Course.{HasAsked}
+use Rattle.gateway.specs.Phases.{Phase, IsFlushing}
 use Rattle.session.specs.History as talk
-use Rattle.session.specs.declared.kinds.Unacknowledged.{Unacknowledged}
-use Rattle.session.specs.History.{History, frame_due, has_timed_out}
+use Rattle.session.specs.History.{History}
 use Rattle.session.specs.Runs.{Call, Send, after_call}
 use Rattle.session.specs.Ends.{IsConfirmed}
 use Rattle.gateway.specs.Conversation.{KeepsRulesSoFar}
-use Rattle.gateway.specs.Agrees.{Presently, Carries, Past, Talks, Agrees, Tied, ArePlain, IsSpent}
-use Rattle.gateway.specs.Agrees.{IsUndue, IsAnswered, pending}
+use Rattle.gateway.specs.Agrees.{Presently, Carries, Past, Talks, Agrees, Tied, ArePlain}
 use Rattle.gateway.proofs.Working.{answers_in, own_serial, asked_own, own_placed}
-use Rattle.gateway.proofs.Talking.{at, HasNoData, next_plain, sends, kept_talk, talk_out, all_taken}
-use Rattle.gateway.proofs.Talking.{confirmed_by, may_by, due_by}
+use Rattle.gateway.proofs.Talking.{at, HasNoData, next_plain, sends, kept_talk, talk_out}
+use Rattle.gateway.proofs.Talking.{confirmed_by}
 use Rattle.gateway.proofs.Unconfirmed.{numbered_more}
 use Rattle.gateway.proofs.Tied.{tied_piece, tied_own, sent_more, SameWindow, tied_same}
 use Rattle.gateway.proofs.Frames.{pass_grows}
 use Rattle.gateway.proofs.Objects.{next_objects, next_piece, carries_piece, carries_own}
 use Rattle.gateway.proofs.Objects.{first_whole, run_now, split_reports}
 use Rattle.gateway.proofs.Stations.{keeps_links}
+use Rattle.gateway.proofs.Phases.{same_does, same_asks, ends_in, phase_out, left_out, placed_on}
+use Rattle.gateway.proofs.Phases.{placed_in, acknowledged_within, turn_by}
+use Rattle.gateway.proofs.Early.{answered_out}
 
 pub in_order : (objs : List InformationObject) (parts : ℕ) (all : List (List ℕ)) (c : Connection)
     (earlier : List Connection) (unsent : List (List ℕ)) → IsNumberedFrom 0 c.sent_frames
@@ -164,285 +153,6 @@ room_more p parts received sent more earlier within =
     (λ (fs : List Sent). not (nat_lt (p.places + (reports_among fs + acknowledged_reports earlier))
     (parts + 3)))
     (take-append-le (acknowledged_count received) sent more within)
-
--- Works in a phase, of another state and course
-
-pub same_does : (phase : Phase) (at : ℕ) (room other : Bool) (w : Works) (s : Serial) → other ≡ room
-    → s ≡ (works_in phase at room w).serial → s ≡ (works_in phase at other w).serial
-same_does phase at room other w s same d = d ∙ ap (λ r. (works_in phase at r w).serial) (sym same)
-
-pub same_asks : (phase : Phase) (at : ℕ) (room other : Bool) (w : Works) → other ≡ room
-    → IsAsked phase at room w
-    → IsAsked phase at other w
-same_asks phase at room other w same h = subst (λ r. IsAsked phase at r w) (sym same) h
-
--- behind a frame that came one ends in the event's octets
-abbrev pub EndsIn : Phase → Log → Type 0
-EndsIn Judged log = EndsFrame log
-EndsIn phase log = Unit {0}
-
-ends_in : (p : Setup) (s : State) (log : Log) (unjudged : List ℕ) (phase : Phase)
-    (a : Agrees p s log unjudged phase) → EndsIn phase log
-ends_in p s log unjudged phase a = by_phase phase a.left
-  where
-    ends : IsPast log (length (pending s.centre.so_far ++ unjudged)) → EndsFrame log
-    ends h = record {
-      frames = came_frames a.course.talk;
-      rest = a.here.so_far ++ unjudged;
-      fit = a.here.fit;
-      joined = a.here.joined;
-      ends = omega (
-        arith,
-        h,
-        ap (λ x. length (pending x ++ unjudged)) a.here.assembler,
-        ap length a.here.joined,
-        length-append (spelled (came_frames a.course.talk)) (a.here.so_far ++ unjudged),
-      );
-    }
-
-    by_phase : (phase : Phase) → IsLeftIn phase log (pending s.centre.so_far) unjudged
-        → EndsIn phase log
-    by_phase Fresh h = tt
-    by_phase Taking h = tt
-    by_phase Judged h = ends h
-    by_phase Idle h = tt
-    by_phase Crowded h = tt
-    by_phase Timed h = tt
-    by_phase Asked h = tt
-
-pub phase_out : (phase : Phase) (log : Log) (now : ℕ) (octets : List ℕ) → IsFlushing phase
-    → EndsIn phase log → IsPhase phase log → IsPhase phase (Went now (TcpOut octets) ∷ log)
-phase_out Fresh log now octets flushing ends h = absurd flushing
-phase_out Taking log now octets flushing ends h = absurd flushing
-phase_out Idle log now octets flushing ends h = absurd flushing
-phase_out Crowded log now octets flushing ends h = absurd flushing
-phase_out Judged log now octets flushing ends h = (h.0, (ends, h.1))
-phase_out Timed log now octets flushing ends h = absurd flushing
-phase_out Asked log now octets flushing ends h = tt
-
-left_out : (phase : Phase) (log : Log) (now : ℕ) (octets so_far unjudged : List ℕ)
-    → IsLeftIn phase log so_far unjudged
-    → IsLeftIn phase (Went now (TcpOut octets) ∷ log) so_far unjudged
-left_out Fresh log now octets so_far unjudged h = h
-left_out Taking log now octets so_far unjudged h = h
-left_out Judged log now octets so_far unjudged h = h
-left_out Idle log now octets so_far unjudged h = h
-left_out Crowded log now octets so_far unjudged h = h
-left_out Timed log now octets so_far unjudged h = h
-left_out Asked log now octets so_far unjudged h = h
-
--- what found a place before found one still
-pub placed_on : (phase : Phase) (log new : Log) (h g : happened.History)
-    → ((present new).is_open ≡ true → (present log).is_open ≡ true) → has_lacked_place g
-    ≡ has_lacked_place h
-    → IsPlaced phase log h → IsPlaced phase new g
-placed_on Crowded log new h g on same k = tt
-placed_on Judged log new h g on same k = λ o. same ∙ k (on o)
-placed_on Fresh log new h g on same k = λ o. same ∙ k (on o)
-placed_on Taking log new h g on same k = λ o. same ∙ k (on o)
-placed_on Idle log new h g on same k = λ o. same ∙ k (on o)
-placed_on Timed log new h g on same k = λ o. same ∙ k (on o)
-placed_on Asked log new h g on same k = λ o. same ∙ k (on o)
-
--- where a frame may go out each own answer found a place
-placed_in : (phase : Phase) (log : Log) (h : happened.History) → IsFlushing phase
-    → IsPlaced phase log h
-    → (present log).is_open ≡ true → has_lacked_place h ≡ false
-placed_in Fresh log h flushing placed on = absurd flushing
-placed_in Taking log h flushing placed on = absurd flushing
-placed_in Judged log h flushing placed on = placed on
-placed_in Idle log h flushing placed on = absurd flushing
-placed_in Crowded log h flushing placed on = absurd flushing
-placed_in Timed log h flushing placed on = absurd flushing
-placed_in Asked log h flushing placed on = placed on
-
--- where a connection has just ended nothing is lacked_place
-pub placed_cut : (phase : Phase) (log : Log) (h : happened.History)
-    → IsPlaced phase log (happened.Ended ∷ h)
-placed_cut Crowded log h = tt
-placed_cut Judged log h = λ o. refl
-placed_cut Fresh log h = λ o. refl
-placed_cut Taking log h = λ o. refl
-placed_cut Idle log h = λ o. refl
-placed_cut Timed log h = λ o. refl
-placed_cut Asked log h = λ o. refl
-
-acknowledged_within : (p : Setup) (s : State) (log : Log) (unjudged : List ℕ) (phase : Phase)
-    (a : Agrees p s log unjudged phase) → acknowledged_count (came_frames a.course.talk)
-    ≤ length a.course.sent
-acknowledged_within p s log unjudged phase a = omega (arith, a.here.tied.unconfirmed.count)
-
--- where nothing can be sent any more, all has gone out
-pub sent_all : (p : Setup) (s : State) (log : Log) (unjudged : List ℕ) (phase : Phase)
-    (a : Agrees p s log unjudged phase)
-    → (s.centre.queue.unsent ≡ []) × (s.serial.commands.answers ≡ []) → HasSentAll p log a.course
-sent_all p s log unjudged phase a all = record {
-  objects = omega (
-    arith,
-    a.carries.front,
-    ap length a.carries.joined,
-    length-append a.carries.gone (objects_of_frames a.course.sent
-        ++ flat_map objects s.centre.queue.unsent),
-    length-append (objects_of_frames a.course.sent) (flat_map objects s.centre.queue.unsent),
-    ap (λ xs. length (flat_map objects xs)) all.0,
-  );
-  answers = sym (ap (λ (z : Serial). z.commands.answers) a.stands.does
-      ∙ answers_in phase (latest log) (room_in p log a.course) a.course.works) ∙ all.1;
-}
-
-pub flushed_by : (p : Setup) (s : State) (log : Log) (unjudged : List ℕ) (phase : Phase)
-    (a : Agrees p s log unjudged phase) → IsSpent s → IsFlushed p log a.course
-flushed_by p s log unjudged phase a spent started room =
-    sent_all p s log unjudged phase a (spent (may_by p s.centre.session log a.course a.talk
-    ∙ can (talk.is_started a.course.talk) started))
-  where
-    can : (b : Bool) → b ≡ true
-        → (b && nat_lt (length (talk.still_unacknowledged a.course.talk)) p.session.k) ≡ true
-    can true h = lt-ltb (length (talk.still_unacknowledged a.course.talk)) p.session.k room
-    can false h = cc
-
--- a frame of the event is taken, or there is none
-pub begun_by : (p : Setup) (s : State) (log : Log) (unjudged : List ℕ) (phase : Phase)
-    (a : Agrees p s log unjudged phase) → IsFlushing phase → HasBegun log a.course
-begun_by p s log unjudged phase a flushing = by_phase phase flushing a.left
-  where
-    reads : pending s.centre.so_far ≡ a.here.so_far
-    reads = ap pending a.here.assembler
-
-    none_left : unjudged ≡ [] → HasBegun log a.course
-    none_left e = inr (all_taken log a.course a.here.so_far (a.here.joined
-        ∙ ap (λ x. spelled (came_frames a.course.talk) ++ (a.here.so_far ++ x)) e) a.here.waits)
-
-    some_left : IsPast log (length (pending s.centre.so_far ++ unjudged)) → HasBegun log a.course
-    some_left h = inl (omega (
-      arith,
-      h,
-      ap (λ x. length (x ++ unjudged)) reads,
-      ap length a.here.joined,
-      length-append (spelled (came_frames a.course.talk)) (a.here.so_far ++ unjudged),
-    ))
-
-    by_phase : (phase : Phase) → IsFlushing phase
-        → IsLeftIn phase log (pending s.centre.so_far) unjudged
-        → HasBegun log a.course
-    by_phase Fresh f h = absurd f
-    by_phase Taking f h = absurd f
-    by_phase Judged f h = some_left h
-    by_phase Idle f h = absurd f
-    by_phase Crowded f h = absurd f
-    by_phase Timed f h = absurd f
-    by_phase Asked f h = none_left h
-
--- none is taken yet, or nothing else is due
-pub undue_by : (p : Setup) (s : State) (log : Log) (unjudged : List ℕ) (phase : Phase)
-    (a : Agrees p s log unjudged phase)
-    → IsUndue s log unjudged → IsUntouched log a.course
-    ⊎ (frame_due p.session.w p.session.t2 p.session.t3 (latest log) a.course.talk ≡ None)
-undue_by p s log unjudged phase a (inl h) =
-    inl (omega (
-      arith,
-      h,
-      ap (λ x. length (pending x ++ unjudged)) a.here.assembler,
-      ap length a.here.joined,
-      length-append (spelled (came_frames a.course.talk)) (a.here.so_far ++ unjudged),
-    ))
-undue_by p s log unjudged phase a (inr h) =
-    inr (subst (λ m. frame_due p.session.w p.session.t2 p.session.t3 m a.course.talk ≡ None) a.clock
-    (sym (due_by p s.centre.session log a.course a.talk s.moment) ∙ h))
-
--- A frame may go out behind one of the event, or once the request is asked for.
-turn_by : (p : Setup) (s : State) (log : Log) (unjudged : List ℕ) (phase : Phase)
-    (a : Agrees p s log unjudged phase) → IsFlushing phase
-    → IsTouched log a.course ⊎ HasAsked p log a.course
-turn_by p s log unjudged phase a flushing =
-    by_phase phase flushing a.left a.stands.asks a.stands.answered
-  where
-    by_phase : (phase : Phase) → IsFlushing phase
-        → IsLeftIn phase log (pending s.centre.so_far) unjudged
-        → IsAsked phase (latest log) (room_in p log a.course) a.course.works
-        → IsAnswered phase p log a.course → IsTouched log a.course ⊎ HasAsked p log a.course
-    by_phase Fresh f left asks answered = absurd f
-    by_phase Taking f left asks answered = absurd f
-    by_phase Judged f left asks answered = inl (omega (
-      arith,
-      left,
-      ap (λ x. length (pending x ++ unjudged)) a.here.assembler,
-      ap length a.here.joined,
-      length-append (spelled (came_frames a.course.talk)) (a.here.so_far ++ unjudged),
-    ))
-    by_phase Idle f left asks answered = absurd f
-    by_phase Crowded f left asks answered = absurd f
-    by_phase Timed f left asks answered = absurd f
-    by_phase Asked f left asks answered =
-        inr (record { logged = asks.2; in_time = answered; none = asks.0 })
-
--- no time runs out by what goes out at this moment
-
-sent_now : (t1 now moment : ℕ) → 0 < t1 → moment ≡ now → nat_le t1 (now - moment) ≡ false
-sent_now t1 now moment some is = lt-leb t1 (now - moment) (omega (arith, some, is))
-
-late_more : (t1 now n : ℕ) (us : List Unacknowledged) (u : Unacknowledged) → 0 < t1
-    → u.moment ≡ now → talk.has_passed t1 now (talk.moments_of (drop n us)) ≡ false
-    → talk.has_passed t1 now (talk.moments_of (drop n (us ++ u ∷ []))) ≡ false
-late_more t1 now zero [] u some is early = sent_now t1 now u.moment some is
-late_more t1 now zero (x ∷ us) u some is early = early
-late_more t1 now (suc n) [] u some is early = nothing n
-  where
-    nothing : (n : ℕ) → talk.has_passed t1 now (talk.moments_of (drop n [])) ≡ false
-    nothing zero = refl
-    nothing (suc n) = refl
-late_more t1 now (suc n) (x ∷ us) u some is early = late_more t1 now n us u some is early
-
-both_false : (a b : Bool) → a ≡ false → b ≡ false → (a || b) ≡ false
-both_false true b h k = h
-both_false false b h k = k
-
-first_false : (a b : Bool) → (a || b) ≡ false → a ≡ false
-first_false true b h = h
-first_false false b h = refl
-
-second_false : (a b : Bool) → (a || b) ≡ false → b ≡ false
-second_false true b h = absurd (false≢true (sym h))
-second_false false b h = h
-
-still_early : (t1 now moment : ℕ) (f : Apdu) (h : History) → 0 < t1 → moment ≡ now
-    → has_timed_out t1 now h ≡ false → has_timed_out t1 now (logged_sent f moment h) ≡ false
-still_early t1 now moment (I ns nr asdu) h some is early =
-    let unacknowledged : Bool = talk.has_passed t1 now (talk.moments_of (talk.still_unacknowledged
-    h)) in
-    let tests : Bool = talk.has_passed t1 now (talk.moment_of (talk.outstanding_test h)) in
-    both_false _ tests
-    (late_more t1 now (talk.acknowledged_count h) (talk.sent_frames h)
-    (record { kind = kind_of asdu.items; moment = moment }) some is
-    (first_false unacknowledged tests early))
-    (second_false unacknowledged tests early)
-still_early t1 now moment (S nr) h some is early = early
-still_early t1 now moment (U StartAct) h some is early = early
-still_early t1 now moment (U StartCon) h some is early = early
-still_early t1 now moment (U StopAct) h some is early = early
-still_early t1 now moment (U StopCon) h some is early = early
-still_early t1 now moment (U TestAct) h some is early =
-    let unacknowledged : Bool = talk.has_passed t1 now (talk.moments_of (talk.still_unacknowledged
-    h)) in
-    let tests : Bool = talk.has_passed t1 now (talk.moment_of (talk.outstanding_test h)) in
-    both_false unacknowledged _ (first_false unacknowledged tests early)
-    (sent_now t1 now moment some is)
-still_early t1 now moment (U TestCon) h some is early = early
-
--- where a frame goes out no answer is late still
-answered_out : (p : Setup) (phase : Phase) (log new : Log) (c d : Course) (f : Apdu) (moment : ℕ)
-    → IsFlushing phase → 0 < p.session.t1 → latest new ≡ latest log → moment ≡ latest log
-    → d.talk ≡ logged_sent f moment c.talk → IsAnswered phase p log c → IsAnswered phase p new d
-answered_out p Fresh log new c d f moment flushing some same clock is h = absurd flushing
-answered_out p Taking log new c d f moment flushing some same clock is h = absurd flushing
-answered_out p Judged log new c d f moment flushing some same clock is h = tt
-answered_out p Idle log new c d f moment flushing some same clock is h = absurd flushing
-answered_out p Crowded log new c d f moment flushing some same clock is h = absurd flushing
-answered_out p Timed log new c d f moment flushing some same clock is h = absurd flushing
-answered_out p Asked log new c d f moment flushing some same clock is h =
-    subst (λ n. has_timed_out p.session.t1 n d.talk ≡ false) (sym same)
-    (subst (λ t. has_timed_out p.session.t1 (latest log) t ≡ false) (sym is)
-    (still_early p.session.t1 (latest log) moment f c.talk some clock h))
 
 -- a frame is handed to TCP
 went_out : (s t : Centre) (octets : Channel) (unjudged : List ℕ) (c : Connection) (fs : List Sent)

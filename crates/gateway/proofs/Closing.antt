@@ -1,17 +1,12 @@
--- A connection ends, and the step comes to rest.
-use Rattle.std.proofs.Common.{◌≡◌, ℕ, ◌<◌, ◌&&◌, Bool, true, false, nat_lt, List, [], ◌∷◌, ◌++◌}
-use Rattle.std.proofs.Common.{length, drop, refl, ap, sym, ◌∙◌, subst, arith, Option, Some, None}
-use Rattle.std.proofs.Common.{inl, inr}
-use Rattle.std.specs.Prelude.{if◌then◌else◌, map, option_map}
-use Rattle.std.specs.Prelude.{◌⊎◌}
+-- A connection ends.
+use Rattle.std.proofs.Common.{◌≡◌, ℕ, ◌<◌, Bool, true, false, List, [], ◌∷◌, ◌++◌, length, drop}
+use Rattle.std.proofs.Common.{refl, ap, sym, ◌∙◌, subst, arith, Option, Some, None, inl}
+use Rattle.std.specs.Prelude.{if◌then◌else◌, map}
 use Rattle.std.proofs.lemmas.List.{append-nil}
-use Rattle.std.proofs.lemmas.Bool.{lt-ltb}
 use Rattle.asdu.specs.InformationObjects.{InformationObject}
 use Rattle.apci.specs.declared.apdu.Apdu.{Apdu}
 use Rattle.apci.specs.Spelling.{spelling, Fits}
 use Rattle.apci.specs.Reading.{IsMore}
-use Rattle.link.specs.Primary.{Primary, Outstanding}
-use Rattle.link.specs.Primary as primary
 use Rattle.session.specs.declared.kinds.Close.{Close}
 use Rattle.session.specs.declared.kinds.Close.TheVariants.{Grammar, SendNumber, ReceiveNumber}
 use Rattle.session.specs.declared.kinds.Close.TheVariants.{Stopped, Timeout, OwnAnswers, Replaced}
@@ -24,50 +19,32 @@ use Rattle.gateway.specs.Frames.{Connection, new_connection, acknowledged_count,
 use Rattle.gateway.specs.Frames.{AreInOrder}
 use Rattle.gateway.specs.Connections.{Channel, no_channel, ends, present, past, over, closed_by}
 use Rattle.gateway.specs.Connections.{IsBehind, BeginsWithFault, IsConnection, AreConnections}
-use Rattle.gateway.specs.Reports.{Setup, address_at, exchanges_of, exchanges_with, taken_objects}
-use Rattle.gateway.specs.Reports.{taken_pieces, reports_in, parts_of_all}
-use Rattle.gateway.specs.Gaps.{gaps_reported, gap_for}
-use Rattle.gateway.specs.Traffic.{replaces, IsAtRest}
+use Rattle.gateway.specs.Reports.{Setup, exchanges_of, taken_objects, taken_pieces, reports_in}
+use Rattle.gateway.specs.Reports.{parts_of_all}
+use Rattle.gateway.specs.Traffic.{replaces}
 use Rattle.command.specs.State as tasks
 use Rattle.gateway.specs.Serial as serial
 use Rattle.gateway.specs.Serial.{Serial}
 use Rattle.gateway.specs.Centre.{Centre}
 use Rattle.gateway.specs.State.{State, disconnected}
 use Rattle.gateway.specs.Steps.{IsCloseAt, after_closing}
-use Rattle.gateway.specs.Works.{Works, cut_works, settled_works, ready_works, unasked_works}
-use Rattle.gateway.specs.Line.{IsServed, done_in}
-use Rattle.gateway.proofs.Serving.{upto_leaves, offers_reach, unasked_stays, left_at_rest}
-use Rattle.link.specs.Offers.{offered_at}
-use Rattle.link.specs.Leave.{holds_poll}
-use Rattle.link.specs.Turns.{station_at}
-use Rattle.link.specs.Procedure.{holds_command, link_after}
-use Rattle.link.specs.declared.procedure.Link.TheVariants.{Down}
-use Rattle.link.specs.Flags.{clear, flags_after}
-use Rattle.link.specs.Matching as logging
-use Rattle.ft12.specs.Fronts.{front_of}
-use Rattle.command.specs.State.{octets_waiting, oldest}
-use Rattle.command.specs.declared.waiting.Waiting.{Waiting}
+use Rattle.gateway.specs.Works.{Works, cut_works}
 use Rattle.gateway.specs.Course.{Course, here_of, came_frames, room_in, ended_course, works_at}
 use Rattle.gateway.specs.Course.{closed_course, IsCause, Runs}
 use Rattle.gateway.specs.Phases.{Phase, Fresh, Taking, Judged, Idle, Crowded, Timed, Asked}
-use Rattle.gateway.specs.Phases.{IsLeftIn, IsPhase, works_in, IsAsked, IsOut}
-use Rattle.session.specs.History.{frame_due, has_timed_out}
-use Rattle.gateway.specs.Agrees.{Presently, Carries, Talks, Agrees, IsSpent, IsQuiet, pieces_of}
-use Rattle.gateway.specs.Agrees.{IsAnswered}
-use Rattle.gateway.proofs.Working.{gap_in}
-use Rattle.gateway.proofs.Offering.{count_upto, offers_cut}
-use Rattle.gateway.proofs.Talking.{at, kept_talk, talk_cut, all_taken, confirmed_by, due_by}
-use Rattle.gateway.proofs.Talking.{late_by}
+use Rattle.gateway.specs.Phases.{IsLeftIn, IsPhase, works_in, IsAsked}
+use Rattle.gateway.specs.Agrees.{Presently, Carries, Talks, Agrees, pieces_of, IsAnswered}
+use Rattle.gateway.proofs.Offering.{offers_cut}
+use Rattle.gateway.proofs.Talking.{at, kept_talk, talk_cut}
 use Rattle.gateway.proofs.Tied.{fault_cases}
 use Rattle.gateway.proofs.Frames.{nothing_waits}
 use Rattle.gateway.proofs.Objects.{carries_end}
-use Rattle.gateway.proofs.Sound.{no_room_means}
 use Rattle.link.specs.LineLaws.{LineLaws}
-use Rattle.gateway.proofs.Stations.{line_rests}
-use Rattle.gateway.proofs.Agreement.{in_order, is_full, same_room, placed_cut, sent_all}
+use Rattle.gateway.proofs.Phases.{placed_cut}
+use Rattle.gateway.proofs.Agreement.{in_order}
 
 -- what stands on the connection
-stands : (p : Setup) (s : State) (log : Log) (unjudged : List ℕ) (phase : Phase)
+pub stands : (p : Setup) (s : State) (log : Log) (unjudged : List ℕ) (phase : Phase)
     (a : Agrees p s log unjudged phase)
     (fault : Option Close) → IsBehind (present log).lacked_place (length a.course.sent)
     (came_frames a.course.talk) fault
@@ -515,169 +492,3 @@ after_close laws p s log unjudged cause phase fault a on last timely stands why 
     no_replaced Timeout h = refl
     no_replaced OwnAnswers h = refl
     no_replaced Replaced h = cc
-
--- where nothing can be sent any more, the step has done all that it could
-pub rested : (laws : LineLaws) (p : Setup) (s : State) (log : Log) (a : Agrees p s log [] Asked)
-    → IsSpent s
-    → IsQuiet s → IsAtRest p log
-rested laws p s log a spent quiet = record {
-  course = a.course;
-  course_runs = a.talk.course_runs;
-  are = record { open_one = stands_now p s log Asked a; earlier = a.before.are };
-  settled = a.settled;
-  placed = a.stands.placed;
-  eager = λ on started room. sent_all p s log [] Asked a
-      (spent (can (is_transferring s.centre.session) (a.here.tied.transferring
-      ∙ started) (omega (arith, room, a.here.tied.unconfirmed.count, a.k))));
-  gaps = λ i. sym (append-nil (gaps_reported i log))
-      ∙ ap (λ g. gaps_reported i log ++ gap_for i g) (sym all_logged) ∙ a.gaps i;
-  line = line_rests laws p s.serial.line log a.course (room_in p log a.course) a.line
-      (none_left a.course.works.is_due refl) (here_of a.course ∷ a.course.earlier)
-      (λ none. is_full p s log [] Asked a
-      (no_room_means s.centre.queue (sym (same_room p s log [] Asked a) ∙ none)))
-      served;
-  asked = record {
-    logged = a.stands.asks.2;
-    in_time = a.stands.answered;
-    none = a.stands.asks.0;
-  };
-  talk = record {
-    all = all_taken log a.course a.here.so_far a.here.joined a.here.waits;
-    confirmed = sym (confirmed_by p s.centre.session log a.course a.talk) ∙ quiet.confirmed;
-    none_due = subst (λ m. frame_due p.session.w p.session.t2 p.session.t3 m a.course.talk ≡ None)
-        a.clock
-        (sym (due_by p s.centre.session log a.course a.talk s.moment) ∙ quiet.pulled_all);
-    in_time = subst (λ m. has_timed_out p.session.t1 m a.course.talk ≡ false) a.clock
-        (sym (late_by p s.centre.session log a.course a.talk s.moment) ∙ quiet.in_time);
-  };
-}
-  where
-    can : (b : Bool) → b ≡ true → length s.centre.session.unacknowledged < s.centre.session.k
-        → (b && nat_lt (length s.centre.session.unacknowledged) s.centre.session.k) ≡ true
-    can true h lt = lt-ltb (length s.centre.session.unacknowledged) s.centre.session.k lt
-    can false h lt = cc
-
-    w : Works
-    w = a.course.works
-
-    room : Bool
-    room = room_in p log a.course
-
-    all_logged : s.serial.gap ≡ None
-    all_logged = ap (λ (z : Serial). z.gap) a.stands.does ∙ gap_in Asked (latest log) room w
-        ∙ a.stands.asks.2
-
-    out_none : (o : Option Outstanding) → IsOut o → primary.sending_from w.serial.line o room ≡ None
-    out_none None h = absurd h
-    out_none (Some o) h = refl
-
-    none_left : (b : Bool) → w.is_due ≡ b → primary.sending s.serial.line room ≡ None
-    none_left true due =
-        let is : s.serial.line ≡ primary.asked (ready_works (latest log) w).serial.line (latest log)
-        room =
-        ap (λ (z : Serial). z.line) a.stands.does
-        ∙ ap (λ b. (if b then unasked_works (latest log) room (ready_works (latest log) w)
-        else w).serial.line)
-        due in
-        subst (λ q. primary.sending q room ≡ None) (sym is)
-        (laws.over (ready_works (latest log) w).serial.line (latest log) room (a.stands.asks.0 due))
-    none_left false due =
-        let is : s.serial.line ≡ w.serial.line = ap (λ (z : Serial). z.line) a.stands.does
-        ∙ ap (λ b. (if b then unasked_works (latest log) room (ready_works (latest log) w)
-        else w).serial.line)
-        due in
-        subst (λ q. primary.sending q room ≡ None) (sym is)
-        (out_none w.serial.line.outstanding (a.stands.asks.1 due))
-
-    -- a command that waits was offered, and is offered no more only where it went out
-    none_waits : (b : Bool) → w.is_due ≡ b → s.serial.line.outstanding ≡ None → (i : ℕ)
-        → i < length p.addresses
-        → offered_at s.serial.line i ≡ None
-        → holds_command (station_at s.serial.line.stations i).link ≡ false
-        → octets_waiting i s.serial.commands ≡ None
-    none_waits false due out i within none free =
-        let is : s.serial.line ≡ w.serial.line = ap (λ (z : Serial). z.line) a.stands.does
-        ∙ ap (λ b. (if b then unasked_works (latest log) room (ready_works (latest log) w)
-        else w).serial.line)
-        due in
-        absurd (subst IsOut (sym (ap (λ (q : primary.Primary). q.outstanding) is)
-        ∙ out) (a.stands.asks.1 due))
-    none_waits true due out i within none free =
-        let r : Works = ready_works (latest log) w in
-        let is : s.serial.line ≡ primary.asked r.serial.line (latest log) room =
-        ap (λ (z : Serial). z.line) a.stands.does
-        ∙ ap (λ b. (if b then unasked_works (latest log) room r else w).serial.line) due in
-        let next : primary.sending r.serial.line room ≡ None = a.stands.asks.0 due in
-        let stays = unasked_stays r.serial.line (latest log) room next in
-        let same : s.serial.line.stations ≡ r.serial.line.stations =
-        ap (λ (q : primary.Primary). q.stations) is
-        ∙ stays.0 in
-        let quiet : r.serial.line.outstanding ≡ None = sym stays.1
-        ∙ sym (ap (λ (q : primary.Primary). q.outstanding) is) ∙ out in
-        let q : primary.Primary = (settled_works (latest log) w).serial.line in
-        let ws : List Waiting = (settled_works (latest log) w).serial.commands.waiting in
-        let kept = upto_leaves laws (length q.stations) ws q (omega arith) in
-        let waits : octets_waiting i s.serial.commands ≡ option_map (λ (z : Waiting). z.octets)
-        (oldest i ws) =
-        ap (λ (z : Serial). octets_waiting i z.commands) a.stands.does
-        ∙ ap (λ b. octets_waiting i (if b then unasked_works (latest log) room r
-        else w).serial.commands) due in
-        let empty : offered_at r.serial.line i ≡ None =
-        sym (ap (λ xs. (station_at xs i).offered) same) ∙ none in
-        let able : holds_command (station_at q.stations i).link ≡ false =
-        ap holds_command (sym (kept.link i))
-        ∙ ap (λ xs. holds_command (station_at xs i).link) (sym same) ∙ free in
-        let known : i < length q.stations = omega (
-          arith,
-          within,
-          a.line.count,
-          ap length same,
-          count_upto laws (length q.stations) ws q,
-        ) in
-        waits
-        ∙ by_oldest (oldest i ws) refl (λ z e. offers_reach laws (length q.stations) ws q i z known
-        (omega arith) e (sym kept.outstanding ∙ quiet) able empty)
-      where
-        by_oldest : (o : Option Waiting)
-            → oldest i (settled_works (latest log) w).serial.commands.waiting ≡ o
-            → ((z : Waiting) → oldest i (settled_works (latest log) w).serial.commands.waiting
-            ≡ Some z → ⊥)
-            → option_map (λ (z : Waiting). z.octets) o ≡ None
-        by_oldest None e never = refl
-        by_oldest (Some z) e never = absurd (never z e)
-
-    served : s.serial.line.outstanding ≡ None → (i : ℕ) → i < length p.addresses
-        → IsServed p log (done_in p log a.course) i
-    served out i within =
-        let left = laws.left s.serial.line room a.line.fits out (none_left w.is_due refl) i
-        (omega (arith, within, a.line.count)) in
-        let link : link_after p.link (address_at p.addresses i) Down (exchanges_with p i log)
-        ≡ (station_at s.serial.line.stations i).link =
-        subst (λ (o : Option primary.Outstanding). logging.AreLinks
-        (front_of p.link.size) p.link p.addresses s.serial.line.stations
-        (logging.past o (exchanges_of p log))) out
-        a.line.links i in
-        let flags = a.line.flags i in
-        let here = left_at_rest s.serial.line i (octets_waiting i s.serial.commands) left
-        (none_waits w.is_due refl out i within) in
-        subst (λ (c : tasks.State). (octets_waiting i c ≡ None)
-        ⊎ ((flags_after (address_at p.addresses i) clear (exchanges_with p i log)).dfc ≡ true)
-        ⊎ (holds_poll (link_after p.link (address_at p.addresses i) Down (exchanges_with p i log))
-        ≡ true))
-        (ap (λ (z : Serial). z.commands) a.stands.does)
-        (by_exchanges link flags here)
-      where
-        by_exchanges : link_after p.link (address_at p.addresses i) Down (exchanges_with p i log)
-            ≡ (station_at s.serial.line.stations i).link
-            → flags_after (address_at p.addresses i) clear (exchanges_with p i log)
-            ≡ logging.flags_of (station_at s.serial.line.stations i) →
-            (octets_waiting i s.serial.commands ≡ None) ⊎ ((station_at s.serial.line.stations i).dfc
-            ≡ true)
-            ⊎ (holds_poll (station_at s.serial.line.stations i).link ≡ true) →
-            (octets_waiting i s.serial.commands ≡ None)
-            ⊎ ((flags_after (address_at p.addresses i) clear (exchanges_with p i log)).dfc ≡ true)
-            ⊎ (holds_poll (link_after p.link (address_at p.addresses i) Down
-            (exchanges_with p i log)) ≡ true)
-        by_exchanges link flags (inl none) = inl none
-        by_exchanges link flags (inr (inl full)) = inr (inl (ap (λ f. f.dfc) flags ∙ full))
-        by_exchanges link flags (inr (inr held)) = inr (inr (ap holds_poll link ∙ held))

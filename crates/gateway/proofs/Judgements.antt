@@ -39,7 +39,7 @@ use Rattle.gateway.proofs.Frames.{taken_stays, nothing_waits}
 use Rattle.gateway.proofs.Tied.{no_close, fault_closes, fault_cases}
 use Rattle.gateway.proofs.Working.{received_overfull}
 use Rattle.gateway.proofs.Talking.{confirmed_by}
-use Rattle.gateway.proofs.Agreement.{flushed_by, undue_by}
+use Rattle.gateway.proofs.Phases.{flushed_by, undue_by}
 use Rattle.gateway.proofs.Receiving.{after_received, received_course, after_more, with_so_far}
 use Rattle.gateway.proofs.Receiving.{now_idle}
 use Rattle.gateway.proofs.Closing.{stands_garbled, stands_faulty, stands_overfull, fault_ends}

@@ -23,7 +23,8 @@ use Rattle.gateway.specs.Phases.{resting}
 use Rattle.gateway.specs.Agrees.{Agrees}
 use Rattle.gateway.specs.Turning.{new_line, KeepsTurns}
 use Rattle.gateway.proofs.Starting.{first_fits}
-use Rattle.gateway.proofs.Calling.{Laws, Made, makes}
+use Rattle.gateway.proofs.AskingCalls.{Laws}
+use Rattle.gateway.proofs.Calling.{Made, makes}
 
 -- what `link` says of turns
 abbrev pub TurnsEnd : Type 0

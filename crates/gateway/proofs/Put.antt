@@ -1,7 +1,6 @@
 -- The lemmas of Agreement where a port may give no log, in the form that answers cite.
 use Rattle.std.proofs.Common.{◌≡◌, ℕ, ◌<◌, ◌&&◌, ◌||◌, Bool, true, false, not, cond, List, [], ◌∷◌}
-use Rattle.std.proofs.Common.{length, arith, length-append, refl, ap, sym, ◌∙◌, subst, Option, Some}
-use Rattle.std.proofs.Common.{None, inl, inr}
+use Rattle.std.proofs.Common.{length, refl, ap, sym, ◌∙◌, subst, Option, Some, None, inl, inr}
 use Rattle.std.specs.Prelude.{IfSome, IfNone, nat_lt, if◌then◌else◌, ◌==◌, ◌⊎◌}
 use Rattle.std.specs.Bool.{OnTrue}
 use Rattle.std.proofs.lemmas.Bool.{and_parts, not-false}
@@ -21,25 +20,25 @@ use Rattle.session.specs.declared.kinds.FrameOrigin.{FrameOrigin}
 use Rattle.session.specs.declared.kinds.FrameOrigin.TheVariants.{Queue as FromQueue, Own}
 use Rattle.gateway.specs.State.{State, with_centre, with_sides, with_session, disconnected}
 use Rattle.gateway.specs.Centre.{Centre}
-use Rattle.gateway.specs.Phases.{Phase, Timed, Asked, Judged, IsFlushing}
+use Rattle.gateway.specs.Phases.{Phase, Timed, Asked, IsFlushing}
 use Rattle.session.specs.declared.kinds.Close.TheVariants.{Timeout}
 use Rattle.session.specs.History.{confirmation_of, has_timed_out}
 use Rattle.session.specs.Runs.{Confirm, Pull}
-use Rattle.session.specs.Ends.{after_confirm, after_pull, IsConfirmed, IsInTime}
+use Rattle.session.specs.Ends.{IsConfirmed, IsInTime}
 use Rattle.session.proofs.States.{transferring_opens, stopping_transfers_not}
-use Rattle.gateway.specs.Agrees.{IsClear, Agrees, Tracks, Awaits, Leaves, Rests, IsSpent, IsQuiet}
-use Rattle.gateway.specs.Agrees.{StaysInTime, pending}
+use Rattle.gateway.specs.Agrees.{IsClear, Agrees, Tracks, Leaves, Rests, IsSpent, IsQuiet}
+use Rattle.gateway.specs.Agrees.{StaysInTime}
 use Rattle.gateway.specs.Steps.{SendsPiece, SendsOwn, SendsData, MayClose}
 use Rattle.gateway.proofs.Tied.{SameWindow}
 use Rattle.gateway.proofs.Talking.{HasNoData, confirms, pulls, patient, all_taken, confirmed_by}
-use Rattle.gateway.proofs.Talking.{late_by, confirm_t1, pull_t1}
+use Rattle.gateway.proofs.Talking.{late_by}
 use Rattle.gateway.specs.Course.{room_in, IsFlushed, HasBegun}
 use Rattle.gateway.specs.Serial.{Serial}
 use Rattle.gateway.proofs.Working.{gap_in}
-use Rattle.gateway.proofs.Agreement.{flushed_by, begun_by, GoesOut, faithful, after_piece}
-use Rattle.gateway.proofs.Agreement.{after_own, after_due}
-use Rattle.gateway.proofs.Receiving.{now_taking}
-use Rattle.gateway.proofs.Closing.{stands_now, after_close, rested}
+use Rattle.gateway.proofs.Phases.{flushed_by, begun_by}
+use Rattle.gateway.proofs.Agreement.{GoesOut, faithful, after_piece, after_own, after_due}
+use Rattle.gateway.proofs.Closing.{stands_now, after_close}
+use Rattle.gateway.proofs.Resting.{rested}
 
 -- The events of a log stay as actions go out.
 pub events_went : (logged : Option Log) (now : ℕ) (action : Output)
@@ -465,38 +464,6 @@ logged_late p (Some log) s cause e none a =
     let late = late_some (session.timed_out s.moment s.centre.session) cause e in
     subst (λ x. MayClose p s x Timed log) (sym late.0) (late_closes p s log none late.1 a)
 
--- Confirmations
-
-pub awaits : (p : Setup) (logged : Option Log) (s : State) (unjudged : List ℕ)
-    → IsConfirmed s.centre.session → IsSpent s
-    → (session.pulled s.moment s.centre.session).0 ≡ None → Tracks p s logged unjudged Judged
-    → Awaits p s logged unjudged
-awaits p None s unjudged ready spent pulled h = tt
-awaits p (Some log) s unjudged ready spent pulled a = (
-  now_taking p s log unjudged a,
-  record { confirmed = ready; spent = spent },
-  inr pulled,
-  omega (arith, a.left, length-append (pending s.centre.so_far) unjudged),
-)
-
--- no time runs out meanwhile
-
-pub in_time_same : (s t : State) → t.centre.session ≡ s.centre.session → t.moment ≡ s.moment
-    → IsInTime s.moment s.centre.session → IsInTime t.moment t.centre.session
-in_time_same s t same moment h = subst (λ (x : Session). session.timed_out t.moment x ≡ false)
-    (sym same)
-    (subst (λ m. session.timed_out m s.centre.session ≡ false) (sym moment) h)
-
-pub stays_after : (s t u : State) → StaysInTime s t → StaysInTime t u → StaysInTime s u
-stays_after s t u first second some h = let k = first some h in second k.1 k.0
-
-pub stays_by : (s : State) (t : Session) (u : State) → u ≡ with_session t s
-    → (0 < s.centre.session.t1 → IsInTime s.moment s.centre.session → IsInTime s.moment t)
-    → t.t1 ≡ s.centre.session.t1
-    → StaysInTime s u
-stays_by s t u is early same some h = subst (λ (x : State). IsInTime x.moment x.centre.session
-    × (0 < x.centre.session.t1)) (sym is) (early some h, subst (λ n. 0 < n) (sym same) some)
-
 -- where the frame goes out, and where the device fails
 pub logged_put : (result : Bool) (p : Setup) (logged after : Option Log) (s t : State) (f : Apdu)
     (now : ℕ)
@@ -515,120 +482,3 @@ pub unsent_faithful : (p : Setup) (logged after : Option Log) (s : State) (unjud
     → after ≡ logged → Tracks p s logged unjudged phase → IfSome after (IsFaithful p)
 unsent_faithful p logged after s unjudged phase e h = subst (λ l. IfSome l (IsFaithful p)) (sym e)
     (logged_faithful p logged s unjudged phase h)
-
-pub on_true : (b : Bool) (P : Type 0) → P → OnTrue b P
-on_true true P h = h
-on_true false P h = tt
-
-pub on_map : (b : Bool) (P Q : Type 0) → (P → Q) → OnTrue b P → OnTrue b Q
-on_map true P Q f h = f h
-on_map false P Q f h = tt
-
-pub confirmed_next : (s t : State) (r : Option Apdu) → ◌≡◌ {A =
-    Option Apdu × Session} (r, t.centre.session) (session.confirmed s.centre.session)
-    → t ≡ with_session t.centre.session s → t ≡ with_session (after_confirm s.centre.session) s
-confirmed_next s t r e rest = rest
-    ∙ ap (λ (x : Session). with_session x s) (ap (λ (d : Option Apdu × Session). d.1) e)
-
-pub pulled_next : (s t : State) (r : Option Apdu) → ◌≡◌ {A =
-    Option Apdu × Session} (r, t.centre.session) (session.pulled s.moment s.centre.session)
-    → t ≡ with_session t.centre.session s → t ≡ with_session (after_pull s.moment s.centre.session)
-    s
-pulled_next s t r e rest = rest
-    ∙ ap (λ (x : Session). with_session x s) (ap (λ (d : Option Apdu × Session). d.1) e)
-
--- what the laws of calls say of two and three of them
-pub three_confirm : ((s : Session) → IsConfirmed (after_confirm (after_confirm (after_confirm s))))
-    → (s t u v : State)
-    → t ≡ with_session (after_confirm s.centre.session) s
-    → u ≡ with_session (after_confirm t.centre.session) t
-    → v ≡ with_session (after_confirm u.centre.session) u → IsConfirmed v.centre.session
-three_confirm law s t u v a b c =
-    subst IsConfirmed (sym (ap (λ (x : State). x.centre.session) c
-    ∙ ap (λ (x : State). after_confirm x.centre.session) b
-    ∙ ap (λ (x : State). after_confirm (after_confirm x.centre.session)) a)) (law s.centre.session)
-
-pub two_pulls : ((now : ℕ) (s : Session)
-    → (session.pulled now (after_pull now (after_pull now s))).0 ≡ None)
-    → (s t u : State) → t ≡ with_session (after_pull s.moment s.centre.session) s
-    → u ≡ with_session (after_pull t.moment t.centre.session) t
-    → (session.pulled u.moment u.centre.session).0 ≡ None
-two_pulls law s t u a b =
-    let same : u ≡ with_session (after_pull s.moment (after_pull s.moment s.centre.session)) s = b
-    ∙ ap (λ (x : State). with_session (after_pull x.moment x.centre.session) x) a in
-    subst (λ (x : State). (session.pulled x.moment x.centre.session).0 ≡ None) (sym same)
-    (law s.moment s.centre.session)
-
-pub confirm_in_time : ((now : ℕ) (s : Session) → IsInTime now s → IsInTime now (after_confirm s))
-    → (s t : State)
-    → t ≡ with_session (after_confirm s.centre.session) s → StaysInTime s t
-confirm_in_time law s t is = stays_by s (after_confirm s.centre.session) t is
-    (λ some h. law s.moment s.centre.session h) (confirm_t1 s.centre.session)
-
-pub pull_in_time : ((now : ℕ) (s : Session) → 0 < s.t1 → IsInTime now s
-    → IsInTime now (after_pull now s))
-    → (s t : State) → t ≡ with_session (after_pull s.moment s.centre.session) s → StaysInTime s t
-pull_in_time law s t is = stays_by s (after_pull s.moment s.centre.session) t is
-    (λ some h. law s.moment s.centre.session some h) (pull_t1 s.moment s.centre.session)
-
-pub pull_confirmed : ((now : ℕ) (s : Session) → IsConfirmed s → IsConfirmed (after_pull now s))
-    → (s t : State)
-    → t ≡ with_session (after_pull s.moment s.centre.session) s → IsConfirmed s.centre.session
-    → IsConfirmed t.centre.session
-pull_confirmed law s t is h = subst (λ (x : State). IsConfirmed x.centre.session) (sym is)
-    (law s.moment s.centre.session h)
-
--- three calls of confirm are the most that answer a frame
-pub confirms_end : ((s : Session) → IsConfirmed (after_confirm (after_confirm (after_confirm s))))
-    → (s t u v : State) → t ≡ with_session (after_confirm s.centre.session) s
-    → u ≡ with_session (after_confirm t.centre.session) t
-    → v ≡ with_session (after_confirm u.centre.session) u
-    → IsConfirmed v.centre.session
-confirms_end law s t u v first second third =
-    subst (λ (x : State). IsConfirmed x.centre.session) (sym third)
-    (subst (λ (x : State). IsConfirmed (after_confirm x.centre.session)) (sym second)
-    (subst (λ (x : State). IsConfirmed (after_confirm (after_confirm x.centre.session))) (sym first)
-    (law s.centre.session)))
-
--- two calls of pull are the most that answer a frame
-pub pull_ends : ((now : ℕ) (s : Session)
-    → (session.pulled now (after_pull now (after_pull now s))).0 ≡ None)
-    → (s t u : State) → t ≡ with_session (after_pull s.moment s.centre.session) s
-    → u ≡ with_session (after_pull t.moment t.centre.session) t
-    → (session.pulled u.moment u.centre.session).0 ≡ None
-pull_ends law s t u first last =
-    subst (λ (x : State). (session.pulled x.moment x.centre.session).0 ≡ None) (sym last)
-    (subst (λ (x : State). (session.pulled x.moment (after_pull x.moment x.centre.session)).0
-    ≡ None) (sym first)
-    (law s.moment s.centre.session))
-
-pub pull_spent : (s t : State) → t ≡ with_session (after_pull s.moment s.centre.session) s
-    → IsSpent s → IsSpent t
-pull_spent s t is spent =
-    subst IsSpent (sym is) (pulled_spent (session.pulled s.moment s.centre.session).0 s
-    (with_session (after_pull s.moment s.centre.session) s) refl refl spent)
-
-pub pull_clear : ((now : ℕ) (s : Session) → IsConfirmed s → IsConfirmed (after_pull now s))
-    → (s t : State)
-    → t ≡ with_session (after_pull s.moment s.centre.session) s → IsClear s → IsClear t
-pull_clear law s t is clear = record {
-  confirmed = pull_confirmed law s t is clear.confirmed;
-  spent =
-      pull_spent s t is clear.spent;
-}
-
-pub data_confirmed : ((kind : FrameOrigin) (now : ℕ) (s : Session) → may_send s ≡ true
-    → IsConfirmed s
-    → IsConfirmed (session.sent kind now s)) → (s t : State) (kind : FrameOrigin) → IsData s t kind
-    → IsConfirmed s.centre.session → IsConfirmed t.centre.session
-data_confirmed law s t kind d h =
-    subst IsConfirmed (sym d.session) (law kind s.moment s.centre.session d.may h)
-
-pub data_in_time : ((kind : FrameOrigin) (now : ℕ) (s : Session) → 0 < s.t1 → IsInTime now s
-    → IsInTime now (session.sent kind now s)) → (s t : State) (kind : FrameOrigin) → IsData s t kind
-    → StaysInTime s t
-data_in_time law s t kind d some h = (
-  subst (λ m. IsInTime m t.centre.session) (sym d.moment)
-      (subst (IsInTime s.moment) (sym d.session) (law kind s.moment s.centre.session some h)),
-  subst (λ (x : Session). 0 < x.t1) (sym d.session) some,
-)

@@ -25,7 +25,7 @@ use Rattle.gateway.proofs.Offering.{offers_received, received_plain}
 use Rattle.gateway.proofs.Talking.{talk_received, confirmed_by}
 use Rattle.gateway.proofs.Tied.{tied_taken}
 use Rattle.gateway.proofs.Frames.{taken_stays, nothing_waits}
-use Rattle.gateway.proofs.Agreement.{flushed_by, undue_by}
+use Rattle.gateway.proofs.Phases.{flushed_by, undue_by}
 
 -- the works where a frame is taken, by whether its answer finds a place
 received_stands : (p : Setup) (s : State) (log : Log) (f : Apdu) (c : Course) (kept : Bool)

@@ -22,16 +22,19 @@
 //! were judged where the device failed in its step. A port whose device fails breaks none of this
 //! for the log so far. And they leave no choice: two logs with the same events are the same
 //! ([`what_comes_decides_what_goes_out`]). What is due to the control centre is given
-//! ([`what_is_due_is_given`]), and on the line turns end, no station starves and commands go before
-//! polls ([`logs_keep_turns`]), by the one list of calls that the log shows
+//! ([`what_is_due_is_given`]), stations' answers to commands being known by their types
+//! ([`answers_have_the_types_of_commands`]), and on the line turns end, no station starves and
+//! commands go before polls ([`logs_keep_turns`]), by the one list of calls that the log shows
 //! ([`one_list_of_calls`]).
 //!
 //! At a restart a gateway is read from the lines of its state ([`Gateway::read_state`]), gives up
 //! the commands without an answer ([`Gateway::give_up_commands`]), and goes on with other settings
 //! where these were changed ([`Gateway::carried`], [`stations_go_on_by_their_addresses`]): no link
-//! is up then but of a station as it was ([`no_link_goes_on_but_of_a_station_as_it_was`]). With the
-//! same settings the restart is an event of the log ([`restarts_give_up_commands`]), which goes on:
-//! each promise on a log holds of all lives together.
+//! is up then but of a station as it was ([`no_link_goes_on_but_of_a_station_as_it_was`]), a stale
+//! state leaves gaps ([`a_stale_state_leaves_gaps`]), and counts and clock stay
+//! ([`what_is_kept_goes_on`]). With the same settings the restart is an event of the log
+//! ([`restarts_give_up_commands`]), which goes on: each promise on a log holds of all lives
+//! together.
 #![tactic(auto)]
 
 mod config;

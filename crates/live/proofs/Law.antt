@@ -20,7 +20,7 @@ use Rattle.live.specs.declared.timing.Timing.{Timing}
 use Rattle.live.specs.declared.timing.WrittenRequest.{WrittenRequest}
 
 -- an event has the moment that it is given
-at_moment : (now : ℕ) (f : Option SourceEvent) (Holds : ℕ → Type 0) → Holds now
+pub at_moment : (now : ℕ) (f : Option SourceEvent) (Holds : ℕ → Type 0) → Holds now
     → AtMoment (event_at now f) Holds
 at_moment now None Holds h = h
 at_moment now (Some found.Open) Holds h = h
@@ -76,13 +76,14 @@ pub waited_out : (old new : LiveEnds) (event : Next) (buf : List ℕ) (r : Writt
 waited_out old new event buf r l = waited_out_by old (as_logged old.log new) event buf r l.turns
 
 -- the clock has given this last
-at_clock : (given : Moments) (now : ℕ) (Holds : ℕ → Type 0) → Holds now
+pub at_clock : (given : Moments) (now : ℕ) (Holds : ℕ → Type 0) → Holds now
     → AtClock (read_at given now) Holds
 at_clock None now Holds h = tt
 at_clock (Some before) now Holds h = h
 
 -- the clock has given this
-clock_read : (now : ℕ) (b : Bool) (buf : List ℕ) (f : Option SourceEvent) (old found new : LiveEnds)
+pub clock_read : (now : ℕ) (b : Bool) (buf : List ℕ) (f : Option SourceEvent)
+    (old found new : LiveEnds)
     (taken : Option SourceEvent)
     → found ≡ clock_read_at now old → (taken, new) ≡ taken_by b buf f found → new.clock
     ≡ read_at old.clock now

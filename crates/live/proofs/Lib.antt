@@ -13,6 +13,7 @@ pub mod Allowed
 pub mod Octets
 pub mod Walls
 pub mod Ticks
+pub mod Timed
 pub mod InTurn
 pub mod Logs
 pub mod Fixed

@@ -36,6 +36,9 @@ notes_listener e = is_some e.listener
 abbrev notes_clock : LiveEnds → Bool
 notes_clock e = is_some e.clock
 
+abbrev notes_walls : LiveEnds → Bool
+notes_walls e = is_some e.walls
+
 line_at_listener : (v : Option Peer) (e : LiveEnds) → notes_line (accepted v e) ≡ notes_line e
 line_at_listener None e = refl
 line_at_listener (Some peer) e = refl
@@ -83,6 +86,27 @@ clock_aside : Aside notes_clock
 clock_aside =
     record { apart = apart_by clock_of clock_apart is_some; read = λ now e. read_still e.clock now }
 
+walls_at_listener : (v : Option Peer) (e : LiveEnds) → notes_walls (accepted v e) ≡ notes_walls e
+walls_at_listener None e = refl
+walls_at_listener (Some peer) e = refl
+
+walls_looked : (s : EventSource) (t : ℕ) (a : Answers) (buf : List ℕ) (e : LiveEnds)
+    → notes_walls (looked_at s t a buf e) ≡ notes_walls e
+walls_looked Listener t a buf e = walls_at_listener a.peer e
+walls_looked Connection t a buf e = refl
+walls_looked Line t a buf e = refl
+
+walls_aside : Aside notes_walls
+walls_aside =
+    let apart : Apart notes_walls = record {
+      looked = walls_looked;
+      moved = λ s e. refl;
+      ended = λ e s. refl;
+      given = λ e s. refl;
+      kept = λ e held. refl;
+    } in
+    record { apart = apart; read = λ now e. refl }
+
 -- an action
 action_still : (moment : ℕ) (action : Output) (written : ℕ) (taken : Bool) (late : ℕ) (e : LiveEnds)
     → NotesStill e (after_action moment action written taken late e)
@@ -96,6 +120,8 @@ action_still moment action written taken late e = record {
   clock = action_beside notes_clock (λ e. refl)
       (λ moment octets written taken late e. read_still e.clock written) moment action written taken
       late e;
+  walls = action_beside notes_walls (λ e. refl)
+      (λ moment octets written taken late e. refl) moment action written taken late e;
 }
 
 put_still : (old new : LiveEnds) (moment : ℕ) (action : Output) → PutsOut old moment action new
@@ -106,11 +132,12 @@ put_still old new moment action p =
       line = ap notes_line p.done ∙ still.line;
       listener = ap notes_listener p.done ∙ still.listener;
       clock = ap notes_clock p.done ∙ still.clock;
+      walls = ap notes_walls p.done ∙ still.walls;
     }
 
 -- and so a run
 pub still : (start end : LiveEnds) → LiveRun start end → NotesStill start end
-still start _ Begun = record { line = refl; listener = refl; clock = refl }
+still start _ Begun = record { line = refl; listener = refl; clock = refl; walls = refl }
 still start _ (Turned before end event buf run l) =
     let s = still start before run in
     record {
@@ -123,8 +150,16 @@ still start _ (Turned before end event buf run l) =
       clock = turn_still notes_clock clock_aside (λ e now shown. refl) before
           (as_logged before.log end) event buf l.turns
           (λ e. refl) ∙ s.clock;
+      walls = turn_still notes_walls walls_aside (λ e now shown. read_still e.walls shown) before
+          (as_logged before.log end) event buf l.turns
+          (λ e. refl) ∙ s.walls;
     }
 still start _ (Put before end moment action run l) =
     let s = still start before run in
     let t = put_still before (as_logged before.log end) moment action l.puts in
-    record { line = t.line ∙ s.line; listener = t.listener ∙ s.listener; clock = t.clock ∙ s.clock }
+    record {
+      line = t.line ∙ s.line;
+      listener = t.listener ∙ s.listener;
+      clock = t.clock ∙ s.clock;
+      walls = t.walls ∙ s.walls;
+    }

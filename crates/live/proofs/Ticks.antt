@@ -9,7 +9,7 @@ use Rattle.live.specs.Timing.{Moments, read_at, moment_at, is_awaited, is_awaite
 use Rattle.live.specs.Timing.{line_looked_at}
 use Rattle.live.specs.Walls.{is_wall, is_wall_due}
 use Rattle.live.specs.Law.{SomeRounds, AtRounds, first_of, IsTickDue, LongSince, TooLate, WallIsDue}
-use Rattle.live.specs.Law.{FarBehind, ManyRounds, IfTick}
+use Rattle.live.specs.Law.{FarBehind, ManyRounds, IfTick, IsOneOf}
 use Rattle.live.specs.Ends.{LiveEnds, Turns, LogsTurn, as_logged, TurnsToWall, TurnsToEnds}
 use Rattle.live.specs.Ends.{QuietRounds}
 use Rattle.live.specs.Ends.{NoRound, OneRound, is_tick_due, IsLast, event_at, taken_by, looking}
@@ -23,16 +23,18 @@ use Rattle.live.specs.declared.walled.Walled.{Walled}
 use Rattle.live.specs.declared.timing.WrittenRequest.{WrittenRequest}
 
 -- what the rounds that found nothing say of the moments at which they began
-record Begins (start : LiveEnds) (first count begun : ℕ) (e : LiveEnds) (before : List ℕ) : Type
+pub record Begins (start : LiveEnds) (first count begun : ℕ) (e : LiveEnds) (before : List ℕ) : Type
     0 where
-  quiet : List ℕ
-  given : e.clock ≡ Some (begun ∷ (quiet ++ before))
-  first_is : first_of begun quiet ≡ first
-  brief : All (λ m. m < first + 100) (begun ∷ quiet)
-  many : length quiet ≡ count
-  asked : e.timing.request ≡ start.timing.request
-  waits : e.timing.answer_ms ≡ start.timing.answer_ms
-  in_time : (r : WrittenRequest) → start.timing.request ≡ Some r → is_awaited start.timing ≡ true
+  pub quiet : List ℕ
+  pub given : e.clock ≡ Some (begun ∷ (quiet ++ before))
+  pub first_is : first_of begun quiet ≡ first
+  pub brief : All (λ m. m < first + 100) (begun ∷ quiet)
+  pub many : length quiet ≡ count
+  pub asked : e.timing.request ≡ start.timing.request
+  pub waits : e.timing.answer_ms ≡ start.timing.answer_ms
+  pub looked : (e.timing.looked ≡ start.timing.looked) ⊎ IsOneOf quiet e.timing.looked
+  pub in_time : (r : WrittenRequest) → start.timing.request ≡ Some r → is_awaited start.timing
+      ≡ true
       → All (λ m. m - r.written < start.timing.answer_ms) quiet
 
 -- what no tick being due says
@@ -70,6 +72,7 @@ begins start first _ _ _ before NoRound given =
       many = refl;
       asked = refl;
       waits = refl;
+      looked = inl refl;
       in_time = λ r is was. All-nil (λ m. m - r.written < start.timing.answer_ms);
     }
 begins start first _ _ _ before (OneRound count begun now earlier found buf q t undue) given =
@@ -89,6 +92,7 @@ begins start first _ _ _ before (OneRound count begun now earlier found buf q t 
       many = grind (arith, b.many);
       asked = ap (λ (k : Timing). k.request) looked ∙ b.asked;
       waits = ap (λ (k : Timing). k.answer_ms) looked ∙ b.waits;
+      looked = inr (inl (ap (λ (k : Timing). k.looked) looked));
       in_time = λ r is was.
           let still = not_late (nat_le 100 (now - first)) (is_awaited start.timing)
           (is_awaited found.timing)
@@ -104,7 +108,7 @@ begins start first _ _ _ before (OneRound count begun now earlier found buf q t 
     }
 
 -- the rounds of a turn
-abbrev BeginsOf : (old : LiveEnds) (event : Next) (buf : List ℕ) (new : LiveEnds)
+abbrev pub BeginsOf : (old : LiveEnds) (event : Next) (buf : List ℕ) (new : LiveEnds)
     → TurnsToEnds old event buf new → List ℕ → Type 0
 BeginsOf old event buf new t before =
     Begins (looking (clock_read_at t.first old)) t.first t.looks.count t.looks.begun t.looks.before
@@ -139,7 +143,7 @@ at_rounds_by old event buf new t Holds (Some before) is all =
     } in
     subst P (sym given) rounds
 
-at_rounds : (old : LiveEnds) (event : Next) (buf : List ℕ) (new : LiveEnds)
+pub at_rounds : (old : LiveEnds) (event : Next) (buf : List ℕ) (new : LiveEnds)
     (t : TurnsToEnds old event buf new)
     (Holds : ℕ → List ℕ → ℕ → Type 0)
     → ((before : List ℕ) → (b : BeginsOf old event buf new t before)
@@ -147,7 +151,7 @@ at_rounds : (old : LiveEnds) (event : Next) (buf : List ℕ) (new : LiveEnds)
     → AtRounds old.clock new.clock Holds
 at_rounds old event buf new t Holds all = at_rounds_by old event buf new t Holds old.clock refl all
 
-wall_of : (old : LiveEnds) (event : Next) (new : LiveEnds) → TurnsToWall old event new
+pub wall_of : (old : LiveEnds) (event : Next) (new : LiveEnds) → TurnsToWall old event new
     → is_wall event
     ≡ false → true ≡ false
 wall_of old event new t dark = sym (ap is_wall t.given.given) ∙ dark
@@ -236,7 +240,7 @@ if_tick m (Some (found.Line len)) X h = tt
 if_tick m (Some found.Fault) X h = tt
 
 -- what the looks left, as it is behind the event
-looked_timing : (old : LiveEnds) (event : Next) (buf : List ℕ) (new : LiveEnds)
+pub looked_timing : (old : LiveEnds) (event : Next) (buf : List ℕ) (new : LiveEnds)
     → (t : TurnsToEnds old event buf new)
     → new.timing ≡ t.looks.found.timing
 looked_timing old event buf new t =

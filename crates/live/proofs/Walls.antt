@@ -23,7 +23,7 @@ no_wall now (Some found.Cut) = refl
 no_wall now (Some (found.Line len)) = refl
 no_wall now (Some found.Fault) = refl
 
-of_ends : (old new : LiveEnds) (event : Next) (buf : List ℕ) → TurnsToEnds old event buf new
+pub of_ends : (old new : LiveEnds) (event : Next) (buf : List ℕ) → TurnsToEnds old event buf new
     → is_wall event ≡ false
 of_ends old new event buf t = ap is_wall t.given.given
     ∙ no_wall (moment_at new.timing t.now) t.given.taken
@@ -61,7 +61,8 @@ some_since : (given : Option ℕ) (begun : ℕ) → is_due_since given true begu
 some_since None begun undue = λ none. absurd (cc)
 some_since (Some t) begun undue = λ none. absurd (cc)
 
-looked_walled : (old new : LiveEnds) (event : Next) (buf : List ℕ) → TurnsToEnds old event buf new
+pub looked_walled : (old new : LiveEnds) (event : Next) (buf : List ℕ)
+    → TurnsToEnds old event buf new
     → new.walled ≡ record old.walled { has_looked = true }
 looked_walled old new event buf t =
     ap (λ (p : Option SourceEvent × LiveEnds). walled_of p.1) t.given.ends

@@ -1,15 +1,17 @@
 -- Words of the laws (this gateway's own profile).
-use Rattle.std.specs.Prelude.{◌≡◌, ℕ, ◌+◌, ◌-◌, ◌≤◌, true, false, List, [], ◌∷◌, ◌++◌, length}
-use Rattle.std.specs.Prelude.{Option, Some, None, option_map}
+use Rattle.std.specs.Prelude.{◌≡◌, ℕ, ◌+◌, ◌-◌, ◌<◌, ◌≤◌, true, false, List, [], ◌∷◌, ◌++◌, length}
+use Rattle.std.specs.Prelude.{◌⊎◌, Bool, Option, Some, None, option_map}
 use Rattle.std.specs.declared.net.ip_addr.IpAddr.{IpAddr}
 use Rattle.live.specs.Ends.{LiveEnds, Peer}
 use Rattle.live.specs.AllowLists.{Allows}
+use Rattle.live.specs.OctetStreams.{StreamHistory, Dropped, Wrote}
 use Rattle.live.specs.Timing.{Moments, is_awaited, is_behind}
 use Rattle.live.specs.Walls.{is_wall_due}
 use Rattle.live.specs.declared.timing.Timing.{Timing}
 use Rattle.live.specs.declared.walled.Walled.{Walled}
 use Rattle.live.specs.declared.timing.WrittenRequest.{WrittenRequest}
 use Rattle.live.specs.declared.allow_list.AllowList.{AllowList}
+use Rattle.gateway.specs.Log.{Output, LineOut, TcpOut, Closed, GapOut}
 use Rattle.gateway.specs.declared.ports.Next.{Next}
 use Rattle.gateway.specs.declared.ports.Next.TheVariants as next
 
@@ -120,3 +122,43 @@ IfTick (next.Cut now) Holds = Unit {0}
 IfTick (next.Wall now number) Holds = Unit {0}
 IfTick next.Done Holds = Unit {0}
 IfTick next.Fault Holds = Unit {0}
+
+-- this holds of the moment of the wall clock and of its number, if the event gives it
+abbrev pub AtWall : Next → (ℕ → ℕ → Type 0) → Type 0
+AtWall (next.Wall now number) Holds = Holds now number
+AtWall (next.Line now len) Holds = Unit {0}
+AtWall (next.Open now) Holds = Unit {0}
+AtWall (next.Bytes now len) Holds = Unit {0}
+AtWall (next.Cut now) Holds = Unit {0}
+AtWall (next.Tick now) Holds = Unit {0}
+AtWall next.Done Holds = Unit {0}
+AtWall next.Fault Holds = Unit {0}
+
+-- The exchange of the latest request would be over by now, but the line hasn't been looked at for
+-- answer_ms since the request was written: this is the last moment at which it isn't over.
+abbrev pub IsEve : Timing → Option WrittenRequest → (moment now : ℕ) → Type 0
+IsEve t None moment now = ⊥
+IsEve t (Some r) moment now =
+    (t.looked - r.written < t.answer_ms) × (r.moment + t.answer_ms ≤ now)
+    × (moment + 1 ≡ r.moment + t.answer_ms)
+
+-- it is one of these
+abbrev pub IsOneOf : List ℕ → ℕ → Type 0
+IsOneOf [] moment = ⊥
+IsOneOf (first ∷ moments) moment = (moment ≡ first) ⊎ IsOneOf moments moment
+
+-- The latest thing that happened at the line is that these octets were put on it, and the one
+-- before that what waited there was dropped.
+abbrev pub IsWrittenBehind : (before : StreamHistory) → (octets : List ℕ) → (now : StreamHistory)
+    → Type 0
+IsWrittenBehind None octets now = Unit {0}
+IsWrittenBehind (Some before) octets None = ⊥
+IsWrittenBehind (Some before) octets (Some now) =
+    (late : ℕ) × (taken : Bool) × (now ≡ Wrote octets taken ∷ (Dropped late ∷ before))
+
+-- the action is no request
+abbrev pub AsksNothing : Output → Type 0
+AsksNothing (LineOut octets) = ⊥
+AsksNothing (TcpOut octets) = Unit {0}
+AsksNothing (Closed cause) = Unit {0}
+AsksNothing (GapOut station session) = Unit {0}

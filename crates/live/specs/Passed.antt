@@ -123,11 +123,12 @@ pub data LiveRun (start : LiveEnds) : LiveEnds → Type 0 where
   Put : (before now : LiveEnds) → (moment : ℕ) → (action : Output) → LiveRun start before
       → LogsPut before moment action now → LiveRun start now
 
--- The line, the listener and the clock that noted what happens at them note it still.
+-- The line, the listener and the clocks that noted what happens at them note it still.
 pub record NotesStill (start end : LiveEnds) : Type 0 where
   pub line : is_some end.line ≡ is_some start.line
   pub listener : is_some end.listener ≡ is_some start.listener
   pub clock : is_some end.clock ≡ is_some start.clock
+  pub walls : is_some end.walls ≡ is_some start.walls
 
 -- two requests, three octets of the line in two pieces, and two connections, the second open
 abbrev pub example_log : Log

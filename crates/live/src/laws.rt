@@ -1,12 +1,17 @@
 //! Laws of the port over live ends, in the terms of the clock, the requests and the looks at the
 //! line.
 ghost use Rattle.std.specs.Prelude.{◌⊎◌, ◌≡◌, ◌≢◌, All, IfSome, None, ◌+◌, ◌-◌, ◌<◌, ◌≤◌, ℕ, List};
-ghost use Rattle.std.specs.Prelude.{[], ◌∷◌, Some, true, false};
+ghost use Rattle.std.specs.Prelude.{[], ◌∷◌, Some, true, false, ◌↔◌, Vec};
+ghost use Rattle.std.specs.declared.net.ip_addr.IpAddr.{IpAddr};
+ghost use Rattle.std.specs.declared.alloc.Global.{Global};
 ghost use Rattle.gateway.specs.declared.ports.Next.{Next};
 ghost use Rattle.live.specs.Ends.{LiveEnds, LogsTurn, LogsPut};
 ghost use Rattle.live.specs.Law.{AtMoment, AtBytes, AtClock, AtBegun, IsWaitedOut, KeepsOut};
-ghost use Rattle.live.specs.Law.{AtRounds, first_of, IsTickDue, IfTick};
-ghost use Rattle.gateway.specs.Log.{Closed, Output};
+ghost use Rattle.live.specs.Law.{AtRounds, first_of, IsTickDue, IfTick, AtWall, IsEve, IsOneOf};
+ghost use Rattle.live.specs.Law.{IsWrittenBehind, AsksNothing};
+ghost use Rattle.live.specs.AllowLists.{Allows};
+ghost use Rattle.live.specs.declared.allow_list.AllowList.TheVariants.{Anyone, Only};
+ghost use Rattle.gateway.specs.Log.{Closed, LineOut, Output};
 ghost use Rattle.live.specs.InTurn.{BeginsBehind, LooksBefore, IsFarBehind};
 ghost use Rattle.session.specs.declared.kinds.Close.{Close};
 ghost use Rattle.session.specs.declared.kinds.Close.TheVariants.{Replaced};
@@ -130,6 +135,66 @@ pub fn the_ends_are_looked_at_between_wall_moments()
         is_wall second ≡ false }
 {}
 
+/// The wall clock is given as it stood at the moment that the event bears: what it showed, less the
+/// time that has passed since that moment. And when it was given last is the moment that the clock
+/// gave for it: by that moment it is due again.
+pub fn the_wall_clock_is_that_of_its_moment()
+    ensures shown { (old new : LiveEnds) (event : Next) (buf : List ℕ) →
+        LogsTurn old event buf new → AtWall event (λ moment number.
+        AtClock new.clock (λ now. AtClock new.walls (λ shown.
+        number ≡ shown - (now - moment)))) }
+    ensures given { (old new : LiveEnds) (event : Next) (buf : List ℕ) →
+        LogsTurn old event buf new → is_wall event ≡ true →
+        AtClock new.clock (λ now. new.walled.given ≡ Some now) }
+    ensures kept { (old new : LiveEnds) (event : Next) (buf : List ℕ) →
+        LogsTurn old event buf new → is_wall event ≡ false →
+        new.walled.given ≡ old.walled.given }
+{}
+
+/// An event bears the moment that the clock gave last. Only where that would end an exchange whose
+/// line hasn't been looked at for `answer_ms` since the request was written it bears the last moment
+/// at which the exchange isn't over. So no timer stands still while an answer is awaited.
+pub fn a_moment_is_held_only_before_the_end_of_an_exchange()
+    ensures { (old new : LiveEnds) (event : Next) (buf : List ℕ) → LogsTurn old event buf new →
+        AtMoment event (λ moment. AtClock new.clock (λ now.
+        (moment ≡ now) ⊎ IsEve new.timing new.timing.request moment now)) }
+{}
+
+/// Before a request is written what waits at the line is dropped, and nothing happens there between
+/// the two: so what came late is no answer to it. It is timed by the clock behind its write, however
+/// long that took, and by no other action.
+pub fn a_request_is_written_and_timed_behind_what_waits()
+    ensures dropped { (old new : LiveEnds) (moment : ℕ) (octets : List ℕ) →
+        LogsPut old moment (LineOut octets) new → IsWrittenBehind old.line octets new.line }
+    ensures timed { (old new : LiveEnds) (moment : ℕ) (octets : List ℕ) →
+        LogsPut old moment (LineOut octets) new → AtClock new.clock (λ now.
+        new.timing.request ≡ Some (record { moment = moment; written = now })) }
+    ensures others { (old new : LiveEnds) (moment : ℕ) (action : Output) →
+        LogsPut old moment action new → AsksNothing action → new.timing ≡ old.timing }
+{}
+
+/// By how long the line has been looked at is counted from moments that the clock gave: the latest
+/// look at it is as it was, or began when a round of looks for this event did.
+pub fn looks_at_the_line_are_timed_by_the_clock()
+    ensures looked { (old new : LiveEnds) (event : Next) (buf : List ℕ) →
+        LogsTurn old event buf new → is_wall event ≡ false →
+        AtRounds old.clock new.clock (λ begun quiet now.
+        (new.timing.looked ≡ old.timing.looked) ⊎ IsOneOf (begun ∷ quiet) new.timing.looked) }
+    ensures wall { (old new : LiveEnds) (event : Next) (buf : List ℕ) →
+        LogsTurn old event buf new → is_wall event ≡ true → new.timing ≡ old.timing }
+{}
+
+/// Who may connect, by examples: anyone where that is said, else who has one of the addresses that
+/// stand on the list, and nobody where none stands there.
+pub fn allowed_addresses_by_example()
+    ensures anyone { (address : IpAddr) → Allows Anyone address }
+    ensures two { (list : Vec IpAddr Global) (first second address : IpAddr) →
+        list.items ≡ first ∷ second ∷ [] →
+        Allows (Only list) address ↔ (address ≡ first) ⊎ (address ≡ second) }
+    ensures nobody { (list : Vec IpAddr Global) (address : IpAddr) → list.items ≡ [] →
+        Allows (Only list) address → ⊥ }
+{}
+
 /// The log has what passed at the streams. After any run in which nothing had been logged before,
 /// where the line and the connection note what happens at them: the octets that came from the line,
 /// by the log, are those that its stream gave, and each request that went there was handed to it,
@@ -142,8 +207,8 @@ pub fn the_log_has_what_passed()
     ensures { (start end : LiveEnds) → IsFreshRun start → LiveRun start end → LogsEnds end.log end }
 {}
 
-/// A line, a listener and a clock that note what happens at them do so to the end of a run: so no
-/// law over what they note is about nothing from then on.
+/// A line, a listener, a clock and a wall clock that note what happens at them do so to the end of a
+/// run: so no law over what they note is about nothing from then on.
 pub fn what_is_noted_is_noted_to_the_end()
     ensures { (start end : LiveEnds) → LiveRun start end → NotesStill start end }
 {}

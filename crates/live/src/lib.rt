@@ -24,9 +24,10 @@
 //! And of time, whatever the gateway stalls: an event bears the clock's moment after the looks, but
 //! none that ends an exchange whose line hasn't been looked at for `answer_ms` since the request
 //! was written ([`no_exchange_ends_unread`]), and once it has been, the clock's
-//! ([`a_line_that_is_waited_out_holds_no_moment`]); where that moment is more than 50 ms behind the
-//! clock, the line alone is looked at, and octets of a control centre that would bear such a moment
-//! are held ([`what_the_centre_sent_is_given_in_time`]).
+//! ([`a_line_that_is_waited_out_holds_no_moment`],
+//! [`a_moment_is_held_only_before_the_end_of_an_exchange`]); where that moment is more than 50 ms
+//! behind the clock, the line alone is looked at, and octets of a control centre that would bear
+//! such a moment are held ([`what_the_centre_sent_is_given_in_time`]).
 //!
 //! The wall clock is given at the first call, and again where a second has passed since and the
 //! ends have been looked at in between ([`the_ends_are_looked_at_between_wall_moments`],
@@ -79,14 +80,17 @@ pub use ends::{
     Accepted, CutCause, Got, Listener, OctetStream, Presence, Reached, RefusedPeers, RunClock,
 };
 pub use laws::{
-    a_close_shuts_the_connection, a_line_that_is_waited_out_holds_no_moment, a_tick_has_a_reason,
-    an_exchange_that_is_over_gives_an_event_at_once, late_octets_are_those_that_were_dropped,
-    looks_ask_nothing, looks_for_an_event_begin_within_100_ms, no_exchange_ends_unread,
-    no_source_hides_another, only_allowed_addresses_connect,
+    a_close_shuts_the_connection, a_line_that_is_waited_out_holds_no_moment,
+    a_moment_is_held_only_before_the_end_of_an_exchange,
+    a_request_is_written_and_timed_behind_what_waits, a_tick_has_a_reason,
+    allowed_addresses_by_example, an_exchange_that_is_over_gives_an_event_at_once,
+    late_octets_are_those_that_were_dropped, looks_ask_nothing,
+    looks_at_the_line_are_timed_by_the_clock, looks_for_an_event_begin_within_100_ms,
+    no_exchange_ends_unread, no_source_hides_another, only_allowed_addresses_connect,
     the_ends_are_looked_at_between_wall_moments, the_log_has_what_passed,
     the_round_goes_on_behind_the_last_event, the_wall_clock_is_given_each_second,
-    what_is_noted_is_noted_to_the_end, what_passed_by_example,
-    what_the_centre_sent_is_given_in_time,
+    the_wall_clock_is_that_of_its_moment, what_is_noted_is_noted_to_the_end,
+    what_passed_by_example, what_the_centre_sent_is_given_in_time,
 };
 pub use port::Live;
 pub use redial::{Dialled, Dialler, Redialled};

@@ -3,7 +3,7 @@ ghost use Rattle.std.specs.Prelude.{◌≡◌, ◌≢◌, ◌+◌, ◌-◌, ◌<
 ghost use Rattle.std.specs.Prelude.{drop, slice_index, take, IsTrue, OnOk, OnErr, IfOk, IfErr, Err};
 ghost use Rattle.std.specs.Prelude.{true};
 ghost use Rattle.std.specs.Prelude.{false};
-ghost use Rattle.segments.specs.declared.fault.SegmentFault.TheVariants.{Device, NoMemory};
+ghost use Rattle.segments.specs.declared.fault.SegmentFault.TheVariants.{Device, Full, NoMemory};
 ghost use Rattle.segments.specs.Crash.{AreMixing, HasLength, BeginsWith, HasNoOther, IsBlankFrom};
 ghost use Rattle.segments.specs.Crashes.{HasNoZero, Survives};
 ghost use Rattle.segments.specs.Head.{Fits, IsWholeText, head_for, whole_text};
@@ -62,6 +62,7 @@ fn store<D: Disk>(file: &mut D, at: usize, page: &[u8]) -> Result<usize, Segment
     ensures text { OnOk result (text_in (at + length page.now) (D.Disk.seen file.new) []
         ≡ text_in at (D.Disk.seen file.old) page.now) }
     ensures blank { OnOk result (IsBlankFrom (at + length page.now) (D.Disk.seen file.new)) }
+    ensures fault { IfErr result (λ e. e ≡ Device) }
     ensures before { text_in at (D.Disk.seen file.new) page.now
         ≡ text_in at (D.Disk.seen file.old) page.now }
     ensures sized { length (D.Disk.seen file.new) ≡ length (D.Disk.seen file.old) }
@@ -192,6 +193,10 @@ impl<D: Disk> Segment<D> {
         ensures durable { durable_of self.new ≡ durable_of self.old }
         ensures size { size_of self.new ≡ size_of self.old }
         ensures shut { is_open self.old ≡ false → result ≡ Err Device }
+        // Lines that fill the file to its last octet are appended.
+        ensures full { result ≡ Err Full →
+            size_of self.old < length (text_of self.old) + length octets.now }
+        ensures device { result ≡ Err Device → is_open self.new ≡ false }
     {
         if !self.is_open {
             return Err(SegmentFault::Device);
@@ -228,6 +233,7 @@ impl<D: Disk> Segment<D> {
         ensures size { size_of self.new ≡ size_of self.old }
         ensures open { OnOk result (IsTrue (is_open self.new)) }
         ensures shut { OnErr result (is_open self.new ≡ false) }
+        ensures fault { IfErr result (λ e. e ≡ Device) }
         ensures held { OnOk result (self.new.page.items ≡ []) }
     {
         if self.page.is_empty() {
@@ -255,6 +261,7 @@ impl<D: Disk> Segment<D> {
         ensures least { durable_of self.old ≤ durable_of self.new }
         ensures size { size_of self.new ≡ size_of self.old }
         ensures shut { OnErr result (is_open self.new ≡ false) }
+        ensures fault { IfErr result (λ e. e ≡ Device) }
     {
         if !self.is_open {
             return Err(SegmentFault::Device);

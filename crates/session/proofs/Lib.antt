@@ -7,3 +7,4 @@ pub mod Ordered
 mod ReadBack
 pub mod Examples
 pub mod Origins
+pub mod Timers

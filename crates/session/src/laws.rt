@@ -4,7 +4,7 @@
 //! calls answer by what the standard makes of that history.
 
 ghost use Rattle.std.specs.Prelude.{◌≡◌, ℕ, ◌%◌, ◌<◌, ◌≤◌, ◌&&◌, ◌++◌, List, [], true, false, None};
-ghost use Rattle.std.specs.Prelude.{nat_lt, length, option_to_list, suc, ◌∷◌};
+ghost use Rattle.std.specs.Prelude.{nat_lt, length, option_to_list, suc, ◌∷◌, ◌+◌, Some};
 ghost use Rattle.apci.specs.declared.apdu.Apdu.{Apdu};
 ghost use Rattle.session.specs.declared.kinds.FrameOrigin.{FrameOrigin};
 ghost use Rattle.session.specs.declared.kinds.Unacknowledged.{Unacknowledged};
@@ -16,6 +16,10 @@ ghost use Rattle.session.specs.History.{IsNumbered, sent_frames, received_count,
 ghost use Rattle.session.specs.History.{still_unacknowledged, is_started, verdict_on};
 ghost use Rattle.session.specs.History.{confirmation_of, confirmation_owed, confirmations_due};
 ghost use Rattle.session.specs.History.{confirmations_sent, has_timed_out, frame_due};
+ghost use Rattle.session.specs.History.{History, outstanding_test, unconfirmed_moments, last_frame};
+ghost use Rattle.session.specs.History.{acknowledgement_of, is_open as is_open_history};
+ghost use Rattle.apci.specs.declared.apdu.Apdu.TheVariants.{U};
+ghost use Rattle.apci.specs.declared.apdu.Uf.TheVariants.{TestAct};
 ghost use Rattle.session.specs.Laws.{AfterEachRun, Acknowledges, MatchesAcknowledged};
 ghost use Rattle.session.specs.Rules.{KeepsRules};
 ghost use Rattle.session.specs.SessionLaws.{SessionLaws};
@@ -130,6 +134,32 @@ pub fn origins_are_counted_apart()
         ≡ suc (from_queue others) }
     ensures own { (moment : ℕ) (others : List Unacknowledged) →
         from_queue (record { kind = Own; moment = moment } ∷ others) ≡ from_queue others }
+{}
+
+/// Whatever t1, t2, t3 and w are set to: t1 has run out from the moment on at which the oldest
+/// unacknowledged frame, or the test, is so old, and not before. An S frame is due from the moment
+/// on at which the oldest received frame is t2 old, or w have come, and a test if none has come for
+/// t3 (5.2, 5.5).
+pub fn timers_run_as_set()
+    ensures frame { (t1 now : ℕ) (h : History) (oldest : Unacknowledged)
+        (others : List Unacknowledged) → still_unacknowledged h ≡ oldest ∷ others →
+        oldest.moment + t1 ≤ now → has_timed_out t1 now h ≡ true }
+    ensures test { (t1 now moment : ℕ) (h : History) → outstanding_test h ≡ Some moment →
+        moment + t1 ≤ now → has_timed_out t1 now h ≡ true }
+    ensures not_yet { (t1 now : ℕ) (h : History) (oldest : Unacknowledged)
+        (others : List Unacknowledged) → still_unacknowledged h ≡ oldest ∷ others →
+        outstanding_test h ≡ None → now < oldest.moment + t1 → oldest.moment ≤ now →
+        has_timed_out t1 now h ≡ false }
+    ensures t2 { (w t2 t3 now moment : ℕ) (h : History) (others : List ℕ) →
+        unconfirmed_moments h ≡ moment ∷ others → moment + t2 ≤ now →
+        frame_due w t2 t3 now h ≡ Some (acknowledgement_of h) }
+    ensures w { (w t2 t3 now : ℕ) (h : History) → w ≤ length (unconfirmed_moments h) →
+        frame_due w t2 t3 now h ≡ Some (acknowledgement_of h) }
+    ensures t3 { (w t2 t3 now : ℕ) (h : History) → 0 < w → is_open_history h ≡ true →
+        unconfirmed_moments h ≡ [] → outstanding_test h ≡ None → last_frame h + t3 ≤ now →
+        frame_due w t2 t3 now h ≡ Some (U TestAct) }
+    ensures no_test { (w t2 t3 now : ℕ) (h : History) → 0 < w → unconfirmed_moments h ≡ [] →
+        now < last_frame h + t3 → last_frame h ≤ now → frame_due w t2 t3 now h ≡ None }
 {}
 
 /// Connections worked by hand: which numbers frames bear and when they may go out, what a frame

@@ -28,6 +28,6 @@ pub use kinds::{Close, FrameOrigin, Taken, Transfer, Unacknowledged};
 pub use laws::{
     calls_come_to_an_end, connections_begin_by_open, frames_are_judged, frames_are_numbered,
     frames_stay_in_order, histories_keep_the_rules, origins_are_counted_apart, reached_is_least,
-    session_keeps_the_standard, timers_are_kept, transfer_is_controlled, window_is_kept,
-    worked_examples_hold,
+    session_keeps_the_standard, timers_are_kept, timers_run_as_set, transfer_is_controlled,
+    window_is_kept, worked_examples_hold,
 };

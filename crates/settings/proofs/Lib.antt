@@ -3,5 +3,5 @@ pub mod SettingsLemmas
 pub mod StationLemmas
 pub mod UnknownLemmas
 pub mod Naming
-mod Reading
+mod NamedBack
 mod Knowing

@@ -1,7 +1,8 @@
 -- What a file says of each setting: each has one key, in its own table, and the value that stands
 -- there, or its default (this gateway's own profile; docs/SETTINGS.md is the same table).
 use Rattle.std.specs.Prelude.{◌≡◌, ℕ, pos, ◌-◌, ◌≤◌, codes, Bool, true, false, List, []}
-use Rattle.std.specs.Prelude.{◌∷◌}
+use Rattle.std.specs.Prelude.{◌∷◌, ◌++◌, ◌==◌, length}
+use Rattle.std.specs.List.{list_any}
 use Rattle.std.specs.Prelude.{Option, Some, None, option_and_then}
 use Rattle.std.specs.Str.{bytes_eq}
 use Rattle.toml.specs.Data.{Data, Items, no_items, item, Members, get_member, as_integer, as_bool}
@@ -91,3 +92,33 @@ pub record AreNamed (root : Members) (v : Values) : Type 0 where
   pub items : Items
   pub are : option_and_then as_array (get_member (codes "station") root) ≡ Some items
   pub stations : AreStationsOf v.line.link v.line.sizes.ca items v.stations
+
+-- ---- What is read
+
+-- the table of this name, if there is a value of it, is one
+abbrev pub IsTableIfAny : (name : List ℕ) → Members → Type 0
+IsTableIfAny name root =
+    (d : Data) → get_member name root ≡ Some d → (t : Members) × (as_table d ≡ Some t)
+
+-- the text at a key, if there is a value of it, is one
+abbrev pub IsTextIfAny : (key : List ℕ) → Option Members → Type 0
+IsTextIfAny key table =
+    (d : Data) → given_at key table ≡ Some d → (word : List ℕ) × (as_str d ≡ Some word)
+
+-- none of the stations has the link address, or the common address, of one before it
+abbrev pub AreNewAfter : (before : List StationSettings) → List StationSettings → Type 0
+AreNewAfter before [] = Unit {0}
+AreNewAfter before (s ∷ ss) =
+    (list_any (λ o. o.address == s.address) before ≡ false)
+    × (list_any (λ o. o.ca == s.ca) before ≡ false) × AreNewAfter (before ++ s ∷ []) ss
+
+-- The file may be read: its tables are tables, the ends of a live run texts, and it has 1 to 32
+-- stations, no two with one address.
+pub record MayBeRead (root : Members) (v : Values) : Type 0 where
+  pub tcp : IsTableIfAny (codes "tcp") root
+  pub live : IsTableIfAny (codes "live") root
+  pub line_end : IsTextIfAny (codes "line") (table_at (codes "live") root)
+  pub listen_end : IsTextIfAny (codes "listen") (table_at (codes "live") root)
+  pub some : 1 ≤ length v.stations
+  pub most : length v.stations ≤ 32
+  pub distinct : AreNewAfter [] v.stations

@@ -4,8 +4,7 @@ ghost use Rattle.toml.specs.Data.{Members};
 ghost use Rattle.settings.specs.Known.{AreAllKnown};
 ghost use Rattle.settings.specs.Live.{Places};
 ghost use Rattle.settings.specs.Settings.{Values, known_settings, known_live};
-ghost use Rattle.settings.specs.Named.{AreNamed};
-ghost use Rattle.settings.specs.Right.{AreRight};
+ghost use Rattle.settings.specs.Named.{AreNamed, MayBeRead};
 ghost use Rattle.settings.specs.Unknown.{unknown_paths};
 
 /// Each setting that is read is the value that stands in the file under its own key, or its own
@@ -18,11 +17,14 @@ pub fn settings_are_named()
         known_live root ≡ Ok (v, places) → AreNamed root v }
 {}
 
-/// Each file without a fault is read, and gives these very settings: where each setting stands under
-/// its key, or is its default, and is within its bounds, nothing is refused. So no number within its
-/// bounds is refused, as common address 255 where it has two octets.
-pub fn right_settings_are_read()
-    ensures { (root : Members) (v : Values) → AreRight root v → known_settings root ≡ Ok v }
+/// And the other way round: a file in which each setting stands under its own key, within its own
+/// bounds, or has a default, is read, and gives these settings. So no value within its bounds is
+/// refused, neither the least nor the greatest, and no station whatever its place, its addresses
+/// and how many there are of 1 to 32, as long as no two have one address. (Keys that no table may
+/// have are looked for behind this.)
+pub fn named_settings_are_read()
+    ensures { (root : Members) (v : Values) → AreNamed root v → MayBeRead root v →
+        known_settings root ≡ Ok v }
 {}
 
 /// A file that is read has no other keys than those of docs/SETTINGS.md, each in its own table: a

@@ -1,7 +1,6 @@
 //! What becomes of each station where a gateway goes on with other settings.
 ghost use Rattle.std.specs.Prelude.{◌≡◌, ◌<◌, ℕ, [], Bool, true, false, Some, None, length};
 ghost use Rattle.std.specs.Prelude.{slice_get};
-ghost use Rattle.events.specs.Queue.{kept};
 ghost use Rattle.link.specs.Procedure.{is_up};
 ghost use Rattle.link.specs.Turns.{station_at};
 ghost use Rattle.link.specs.Primary.{station_down};
@@ -76,16 +75,18 @@ pub fn a_stale_state_leaves_gaps()
     sessions_go_on();
 }
 
-/// No piece of a report is dropped where a gateway goes on with other settings, and none changes
-/// its place: each that was kept is kept, to be sent anew, even if the queue has fewer places now.
-/// The moment and the wall clock go on too.
+/// What isn't about a connection or an exchange goes on at other settings: the moment, the wall
+/// clock, and what was counted, but for commands given up there, which are counted as lost. Each
+/// piece that was kept is unsent (`Gateway::carried` says that none is dropped).
 pub fn what_is_kept_goes_on()
-    ensures pieces { (goes_on : Bool) (before now : Settings) (s : State) →
-        kept (carried goes_on before now s).centre.queue ≡ kept s.centre.queue }
     ensures unsent { (goes_on : Bool) (before now : Settings) (s : State) →
         (carried goes_on before now s).centre.queue.sent ≡ [] }
     ensures moment { (goes_on : Bool) (before now : Settings) (s : State) →
         (carried goes_on before now s).moment ≡ s.moment }
     ensures wall { (goes_on : Bool) (before now : Settings) (s : State) →
         (carried goes_on before now s).wall ≡ s.wall }
+    ensures counts { (goes_on : Bool) (before now : Settings) (s : State) →
+        ((carried goes_on before now s).serial.counts.skipped ≡ s.serial.counts.skipped)
+        × ((carried goes_on before now s).serial.counts.mirrors ≡ s.serial.counts.mirrors)
+        × ((carried goes_on before now s).serial.line.spoilt ≡ s.serial.line.spoilt) }
 {}

@@ -4,7 +4,7 @@ use Rattle.delivery.specs.Commands.{LineStep, confirmed_by}
 use Rattle.delivery.proofs.Confirmed.{confirmed_learnt, confirmed_alike, sent_alike}
 use Rattle.delivery.proofs.Joining.{Joins, joins}
 use Rattle.delivery.proofs.Judgements.{judged_all}
-use Rattle.delivery.proofs.Line.{LinkLaws}
+use Rattle.delivery.proofs.LinkLaws.{LinkLaws}
 use Rattle.delivery.proofs.commands.the_course_is_the_logs.Goals as goal
 
 pub returns : goal.returns

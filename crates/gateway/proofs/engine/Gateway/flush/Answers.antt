@@ -1,5 +1,5 @@
 use Rattle.std.proofs.Common.{refl}
-use Rattle.gateway.proofs.Put.{on_map, stays_after}
+use Rattle.gateway.proofs.Confirming.{on_map, stays_after}
 use Rattle.gateway.proofs.engine.Gateway.flush.Goals as goal
 
 pub returns-then-has_sent_all-clause-kept : goal.returns-then-has_sent_all-clause-kept

@@ -2,8 +2,10 @@ use Rattle.std.proofs.Common.{ap, sym, subst}
 use Rattle.apci.specs.Short.{apdu_of}
 use Rattle.gateway.specs.State.{State}
 use Rattle.gateway.specs.Agrees.{Tracks}
-use Rattle.gateway.proofs.Put.{logged_put, sends_confirmation, confirmed_open, confirmed_next}
-use Rattle.gateway.proofs.Put.{no_confirmation, on_true}
+use Rattle.gateway.proofs.Put.{logged_put, sends_confirmation, confirmed_open}
+use Rattle.gateway.proofs.Confirming.{confirmed_next}
+use Rattle.gateway.proofs.Put.{no_confirmation}
+use Rattle.gateway.proofs.Confirming.{on_true}
 use Rattle.gateway.proofs.engine.Gateway.send_confirmation.Goals as goal
 
 pub returns-in-None-clause-kept : goal.returns-in-None-clause-kept

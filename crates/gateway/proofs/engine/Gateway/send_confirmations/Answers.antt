@@ -1,5 +1,5 @@
 use Rattle.std.proofs.Common.{◌∙◌}
-use Rattle.gateway.proofs.Put.{on_map, confirm_in_time, confirms_end, stays_after}
+use Rattle.gateway.proofs.Confirming.{on_map, confirm_in_time, confirms_end, stays_after}
 use Rattle.gateway.proofs.Putting.{puts_none, puts_then, puts_ready}
 use Rattle.gateway.proofs.engine.Gateway.send_confirmations.Goals as goal
 

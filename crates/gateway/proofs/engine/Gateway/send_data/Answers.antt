@@ -1,8 +1,10 @@
 use Rattle.std.proofs.Common.{ap, ◌∙◌, rules, [], ◌∷◌}
 use Rattle.session.specs.Session.{Session, is_open}
 use Rattle.gateway.specs.Log.{Went, TcpOut, with_news}
-use Rattle.gateway.proofs.Put.{logged_sent, sends_data, data_sent, data_confirmed, data_in_time}
-use Rattle.gateway.proofs.Put.{stays_after, unsent_faithful}
+use Rattle.gateway.proofs.Put.{logged_sent, sends_data, data_sent}
+use Rattle.gateway.proofs.Confirming.{data_confirmed, data_in_time}
+use Rattle.gateway.proofs.Put.{unsent_faithful}
+use Rattle.gateway.proofs.Confirming.{stays_after}
 use Rattle.gateway.proofs.engine.Gateway.send_data.Goals as goal
 
 pub returns-then-not-hand-clause-kept : goal.returns-then-not-hand-clause-kept

@@ -2,8 +2,9 @@ use Rattle.std.proofs.Common.{ap, sym, subst}
 use Rattle.apci.specs.Short.{apdu_of}
 use Rattle.gateway.specs.State.{State}
 use Rattle.gateway.specs.Agrees.{Tracks}
-use Rattle.gateway.proofs.Put.{logged_put, sends_pulled, pulled_open, pulled_next, none_pulled}
-use Rattle.gateway.proofs.Put.{on_true}
+use Rattle.gateway.proofs.Put.{logged_put, sends_pulled, pulled_open, none_pulled}
+use Rattle.gateway.proofs.Confirming.{pulled_next}
+use Rattle.gateway.proofs.Confirming.{on_true}
 use Rattle.gateway.proofs.engine.Gateway.send_due.Goals as goal
 
 pub returns-in-None-clause-kept : goal.returns-in-None-clause-kept

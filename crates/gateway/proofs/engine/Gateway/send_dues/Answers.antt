@@ -2,9 +2,11 @@ use Rattle.std.proofs.Common.{ap, sym, subst, ◌∙◌, true, false, None}
 use Rattle.apci.specs.Short.{apdu_of}
 use Rattle.gateway.specs.State.{State}
 use Rattle.gateway.specs.Agrees.{Tracks}
-use Rattle.gateway.proofs.Put.{logged_put, sends_pulled, pulled_open, pulled_next, pulled_spent}
-use Rattle.gateway.proofs.Put.{none_pulled, none_left, on_map, pull_in_time, pull_confirmed}
-use Rattle.gateway.proofs.Put.{pull_ends, pull_clear, pull_spent, stays_after}
+use Rattle.gateway.proofs.Put.{logged_put, sends_pulled, pulled_open, pulled_spent}
+use Rattle.gateway.proofs.Confirming.{pulled_next}
+use Rattle.gateway.proofs.Put.{none_pulled, none_left}
+use Rattle.gateway.proofs.Confirming.{on_map, pull_in_time, pull_confirmed}
+use Rattle.gateway.proofs.Confirming.{pull_ends, pull_clear, pull_spent, stays_after}
 use Rattle.gateway.proofs.Putting.{puts_none, puts_then, puts_ready}
 use Rattle.gateway.proofs.engine.Gateway.send_dues.Goals as goal
 

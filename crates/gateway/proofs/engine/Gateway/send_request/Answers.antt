@@ -5,8 +5,8 @@ use Rattle.gateway.specs.Polls.{has_room}
 use Rattle.link.specs.Primary.{sending}
 use Rattle.link.specs.declared.request.Request.{Request}
 use Rattle.gateway.specs.State.{State, after_request}
-use Rattle.gateway.proofs.Events.{next_is, none_is, asked_none, asked_leaves, awaiting_none}
-use Rattle.gateway.proofs.Events.{awaiting_same}
+use Rattle.gateway.proofs.Requesting.{next_is, none_is, asked_none, asked_leaves, awaiting_none}
+use Rattle.gateway.proofs.Requesting.{awaiting_same}
 use Rattle.gateway.proofs.engine.Gateway.send_request.Goals as goal
 
 pub returns-in-None-clause-kept : goal.returns-in-None-clause-kept

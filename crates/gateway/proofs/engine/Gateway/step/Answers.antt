@@ -1,5 +1,6 @@
 use Rattle.gateway.specs.Phases.{Asked}
-use Rattle.gateway.proofs.Put.{logged_done, logged_leaves, in_time_same}
+use Rattle.gateway.proofs.Put.{logged_done, logged_leaves}
+use Rattle.gateway.proofs.Confirming.{in_time_same}
 use Rattle.gateway.proofs.Accounting.{step_accounted}
 use Rattle.gateway.proofs.Events.{begins, logged_settled, still_logged}
 use Rattle.gateway.proofs.Following.{step_follows}

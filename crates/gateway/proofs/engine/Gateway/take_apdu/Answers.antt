@@ -1,6 +1,6 @@
 use Rattle.apci.specs.Borrowed.{owned}
 use Rattle.gateway.specs.Phases.{Judged}
-use Rattle.gateway.proofs.Put.{awaits}
+use Rattle.gateway.proofs.Confirming.{awaits}
 use Rattle.gateway.proofs.Judgements.{judged_on, judged_closes}
 use Rattle.gateway.proofs.engine.Gateway.take_apdu.Goals as goal
 

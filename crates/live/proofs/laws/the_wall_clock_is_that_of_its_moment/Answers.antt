@@ -1,0 +1,11 @@
+use Rattle.live.proofs.Timed.{given, kept, shown}
+use Rattle.live.proofs.laws.the_wall_clock_is_that_of_its_moment.Goals as goal
+
+pub returns-clause-shown : goal.returns-clause-shown
+returns-clause-shown c = shown
+
+pub returns-clause-given : goal.returns-clause-given
+returns-clause-given c = given
+
+pub returns-clause-kept : goal.returns-clause-kept
+returns-clause-kept c = kept
