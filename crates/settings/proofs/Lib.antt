@@ -2,5 +2,6 @@ pub mod LiveLemmas
 pub mod SettingsLemmas
 pub mod StationLemmas
 pub mod UnknownLemmas
-mod Naming
+pub mod Naming
 mod NamedBack
+mod Knowing

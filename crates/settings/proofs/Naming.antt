@@ -37,17 +37,17 @@ use Rattle.settings.specs.declared.line.Waits.{Waits}
 
 -- ---- one step, and then the rest
 
-record Bound {A B : Type 0} (r : Result A Path) (f : A → Result B Path) (y : B) : Type 0 where
-  value : A
-  first : r ≡ Ok value
-  rest : f value ≡ Ok y
+pub record Bound {A B : Type 0} (r : Result A Path) (f : A → Result B Path) (y : B) : Type 0 where
+  pub value : A
+  pub first : r ≡ Ok value
+  pub rest : f value ≡ Ok y
 
-bound : {A B : Type 0} (r : Result A Path) (f : A → Result B Path) (y : B) → (r >>= f) ≡ Ok y
+pub bound : {A B : Type 0} (r : Result A Path) (f : A → Result B Path) (y : B) → (r >>= f) ≡ Ok y
     → Bound r f y
 bound (Ok x) f y e = record { value = x; first = refl; rest = e }
 bound (Err path) f y e = cc
 
-same_ok : {A : Type 0} (x y : A) → ◌≡◌ {A = Result A Path} (Ok x) (Ok y) → x ≡ y
+pub same_ok : {A : Type 0} (x y : A) → ◌≡◌ {A = Result A Path} (Ok x) (Ok y) → x ≡ y
 same_ok x y e = cc
 
 -- ---- numbers
@@ -78,7 +78,7 @@ number_is (Some (pos m)) n e = go (nat_lt m (2 ^ 32)) e
 number_is (Some (negsuc m)) n e = cc
 number_is None n e = cc
 
-whole_is : (key path : List ℕ) (low high : ℕ) (default : Option ℕ) (t : Option Members) (n : ℕ)
+pub whole_is : (key path : List ℕ) (low high : ℕ) (default : Option ℕ) (t : Option Members) (n : ℕ)
     → whole_of (row key path low high default) t ≡ Ok n → IsNumber key low high default t n
 whole_is key path low high default t n e =
     let is = judged_is (row key path low high default) (number_or default (given_at key t)) n e in
@@ -90,7 +90,7 @@ whole_is key path low high default t n e =
       not_above = is.2;
     }
 
-as_size : (key : List ℕ) (low high : ℕ) (default : Option ℕ) (t : Option Members) (n m : ℕ)
+pub as_size : (key : List ℕ) (low high : ℕ) (default : Option ℕ) (t : Option Members) (n m : ℕ)
     → n ≡ m → IsNumber key low high default t n → IsNumber key low high default t m
 as_size key low high default t n m e h = subst (λ k. IsNumber key low high default t k) e h
 
@@ -141,7 +141,7 @@ ioa_octets n low high = by (nat_lt 2 n) refl
 
 -- ---- words and flags
 
-flag_is : (key path : List ℕ) (t : Option Members) (b : Bool) → flag_of key path t ≡ Ok b
+pub flag_is : (key path : List ℕ) (t : Option Members) (b : Bool) → flag_of key path t ≡ Ok b
     → IsFlag key t b
 flag_is key path t b e = record {
   given = λ d at. some (as_bool d) (sym (ap (λ (o : Option Data). flag_or path o) at) ∙ e);
@@ -318,7 +318,7 @@ stations_are link ca before (item d ds) v e =
 
 -- ---- the whole file
 
-section_is : (name first : List ℕ) (root : Members) (t : Option Members)
+pub section_is : (name first : List ℕ) (root : Members) (t : Option Members)
     → section_of name first root ≡ Ok t → table_at name root ≡ t
 section_is name first root t e = go (get_member name root) refl e
   where

@@ -8,3 +8,4 @@ pub mod Tcp
 pub mod Unknown
 pub mod Wanted
 pub mod Named
+pub mod Known

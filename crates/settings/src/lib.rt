@@ -24,5 +24,5 @@ pub use config::{read_config, read_live_config};
 pub use fault::{ConfigFault, WrongKey};
 pub use keys::{Flag, Whole, given, section};
 pub use live::{LiveSettings, is_address, is_here};
-pub use named::{named_settings_are_read, settings_are_named};
+pub use named::{named_settings_are_read, other_keys_are_refused, settings_are_named};
 pub use wanted::wanted_values;

@@ -10,3 +10,4 @@ pub mod Printout
 pub mod Progress
 pub mod FirstLines
 pub mod Blocks
+pub mod Saying
