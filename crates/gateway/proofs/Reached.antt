@@ -1,6 +1,6 @@
 -- Commands of a course are what calls of `command` made them, one after another; so they keep its
 -- rules.
-use Rattle.std.proofs.Common.{◌≡◌, ◌++◌, sym, subst}
+use Rattle.std.proofs.Common.{◌≡◌, ◌++◌, refl, sym, subst}
 use Rattle.command.specs.History.{own_kept, own_sent}
 use Rattle.command.specs.Calls.{Run}
 use Rattle.command.specs.Laws.{IsRun}
@@ -43,6 +43,7 @@ module _ (p : Setup) where
   kept_commands laws passing log c r =
       let m : IsMade p (latest log) c.works = all_made p log c r in
       subst (KeepsCommands p) m.leave (record {
+        made = (m.made, refl, m.rise);
         forwarded = laws.forwarded p.stations p.sizes p.select_ms p.max_age_ms m.made;
         selected = laws.selected p.stations p.sizes p.select_ms p.max_age_ms m.made;
         answered = laws.right p.stations p.sizes p.select_ms p.max_age_ms m.made;

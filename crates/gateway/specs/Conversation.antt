@@ -1,6 +1,6 @@
 -- What holds at each point of a run's course (IEC 60870-5-104, 5; IEC 60870-5-101, 7.2.3 and
 -- 7.2.6).
-use Rattle.std.specs.Prelude.{◌≡◌, ◌+◌, false, [], ◌∷◌, ◌++◌, length, None, option_map}
+use Rattle.std.specs.Prelude.{◌≡◌, ◌+◌, false, List, [], ◌∷◌, ◌++◌, length, None, option_map}
 use Rattle.asdu.specs.Asdu.{AsduValue}
 use Rattle.session.specs.History.{confirmation_of, frame_due, has_timed_out}
 use Rattle.session.specs.Rules.{KeepsRules}
@@ -8,7 +8,7 @@ use Rattle.command.specs.History.{ForwardsCommands, ExecutesAreSelected, SendsFr
 use Rattle.command.specs.History.{mirror_tag, GivesOwnAnswers, KeepsOwnAnswers, own_kept, own_sent}
 use Rattle.command.specs.History.{forwarded_in_all, sent_in_all}
 use Rattle.command.specs.Mirrors.{tag_for}
-use Rattle.command.specs.Calls.{Run}
+use Rattle.command.specs.Calls.{Call, Run, run, NeverFall}
 use Rattle.gateway.specs.Log.{Log, latest}
 use Rattle.gateway.specs.Connections.{present}
 use Rattle.gateway.specs.Reports.{Setup}
@@ -23,8 +23,12 @@ use Rattle.gateway.specs.Course.{Course, HasTakenAll, Runs}
 -- station's answer gets is that of the newest first sending of its type and addresses; own answers
 -- go out first in, first out, and at most 16 wait. Places come back: as many commands wait, over
 -- all stations, as were forwarded on the open connection and weren't sent. And each command passed
--- that has no fault, finds its places, and is selected where it has to be.
+-- that has no fault, finds its places, and is selected where it has to be. All of it is what calls
+-- of `command` made, at moments that never fall. So what its laws say of every such list of calls
+-- holds here too: a select that has no fault is refused only for what they name.
 pub record KeepsCommands (p : Setup) (r : Run) : Type 0 where
+  pub made : (calls : List Call)
+      × (run p.stations p.sizes p.select_ms p.max_age_ms calls ≡ r) × NeverFall calls
   pub forwarded : ForwardsCommands p.sizes p.stations p.select_ms p.max_age_ms r.history
   pub selected : ExecutesAreSelected p.sizes p.stations p.select_ms p.max_age_ms r.history
   pub answered : GivesOwnAnswers p.sizes p.stations p.select_ms p.max_age_ms r.history
