@@ -88,10 +88,12 @@ pub fn no_source_hides_another()
         LooksBefore event old.first old new ⊎ IsFarBehind old.timing }
 {}
 
-/// Behind a close no connection is open, but where another has replaced the one that was.
+/// Behind a close no connection is open, no octets of it are held and no cut of it is due, but
+/// where another has replaced the one that was.
 pub fn a_close_shuts_the_connection()
     ensures { (old new : LiveEnds) (moment : ℕ) (cause : Close) →
-        LogsPut old moment (Closed cause) new → cause ≢ Replaced → new.connection ≡ None }
+        LogsPut old moment (Closed cause) new → cause ≢ Replaced →
+        (new.connection ≡ None) × (new.held ≡ []) × (new.is_cut_due ≡ false) }
 {}
 
 /// Of two events that follow each other, neither of which is the wall clock, the looks for the
@@ -152,8 +154,8 @@ pub fn the_wall_clock_is_that_of_its_moment()
 {}
 
 /// An event bears the moment that the clock gave last. Only where that would end an exchange whose
-/// line hasn't been looked at for `answer_ms` since the request was written it bears the last moment
-/// at which the exchange isn't over. So no timer stands still while an answer is awaited.
+/// line hasn't been looked at for `answer_ms` since the request was written it bears the last
+/// moment at which the exchange isn't over. So no timer stands still while an answer is awaited.
 pub fn a_moment_is_held_only_before_the_end_of_an_exchange()
     ensures { (old new : LiveEnds) (event : Next) (buf : List ℕ) → LogsTurn old event buf new →
         AtMoment event (λ moment. AtClock new.clock (λ now.
@@ -161,8 +163,8 @@ pub fn a_moment_is_held_only_before_the_end_of_an_exchange()
 {}
 
 /// Before a request is written what waits at the line is dropped, and nothing happens there between
-/// the two: so what came late is no answer to it. It is timed by the clock behind its write, however
-/// long that took, and by no other action.
+/// the two: so what came late is no answer to it. It is timed by the clock behind its write,
+/// however long that took, and by no other action.
 pub fn a_request_is_written_and_timed_behind_what_waits()
     ensures dropped { (old new : LiveEnds) (moment : ℕ) (octets : List ℕ) →
         LogsPut old moment (LineOut octets) new → IsWrittenBehind old.line octets new.line }
@@ -207,8 +209,8 @@ pub fn the_log_has_what_passed()
     ensures { (start end : LiveEnds) → IsFreshRun start → LiveRun start end → LogsEnds end.log end }
 {}
 
-/// A line, a listener, a clock and a wall clock that note what happens at them do so to the end of a
-/// run: so no law over what they note is about nothing from then on.
+/// A line, a listener, a clock and a wall clock that note what happens at them do so to the end of
+/// a run: so no law over what they note is about nothing from then on.
 pub fn what_is_noted_is_noted_to_the_end()
     ensures { (start end : LiveEnds) → LiveRun start end → NotesStill start end }
 {}

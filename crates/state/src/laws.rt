@@ -34,9 +34,9 @@ pub fn nothing_goes_out_before_it_is_on_disk()
         AreRight false (later ++ PutOut action ∷ earlier) → IsAllOnDisk earlier }
 {}
 
-/// No event waits for the disk for a second while others come: where the gateway is about to receive
-/// one, less than a second lies between the first and the last of those that wait, unless the store
-/// has failed.
+/// No event waits for the disk for a second while others come: where the gateway is about to
+/// receive one, less than a second lies between the first and the last of those that wait, unless
+/// the store has failed.
 pub fn no_event_waits_for_a_second()
     ensures { (bears : Bool) (later earlier : Deeds) (event first last : LogEntry) (between : Log) →
         AreRight bears (later ++ Received event ∷ earlier) → loss_of earlier ≡ None →
@@ -68,9 +68,9 @@ pub fn reported_gaps_by_example()
     ensures none { last_gap [] ≡ None }
 {}
 
-/// When a log is begun anew, when one is tried again that couldn't be begun, and when it is reported
-/// that none is kept, by literal numbers: behind 3,900,000 octets of events; at once and 10 s later;
-/// at once, each minute, and once where it is kept again.
+/// When a log is begun anew, when one is tried again that couldn't be begun, and when it is
+/// reported that none is kept, by literal numbers: behind 3,900,000 octets of events; at once and
+/// 10 s later; at once, each minute, and once where it is kept again.
 pub fn renewals_by_example()
     ensures renewal { (is_renewal_due 3900000 ≡ false) × (is_renewal_due 3900001 ≡ true) }
     ensures tries { (p : Patience) → (is_try_due (record p { tried = None }) ≡ true)
