@@ -9,6 +9,7 @@ use Rattle.session.specs.declared.kinds.Unacknowledged.{Unacknowledged}
 use Rattle.session.specs.History.{History, still_unacknowledged, outstanding_test, has_timed_out}
 use Rattle.session.specs.History.{unconfirmed_moments, last_frame, is_open, frame_due}
 use Rattle.session.specs.History.{acknowledgement_of, has_passed, moments_of, moment_of}
+use Rattle.session.specs.History.{is_acknowledgement_due}
 
 or_right : (a b : Bool) → b ≡ true → (a || b) ≡ true
 or_right true b is = refl
@@ -63,6 +64,20 @@ w_due w t2 t3 now h many =
     let due : nat_le w (length (unconfirmed_moments h)) ≡ true =
     le-leb w (length (unconfirmed_moments h)) many in
     rw due refl
+
+pub early : (w t2 now moment : ℕ) (h : History) (others : List ℕ)
+    → unconfirmed_moments h ≡ moment ∷ others
+    → length (unconfirmed_moments h) < w
+    → now < moment + t2
+    → moment ≤ now
+    → is_acknowledgement_due w t2 now h ≡ false
+early w t2 now moment h others at few soon after =
+    let below : nat_le w (length (unconfirmed_moments h)) ≡ false =
+    lt-leb w (length (unconfirmed_moments h)) few in
+    let waits : nat_le t2 (now - moment) ≡ false =
+    lt-leb t2 (now - moment) (omega (arith, soon, after)) in
+    ap (λ (b : Bool). b || has_passed t2 now (unconfirmed_moments h)) below
+    ∙ ap (has_passed t2 now) at ∙ waits
 
 pub t3_due : (w t2 t3 now : ℕ) (h : History) → 0 < w → is_open h ≡ true
     → unconfirmed_moments h ≡ []

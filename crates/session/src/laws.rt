@@ -18,6 +18,7 @@ ghost use Rattle.session.specs.History.{confirmation_of, confirmation_owed, conf
 ghost use Rattle.session.specs.History.{confirmations_sent, has_timed_out, frame_due};
 ghost use Rattle.session.specs.History.{History, outstanding_test, unconfirmed_moments, last_frame};
 ghost use Rattle.session.specs.History.{acknowledgement_of, is_open as is_open_history};
+ghost use Rattle.session.specs.History.{is_acknowledgement_due};
 ghost use Rattle.apci.specs.declared.apdu.Apdu.TheVariants.{U};
 ghost use Rattle.apci.specs.declared.apdu.Uf.TheVariants.{TestAct};
 ghost use Rattle.session.specs.Laws.{AfterEachRun, Acknowledges, MatchesAcknowledged};
@@ -138,8 +139,8 @@ pub fn origins_are_counted_apart()
 
 /// Whatever t1, t2, t3 and w are set to: t1 has run out from the moment on at which the oldest
 /// unacknowledged frame, or the test, is so old, and not before. An S frame is due from the moment
-/// on at which the oldest received frame is t2 old, or w have come, and a test if none has come for
-/// t3 (5.2, 5.5).
+/// on at which the oldest received frame is t2 old, or w have come, and not before; and a test if no
+/// frame has come for t3 (5.2, 5.5).
 pub fn timers_run_as_set()
     ensures frame { (t1 now : ℕ) (h : History) (oldest : Unacknowledged)
         (others : List Unacknowledged) → still_unacknowledged h ≡ oldest ∷ others →
@@ -155,6 +156,9 @@ pub fn timers_run_as_set()
         frame_due w t2 t3 now h ≡ Some (acknowledgement_of h) }
     ensures w { (w t2 t3 now : ℕ) (h : History) → w ≤ length (unconfirmed_moments h) →
         frame_due w t2 t3 now h ≡ Some (acknowledgement_of h) }
+    ensures early { (w t2 now moment : ℕ) (h : History) (others : List ℕ) →
+        unconfirmed_moments h ≡ moment ∷ others → length (unconfirmed_moments h) < w →
+        now < moment + t2 → moment ≤ now → is_acknowledgement_due w t2 now h ≡ false }
     ensures t3 { (w t2 t3 now : ℕ) (h : History) → 0 < w → is_open_history h ≡ true →
         unconfirmed_moments h ≡ [] → outstanding_test h ≡ None → last_frame h + t3 ≤ now →
         frame_due w t2 t3 now h ≡ Some (U TestAct) }

@@ -7,7 +7,8 @@ use Rattle.std.specs.Str.{bytes_eq}
 use Rattle.toml.specs.Data.{Data, Items, no_items, item, Members, get_member, as_array, as_table}
 use Rattle.settings.specs.Known.{file_keys, line_keys, tcp_keys, station_keys, live_keys, IsAmong}
 use Rattle.settings.specs.Known.{HasOnly, EachHasOnly, AreAllKnown}
-use Rattle.settings.specs.Unknown.{knows, prefix, member_keys, unknown_in, unknown_table, unknown_of}
+use Rattle.settings.specs.Unknown.{knows, prefix, member_keys, unknown_in, unknown_table}
+use Rattle.settings.specs.Unknown.{unknown_of}
 use Rattle.settings.specs.Unknown.{unknown_under, unknown_items, unknown_array, unknown_list}
 use Rattle.settings.specs.Unknown.{unknown_stations, unknown_paths}
 use Rattle.settings.specs.declared.unknown.SettingsTable.{SettingsTable}

@@ -1,8 +1,11 @@
 -- What holds of each history, deed by deed.
-use Rattle.std.proofs.Common.{◌≡◌, Bool, true, false, [], ◌∷◌, ◌++◌, refl, ap, inl, inr}
-use Rattle.gateway.specs.Log.{LogEntry}
+use Rattle.std.proofs.Common.{◌≡◌, ◌+◌, ◌-◌, ◌<◌, Bool, true, false, [], ◌∷◌, ◌++◌, None, refl, sym}
+use Rattle.std.proofs.Common.{ap, ◌∙◌, inl, inr, arith}
+use Rattle.std.specs.Option.{is_some}
+use Rattle.gateway.specs.Log.{Log, LogEntry}
 use Rattle.state.specs.Deeds.{Deed, Deeds, AreRight, IsAllOnDisk, IsSafe, MayBe, Received, Appended}
-use Rattle.state.specs.Deeds.{Synced, Begun, GivenUp, PutOut, appended, on_disk, waiting}
+use Rattle.state.specs.Deeds.{Synced, Begun, GivenUp, PutOut, IsInTime, appended, loss_of}
+use Rattle.state.specs.Deeds.{moment_of, oldest, on_disk, span, waiting}
 use Rattle.state.specs.Stores.{led_to_head, safe, written}
 
 -- a deed might be done when it was
@@ -31,6 +34,29 @@ pub put_strictly : (later earlier : Deeds) (action : LogEntry)
     → AreRight false (later ++ PutOut action ∷ earlier) → IsAllOnDisk earlier
 put_strictly later earlier action right =
     strictly action earlier (might_be false later earlier _ right)
+
+-- how long the first of those that wait was there when the last came
+oldest_is : (newest first : LogEntry) (between : Log) → oldest newest (between ++ first ∷ [])
+    ≡ moment_of first
+oldest_is newest first [] = refl
+oldest_is newest first (event ∷ between) = oldest_is event first between
+
+in_time : (earlier : Deeds) → IsInTime earlier → loss_of earlier ≡ None
+    → span (waiting earlier) < 1000
+in_time earlier (inl lost) none =
+    let no : false ≡ true = sym (ap is_some none) ∙ lost in absurd (cc)
+in_time earlier (inr soon) none = soon
+
+pub waits_shortly : (bears : Bool) (later earlier : Deeds) (event first last : LogEntry)
+    (between : Log)
+    → AreRight bears (later ++ Received event ∷ earlier) → loss_of earlier ≡ None
+    → waiting earlier ≡ last ∷ (between ++ first ∷ [])
+    → moment_of last < moment_of first + 1000
+waits_shortly bears later earlier event first last between right none waits =
+    let soon = in_time earlier (might_be bears later earlier _ right) none in
+    let span_is : span (waiting earlier) ≡ moment_of last - moment_of first =
+    ap span waits ∙ ap (λ n. moment_of last - n) (oldest_is last first between) in
+    omega (arith, soon, span_is)
 
 pub all_appended : (deeds : Deeds) → appended deeds ≡ written deeds ++ led_to_head deeds
 all_appended [] = refl

@@ -18,7 +18,7 @@ use Rattle.segments.proofs.Crashes.{one_segment}
 use Rattle.segments.proofs.Fronts.{not_shut}
 use Rattle.statetext.specs.Text.{lines_in}
 use Rattle.state.specs.Beginnings.{AreLinesRead, GoesOnBy, GoesOnFrom, IsHeadOf, IsMoved, WentOn}
-use Rattle.state.specs.Beginnings.{has_past, is_trusted}
+use Rattle.state.specs.Beginnings.{has_past, is_trusted, moment_at}
 use Rattle.state.specs.Crashed.{IsKeptIn}
 use Rattle.state.specs.Deeds.{Deeds}
 use Rattle.state.specs.Origins.{IsMarkedBy}
@@ -151,6 +151,8 @@ module _ {D : Type 0} (g : Ghosts D) (settings : List ℕ) (deeds : Deeds) (file
             ∙ ap (λ (l : List LogEntry). l ++ Came on.left.moment Restarted ∷ [])
             (replayed.arrived ∙ ap (λ (l : List LogEntry). events_of log ++ l) logged);
         follows = (on.follows kept.state [] lines savable follows rests).0;
+        clock =
+            b.begun.moment ∙ ap (λ (x : Beginning). moment_at x o.gateway.moment) goes_on;
       }
 
   pub returned : settings ≡ text → (state : State) → head deeds ≡ Some state → IsSavable state

@@ -36,7 +36,7 @@ pub record IsBegunOver {D : Type 0} (g : Ghosts D) (file : List ℕ) (c : Settin
   pub begun : IsBegun {D = D} {g = g} c text log (Some false) (opens.Both newest spare) o
 
 -- The gateway follows a log that goes on from this one, with all events that were synced, with the
--- oldest of those that waited, and with a restart at its end.
+-- oldest of those that waited, and with a restart at its end. The clock goes on where it stands.
 pub record HasReturned (c : Settings) (log : Log) (deeds : Deeds) (o : Origin) : Type 0 where
   pub lost : Log
   pub left : Log
@@ -45,3 +45,4 @@ pub record HasReturned (c : Settings) (log : Log) (deeds : Deeds) (o : Origin) :
   pub arrived : events_of o.before.entries
       ≡ (events_of log ++ reverse (left ++ safe deeds)) ++ Came moment Restarted ∷ []
   pub follows : Follows (setup_of c) o.gateway (Some o.before.entries)
+  pub clock : o.moment ≡ Some o.gateway.moment

@@ -28,8 +28,10 @@ pub use event_text::EventText;
 pub use folder::{Folder, FolderFault};
 pub use keeper::Keeper;
 pub use laws::{
-    a_start_goes_on_behind_a_crash, no_crash_leaves_another_line,
-    nothing_goes_out_before_it_is_on_disk, what_is_on_disk_is_in_the_log,
+    a_clock_goes_on_where_the_gateway_stood, a_start_goes_on_behind_a_crash,
+    no_crash_leaves_another_line, no_event_waits_for_a_second,
+    nothing_goes_out_before_it_is_on_disk, renewals_by_example, reported_gaps_by_example,
+    what_is_on_disk_is_in_the_log,
 };
 pub use looking::{Seen, Sight, look};
 pub use loss::Loss;

@@ -1,4 +1,4 @@
-use Rattle.session.proofs.Timers.{frame, test, not_yet, t2_due, w_due, t3_due, no_test}
+use Rattle.session.proofs.Timers.{frame, test, not_yet, t2_due, w_due, early, t3_due, no_test}
 use Rattle.session.proofs.laws.timers_run_as_set.Goals as goal
 
 pub returns : goal.returns
@@ -8,6 +8,7 @@ returns c = record {
   not_yet = not_yet;
   t2 = t2_due;
   w = w_due;
+  early = early;
   t3 = t3_due;
   no_test = no_test;
 }
