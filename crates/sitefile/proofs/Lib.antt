@@ -2,3 +2,4 @@ pub mod KeyLemmas
 pub mod NameLemmas
 pub mod SiteLemmas
 pub mod UnknownLemmas
+pub mod Naming

@@ -4,3 +4,4 @@ pub mod Names
 pub mod Site
 pub mod Unknown
 pub mod Wanted
+pub mod Named

@@ -10,12 +10,14 @@
 
 mod fault;
 mod keys;
+mod named;
 mod names;
 mod site;
 mod unknown;
 mod wanted;
 
 pub use fault::SiteFault;
+pub use named::sites_are_named;
 pub use names::{Names, StationName, wrong_station};
 pub use site::{Flags, Places, Site, read_site};
 pub use wanted::site_values;

@@ -1,8 +1,8 @@
 -- What stands in a line that logs an event.
-use Rattle.std.proofs.Common.{◌≡◌, ℕ, ◌+◌, ◌*◌, ◌-◌, ◌≤◌, nat_le, ◌&&◌, ◌==◌, Bool, true, false}
-use Rattle.std.proofs.Common.{List, [], ◌∷◌, length, Option, Some, None, Ok, if◌then◌else◌, refl}
+use Rattle.std.proofs.Common.{◌≡◌, ℕ, ◌+◌, ◌*◌, ◌-◌, nat_le, ◌&&◌, ◌==◌, Bool, true, false}
+use Rattle.std.proofs.Common.{List, [], ◌∷◌, length, Option, Some, None, if◌then◌else◌, refl}
 use Rattle.std.proofs.Common.{sym}
-use Rattle.std.proofs.Common.{ap, subst, ◌∙◌, arith}
+use Rattle.std.proofs.Common.{ap, subst, ◌∙◌}
 use Rattle.std.proofs.lemmas.Bool.{and_parts, leb-true}
 use Rattle.std.proofs.lemmas.Slice.Eq.{bytes_eq-Decides}
 use Rattle.std.specs.Char.{is_ascii_digit}
@@ -14,7 +14,7 @@ use Rattle.std.proofs.lemmas.List.Sums.{list_all-from_AllPass}
 use Rattle.hex.proofs.HexLemmas.{decode_of-ok}
 use Rattle.traces.proofs.OctetLemmas.{are_octets}
 use Rattle.traces.specs.Event.{Event, line, opening, received, cut, tick, wall, bare_event, bare_at}
-use Rattle.traces.specs.Event.{octets_event, octets_at, wall_at, valued_at, event_from, event_in}
+use Rattle.traces.specs.Event.{octets_at, wall_at, valued_at, event_from, event_in}
 use Rattle.traces.specs.Fields.{decimal_of, digits_after, octets_of}
 use Rattle.traces.specs.Saying.{AreDigitsOf, AreHexOf, AreValuesOf, Says, letter_of, moment_in}
 use Rattle.traces.specs.Trace.{is_skipped, logged}

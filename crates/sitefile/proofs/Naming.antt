@@ -1,0 +1,214 @@
+-- Each value of a site is the one that stands under its key.
+use Rattle.std.proofs.Common.{◌≡◌, ℕ, Bool, true, false, List, [], ◌∷◌, ◌++◌, Option, Some, None}
+use Rattle.std.proofs.Common.{Ok, Err, refl, sym, ap, subst, ◌∙◌, append_assoc}
+use Rattle.std.proofs.lemmas.List.{append-nil}
+use Rattle.std.specs.Prelude.{codes, if◌then◌else◌, ◌==◌}
+use Rattle.std.specs.List.{list_any}
+use Rattle.toml.specs.Data.{Data, Items, no_items, item, Members, get_member, as_array, as_str}
+use Rattle.toml.specs.Data.{as_table}
+use Rattle.settings.specs.Named.{IsNumber}
+use Rattle.settings.proofs.Naming.{bound, same_ok, whole_is, flag_is, as_size, section_is}
+use Rattle.sitefile.specs.Keys.{is_good, text_in, text_or_none, text_of_key}
+use Rattle.sitefile.specs.Names.{Named, link_of, name_of, needed, named_in, named_of}
+use Rattle.sitefile.specs.Names.{stations_from, stations_in, stations_of}
+use Rattle.sitefile.specs.Named.{IsText, AreTextsOf, IsAllowList, ArePlaces, AreFlags, IsNamed}
+use Rattle.sitefile.specs.Named.{AreNamed, AreNames, IsSiteNamed}
+use Rattle.sitefile.specs.Site.{SiteNames, SitePlaces, SiteValues, text_needed, texts_from, list_of}
+use Rattle.sitefile.specs.Site.{allow_of, known_places, flags_of, known_names, known_site}
+use Rattle.sitefile.specs.declared.keys.TextForm.{TextForm}
+use Rattle.sitefile.specs.declared.keys.TextForm.TheVariants.{Name, Address, Directory}
+use Rattle.sitefile.specs.declared.site.Flags.{Flags}
+
+-- ---- texts
+
+text_is : (form : TextForm) (key path : List ℕ) (t : Option Members) (text : Option (List ℕ))
+    → text_of_key form key path t ≡ Ok text → IsText key t text
+text_is form key path t text e = record {
+  given = λ d at. some (as_str d) d refl
+      (sym (ap (λ (o : Option Data). text_or_none form path o) at) ∙ e);
+  missing = λ none. sym (same_ok None text
+      (sym (ap (λ (o : Option Data). text_or_none form path o) none) ∙ e));
+}
+  where
+    good : (word : List ℕ) (b : Bool) → (if b then Ok (Some word) else Err path) ≡ Ok text
+        → text ≡ Some word
+    good word true is = sym (same_ok (Some word) text is)
+    good word false is = cc
+
+    some : (o : Option (List ℕ)) (d : Data) → as_str d ≡ o → text_in form path o ≡ Ok text
+        → (word : List ℕ) × (as_str d ≡ Some word) × (text ≡ Some word)
+    some None d at is = cc
+    some (Some word) d at is = (word, at, good word (is_good form word) is)
+
+-- ---- the list of those who may connect
+
+record TextsOf (before : List (List ℕ)) (ds : Items) (v : List (List ℕ)) : Type 0 where
+  more : List (List ℕ)
+  whole : before ++ more ≡ v
+  are : AreTextsOf ds more
+
+needed_is : (o : Option (List ℕ)) (text : List ℕ) → text_needed o ≡ Ok text → o ≡ Some text
+needed_is None text e = cc
+needed_is (Some word) text e = ap Some (same_ok word text e)
+
+texts_are : (before : List (List ℕ)) (ds : Items) (v : List (List ℕ))
+    → texts_from before ds ≡ Ok v → TextsOf before ds v
+texts_are before no_items v e = record {
+  more = [];
+  whole = append-nil before ∙ same_ok before v e;
+  are = tt;
+}
+texts_are before (item d ds) v e =
+    let t = bound (text_needed (as_str d)) (λ t. texts_from (before ++ t ∷ []) ds) v e in
+    let rest = texts_are (before ++ t.value ∷ []) ds v t.rest in
+    record {
+      more = t.value ∷ rest.more;
+      whole = sym (append_assoc before (t.value ∷ []) rest.more) ∙ rest.whole;
+      are = (needed_is (as_str d) t.value t.first, rest.are);
+    }
+
+allow_is : (root : Members) (allow : Option (List (List ℕ)))
+    → allow_of (get_member (codes "allow") root) ≡ Ok allow → IsAllowList root allow
+allow_is root allow e = record {
+  given = λ d at. listed d (as_array d) refl (sym (ap allow_of at) ∙ e);
+  missing = λ none. sym (same_ok None allow (sym (ap allow_of none) ∙ e));
+}
+  where
+    listed : (d : Data) (o : Option Items) → as_array d ≡ o → list_of o ≡ Ok allow
+        → (items : Items) × (texts : List (List ℕ)) × (as_array d ≡ Some items)
+        × AreTextsOf items texts × (allow ≡ Some texts)
+    listed d None at is = cc
+    listed d (Some ds) at is =
+        let b = bound (texts_from [] ds) (λ texts. Ok (Some texts)) allow is in
+        let all = texts_are [] ds b.value b.first in (
+          ds,
+          all.more,
+          at,
+          all.are,
+          sym (same_ok (Some b.value) allow b.rest) ∙ ap Some (sym all.whole),
+        )
+
+places_are : (root : Members) (p : SitePlaces) → known_places root ≡ Ok p → ArePlaces root p
+places_are root p e =
+    let a = bound _ _ p e in
+    let s = bound _ _ p a.rest in
+    let d = bound _ _ p s.rest in
+    subst (λ z. ArePlaces root z) (same_ok _ p d.rest) (record {
+      allow = allow_is root a.value a.first;
+      status = text_is Address (codes "status") (codes "status") (Some root) s.value s.first;
+      state = text_is Directory (codes "state") (codes "state") (Some root) d.value d.first;
+    })
+
+-- ---- flags
+
+flags_are : (root : Members) (f : Flags) → flags_of root ≡ Ok f → AreFlags root f
+flags_are root f e =
+    let s = bound _ _ f e in
+    let l = bound _ _ f s.rest in
+    let v = bound _ _ f l.rest in
+    let r = bound _ _ f v.rest in
+    let w = bound _ _ f r.rest in
+    subst (λ z. AreFlags root z) (same_ok _ f w.rest) (record {
+      state_or_stop = flag_is (codes "state_or_stop") (codes "state_or_stop") (Some root) s.value
+          s.first;
+      log = flag_is (codes "log") (codes "log") (Some root) l.value l.first;
+      log_severity = flag_is (codes "log_severity") (codes "log_severity") (Some root) v.value
+          v.first;
+      redial = flag_is (codes "redial") (codes "redial") (Some root) r.value r.first;
+      recording = flag_is (codes "record") (codes "record") (Some root) w.value w.first;
+    })
+
+-- ---- names
+
+free_link : (n m : ℕ) (b : Bool) → (if b then Err (codes "station.link") else Ok n) ≡ Ok m → n ≡ m
+free_link n m true e = cc
+free_link n m false e = same_ok n m e
+
+link_is : (before : List Named) (t : Members) (n : ℕ) → link_of before t ≡ Ok n
+    → IsNumber (codes "link") 1 65534 None (Some t) n
+link_is before t n e =
+    let l = bound _ _ n e in
+    as_size (codes "link") 1 65534 None (Some t) l.value n
+    (free_link l.value n (list_any (λ s. s.link == l.value) before) l.rest)
+    (whole_is (codes "link") (codes "station.link") 1 65534 None (Some t) l.value l.first)
+
+there : (o : Option (List ℕ)) (name : List ℕ) → needed (codes "station.name") o ≡ Ok name
+    → o ≡ Some name
+there None name e = cc
+there (Some text) name e = ap Some (same_ok text name e)
+
+name_is : (t : Members) (name : List ℕ) → name_of t ≡ Ok name
+    → IsText (codes "name") (Some t) (Some name)
+name_is t name e =
+    let o = bound (text_of_key Name (codes "name") (codes "station.name") (Some t))
+    (needed (codes "station.name")) name e in
+    text_is Name (codes "name") (codes "station.name") (Some t) (Some name)
+    (o.first ∙ ap Ok (there o.value name o.rest))
+
+named_is : (before : List Named) (t : Option Members) (s : Named) → named_in before t ≡ Ok s
+    → IsNamed t s
+named_is before None s e = cc
+named_is before (Some t) s e =
+    let l = bound _ _ s e in
+    let n = bound _ _ s l.rest in
+    subst (λ z. IsNamed (Some t) z) (same_ok _ s n.rest) (record {
+      link = link_is before t l.value l.first;
+      name = name_is t n.value n.first;
+    })
+
+record StationsOf (before : List Named) (ds : Items) (v : List Named) : Type 0 where
+  more : List Named
+  whole : before ++ more ≡ v
+  are : AreNamed ds more
+
+stations_are : (before : List Named) (ds : Items) (v : List Named)
+    → stations_from before ds ≡ Ok v → StationsOf before ds v
+stations_are before no_items v e = record {
+  more = [];
+  whole = append-nil before ∙ same_ok before v e;
+  are = tt;
+}
+stations_are before (item d ds) v e =
+    let s = bound (named_of before d) (λ s. stations_from (before ++ s ∷ []) ds) v e in
+    let rest = stations_are (before ++ s.value ∷ []) ds v s.rest in
+    record {
+      more = s.value ∷ rest.more;
+      whole = sym (append_assoc before (s.value ∷ []) rest.more) ∙ rest.whole;
+      are = (named_is before (as_table d) s.value s.first, rest.are);
+    }
+
+listed : (d : Data) (v : List Named) (o : Option Items) → as_array d ≡ o → stations_in o ≡ Ok v
+    → (items : Items) × (as_array d ≡ Some items) × AreNamed items v
+listed d v None at e = cc
+listed d v (Some ds) at e =
+    let all = stations_are [] ds v e in (
+      ds,
+      at,
+      subst (λ z. AreNamed ds z) all.whole all.are,
+    )
+
+names_are : (root : Members) (n : SiteNames) → known_names root ≡ Ok n → AreNames root n
+names_are root n e =
+    let t = bound _ _ n e in
+    let l = bound _ _ n t.rest in
+    let s = bound _ _ n l.rest in
+    subst (λ z. AreNames root z) (same_ok _ n s.rest) (record {
+      line = subst (λ z. IsText (codes "name") z l.value)
+          (sym (section_is (codes "line") (codes "line.name") root t.value t.first))
+          (text_is Name (codes "name") (codes "line.name") t.value l.value l.first);
+      given = λ d at. listed d s.value (as_array d) refl (sym (ap stations_of at) ∙ s.first);
+      missing = λ none. sym (same_ok [] s.value (sym (ap stations_of none) ∙ s.first));
+    })
+
+-- ---- the whole file
+
+pub site_named : (root : Members) (v : SiteValues) → known_site root ≡ Ok v → IsSiteNamed root v
+site_named root v e =
+    let p = bound _ _ v e in
+    let f = bound _ _ v p.rest in
+    let n = bound _ _ v f.rest in
+    subst (λ z. IsSiteNamed root z) (same_ok _ v n.rest) (record {
+      places = places_are root p.value p.first;
+      flags = flags_are root f.value f.first;
+      names = names_are root n.value n.first;
+    })
