@@ -11,9 +11,6 @@ use Rattle.telegate.specs.Audits as audits
 use Rattle.telegate.specs.Source.{Gives}
 use Rattle.telegate.specs.declared.answer.CommandAnswer.{CommandAnswer}
 use Rattle.telegate.specs.declared.fault.Fault.{Fault}
-use Rattle.telegate.specs.declared.fault.Fault.TheVariants.{Config, Site, Trace, Script, Record}
-use Rattle.telegate.specs.declared.fault.Fault.TheVariants.{Sizes, Octets, Address, NoState}
-use Rattle.telegate.specs.declared.fault.Fault.TheVariants.{StateInUse, StateUnusable, Device}
 use Rattle.telegate.specs.declared.fault.Fault.TheVariants.{Unread, NoMemory}
 
 module _ (config : List ℕ) (has : List ℕ → Type 0) (settings : Settings) (known : Option (List ℕ))
@@ -33,19 +30,7 @@ module _ (config : List ℕ) (has : List ℕ → Type 0) (settings : Settings) (
     answered = answered;
   }
   audited comparison (Err NoMemory) found answered = tt
-  audited comparison (Err (Config why)) found answered = absurd answered
-  audited comparison (Err (Trace n)) found answered = absurd answered
-  audited comparison (Err (Script n)) found answered = absurd answered
-  audited comparison (Err (Site why)) found answered = absurd answered
-  audited comparison (Err (Record n)) found answered = absurd answered
-  audited comparison (Err NoState) found answered = absurd answered
-  audited comparison (Err StateInUse) found answered = absurd answered
-  audited comparison (Err StateUnusable) found answered = absurd answered
-  audited comparison (Err Sizes) found answered = absurd answered
-  audited comparison (Err Octets) found answered = absurd answered
-  audited comparison (Err Address) found answered = absurd answered
-  audited comparison (Err Device) found answered = absurd answered
-  audited comparison (Err Unread) found answered = absurd answered
+  audited comparison (Err other) found answered = absurd answered
 
   -- or there is no comparison
   pub unaudited : (fault : RecordFault) → IsAuditFault known fault

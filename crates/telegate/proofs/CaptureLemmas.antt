@@ -1,7 +1,7 @@
 -- The answer to a capture.
 use Rattle.std.proofs.Common.{◌≡◌, ℕ, List, Option, inl, inr, subst}
-use Rattle.std.specs.Prelude.{Result, Ok, Err}
-use Rattle.capture.specs.Texts.{IsCaptureFault, IsCaptured, IsWhole}
+use Rattle.std.specs.Prelude.{Ok, Err}
+use Rattle.capture.specs.Texts.{IsCaptureFault, IsCaptured}
 use Rattle.capture.specs.declared.whole.CaptureFault.{CaptureFault}
 use Rattle.capture.specs.declared.whole.CaptureFault.TheVariants as faults
 use Rattle.capture.proofs.WholeLemmas.{captured_as}
@@ -12,9 +12,6 @@ use Rattle.telegate.specs.Captures.{IsCapturedBy, IsFaultOfCapture, fault_of_cap
 use Rattle.telegate.specs.Parts.{IsWant}
 use Rattle.telegate.specs.Source.{Gives}
 use Rattle.telegate.specs.declared.fault.Fault.{Fault}
-use Rattle.telegate.specs.declared.fault.Fault.TheVariants.{Config, Site, Trace, Script, Record}
-use Rattle.telegate.specs.declared.fault.Fault.TheVariants.{Sizes, Octets, Address, NoState}
-use Rattle.telegate.specs.declared.fault.Fault.TheVariants.{StateInUse, StateUnusable, Device}
 use Rattle.telegate.specs.declared.fault.Fault.TheVariants.{Unread, NoMemory}
 use Rattle.telegate.proofs.Kept.{keeps_same}
 
@@ -23,18 +20,7 @@ pub unopened : (config : List ℕ) (has : List ℕ → Type 0) (known : Option (
     (fault : Fault) → IsWant fault → IsCapturedBy config has known known (Err fault)
 unopened config has known NoMemory want = inl (keeps_same known)
 unopened config has known Unread want = inl (keeps_same known)
-unopened config has known (Config why) want = absurd want
-unopened config has known (Site why) want = absurd want
-unopened config has known (Trace n) want = absurd want
-unopened config has known (Script n) want = absurd want
-unopened config has known (Record n) want = absurd want
-unopened config has known NoState want = absurd want
-unopened config has known StateInUse want = absurd want
-unopened config has known StateUnusable want = absurd want
-unopened config has known Sizes want = absurd want
-unopened config has known Octets want = absurd want
-unopened config has known Address want = absurd want
-unopened config has known Device want = absurd want
+unopened config has known other want = absurd want
 
 module _ (config : List ℕ) (has : List ℕ → Type 0) (settings : Settings) (size : LinkSize)
     (known : Option (List ℕ)) (old new : Option (List ℕ)) (read : IsReadOfText config (Ok settings))

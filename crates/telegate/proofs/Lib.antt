@@ -9,7 +9,6 @@ pub mod Begins
 pub mod AuditLemmas
 pub mod Worded
 pub mod Poured
-pub mod Printing
 pub mod ReplayLemmas
 pub mod SimLemmas
 pub mod Performed

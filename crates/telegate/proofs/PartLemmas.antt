@@ -26,10 +26,7 @@ use Rattle.telegate.specs.Printed.{IsPoured}
 use Rattle.telegate.specs.Records.{behind_tick, lines_read, script_read}
 use Rattle.telegate.specs.Source.{Gives}
 use Rattle.telegate.specs.declared.fault.Fault.{Fault}
-use Rattle.telegate.specs.declared.fault.Fault.TheVariants.{Config, Site, Trace, Script, Record}
-use Rattle.telegate.specs.declared.fault.Fault.TheVariants.{Sizes, Octets, Address, NoState}
-use Rattle.telegate.specs.declared.fault.Fault.TheVariants.{StateInUse, StateUnusable, Device}
-use Rattle.telegate.specs.declared.fault.Fault.TheVariants.{Unread, NoMemory}
+use Rattle.telegate.specs.declared.fault.Fault.TheVariants.{Trace, NoMemory}
 use Rattle.telegate.proofs.Kept.{keeps_same}
 use Rattle.telegate.proofs.Poured.{appends_none, poured_begun}
 use Rattle.traces.proofs.JoinedLemmas.{events_joined, lines_joined, wrong_behind, wrong_before}
@@ -147,6 +144,15 @@ part_as as_record lines lines_too is_over over part same so read =
     subst (λ (o : Bool). IsPartRead as_record lines_too o part) so
     (subst (λ (ls : List ℕ). IsPartRead as_record ls is_over part) same read)
 
+-- a block with these lines was cut off what was still to come
+pub cut_as : (block : Reading) (lines : List ℕ) (coming : Option (List ℕ)) → lines ≡ block.lines
+    → IfSome coming (λ text. IsGiven text block) → (over : Bool) → block.is_over ≡ over
+    → IfSome coming (λ text. AreCutOff text lines over block.coming)
+cut_as block lines coming same cut over is =
+    subst (λ (o : Bool). IfSome coming (λ text. AreCutOff text lines o block.coming)) is
+    (subst (λ (ls : List ℕ). IfSome coming (λ text. AreCutOff text ls block.is_over block.coming))
+    (sym same) cut)
+
 -- Judging
 
 -- a text was judged as far as it was read, and the line that comes next has this number
@@ -212,39 +218,21 @@ module _ (r : Bool) (known coming : Option (List ℕ)) (first : ℕ)
     (h : IsJudgedTo r known coming first) (block : Reading) (lines part : List ℕ)
     (same : lines ≡ block.lines) (cut : IfSome coming (λ text. IsGiven text block))
     (read : IsPartRead r lines block.is_over part) where
-  cut_as : (over : Bool) → block.is_over ≡ over
-      → IfSome coming (λ text. AreCutOff text lines over block.coming)
-  cut_as over is = subst (λ (o : Bool). IfSome coming (λ text. AreCutOff text lines o block.coming))
-      is
-      (subst (λ (ls : List ℕ). IfSome coming (λ text. AreCutOff text ls block.is_over block.coming))
-      (sym same) cut)
-
   pub judged_block : (next : ℕ) → block.is_over ≡ false → AreRight first (lines_of part) next
       → IsJudgedTo r known block.coming next
   judged_block next is right = judged_on r known coming block.coming lines part block.is_over
-      first h read next is (cut_as false is) right
+      first h read next is (cut_as block lines coming same cut false is) right
 
   pub judged_all : (next : ℕ) → block.is_over ≡ true → AreRight first (lines_of part) next
       → IsRightText r known
   judged_all next is right = judged_last r known coming block.coming lines part block.is_over
-      first h read next is (cut_as true is) right
+      first h read next is (cut_as block lines coming same cut true is) right
 
   pub judged_fault : (fault : Fault) → IsLineFault first part fault → IsJudgedFault r known fault
   judged_fault (Trace n) wrong = judged_wrong r known coming block.coming lines part
-      block.is_over first h read n (cut_as block.is_over refl) wrong
+      block.is_over first h read n (cut_as block lines coming same cut block.is_over refl) wrong
   judged_fault NoMemory wrong = tt
-  judged_fault Unread wrong = absurd wrong
-  judged_fault (Config why) wrong = absurd wrong
-  judged_fault (Script n) wrong = absurd wrong
-  judged_fault (Site why) wrong = absurd wrong
-  judged_fault (Record n) wrong = absurd wrong
-  judged_fault NoState wrong = absurd wrong
-  judged_fault StateInUse wrong = absurd wrong
-  judged_fault StateUnusable wrong = absurd wrong
-  judged_fault Sizes wrong = absurd wrong
-  judged_fault Octets wrong = absurd wrong
-  judged_fault Address wrong = absurd wrong
-  judged_fault Device wrong = absurd wrong
+  judged_fault other wrong = absurd wrong
 
 -- Running
 

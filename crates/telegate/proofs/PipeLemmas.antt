@@ -4,7 +4,7 @@ use Rattle.std.proofs.Common.{None, refl, sym, subst, ap, ◌∙◌, append_asso
 use Rattle.std.proofs.lemmas.List.{append-nil}
 use Rattle.std.specs.Prelude.{IfSome, Result, Ok, Err}
 use Rattle.std.specs.Io.KnownBytes.{Appends, Keeps}
-use Rattle.traces.specs.Blocks.{AreCutOff, IsGiven, Reading}
+use Rattle.traces.specs.Blocks.{IsGiven, Reading}
 use Rattle.show.specs.declared.condition.Condition.{Condition}
 use Rattle.show.specs.declared.condition.Shown.{Shown}
 use Rattle.show.specs.declared.condition.Condition.TheVariants.{Good, Faulty}
@@ -15,17 +15,13 @@ use Rattle.words.specs.Pipes.{octets_in}
 use Rattle.words.specs.Described.{both}
 use Rattle.telegate.specs.Parts.{IsWant}
 use Rattle.telegate.specs.Piping.{AreLinesShown, IsAdded, IsLineShown, IsShownAs, IsPiped}
-use Rattle.telegate.specs.Piping.{IsPipedSome}
-use Rattle.telegate.specs.Piping.{Pipes}
+use Rattle.telegate.specs.Piping.{IsPipedSome, Pipes}
 use Rattle.telegate.specs.Source.{Gives}
 use Rattle.telegate.specs.declared.fault.Fault.{Fault}
-use Rattle.telegate.specs.declared.fault.Fault.TheVariants.{Config, Site, Trace, Script, Record}
-use Rattle.telegate.specs.declared.fault.Fault.TheVariants.{Sizes, Octets, Address, NoState}
-use Rattle.telegate.specs.declared.fault.Fault.TheVariants.{StateInUse, StateUnusable, Device}
-use Rattle.telegate.specs.declared.fault.Fault.TheVariants.{Unread, NoMemory}
+use Rattle.telegate.specs.declared.fault.Fault.TheVariants.{Device, Unread, NoMemory}
 use Rattle.telegate.specs.declared.piping.Piped.{Piped}
 use Rattle.telegate.proofs.PartLemmas.{IsRest, joined, rest_begins, rest_behind, rest_last}
-use Rattle.telegate.proofs.PartLemmas.{rest_some}
+use Rattle.telegate.proofs.PartLemmas.{rest_some, cut_as}
 use Rattle.telegate.proofs.Poured.{appends_more, appends_none, appends_begun, begun_behind}
 
 both_along : (a b c : Condition) → both (both a b) c ≡ both a (both b c)
@@ -150,14 +146,6 @@ module _ (piped : Piped) (words : Bool) where
         (cut : IfSome coming (λ text. IsGiven text block))
         (text : List ℕ) (p q : Condition) (new : Option (List ℕ))
         (shown : AreLinesShown piped words (lines_of ls) text p) (judged : q ≡ both o p) where
-      cut_as : (over : Bool) → block.is_over ≡ over
-          → IfSome coming (λ text. AreCutOff text ls over block.coming)
-      cut_as over is =
-          subst (λ (b : Bool). IfSome coming (λ text. AreCutOff text ls b block.coming)) is
-          (subst
-          (λ (xs : List ℕ). IfSome coming (λ text. AreCutOff text xs block.is_over block.coming))
-          (sym same) cut)
-
       all_passed : AreLinesShown piped words (h.done ++ lines_of ls) (h.text ++ text) q
       all_passed =
           subst (λ (x : Condition). AreLinesShown piped words (h.done ++ lines_of ls)
@@ -169,7 +157,8 @@ module _ (piped : Piped) (words : Bool) where
           → PipesTo known block.coming q old new
       pipes_on is printed = record {
         before = h.before ++ (ls ++ 10 ∷ []);
-        rest = rest_behind known coming block.coming h.before ls h.rest (cut_as false is);
+        rest = rest_behind known coming block.coming h.before ls h.rest
+            (cut_as block ls coming same cut false is);
         done = h.done ++ lines_of ls;
         lines = λ t. ap lines_of (joined h.before ls t) ∙ h.lines (ls ++ 10 ∷ t)
             ∙ ap (λ (xs : List (List ℕ)). h.done ++ xs) (lines_joined ls t)
@@ -183,7 +172,8 @@ module _ (piped : Piped) (words : Bool) where
           → IsPiped piped words (Gives known) old new q
       pipes_all is printed = record {
         octets = h.before ++ ls;
-        is = rest_last known coming block.coming h.before ls h.rest (cut_as true is);
+        is = rest_last known coming block.coming h.before ls h.rest
+            (cut_as block ls coming same cut true is);
         text = h.text ++ text;
         shown = subst (λ (xs : List (List ℕ)). AreLinesShown piped words xs (h.text ++ text) q)
             (sym (h.lines ls)) all_passed;
@@ -197,7 +187,8 @@ module _ (piped : Piped) (words : Bool) where
           by : (over : Bool) → block.is_over ≡ over → IsPipedSome piped words (Gives known) old new
           by true is = record {
             octets = h.before ++ ls;
-            is = rest_last known coming block.coming h.before ls h.rest (cut_as true is);
+            is = rest_last known coming block.coming h.before ls h.rest
+                (cut_as block ls coming same cut true is);
             first = h.done ++ lines_of ls;
             later = [];
             lines = h.lines ls ∙ sym (append-nil (h.done ++ lines_of ls));
@@ -208,7 +199,7 @@ module _ (piped : Piped) (words : Bool) where
           }
           by false is =
               let rest = rest_behind known coming block.coming h.before ls h.rest
-              (cut_as false is) in
+              (cut_as block ls coming same cut false is) in
               let some = rest_some known block.coming (h.before ++ (ls ++ 10 ∷ [])) rest in record {
                 octets = (h.before ++ (ls ++ 10 ∷ [])) ++ some.0;
                 is = some.1;
@@ -230,18 +221,7 @@ module _ (piped : Piped) (words : Bool) where
       → Pipes piped words has old new (Err fault)
   pipe_wanted has old new NoMemory want h = h
   pipe_wanted has old new Unread want h = h
-  pipe_wanted has old new (Config why) want h = absurd want
-  pipe_wanted has old new (Trace n) want h = absurd want
-  pipe_wanted has old new (Script n) want h = absurd want
-  pipe_wanted has old new (Site why) want h = absurd want
-  pipe_wanted has old new (Record n) want h = absurd want
-  pipe_wanted has old new NoState want h = absurd want
-  pipe_wanted has old new StateInUse want h = absurd want
-  pipe_wanted has old new StateUnusable want h = absurd want
-  pipe_wanted has old new Sizes want h = absurd want
-  pipe_wanted has old new Octets want h = absurd want
-  pipe_wanted has old new Address want h = absurd want
-  pipe_wanted has old new Device want h = absurd want
+  pipe_wanted has old new other want h = absurd want
 
   -- a text that is known to be one of these
   pub piped_as : (has more : List ℕ → Type 0) (old new : Option (List ℕ))
@@ -281,14 +261,4 @@ module _ (piped : Piped) (words : Bool) where
       by (Err Device) h = some_of h
       by (Err NoMemory) h = either h
       by (Err Unread) h = either h
-      by (Err (Config why)) h = absurd h
-      by (Err (Trace n)) h = absurd h
-      by (Err (Script n)) h = absurd h
-      by (Err (Site why)) h = absurd h
-      by (Err (Record n)) h = absurd h
-      by (Err NoState) h = absurd h
-      by (Err StateInUse) h = absurd h
-      by (Err StateUnusable) h = absurd h
-      by (Err Sizes) h = absurd h
-      by (Err Octets) h = absurd h
-      by (Err Address) h = absurd h
+      by (Err other) h = absurd h

@@ -1,22 +1,20 @@
 -- A text in which a record is sought, and the events of its lines.
-use Rattle.std.proofs.Common.{◌≡◌, ℕ, ◌||◌, ◌&&◌, not, Bool, true, false, List, [], ◌∷◌, ◌++◌}
-use Rattle.std.proofs.Common.{Option, Some, None, if◌then◌else◌, refl, ap, sym, subst, ◌∙◌}
-use Rattle.std.proofs.Common.{append_assoc}
-use Rattle.std.proofs.lemmas.List.{append-nil}
+use Rattle.std.proofs.Common.{◌≡◌, ℕ, ◌||◌, Bool, true, false, List, [], ◌∷◌, ◌++◌, Option, Some}
+use Rattle.std.proofs.Common.{None, if◌then◌else◌, refl, ap, sym, subst, ◌∙◌, append_assoc}
 use Rattle.std.proofs.lemmas.List.Folds.{list_any-append}
 use Rattle.std.specs.List.{list_any}
 use Rattle.std.specs.Prelude.{IfSome}
 use Rattle.record.specs.Passing.{IsOneLine}
 use Rattle.record.specs.Lines.{event_line, event_lines, is_action, is_cut, whole_lines}
 use Rattle.record.proofs.LineLemmas.{one_line}
-use Rattle.traces.specs.Blocks.{AreCutOff, IsGiven, Reading}
+use Rattle.traces.specs.Blocks.{IsGiven, Reading}
 use Rattle.traces.specs.Fields.{parts_after}
 use Rattle.traces.specs.Trace.{lines_of}
 use Rattle.traces.proofs.JoinedLemmas.{lines_joined}
 use Rattle.telegate.specs.Parts.{IsRecordFound, IsPartRead}
 use Rattle.telegate.specs.Records.{is_action_line}
 use Rattle.telegate.proofs.PartLemmas.{IsRest, joined, last_part, no_part, record_part, rest_behind}
-use Rattle.telegate.proofs.PartLemmas.{rest_begins, rest_last, rest_more}
+use Rattle.telegate.proofs.PartLemmas.{rest_begins, rest_last, rest_more, cut_as}
 
 -- Whether a text is a record
 
@@ -49,13 +47,6 @@ seeks_begin known coming all = subst (λ (c : Option (List ℕ)). SeeksTo known 
 module _ (known coming : Option (List ℕ)) (h : SeeksTo known coming) (block : Reading)
     (lines : List ℕ) (same : lines ≡ block.lines)
     (cut : IfSome coming (λ text. IsGiven text block)) where
-  cut_as : (over : Bool) → block.is_over ≡ over
-      → IfSome coming (λ text. AreCutOff text lines over block.coming)
-  cut_as over is = subst (λ (o : Bool). IfSome coming (λ text. AreCutOff text lines o block.coming))
-      is
-      (subst (λ (ls : List ℕ). IfSome coming (λ text. AreCutOff text ls block.is_over block.coming))
-      (sym same) cut)
-
   -- those of a block, and of what follows it
   found_with : (t : List ℕ) → have_actions (lines_of (h.before ++ (lines ++ 10 ∷ t)))
       ≡ (have_actions (lines_of lines) || have_actions (lines_of t))
@@ -67,7 +58,8 @@ module _ (known coming : Option (List ℕ)) (h : SeeksTo known coming) (block : 
       → SeeksTo known block.coming
   seeks_on goes none = record {
     before = h.before ++ (lines ++ 10 ∷ []);
-    rest = rest_behind known coming block.coming h.before lines h.rest (cut_as false goes);
+    rest = rest_behind known coming block.coming h.before lines h.rest
+        (cut_as block lines coming same cut false goes);
     none = λ t. ap (λ (xs : List ℕ). have_actions (lines_of xs)) (joined h.before lines t)
         ∙ found_with t ∙ ap (λ (b : Bool). b || have_actions (lines_of t)) none;
   }
@@ -77,7 +69,8 @@ module _ (known coming : Option (List ℕ)) (h : SeeksTo known coming) (block : 
       → IsRecordFound known false
   seeks_last over none = record {
     octets = h.before ++ lines;
-    given = rest_last known coming block.coming h.before lines h.rest (cut_as true over);
+    given = rest_last known coming block.coming h.before lines h.rest
+        (cut_as block lines coming same cut true over);
     is = sym (h.none lines ∙ none);
   }
 
@@ -88,12 +81,13 @@ module _ (known coming : Option (List ℕ)) (h : SeeksTo known coming) (block : 
       by : (over : Bool) → block.is_over ≡ over → IsRecordFound known true
       by true over = record {
         octets = h.before ++ lines;
-        given = rest_last known coming block.coming h.before lines h.rest (cut_as true over);
+        given = rest_last known coming block.coming h.before lines h.rest
+            (cut_as block lines coming same cut true over);
         is = sym (h.none lines ∙ some);
       }
       by false goes =
           let more = rest_more known coming block.coming h.before lines h.rest
-          (cut_as false goes) in
+          (cut_as block lines coming same cut false goes) in
           record {
             octets = h.before ++ (lines ++ 10 ∷ more.0);
             given = more.1;

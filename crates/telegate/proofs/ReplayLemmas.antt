@@ -1,6 +1,5 @@
 -- Runs over a trace: what their ends say of the whole command.
-use Rattle.std.proofs.Common.{◌≡◌, ◌⊎◌, ℕ, Bool, false, List, [], ◌++◌, Option, Some, None, inl}
-use Rattle.std.proofs.Common.{inr, refl}
+use Rattle.std.proofs.Common.{◌≡◌, ◌⊎◌, ℕ, Bool, List, [], ◌++◌, Option, Some, None, inl, inr, refl}
 use Rattle.std.proofs.Common.{subst, ◌∙◌}
 use Rattle.std.proofs.lemmas.List.{append-nil}
 use Rattle.std.specs.Prelude.{Result, Ok, Err}
@@ -18,7 +17,7 @@ use Rattle.gateway.specs.Traffic.{IsFaithful, HasRested}
 use Rattle.settings.specs.Settings.{IsReadOfText}
 use Rattle.traces.specs.Trace.{first_wrong}
 use Rattle.telegate.specs.Answers.{HasRun, Runs, IsEndOf, IsReplay, IsRunOf, IsStopOf, IsReplayed}
-use Rattle.telegate.specs.Answers.{IsWrongTrace, WasJudged}
+use Rattle.telegate.specs.Answers.{WasJudged}
 use Rattle.telegate.specs.Given.{IsConfigFault}
 use Rattle.telegate.specs.Closing.{closing_lines}
 use Rattle.telegate.specs.Manners.{IsTextBy}
@@ -107,18 +106,7 @@ module _ (manner : Manner) (r : Bool) (has : List ℕ → Type 0) (closing : Clo
         printed = h;
       }
       by (Err NoMemory) h = inr (stopped [] (append-nil (events_of log) ∙ events) h)
-      by (Err (Config why)) h = absurd h
-      by (Err (Trace n)) h = absurd h
-      by (Err (Script n)) h = absurd h
-      by (Err (Site why)) h = absurd h
-      by (Err (Record n)) h = absurd h
-      by (Err NoState) h = absurd h
-      by (Err StateInUse) h = absurd h
-      by (Err StateUnusable) h = absurd h
-      by (Err Sizes) h = absurd h
-      by (Err Octets) h = absurd h
-      by (Err Address) h = absurd h
-      by (Err Unread) h = absurd h
+      by (Err other) h = absurd h
 
 -- a run that stopped in the text, or before it
 pub stopped_by : (manner : Manner) (r : Bool) (closing : Closing) (settings : Settings)
@@ -140,18 +128,7 @@ stopped_by manner r closing settings known old new began begins = by
         → IsEndOf settings manner r (Gives known) closing old new (Err fault)
     by NoMemory want stop = either stop
     by Unread want stop = either stop
-    by (Config why) want stop = absurd want
-    by (Trace n) want stop = absurd want
-    by (Script n) want stop = absurd want
-    by (Site why) want stop = absurd want
-    by (Record n) want stop = absurd want
-    by NoState want stop = absurd want
-    by StateInUse want stop = absurd want
-    by StateUnusable want stop = absurd want
-    by Sizes want stop = absurd want
-    by Octets want stop = absurd want
-    by Address want stop = absurd want
-    by Device want stop = absurd want
+    by other want stop = absurd want
 
 -- memory was refused before the run began
 pub unbegun : (manner : Manner) (r : Bool) (closing : Closing) (settings : Settings) (has : List ℕ
@@ -215,17 +192,7 @@ replayed config manner r has more closing settings old new read found judged wid
     by (Err Device) h = has_run (run_of h)
     by (Err NoMemory) h = either h
     by (Err Unread) h = either h
-    by (Err (Config why)) h = absurd h
-    by (Err (Trace n)) h = absurd h
-    by (Err (Script n)) h = absurd h
-    by (Err (Site why)) h = absurd h
-    by (Err (Record n)) h = absurd h
-    by (Err NoState) h = absurd h
-    by (Err StateInUse) h = absurd h
-    by (Err StateUnusable) h = absurd h
-    by (Err Sizes) h = absurd h
-    by (Err Octets) h = absurd h
-    by (Err Address) h = absurd h
+    by (Err other) h = absurd h
 
 -- a fault before anything was run
 pub wanted : (config : List ℕ) (manner : Manner) (has : List ℕ → Type 0) (closing : Closing)
@@ -233,18 +200,7 @@ pub wanted : (config : List ℕ) (manner : Manner) (has : List ℕ → Type 0) (
     → IsWant fault → IsReplayed config manner has closing known known (Err fault)
 wanted config manner has closing known NoMemory want = inl (keeps_same known)
 wanted config manner has closing known Unread want = inl (keeps_same known)
-wanted config manner has closing known (Config why) want = absurd want
-wanted config manner has closing known (Trace n) want = absurd want
-wanted config manner has closing known (Script n) want = absurd want
-wanted config manner has closing known (Site why) want = absurd want
-wanted config manner has closing known (Record n) want = absurd want
-wanted config manner has closing known NoState want = absurd want
-wanted config manner has closing known StateInUse want = absurd want
-wanted config manner has closing known StateUnusable want = absurd want
-wanted config manner has closing known Sizes want = absurd want
-wanted config manner has closing known Octets want = absurd want
-wanted config manner has closing known Address want = absurd want
-wanted config manner has closing known Device want = absurd want
+wanted config manner has closing known other want = absurd want
 
 -- settings are wrong
 pub misconfigured : (config : List ℕ) (manner : Manner) (has : List ℕ → Type 0) (closing : Closing)
@@ -253,18 +209,7 @@ pub misconfigured : (config : List ℕ) (manner : Manner) (has : List ℕ → Ty
     → IsReplayed config manner has closing known known (Err fault)
 misconfigured config manner has closing known (Config why) wrong = (wrong, keeps_same known)
 misconfigured config manner has closing known NoMemory wrong = inl (keeps_same known)
-misconfigured config manner has closing known Unread wrong = absurd wrong
-misconfigured config manner has closing known (Trace n) wrong = absurd wrong
-misconfigured config manner has closing known (Script n) wrong = absurd wrong
-misconfigured config manner has closing known (Site why) wrong = absurd wrong
-misconfigured config manner has closing known (Record n) wrong = absurd wrong
-misconfigured config manner has closing known NoState wrong = absurd wrong
-misconfigured config manner has closing known StateInUse wrong = absurd wrong
-misconfigured config manner has closing known StateUnusable wrong = absurd wrong
-misconfigured config manner has closing known Sizes wrong = absurd wrong
-misconfigured config manner has closing known Octets wrong = absurd wrong
-misconfigured config manner has closing known Address wrong = absurd wrong
-misconfigured config manner has closing known Device wrong = absurd wrong
+misconfigured config manner has closing known other wrong = absurd wrong
 
 -- a trace is wrong
 pub misjudged : (config : List ℕ) (manner : Manner) (r : Bool) (has : List ℕ → Type 0)
@@ -376,15 +321,7 @@ replayed_as config manner has more closing old new result wider = by result
       },
       h.2,
     )
-    by (Err (Script n)) h = absurd h
-    by (Err (Site why)) h = absurd h
-    by (Err (Record n)) h = absurd h
-    by (Err NoState) h = absurd h
-    by (Err StateInUse) h = absurd h
-    by (Err StateUnusable) h = absurd h
-    by (Err Sizes) h = absurd h
-    by (Err Octets) h = absurd h
-    by (Err Address) h = absurd h
+    by (Err other) h = absurd h
 
 pub replayed_held : (config : List ℕ) (manner : Manner) (more : List ℕ → Type 0) (closing : Closing)
     (octets : List ℕ)

@@ -17,10 +17,7 @@ use Rattle.telegate.specs.Answers.{IsSimulationOf}
 use Rattle.telegate.specs.Manners.{style_of}
 use Rattle.telegate.specs.Printed.{IsClosedBy}
 use Rattle.telegate.specs.declared.fault.Fault.{Fault}
-use Rattle.telegate.specs.declared.fault.Fault.TheVariants.{Config, Site, Trace, Script, Record}
-use Rattle.telegate.specs.declared.fault.Fault.TheVariants.{Sizes, Octets, Address, NoState}
-use Rattle.telegate.specs.declared.fault.Fault.TheVariants.{StateInUse, StateUnusable, Device}
-use Rattle.telegate.specs.declared.fault.Fault.TheVariants.{Unread, NoMemory}
+use Rattle.telegate.specs.declared.fault.Fault.TheVariants.{Device, NoMemory}
 use Rattle.telegate.specs.declared.manner.Manner.TheVariants.{Words}
 
 -- what was taken off a page is the text of the whole log, where that was all of it
@@ -87,15 +84,4 @@ module _ (c : Settings) (ds : List Directive) (is_coloured : Bool) (s : Simulate
       }
   words_ended closing words old new (Err NoMemory) run written h =
       words_stopped s.log [] words old new refl written h
-  words_ended closing words old new (Err (Config why)) run written h = absurd h
-  words_ended closing words old new (Err (Trace n)) run written h = absurd h
-  words_ended closing words old new (Err (Script n)) run written h = absurd h
-  words_ended closing words old new (Err (Site why)) run written h = absurd h
-  words_ended closing words old new (Err (Record n)) run written h = absurd h
-  words_ended closing words old new (Err NoState) run written h = absurd h
-  words_ended closing words old new (Err StateInUse) run written h = absurd h
-  words_ended closing words old new (Err StateUnusable) run written h = absurd h
-  words_ended closing words old new (Err Sizes) run written h = absurd h
-  words_ended closing words old new (Err Octets) run written h = absurd h
-  words_ended closing words old new (Err Address) run written h = absurd h
-  words_ended closing words old new (Err Unread) run written h = absurd h
+  words_ended closing words old new (Err other) run written h = absurd h

@@ -8,10 +8,7 @@ use Rattle.sim.specs.Scripts.{IsScriptOf}
 use Rattle.telegate.specs.Answers.{IsSimulationOf, IsSimulatedBy}
 use Rattle.telegate.specs.declared.fault.Fault.{Fault}
 use Rattle.telegate.specs.declared.manner.Manner.{Manner}
-use Rattle.telegate.specs.declared.fault.Fault.TheVariants.{Config, Site, Trace, Script, Record}
-use Rattle.telegate.specs.declared.fault.Fault.TheVariants.{Sizes, Octets, Address, NoState}
-use Rattle.telegate.specs.declared.fault.Fault.TheVariants.{StateInUse, StateUnusable, Device}
-use Rattle.telegate.specs.declared.fault.Fault.TheVariants.{Unread, NoMemory}
+use Rattle.telegate.specs.declared.fault.Fault.TheVariants.{Device, NoMemory}
 
 -- the command, where its files were read
 pub scripted : (manner : Manner) (config text : List ℕ) (c : Settings) (ds : List Directive)
@@ -25,15 +22,4 @@ scripted manner config text c ds old new (Err Device) read said h =
 scripted manner config text c ds old new (Err NoMemory) read said (inl h) = inl h
 scripted manner config text c ds old new (Err NoMemory) read said (inr h) =
     inr (record { settings = c; script = ds; read_config = read; read_script = said; so = h })
-scripted manner config text c ds old new (Err (Config why)) read said h = absurd h
-scripted manner config text c ds old new (Err (Trace n)) read said h = absurd h
-scripted manner config text c ds old new (Err (Script n)) read said h = absurd h
-scripted manner config text c ds old new (Err (Site why)) read said h = absurd h
-scripted manner config text c ds old new (Err (Record n)) read said h = absurd h
-scripted manner config text c ds old new (Err NoState) read said h = absurd h
-scripted manner config text c ds old new (Err StateInUse) read said h = absurd h
-scripted manner config text c ds old new (Err StateUnusable) read said h = absurd h
-scripted manner config text c ds old new (Err Sizes) read said h = absurd h
-scripted manner config text c ds old new (Err Octets) read said h = absurd h
-scripted manner config text c ds old new (Err Address) read said h = absurd h
-scripted manner config text c ds old new (Err Unread) read said h = absurd h
+scripted manner config text c ds old new (Err other) read said h = absurd h

@@ -6,7 +6,8 @@ ghost use Rattle.telegate.specs.Asking.{IsUnanswered, ShowsPage, ShowsStatus};
 
 use crate::fault::Fault;
 use crate::host::{Host, Unread};
-use crate::performing::{print, write_fault};
+use crate::performing::write_fault;
+use pages::print;
 use status::{UNKNOWN, body_of, exit_status};
 use std::io::Write;
 

@@ -1,7 +1,5 @@
 //! Commands done.
-ghost use Rattle.std.specs.Prelude.{◌≡◌, OnErr, OnOk};
-ghost use Rattle.std.specs.Io.KnownBytes.{Appends};
-ghost use Rattle.sim.specs.Runs.{IsBegun};
+ghost use Rattle.std.specs.Prelude.{◌≡◌};
 ghost use Rattle.telegate.specs.Faults.{status_of};
 ghost use Rattle.telegate.specs.Answers.{Performs};
 ghost use Rattle.telegate.specs.Given.{IsGiven};
@@ -11,9 +9,9 @@ use crate::fault::{DONE, Fault};
 use crate::job::Job;
 use crate::showing::{show101, show104};
 use crate::simulating::simulate;
+use pages::print;
 use std::alloc::Global;
-use std::io;
-use std::io::{ErrorKind, Write};
+use std::io::Write;
 
 /// Does a command: its answer goes to `out`, or the line of a fault to `err`. Answers the exit
 /// status: 0 done, 1 a bad frame or a file with wrong content, 3 where the output can't be written
@@ -59,27 +57,6 @@ pub(crate) fn give<W: Write, E: Write>(
         },
         Err(fault) => write_fault(fault, err),
     }
-}
-
-/// Writes a whole text. Where that fails, a beginning of it was written.
-pub(crate) fn print<W: Write>(text: &[u8], out: &mut W) -> io::Result<()>
-    ensures all { OnOk result (Appends (W.contents out.old) (W.contents out.new) text.now) }
-    ensures begun { OnErr result (IsBegun (W.contents out.old) (W.contents out.new) text.now) }
-{
-    let mut done = 0;
-    'writing: for _ in 0..u64::MAX {
-        if done == text.len() {
-            return out.flush();
-        }
-        match out.write(&text[done..]) {
-            Ok(0) => return Err(io::Error::from(ErrorKind::WriteZero)),
-            Ok(n) => done += n,
-            // A signal came first.
-            Err(fault) if fault.kind() == ErrorKind::Interrupted => {}
-            Err(fault) => return Err(fault),
-        }
-    }
-    Err(io::Error::from(ErrorKind::WriteZero))
 }
 
 /// Writes the line of a fault, as far as that can be done, and answers its exit status.

@@ -10,9 +10,10 @@ ghost use Rattle.telegate.specs.Source.{Gives};
 ghost use Rattle.telegate.specs.declared.piping.Piped.{Piped};
 
 use crate::fault::{BAD_CONTENT, DONE, Fault};
-use crate::performing::{print, write_fault};
+use crate::performing::write_fault;
 use crate::replay::{advance, open};
 use crate::source::Source;
+use pages::print;
 use show::{Condition, LineSizes, Shown};
 use std::alloc::{AllocError, Global};
 use std::io;

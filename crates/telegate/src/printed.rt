@@ -3,7 +3,7 @@ ghost use Rattle.std.specs.Prelude.{ℕ, List, Option};
 ghost use Rattle.telegate.specs.Printed.{IsPoured, IsClosedBy};
 
 use crate::fault::Fault;
-use crate::performing::print;
+use pages::print;
 pub(crate) use pages::{blank_if, drive_printed, show_percent};
 use std::io::Write;
 
