@@ -9,7 +9,7 @@ use Rattle.status.specs.TextPage.{Sheet, empty, put}
 use Rattle.status.specs.Table.{table_of}
 use Rattle.status.specs.Words.{joined}
 use Rattle.status.specs.declared.request.Inquiry.{Inquiry}
-use Rattle.status.specs.declared.request.Inquiry.TheVariants.{Nothing, TextPage, Unknown, Forbidden}
+use Rattle.status.specs.declared.request.Inquiry.TheVariants.{Nothing, Page, Unknown, Forbidden}
 use Rattle.status.specs.declared.request.Inquiry.TheVariants.{NoRequest, TooLong}
 use Rattle.status.specs.declared.request.View.{View}
 use Rattle.status.specs.declared.request.View.TheVariants.{Person, Json, Metrics, Table}
@@ -17,7 +17,7 @@ use Rattle.status.specs.declared.snapshot.Snapshot.{Snapshot}
 
 -- the status of an answer (RFC 9110, 15)
 abbrev pub status_of : Inquiry → List ℕ
-status_of (TextPage view has_body) = codes "200 OK"
+status_of (Page view has_body) = codes "200 OK"
 status_of (Unknown has_body) = codes "404 Not Found"
 status_of Forbidden = codes "405 Method Not Allowed"
 status_of TooLong = codes "431 Request Header Fields Too Large"
@@ -32,7 +32,7 @@ kind_of_view Metrics = codes "text/plain; version=0.0.4; charset=utf-8"
 kind_of_view Table = codes "text/plain; charset=utf-8"
 
 abbrev pub kind_of : Inquiry → List ℕ
-kind_of (TextPage view has_body) = kind_of_view view
+kind_of (Page view has_body) = kind_of_view view
 kind_of (Unknown has_body) = codes "text/plain; charset=utf-8"
 kind_of Forbidden = codes "text/plain; charset=utf-8"
 kind_of TooLong = codes "text/plain; charset=utf-8"
@@ -41,7 +41,7 @@ kind_of NoRequest = codes "text/plain; charset=utf-8"
 
 -- the field that names the methods which may be used (RFC 9110, 10.2.1), where others were
 abbrev pub allow_of : Inquiry → List ℕ
-allow_of (TextPage view has_body) = []
+allow_of (Page view has_body) = []
 allow_of (Unknown has_body) = []
 allow_of Forbidden = codes "Allow: GET, HEAD\r\n"
 allow_of TooLong = []
@@ -50,7 +50,7 @@ allow_of NoRequest = []
 
 -- whether the body goes out (RFC 9110, 9.3.2)
 abbrev pub has_body : Inquiry → Bool
-has_body (TextPage view goes_out) = goes_out
+has_body (Page view goes_out) = goes_out
 has_body (Unknown goes_out) = goes_out
 has_body Forbidden = true
 has_body TooLong = true
@@ -65,7 +65,7 @@ page_of Table s = table_of s
 
 -- the page that is asked for, if one is
 abbrev pub view_of : Inquiry → Option View
-view_of (TextPage view goes_out) = Some view
+view_of (Page view goes_out) = Some view
 view_of (Unknown goes_out) = None
 view_of Forbidden = None
 view_of TooLong = None

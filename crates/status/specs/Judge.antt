@@ -8,7 +8,7 @@ use Rattle.status.specs.declared.judging.Judgement.TheVariants as judgement
 use Rattle.status.specs.declared.snapshot.Keeping.{Keeping}
 use Rattle.status.specs.declared.snapshot.Keeping.TheVariants.{Off, Kept, NotKept}
 use Rattle.status.specs.declared.snapshot.LinkState.{LinkState}
-use Rattle.status.specs.declared.snapshot.LinkState.TheVariants.{NotAsked, Inquiry, Up, Silent}
+use Rattle.status.specs.declared.snapshot.LinkState.TheVariants.{NotAsked, Asked, Up, Silent}
 use Rattle.status.specs.declared.snapshot.LinkState.TheVariants.{Down}
 use Rattle.status.specs.declared.snapshot.StationView.{StationView}
 use Rattle.status.specs.declared.snapshot.LineView.{LineView}
@@ -25,7 +25,7 @@ is_full queue = nat_lt (queue.places - queue.taken) 3
 
 abbrev pub does_not_answer : LinkState → Bool
 does_not_answer NotAsked = false
-does_not_answer Inquiry = false
+does_not_answer Asked = false
 does_not_answer Up = false
 does_not_answer Silent = true
 does_not_answer Down = true
@@ -35,7 +35,7 @@ is_silent station = does_not_answer station.standing
 
 abbrev pub stands_up : LinkState → Bool
 stands_up NotAsked = false
-stands_up Inquiry = false
+stands_up Asked = false
 stands_up Up = true
 stands_up Silent = false
 stands_up Down = false

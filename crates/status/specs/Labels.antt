@@ -9,12 +9,12 @@ use Rattle.status.specs.declared.snapshot.StationView.{StationView}
 use Rattle.status.specs.declared.words.Count.{Count}
 use Rattle.status.specs.declared.words.Count.TheVariants as count
 use Rattle.status.specs.declared.snapshot.LinkState.{LinkState}
-use Rattle.status.specs.declared.snapshot.LinkState.TheVariants.{NotAsked, Inquiry, Up, Silent}
+use Rattle.status.specs.declared.snapshot.LinkState.TheVariants.{NotAsked, Asked, Up, Silent}
 use Rattle.status.specs.declared.snapshot.LinkState.TheVariants.{Down}
 
 abbrev pub standing_text : LinkState → List ℕ
 standing_text NotAsked = codes "not asked yet"
-standing_text Inquiry = codes "asked"
+standing_text Asked = codes "asked"
 standing_text Up = codes "up"
 standing_text Silent = codes "silent"
 standing_text Down = codes "down"
@@ -22,7 +22,7 @@ standing_text Down = codes "down"
 -- the same with spaces behind it up to the longest text
 abbrev pub wide_text : LinkState → List ℕ
 wide_text NotAsked = codes "not asked yet"
-wide_text Inquiry = codes "asked        "
+wide_text Asked = codes "asked        "
 wide_text Up = codes "up           "
 wide_text Silent = codes "silent       "
 wide_text Down = codes "down         "

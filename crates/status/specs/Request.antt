@@ -6,7 +6,7 @@ use Rattle.httparse.specs.Spans.{RequestExceeds}
 use Rattle.status.specs.declared.request.View.{View}
 use Rattle.status.specs.declared.request.View.TheVariants.{Person, Json, Metrics, Table}
 use Rattle.status.specs.declared.request.Inquiry.{Inquiry}
-use Rattle.status.specs.declared.request.Inquiry.TheVariants.{Nothing, TextPage, Unknown, Forbidden}
+use Rattle.status.specs.declared.request.Inquiry.TheVariants.{Nothing, Page, Unknown, Forbidden}
 use Rattle.status.specs.declared.request.Inquiry.TheVariants.{NoRequest, TooLong}
 
 -- the path of a target: what stands before its query, which begins with a question mark (63)
@@ -26,7 +26,7 @@ view_of path =
     else if bytes_eq path (codes "/status.txt") then Some Table else None
 
 abbrev pub page_or : Option View → Bool → Inquiry
-page_or (Some view) has_body = TextPage view has_body
+page_or (Some view) has_body = Page view has_body
 page_or None has_body = Unknown has_body
 
 abbrev pub asked_at : List ℕ → (has_body : Bool) → Inquiry
@@ -49,6 +49,6 @@ abbrev pub Asks : List ℕ → Inquiry → Type 0
 Asks octets Nothing = HasNoRequest octets
 Asks octets NoRequest = NeverHasRequest octets
 Asks octets TooLong = RequestExceeds 64 octets
-Asks octets (TextPage view has_body) = IsHeadOf octets (TextPage view has_body)
+Asks octets (Page view has_body) = IsHeadOf octets (Page view has_body)
 Asks octets (Unknown has_body) = IsHeadOf octets (Unknown has_body)
 Asks octets Forbidden = IsHeadOf octets Forbidden

@@ -17,7 +17,7 @@ fn status_of(asked: Inquiry) -> &'static str
     ensures { result.now ≡ spec.status_of asked }
 {
     match asked {
-        Inquiry::TextPage(_, _) => "200 OK",
+        Inquiry::Page(_, _) => "200 OK",
         Inquiry::Unknown(_) => "404 Not Found",
         Inquiry::Forbidden => "405 Method Not Allowed",
         Inquiry::TooLong => "431 Request Header Fields Too Large",
@@ -30,9 +30,9 @@ fn kind_of(asked: Inquiry) -> &'static str
     ensures { result.now ≡ spec.kind_of asked }
 {
     match asked {
-        Inquiry::TextPage(View::Person, _) => "text/html; charset=utf-8",
-        Inquiry::TextPage(View::Json, _) => "application/json",
-        Inquiry::TextPage(View::Metrics, _) => "text/plain; version=0.0.4; charset=utf-8",
+        Inquiry::Page(View::Person, _) => "text/html; charset=utf-8",
+        Inquiry::Page(View::Json, _) => "application/json",
+        Inquiry::Page(View::Metrics, _) => "text/plain; version=0.0.4; charset=utf-8",
         _ => "text/plain; charset=utf-8",
     }
 }
@@ -52,7 +52,7 @@ fn has_body(asked: Inquiry) -> bool
     ensures { result ≡ spec.has_body asked }
 {
     match asked {
-        Inquiry::TextPage(_, has_body) | Inquiry::Unknown(has_body) => has_body,
+        Inquiry::Page(_, has_body) | Inquiry::Unknown(has_body) => has_body,
         _ => true,
     }
 }
@@ -74,7 +74,7 @@ fn view_of(asked: Inquiry) -> Option<View>
     ensures { result ≡ spec.view_of asked }
 {
     match asked {
-        Inquiry::TextPage(view, _) => Some(view),
+        Inquiry::Page(view, _) => Some(view),
         _ => None,
     }
 }

@@ -11,7 +11,7 @@ pub(crate) fn standing_text(standing: LinkState) -> &'static str
 {
     match standing {
         LinkState::NotAsked => "not asked yet",
-        LinkState::Inquiry => "asked",
+        LinkState::Asked => "asked",
         LinkState::Up => "up",
         LinkState::Silent => "silent",
         LinkState::Down => "down",
@@ -24,7 +24,7 @@ pub(crate) fn wide_text(standing: LinkState) -> &'static str
 {
     match standing {
         LinkState::NotAsked => "not asked yet",
-        LinkState::Inquiry => "asked        ",
+        LinkState::Asked => "asked        ",
         LinkState::Up => "up           ",
         LinkState::Silent => "silent       ",
         LinkState::Down => "down         ",

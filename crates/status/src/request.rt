@@ -28,7 +28,7 @@ pub(crate) enum Inquiry {
     /// The request hasn't come whole.
     Nothing,
     /// A page, with its body or without (RFC 9110, 9.3.1 and 9.3.2).
-    TextPage(View, bool),
+    Page(View, bool),
     /// A page that isn't there.
     Unknown(bool),
     /// Something else than to be shown a page.
@@ -79,7 +79,7 @@ fn asked_at(target: &[u8], has_body: bool) -> Inquiry
     ensures { result ≡ spec.asked_at target.now has_body }
 {
     match view_of(path_of(target)) {
-        Some(view) => Inquiry::TextPage(view, has_body),
+        Some(view) => Inquiry::Page(view, has_body),
         None => Inquiry::Unknown(has_body),
     }
 }

@@ -7,7 +7,7 @@ pub enum LinkState {
     #[default]
     NotAsked,
     /// It was asked for the status of its link, and hasn't answered yet.
-    Inquiry,
+    Asked,
     Up,
     /// The same request went out more often than a station that is there needs, without an answer.
     Silent,

@@ -1,7 +1,7 @@
 use Rattle.std.proofs.Common.{ap}
 use Rattle.traces.specs.Printout.{Printed}
 use Rattle.sim.proofs.Keeping.{log_kept}
-use Rattle.sim.proofs.sim.Sim.with_news.Goals as goal
+use Rattle.sim.proofs.sim.Sim.put_gap.Goals as goal
 
 pub invariant_of-self-2 : goal.invariant_of-self-2
 invariant_of-self-2 c = (
