@@ -8,11 +8,14 @@ use Rattle.link.specs.declared.settings.LinkSettings.{LinkSettings}
 use Rattle.link.specs.Requests.{FitsAddress}
 use Rattle.link.specs.Primary.{Primary, start}
 use Rattle.link.specs.Runs.{Call, called, MayCallAll, called_all, exchanged_all}
-use Rattle.link.specs.Visits.{AreInVisits, most_of_visit}
+use Rattle.link.specs.Visits.{AreInVisits, most_of_visit, whole_visit}
 use Rattle.link.specs.Waits.{AlwaysWants, stations_asked, waited}
 use Rattle.link.specs.Precedence.{CommandsGoFirst}
 use Rattle.link.specs.Bursts.{BurstsGoOn, Other}
-use Rattle.link.specs.AtOnce.{RepeatsComeAtOnce, PollsFollowCommands}
+use Rattle.link.specs.AtOnce.{RepeatsComeAtOnce, PollsFollowCommands, TurnsGoOn}
+use Rattle.link.specs.OneVisit.{TurnsAreVisits}
+use Rattle.link.specs.Timing.{AnswersHaveTheirTime}
+use Rattle.link.specs.declared.procedure.Link.TheVariants.{Down}
 use Rattle.gateway.specs.declared.settings.StationSettings.{StationSettings}
 use Rattle.gateway.specs.Config.{Settings, AreStations}
 use Rattle.gateway.specs.Setups.{setup_of}
@@ -54,6 +57,15 @@ pub record TurnLaws : Type 0 where
       → RepeatsComeAtOnce (start settings addresses) None calls
   pub polls : (settings : LinkSettings) (addresses : List ℕ) (calls : List Call)
       → PollsFollowCommands (start settings addresses) None calls
+  pub held : (settings : LinkSettings) (addresses : List ℕ) (calls : List Call)
+      → TurnsGoOn (start settings addresses) None calls
+  pub each : (settings : LinkSettings) (addresses : List ℕ) (calls : List Call)
+      → 0 < length addresses → All (FitsAddress settings.size) addresses → 0 < settings.burst
+      → MayCallAll (start settings addresses) calls
+      → TurnsAreVisits (start settings addresses)
+      (record { station = 0; left = whole_visit settings Down }) calls
+  pub times : (settings : LinkSettings) (addresses : List ℕ) (calls : List Call)
+      → AnswersHaveTheirTime (start settings addresses) None calls
 
 -- each of two parts of the calls may be made
 split : (p : Primary) (first later : List Call) → MayCallAll p (first ++ later)
@@ -90,4 +102,7 @@ turns t laws c s log rules burst a =
       bursts = t.bursts p.link p.addresses m.calls;
       repeats = t.repeats p.link p.addresses m.calls;
       polls = t.polls p.link p.addresses m.calls;
+      held = t.held p.link p.addresses m.calls;
+      each = t.each p.link p.addresses m.calls some fit more m.leads.may;
+      times = t.times p.link p.addresses m.calls;
     }

@@ -14,14 +14,16 @@ use apci::{one_front, spellings_cancel};
 use asdu::{objects_are_those_of_the_asdu, one_asdu_one_spelling};
 use command::{commands_are_forwarded, waiting_commands_stay};
 use link::{
-    class_1_polls_go_on, commands_go_before_polls, giving_up_is_for_one_station,
-    giving_up_is_logged, line_keeps_the_procedures, no_station_starves, polls_follow_commands,
-    repeats_come_at_once, turns_end,
+    a_turn_is_one_visit, answers_have_their_time, class_1_polls_go_on, commands_go_before_polls,
+    giving_up_is_for_one_station, giving_up_is_logged, line_keeps_the_procedures,
+    no_station_starves, polls_follow_commands, repeats_come_at_once, turns_end,
+    turns_go_on_behind_held_services,
 };
 
 /// On each log that a gateway follows turns end, no station starves, commands go before polls,
-/// class 1 goes on while ACD is set, and repeats and the poll behind a command come at once, as the
-/// laws of the link have it over lists of calls. The list is the one that the log shows
+/// class 1 goes on while ACD is set, and repeats and the poll behind a command come at once, each
+/// turn is one visit, and each request is awaited for `answer_ms`, as the laws of the link have it
+/// over lists of calls. The list is the one that the log shows
 /// (`CallsOf`): in each step what waits is offered and a request is asked for, at the step's
 /// moment, with leave to poll exactly where the queue has room. The log's exchanges are those of
 /// these calls. At a restart the calls give up the link to each station with a command without an
@@ -40,6 +42,9 @@ pub fn logs_keep_turns()
     class_1_polls_go_on();
     repeats_come_at_once();
     polls_follow_commands();
+    turns_go_on_behind_held_services();
+    a_turn_is_one_visit();
+    answers_have_their_time();
     line_keeps_the_procedures();
     giving_up_is_logged();
     giving_up_is_for_one_station();

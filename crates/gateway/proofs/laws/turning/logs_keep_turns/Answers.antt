@@ -10,6 +10,9 @@ returns c = λ settings s log rules burst follows.
       bursts = c.class_1_polls_go_on.ensures;
       repeats = c.repeats_come_at_once.ensures;
       polls = c.polls_follow_commands.ensures;
+      held = c.turns_go_on_behind_held_services.ensures;
+      each = c.a_turn_is_one_visit.ensures;
+      times = c.answers_have_their_time.ensures;
     }) (record {
       line = c.line_keeps_the_procedures.ensures;
       gives_up = record {
