@@ -20,7 +20,8 @@
 //! the log, and nothing else; how severe each line is ([`Note::severity`]); the words of each line,
 //! and the name behind them ([`NamedLine`]). Of all this there are literal examples
 //! ([`stations_by_example`], [`standings_by_example`], [`commands_by_example`],
-//! [`moments_by_example`], [`late_answers_by_example`], [`log_lines_by_example`]). That a line's
+//! [`moments_by_example`], [`connections_by_example`], [`failures_and_walls_by_example`],
+//! [`severities_by_example`], [`late_answers_by_example`], [`log_lines_by_example`]). That a line's
 //! UTC time is right, and what standard error does with it, is no matter of a proof.
 #![tactic(auto)]
 
@@ -49,7 +50,8 @@ mod watch;
 pub use content::Skip;
 pub use ends::OpenConnection;
 pub use examples::{
-    commands_by_example, late_answers_by_example, log_lines_by_example, moments_by_example,
+    commands_by_example, connections_by_example, failures_and_walls_by_example,
+    late_answers_by_example, log_lines_by_example, moments_by_example, severities_by_example,
     standings_by_example, stations_by_example,
 };
 pub use fate::{CommandFate, Reason};
