@@ -6,5 +6,6 @@ pub mod Wires
 pub mod Clocks
 pub mod Recorded
 pub mod Entries
+pub mod Examples
 pub mod Captures
 pub mod Texts

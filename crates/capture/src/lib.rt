@@ -32,6 +32,7 @@ mod capturing;
 mod clock;
 mod connection;
 mod entry;
+mod examples;
 mod laws;
 mod octets;
 mod passing;
@@ -41,6 +42,7 @@ mod whole;
 mod wire;
 
 pub use capturing::Capture;
+pub use examples::comments_by_example;
 pub use laws::{
     captures_carry_the_octets, lines_are_captured, packets_stand_at_their_times,
     segments_carry_the_octets, segments_run_on,

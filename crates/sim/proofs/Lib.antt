@@ -18,6 +18,7 @@ pub mod Addressed
 pub mod Awaited
 pub mod Honest
 pub mod Few
+pub mod Firsts
 pub mod Serviceable
 pub mod Served
 pub mod Closing

@@ -16,3 +16,4 @@ pub mod Runs
 pub mod Simulations
 pub mod Examples
 pub mod Fates
+pub mod Firsts

@@ -1,16 +1,18 @@
 //! What holds of every run over a simulated line.
-ghost use Rattle.std.specs.Prelude.{◌≡◌, ◌<◌, ◌^◌, ◌++◌, ◌∷◌, ℕ, suc, true, false, List, length};
+ghost use Rattle.std.specs.Prelude.{◌≡◌, ◌<◌, ◌≤◌, ◌-◌, ◌^◌, ◌++◌, ◌∷◌, ℕ, suc, true, false, List};
+ghost use Rattle.std.specs.Prelude.{length};
 ghost use Rattle.std.specs.Prelude.{Contains, Option, Some, None, codes};
 ghost use Rattle.ft12.specs.declared.frame.Frame.{Frame};
 ghost use Rattle.ft12.specs.declared.frame.LinkSize.{LinkSize};
 ghost use Rattle.link.specs.Secondary.{Secondary};
 ghost use Rattle.gateway.specs.Course.{here_of};
 ghost use Rattle.gateway.specs.Config.{Settings, AreDistinct};
-ghost use Rattle.gateway.specs.Log.{Log, Went, LineOut};
+ghost use Rattle.gateway.specs.Log.{Log, Went, LineIn, Opened, TcpIn, CutOff, Ticked, WallIs, LineOut};
 ghost use Rattle.gateway.specs.Reports.{Setup};
 ghost use Rattle.gateway.specs.Setups.{setup_of};
 ghost use Rattle.gateway.specs.Traffic.{IsFaithful};
 ghost use Rattle.delivery.specs.Delivery.{Delivers};
+ghost use Rattle.sim.specs.declared.centre.Centre.{Centre};
 ghost use Rattle.sim.specs.declared.directive.Directive.{Directive};
 ghost use Rattle.sim.specs.declared.directive.Directive.TheVariants.{LoseRequest, LoseAnswer};
 ghost use Rattle.sim.specs.declared.directive.Directive.TheVariants.{SpoilAnswer, Cut, Send};
@@ -18,9 +20,12 @@ ghost use Rattle.sim.specs.declared.tally.StationTally.{StationTally};
 ghost use Rattle.sim.specs.Tallies.{tallies_of};
 ghost use Rattle.sim.specs.Connections.{counted_in};
 ghost use Rattle.sim.specs.Directives.{number_of, directive_in};
+ghost use Rattle.sim.specs.Calls.{event_at};
+ghost use Rattle.sim.specs.Centres.{start_apdu, acknowledging_apdu, data_apdu};
 ghost use Rattle.sim.specs.Fates.{IsFate, IsByItsLines};
+ghost use Rattle.sim.specs.Firsts.{StaysOpen, Runs, IsQuiet};
 ghost use Rattle.sim.specs.Lives.{Plan, AreLived, plan_of, requests_in, waiting_in};
-ghost use Rattle.sim.specs.Losses.{fate_of, is_cut_at, sent_at};
+ghost use Rattle.sim.specs.Losses.{fate_of, ack_of, wall_at, is_cut_at, sent_at};
 ghost use Rattle.sim.specs.Played.{IsPlayed};
 ghost use Rattle.sim.specs.Outstations.{HaveServed};
 ghost use Rattle.sim.specs.Texts.{connection_lines};
@@ -107,4 +112,33 @@ pub fn each_request_fares_by_its_lines()
         (before : List Secondary) × AreLived plan log answers before
         × IsByItsLines plan (suc (length answers)) octets before answer stations
         (waiting_in plan (Went now (LineOut octets) ∷ log) (answer ∷ answers)) }
+{}
+
+/// Each call gives the wall clock if the script has it there, else the first of seven events that
+/// applies, whatever the script and the call: so a cut comes before what is sent at the same call,
+/// and before any answer.
+pub fn calls_give_the_first_that_applies()
+    ensures wall { (ds : List Directive) (call number : ℕ) (c : Centre)
+        (waiting : Option (List ℕ)) → wall_at ds call ≡ Some number →
+        event_at ds call c waiting ≡ WallIs number }
+    ensures cut { (ds : List Directive) (call : ℕ) (c : Centre) (waiting : Option (List ℕ)) →
+        wall_at ds call ≡ None → c.is_open ≡ true → is_cut_at ds call ≡ true →
+        event_at ds call c waiting ≡ CutOff }
+    ensures opening { (ds : List Directive) (call : ℕ) (c : Centre)
+        (waiting : Option (List ℕ)) → wall_at ds call ≡ None → c.is_open ≡ false →
+        event_at ds call c waiting ≡ Opened }
+    ensures start { (ds : List Directive) (call : ℕ) (c : Centre) (waiting : Option (List ℕ)) →
+        StaysOpen ds call c → c.is_started ≡ false →
+        event_at ds call c waiting ≡ TcpIn start_apdu }
+    ensures sending { (ds : List Directive) (call : ℕ) (c : Centre)
+        (waiting : Option (List ℕ)) (asdu : List ℕ) → Runs ds call c →
+        sent_at ds call ≡ Some asdu → event_at ds call c waiting ≡ TcpIn (data_apdu c asdu) }
+    ensures acknowledgement { (ds : List Directive) (call : ℕ) (c : Centre)
+        (waiting : Option (List ℕ)) → Runs ds call c → sent_at ds call ≡ None →
+        ack_of ds ≤ c.received - c.acknowledged →
+        event_at ds call c waiting ≡ TcpIn (acknowledging_apdu c) }
+    ensures answer { (ds : List Directive) (call : ℕ) (c : Centre) (piece : List ℕ) →
+        IsQuiet ds call c → event_at ds call c (Some piece) ≡ LineIn piece }
+    ensures tick { (ds : List Directive) (call : ℕ) (c : Centre) → IsQuiet ds call c →
+        event_at ds call c None ≡ Ticked }
 {}

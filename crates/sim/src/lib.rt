@@ -69,8 +69,8 @@ pub use examples::{
 };
 pub use fault::SimFault;
 pub use laws::{
-    connections_are_counted, each_line_is_about_its_number, each_request_fares_by_its_lines,
-    stations_are_honest,
+    calls_give_the_first_that_applies, connections_are_counted, each_line_is_about_its_number,
+    each_request_fares_by_its_lines, stations_are_honest,
 };
 pub use line::read_line;
 pub use reading::read_script;
