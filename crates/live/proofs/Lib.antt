@@ -13,7 +13,7 @@ pub mod Allowed
 pub mod Octets
 pub mod Walls
 pub mod Ticks
-pub mod Timed
+pub mod WaitsTimed
 pub mod InTurn
 pub mod Logs
 pub mod Fixed

@@ -1,4 +1,4 @@
-use Rattle.live.proofs.Timed.{dropped, others, timed}
+use Rattle.live.proofs.WaitsTimed.{dropped, others, timed}
 use Rattle.live.proofs.laws.a_request_is_written_and_timed_behind_what_waits.Goals as goal
 
 pub returns-clause-dropped : goal.returns-clause-dropped

@@ -1,4 +1,4 @@
-use Rattle.live.proofs.Timed.{given, kept, shown}
+use Rattle.live.proofs.WaitsTimed.{given, kept, shown}
 use Rattle.live.proofs.laws.the_wall_clock_is_that_of_its_moment.Goals as goal
 
 pub returns-clause-shown : goal.returns-clause-shown
