@@ -106,7 +106,8 @@ pub fn calls_come_to_an_end()
         IsConfirmed s → IsConfirmed (sent kind now s) }
     ensures confirmed_pull { (now : ℕ) (s : Session) → IsConfirmed s →
         IsConfirmed (after_pull now s) }
-    ensures in_time_sent { (kind : FrameOrigin) (now : ℕ) (s : Session) → 0 < s.t1 → IsInTime now s →
+    ensures in_time_sent { (kind : FrameOrigin) (now : ℕ) (s : Session) → 0 < s.t1 →
+        IsInTime now s →
         IsInTime now (sent kind now s) }
     ensures in_time_confirm { (now : ℕ) (s : Session) → IsInTime now s →
         IsInTime now (after_confirm s) }
@@ -121,7 +122,8 @@ pub fn calls_come_to_an_end()
 pub fn frames_stay_in_order()
     ensures later { (frames : List Unacknowledged) (before now : ℕ) → before ≤ now →
         AreInOrder 0 frames before → AreInOrder 0 frames now }
-    ensures sent { (kind : FrameOrigin) (now : ℕ) (s : Session) → AreInOrder 0 s.unacknowledged now →
+    ensures sent { (kind : FrameOrigin) (now : ℕ) (s : Session) →
+        AreInOrder 0 s.unacknowledged now →
         AreInOrder 0 (sent kind now s).unacknowledged now }
     ensures taken { (frame : Apdu) (now : ℕ) (s : Session) → AreInOrder 0 s.unacknowledged now →
         AreInOrder 0 (taken frame now s).unacknowledged now }
