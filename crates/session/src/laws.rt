@@ -141,8 +141,8 @@ pub fn origins_are_counted_apart()
 
 /// Whatever t1, t2, t3 and w are set to: t1 has run out from the moment on at which the oldest
 /// unacknowledged frame, or the test, is so old, and not before. An S frame is due from the moment
-/// on at which the oldest received frame is t2 old, or w have come, and not before; and a test if no
-/// frame has come for t3 (5.2, 5.5).
+/// on at which the oldest received frame is t2 old, or w have come, and not before; and a test if
+/// no frame has come for t3 (5.2, 5.5).
 pub fn timers_run_as_set()
     ensures frame { (t1 now : ℕ) (h : History) (oldest : Unacknowledged)
         (others : List Unacknowledged) → still_unacknowledged h ≡ oldest ∷ others →
