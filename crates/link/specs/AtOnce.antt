@@ -6,28 +6,29 @@ use Rattle.link.specs.Answers.{Service, Class1, Class2, Command, Counted}
 use Rattle.link.specs.Bursts.{is_answered}
 use Rattle.link.specs.Exchanges.{Sending}
 use Rattle.link.specs.Procedure.{is_held, has_repeats}
-use Rattle.link.specs.Turns.{StationState, station_at}
+use Rattle.link.specs.Turns.{StationState, CommandsWaiting, station_at}
 use Rattle.link.specs.Primary.{Outstanding, Primary, sending, is_command}
 use Rattle.link.specs.Runs.{Call, Next, called}
 
 -- Nothing goes out while a request is outstanding.
-abbrev pub latest_by : Primary → Option Outstanding → (may_poll : Bool) → Option Sending →
-    Option Sending
-latest_by p (Some o) may_poll latest = latest
-latest_by p None may_poll latest = sending p may_poll
+abbrev pub latest_by : Primary → Option Outstanding → (may_poll : Bool) → CommandsWaiting →
+    Option Sending → Option Sending
+latest_by p (Some o) may_poll waiting latest = latest
+latest_by p None may_poll waiting latest = sending p may_poll waiting
 
 -- the latest request, or none where nothing went out when it might have
 abbrev pub latest_after : Primary → Call → Option Sending → Option Sending
-latest_after p (Next now may_poll) latest = latest_by p p.outstanding may_poll latest
+latest_after p (Next now may_poll waiting) latest =
+    latest_by p p.outstanding may_poll waiting latest
 latest_after p call latest = latest
 
 -- Where the latest request is a service that had no answer in time, and repeats are left, the next
 -- request is that one again: the same service to the same station, with the same frame count bit.
 abbrev pub RepeatIsNext : Primary → Option Sending → Call → Type 0
-RepeatIsNext p (Some latest) (Next now may_poll) =
+RepeatIsNext p (Some latest) (Next now may_poll waiting) =
     p.outstanding ≡ None →
     has_repeats p.settings (station_at p.stations latest.station).link ≡ true →
-    sending p may_poll ≡ Some latest
+    sending p may_poll waiting ≡ Some latest
 RepeatIsNext p latest call = Unit {0}
 
 -- at each of these calls
@@ -42,12 +43,12 @@ abbrev pub poll_by : (acd : Bool) → Service
 poll_by acd = if acd then Class1 else Class2
 
 -- The poll that ACD asks for goes out to the station, or the command that waits for it.
-abbrev pub TurnGoesOn : Primary → (station : ℕ) → StationState → Type 0
-TurnGoesOn p station s =
-    (fcb : Bool) × ((sending p true ≡ Some (record {
+abbrev pub TurnGoesOn : Primary → CommandsWaiting → (station : ℕ) → StationState → Type 0
+TurnGoesOn p waiting station s =
+    (fcb : Bool) × ((sending p true waiting ≡ Some (record {
       station = station;
       request = Counted fcb (poll_by s.acd);
-    })) ⊎ ((asdu : List ℕ) × (s.offered ≡ Some asdu) × (sending p true ≡ Some (record {
+    })) ⊎ ((asdu : List ℕ) × (waiting station ≡ Some asdu) × (sending p true waiting ≡ Some (record {
       station = station;
       request = Counted fcb (Command asdu);
     }))))
@@ -55,10 +56,10 @@ TurnGoesOn p station s =
 -- Where the latest request is a command that was answered, and the link is up, the next request
 -- goes to the same station, if there is leave.
 abbrev pub PollIsNext : Primary → Option Sending → Call → Type 0
-PollIsNext p (Some latest) (Next now true) =
+PollIsNext p (Some latest) (Next now true waiting) =
     p.outstanding ≡ None → is_command latest.request ≡ true →
     is_answered (station_at p.stations latest.station).link ≡ true →
-    TurnGoesOn p latest.station (station_at p.stations latest.station)
+    TurnGoesOn p waiting latest.station (station_at p.stations latest.station)
 PollIsNext p latest call = Unit {0}
 
 -- at each of these calls
@@ -80,20 +81,22 @@ began_by p None = None
 began_by p (Some s) = if is_spent p s.station then Some s.station else None
 
 -- Nothing goes out while a request is outstanding.
-abbrev pub began_out : Primary → Option Outstanding → (may_poll : Bool) → Option ℕ → Option ℕ
-began_out p (Some o) may_poll began = began
-began_out p None may_poll began = began_by p (sending p may_poll)
+abbrev pub began_out : Primary → Option Outstanding → (may_poll : Bool) → CommandsWaiting →
+    Option ℕ → Option ℕ
+began_out p (Some o) may_poll waiting began = began
+began_out p None may_poll waiting began = began_by p (sending p may_poll waiting)
 
 abbrev pub began_after : Primary → Call → Option ℕ → Option ℕ
-began_after p (Next now may_poll) began = began_out p p.outstanding may_poll began
+began_after p (Next now may_poll waiting) began =
+    began_out p p.outstanding may_poll waiting began
 began_after p call began = began
 
 -- Where the latest request is a held service with which a turn began, and it was answered, and the
 -- link is up, the next request goes to the same station, if there is leave.
 abbrev pub TurnIsNext : Primary → Option ℕ → Call → Type 0
-TurnIsNext p (Some station) (Next now true) =
+TurnIsNext p (Some station) (Next now true waiting) =
     p.outstanding ≡ None → is_answered (station_at p.stations station).link ≡ true →
-    TurnGoesOn p station (station_at p.stations station)
+    TurnGoesOn p waiting station (station_at p.stations station)
 TurnIsNext p began call = Unit {0}
 
 -- at each of these calls

@@ -6,7 +6,7 @@ use Rattle.link.specs.Answers.{Class1, Class2, Asked, Counted}
 use Rattle.link.specs.Exchanges.{Sending}
 use Rattle.link.specs.Procedure.{Link, is_held}
 use Rattle.link.specs.Procedure as procedure
-use Rattle.link.specs.Turns.{station_at}
+use Rattle.link.specs.Turns.{CommandsWaiting, station_at}
 use Rattle.link.specs.Primary.{Outstanding, Primary, sending}
 use Rattle.link.specs.Runs.{Call, Next, called}
 
@@ -36,12 +36,13 @@ row_by p (Some s) row =
     row_by_request (is_held (station_at p.stations s.station).link) s.station s.request row
 
 -- Nothing goes out while a request is outstanding.
-abbrev pub row_out : Primary → Option Outstanding → (may_poll : Bool) → Row → Row
-row_out p (Some o) may_poll row = row
-row_out p None may_poll row = row_by p (sending p may_poll) row
+abbrev pub row_out : Primary → Option Outstanding → (may_poll : Bool) → CommandsWaiting → Row → Row
+row_out p (Some o) may_poll waiting row = row
+row_out p None may_poll waiting row = row_by p (sending p may_poll waiting) row
 
 abbrev pub row_after : Primary → Call → Row → Row
-row_after p (Next now may_poll) row = row_out p p.outstanding may_poll row
+row_after p (Next now may_poll waiting) row =
+    row_out p p.outstanding may_poll waiting row
 row_after p call row = row
 
 -- The link is up, and its latest service is answered.
@@ -52,10 +53,10 @@ is_answered link = false
 -- Where the latest poll of a station was answered with ACD set, and fewer than `burst` of class 1
 -- went out in a row, the next request is one more, if there is leave.
 abbrev pub PollsGoOn : Primary → Row → Call → Type 0
-PollsGoOn p (Polls station many) (Next now true) =
+PollsGoOn p (Polls station many) (Next now true waiting) =
     p.outstanding ≡ None → is_answered (station_at p.stations station).link ≡ true →
     (station_at p.stations station).acd ≡ true → many < p.settings.burst →
-    (fcb : Bool) × (sending p true ≡ Some (record {
+    (fcb : Bool) × (sending p true waiting ≡ Some (record {
       station = station;
       request = Counted fcb Class1;
     }))

@@ -26,7 +26,6 @@ station_given_up s = record {
   link = Down;
   acd = s.acd;
   dfc = s.dfc;
-  offered = s.offered;
   session = s.session;
 }
 
@@ -87,7 +86,6 @@ station_left settings s request = record {
   link = after_silence settings request false s.link;
   acd = s.acd;
   dfc = s.dfc;
-  offered = s.offered;
   session = s.session;
 }
 
@@ -111,7 +109,6 @@ with_gap_mark s = record {
   link = s.link;
   acd = s.acd;
   dfc = s.dfc;
-  offered = s.offered;
   session = record { number = s.session.number; has_gap = true };
 }
 
@@ -133,7 +130,6 @@ station_carried retries address s = record {
   link = link_carried retries s.link;
   acd = s.acd;
   dfc = s.dfc;
-  offered = None;
   session = s.session;
 }
 

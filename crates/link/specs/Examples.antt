@@ -14,14 +14,13 @@ octet = 7 ∷ []
 abbrev pub other_octet : List ℕ
 other_octet = 9 ∷ []
 
-abbrev pub in_state : Link → (acd dfc : Bool) → (offered : Option (List ℕ)) → StationState
-in_state link acd dfc offered =
+abbrev pub in_state : Link → (acd dfc : Bool) → StationState
+in_state link acd dfc =
     record {
       address = 1;
       link = link;
       acd = acd;
       dfc = dfc;
-      offered = offered;
       session = no_session;
     }
 

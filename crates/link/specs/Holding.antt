@@ -6,7 +6,7 @@ use Rattle.ft12.specs.declared.frame.Frame.{Frame}
 use Rattle.ft12.specs.declared.frame.Front.{Front}
 use Rattle.link.specs.Exchanges.{whole_of}
 use Rattle.link.specs.Procedure.{Link, Held}
-use Rattle.link.specs.Requests.{IsUserData, FitsAddress, FitsService, FitsAsked}
+use Rattle.link.specs.Requests.{FitsAddress, FitsService, FitsAsked}
 use Rattle.link.specs.Turns.{StationState, Chosen, station_at}
 use Rattle.link.specs.Primary.{Outstanding, Primary, open_octets, with_octets}
 pub use Rattle.link.specs.declared.awaited.Awaited.{Awaited}
@@ -97,15 +97,10 @@ abbrev pub FitsLink : LinkSize → Link → Type 0
 FitsLink size (Held fcb service missed) = FitsService size service
 FitsLink size link = Unit {0}
 
-abbrev pub FitsOffer : LinkSize → Option (List ℕ) → Type 0
-FitsOffer size None = Unit {0}
-FitsOffer size (Some asdu) = IsUserData size asdu
-
--- The station's address and the commands to it fit the line.
+-- The station's address and the command that it holds fit the line.
 pub record FitsStation (size : LinkSize) (s : StationState) : Type 0 where
   pub address : FitsAddress size s.address
   pub link : FitsLink size s.link
-  pub offered : FitsOffer size s.offered
 
 abbrev pub FitsOutstanding : LinkSize → Option Outstanding → Type 0
 FitsOutstanding size None = Unit {0}

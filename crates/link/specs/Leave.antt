@@ -1,6 +1,6 @@
 -- Polls wait for leave (this gateway's own profile): a poll is begun only where the caller has room
 -- for its report. One that is begun is sent again without leave.
-use Rattle.std.specs.Prelude.{◌≡◌, ◌⊎◌, ◌&&◌, Bool, true, false, Option, Some, None}
+use Rattle.std.specs.Prelude.{◌≡◌, ◌⊎◌, ◌&&◌, ℕ, Bool, true, false, List, Option, Some, None}
 use Rattle.link.specs.Answers.{Asked, Status, Reset, Counted}
 use Rattle.link.specs.Procedure.{Link, Next, Held}
 use Rattle.link.specs.Turns.{StationState, station_at, is_poll}
@@ -30,8 +30,8 @@ abbrev pub is_report : Outcome → Bool
 is_report (outcome.Report station asdu) = true
 is_report other = false
 
--- Nothing is left to be asked of the station but data.
-abbrev pub IsLeftToPolls : StationState → Link → Type 0
-IsLeftToPolls s (Next fcb) = (s.offered ≡ None) ⊎ (s.dfc ≡ true)
-IsLeftToPolls s (Held fcb service missed) = is_poll service ≡ true
-IsLeftToPolls s link = ⊥
+-- Nothing is left to be asked of the station but data, where this command waits for it.
+abbrev pub IsLeftToPolls : StationState → Option (List ℕ) → Link → Type 0
+IsLeftToPolls s command (Next fcb) = (command ≡ None) ⊎ (s.dfc ≡ true)
+IsLeftToPolls s command (Held fcb service missed) = is_poll service ≡ true
+IsLeftToPolls s command link = ⊥

@@ -17,7 +17,7 @@ pub mod Life
 pub mod Runs
 pub mod Saved
 pub mod Leave
-pub mod Offers
+pub mod UnderWay
 pub mod Visits
 pub mod Waits
 pub mod Tidings

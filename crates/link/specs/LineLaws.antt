@@ -1,6 +1,6 @@
 -- What holds of a primary station and of the exchanges of its line, call by call: all that the
 -- crates above go by, in one record.
-use Rattle.std.specs.Prelude.{◌≡◌, ℕ, ◌<◌, ◌++◌, ◌&&◌, ◌==◌, Bool, true, false, if◌then◌else◌, List}
+use Rattle.std.specs.Prelude.{◌≡◌, ℕ, ◌<◌, ◌++◌, Bool, true, false, List}
 use Rattle.std.specs.Prelude.{All, length, slice_index, Option, Some, None}
 use Rattle.ft12.specs.declared.frame.Front.{Front}
 use Rattle.ft12.specs.declared.frame.LinkSize.{LinkSize}
@@ -14,14 +14,13 @@ use Rattle.link.specs.Exchanges.{view, reports_of_exchanges}
 use Rattle.link.specs.Gaps.{gap_at, gaps_at}
 use Rattle.link.specs.Holding.{IsFitting}
 use Rattle.link.specs.Leave.{IsLeftToPolls}
-use Rattle.link.specs.Offers.{offered_at}
 use Rattle.link.specs.Primary.{Primary, start as new_primary, asked, sending, request_of}
 use Rattle.link.specs.Primary.{outcome_of, with_gap, received, received_outcome, timed_out}
-use Rattle.link.specs.Primary.{is_command, may_offer, offered_to, withdrawn}
 use Rattle.link.specs.Procedure.{LinkSettings, is_up, is_held, holds_command}
-use Rattle.link.specs.Requests.{request_frame, request_in, FitsAddress, FitsAsked, IsUserData}
+use Rattle.link.specs.Requests.{request_frame, request_in, FitsAddress, FitsAsked}
 use Rattle.link.specs.Matching.{Matches, report_in, gap_in_outcome, IsFittingSending}
-use Rattle.link.specs.Turns.{station_at}
+use Rattle.link.specs.Runs.{FitsLine}
+use Rattle.link.specs.Turns.{CommandsWaiting, station_at}
 
 pub record LineLaws : Type 0 where
   -- The state of a primary says of the exchanges what they are: from the start on, by each call.
@@ -37,14 +36,10 @@ pub record LineLaws : Type 0 where
       Matches settings addresses (timed_out q at)
       (record { ended = e.ended; current = timed_current settings.answer_ms at e.current })
   pub next : (settings : LinkSettings) (addresses : List ℕ) (q : Primary) (e : Exchanges)
-      (now : ℕ) (may_poll : Bool) → Matches settings addresses q e →
-      Matches settings addresses (asked q now may_poll) (begun_by now (sending q may_poll) e)
-  pub offer : (settings : LinkSettings) (addresses : List ℕ) (q : Primary) (e : Exchanges)
-      (station : ℕ) (asdu : List ℕ) → station < length q.stations →
-      IsUserData q.settings.size asdu → Matches settings addresses q e →
-      Matches settings addresses (offered_to q station asdu) e
-  pub withdraw : (settings : LinkSettings) (addresses : List ℕ) (q : Primary) (e : Exchanges) →
-      Matches settings addresses q e → Matches settings addresses (withdrawn q) e
+      (now : ℕ) (may_poll : Bool) (waiting : CommandsWaiting) → FitsLine q may_poll waiting →
+      Matches settings addresses q e →
+      Matches settings addresses (asked q now may_poll waiting)
+      (begun_by now (sending q may_poll waiting) e)
   -- The reports of the exchanges grow by those that the outcomes bear.
   pub octets_report : (settings : LinkSettings) (addresses : List ℕ) (q : Primary) (e : Exchanges)
       (octets : List ℕ) → Matches settings addresses q e →
@@ -86,51 +81,40 @@ pub record LineLaws : Type 0 where
       (view (front_of settings.size) (received_octets octets x)).exchange))
   -- A request fits the line, is spelled as the standard has it and read back, and goes out alone.
   pub fit : (settings : LinkSettings) (addresses : List ℕ) (q : Primary) (e : Exchanges)
-      (may_poll : Bool) (s : Sending) → Matches settings addresses q e →
-      sending q may_poll ≡ Some s → IsFittingSending settings addresses s
+      (may_poll : Bool) (waiting : CommandsWaiting) (s : Sending) → FitsLine q may_poll waiting →
+      Matches settings addresses q e → sending q may_poll waiting ≡ Some s →
+      IsFittingSending settings addresses s
   pub spelled : (settings : LinkSettings) (addresses : List ℕ) (q : Primary) (e : Exchanges)
       (s : Sending) → Matches settings addresses q e →
       (request_of q s).octets.items
       ≡ spelling settings.size (request_frame (slice_index addresses s.station) s.request)
   pub alone : (settings : LinkSettings) (addresses : List ℕ) (q : Primary) (e : Exchanges)
-      (may_poll : Bool) (s : Sending) (x : OpenExchange) → Matches settings addresses q e →
-      sending q may_poll ≡ Some s → e.current ≡ Some x →
+      (may_poll : Bool) (waiting : CommandsWaiting) (s : Sending) (x : OpenExchange) →
+      Matches settings addresses q e →
+      sending q may_poll waiting ≡ Some s → e.current ≡ Some x →
       IsOutstanding (slice_index addresses x.station) (view (front_of settings.size) x).exchange →
       ⊥
   pub back : (size : LinkSize) (address : ℕ) (request : Asked) →
       FitsAddress size address → FitsAsked size request →
       request_in size (spelling size (request_frame address request)) ≡ Some (address, request)
   -- Where nothing is sent, nothing is left to be asked but data, and that for want of leave.
-  pub over : (q : Primary) (now : ℕ) (may_poll : Bool) → sending q may_poll ≡ None →
-      sending (asked q now may_poll) may_poll ≡ None
-  pub leave : (q : Primary) (may_poll : Bool) → IsFitting q → q.outstanding ≡ None →
-      sending q may_poll ≡ None → may_poll ≡ false
-  pub up : (q : Primary) (may_poll : Bool) → IsFitting q → q.outstanding ≡ None →
-      sending q may_poll ≡ None → (i : ℕ) → i < length q.stations →
-      is_up (station_at q.stations i).link ≡ true
-  pub free : (q : Primary) (may_poll : Bool) → IsFitting q → q.outstanding ≡ None →
-      sending q may_poll ≡ None → (i : ℕ) → i < length q.stations →
-      holds_command (station_at q.stations i).link ≡ false
-  pub left : (q : Primary) (may_poll : Bool) → IsFitting q → q.outstanding ≡ None →
-      sending q may_poll ≡ None → (i : ℕ) → i < length q.stations →
-      IsLeftToPolls (station_at q.stations i) (station_at q.stations i).link
-  -- An offered command waits until it is put on the line or withdrawn.
-  pub received_offers : (front : List ℕ → Front) (q : Primary) (octets : List ℕ) (k : ℕ) →
-      offered_at (received front q octets) k ≡ offered_at q k
-  pub timed_offers : (q : Primary) (at : ℕ) (k : ℕ) →
-      offered_at (timed_out q at) k ≡ offered_at q k
-  pub new_offer : (q : Primary) (i : ℕ) (asdu : List ℕ) (k : ℕ) → i < length q.stations →
-      offered_at (offered_to q i asdu) k
-      ≡ (if k == i && may_offer q i then Some asdu else offered_at q k)
-  pub no_offer : (q : Primary) (k : ℕ) → offered_at (withdrawn q) k ≡ None
-  pub unasked_offers : (q : Primary) (now : ℕ) (may_poll : Bool) (k : ℕ) →
-      sending q may_poll ≡ None → offered_at (asked q now may_poll) k ≡ offered_at q k
-  pub asked_offers : (q : Primary) (now : ℕ) (may_poll : Bool) (s : Sending) (k : ℕ) →
-      sending q may_poll ≡ Some s → s.station < length q.stations →
-      offered_at (asked q now may_poll) k
-      ≡ (if k == s.station && is_command s.request then None else offered_at q k)
-  pub begun : (q : Primary) (may_poll : Bool) (s : Sending) (fcb : Bool) (asdu : List ℕ) →
-      sending q may_poll ≡ Some s → s.request ≡ Counted fcb (Command asdu) →
-      is_held (station_at q.stations s.station).link ≡ false → offered_at q s.station ≡ Some asdu
-  pub count : (q : Primary) (i : ℕ) (asdu : List ℕ) →
-      length (offered_to q i asdu).stations ≡ length q.stations
+  pub over : (q : Primary) (now : ℕ) (may_poll : Bool) (waiting : CommandsWaiting) →
+      sending q may_poll waiting ≡ None →
+      sending (asked q now may_poll waiting) may_poll waiting ≡ None
+  pub leave : (q : Primary) (may_poll : Bool) (waiting : CommandsWaiting) → IsFitting q →
+      q.outstanding ≡ None → sending q may_poll waiting ≡ None → may_poll ≡ false
+  pub up : (q : Primary) (may_poll : Bool) (waiting : CommandsWaiting) → IsFitting q →
+      q.outstanding ≡ None → sending q may_poll waiting ≡ None →
+      (i : ℕ) → i < length q.stations → is_up (station_at q.stations i).link ≡ true
+  pub free : (q : Primary) (may_poll : Bool) (waiting : CommandsWaiting) → IsFitting q →
+      q.outstanding ≡ None → sending q may_poll waiting ≡ None →
+      (i : ℕ) → i < length q.stations → holds_command (station_at q.stations i).link ≡ false
+  pub left : (q : Primary) (may_poll : Bool) (waiting : CommandsWaiting) → IsFitting q →
+      q.outstanding ≡ None → sending q may_poll waiting ≡ None →
+      (i : ℕ) → i < length q.stations →
+      IsLeftToPolls (station_at q.stations i) (waiting i) (station_at q.stations i).link
+  -- A command that goes out for the first time is the one that waits for its station.
+  pub begun : (q : Primary) (may_poll : Bool) (waiting : CommandsWaiting) (s : Sending)
+      (fcb : Bool) (asdu : List ℕ) →
+      sending q may_poll waiting ≡ Some s → s.request ≡ Counted fcb (Command asdu) →
+      is_held (station_at q.stations s.station).link ≡ false → waiting s.station ≡ Some asdu

@@ -3,7 +3,7 @@
 use Rattle.std.specs.Prelude.{◌≡◌, ◌⊎◌, ℕ, Bool, true, List, [], ◌∷◌, Option, Some, None}
 use Rattle.link.specs.Exchanges.{Sending}
 use Rattle.link.specs.Procedure.{is_held, has_repeats}
-use Rattle.link.specs.Turns.{station_at}
+use Rattle.link.specs.Turns.{CommandsWaiting, station_at}
 use Rattle.link.specs.Primary.{Outstanding, Primary, sending}
 use Rattle.link.specs.Runs.{Call, Next, called, BeginsTurn}
 use Rattle.link.specs.Visits.{Left, whole_visit, MayFollow}
@@ -27,28 +27,31 @@ GoesOn p v s later =
 
 -- It begins another visit: that of the first station, round from the one behind this visit's
 -- station, that has a request.
-abbrev pub Begins : Primary → (may_poll : Bool) → Present → Sending → (later : Left) → Type 0
-Begins p may_poll v s later =
-    BeginsTurn (record p { turn = v.station }) may_poll s
+abbrev pub Begins : Primary → (may_poll : Bool) → CommandsWaiting → Present → Sending →
+    (later : Left) → Type 0
+Begins p may_poll waiting v s later =
+    BeginsTurn (record p { turn = v.station }) may_poll waiting s
     × MayFollow p.settings (station_at p.stations s.station).link
     (whole_visit p.settings (station_at p.stations s.station).link) s.request later
 
 -- What a request makes of the visit. It is over where nothing went out.
-abbrev pub IsVisited : Primary → (may_poll : Bool) → Option Sending → (before after : Present) →
-    Type 0
-IsVisited p may_poll None v v' = v' ≡ record { station = v.station; left = nothing_left }
-IsVisited p may_poll (Some s) v v' =
-    (v'.station ≡ s.station) × (GoesOn p v s v'.left ⊎ Begins p may_poll v s v'.left)
+abbrev pub IsVisited : Primary → (may_poll : Bool) → CommandsWaiting → Option Sending →
+    (before after : Present) → Type 0
+IsVisited p may_poll waiting None v v' = v' ≡ record { station = v.station; left = nothing_left }
+IsVisited p may_poll waiting (Some s) v v' =
+    (v'.station ≡ s.station) × (GoesOn p v s v'.left ⊎ Begins p may_poll waiting v s v'.left)
 
 -- Nothing goes out while a request is outstanding.
-abbrev pub IsVisitedBy : Primary → (may_poll : Bool) → Option Outstanding →
+abbrev pub IsVisitedBy : Primary → (may_poll : Bool) → CommandsWaiting → Option Outstanding →
     (before after : Present) → Type 0
-IsVisitedBy p may_poll (Some o) v v' = v' ≡ v
-IsVisitedBy p may_poll None v v' = IsVisited p may_poll (sending p may_poll) v v'
+IsVisitedBy p may_poll waiting (Some o) v v' = v' ≡ v
+IsVisitedBy p may_poll waiting None v v' =
+    IsVisited p may_poll waiting (sending p may_poll waiting) v v'
 
 -- what a call makes of the visit
 abbrev pub VisitStep : Primary → Call → (before after : Present) → Type 0
-VisitStep p (Next now may_poll) v v' = IsVisitedBy p may_poll p.outstanding v v'
+VisitStep p (Next now may_poll waiting) v v' =
+    IsVisitedBy p may_poll waiting p.outstanding v v'
 VisitStep p call v v' = v' ≡ v
 
 -- The requests of these calls go on with the visit, and then with one visit each, in turn.

@@ -1,7 +1,7 @@
 -- The primary station of unbalanced transmission as a machine: whose turn it is, the request whose
 -- answer is awaited, and what a call of it does.
 use Rattle.std.specs.Prelude.{ℕ, ◌+◌, ◌==◌, ◌&&◌, ◌||◌, nat_le, Bool, true, false, not, List, []}
-use Rattle.std.specs.Prelude.{◌++◌, map, length, slice_set, Option, Some, None, is_none}
+use Rattle.std.specs.Prelude.{◌++◌, map, length, slice_set, Option, Some, None}
 use Rattle.std.specs.Prelude.{if◌then◌else◌}
 use Rattle.ft12.specs.declared.frame.Front.{Front}
 use Rattle.ft12.specs.declared.frame.Front.TheVariants.{Whole, More, Never}
@@ -12,10 +12,11 @@ use Rattle.link.specs.Control.{shows_acd, shows_dfc}
 use Rattle.std.specs.Io.Iter.{u64_saturate}
 use Rattle.link.specs.Exchanges.{Sending, whole_of}
 use Rattle.link.specs.Procedure.{LinkSettings, Down, after_answer, after_silence, is_held}
-use Rattle.link.specs.Procedure.{holds_command, has_repeats, goes_down}
+use Rattle.link.specs.Procedure.{has_repeats, goes_down}
 use Rattle.link.specs.Requests.{request_frame, kind_of}
 use Rattle.link.specs.Turns.{StationState, SessionState, no_session, Phase, Starting, Over}
 use Rattle.link.specs.Turns.{station_at, is_poll, wanted, Chosen, chosen_or, first_after}
+use Rattle.link.specs.Turns.{CommandsWaiting}
 pub use Rattle.link.specs.declared.request.Request.{Request}
 pub use Rattle.link.specs.declared.outcome.Outcome.{Outcome}
 pub use Rattle.link.specs.declared.outcome.Outcome.TheVariants as outcome
@@ -45,7 +46,6 @@ station_down address = record {
   link = Down;
   acd = false;
   dfc = false;
-  offered = None;
   session = no_session;
 }
 
@@ -65,16 +65,11 @@ start settings addresses = record {
 
 -- the next request: the present turn goes on, or else the stations are looked at once round, from
 -- the one after the last served
-abbrev pub choice : Primary → (may_poll : Bool) → Option Chosen
-choice p may_poll =
+abbrev pub choice : Primary → (may_poll : Bool) → CommandsWaiting → Option Chosen
+choice p may_poll waiting =
     chosen_or (wanted p.settings.burst may_poll p.again
-    (station_at p.stations p.turn) p.phase) p.turn
-    (first_after p.settings.burst may_poll p.stations (length p.stations) p.turn)
-
--- A command that is put on the line isn't offered any more.
-abbrev pub offer_left : Asked → Option (List ℕ) → Option (List ℕ)
-offer_left (Counted fcb (Command asdu)) offered = None
-offer_left request offered = offered
+    (station_at p.stations p.turn) (waiting p.turn) p.phase) p.turn
+    (first_after p.settings.burst may_poll p.stations waiting (length p.stations) p.turn)
 
 -- A poll that goes out may give a report that is never taken.
 abbrev pub session_asked : SessionState → Asked → SessionState
@@ -87,7 +82,6 @@ station_asked s request = record {
   link = s.link;
   acd = s.acd;
   dfc = s.dfc;
-  offered = offer_left request s.offered;
   session = session_asked s.session request;
 }
 
@@ -109,25 +103,27 @@ after_choice p now (Some c) = record p {
 }
 
 -- Nothing goes out while a request is outstanding.
-abbrev pub asked_from : Primary → Option Outstanding → (now : ℕ) → (may_poll : Bool) → Primary
-asked_from p (Some o) now may_poll = p
-asked_from p None now may_poll = after_choice p now (choice p may_poll)
+abbrev pub asked_from : Primary → Option Outstanding → (now : ℕ) → (may_poll : Bool) →
+    CommandsWaiting → Primary
+asked_from p (Some o) now may_poll waiting = p
+asked_from p None now may_poll waiting = after_choice p now (choice p may_poll waiting)
 
 -- the primary after `next`
-abbrev pub asked : Primary → (now : ℕ) → (may_poll : Bool) → Primary
-asked p now may_poll = asked_from p p.outstanding now may_poll
+abbrev pub asked : Primary → (now : ℕ) → (may_poll : Bool) → CommandsWaiting → Primary
+asked p now may_poll waiting = asked_from p p.outstanding now may_poll waiting
 
 abbrev pub sending_by : Option Chosen → Option Sending
 sending_by None = None
 sending_by (Some c) = Some (record { station = c.station; request = c.wanted.request })
 
-abbrev pub sending_from : Primary → Option Outstanding → (may_poll : Bool) → Option Sending
-sending_from p (Some o) may_poll = None
-sending_from p None may_poll = sending_by (choice p may_poll)
+abbrev pub sending_from : Primary → Option Outstanding → (may_poll : Bool) → CommandsWaiting →
+    Option Sending
+sending_from p (Some o) may_poll waiting = None
+sending_from p None may_poll waiting = sending_by (choice p may_poll waiting)
 
 -- the request that `next` sends
-abbrev pub sending : Primary → (may_poll : Bool) → Option Sending
-sending p may_poll = sending_from p p.outstanding may_poll
+abbrev pub sending : Primary → (may_poll : Bool) → CommandsWaiting → Option Sending
+sending p may_poll waiting = sending_from p p.outstanding may_poll waiting
 
 -- The request as it is put on the line. It is sent again where it is the station's held service.
 abbrev pub request_of : Primary → Sending → Request
@@ -179,7 +175,6 @@ station_answered s request frame answer = record {
   link = after_answer request answer s.link;
   acd = acd_of frame;
   dfc = dfc_of frame;
-  offered = s.offered;
   session = session_answered s.session request answer;
 }
 
@@ -317,8 +312,7 @@ station_unanswered settings s request =
       link = after_silence settings request true s.link;
       acd = s.acd;
       dfc = s.dfc;
-      offered = s.offered;
-      session = s.session;
+          session = s.session;
     }
 
 -- The exchange of the station whose turn it is ends with no answer, and is spoilt where octets came
@@ -360,7 +354,7 @@ due_outcome_from p (Some o) now =
 abbrev pub due_outcome : Primary → (now : ℕ) → Outcome
 due_outcome p now = due_outcome_from p p.outstanding now
 
--- `offer` and `withdraw`
+-- commands
 
 abbrev pub is_command : Asked → Bool
 is_command (Counted fcb (Command asdu)) = true
@@ -369,37 +363,3 @@ is_command request = false
 abbrev pub is_sending_command : Option Outstanding → Bool
 is_sending_command None = false
 is_sending_command (Some o) = is_command o.request
-
--- The station has no offered command, and none that was put on the line and isn't done.
-abbrev pub may_offer : Primary → (station : ℕ) → Bool
-may_offer p station =
-    is_none (station_at p.stations station).offered
-    && (not (holds_command (station_at p.stations station).link)
-    && not ((p.turn == station) && is_sending_command p.outstanding))
-
-abbrev pub with_offer : StationState → Option (List ℕ) → StationState
-with_offer s offered = record {
-  address = s.address;
-  link = s.link;
-  acd = s.acd;
-  dfc = s.dfc;
-  offered = offered;
-  session = s.session;
-}
-
--- the primary after `offer`
-abbrev pub offered_to : Primary → (station : ℕ) → List ℕ → Primary
-offered_to p station asdu =
-    if may_offer p station
-    then record p {
-      stations = slice_set p.stations station
-          (with_offer (station_at p.stations station) (Some asdu));
-    }
-    else p
-
-abbrev pub without_offer : StationState → StationState
-without_offer s = with_offer s None
-
--- the primary after `withdraw`
-abbrev pub withdrawn : Primary → Primary
-withdrawn p = record p { stations = map without_offer p.stations }

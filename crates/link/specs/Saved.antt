@@ -110,15 +110,11 @@ FitsSavedLink link = Unit {0}
 abbrev pub LinkReadsBack : Link → Type 0
 LinkReadsBack link = link_from (link_numbers link) ≡ Some link
 
--- what a line has of a station but for its link and its offered command
+-- what a line has of a station but for its link
 abbrev pub flags_numbers : StationState → List ℕ
 flags_numbers s =
     s.address ∷ bit_number s.acd ∷ bit_number s.dfc ∷ s.session.number
     ∷ bit_number s.session.has_gap ∷ []
-
-abbrev pub offered_numbers : Option (List ℕ) → List ℕ
-offered_numbers None = 0 ∷ []
-offered_numbers (Some asdu) = 1 ∷ asdu
 
 abbrev pub bare_station : (address number : ℕ) → (acd dfc gap : Option Bool) → Option StationState
 bare_station address number (Some acd) (Some dfc) (Some gap) =
@@ -128,7 +124,6 @@ bare_station address number (Some acd) (Some dfc) (Some gap) =
       link = Down;
       acd = acd;
       dfc = dfc;
-      offered = None;
       session = record { number = number; has_gap = gap };
     })
     else None
@@ -140,50 +135,26 @@ flags_from (address ∷ acd ∷ dfc ∷ number ∷ gap ∷ []) =
     bare_station address number (bit_from acd) (bit_from dfc) (bit_from gap)
 flags_from ns = None
 
-abbrev pub some_offer : Option (List ℕ) → Option (Option (List ℕ))
-some_offer None = None
-some_offer (Some asdu) = Some (Some asdu)
-
-abbrev pub no_offer : List ℕ → Option (Option (List ℕ))
-no_offer [] = Some None
-no_offer (n ∷ ns) = None
-
-abbrev pub offered_by : ℕ → List ℕ → Option (Option (List ℕ))
-offered_by kind ns =
-    if kind == 0 then no_offer ns else if kind == 1 then some_offer (command_from ns) else None
-
-abbrev pub offered_from : List ℕ → Option (Option (List ℕ))
-offered_from [] = None
-offered_from (kind ∷ ns) = offered_by kind ns
-
-abbrev pub station_by : Option StationState → Option Link → Option (Option (List ℕ))
-    → Option StationState
-station_by (Some s) (Some link) (Some offered) = Some (record {
+abbrev pub station_by : Option StationState → Option Link → Option StationState
+station_by (Some s) (Some link) = Some (record {
   address = s.address;
   link = link;
   acd = s.acd;
   dfc = s.dfc;
-  offered = offered;
   session = s.session;
 })
-station_by s link offered = None
-
-abbrev pub FitsSavedOffer : Option (List ℕ) → Type 0
-FitsSavedOffer None = Unit {0}
-FitsSavedOffer (Some asdu) = FitsSavedCommand asdu
+station_by s link = None
 
 pub record FitsSavedStation (s : StationState) : Type 0 where
   pub address : s.address < 65536
   pub link : FitsSavedLink s.link
-  pub offered : FitsSavedOffer s.offered
 
--- the station that its three lines say is the station
+-- the station that its two lines say is the station
 abbrev pub StationReadsBack : StationState → Type 0
 StationReadsBack s =
-    station_by (flags_from (flags_numbers s)) (link_from (link_numbers s.link))
-    (offered_from (offered_numbers s.offered)) ≡ Some s
+    station_by (flags_from (flags_numbers s)) (link_from (link_numbers s.link)) ≡ Some s
 
--- the lines of stations, three for each
+-- the lines of stations, two for each
 abbrev pub lines_of : List StationState → List (List ℕ)
 lines_of [] = []
-lines_of (s ∷ ss) = flags_numbers s ∷ link_numbers s.link ∷ offered_numbers s.offered ∷ lines_of ss
+lines_of (s ∷ ss) = flags_numbers s ∷ link_numbers s.link ∷ lines_of ss

@@ -11,7 +11,8 @@ since_by None now since = since
 since_by (Some s) now since = Some now
 
 abbrev pub since_after : Primary → Call → Option ℕ → Option ℕ
-since_after p (Next now may_poll) since = since_by (sending p may_poll) now since
+since_after p (Next now may_poll waiting) since =
+    since_by (sending p may_poll waiting) now since
 since_after p call since = since
 
 -- A moment that is less than `answer_ms` past the latest request changes nothing. Any other leaves

@@ -14,7 +14,7 @@ pub use Rattle.link.specs.declared.turn.Wanted.{Wanted}
 pub use Rattle.link.specs.declared.turn.Chosen.{Chosen}
 pub use Rattle.link.specs.declared.turn.Wish.{Wish}
 pub use Rattle.link.specs.declared.turn.Wish.TheVariants.{AskStatus, AskReset, PollClass1}
-pub use Rattle.link.specs.declared.turn.Wish.TheVariants.{PollClass2, SendOffered, SendHeld}
+pub use Rattle.link.specs.declared.turn.Wish.TheVariants.{PollClass2, SendCommand, SendHeld}
 pub use Rattle.link.specs.declared.turn.Pick.{Pick}
 
 -- before the first answered reset
@@ -28,7 +28,6 @@ no_station = record {
   link = Down;
   acd = false;
   dfc = false;
-  offered = None;
   session = no_session;
 }
 
@@ -58,11 +57,11 @@ abbrev pub polls_from : (burst : ℕ) → (may_poll : Bool) → (fcb : Bool) →
     Option Wanted
 polls_from burst may_poll fcb s phase = if may_poll then wanted_poll burst fcb s.acd phase else None
 
--- an offered command, and then polls
+-- a command, and then polls
 abbrev pub wanted_command : (fcb : Bool) → (asdu : List ℕ) → Option Wanted
 wanted_command fcb asdu = wants (Counted fcb (Command asdu)) Polling
 
--- the offered command, where the station takes one, or else polls
+-- the command that waits, where the station takes one, or else polls
 abbrev pub commands_from : (burst : ℕ) → (may_poll : Bool) → (fcb : Bool) → StationState →
     Option (List ℕ) → Option Wanted
 commands_from burst may_poll fcb s (Some asdu) =
@@ -70,30 +69,37 @@ commands_from burst may_poll fcb s (Some asdu) =
     else wanted_command fcb asdu
 commands_from burst may_poll fcb s None = polls_from burst may_poll fcb s Polling
 
--- what an up station's turn goes on with
-abbrev pub next_of : (burst : ℕ) → (may_poll : Bool) → (fcb : Bool) → StationState → Phase →
-    Option Wanted
-next_of burst may_poll fcb s Starting = commands_from burst may_poll fcb s s.offered
-next_of burst may_poll fcb s Commanding = commands_from burst may_poll fcb s s.offered
-next_of burst may_poll fcb s Polling = polls_from burst may_poll fcb s Polling
-next_of burst may_poll fcb s (Class1Polling sent) =
+-- what an up station's turn goes on with, where this command waits for it
+abbrev pub next_of : (burst : ℕ) → (may_poll : Bool) → (fcb : Bool) → StationState →
+    Option (List ℕ) → Phase → Option Wanted
+next_of burst may_poll fcb s command Starting = commands_from burst may_poll fcb s command
+next_of burst may_poll fcb s command Commanding = commands_from burst may_poll fcb s command
+next_of burst may_poll fcb s command Polling = polls_from burst may_poll fcb s Polling
+next_of burst may_poll fcb s command (Class1Polling sent) =
     polls_from burst may_poll fcb s (Class1Polling sent)
-next_of burst may_poll fcb s Over = None
+next_of burst may_poll fcb s command Over = None
 
 -- What the station's turn has next, by its link: it is started, a held service is sent once (again
 -- at once where its repeats aren't used up), and then come a command and polls.
-abbrev pub wanted_by : (burst : ℕ) → (may_poll again : Bool) → StationState → Link → Phase →
-    Option Wanted
-wanted_by burst may_poll again s Down Starting = wants Status Starting
-wanted_by burst may_poll again s Available Starting = wants Reset Over
-wanted_by burst may_poll again s (Next fcb) phase = next_of burst may_poll fcb s phase
-wanted_by burst may_poll again s (Held fcb service missed) Starting =
+abbrev pub wanted_by : (burst : ℕ) → (may_poll again : Bool) → StationState → Option (List ℕ) →
+    Link → Phase → Option Wanted
+wanted_by burst may_poll again s command Down Starting = wants Status Starting
+wanted_by burst may_poll again s command Available Starting = wants Reset Over
+wanted_by burst may_poll again s command (Next fcb) phase = next_of burst may_poll fcb s command
+    phase
+wanted_by burst may_poll again s command (Held fcb service missed) Starting =
     if may_poll || not (is_poll service) then wants (Counted fcb service) Commanding else None
-wanted_by burst may_poll true s (Held fcb service missed) phase = wants (Counted fcb service) phase
-wanted_by burst may_poll again s link phase = None
+wanted_by burst may_poll true s command (Held fcb service missed) phase =
+    wants (Counted fcb service) phase
+wanted_by burst may_poll again s command link phase = None
 
-abbrev pub wanted : (burst : ℕ) → (may_poll again : Bool) → StationState → Phase → Option Wanted
-wanted burst may_poll again s phase = wanted_by burst may_poll again s s.link phase
+abbrev pub wanted : (burst : ℕ) → (may_poll again : Bool) → StationState → Option (List ℕ) →
+    Phase → Option Wanted
+wanted burst may_poll again s command phase = wanted_by burst may_poll again s command s.link phase
+
+-- the command that waits for each station, by its index: the oldest, if there is one
+abbrev pub CommandsWaiting : Type 0
+CommandsWaiting = ℕ → Option (List ℕ)
 
 -- the next place, round a count of places
 abbrev pub place_after : (count place : ℕ) → ℕ
@@ -104,47 +110,53 @@ chosen_or (Some w) place other = Some (record { station = place; wanted = w })
 chosen_or None place other = other
 
 -- the first of so many stations after this one that has a request to begin a turn with
-abbrev pub first_after : (burst : ℕ) → (may_poll : Bool) → List StationState → (many place : ℕ) →
-    Option Chosen
-first_after burst may_poll stations zero place = None
-first_after burst may_poll stations (suc many) place =
+abbrev pub first_after : (burst : ℕ) → (may_poll : Bool) → List StationState → CommandsWaiting →
+    (many place : ℕ) → Option Chosen
+first_after burst may_poll stations waiting zero place = None
+first_after burst may_poll stations waiting (suc many) place =
     chosen_or (wanted burst may_poll false
-    (station_at stations (place_after (length stations) place)) Starting)
+    (station_at stations (place_after (length stations) place))
+    (waiting (place_after (length stations) place)) Starting)
     (place_after (length stations) place)
-    (first_after burst may_poll stations many (place_after (length stations) place))
+    (first_after burst may_poll stations waiting many (place_after (length stations) place))
 
--- the request for an offered command, and for a held service
-abbrev pub offer_request : (fcb : Bool) → Option (List ℕ) → Asked
-offer_request fcb (Some asdu) = Counted fcb (Command asdu)
-offer_request fcb None = Status
+-- the request for a command that waits, and for a held service
+abbrev pub command_request : (fcb : Bool) → Option (List ℕ) → Asked
+command_request fcb (Some asdu) = Counted fcb (Command asdu)
+command_request fcb None = Status
 
 abbrev pub held_request : Link → Asked
 held_request (Held fcb service missed) = Counted fcb service
 held_request link = Status
 
--- a wish for an offered command is that of a station that has one, and so with a held service
-abbrev pub IsPossible : StationState → Wish → Type 0
-IsPossible s (SendOffered fcb) = is_some s.offered ≡ true
-IsPossible s (SendHeld phase) = is_held s.link ≡ true
-IsPossible s wish = Unit {0}
+-- a wish for a command is that of a station for which one waits; one for a held service is that of
+-- a station that has one
+abbrev pub IsPossible : StationState → Option (List ℕ) → Wish → Type 0
+IsPossible s command (SendCommand fcb) = is_some command ≡ true
+IsPossible s command (SendHeld phase) = is_held s.link ≡ true
+IsPossible s command wish = Unit {0}
 
 -- what a wish of a station stands for
-abbrev pub wished : StationState → Wish → Wanted
-wished s AskStatus = record { request = Status; following = Starting }
-wished s AskReset = record { request = Reset; following = Over }
-wished s (PollClass1 fcb sent) = record {
+abbrev pub wished : StationState → Option (List ℕ) → Wish → Wanted
+wished s command AskStatus = record { request = Status; following = Starting }
+wished s command AskReset = record { request = Reset; following = Over }
+wished s command (PollClass1 fcb sent) = record {
   request = Counted fcb Class1;
   following = Class1Polling sent;
 }
-wished s (PollClass2 fcb) = record { request = Counted fcb Class2; following = Class1Polling 0 }
-wished s (SendOffered fcb) = record {
-  request = offer_request fcb s.offered;
+wished s command (PollClass2 fcb) = record {
+  request = Counted fcb Class2;
+  following = Class1Polling 0;
+}
+wished s command (SendCommand fcb) = record {
+  request = command_request fcb command;
   following = Polling;
 }
-wished s (SendHeld phase) = record { request = held_request s.link; following = phase }
+wished s command (SendHeld phase) = record { request = held_request s.link; following = phase }
 
-abbrev pub picked : List StationState → Pick → Chosen
-picked stations pick = record {
+abbrev pub picked : List StationState → CommandsWaiting → Pick → Chosen
+picked stations waiting pick = record {
   station = pick.station;
-  wanted = wished (station_at stations pick.station) pick.wish;
+  wanted =
+      wished (station_at stations pick.station) (waiting pick.station) pick.wish;
 }

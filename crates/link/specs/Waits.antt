@@ -10,9 +10,10 @@ use Rattle.link.specs.Runs.{Call, Next, called}
 -- Where a request goes out, something is left to be asked of the station, too: it may be polled, or
 -- it has more than polls.
 abbrev pub WantsAt : Primary → (station : ℕ) → Call → Type 0
-WantsAt p station (Next now may_poll) =
-    (s : Sending) → sending p may_poll ≡ Some s → (may_poll ≡ true)
-    ⊎ (IsLeftToPolls (station_at p.stations station) (station_at p.stations station).link → ⊥)
+WantsAt p station (Next now may_poll waiting) =
+    (s : Sending) → sending p may_poll waiting ≡ Some s → (may_poll ≡ true)
+    ⊎ (IsLeftToPolls (station_at p.stations station) (waiting station)
+    (station_at p.stations station).link → ⊥)
 WantsAt p station call = Unit {0}
 
 -- at each of these calls at which a request goes out
@@ -26,7 +27,7 @@ station_in None = []
 station_in (Some s) = s.station ∷ []
 
 abbrev pub stations_by : Primary → Call → List ℕ
-stations_by p (Next now may_poll) = station_in (sending p may_poll)
+stations_by p (Next now may_poll waiting) = station_in (sending p may_poll waiting)
 stations_by p call = []
 
 -- the stations of the requests that go out

@@ -156,40 +156,40 @@ pub fn requests_by_example()
 /// with leave to poll or without, and where an unanswered service is to be sent again at once or
 /// isn't; and how often it is, with `retries` 2, until it is held or given up.
 pub fn turns_by_example()
-    ensures starts { (wanted 2 false false (in_state Down false false None) Starting
+    ensures starts { (wanted 2 false false (in_state Down false false) None Starting
         ≡ wants Status Starting)
-        × (wanted 2 false false (in_state Available false false None) Starting
+        × (wanted 2 false false (in_state Available false false) None Starting
         ≡ wants Reset Over)
-        × (wanted 2 true false (in_state Down true false (Some octet)) Over
+        × (wanted 2 true false (in_state Down true false) (Some octet) Over
         ≡ None) }
-    ensures commands { (wanted 2 true false (in_state (Next true) true false (Some octet)) Starting
+    ensures commands { (wanted 2 true false (in_state (Next true) true false) (Some octet) Starting
         ≡ wants (Counted true (Command octet)) Polling)
-        × (wanted 2 true false (in_state (Next true) true true (Some octet)) Starting
+        × (wanted 2 true false (in_state (Next true) true true) (Some octet) Starting
         ≡ wants (Counted true Class1) (Class1Polling 1))
-        × (wanted 2 false false (in_state (Next true) true true (Some octet)) Starting
+        × (wanted 2 false false (in_state (Next true) true true) (Some octet) Starting
         ≡ None)
-        × (wanted 2 true false (in_state (Next true) true false (Some octet)) Polling
+        × (wanted 2 true false (in_state (Next true) true false) (Some octet) Polling
         ≡ wants (Counted true Class1) (Class1Polling 1)) }
-    ensures polls { (wanted 2 true false (in_state (Next false) false false None) Polling
+    ensures polls { (wanted 2 true false (in_state (Next false) false false) None Polling
         ≡ wants (Counted false Class2) (Class1Polling 0))
-        × (wanted 2 true false (in_state (Next true) true false None) (Class1Polling 1)
+        × (wanted 2 true false (in_state (Next true) true false) None (Class1Polling 1)
         ≡ wants (Counted true Class1) (Class1Polling 2))
-        × (wanted 2 true false (in_state (Next true) true false None) (Class1Polling 2)
+        × (wanted 2 true false (in_state (Next true) true false) None (Class1Polling 2)
         ≡ None)
-        × (wanted 2 true false (in_state (Next true) false false None) (Class1Polling 1)
+        × (wanted 2 true false (in_state (Next true) false false) None (Class1Polling 1)
         ≡ None)
-        × (wanted 2 false false (in_state (Next true) true false None) Polling
+        × (wanted 2 false false (in_state (Next true) true false) None Polling
         ≡ None) }
     ensures held { (wanted 2 true false
-        (in_state (Held true Class1 4) false true (Some octet)) Starting
+        (in_state (Held true Class1 4) false true) (Some octet) Starting
         ≡ wants (Counted true Class1) Commanding)
-        × (wanted 2 false false (in_state (Held true Class1 4) false false None) Starting
+        × (wanted 2 false false (in_state (Held true Class1 4) false false) None Starting
         ≡ None)
-        × (wanted 2 false false (in_state (Held true (Command octet) 4) false true None) Starting
+        × (wanted 2 false false (in_state (Held true (Command octet) 4) false true) None Starting
         ≡ wants (Counted true (Command octet)) Commanding)
-        × (wanted 2 false true (in_state (Held true Class2 1) false false None) (Class1Polling 0)
+        × (wanted 2 false true (in_state (Held true Class2 1) false false) None (Class1Polling 0)
         ≡ wants (Counted true Class2) (Class1Polling 0))
-        × (wanted 2 true false (in_state (Held true Class2 1) false false None) (Class1Polling 0)
+        × (wanted 2 true false (in_state (Held true Class2 1) false false) None (Class1Polling 0)
         ≡ None) }
     ensures repeats { (after_silence (two_repeats true) (Counted true Class1) true (Next true)
         ≡ Held true Class1 1)

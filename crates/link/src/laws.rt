@@ -3,11 +3,11 @@ pub(crate) mod asking;
 pub(crate) mod at_once;
 pub(crate) mod bursts;
 pub(crate) mod carrying;
+pub(crate) mod commands;
 pub(crate) mod flags;
 pub(crate) mod gaps;
 pub(crate) mod leave;
 pub(crate) mod life;
-pub(crate) mod offers;
 pub(crate) mod precedence;
 pub(crate) mod refinement;
 pub(crate) mod runs;
@@ -25,16 +25,18 @@ ghost use Rattle.link.specs.Exchanges.{no_exchanges, received_current, timed_cur
 ghost use Rattle.link.specs.Exchanges.{whole_of, view, reports_of_exchanges};
 ghost use Rattle.link.specs.LineLaws.{LineLaws};
 ghost use Rattle.link.specs.Procedure.{LinkSettings, Down, KeepsFrameCountBit, IsUp, is_service};
-ghost use Rattle.link.specs.Requests.{request_frame, IsUserData, FitsAddress, FitsAsked, asked_in};
+ghost use Rattle.link.specs.Requests.{request_frame, FitsAddress, FitsAsked, asked_in};
 ghost use Rattle.link.specs.Requests.{request_in};
 ghost use Rattle.link.specs.Primary.{Primary, start, asked, sending, request_of, received};
-ghost use Rattle.link.specs.Primary.{received_outcome, timed_out, offered_to, withdrawn};
+ghost use Rattle.link.specs.Primary.{received_outcome, timed_out};
+ghost use Rattle.link.specs.Runs.{FitsLine};
+ghost use Rattle.link.specs.Turns.{CommandsWaiting};
 ghost use Rattle.link.specs.Matching.{Matches, report_in, IsFittingSending};
 
 use crate::laws::asking::next_changes_nothing;
+use crate::laws::commands::commands_are_those_that_wait;
 use crate::laws::gaps::gaps_are_reported;
 use crate::laws::leave::rests_mean;
-use crate::laws::offers::offers_wait;
 use crate::laws::runs::outcomes_are_answers;
 use ft12::front_is_computed;
 
@@ -70,16 +72,10 @@ pub fn master_matches_the_log()
           current = timed_current settings.answer_ms at e.current;
         }) }
     ensures next { (settings : LinkSettings) (addresses : List ℕ) (p : Primary) (e : Exchanges)
-        (now : ℕ) (may_poll : Bool) → Matches settings addresses p e →
-        Matches settings addresses (asked p now may_poll) (begun_by now (sending p may_poll) e) }
-    ensures offer { (settings : LinkSettings) (addresses : List ℕ) (p : Primary) (e : Exchanges)
-        (station : ℕ) (asdu : List ℕ) →
-        station < length p.stations → IsUserData p.settings.size asdu →
+        (now : ℕ) (may_poll : Bool) (waiting : CommandsWaiting) → FitsLine p may_poll waiting →
         Matches settings addresses p e →
-        Matches settings addresses (offered_to p station asdu) e }
-    ensures withdraw { (settings : LinkSettings) (addresses : List ℕ) (p : Primary)
-        (e : Exchanges) → Matches settings addresses p e →
-        Matches settings addresses (withdrawn p) e }
+        Matches settings addresses (asked p now may_poll waiting)
+        (begun_by now (sending p may_poll waiting) e) }
 {
     front_is_computed();
 }
@@ -113,15 +109,17 @@ pub fn outcomes_bear_the_reports()
 /// exchange is outstanding.
 pub fn requests_wait_their_turn()
     ensures fit { (settings : LinkSettings) (addresses : List ℕ) (p : Primary) (e : Exchanges)
-        (may_poll : Bool) (s : Sending) → Matches settings addresses p e →
-        sending p may_poll ≡ Some s → IsFittingSending settings addresses s }
+        (may_poll : Bool) (waiting : CommandsWaiting) (s : Sending) →
+        FitsLine p may_poll waiting → Matches settings addresses p e →
+        sending p may_poll waiting ≡ Some s → IsFittingSending settings addresses s }
     ensures octets { (settings : LinkSettings) (addresses : List ℕ) (p : Primary) (e : Exchanges)
         (s : Sending) → Matches settings addresses p e →
         (request_of p s).octets.items
         ≡ spelling settings.size (request_frame (slice_index addresses s.station) s.request) }
     ensures alone { (settings : LinkSettings) (addresses : List ℕ) (p : Primary) (e : Exchanges)
-        (may_poll : Bool) (s : Sending) (x : OpenExchange) →
-        Matches settings addresses p e → sending p may_poll ≡ Some s → e.current ≡ Some x →
+        (may_poll : Bool) (waiting : CommandsWaiting) (s : Sending) (x : OpenExchange) →
+        Matches settings addresses p e → sending p may_poll waiting ≡ Some s →
+        e.current ≡ Some x →
         IsOutstanding (slice_index addresses x.station) (view (front_of settings.size) x).exchange →
         ⊥ }
 {}
@@ -138,7 +136,7 @@ pub fn services_need_a_station_that_is_up()
 {}
 
 /// What holds of a primary station and of the exchanges of its line, call by call: what the laws
-/// above and those of offers, rests, outcomes and gaps say, in one record.
+/// above and those of commands, rests, outcomes and gaps say, in one record.
 pub fn line_keeps_the_procedures()
     ensures { LineLaws }
 {
@@ -150,5 +148,5 @@ pub fn line_keeps_the_procedures()
     requests_are_read_back();
     rests_mean();
     next_changes_nothing();
-    offers_wait();
+    commands_are_those_that_wait();
 }

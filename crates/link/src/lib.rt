@@ -20,12 +20,11 @@
 //!   ([`repeats_are_as_many_as_set`]), a command that waits goes out before any new poll
 //!   ([`commands_go_before_polls`]) and polls follow it in its turn ([`polls_follow_commands`]), as
 //!   they follow a held service ([`turns_go_on_behind_held_services`]), polls and commands go by
-//!   ACD and DFC ([`flags_are_heeded`], [`class_1_polls_go_on`]), a command is sent for the first
-//!   time once, in order ([`commands_are_sent_in_order`]), what is offered waits until then
-//!   ([`offers_wait`]) and is taken where no other is under way ([`one_command_at_a_time`]), what
-//!   the caller learns is what the exchanges show ([`outcomes_are_answers`],
-//!   [`outcomes_bear_the_reports`]), and those that closed with octets but no answer are counted
-//!   ([`spoilt_exchanges_are_counted`]);
+//!   ACD and DFC ([`flags_are_heeded`], [`class_1_polls_go_on`]), a command that is sent for the
+//!   first time is the one that waits ([`commands_are_those_that_wait`]), and goes out where no
+//!   other is under way ([`one_command_at_a_time`]), what the caller learns is what the exchanges
+//!   show ([`outcomes_are_answers`], [`outcomes_bear_the_reports`]), and those that closed with
+//!   octets but no answer are counted ([`spoilt_exchanges_are_counted`]);
 //! - a reset that ends a session whose last report may be lost is reported, and no other
 //!   ([`gaps_are_reported`], [`gaps_are_ended_sessions`], [`gaps_are_lost_polls`]);
 //! - where a link is given up at a restart no other station changes
@@ -72,6 +71,7 @@ mod session;
 mod settings;
 mod station;
 mod turn;
+mod user;
 
 pub use answer::Answer;
 pub use asdu::{AsduRef, CommandOctets, UserData};
@@ -90,21 +90,20 @@ pub use laws::carrying::{
     frame_count_bits_go_on, giving_up_is_for_one_station, giving_up_is_logged, sessions_go_on,
     the_latest_exchange_is_marked,
 };
+pub use laws::commands::{commands_are_those_that_wait, one_command_at_a_time};
 pub use laws::flags::flags_are_heeded;
 pub use laws::gaps::{gaps_are_ended_sessions, gaps_are_lost_polls, gaps_are_reported};
 pub use laws::leave::{polls_wait_for_leave, rests_mean};
 pub use laws::life::{
     answers_show_what_waits, station_is_an_outstation, station_serves_each_request,
 };
-pub use laws::offers::{offers_wait, one_command_at_a_time};
 pub use laws::precedence::commands_go_before_polls;
 pub use laws::refinement::{
     commands_are_accepted, each_service_acts_once, frame_count_bits_alternate, reports_are_learnt,
     sessions_are_known, silence_is_no_reset,
 };
 pub use laws::runs::{
-    commands_are_sent_in_order, frame_count_bits_are_kept, outcomes_are_answers,
-    spoilt_exchanges_are_counted, turns_go_round,
+    frame_count_bits_are_kept, outcomes_are_answers, spoilt_exchanges_are_counted, turns_go_round,
 };
 pub use laws::tables::{answers_are_whole, requests_are_whole, reserved_bits_are_not_looked_at};
 pub use laws::visits::{a_turn_is_one_visit, no_station_starves, turns_end};
@@ -124,3 +123,4 @@ pub use session::SessionState;
 pub use settings::LinkSettings;
 pub use station::Station;
 pub use turn::StationState;
+pub use user::LinkUser;

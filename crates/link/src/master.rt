@@ -11,8 +11,9 @@ ghost use Rattle.link.specs.Primary.{start, choice, station_asked, after_choice,
 ghost use Rattle.link.specs.Primary.{request_of, acd_of, dfc_of, phase_after, station_answered};
 ghost use Rattle.link.specs.Primary.{answered_with, answer_outcome, received, received_outcome};
 ghost use Rattle.link.specs.Primary.{station_unanswered, unanswered, miss_outcome, timed_out};
-ghost use Rattle.link.specs.Primary.{due_outcome, is_sending_command, may_offer, offered_to};
-ghost use Rattle.link.specs.Primary.{without_offer, withdrawn};
+ghost use Rattle.link.specs.Primary.{due_outcome, is_sending_command};
+ghost use Rattle.link.specs.Exchanges.{Sending};
+ghost use Rattle.link.specs.Runs.{FitsLine};
 ghost use Rattle.link.specs.Leave.{is_polling};
 ghost use Rattle.link.specs.declared.outcome.Outcome.TheVariants as outcome;
 ghost use Rattle.link.specs.Holding.{outstanding_of, IsFittingChoice, frame_after, so_far_after};
@@ -23,7 +24,6 @@ mod restoring;
 mod saving;
 
 use crate::answer::Answer;
-use crate::asdu::CommandOctets;
 use crate::awaited::Awaited;
 use crate::control::{shows_acd, shows_dfc};
 use crate::no_memory::NoMemory;
@@ -34,6 +34,7 @@ use crate::service::{Asked, Service};
 use crate::session::SessionState;
 use crate::settings::LinkSettings;
 use crate::turn::{Chosen, Phase, Pick, StationState, Wanted, Wish, first_wanted, nth_station};
+use crate::user::LinkUser;
 use ft12::{Assembler, Frame, FrameRef, FrontRef, Received, front_is_computed, front_ref};
 use std::alloc::Global;
 use std::marker::Model;
@@ -85,14 +86,11 @@ impl Model for Master {
 }
 
 impl StationState {
-    /// A command that is put on the line isn't offered any more.
+    /// A request goes out to it.
     fn ask(&mut self, request: &Asked)
         ensures { self.new ≡ station_asked self.old request.now }
     {
         self.session.ask(request);
-        if let Asked::Counted(_, Service::Command(_)) = request {
-            self.offered = None;
-        }
     }
 
     fn answer(&mut self, request: &Asked, frame: FrameRef<'_>, answer: &Answer<'_>)
@@ -173,14 +171,6 @@ fn spoilt_after(spoilt: u64, awaited: &Awaited) -> u64
     }
 }
 
-fn withdraw_all(stations: &mut [StationState])
-    ensures { stations.new ≡ map without_offer stations.old }
-{
-    for station in stations.iter_mut() {
-        station.offered = None;
-    }
-}
-
 /// The frame that a piece completes, if it does.
 fn frame_in(assembler: &mut Assembler, piece: &[u8]) -> Option<Frame>
     ensures frame { result ≡ frame_after
@@ -247,7 +237,6 @@ impl Master {
                 link: Link::Down,
                 acd: false,
                 dfc: false,
-                offered: None,
                 session: SessionState {
                     number: 0,
                     has_gap: false,
@@ -307,19 +296,22 @@ impl Master {
         self.spoilt
     }
 
-    fn choose(&self, may_poll: bool) -> Option<Pick>
-        ensures chosen { option_map (picked self.now.stations) result ≡ choice self.now may_poll }
-        ensures fits { IsFittingChoice self.now (option_map (picked self.now.stations) result) }
+    fn choose<U: LinkUser>(&self, may_poll: bool, user: &U) -> Option<Pick>
+        ensures chosen { option_map (picked self.now.stations (U.waiting user.now)) result
+            ≡ choice self.now may_poll (U.waiting user.now) }
+        ensures in_range { IfSome result (λ pick. pick.station < length self.now.stations) }
         ensures possible { IfSome result (λ pick.
-            IsPossible (station_at self.now.stations pick.station) pick.wish) }
+            IsPossible (station_at self.now.stations pick.station)
+            (U.waiting user.now pick.station) pick.wish) }
     {
         let station = nth_station(&self.stations, self.turn);
-        match station.wish(self.settings.burst, may_poll, self.again, self.phase) {
+        let burst = self.settings.burst;
+        match station.wish(burst, may_poll, self.again, self.phase, user, self.turn) {
             Some(wish) => Some(Pick {
                 station: self.turn,
                 wish,
             }),
-            None => first_wanted(&self.stations, self.settings.burst, may_poll, self.turn),
+            None => first_wanted(&self.stations, burst, may_poll, self.turn, user),
         }
     }
 
@@ -348,24 +340,29 @@ impl Master {
     /// The next request, at this moment in milliseconds: none where one is outstanding, or no
     /// station has any. With `may_poll` false no data are asked for, save by a poll that is
     /// unanswered and sent again at once. The request is to be put on the line: its exchange begins
-    /// now.
-    pub fn next(&mut self, now: u64, may_poll: bool) -> Option<Request>
-        ensures state { self.new ≡ asked self.old now may_poll }
-        ensures request { result ≡ option_map (request_of self.old) (sending self.old may_poll) }
+    /// now. A command that goes out for the first time is the one that waits for its station, and
+    /// its user has it to do that it waits no more.
+    pub fn next<U: LinkUser>(&mut self, now: u64, may_poll: bool, user: &U) -> Option<Request>
+        ensures state { self.new ≡ asked self.old now may_poll (U.waiting user.now) }
+        ensures request { result ≡ option_map (request_of self.old)
+            (sending self.old may_poll (U.waiting user.now)) }
+        ensures fits { FitsLine self.old may_poll (U.waiting user.now) }
     {
         if self.is_awaiting() {
             return None;
         }
-        self.begin_next(now, may_poll)
+        self.begin_next(now, may_poll, user)
     }
 
     /// As `next`, while no request is outstanding.
-    fn begin_next(&mut self, now: u64, may_poll: bool) -> Option<Request>
+    fn begin_next<U: LinkUser>(&mut self, now: u64, may_poll: bool, user: &U) -> Option<Request>
         requires { self.old.outstanding ≡ None }
-        ensures state { self.new ≡ asked self.old now may_poll }
-        ensures request { result ≡ option_map (request_of self.old) (sending self.old may_poll) }
+        ensures state { self.new ≡ asked self.old now may_poll (U.waiting user.now) }
+        ensures request { result ≡ option_map (request_of self.old)
+            (sending self.old may_poll (U.waiting user.now)) }
+        ensures fits { FitsLine self.old may_poll (U.waiting user.now) }
     {
-        let Some(Pick { station, wish }) = self.choose(may_poll) else {
+        let Some(Pick { station, wish }) = self.choose(may_poll, user) else {
             // The turn has ended, though no request shows it (docs/DECISIONS.md, "A call that
             // finds no request").
             self.phase = Phase::Over;
@@ -381,28 +378,36 @@ impl Master {
                 request: Asked::Counted(fcb, Service::Class2),
                 following: Phase::Class1Polling(0),
             },
-            _ => return Some(self.begin_other(now, station, wish)),
+            _ => return Some(self.begin_other(now, station, wish, user)),
         };
         Some(self.begin(now, Chosen { station, wanted }))
     }
 
     /// As `begin`, for any wish.
-    fn begin_other(&mut self, now: u64, station: usize, wish: Wish) -> Request
-        requires fits { IsFittingChoice self.old (Some (record {
-          station = station;
-          wanted = wished (station_at self.old.stations station) wish;
-        })) }
-        requires possible { IsPossible (station_at self.old.stations station) wish }
+    fn begin_other<U: LinkUser>(
+        &mut self,
+        now: u64,
+        station: usize,
+        wish: Wish,
+        user: &U,
+    ) -> Request
+        requires in_range { station < length self.old.stations }
+        requires possible { IsPossible (station_at self.old.stations station)
+            (U.waiting user.now station) wish }
         ensures state { self.new ≡ after_choice self.old now (Some (record {
           station = station;
-          wanted = wished (station_at self.old.stations station) wish;
+          wanted =
+              wished (station_at self.old.stations station) (U.waiting user.now station) wish;
         })) }
         ensures request { result ≡ request_of self.old (record {
           station = station;
-          request = (wished (station_at self.old.stations station) wish).request;
+          request = (wished (station_at self.old.stations station)
+              (U.waiting user.now station) wish).request;
         }) }
+        ensures fits { FitsAsked self.old.settings.size (wished
+            (station_at self.old.stations station) (U.waiting user.now station) wish).request }
     {
-        let wanted = nth_station(&self.stations, station).wanted(wish);
+        let wanted = nth_station(&self.stations, station).wanted(wish, user, station);
         self.begin(now, Chosen { station, wanted })
     }
 
@@ -650,43 +655,5 @@ impl Master {
         self.phase = phase_missed(again, self.phase);
         self.again = again;
         down
-    }
-
-    /// Whether the station has no command that isn't done.
-    fn is_free(&self, station: usize) -> bool
-        requires { station < length self.now.stations }
-        ensures { result ≡ may_offer self.now station }
-    {
-        let there = nth_station(&self.stations, station);
-        // One at a time: an outcome names a station, and so the one command that is under way
-        // there.
-        there.offered.is_none()
-            && !there.link.holds_command()
-            && !(self.turn == station && sends_command(&self.outstanding))
-    }
-
-    /// Offers a command to the station with this index: user data of 1 to [`LONGEST_COMMAND`]
-    /// octets. False, and nothing changes, where the station has an offered command, or one that
-    /// was put on the line and isn't done.
-    pub fn offer(&mut self, station: usize, asdu: &[u8]) -> bool
-        requires station { station < length self.old.stations }
-        requires asdu { IsUserData self.old.settings.size asdu.now }
-        requires short { length asdu.now ≤ 12 }
-        ensures state { self.new ≡ offered_to self.old station asdu.now }
-        ensures accepted { result ≡ may_offer self.old station }
-    {
-        if !self.is_free(station) {
-            return false;
-        }
-        self.stations[station].offered = Some(CommandOctets::new(asdu));
-        true
-    }
-
-    /// Takes back every offered command that was never put on the line.
-    pub fn withdraw(&mut self)
-        ensures { self.new ≡ withdrawn self.old }
-    {
-        // What is on the line, or held, stays: the station may have taken it.
-        withdraw_all(&mut self.stations);
     }
 }

@@ -1,6 +1,6 @@
 //! A station's state as lines of numbers, and back.
 //!
-//! A station has three lines: its address, flags and session; its link; and its offered command.
+//! A station has two lines: its address, flags and session; and its link.
 //! The part of a line whose length varies ends the line, so that no reader hands on a rest.
 ghost use Rattle.std.specs.Prelude.{◌≡◌, ◌++◌, ◌∷◌, ◌<◌, [], List, ℕ, length, OnOk, MatchResult};
 ghost use Rattle.std.specs.List.{AllByRecursion};
@@ -8,10 +8,9 @@ ghost use Rattle.checkpoint.specs.declared.StateFault.TheVariants.{Wrong};
 ghost use Rattle.link.specs.Saved.{bit_number, bit_from, service_numbers, service_by, service_from};
 ghost use Rattle.link.specs.Saved.{link_numbers, link_by, link_from, next_from, held_from};
 ghost use Rattle.link.specs.Saved.{held_missed};
-ghost use Rattle.link.specs.Saved.{flags_numbers, flags_from, offered_numbers, offered_by};
-ghost use Rattle.link.specs.Saved.{offered_from};
+ghost use Rattle.link.specs.Saved.{flags_numbers, flags_from};
 ghost use Rattle.link.specs.Saved.{command_from, lines_of};
-ghost use Rattle.link.specs.Saved.{FitsSavedService, FitsSavedLink, FitsSavedOffer};
+ghost use Rattle.link.specs.Saved.{FitsSavedService, FitsSavedLink};
 ghost use Rattle.link.specs.Saved.{FitsSavedStation};
 ghost use Rattle.link.specs.Turns.{StationState};
 
@@ -192,21 +191,6 @@ fn put_flags(station: &StationState, line: &mut Vec<u64>) -> Result<(), AllocErr
     Ok(())
 }
 
-/// Puts a station's third line: the command that is offered to it.
-fn put_offered(offered: &Option<CommandOctets>, line: &mut Vec<u64>) -> Result<(), AllocError>
-    ensures line { OnOk result (line.new.items ≡ line.old.items ++ offered_numbers offered.now) }
-    ensures fits { OnOk result (FitsSavedOffer offered.now) }
-{
-    match offered {
-        None => line.push(0)?,
-        Some(command) => {
-            line.push(1)?;
-            put_octets(command.octets(), line)?;
-        }
-    }
-    Ok(())
-}
-
 /// A station that is down, with what its first line says.
 fn flags_from(numbers: &[u64]) -> Option<StationState>
     ensures { result ≡ flags_from numbers.now }
@@ -224,7 +208,6 @@ fn flags_from(numbers: &[u64]) -> Option<StationState>
                 link: Link::Down,
                 acd,
                 dfc,
-                offered: None,
                 session: SessionState {
                     number: *number,
                     has_gap,
@@ -235,26 +218,7 @@ fn flags_from(numbers: &[u64]) -> Option<StationState>
     }
 }
 
-/// The offered command, or that there is none, by the kind of the line.
-fn offered_by(kind: u64, numbers: &[u64]) -> Option<Option<CommandOctets>>
-    ensures { result ≡ offered_by kind numbers.now }
-{
-    match (kind, numbers) {
-        (0, []) => Some(None),
-        (1, octets) => Some(Some(command_from(octets)?)),
-        _ => None,
-    }
-}
-
-/// The offered command that a line says, or that there is none.
-fn offered_from(numbers: &[u64]) -> Option<Option<CommandOctets>>
-    ensures { result ≡ offered_from numbers.now }
-{
-    let (kind, others) = numbers.split_first()?;
-    offered_by(*kind, others)
-}
-
-/// Puts a station's three lines.
+/// Puts a station's two lines.
 fn put_station<S: Sheet>(
     station: &StationState,
     sheet: &mut S,
@@ -270,17 +234,13 @@ fn put_station<S: Sheet>(
     line.clear();
     put_link(&station.link, line)?;
     sheet.put(line.as_slice())?;
-    line.clear();
-    put_offered(&station.offered, line)?;
-    sheet.put(line.as_slice())?;
     Ok(())
 }
 
-/// Reads a station's three lines.
+/// Reads a station's two lines.
 fn read_station<L: Lines>(lines: &mut L, line: &mut Vec<u64>) -> Result<StationState, StateFault>
     ensures { (s : StationState) (rest : List (List ℕ)) → FitsSavedStation s →
-        L.coming lines.old
-        ≡ flags_numbers s ∷ link_numbers s.link ∷ offered_numbers s.offered ∷ rest →
+        L.coming lines.old ≡ flags_numbers s ∷ link_numbers s.link ∷ rest →
         MatchResult result (λ t. (t ≡ s) × (L.coming lines.new ≡ rest)) (λ e. e ≡ Wrong → ⊥) }
 {
     lines.next(line)?;
@@ -291,16 +251,11 @@ fn read_station<L: Lines>(lines: &mut L, line: &mut Vec<u64>) -> Result<StationS
     let Some(link) = link_from(line.as_slice()) else {
         return Err(StateFault::Wrong);
     };
-    lines.next(line)?;
-    let Some(offered) = offered_from(line.as_slice()) else {
-        return Err(StateFault::Wrong);
-    };
     Ok(StationState {
         address: bare.address,
         link,
         acd: bare.acd,
         dfc: bare.dfc,
-        offered,
         session: bare.session,
     })
 }

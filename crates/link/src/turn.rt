@@ -2,11 +2,13 @@
 ghost use Rattle.std.specs.Prelude.{◌≡◌, ◌<◌, List, length, option_map, IfSome, is_some, true};
 ghost use Rattle.link.specs.Procedure.{is_held};
 ghost use Rattle.link.specs.Turns.{is_poll, wanted_poll, polls_from, commands_from, next_of};
-ghost use Rattle.link.specs.Turns.{wanted, wished, offer_request, held_request, picked, station_at};
+ghost use Rattle.link.specs.Turns.{wanted, wished, command_request, held_request, picked};
+ghost use Rattle.link.specs.Turns.{station_at};
 ghost use Rattle.link.specs.Turns.{IsPossible};
 ghost use Rattle.link.specs.Turns.{place_after, first_after};
 
 use crate::asdu::CommandOctets;
+use crate::user::LinkUser;
 use crate::procedure::Link;
 use crate::service::{Asked, Service};
 use crate::session::SessionState;
@@ -35,8 +37,6 @@ pub struct StationState {
     pub acd: bool,
     /// DFC of its latest answer: it takes no more user data.
     pub dfc: bool,
-    /// The command that is offered to it.
-    pub offered: Option<CommandOctets>,
     /// Its latest session.
     pub session: SessionState,
 }
@@ -55,8 +55,8 @@ pub struct Chosen {
     pub wanted: Wanted,
 }
 
-/// What is wanted next of a station, in a word. The octets of a command stay with the station, so
-/// that it is handed on in registers until it is known which request is to be made.
+/// What is wanted next of a station, in a word. The octets of a command stay with whoever has them,
+/// so that it is handed on in registers until it is known which request is to be made.
 #[derive(Clone, Copy)]
 pub enum Wish {
     AskStatus,
@@ -64,8 +64,8 @@ pub enum Wish {
     /// A poll, with its frame count bit, and how many of class 1 the turn has sent with it.
     PollClass1(bool, u8),
     PollClass2(bool),
-    /// The offered command.
-    SendOffered(bool),
+    /// The command that waits for the station.
+    SendCommand(bool),
     /// The unanswered service once more, and the phase that follows.
     SendHeld(Phase),
 }
@@ -89,9 +89,9 @@ pub(crate) fn poll_service(service: &Service) -> bool
 
 impl StationState {
     fn poll_wish(&self, burst: u8, fcb: bool, phase: Phase) -> Option<Wish>
-        ensures wish { option_map (wished self.now) result
+        ensures wish { option_map (wished self.now None) result
             ≡ wanted_poll burst fcb self.now.acd phase }
-        ensures possible { IfSome result (λ wish. IsPossible self.now wish) }
+        ensures possible { IfSome result (λ wish. IsPossible self.now None wish) }
     {
         match phase {
             // As ACD is now, behind the command (docs/DECISIONS.md, "ACD when the polls begin").
@@ -107,9 +107,9 @@ impl StationState {
     }
 
     fn polls_wish(&self, burst: u8, may_poll: bool, fcb: bool, phase: Phase) -> Option<Wish>
-        ensures wish { option_map (wished self.now) result
+        ensures wish { option_map (wished self.now None) result
             ≡ polls_from burst may_poll fcb self.now phase }
-        ensures possible { IfSome result (λ wish. IsPossible self.now wish) }
+        ensures possible { IfSome result (λ wish. IsPossible self.now None wish) }
     {
         // A report that finds no room would be lost, since the station has given it.
         if may_poll {
@@ -119,25 +119,44 @@ impl StationState {
         }
     }
 
-    fn commands_wish(&self, burst: u8, may_poll: bool, fcb: bool) -> Option<Wish>
-        ensures wish { option_map (wished self.now) result
-            ≡ commands_from burst may_poll fcb self.now self.now.offered }
-        ensures possible { IfSome result (λ wish. IsPossible self.now wish) }
+    fn commands_wish<U: LinkUser>(
+        &self,
+        burst: u8,
+        may_poll: bool,
+        fcb: bool,
+        user: &U,
+        place: usize,
+    ) -> Option<Wish>
+        ensures wish { option_map (wished self.now (U.waiting user.now place)) result
+            ≡ commands_from burst may_poll fcb self.now (U.waiting user.now place) }
+        ensures possible { IfSome result (λ wish.
+            IsPossible self.now (U.waiting user.now place) wish) }
     {
-        match &self.offered {
+        match user.command(place) {
             // DFC asks for no more user data. A poll brings the station none.
-            Some(_) if !self.dfc => Some(Wish::SendOffered(fcb)),
+            Some(_) if !self.dfc => Some(Wish::SendCommand(fcb)),
             _ => self.polls_wish(burst, may_poll, fcb, Phase::Polling),
         }
     }
 
-    fn next_wish(&self, burst: u8, may_poll: bool, fcb: bool, phase: Phase) -> Option<Wish>
-        ensures wish { option_map (wished self.now) result
-            ≡ next_of burst may_poll fcb self.now phase }
-        ensures possible { IfSome result (λ wish. IsPossible self.now wish) }
+    fn next_wish<U: LinkUser>(
+        &self,
+        burst: u8,
+        may_poll: bool,
+        fcb: bool,
+        phase: Phase,
+        user: &U,
+        place: usize,
+    ) -> Option<Wish>
+        ensures wish { option_map (wished self.now (U.waiting user.now place)) result
+            ≡ next_of burst may_poll fcb self.now (U.waiting user.now place) phase }
+        ensures possible { IfSome result (λ wish.
+            IsPossible self.now (U.waiting user.now place) wish) }
     {
         match phase {
-            Phase::Starting | Phase::Commanding => self.commands_wish(burst, may_poll, fcb),
+            Phase::Starting | Phase::Commanding => {
+                self.commands_wish(burst, may_poll, fcb, user, place)
+            }
             Phase::Polling | Phase::Class1Polling(_) => {
                 self.polls_wish(burst, may_poll, fcb, phase)
             }
@@ -145,16 +164,27 @@ impl StationState {
         }
     }
 
-    /// What the station's turn has next.
-    pub(crate) fn wish(&self, burst: u8, may_poll: bool, again: bool, phase: Phase) -> Option<Wish>
-        ensures wish { option_map (wished self.now) result
-            ≡ wanted burst may_poll again self.now phase }
-        ensures possible { IfSome result (λ wish. IsPossible self.now wish) }
+    /// What the turn of the station, which has this place, has next.
+    pub(crate) fn wish<U: LinkUser>(
+        &self,
+        burst: u8,
+        may_poll: bool,
+        again: bool,
+        phase: Phase,
+        user: &U,
+        place: usize,
+    ) -> Option<Wish>
+        ensures wish { option_map (wished self.now (U.waiting user.now place)) result
+            ≡ wanted burst may_poll again self.now (U.waiting user.now place) phase }
+        ensures possible { IfSome result (λ wish.
+            IsPossible self.now (U.waiting user.now place) wish) }
     {
         match (&self.link, phase) {
             (Link::Down, Phase::Starting) => Some(Wish::AskStatus),
             (Link::Available, Phase::Starting) => Some(Wish::AskReset),
-            (Link::Next(fcb), phase) => self.next_wish(burst, may_poll, *fcb, phase),
+            (Link::Next(fcb), phase) => {
+                self.next_wish(burst, may_poll, *fcb, phase, user, place)
+            }
             // A held service counts as no step of the turn: all of them follow (docs/DECISIONS.md,
             // "A held service").
             (Link::Held(_, service, _), Phase::Starting) if may_poll || !poll_service(service) => {
@@ -168,17 +198,6 @@ impl StationState {
         }
     }
 
-    /// The request for the offered command.
-    fn offered_request(&self, fcb: bool) -> Asked
-        requires { is_some self.now.offered ≡ true }
-        ensures { result ≡ offer_request fcb self.now.offered }
-    {
-        let Some(command) = &self.offered else {
-            unreachable!();
-        };
-        Asked::Counted(fcb, Service::Command(command.copied()))
-    }
-
     /// The request for the held service.
     fn held_request(&self) -> Asked
         requires { is_held self.now.link ≡ true }
@@ -190,10 +209,11 @@ impl StationState {
         Asked::Counted(*fcb, service.copied())
     }
 
-    /// The request that a wish stands for, and the phase that follows.
-    pub(crate) fn wanted(&self, wish: Wish) -> Wanted
-        requires { IsPossible self.now wish }
-        ensures { result ≡ wished self.now wish }
+    /// The request that a wish of the station, which has this place, stands for, and the phase that
+    /// follows.
+    pub(crate) fn wanted<U: LinkUser>(&self, wish: Wish, user: &U, place: usize) -> Wanted
+        requires { IsPossible self.now (U.waiting user.now place) wish }
+        ensures value { result ≡ wished self.now (U.waiting user.now place) wish }
     {
         match wish {
             // The reset belongs to the same turn.
@@ -216,8 +236,8 @@ impl StationState {
                 request: Asked::Counted(fcb, Service::Class2),
                 following: Phase::Class1Polling(0),
             },
-            Wish::SendOffered(fcb) => Wanted {
-                request: self.offered_request(fcb),
+            Wish::SendCommand(fcb) => Wanted {
+                request: command_request(fcb, user, place),
                 following: Phase::Polling,
             },
             Wish::SendHeld(following) => Wanted {
@@ -226,6 +246,17 @@ impl StationState {
             },
         }
     }
+}
+
+/// The request for the command that waits for the station with this index.
+fn command_request<U: LinkUser>(fcb: bool, user: &U, place: usize) -> Asked
+    requires { is_some (U.waiting user.now place) ≡ true }
+    ensures { result ≡ command_request fcb (U.waiting user.now place) }
+{
+    let Some(octets) = user.command(place) else {
+        unreachable!();
+    };
+    Asked::Counted(fcb, Service::Command(CommandOctets::new(octets)))
 }
 
 /// The station with this index.
@@ -246,24 +277,26 @@ fn next_place(count: usize, place: usize) -> usize
 
 /// The first of the stations, once round from the one after this place, that has a request to begin
 /// a turn with.
-pub(crate) fn first_wanted(
+pub(crate) fn first_wanted<U: LinkUser>(
     stations: &[StationState],
     burst: u8,
     may_poll: bool,
     turn: usize,
+    user: &U,
 ) -> Option<Pick>
     requires { turn < length stations.now }
-    ensures first { option_map (picked stations.now) result
-        ≡ first_after burst may_poll stations.now (length stations.now) turn }
+    ensures first { option_map (picked stations.now (U.waiting user.now)) result
+        ≡ first_after burst may_poll stations.now (U.waiting user.now) (length stations.now) turn }
     ensures in_range { IfSome result (λ pick. pick.station < length stations.now) }
-    ensures possible { IfSome result (λ pick.
-        IsPossible (station_at stations.now pick.station) pick.wish) }
+    ensures possible { IfSome result (λ pick. IsPossible (station_at stations.now pick.station)
+        (U.waiting user.now pick.station) pick.wish) }
 {
     let mut place = turn;
     // All of them, and last the one that was served last: it may be the only one with a request.
     for _seen in 0..stations.len() {
         place = next_place(stations.len(), place);
-        let wish = nth_station(stations, place).wish(burst, may_poll, false, Phase::Starting);
+        let station = nth_station(stations, place);
+        let wish = station.wish(burst, may_poll, false, Phase::Starting, user, place);
         if let Some(wish) = wish {
             return Some(Pick {
                 station: place,

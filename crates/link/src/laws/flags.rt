@@ -4,7 +4,7 @@ ghost use Rattle.ft12.specs.Fronts.{front_of};
 ghost use Rattle.link.specs.Exchanges.{Exchanges, Sending};
 ghost use Rattle.link.specs.Flags.{Heeds, flags_at, link_at};
 ghost use Rattle.link.specs.Procedure.{LinkSettings, is_held};
-ghost use Rattle.link.specs.Turns.{station_at};
+ghost use Rattle.link.specs.Turns.{CommandsWaiting, station_at};
 ghost use Rattle.link.specs.Primary.{Primary, sending};
 ghost use Rattle.link.specs.Matching.{Matches};
 
@@ -21,8 +21,8 @@ pub fn flags_are_heeded()
         (station_at p.stations station).dfc
         ≡ (flags_at (front_of settings.size) addresses station e).dfc }
     ensures heeds { (settings : LinkSettings) (addresses : List ℕ) (p : Primary) (e : Exchanges)
-        (may_poll : Bool) (s : Sending) →
-        Matches settings addresses p e → sending p may_poll ≡ Some s →
+        (may_poll : Bool) (waiting : CommandsWaiting) (s : Sending) →
+        Matches settings addresses p e → sending p may_poll waiting ≡ Some s →
         is_held (link_at settings (front_of settings.size) addresses s.station e) ≡ false →
         Heeds (flags_at (front_of settings.size) addresses s.station e) s.request }
 {}

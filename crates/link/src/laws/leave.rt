@@ -3,27 +3,26 @@ ghost use Rattle.std.specs.Prelude.{◌≡◌, ◌<◌, ◌⊎◌, ℕ, Bool, tr
 ghost use Rattle.std.specs.Prelude.{Some, None};
 ghost use Rattle.ft12.specs.declared.frame.Front.{Front};
 ghost use Rattle.link.specs.Exchanges.{Sending};
-ghost use Rattle.link.specs.Turns.{station_at};
+ghost use Rattle.link.specs.Turns.{CommandsWaiting, station_at};
 ghost use Rattle.link.specs.Primary.{Primary, asked, sending, received, received_outcome};
-ghost use Rattle.link.specs.Primary.{timed_out, offered_to, withdrawn};
+ghost use Rattle.link.specs.Primary.{timed_out};
 ghost use Rattle.link.specs.Holding.{IsFitting};
 ghost use Rattle.link.specs.Leave.{is_poll_request, is_polling, is_report, IsLeftToPolls};
 
 /// A report comes only while a poll is going on, and ends it. Without leave no poll is begun, by
 /// any call: one goes out only to be sent again.
 pub fn polls_wait_for_leave()
-    ensures without { (p : Primary) (s : Sending) → sending p false ≡ Some s →
+    ensures without { (p : Primary) (waiting : CommandsWaiting) (s : Sending) →
+        sending p false waiting ≡ Some s →
         is_poll_request s.request ≡ true → is_polling p ≡ true }
-    ensures next { (p : Primary) (now : ℕ) (may_poll : Bool) →
-        is_polling (asked p now may_poll) ≡ true → (is_polling p ≡ true) ⊎ (may_poll ≡ true) }
+    ensures next { (p : Primary) (now : ℕ) (may_poll : Bool) (waiting : CommandsWaiting) →
+        is_polling (asked p now may_poll waiting) ≡ true →
+        (is_polling p ≡ true) ⊎ (may_poll ≡ true) }
     ensures octets { (front : List ℕ → Front) (p : Primary) (octets : List ℕ) →
         is_polling (received front p octets) ≡ true →
         is_polling p ≡ true }
     ensures due { (p : Primary) (at : ℕ) → is_polling (timed_out p at) ≡ true →
         is_polling p ≡ true }
-    ensures offer { (p : Primary) (station : ℕ) (asdu : List ℕ) →
-        is_polling (offered_to p station asdu) ≡ is_polling p }
-    ensures withdraw { (p : Primary) → is_polling (withdrawn p) ≡ is_polling p }
     ensures report { (front : List ℕ → Front) (p : Primary) (octets : List ℕ) →
         is_report (received_outcome front p octets) ≡ true →
         (is_polling p ≡ true) × (is_polling (received front p octets) ≡ false) }
@@ -32,10 +31,10 @@ pub fn polls_wait_for_leave()
 /// Where nothing goes out, nothing is left to be asked of any station but data, and that only for
 /// want of leave.
 pub fn rests_mean()
-    ensures leave { (p : Primary) (may_poll : Bool) → IsFitting p → p.outstanding ≡ None →
-        sending p may_poll ≡ None → may_poll ≡ false }
-    ensures stations { (p : Primary) (may_poll : Bool) → IsFitting p → p.outstanding ≡ None →
-        sending p may_poll ≡ None →
+    ensures leave { (p : Primary) (may_poll : Bool) (waiting : CommandsWaiting) → IsFitting p →
+        p.outstanding ≡ None → sending p may_poll waiting ≡ None → may_poll ≡ false }
+    ensures stations { (p : Primary) (may_poll : Bool) (waiting : CommandsWaiting) →
+        IsFitting p → p.outstanding ≡ None → sending p may_poll waiting ≡ None →
         (i : ℕ) → i < length p.stations →
-        IsLeftToPolls (station_at p.stations i) (station_at p.stations i).link }
+        IsLeftToPolls (station_at p.stations i) (waiting i) (station_at p.stations i).link }
 {}

@@ -14,13 +14,13 @@ ghost use Rattle.link.specs.Gaps.{gap_at};
 ghost use Rattle.link.specs.Procedure.{LinkSettings, Down, KeepsFrameCountBit, after_silence};
 ghost use Rattle.link.specs.Procedure.{link_after};
 ghost use Rattle.link.specs.Requests.{FitsAddress};
-ghost use Rattle.link.specs.Turns.{Wanted, station_at, wanted};
+ghost use Rattle.link.specs.Turns.{Wanted, CommandsWaiting, station_at, wanted};
 ghost use Rattle.link.specs.Primary.{Primary, start, sending, received, outcome_of, with_gap};
 ghost use Rattle.link.specs.Primary.{received_outcome, timed_out, due_outcome};
 ghost use Rattle.link.specs.declared.outcome.Outcome.TheVariants as outcome;
 ghost use Rattle.link.specs.Matching.{Matches};
-ghost use Rattle.link.specs.Runs.{Call, MayCallAll, called_all, exchanged_all, all_deeds};
-ghost use Rattle.link.specs.Runs.{AreInOrder, BeginsTurn, HaveNone, nth_after, silence_outcome};
+ghost use Rattle.link.specs.Runs.{Call, MayCallAll, called_all, exchanged_all, BeginsTurn};
+ghost use Rattle.link.specs.Runs.{HaveNone, nth_after, silence_outcome};
 
 use ft12::front_is_computed;
 
@@ -43,18 +43,23 @@ pub fn frame_count_bits_are_kept()
 /// none has one. Round means in the order of the stations, and behind the last the first again. The
 /// first turn is the first station's.
 pub fn turns_go_round()
-    ensures goes_on { (p : Primary) (may_poll : Bool) (w : Wanted) → p.outstanding ≡ None →
-        wanted p.settings.burst may_poll p.again (station_at p.stations p.turn) p.phase ≡ Some w →
-        sending p may_poll ≡ Some (record { station = p.turn; request = w.request }) }
-    ensures passes_on { (p : Primary) (may_poll : Bool) (s : Sending) → p.outstanding ≡ None →
-        wanted p.settings.burst may_poll p.again (station_at p.stations p.turn) p.phase ≡ None →
-        sending p may_poll ≡ Some s → BeginsTurn p may_poll s }
-    ensures rests { (p : Primary) (may_poll : Bool) → p.outstanding ≡ None →
-        sending p may_poll ≡ None → HaveNone p may_poll }
+    ensures goes_on { (p : Primary) (may_poll : Bool) (waiting : CommandsWaiting) (w : Wanted) →
+        p.outstanding ≡ None → wanted p.settings.burst may_poll p.again
+        (station_at p.stations p.turn) (waiting p.turn) p.phase ≡ Some w →
+        sending p may_poll waiting
+        ≡ Some (record { station = p.turn; request = w.request }) }
+    ensures passes_on { (p : Primary) (may_poll : Bool) (waiting : CommandsWaiting)
+        (s : Sending) → p.outstanding ≡ None → wanted p.settings.burst may_poll p.again
+        (station_at p.stations p.turn) (waiting p.turn) p.phase ≡ None →
+        sending p may_poll waiting ≡ Some s → BeginsTurn p may_poll waiting s }
+    ensures rests { (p : Primary) (may_poll : Bool) (waiting : CommandsWaiting) →
+        p.outstanding ≡ None →
+        sending p may_poll waiting ≡ None → HaveNone p may_poll waiting }
     ensures order { (count place steps : ℕ) → place < count →
         nth_after count place steps ≡ (place + steps) % count }
-    ensures first { (settings : LinkSettings) (addresses : List ℕ) (may_poll : Bool) →
-        0 < length addresses → sending (start settings addresses) may_poll
+    ensures first { (settings : LinkSettings) (addresses : List ℕ) (may_poll : Bool)
+        (waiting : CommandsWaiting) → 0 < length addresses →
+        sending (start settings addresses) may_poll waiting
         ≡ Some (record { station = 0; request = Status }) }
 {}
 
@@ -98,19 +103,6 @@ pub fn outcomes_are_answers()
         × (received_outcome (front_of settings.size) p octets ≡ outcome.None)
         × (timed_out p at ≡ p) × (due_outcome p at ≡ outcome.None) }
 {}
-
-/// Each command that is put on the line for the first time is the one that waits: it was offered,
-/// and neither sent nor withdrawn since. So an offered command is sent at most once, in order, none
-/// is invented, and a withdrawal takes back what was never sent. (That an unanswered one is sent
-/// again octet for octet is kept with the frame count bit.)
-pub fn commands_are_sent_in_order()
-    ensures { (settings : LinkSettings) (addresses : List ℕ) (calls : List Call) (station : ℕ) →
-        0 < length addresses → All (FitsAddress settings.size) addresses →
-        MayCallAll (start settings addresses) calls →
-        AreInOrder None (all_deeds (start settings addresses) station calls) }
-{
-    front_is_computed();
-}
 
 /// Whatever is called, the count of spoilt exchanges is how many of the line's exchanges were
 /// closed, have octets and aren't answered, at most the greatest of 64 bits.

@@ -83,13 +83,11 @@ impl StationState {
         ensures fits { (size other : LinkSize) → FitsStation size self.now →
             FitsAddress other address → FitsStation other result }
     {
-        // A command that is only offered ends with the connection that sent it.
         StationState {
             address,
             link: self.link.carried(retries),
             acd: self.acd,
             dfc: self.dfc,
-            offered: None,
             session: self.session,
         }
     }
@@ -104,7 +102,6 @@ fn station_down(address: u16) -> StationState
         link: Link::Down,
         acd: false,
         dfc: false,
-        offered: None,
         session: SessionState {
             number: 0,
             has_gap: false,
@@ -177,9 +174,9 @@ impl Master {
 
     /// A primary station with these settings and stations, in the order of their turns. Each that
     /// was one of this one's goes on, where no service counts as unanswered more often than it is
-    /// repeated; the link to every other is down. Nothing is outstanding, no command is offered,
-    /// and the first turn is the first station's. Spoilt exchanges stay counted. It asks for what
-    /// [`Master::new`] asks for, and takes memory for the stations.
+    /// repeated; the link to every other is down. Nothing is outstanding, and the first turn is the
+    /// first station's. Spoilt exchanges stay counted. It asks for what [`Master::new`] asks for,
+    /// and takes memory for the stations.
     pub fn reseated(
         &self,
         alloc: Global,

@@ -5,7 +5,7 @@ ghost use Rattle.checkpoint.specs.declared.StateFault.TheVariants.{Wrong};
 ghost use Rattle.ft12.specs.Reading.{IsProperBeginning};
 ghost use Rattle.link.specs.Requests.{IsUserData, FitsAddress, FitsService};
 ghost use Rattle.link.specs.Primary.{Primary};
-ghost use Rattle.link.specs.Holding.{IsFitting, FitsStation, FitsLink, FitsOffer, FitsOutstanding};
+ghost use Rattle.link.specs.Holding.{IsFitting, FitsStation, FitsLink, FitsOutstanding};
 ghost use Rattle.link.specs.Holding.{outstanding_from};
 ghost use Rattle.link.specs.Restored.{phase_by, phase_from, head_from, asked_by, asked_from};
 ghost use Rattle.link.specs.Restored.{counted_from, awaited_from, awaited_by, some_awaited};
@@ -73,16 +73,6 @@ fn link_fits(size: LinkSize, link: &Link) -> bool
     }
 }
 
-/// Whether the command that is offered, if one is, fits the line.
-fn offer_fits(size: LinkSize, offered: &Option<CommandOctets>) -> bool
-    ensures { IsTrue result ↔ FitsOffer size offered.now }
-{
-    match offered {
-        None => true,
-        Some(command) => command_fits(size, command),
-    }
-}
-
 /// Whether a link address has its size.
 fn address_fits(size: LinkSize, address: u16) -> bool
     ensures { IsTrue result ↔ FitsAddress size address }
@@ -93,13 +83,11 @@ fn address_fits(size: LinkSize, address: u16) -> bool
     }
 }
 
-/// Whether the address of the station and the commands to it fit the line.
+/// Whether the address of the station and the command that it holds fit the line.
 fn station_fits(size: LinkSize, station: &StationState) -> bool
     ensures { IsTrue result ↔ FitsStation size station.now }
 {
-    address_fits(size, station.address)
-        && link_fits(size, &station.link)
-        && offer_fits(size, &station.offered)
+    address_fits(size, station.address) && link_fits(size, &station.link)
 }
 
 /// Whether the request that is outstanding, if one is, fits the line.
