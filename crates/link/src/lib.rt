@@ -123,4 +123,4 @@ pub use session::SessionState;
 pub use settings::LinkSettings;
 pub use station::Station;
 pub use turn::StationState;
-pub use user::LinkUser;
+pub use user::{LinkUser, NoCommands};

@@ -16,3 +16,15 @@ pub trait LinkUser {
         ensures fits { IfSome result
             (λ octets. (1 ≤ length octets.now) × (length octets.now ≤ 12)) };
 }
+
+/// A user without commands.
+#[derive(Clone, Copy)]
+pub struct NoCommands;
+
+impl LinkUser for NoCommands {
+    ghost waiting = { λ user. λ station. None };
+
+    fn command(&self, _station: usize) -> Option<&[u8]> {
+        None
+    }
+}

@@ -3,7 +3,7 @@ ghost use Rattle.std.specs.Prelude.{◌≡◌, ◌<◌, length};
 ghost use Rattle.ft12.specs.declared.frame.LinkSize.TheVariants.{One};
 
 use ft12::{Frame, LinkSize};
-use link::{LinkSettings, Master, NoMemory, Outcome, Request, Station};
+use link::{LinkSettings, LinkUser, Master, NoCommands, NoMemory, Outcome, Request, Station};
 use std::process::Abort;
 
 /// One-octet addresses, no repeats; a service that isn't answered is held.
@@ -28,6 +28,18 @@ const COMMAND: [u8; 15] = [
     0x68, 0x09, 0x09, 0x68, 0x53, 0x01, 0x2D, 0x01, 0x06, 0x01, 0x0A, 0x00, 0x01, 0x94, 0x16,
 ];
 
+/// A user of the line who has one command, for the first station.
+#[derive(Drop)]
+struct Operator;
+
+impl LinkUser for Operator {
+    ghost waiting = { λ user. λ station. if station == 0 then Some EXECUTE else None };
+
+    fn command(&self, station: usize) -> Option<&[u8]> {
+        if station == 0 { Some(&EXECUTE) } else { None }
+    }
+}
+
 /// Whether this request goes out.
 fn sends(request: Option<Request>, octets: &[u8]) -> bool {
     request.is_some_and(|request| request.octets.as_slice() == octets)
@@ -44,18 +56,18 @@ fn a_primary_station(rt: HostRuntime) -> Result<(), NoMemory> {
 
 /// The second station is asked once the first one's time is over, and started.
 fn starts_the_second(rt: &impl Abort, master: &mut Master) {
-    assert!(rt; sends(master.next(0, true), &STATUS));
+    assert!(rt; sends(master.next(0, true, &NoCommands), &STATUS));
     assert!(rt; matches!(master.due(200), Outcome::None));
-    assert!(rt; sends(master.next(200, true), &[0x10, 0x49, 0x02, 0x4B, 0x16]));
+    assert!(rt; sends(master.next(200, true, &NoCommands), &[0x10, 0x49, 0x02, 0x4B, 0x16]));
     assert!(rt;
         matches!(
             master.octets(&[0x10, 0x0B, 0x02, 0x0D, 0x16], &mut None),
             Outcome::None
         )
     );
-    assert!(rt; sends(master.next(201, true), &[0x10, 0x40, 0x02, 0x42, 0x16]));
+    assert!(rt; sends(master.next(201, true, &NoCommands), &[0x10, 0x40, 0x02, 0x42, 0x16]));
     assert!(rt; matches!(master.octets(&[0xE5], &mut None), Outcome::Started(1)));
-    assert!(rt; sends(master.next(202, true), &STATUS));
+    assert!(rt; sends(master.next(202, true, &NoCommands), &STATUS));
 }
 
 /// The one station is started and polled. A command goes down to it, and its answer is spoilt.
@@ -63,22 +75,15 @@ fn sends_a_command(rt: &impl Abort, master: &mut Master)
     requires some { 0 < length master.old.stations }
     requires size { master.old.settings.size ≡ One }
 {
-    let _ = master.next(0, true);
+    let _ = master.next(0, true, &NoCommands);
     let _ = master.octets(&[0x10, 0x0B, 0x01, 0x0C, 0x16], &mut None);
-    let _ = master.next(10, true);
+    let _ = master.next(10, true, &NoCommands);
     assert!(rt; matches!(master.octets(&[0xE5], &mut None), Outcome::Started(0)));
-    assert!(rt; sends(master.next(20, true), &POLL));
+    assert!(rt; sends(master.next(20, true, &NoCommands), &POLL));
     assert!(rt; matches!(master.due(219), Outcome::None));
-    // One command of a station at a time; what never went out is taken back.
-    assert!(rt; 0 < master.count());
-    assert!(rt; master.offer(0, &EXECUTE));
-    assert!(rt; 0 < master.count());
-    assert!(rt; !master.offer(0, &EXECUTE));
-    master.withdraw();
-    assert!(rt; 0 < master.count());
-    assert!(rt; master.offer(0, &EXECUTE));
     assert!(rt; matches!(master.octets(&[0xE5], &mut None), Outcome::Empty(0)));
-    assert!(rt; sends(master.next(40, true), &COMMAND));
+    // The command that waits for the station goes out.
+    assert!(rt; sends(master.next(40, true, &Operator), &COMMAND));
     // An exchange that had octets and no answer is spoilt.
     assert!(rt; matches!(master.octets(&[0x00], &mut None), Outcome::None));
     assert!(rt; matches!(master.due(240), Outcome::None));

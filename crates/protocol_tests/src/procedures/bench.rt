@@ -1,10 +1,13 @@
 //! A primary station on a line with one-octet addresses, through its calls.
-ghost use Rattle.std.specs.Prelude.{◌≡◌, ◌<◌, ◌≤◌, All, length, IfOk};
+ghost use Rattle.std.specs.Prelude.{◌≡◌, ◌<◌, ◌≤◌, ◌==◌, All, length, IfOk, None};
+ghost use Rattle.std.specs.Prelude.{if◌then◌else◌};
 ghost use Rattle.ft12.specs.declared.frame.LinkSize.TheVariants.{One};
-ghost use Rattle.link.specs.Requests.{IsUserData, FitsAddress};
+ghost use Rattle.link.specs.Requests.{FitsAddress};
 
 use ft12::LinkSize;
-use link::{LinkSettings, Master, NoMemory, Outcome, RequestKind};
+use link::{
+    CommandOctets, LinkSettings, LinkUser, Master, NoMemory, Outcome, Request, RequestKind,
+};
 use std::alloc::Global;
 use std::marker::Model;
 
@@ -56,9 +59,10 @@ pub(super) enum Step<'a> {
     Due(u64, Expected<'a>),
     /// So many exchanges were spoilt by now.
     Spoilt(u64),
-    /// A command is offered to the first station; whether it is taken.
-    Offers(&'a [u8], bool),
-    Withdraws,
+    /// This command waits for the first station, in place of another.
+    Waits(&'a [u8]),
+    /// None waits any more.
+    WaitsNoMore,
 }
 
 /// `retries`, `hold` and `burst` of a line.
@@ -81,9 +85,37 @@ fn is_expected(outcome: &Outcome<'_>, wanted: Expected<'_>) -> bool {
     }
 }
 
+/// The user of the line: a command may wait for the first station.
+#[derive(Drop)]
+struct FirstWaits {
+    command: Option<CommandOctets>,
+}
+
+impl Model for FirstWaits {
+    ghost use Rattle.std.specs.Prelude.{ℕ, ◌≤◌, List, Option, IfSome, length};
+
+    ghost Value = { Option (List ℕ) };
+
+    ghost view = { λ user. user.command };
+
+    ghost invariant = { λ user. IfSome user.command (λ octets. 1 ≤ length octets) };
+}
+
+impl LinkUser for FirstWaits {
+    ghost waiting = { λ user. λ station. if station == 0 then user else None };
+
+    fn command(&self, station: usize) -> Option<&[u8]> {
+        match &self.command {
+            Some(command) if station == 0 => Some(command.octets()),
+            _ => None,
+        }
+    }
+}
+
 #[derive(Drop)]
 pub(super) struct Bench {
     master: Master,
+    user: FirstWaits,
 }
 
 impl Model for Bench {
@@ -106,7 +138,8 @@ impl Bench {
     pub(super) fn new(alloc: Global, ways: Ways, is_pair: bool) -> Result<Bench, NoMemory> {
         let addresses: &[u16] = if is_pair { &[1, 2] } else { &[1] };
         let master = Master::new(alloc, settings(ways), addresses)?;
-        Ok(Bench { master })
+        let user = FirstWaits { command: None };
+        Ok(Bench { master, user })
     }
 
     /// How many of the calls, in their order, answer what they are to.
@@ -128,20 +161,20 @@ impl Bench {
             Step::Restarts(now, expected) => self.starts((*now, *now), *expected),
             Step::Sends(now, octets) => self.sends(*now, octets),
             Step::Asks(now, may_poll, octets, kind, again) => {
-                let asked = self.master.next(*now, *may_poll);
+                let asked = self.next(*now, *may_poll);
                 asked.is_some_and(|request| {
                     request.octets.as_slice() == *octets
                         && request.kind == *kind
                         && request.again == *again
                 })
             }
-            Step::Rests(now, may_poll) => self.master.next(*now, *may_poll).is_none(),
+            Step::Rests(now, may_poll) => self.next(*now, *may_poll).is_none(),
             Step::Receives(octets, expected) => self.receives(octets, *expected),
             Step::Due(now, expected) => is_expected(&self.master.due(*now), *expected),
             Step::Spoilt(count) => self.master.spoilt() == *count,
-            Step::Offers(asdu, is_taken) => self.takes(asdu) == *is_taken,
-            Step::Withdraws => {
-                self.master.withdraw();
+            Step::Waits(asdu) => self.waits(asdu),
+            Step::WaitsNoMore => {
+                self.user.command = None;
                 true
             }
         }
@@ -149,7 +182,7 @@ impl Bench {
 
     /// Whether the next request has these octets.
     fn sends(&mut self, now: u64, octets: &[u8]) -> bool {
-        match self.master.next(now, true) {
+        match self.next(now, true) {
             Some(request) => request.octets.as_slice() == octets,
             None => false,
         }
@@ -160,9 +193,24 @@ impl Bench {
         is_expected(&self.master.octets(octets, &mut None), expected)
     }
 
-    /// Whether the first station takes a command that is offered to it.
-    fn takes(&mut self, asdu: &[u8]) -> bool {
-        !asdu.is_empty() && asdu.len() <= 12 && self.master.offer(0, asdu)
+    /// The next request. A command that goes out for the first time waits no more.
+    fn next(&mut self, now: u64, may_poll: bool) -> Option<Request> {
+        let next = self.master.next(now, may_poll, &self.user);
+        if let Some(request) = &next {
+            if request.kind == RequestKind::Command && !request.again {
+                self.user.command = None;
+            }
+        }
+        next
+    }
+
+    /// A command of 1 to 12 octets waits for the first station.
+    fn waits(&mut self, asdu: &[u8]) -> bool {
+        if asdu.is_empty() || asdu.len() > 12 {
+            return false;
+        }
+        self.user.command = Some(CommandOctets::new(asdu));
+        true
     }
 
     /// The first station is asked for its status and reset, at these moments: whether the primary

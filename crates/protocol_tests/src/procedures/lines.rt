@@ -167,7 +167,7 @@ const SCRIPTS: &[Script<'static>] = &[
         &[
             Step::Opens,
             Step::Sends(20, &CLASS2),
-            Step::Offers(&EXECUTE, true),
+            Step::Waits(&EXECUTE),
             Step::Receives(&[0x10, 0x19, 0x01, 0x1A, 0x16], Expected::Empty(0)),
             Step::Sends(50, &NEXT_CLASS2),
             Step::Receives(&[0xE5], Expected::Empty(0)),
@@ -179,13 +179,12 @@ const SCRIPTS: &[Script<'static>] = &[
         (3, true, 8),
         false,
         &[
-            Step::Offers(&EXECUTE, true),
+            Step::Waits(&EXECUTE),
             Step::Opens,
             Step::Sends(100, &COMMAND),
-            Step::Offers(&EXECUTE, false),
-            Step::Withdraws,
+            // One that waits meanwhile doesn't pass it.
+            Step::Waits(&INTERROGATION),
             Step::Due(300, Expected::None),
-            Step::Offers(&EXECUTE, false),
             Step::Sends(300, &COMMAND),
             Step::Receives(&[0xE5], Expected::Accepted(0)),
             Step::Sends(310, &NEXT_CLASS2),
@@ -198,7 +197,7 @@ const SCRIPTS: &[Script<'static>] = &[
         &[
             Step::Opens,
             Step::Sends(20, &CLASS2),
-            Step::Offers(&INTERROGATION, true),
+            Step::Waits(&INTERROGATION),
             Step::Receives(&[0xE5], Expected::Empty(0)),
             Step::Sends(60, &INTERROGATES),
             Step::Receives(&[0x10, 0x01, 0x01, 0x02, 0x16], Expected::Busy(0)),
@@ -206,16 +205,14 @@ const SCRIPTS: &[Script<'static>] = &[
         ],
     ),
     (
-        "an offer is withdrawn",
+        "a command that waits no more never goes out",
         (3, true, 8),
         false,
         &[
             Step::Opens,
-            Step::Offers(&INTERROGATION, true),
-            Step::Offers(&INTERROGATION, false),
-            Step::Withdraws,
+            Step::Waits(&INTERROGATION),
+            Step::WaitsNoMore,
             Step::Rests(20, false),
-            Step::Offers(&INTERROGATION, true),
         ],
     ),
 ];

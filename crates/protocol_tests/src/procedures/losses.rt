@@ -33,7 +33,7 @@ fn taken(master: &mut Master, station: &mut Station, loss: LostExchange) -> u64 
     let mut taken: u64 = 0;
     let mut now: u64 = 0;
     for exchange in 0..24 {
-        let Some(request) = master.next(now, true) else {
+        let Some(request) = master.next(now, true, &NoCommands) else {
             return taken;
         };
         let lost = exchange == loss.exchange;

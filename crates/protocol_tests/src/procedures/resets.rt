@@ -72,12 +72,12 @@ const SCRIPTS: &[Script<'static>] = &[
                 &[0x68, 0x03, 0x03, 0x68, 0x08, 0x01, 0x07, 0x10, 0x16],
                 Expected::Report(0, &[0x07]),
             ),
-            Step::Offers(&[7], true),
+            Step::Waits(&[7]),
             Step::Sends(30, &COMMAND),
             Step::Due(230, Expected::Down(0)),
             Step::Restarts(230, Expected::Started(0)),
             // A command, by 15, and nothing else between two resets.
-            Step::Offers(&[7], true),
+            Step::Waits(&[7]),
             Step::Sends(240, &NEXT_COMMAND),
             Step::Receives(&BY_15, Expected::Down(0)),
             Step::Restarts(250, Expected::Started(0)),
@@ -98,7 +98,7 @@ const SCRIPTS: &[Script<'static>] = &[
             Step::Sends(200, &POLL),
             Step::Receives(&[0xE5], Expected::Empty(0)),
             // The poll was answered, the command wasn't.
-            Step::Offers(&[7], true),
+            Step::Waits(&[7]),
             Step::Sends(300, &COMMAND),
             Step::Receives(&BY_14, Expected::Down(0)),
             Step::Restarts(310, Expected::Started(0)),
