@@ -20,7 +20,7 @@ use Rattle.command.specs.Selections.{IsInTime}
 use Rattle.gateway.specs.Log.{Log, latest}
 use Rattle.gateway.specs.Reports.{Setup}
 use Rattle.gateway.specs.Serial.{unless_silent}
-use Rattle.gateway.specs.Works.{logged_silent, ready_works, unasked_works}
+use Rattle.gateway.specs.Works.{logged_silent, settled_works, unasked_works}
 use Rattle.gateway.specs.Course.{Course, room_in, Runs}
 use Rattle.gateway.proofs.Called.{IsCalled, IsAt, called_more, silence, all_so, all_made}
 use Rattle.delivery.specs.Selections.{EndInTime, AreAt, LogsAtMoments}
@@ -51,10 +51,10 @@ end_in_time p law log c r due xs =
     } in
     subst
     (λ (b : Bool). AllByRecursion (IsInTime p.sizes p.stations p.select_ms p.max_age_ms (latest log)
-    (if b then unasked_works (latest log) (room_in p log c) (ready_works (latest log) c.works)
+    (if b then unasked_works (latest log) (room_in p log c) (settled_works (latest log) c.works)
     else c.works).history xs)
     (if b then unasked_works (latest log) (room_in p log c)
-    (ready_works (latest log) c.works) else c.works).serial.commands.selections) (sym due)
+    (settled_works (latest log) c.works) else c.works).serial.commands.selections) (sym due)
     (due_leaves p at law quiet (silence p at (IsCalled p at) (called_more p at)
     c.works.serial.silent c.works
     (all_made p log c r)) xs)

@@ -15,7 +15,8 @@ use Rattle.link.specs.Exchanges.{Exchanges, Sending, begun_by, received_current,
 use Rattle.link.specs.Exchanges.{reports_of_exchanges}
 use Rattle.link.specs.Procedure.{is_held}
 use Rattle.link.specs.Requests.{request_frame, request_in}
-use Rattle.link.specs.Turns.{station_at}
+use Rattle.link.specs.Runs.{FitsLine}
+use Rattle.link.specs.Turns.{CommandsWaiting, station_at}
 use Rattle.link.specs.Primary.{Primary, asked, sending, due_outcome, is_command}
 use Rattle.link.specs.Matching.{Matches}
 use Rattle.session.specs.declared.kinds.Close.{Close}
@@ -29,9 +30,9 @@ use Rattle.gateway.specs.Streams.{AllFit}
 use Rattle.gateway.specs.Connections.{present}
 use Rattle.gateway.specs.Reports.{Setup, address_at, sent_to, sending_in, exchanges_of}
 use Rattle.gateway.specs.Traffic.{ActsRightly}
-use Rattle.gateway.specs.Serial.{answer_outcome, is_first_command}
+use Rattle.gateway.specs.Serial.{answer_outcome, is_first_command, next_request, waiting_in}
 use Rattle.gateway.specs.Works.{Works, tasks_of, LearnsOf, octets_works, begun_works, cut_works}
-use Rattle.gateway.specs.Works.{gapless_works, ready_works, settled_works, unasked_works}
+use Rattle.gateway.specs.Works.{gapless_works, settled_works, unasked_works}
 use Rattle.gateway.specs.Works.{done_works, logged_put, logged_silent, asked_works, restarted_works}
 use Rattle.gateway.specs.Course.{Course, with_frames, with_sent, closed_course, with_works, IsLeft}
 use Rattle.gateway.specs.Course.{SendsNext, room_in, Runs}
@@ -44,7 +45,8 @@ use Rattle.delivery.proofs.Line.{received_logged, asked_logged, timed_logged}
 use Rattle.delivery.proofs.Works.{all_logged, IsAllLogged, logged_alike, silent_logged, IsLearnt}
 use Rattle.delivery.proofs.Works.{learnt_of}
 use Rattle.delivery.proofs.Works.{IsQuiet, received_quiet, received_line, sent_quiet, sent_line}
-use Rattle.delivery.proofs.Works.{settled_quiet, settled_line, offers_log, put_logged, put_mirrors}
+use Rattle.delivery.proofs.Works.{settled_quiet, settled_line, waiting_data, put_logged}
+use Rattle.delivery.proofs.Works.{put_mirrors}
 use Rattle.delivery.proofs.Works.{put_fits}
 use Rattle.gateway.proofs.Called.{taken_fit}
 use Rattle.delivery.proofs.Restarts.{IsGiven, all_given}
@@ -110,7 +112,7 @@ module _ (laws : LinkLaws) (stay : AnswersStay) (p : Setup) where
 
   cut_joins : (e : Exchanges) (w : Works) → Joins p e w → Joins p e (cut_works w)
   cut_joins e w j =
-      quiet_joins e w (cut_works w) (laws.withdraw p.link p.addresses w.serial.line e j.matches)
+      quiet_joins e w (cut_works w) j.matches
       (record {
         logged = λ k. logged_alike k w.serial.silent w (cut_works w) refl;
         left = λ h. h;
@@ -126,20 +128,12 @@ module _ (laws : LinkLaws) (stay : AnswersStay) (p : Setup) where
       (subst (λ (q : Primary). Matches p.link p.addresses q e) (sym (settled_line at w)) j.matches)
       (settled_quiet stay p at w) j
 
-  ready_joins : (at : ℕ) (e : Exchanges) (w : Works) → Joins p e w → Joins p e (ready_works at w)
-  ready_joins at e w j =
-      let s : Joins p e (settled_works at w) = settled_joins at e w j in
-      quiet_joins e (settled_works at w) (ready_works at w)
-      (offers_log laws p.link p.addresses e (settled_works at w).serial.commands.waiting
-      (settled_works at w).serial.line s.fits s.matches)
-      (record {
-        logged = λ k. refl;
-        left = λ h due. refl;
-        mirrors = refl;
-        fits = λ f. f;
-        skips =
-            refl;
-      }) s
+  -- what may go out fits the line
+  fits_line : (room : Bool) (e : Exchanges) (w : Works) → Joins p e w
+      → FitsLine w.serial.line room (waiting_in w.serial.commands)
+  fits_line room e w j =
+      laws.carried p.link p.addresses w.serial.line e room (waiting_in w.serial.commands)
+      (waiting_data p.link.size w.serial.commands j.fits) j.matches
 
   -- An event's moment and octets
 
@@ -236,19 +230,21 @@ module _ (laws : LinkLaws) (stay : AnswersStay) (p : Setup) where
   -- The step before is done
 
   done_joins : (at : ℕ) (room : Bool) (e : Exchanges) (w : Works)
-      → (w.is_due ≡ true → sending (ready_works at w).serial.line room ≡ None) → Joins p e w
+      → (w.is_due ≡ true → next_request room (settled_works at w).serial ≡ None) → Joins p e w
       → ((done_works at room w).serial.silent ≡ None) × Joins p e (done_works at room w)
   done_joins at room e w none j = go w.is_due refl
     where
-      unasked : sending (ready_works at w).serial.line room ≡ None
-          → Joins p e (unasked_works at room (ready_works at w))
+      z : Works
+      z = settled_works at w
+
+      unasked : next_request room z.serial ≡ None → Joins p e (unasked_works at room z)
       unasked is =
-          let r : Joins p e (ready_works at w) = ready_joins at e w j in
-          quiet_joins e (ready_works at w) (unasked_works at room (ready_works at w))
+          let r : Joins p e z = settled_joins at e w j in
+          quiet_joins e z (unasked_works at room z)
           (subst (λ (o : Option Sending). Matches p.link p.addresses
-          (asked (ready_works at w).serial.line at room)
-          (begun_by at o e)) is (laws.next p.link p.addresses (ready_works at w).serial.line e at
-          room r.matches))
+          (asked z.serial.line at room (waiting_in z.serial.commands))
+          (begun_by at o e)) is (laws.next p.link p.addresses z.serial.line e at
+          room (waiting_in z.serial.commands) (fits_line room e z r) r.matches))
           (record {
             logged = λ k. refl;
             left = λ h due. refl;
@@ -259,8 +255,8 @@ module _ (laws : LinkLaws) (stay : AnswersStay) (p : Setup) where
           }) r
 
       go : (b : Bool) → w.is_due ≡ b
-          → ((if b then unasked_works at room (ready_works at w) else w).serial.silent
-          ≡ None) × Joins p e (if b then unasked_works at room (ready_works at w) else w)
+          → ((if b then unasked_works at room (settled_works at w) else w).serial.silent
+          ≡ None) × Joins p e (if b then unasked_works at room (settled_works at w) else w)
       go true is = (refl, unasked (none is))
       go false is = (j.left is, j)
 
@@ -273,14 +269,14 @@ module _ (laws : LinkLaws) (stay : AnswersStay) (p : Setup) where
 
   -- A request goes out
 
-  back : (q : Primary) (e : Exchanges) (may : Bool) (s : Sending) → IsSetUp p
-      → Matches p.link p.addresses q e
-      → sending q may ≡ Some s
+  back : (q : Primary) (e : Exchanges) (may : Bool) (waiting : CommandsWaiting) (s : Sending)
+      → IsSetUp p → FitsLine q may waiting → Matches p.link p.addresses q e
+      → sending q may waiting ≡ Some s
       → sending_in p
       (line.spelling p.link.size (request_frame (address_at p.addresses s.station) s.request))
       ≡ Some s
-  back q e may s set h is =
-      let fits = laws.fit p.link p.addresses q e may s h is in
+  back q e may waiting s set carried h is =
+      let fits = laws.fit p.link p.addresses q e may waiting s carried h is in
       let reads : request_in p.link.size (line.spelling p.link.size
       (request_frame (address_at p.addresses s.station) s.request))
       ≡ Some (address_at p.addresses s.station, s.request) =
@@ -292,7 +288,7 @@ module _ (laws : LinkLaws) (stay : AnswersStay) (p : Setup) where
       (set.found s.station fits.station)
 
   asked_joins : (at : ℕ) (room : Bool) (s : Sending) (e : Exchanges) (w : Works)
-      → sending w.serial.line room ≡ Some s →
+      → next_request room w.serial ≡ Some s →
       ((fcb : Bool) (asdu : List ℕ) → s.request ≡ Counted fcb (Command asdu)
       → is_first_command w.serial.line s ≡ true
       → octets_waiting s.station w.serial.commands ≡ Some asdu) →
@@ -300,15 +296,17 @@ module _ (laws : LinkLaws) (stay : AnswersStay) (p : Setup) where
       → Joins p (begun_by at (Some s) e) (asked_works at room s w)
   asked_joins at room s e w is waits none j = record {
     matches =
-        subst (λ (o : Option Sending). Matches p.link p.addresses (asked w.serial.line at room)
-        (begun_by at o e)) is
-        (laws.next p.link p.addresses w.serial.line e at room j.matches);
+        subst (λ (o : Option Sending). Matches p.link p.addresses
+        (asked w.serial.line at room (waiting_in w.serial.commands)) (begun_by at o e)) is
+        (laws.next p.link p.addresses w.serial.line e at room (waiting_in w.serial.commands)
+        (fits_line room e w j) j.matches);
     logged = λ k. subst (λ (o : Option ℕ). IsLogged p.link (address_at p.addresses k)
         (exchanges_at (front_of p.link.size) k (begun_by at (Some s) e)) k
         (logged_silent o (asked_works at room s w)))
         (sym none)
-        (asked_logged laws p w.serial.line e j.matches room s at k w.history
-        (logged_put (is_first_command w.serial.line s) s.station w) is
+        (asked_logged laws p w.serial.line e j.matches room (waiting_in w.serial.commands) s at k
+        w.history (logged_put (is_first_command w.serial.line s) s.station w)
+        (fits_line room e w j) is
         (put_logged (is_first_command w.serial.line s) s.station s.request w k
         (λ first. (and_parts (is_command s.request)
         (not (is_held (station_at w.serial.line.stations s.station).link)) first).0) waits)
@@ -333,22 +331,25 @@ module _ (laws : LinkLaws) (stay : AnswersStay) (p : Setup) where
       Joins p (exchanges_of p log) before.works
       → Joins p (exchanges_of p (Went now (LineOut octets) ∷ log)) after.works
   sends_joins set log now octets before after moment sends j =
-      let ready : Joins p (exchanges_of p log) (ready_works (latest log) before.works) =
-      ready_joins (latest log) (exchanges_of p log) before.works j in
+      let ready : Joins p (exchanges_of p log) (settled_works (latest log) before.works) =
+      settled_joins (latest log) (exchanges_of p log) before.works j in
       let read : sending_in p octets ≡ Some sends.request =
       ap (λ (xs : List ℕ). sending_in p xs) sends.spelled_so
-      ∙ back (ready_works (latest log) before.works).serial.line (exchanges_of p log)
-      (room_in p log before) sends.request set ready.matches sends.next in
+      ∙ back (settled_works (latest log) before.works).serial.line (exchanges_of p log)
+      (room_in p log before)
+      (waiting_in (settled_works (latest log) before.works).serial.commands) sends.request set
+      (fits_line (room_in p log before) (exchanges_of p log)
+      (settled_works (latest log) before.works) ready) ready.matches sends.next in
       let made : Joins p (begun_by (latest log) (Some sends.request) (exchanges_of p log))
       (asked_works (latest log) (room_in p log before) sends.request
-      (ready_works (latest log) before.works)) =
+      (settled_works (latest log) before.works)) =
       asked_joins (latest log) (room_in p log before) sends.request (exchanges_of p log)
-      (ready_works (latest log) before.works) sends.next sends.waits refl ready in
+      (settled_works (latest log) before.works) sends.next sends.waits refl ready in
       subst (λ (c : Course). Joins p (exchanges_of p (Went now (LineOut octets) ∷ log)) c.works)
       (sym sends.is)
       (subst
       (λ (e : Exchanges). Joins p e (asked_works (latest log) (room_in p log before) sends.request
-      (ready_works (latest log) before.works)))
+      (settled_works (latest log) before.works)))
       (sym (ap (λ (o : Option Sending). begun_by now o (exchanges_of p log)) read
       ∙ ap (λ (n : ℕ). begun_by n (Some sends.request) (exchanges_of p log)) moment)) made)
 

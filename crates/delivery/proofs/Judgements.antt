@@ -21,7 +21,7 @@ use Rattle.gateway.specs.Connections.{present, received_before}
 use Rattle.gateway.specs.Reports.{Setup}
 use Rattle.gateway.specs.Serial.{answer_outcome, is_first_command}
 use Rattle.gateway.specs.Walls.{wall_on}
-use Rattle.gateway.specs.Works.{Works, octets_works, begun_works, ready_works, unasked_works}
+use Rattle.gateway.specs.Works.{Works, octets_works, begun_works, settled_works, unasked_works}
 use Rattle.gateway.specs.Works.{done_works, link_given_up_works, commands_given_up_works_upto}
 use Rattle.link.specs.Carried.{awaits_command}
 use Rattle.gateway.specs.Course.{Course, HasTakenAll, AreTaken, came_frames, here_of, with_frames}
@@ -269,7 +269,7 @@ module _ (one : HaveOneFront) (stay : AnswersStay) (p : Setup) where
   done_judged : (at : ℕ) (room : Bool) (w : Works) → judged_of (done_works at room w) ≡ judged_of w
   done_judged at room w = go w.is_due
     where
-      go : (b : Bool) → judged_of (if b then unasked_works at room (ready_works at w) else w)
+      go : (b : Bool) → judged_of (if b then unasked_works at room (settled_works at w) else w)
           ≡ judged_of w
       go true = settled_judged at w
       go false = refl
@@ -434,7 +434,7 @@ module _ (one : HaveOneFront) (stay : AnswersStay) (p : Setup) where
       ∙ none_came p log r.0 r.2 closed) refl refl (left_so log r.0 r.1 r.4 (all_so log r.0 r.2))
   all_so (Went now (LineOut octets) ∷ log) c r =
       let before : IsSo log r.0 = all_so log r.0 r.1 in
-      let ready : Works = ready_works (latest log) r.0.works in
+      let ready : Works = settled_works (latest log) r.0.works in
       same_so log (Went now (LineOut octets) ∷ log) r.0 c
       (ap (λ (x : Course). came_frames x.talk) r.2.is)
       (ap (λ (x : Course). x.earlier) r.2.is)

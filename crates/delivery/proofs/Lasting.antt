@@ -33,7 +33,7 @@ use Rattle.gateway.specs.Log.{Log, LineOut, TcpOut, Closed, GapOut, Came, Went, 
 use Rattle.gateway.specs.Connections.{present}
 use Rattle.gateway.specs.Reports.{Setup}
 use Rattle.gateway.specs.Serial.{is_first_command, unless_silent}
-use Rattle.gateway.specs.Works.{Works, tasks_of, logged_silent, settled_works, ready_works}
+use Rattle.gateway.specs.Works.{Works, tasks_of, logged_silent, settled_works}
 use Rattle.gateway.specs.Course.{Course, Runs}
 use Rattle.delivery.specs.Selections.{StayInTime, is_asked}
 use Rattle.gateway.proofs.Called.{IsAt, IsCalled, IsMade, all_made, taken_fit}
@@ -330,7 +330,7 @@ module _ (p : Setup) (stay : SettingLaw) (some : 0 < p.select_ms) where
   asked_lasts (Came now event ∷ log) c r h = absurd (search (rules, h))
   asked_lasts (Went now (LineOut octets) ∷ log) c r h =
       let at : ℕ = latest log in
-      let ready : Works = ready_works at r.0.works in
+      let ready : Works = settled_works at r.0.works in
       subst (λ (c : Course). Q at (tasks_of c.works)) (sym r.2.is)
       (put p at (Q at) (lasts at) (is_first_command ready.serial.line r.2.request)
       r.2.request.station ready

@@ -21,6 +21,8 @@ use Rattle.link.specs.Carried.{given_up}
 use Rattle.link.specs.Gaps.{gap_at}
 use Rattle.link.specs.declared.outcome.Outcome.{Outcome}
 use Rattle.link.specs.declared.outcome.Outcome.TheVariants as outcome
+use Rattle.link.specs.Runs.{FitsLine}
+use Rattle.link.specs.Turns.{CommandsWaiting}
 use Rattle.link.specs.Primary.{Outstanding, Primary, sending, sending_from, received_outcome}
 use Rattle.link.specs.Primary.{outcome_from, outcome_of, due_outcome, due_outcome_from, is_command}
 use Rattle.link.specs.Matching.{Matches, IsCurrent, IsAwaited, IsOver, AreLinks, past}
@@ -175,14 +177,14 @@ module _ (laws : LinkLaws) (p : Setup) (q : Primary) (e : Exchanges)
   fresh_of s =
       record { request = s.request; front = whole_of (front []); closed = false; given_up = false }
 
-  pub asked_logged : (may : Bool) (s : Sending) (at k : ℕ) (h new : History) → sending q may
-      ≡ Some s
+  pub asked_logged : (may : Bool) (waiting : CommandsWaiting) (s : Sending) (at k : ℕ)
+      (h new : History) → FitsLine q may waiting → sending q may waiting ≡ Some s
       →
       line_logged k new ≡ line_logged k (logged_asked (is_command s.request
       && not (is_held (station_at q.stations s.station).link)) s.station s.request h) →
       IsLogged p.link (address k) (exchanges_at front k e) k h
       → IsLogged p.link (address k) (exchanges_at front k (begun_by at (Some s) e)) k new
-  asked_logged may s at k h new is same t =
+  asked_logged may waiting s at k h new fits is same t =
       subst (λ (l : List Exchange). IsLogged p.link (address k) l k new) (sym added)
       (at_end (s.station == k) refl)
     where
@@ -201,7 +203,7 @@ module _ (laws : LinkLaws) (p : Setup) (q : Primary) (e : Exchanges)
       free : (o : Option Outstanding) → q.outstanding ≡ o → q.outstanding ≡ None
       free None out = out
       free (Some o) out = let no : None ≡ Some s =
-          sym (ap (λ (x : Option Outstanding). sending_from q x may) out) ∙ is
+          sym (ap (λ (x : Option Outstanding). sending_from q x may waiting) out) ∙ is
           in cc
 
       link_is : link_after p.link (address k) Down (exchanges_at front k e)
@@ -224,7 +226,7 @@ module _ (laws : LinkLaws) (p : Setup) (q : Primary) (e : Exchanges)
           (exchanges_at front k (begun_by at (Some s) e)) =
           subst (λ (o : Option Sending). KeepsFrameCountBit p.link (address k) Down
           (exchanges_at front k (begun_by at o e))) is
-          ((laws.next p.link p.addresses q e at may matches).keeps k) in
+          ((laws.next p.link p.addresses q e at may waiting fits matches).keeps k) in
           let may_send : MaySend link s.request =
           last_may p.link (address k) Down (exchanges_at front k e)
           (fresh_of s) (subst (KeepsFrameCountBit p.link (address k) Down) all kept) in

@@ -19,16 +19,16 @@ use Rattle.link.specs.Exchanges.{no_exchanges, answer_to, begun_by, received_oct
 use Rattle.link.specs.Exchanges.{received_current, timed, timed_current, view, views, whole_of}
 use Rattle.link.specs.Exchanges.{with_station, reports_of_exchanges, given_up_at}
 use Rattle.link.specs.Procedure.{link_after, after_silence}
-use Rattle.link.specs.Runs.{silence_outcome}
-use Rattle.link.specs.Requests.{request_frame, request_in, FitsAddress, FitsAsked, IsUserData}
+use Rattle.link.specs.Runs.{AreUserData, FitsLine, silence_outcome}
+use Rattle.link.specs.Requests.{request_frame, request_in, FitsAddress, FitsAsked}
 use Rattle.link.specs.Carried.{awaits_command, awaits_command_in, given_up, commands_given_up}
 use Rattle.link.specs.Gaps.{gap_at, exchanges_at as line_exchanges}
 use Rattle.link.specs.Marks.{latest_given_up}
 use Rattle.link.specs.declared.outcome.Outcome.{Outcome}
 use Rattle.link.specs.declared.outcome.Outcome.TheVariants as outcome
 use Rattle.link.specs.Primary.{Primary, start, asked, sending, received, received_outcome}
-use Rattle.link.specs.Primary.{outcome_of, started, with_gap, timed_out, due_outcome, offered_to}
-use Rattle.link.specs.Primary.{withdrawn}
+use Rattle.link.specs.Primary.{outcome_of, started, with_gap, timed_out, due_outcome}
+use Rattle.link.specs.Turns.{CommandsWaiting}
 use Rattle.link.specs.Matching.{Matches, IsReceived, IsOver, report_in, IsFittingSending}
 use Rattle.command.specs.History.{History}
 use Rattle.delivery.proofs.History.{line_logged}
@@ -52,18 +52,10 @@ pub record LinkLaws : Type 0 where
             timed_current settings.answer_ms at e.current;
       })
   pub next : (settings : LinkSettings) (addresses : List ℕ) (q : Primary) (e : Exchanges) (now : ℕ)
-      (may_poll : Bool)
-      → Matches settings addresses q e →
-      Matches settings addresses (asked q now may_poll) (begun_by now (sending q may_poll) e)
-  pub offer : (settings : LinkSettings) (addresses : List ℕ) (q : Primary) (e : Exchanges)
-      (station : ℕ)
-      (asdu : List ℕ) →
-      station < length q.stations → IsUserData q.settings.size asdu → Matches settings addresses q e
-      → Matches settings addresses (offered_to q station asdu) e
-  pub withdraw : (settings : LinkSettings) (addresses : List ℕ) (q : Primary) (e : Exchanges)
-      → Matches settings addresses q e → Matches settings addresses (withdrawn q) e
-  pub count : (q : Primary) (i : ℕ) (asdu : List ℕ) → length (offered_to q i asdu).stations
-      ≡ length q.stations
+      (may_poll : Bool) (waiting : CommandsWaiting)
+      → FitsLine q may_poll waiting → Matches settings addresses q e →
+      Matches settings addresses (asked q now may_poll waiting)
+      (begun_by now (sending q may_poll waiting) e)
   pub octets_report : (settings : LinkSettings) (addresses : List ℕ) (q : Primary) (e : Exchanges)
       (octets : List ℕ)
       → Matches settings addresses q e →
@@ -83,9 +75,12 @@ pub record LinkLaws : Type 0 where
       reports_of_exchanges (front_of size) address (begun_by now s e)
       ≡ reports_of_exchanges (front_of size) address e
   pub fit : (settings : LinkSettings) (addresses : List ℕ) (q : Primary) (e : Exchanges)
-      (may_poll : Bool)
-      (s : Sending) → Matches settings addresses q e →
-      sending q may_poll ≡ Some s → IsFittingSending settings addresses s
+      (may_poll : Bool) (waiting : CommandsWaiting)
+      (s : Sending) → FitsLine q may_poll waiting → Matches settings addresses q e →
+      sending q may_poll waiting ≡ Some s → IsFittingSending settings addresses s
+  pub carried : (settings : LinkSettings) (addresses : List ℕ) (q : Primary) (e : Exchanges)
+      (may_poll : Bool) (waiting : CommandsWaiting) → AreUserData settings.size waiting
+      → Matches settings addresses q e → FitsLine q may_poll waiting
   pub back : (size : LinkSize) (address : ℕ) (request : Asked) → FitsAddress size address
       → FitsAsked size request →
       request_in size (spelling size (request_frame address request)) ≡ Some (address, request)

@@ -18,6 +18,8 @@ use Rattle.link.specs.declared.outcome.Outcome.TheVariants as outcome
 use Rattle.std.specs.Io.Iter.{u64_saturate}
 use Rattle.link.specs.Exchanges.{Exchanges}
 use Rattle.link.specs.Requests.{IsUserData}
+use Rattle.link.specs.Runs.{AreUserData}
+use Rattle.ft12.specs.declared.frame.LinkSize.{LinkSize}
 use Rattle.link.specs.Primary.{Primary, is_command}
 use Rattle.link.specs.declared.settings.LinkSettings.{LinkSettings}
 use Rattle.link.specs.Matching.{Matches, report_in}
@@ -31,7 +33,7 @@ use Rattle.command.specs.Calls.{Judge, PutOnLine, Accept, Busy, Lose, Mirror, af
 use Rattle.gateway.specs.Objects.{has_objects}
 use Rattle.gateway.specs.Reports.{Setup}
 use Rattle.gateway.specs.Serial.{refusals, reported, with_gap, listed, silent_by, unless_silent}
-use Rattle.gateway.specs.Serial.{offered_by, offered_upto, put_on_line}
+use Rattle.gateway.specs.Serial.{put_on_line, waiting_in}
 use Rattle.gateway.specs.Works.{Works, tasks_of, logged, LearnsOf, LearnsReport, is_command_report}
 use Rattle.gateway.specs.Works.{mirrored_works, accepted_works, refused_works, given_up_works}
 use Rattle.gateway.specs.Works.{received_works, answered_works, sent_works, logged_silent}
@@ -465,39 +467,17 @@ settled_judged at w = go w.serial.silent
     go None = refl
     go (Some station) = refl
 
--- Commands are offered
+-- What waits fits the line
 
-module _ (laws : LinkLaws) (settings : LinkSettings) (addresses : List ℕ) (e : Exchanges) where
-  count_upto : (n : ℕ) (ws : List Waiting) (q : Primary) → length (offered_upto n ws q).stations
-      ≡ length q.stations
-  count_upto zero ws q = refl
-  count_upto (suc k) ws q = by_oldest (count_upto k ws q) (oldest k ws)
-    where
-      by_oldest : length (offered_upto k ws q).stations ≡ length q.stations → (o : Option Waiting)
-          → length (offered_by o k (offered_upto k ws q)).stations ≡ length q.stations
-      by_oldest h None = h
-      by_oldest h (Some w) = laws.count (offered_upto k ws q) k w.octets ∙ h
-
-  offers_upto : (n : ℕ) (ws : List Waiting) (q : Primary) → n ≤ length q.stations
-      → AllFitLine settings.size ws
-      → Matches settings addresses q e → Matches settings addresses (offered_upto n ws q) e
-  offers_upto zero ws q within fits t = t
-  offers_upto (suc k) ws q within fits t = by_oldest (oldest k ws) refl
-      (offers_upto k ws q (omega (arith, within)) fits t)
-    where
-      by_oldest : (o : Option Waiting) → oldest k ws ≡ o
-          → Matches settings addresses (offered_upto k ws q) e
-          → Matches settings addresses (offered_by o k (offered_upto k ws q)) e
-      by_oldest None is t = t
-      by_oldest (Some w) is t = laws.offer settings addresses (offered_upto k ws q) e k w.octets
-          (omega (arith, within, count_upto k ws q))
-          (subst (λ (s : LinkSettings). IsUserData s.size w.octets) (sym t.settings_are)
-          (oldest_fits settings.size k ws w fits is)) t
-
-  pub offers_log : (ws : List Waiting) (q : Primary) → AllFitLine settings.size ws
-      → Matches settings addresses q e
-      → Matches settings addresses (offered_upto (length q.stations) ws q) e
-  offers_log ws q fits t = offers_upto (length q.stations) ws q (omega arith) fits t
+pub waiting_data : (size : LinkSize) (s : State) → AllFitLine size s.waiting
+    → AreUserData size (waiting_in s)
+waiting_data size s fits station asdu e = go (oldest station s.waiting) refl e
+  where
+    go : (o : Option Waiting) → oldest station s.waiting ≡ o
+        → option_map (λ (w : Waiting). w.octets) o ≡ Some asdu → IsUserData size asdu
+    go None is h = cc
+    go (Some w) is h = let same : w.octets ≡ asdu = cc in
+        subst (IsUserData size) same (oldest_fits size station s.waiting w fits is)
 
 -- A command goes out
 
