@@ -35,7 +35,8 @@ pub record IsBegun (p : Primary) : Type 0 where
 
 -- ---- `next`
 
-goes_on_with : (burst : ℕ) (may_poll again : Bool) (s : StationState) (command : Option (List ℕ)) (link : Link) (phase : Phase)
+goes_on_with : (burst : ℕ) (may_poll again : Bool) (s : StationState) (command : Option (List ℕ))
+    (link : Link) (phase : Phase)
     → link ≡ Available
     → phase ≡ Starting →
     wanted_by burst may_poll again s command link phase ≡ wants Reset Over
@@ -44,7 +45,8 @@ goes_on_with burst may_poll again s command link phase is starts =
     ∙ ap (λ (f : Phase). wanted_by burst may_poll again s command Available f) starts
 
 -- where the present turn is over, no link is so
-pub none_known : (p : Primary) (may_poll : Bool) (waiting : CommandsWaiting) → p.outstanding ≡ None → present p may_poll waiting ≡ None
+pub none_known : (p : Primary) (may_poll : Bool) (waiting : CommandsWaiting) → p.outstanding ≡ None
+    → present p may_poll waiting ≡ None
     → IsBegun p →
     (i : ℕ) → (station_at p.stations i).link ≡ Available → ⊥
 none_known p may_poll waiting free is b i known =
@@ -54,13 +56,15 @@ none_known p may_poll waiting free is b i known =
     subst (λ (o : Option Outstanding). IsAlong o p.phase (station_at p.stations p.turn).link) free
     b.here in
     let goes : present p may_poll waiting ≡ wants Reset Over =
-    goes_on_with p.settings.burst may_poll p.again (station_at p.stations p.turn) (waiting p.turn) _ p.phase here
+    goes_on_with p.settings.burst may_poll p.again (station_at p.stations p.turn) (waiting p.turn) _
+    p.phase here
     (along here) in
     let bad : wants Reset Over ≡ None = sym goes ∙ is in
     cc
 
 -- what is wanted of a link
-wanted_along : (burst : ℕ) (may_poll again : Bool) (s : StationState) (command : Option (List ℕ)) (link : Link) (phase : Phase)
+wanted_along : (burst : ℕ) (may_poll again : Bool) (s : StationState) (command : Option (List ℕ))
+    (link : Link) (phase : Phase)
     (w : Wanted) →
     wanted_by burst may_poll again s command link phase ≡ Some w → MaySend link w.request →
     (w.request ≡ Status → w.following ≡ Starting) × (link ≡ Available → w.request ≡ Reset)
@@ -87,7 +91,8 @@ wanted_along burst may_poll again s command (Next fcb) phase w is may =
 wanted_along burst may_poll again s command (Held fcb service missed) phase w is may =
     ((λ e. absurd (subst (λ (r : Asked). MaySend (Held fcb service missed) r) e may)), λ e. cc)
 
-pub begun_choice : (p : Primary) (now : ℕ) (may_poll : Bool) (waiting : CommandsWaiting) (again : Bool) (phase : Phase) (c : Chosen) →
+pub begun_choice : (p : Primary) (now : ℕ) (may_poll : Bool) (waiting : CommandsWaiting)
+    (again : Bool) (phase : Phase) (c : Chosen) →
     wanted_by p.settings.burst may_poll again (station_at p.stations c.station) (waiting c.station)
     (station_at p.stations c.station).link phase ≡ Some c.wanted →
     MaySend (station_at p.stations c.station).link c.wanted.request →
@@ -96,7 +101,8 @@ pub begun_choice : (p : Primary) (now : ℕ) (may_poll : Bool) (waiting : Comman
 begun_choice p now may_poll waiting again phase c is may away =
     let s : StationState = station_asked (station_at p.stations c.station) c.wanted.request in
     let link = set_view (λ (r : StationState). r.link) p.stations c.station s refl in
-    let along = wanted_along p.settings.burst may_poll again (station_at p.stations c.station) (waiting c.station)
+    let along = wanted_along p.settings.burst may_poll again (station_at p.stations c.station)
+    (waiting c.station)
     (station_at p.stations c.station).link phase c.wanted is may in
     record {
       here = (along.0, λ known. along.1 (sym (link c.station) ∙ known));

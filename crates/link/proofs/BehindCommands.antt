@@ -46,7 +46,8 @@ commands_next burst fcb s (Some asdu) = go s.dfc
     go true = polls_next burst fcb s (Some asdu)
     go false = next_command asdu Polling refl refl
 
-next_is : (burst : ℕ) (again : Bool) (s : StationState) (command : Option (List ℕ)) (link : Link) (phase : Phase)
+next_is : (burst : ℕ) (again : Bool) (s : StationState) (command : Option (List ℕ)) (link : Link)
+    (phase : Phase)
     → is_answered link ≡ true → IsBeforePolls phase
     → (fcb : Bool) × HasNext fcb s command (wanted_by burst true again s command link phase)
 next_is burst again s command (Next fcb) Commanding up is = (fcb, commands_next burst fcb s command)

@@ -65,7 +65,8 @@ same_want : (v w : Wanted) → Some v ≡ Some w → v ≡ w
 same_want v w e = cc
 
 -- A held service that begins a turn is followed by a command and polls.
-held_follows : (burst : ℕ) (may_poll again : Bool) (s : StationState) (command : Option (List ℕ)) (link : Link) (phase : Phase)
+held_follows : (burst : ℕ) (may_poll again : Bool) (s : StationState) (command : Option (List ℕ))
+    (link : Link) (phase : Phase)
     (w : Wanted) → is_held link ≡ true → (again ≡ true → ⊥)
     → wanted_by burst may_poll again s command link phase ≡ Some w
     → (is_service w.request ≡ true) × (w.following ≡ Commanding)
@@ -84,7 +85,8 @@ held_follows burst may_poll true s command (Held fcb service missed) Commanding 
     absurd (once refl)
 held_follows burst may_poll true s command (Held fcb service missed) Polling w held once is =
     absurd (once refl)
-held_follows burst may_poll true s command (Held fcb service missed) (Class1Polling sent) w held once is =
+held_follows burst may_poll true s command (Held fcb service missed) (Class1Polling sent) w held
+    once is =
     absurd (once refl)
 held_follows burst may_poll true s command (Held fcb service missed) Over w held once is =
     absurd (once refl)
@@ -92,13 +94,16 @@ held_follows burst may_poll false s command (Held fcb service missed) Commanding
     let no : ⊥ = cc in absurd no
 held_follows burst may_poll false s command (Held fcb service missed) Polling w held once is =
     let no : ⊥ = cc in absurd no
-held_follows burst may_poll false s command (Held fcb service missed) (Class1Polling sent) w held once is =
+held_follows burst may_poll false s command (Held fcb service missed) (Class1Polling sent) w held
+    once is =
     let no : ⊥ = cc in absurd no
 held_follows burst may_poll false s command (Held fcb service missed) Over w held once is =
     let no : ⊥ = cc in absurd no
 held_follows burst may_poll again s command Down phase w held once is = let no : ⊥ = cc in absurd no
-held_follows burst may_poll again s command Available phase w held once is = let no : ⊥ = cc in absurd no
-held_follows burst may_poll again s command (Next fcb) phase w held once is = let no : ⊥ = cc in absurd no
+held_follows burst may_poll again s command Available phase w held once is = let no : ⊥ = cc in
+    absurd no
+held_follows burst may_poll again s command (Next fcb) phase w held once is = let no : ⊥ = cc in
+    absurd no
 
 parts : (a b : Bool) → (a && not b) ≡ true → (a ≡ true) × (b ≡ false)
 parts true false e = (refl, refl)
@@ -110,7 +115,8 @@ begins : (p : Primary) (c : Chosen) (may_poll : Bool) (waiting : CommandsWaiting
     → is_spent p c.station ≡ true
     → (is_service c.wanted.request ≡ true) × (c.wanted.following ≡ Commanding)
 begins p c may_poll waiting has (here at is) spent =
-    held_follows p.settings.burst may_poll p.again (station_at p.stations c.station) (waiting c.station) link p.phase
+    held_follows p.settings.burst may_poll p.again (station_at p.stations c.station)
+    (waiting c.station) link p.phase
     c.wanted both.0 (λ again. not_both (has_repeats p.settings link) (repeats again) both.1) is
   where
     link : Link
@@ -124,13 +130,15 @@ begins p c may_poll waiting has (here at is) spent =
         → has_repeats p.settings (station_at p.stations i).link ≡ true) (sym at) (has again).1
         both.0
 begins p c may_poll waiting has (there is) spent =
-    held_follows p.settings.burst may_poll false (station_at p.stations c.station) (waiting c.station)
+    held_follows p.settings.burst may_poll false (station_at p.stations c.station)
+    (waiting c.station)
     (station_at p.stations c.station).link Starting c.wanted
     (parts (is_held (station_at p.stations c.station).link)
     (has_repeats p.settings (station_at p.stations c.station).link) spent).0
     (λ e. not_both false e refl) is
 
-asked_matches : (p : Primary) (began : Option ℕ) (now : ℕ) (may_poll : Bool) (waiting : CommandsWaiting) → Matches p began
+asked_matches : (p : Primary) (began : Option ℕ) (now : ℕ) (may_poll : Bool)
+    (waiting : CommandsWaiting) → Matches p began
     → Matches (asked p now may_poll waiting) (began_out p p.outstanding may_poll waiting began)
 asked_matches p began now may_poll waiting matches = go p.outstanding refl
   where
@@ -143,7 +151,8 @@ asked_matches p began now may_poll waiting matches = go p.outstanding refl
         mark : (b : Bool) → is_spent p c.station ≡ b
             → Began (after_choice p now (Some c)) (if b then Some c.station else None)
         mark true is =
-            let it = begins p c may_poll waiting matches.0 (is_chosen p may_poll waiting c e) is in (
+            let chosen = is_chosen p may_poll waiting c e in
+            let it = begins p c may_poll waiting matches.0 chosen is in (
               refl,
               waits (record {
                 request = c.wanted.request;
@@ -340,7 +349,8 @@ give_up_matches p k began matches = (repeats (p.turn == k) refl, go began matche
 
 call_matches : (p : Primary) (began : Option ℕ) (call : Call) → Matches p began
     → Matches (called p call) (began_after p call began)
-call_matches p began (runs.Next now may_poll waiting) matches = asked_matches p began now may_poll waiting matches
+call_matches p began (runs.Next now may_poll waiting) matches =
+    asked_matches p began now may_poll waiting matches
 call_matches p began (Octets octets) matches =
     octets_match (front_of p.settings.size) p octets began matches
 call_matches p began (Due now) matches = due_matches p now began matches
@@ -350,7 +360,8 @@ call_matches p began (GivesUp station) matches = give_up_matches p station began
 
 goes_behind : (p : Primary) (began : Option ℕ) (call : Call) → Matches p began
     → TurnIsNext p began call
-goes_behind p (Some station) (runs.Next now true waiting) (has, (turn, waits o awaited service phase)) =
+goes_behind p (Some station) (runs.Next now true waiting)
+    (has, (turn, waits o awaited service phase)) =
     λ out is. absurd (none_out p.outstanding o out awaited)
 goes_behind p (Some station) (runs.Next now true waiting) (has, (turn, ended free phase)) =
     λ out is.

@@ -106,10 +106,13 @@ polls_go : (burst : ℕ) (may_poll fcb : Bool) (s : StationState) (phase : Phase
 polls_go burst true fcb s phase = poll_goes burst fcb s phase
 polls_go burst false fcb s phase = tt
 
-next_goes : (burst : ℕ) (may_poll fcb : Bool) (s : StationState) (command : Option (List ℕ)) (phase : Phase)
+next_goes : (burst : ℕ) (may_poll fcb : Bool) (s : StationState) (command : Option (List ℕ))
+    (phase : Phase)
     → GoesIt (Next fcb) phase (next_of burst may_poll fcb s command phase)
-next_goes burst may_poll fcb s command Starting = commands_go burst may_poll fcb s Starting command refl
-next_goes burst may_poll fcb s command Commanding = commands_go burst may_poll fcb s Commanding command
+next_goes burst may_poll fcb s command Starting = commands_go burst may_poll fcb s Starting command
+    refl
+next_goes burst may_poll fcb s command Commanding =
+    commands_go burst may_poll fcb s Commanding command
     refl
 next_goes burst may_poll fcb s command Polling = polls_go burst may_poll fcb s Polling
 next_goes burst may_poll fcb s command (Class1Polling sent) =
@@ -121,9 +124,11 @@ held_goes : (link : Link) (phase : Phase) → is_held link ≡ true → (w : Opt
 held_goes link phase is None = tt
 held_goes link phase is (Some w) = repeated is
 
-wanted_goes : (burst : ℕ) (may_poll again : Bool) (s : StationState) (command : Option (List ℕ)) (link : Link) (phase : Phase)
+wanted_goes : (burst : ℕ) (may_poll again : Bool) (s : StationState) (command : Option (List ℕ))
+    (link : Link) (phase : Phase)
     → GoesIt link phase (wanted_by burst may_poll again s command link phase)
-wanted_goes burst may_poll again s command (Next fcb) phase = next_goes burst may_poll fcb s command phase
+wanted_goes burst may_poll again s command (Next fcb) phase =
+    next_goes burst may_poll fcb s command phase
 wanted_goes burst may_poll again s command (Held fcb service missed) phase =
     held_goes (Held fcb service missed) phase refl
     (wanted_by burst may_poll again s command (Held fcb service missed) phase)
@@ -269,7 +274,8 @@ goes_matches p p' c row phase matches at turn follows out (starts new none is) =
     (subst (λ (r : Row). Matches p' r) (sym (is c.station row))
     (subst IsNotBegun (sym follows) none))
 
-chosen_matches : (p : Primary) (c : Chosen) (row : Row) (now : ℕ) (may_poll : Bool) (waiting : CommandsWaiting) → Matches p row
+chosen_matches : (p : Primary) (c : Chosen) (row : Row) (now : ℕ) (may_poll : Bool)
+    (waiting : CommandsWaiting) → Matches p row
     → IsChosen p may_poll waiting c
     → Matches (after_choice p now (Some c))
     (row_by_request (is_held (station_at p.stations c.station).link) c.station c.wanted.request row)
@@ -277,23 +283,27 @@ chosen_matches p c row now may_poll waiting matches (here at is) =
     goes_matches p (after_choice p now (Some c)) c row p.phase matches (inl (at, refl)) refl refl
     (λ h. h)
     (subst (λ (v : Option Wanted). GoesIt (station_at p.stations c.station).link p.phase v) is
-    (wanted_goes p.settings.burst may_poll p.again (station_at p.stations c.station) (waiting c.station)
+    (wanted_goes p.settings.burst may_poll p.again (station_at p.stations c.station)
+    (waiting c.station)
     (station_at p.stations c.station).link p.phase))
 chosen_matches p c row now may_poll waiting matches (there is) =
     goes_matches p (after_choice p now (Some c)) c row Starting matches (inr refl) refl refl
     (λ h. h)
     (subst (λ (v : Option Wanted). GoesIt (station_at p.stations c.station).link Starting v) is
-    (wanted_goes p.settings.burst may_poll false (station_at p.stations c.station) (waiting c.station)
+    (wanted_goes p.settings.burst may_poll false (station_at p.stations c.station)
+    (waiting c.station)
     (station_at p.stations c.station).link Starting))
 
-asked_matches : (p : Primary) (row : Row) (now : ℕ) (may_poll : Bool) (waiting : CommandsWaiting) → Matches p row
+asked_matches : (p : Primary) (row : Row) (now : ℕ) (may_poll : Bool) (waiting : CommandsWaiting)
+    → Matches p row
     → Matches (asked p now may_poll waiting) (row_out p p.outstanding may_poll waiting row)
 asked_matches p row now may_poll waiting matches = go p.outstanding refl
   where
     by : (c : Option Chosen) → choice p may_poll waiting ≡ c
         → Matches (after_choice p now c) (row_by p (sending_by c) row)
     by None e = tt
-    by (Some c) e = chosen_matches p c row now may_poll waiting matches (is_chosen p may_poll waiting c e)
+    by (Some c) e = chosen_matches p c row now may_poll waiting matches
+        (is_chosen p may_poll waiting c e)
 
     go : (o : Option Outstanding) → p.outstanding ≡ o
         → Matches (asked_from p o now may_poll waiting) (row_out p o may_poll waiting row)
@@ -464,7 +474,8 @@ give_up_matches p k (Polls j n) (turn, polls) = (turn, go (p.turn == k) refl pol
 
 call_matches : (p : Primary) (row : Row) (call : Call) → Matches p row
     → Matches (called p call) (row_after p call row)
-call_matches p row (runs.Next now may_poll waiting) matches = asked_matches p row now may_poll waiting matches
+call_matches p row (runs.Next now may_poll waiting) matches =
+    asked_matches p row now may_poll waiting matches
 call_matches p row (Octets octets) matches = octets_match (front_of p.settings.size) p octets row
     matches
 call_matches p row (Due now) matches = due_matches p now row matches
@@ -472,7 +483,8 @@ call_matches p row (GivesUp station) matches = give_up_matches p station row mat
 
 -- ---- one more
 
-one_wanted : (burst many : ℕ) (again : Bool) (s : StationState) (command : Option (List ℕ)) (link : Link) → is_answered link
+one_wanted : (burst many : ℕ) (again : Bool) (s : StationState) (command : Option (List ℕ))
+    (link : Link) → is_answered link
     ≡ true → s.acd ≡ true
     → many < burst → (fcb : Bool) × (wanted_by burst true again s command link (Class1Polling many)
     ≡ wants (Counted fcb Class1) (Class1Polling (suc many)))
@@ -485,24 +497,30 @@ one_wanted burst many again s command (Next fcb) up acd less = (
 )
 one_wanted burst many again s command Down up acd less = let bad : ⊥ = cc in absurd bad
 one_wanted burst many again s command Available up acd less = let bad : ⊥ = cc in absurd bad
-one_wanted burst many again s command (Held fcb service missed) up acd less = let bad : ⊥ = cc in absurd bad
+one_wanted burst many again s command (Held fcb service missed) up acd less = let bad : ⊥ = cc in
+    absurd bad
 
 goes_on : (p : Primary) (row : Row) (call : Call) → Matches p row → PollsGoOn p row call
 goes_on p (Polls k n) (runs.Next now true waiting) (turn, lost free down) =
     λ out up acd less. absurd (not_both (is_answered (station_at p.stations k).link) up down)
-goes_on p (Polls k n) (runs.Next now true waiting) (turn, going so_far le is poll) = λ out up acd less.
+goes_on p (Polls k n) (runs.Next now true waiting) (turn, going so_far le is poll) =
+    λ out up acd less.
     let one = one_wanted p.settings.burst so_far p.again (station_at p.stations k) (waiting k)
     (station_at p.stations k).link up acd
     (omega (arith, le, less)) in
-    let there_is : wanted p.settings.burst true p.again (station_at p.stations p.turn) (waiting p.turn) p.phase
+    let there_is : wanted p.settings.burst true p.again (station_at p.stations p.turn)
+    (waiting p.turn) p.phase
     ≡ wants (Counted one.0 Class1) (Class1Polling (suc so_far)) =
-    ap (λ (i : ℕ). wanted p.settings.burst true p.again (station_at p.stations i) (waiting i) p.phase) turn
-    ∙ ap (λ (f : Phase). wanted p.settings.burst true p.again (station_at p.stations k) (waiting k) f) is
+    ap (λ (i : ℕ). wanted p.settings.burst true p.again (station_at p.stations i) (waiting i)
+    p.phase) turn
+    ∙ ap (λ (f : Phase). wanted p.settings.burst true p.again (station_at p.stations k) (waiting k)
+    f) is
     ∙ one.1 in (
       one.0,
       ap (λ (o : Option Outstanding). sending_from p o true waiting) out
           ∙ ap (λ (w : Option Wanted). sending_by (chosen_or w p.turn
-          (first_after p.settings.burst true p.stations waiting (length p.stations) p.turn))) there_is
+          (first_after p.settings.burst true p.stations waiting (length p.stations) p.turn)))
+          there_is
           ∙ ap (λ (i : ℕ). Some (record { station = i; request = Counted one.0 Class1 })) turn,
     )
 goes_on p (Polls k n) (runs.Next now false waiting) matches = tt

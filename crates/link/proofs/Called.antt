@@ -69,7 +69,8 @@ pub ask_matches : (settings : LinkSettings) (addresses : List ℕ) (p : Primary)
     (now : ℕ)
     (may_poll : Bool) (waiting : CommandsWaiting) → IsStable (front_of settings.size)
     → FitsLine p may_poll waiting → Matches settings addresses p e
-    → Matches settings addresses (asked p now may_poll waiting) (begun_by now (sending p may_poll waiting) e)
+    → Matches settings addresses (asked p now may_poll waiting)
+    (begun_by now (sending p may_poll waiting) e)
 ask_matches settings addresses p e now may_poll waiting stable carried t =
     matches (front_of settings.size) settings addresses (asked p now may_poll waiting)
     (begun_by now (sending p may_poll waiting) e)

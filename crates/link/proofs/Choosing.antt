@@ -5,19 +5,24 @@ use Rattle.link.specs.Turns.{StationState, Starting, station_at, Wanted, wanted,
 use Rattle.link.specs.Turns.{CommandsWaiting, place_after, chosen_or, first_after}
 
 -- one more station is looked at
-pub look_one : (burst : ℕ) (may_poll : Bool) (stations : List StationState) (waiting : CommandsWaiting) (many place next : ℕ)
+pub look_one : (burst : ℕ) (may_poll : Bool) (stations : List StationState)
+    (waiting : CommandsWaiting) (many place next : ℕ)
     (w : Option Wanted) →
     next ≡ place_after (length stations) place
     → w ≡ wanted burst may_poll false (station_at stations next) (waiting next) Starting →
     chosen_or w next (first_after burst may_poll stations waiting many next)
     ≡ first_after burst may_poll stations waiting (suc many) place
 look_one burst may_poll stations waiting many place next w e is =
-    ap (λ (v : Option Wanted). chosen_or v next (first_after burst may_poll stations waiting many next)) is
-    ∙ ap (λ (n : ℕ). chosen_or (wanted burst may_poll false (station_at stations n) (waiting n) Starting) n
+    ap (λ (v : Option Wanted). chosen_or v next (first_after burst may_poll stations waiting many
+    next)) is
+    ∙ ap
+    (λ (n : ℕ). chosen_or (wanted burst may_poll false (station_at stations n) (waiting n) Starting)
+    n
     (first_after burst may_poll stations waiting many n)) e
 
 -- a turn of the loop that looks at the stations, by what it found
-pub looked : (burst : ℕ) (may_poll : Bool) (stations : List StationState) (waiting : CommandsWaiting) (seen place next turn : ℕ)
+pub looked : (burst : ℕ) (may_poll : Bool) (stations : List StationState)
+    (waiting : CommandsWaiting) (seen place next turn : ℕ)
     (s : StationState)
     (w found : Option Wanted) →
     seen < length stations →
@@ -25,7 +30,8 @@ pub looked : (burst : ℕ) (may_poll : Bool) (stations : List StationState) (wai
     → w ≡ wanted burst may_poll false s (waiting next) Starting → w ≡ found →
     first_after burst may_poll stations waiting (length stations - seen) place
     ≡ first_after burst may_poll stations waiting (length stations) turn →
-    chosen_or found next (first_after burst may_poll stations waiting (length stations - (seen + 1)) next)
+    chosen_or found next (first_after burst may_poll stations waiting (length stations - (seen + 1))
+    next)
     ≡ first_after burst may_poll stations waiting (length stations) turn
 looked burst may_poll stations waiting seen place next turn s w found more at is wants same rest =
     let count : suc (length stations - (seen + 1)) ≡ length stations - seen = omega arith in
@@ -36,21 +42,25 @@ looked burst may_poll stations waiting seen place next turn s w found more at is
     ∙ ap (λ (m : ℕ). first_after burst may_poll stations waiting m place) count ∙ rest
 
 -- the same by a wish
-pub looked_wish : (burst : ℕ) (may_poll : Bool) (stations : List StationState) (waiting : CommandsWaiting)
+pub looked_wish : (burst : ℕ) (may_poll : Bool) (stations : List StationState)
+    (waiting : CommandsWaiting)
     (seen place next turn : ℕ)
     (s : StationState) (w found : Option Wish) →
     seen < length stations →
     next ≡ place_after (length stations) place → s ≡ station_at stations next
-    → option_map (wished s (waiting next)) w ≡ wanted burst may_poll false s (waiting next) Starting → w ≡ found →
+    → option_map (wished s (waiting next)) w ≡ wanted burst may_poll false s (waiting next) Starting
+    → w ≡ found →
     first_after burst may_poll stations waiting (length stations - seen) place
     ≡ first_after burst may_poll stations waiting (length stations) turn →
     chosen_or (option_map (wished (station_at stations next) (waiting next)) found) next
     (first_after burst may_poll stations waiting (length stations - (seen + 1)) next)
     ≡ first_after burst may_poll stations waiting (length stations) turn
-looked_wish burst may_poll stations waiting seen place next turn s w found more at is wants same rest =
+looked_wish burst may_poll stations waiting seen place next turn s w found more at is wants same
+    rest =
     ap (λ (t : StationState). chosen_or (option_map (wished t (waiting next)) found) next
     (first_after burst may_poll stations waiting
     (length stations - (seen + 1)) next)) (sym is)
-    ∙ looked burst may_poll stations waiting seen place next turn s (option_map (wished s (waiting next)) w)
+    ∙ looked burst may_poll stations waiting seen place next turn s
+    (option_map (wished s (waiting next)) w)
     (option_map (wished s (waiting next)) found)
     more at is wants (ap (λ (v : Option Wish). option_map (wished s (waiting next)) v) same) rest

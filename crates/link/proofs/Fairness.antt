@@ -56,8 +56,10 @@ asks_visit : (settings : LinkSettings) (addresses : List ℕ) (p p' : Primary) (
     IsAsked (front_of settings.size) addresses p may_poll waiting many p' e' s
     → HasVisit settings addresses p' e'
 asks_visit settings addresses p p' e' may_poll waiting many s (nothing none turn v) = (many, v)
-asks_visit settings addresses p p' e' may_poll waiting many s (goes_on z is at turn v) = (suc many, v)
-asks_visit settings addresses p p' e' may_poll waiting many s (begins c is free f within turn v) = (1, v)
+asks_visit settings addresses p p' e' may_poll waiting many s (goes_on z is at turn v) =
+    (suc many, v)
+asks_visit settings addresses p p' e' may_poll waiting many s (begins c is free f within turn v) =
+    (1, v)
 
 abbrev pub IsOther : Call → Type 0
 IsOther (Next now may_poll waiting) = ⊥
@@ -344,20 +346,25 @@ waits_short most count k before turn many within there short w = go (cases_eq tu
 
 -- who wants something isn't passed over
 not_past : (p : Primary) (may_poll : Bool) (waiting : CommandsWaiting) (k place : ℕ)
-    → ((may_poll ≡ true) ⊎ (IsLeftToPolls (station_at p.stations k) (waiting k) (station_at p.stations k).link
+    → ((may_poll ≡ true)
+    ⊎ (IsLeftToPolls (station_at p.stations k) (waiting k) (station_at p.stations k).link
     → ⊥)) →
-    wanted p.settings.burst may_poll false (station_at p.stations place) (waiting place) Starting ≡ None → place ≡ k
+    wanted p.settings.burst may_poll false (station_at p.stations place) (waiting place) Starting
+    ≡ None → place ≡ k
     → ⊥
 not_past p may_poll waiting k place wants none at =
     let idle = left p.settings.burst may_poll (station_at p.stations k) (waiting k)
     (station_at p.stations k).link
-    (subst (λ (i : ℕ). wanted p.settings.burst may_poll false (station_at p.stations i) (waiting i) Starting
+    (subst (λ (i : ℕ). wanted p.settings.burst may_poll false (station_at p.stations i) (waiting i)
+    Starting
     ≡ None) at none) in
     go idle wants
   where
-    go : (may_poll ≡ false) × IsLeftToPolls (station_at p.stations k) (waiting k) (station_at p.stations k).link
+    go : (may_poll ≡ false) × IsLeftToPolls (station_at p.stations k) (waiting k)
+        (station_at p.stations k).link
         →
-        (may_poll ≡ true) ⊎ (IsLeftToPolls (station_at p.stations k) (waiting k) (station_at p.stations k).link
+        (may_poll ≡ true)
+        ⊎ (IsLeftToPolls (station_at p.stations k) (waiting k) (station_at p.stations k).link
         → ⊥) → ⊥
     go idle (inl leave) = let off = idle.0 in cc
     go idle (inr more) = more idle.1
@@ -456,7 +463,8 @@ call_waits : (settings : LinkSettings) (addresses : List ℕ) (p : Primary) (e :
     Waiting settings addresses k (waited k before (stations_by p call)) (called p call)
     (exchanged p call e)
 call_waits settings addresses p e (Next now may_poll waiting) k before some there may wants t w =
-    ask_waits settings addresses p (asked p now may_poll waiting) e (begun_by now (sending p may_poll waiting) e)
+    ask_waits settings addresses p (asked p now may_poll waiting) e
+    (begun_by now (sending p may_poll waiting) e)
     may_poll waiting w.0 k before
     (sending p may_poll waiting) there t
     (short_visit settings addresses p e w.0 t w.1) wants w.2

@@ -103,7 +103,8 @@ commands_go burst may_poll fcb again s begun_in (Some asdu) = go s.dfc
     go true = polls_go burst may_poll fcb again s Polling begun_in
     go false = other tt (λ e. refl)
 
-next_goes : (burst : ℕ) (may_poll fcb again : Bool) (s : StationState) (command : Option (List ℕ)) (phase : Phase)
+next_goes : (burst : ℕ) (may_poll fcb again : Bool) (s : StationState) (command : Option (List ℕ))
+    (phase : Phase)
     → GoesIt (Next fcb) again phase (next_of burst may_poll fcb s command phase)
 next_goes burst may_poll fcb again s command Starting =
     commands_go burst may_poll fcb again s Starting command
@@ -115,7 +116,8 @@ next_goes burst may_poll fcb again s command (Class1Polling sent) =
     polls_go burst may_poll fcb again s (Class1Polling sent) (Class1Polling sent)
 next_goes burst may_poll fcb again s command Over = tt
 
-held_goes : (burst : ℕ) (may_poll again fcb : Bool) (s : StationState) (command : Option (List ℕ)) (service : Service)
+held_goes : (burst : ℕ) (may_poll again fcb : Bool) (s : StationState) (command : Option (List ℕ))
+    (service : Service)
     (missed : ℕ) (phase : Phase)
     → GoesIt (Held fcb service missed) again phase
     (wanted_by burst may_poll again s command (Held fcb service missed) phase)
@@ -136,9 +138,11 @@ held_goes burst may_poll false fcb s command service missed Polling = tt
 held_goes burst may_poll false fcb s command service missed (Class1Polling sent) = tt
 held_goes burst may_poll false fcb s command service missed Over = tt
 
-wanted_goes : (burst : ℕ) (may_poll again : Bool) (s : StationState) (command : Option (List ℕ)) (link : Link) (phase : Phase)
+wanted_goes : (burst : ℕ) (may_poll again : Bool) (s : StationState) (command : Option (List ℕ))
+    (link : Link) (phase : Phase)
     → GoesIt link again phase (wanted_by burst may_poll again s command link phase)
-wanted_goes burst may_poll again s command (Next fcb) phase = next_goes burst may_poll fcb again s command phase
+wanted_goes burst may_poll again s command (Next fcb) phase =
+    next_goes burst may_poll fcb again s command phase
 wanted_goes burst may_poll again s command (Held fcb service missed) phase =
     held_goes burst may_poll again fcb s command service missed phase
 wanted_goes burst may_poll again s command Down Starting = other tt (λ e. refl)
@@ -224,13 +228,15 @@ repeat_follows p (Some s) c (turn, ended free more again_is go_on) out at again 
     subst (λ (f : Phase). Follows c.wanted.request f) (sym stays)
     (subst (λ (r : Asked). Follows r p.phase) same it.0)
 
-chosen_matches : (p : Primary) (latest : Option Sending) (c : Chosen) (now : ℕ) (may_poll : Bool) (waiting : CommandsWaiting)
+chosen_matches : (p : Primary) (latest : Option Sending) (c : Chosen) (now : ℕ) (may_poll : Bool)
+    (waiting : CommandsWaiting)
     → Matches p latest → p.outstanding ≡ None → IsChosen p may_poll waiting c
     → StateAt (after_choice p now (Some c)) c.wanted.request
 chosen_matches p latest c now may_poll waiting matches out (here at is) =
     by (subst (λ (v : Option Wanted). GoesIt (station_at p.stations c.station).link p.again p.phase
     v) is
-    (wanted_goes p.settings.burst may_poll p.again (station_at p.stations c.station) (waiting c.station)
+    (wanted_goes p.settings.burst may_poll p.again (station_at p.stations c.station)
+    (waiting c.station)
     (station_at p.stations c.station).link p.phase))
   where
     by : Goes (station_at p.stations c.station).link p.again p.phase c.wanted.request
@@ -244,7 +250,8 @@ chosen_matches p latest c now may_poll waiting matches out (here at is) =
 chosen_matches p latest c now may_poll waiting matches out (there is) =
     by (subst (λ (v : Option Wanted). GoesIt (station_at p.stations c.station).link false Starting
     v) is
-    (wanted_goes p.settings.burst may_poll false (station_at p.stations c.station) (waiting c.station)
+    (wanted_goes p.settings.burst may_poll false (station_at p.stations c.station)
+    (waiting c.station)
     (station_at p.stations c.station).link Starting))
   where
     by : Goes (station_at p.stations c.station).link false Starting c.wanted.request
@@ -253,7 +260,8 @@ chosen_matches p latest c now may_poll waiting matches out (there is) =
     by (other follows new) = asks p now c follows new
     by (repeated again held same stays) = absurd (not_both false again refl)
 
-pub asked_matches : (p : Primary) (latest : Option Sending) (now : ℕ) (may_poll : Bool) (waiting : CommandsWaiting)
+pub asked_matches : (p : Primary) (latest : Option Sending) (now : ℕ) (may_poll : Bool)
+    (waiting : CommandsWaiting)
     → Matches p latest
     → Matches (asked p now may_poll waiting) (latest_by p p.outstanding may_poll waiting latest)
 asked_matches p latest now may_poll waiting matches = go p.outstanding refl
@@ -261,8 +269,11 @@ asked_matches p latest now may_poll waiting matches = go p.outstanding refl
     by : p.outstanding ≡ None → (c : Option Chosen) → choice p may_poll waiting ≡ c
         → Matches (after_choice p now c) (sending_by c)
     by out None e = (out, refl)
-    by out (Some c) e =
-        (refl, chosen_matches p latest c now may_poll waiting matches out (is_chosen p may_poll waiting c e))
+    by out (Some c) e = (
+      refl,
+      chosen_matches p latest c now may_poll waiting matches out
+          (is_chosen p may_poll waiting c e),
+    )
 
     go : (o : Option Outstanding) → p.outstanding ≡ o
         → Matches (asked_from p o now may_poll waiting) (latest_by p o may_poll waiting latest)

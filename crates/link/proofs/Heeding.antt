@@ -55,7 +55,8 @@ commands_heed burst may_poll fcb s (Some asdu) = go s.dfc refl
     go true e = polls_heed burst may_poll fcb s Polling
     go false e = e
 
-next_heeds : (burst : ℕ) (may_poll fcb : Bool) (s : StationState) (command : Option (List ℕ)) (phase : Phase)
+next_heeds : (burst : ℕ) (may_poll fcb : Bool) (s : StationState) (command : Option (List ℕ))
+    (phase : Phase)
     → HeedsIt (flags_of s) (next_of burst may_poll fcb s command phase)
 next_heeds burst may_poll fcb s command Starting = commands_heed burst may_poll fcb s command
 next_heeds burst may_poll fcb s command Commanding = commands_heed burst may_poll fcb s command
@@ -64,10 +65,12 @@ next_heeds burst may_poll fcb s command (Class1Polling sent) =
     polls_heed burst may_poll fcb s (Class1Polling sent)
 next_heeds burst may_poll fcb s command Over = tt
 
-wanted_heeds : (burst : ℕ) (may_poll again : Bool) (s : StationState) (command : Option (List ℕ)) (link : Link) (phase : Phase)
+wanted_heeds : (burst : ℕ) (may_poll again : Bool) (s : StationState) (command : Option (List ℕ))
+    (link : Link) (phase : Phase)
     → is_held link ≡ false →
     HeedsIt (flags_of s) (wanted_by burst may_poll again s command link phase)
-wanted_heeds burst may_poll again s command (Next fcb) phase new = next_heeds burst may_poll fcb s command phase
+wanted_heeds burst may_poll again s command (Next fcb) phase new =
+    next_heeds burst may_poll fcb s command phase
 wanted_heeds burst may_poll again s command (Held fcb service missed) phase held = cc
 wanted_heeds burst may_poll again s command Down Starting new = tt
 wanted_heeds burst may_poll again s command Available Starting new = tt
@@ -91,19 +94,23 @@ sending_heeds front settings addresses p e may_poll waiting s t sent new =
     here = ap is_held (sym (links_at front settings addresses p e None free t s.station)) ∙ new
 
     by : (again : Bool) (phase : Phase) (w : Wanted) →
-        wanted_by p.settings.burst may_poll again (station_at p.stations s.station) (waiting s.station)
+        wanted_by p.settings.burst may_poll again (station_at p.stations s.station)
+        (waiting s.station)
         (station_at p.stations s.station).link phase ≡ Some w →
         s.request ≡ w.request → Heeds (flags_of (station_at p.stations s.station)) s.request
     by again phase w is request =
         subst (λ (r : Asked). Heeds (flags_of (station_at p.stations s.station)) r) (sym request)
         (subst (λ (v : Option Wanted). HeedsIt (flags_of (station_at p.stations s.station)) v) is
-        (wanted_heeds p.settings.burst may_poll again (station_at p.stations s.station) (waiting s.station)
+        (wanted_heeds p.settings.burst may_poll again (station_at p.stations s.station)
+        (waiting s.station)
         (station_at p.stations s.station).link phase here))
 
-    go : GoesOn p may_poll waiting s ⊎ ((present p may_poll waiting ≡ None) × BeginsTurn p may_poll waiting s)
+    go : GoesOn p may_poll waiting s
+        ⊎ ((present p may_poll waiting ≡ None) × BeginsTurn p may_poll waiting s)
         → Heeds (flags_of (station_at p.stations s.station)) s.request
     go (inl on) =
         by p.again p.phase on.wanted
-        (ap (λ (i : ℕ). wanted_by p.settings.burst may_poll p.again (station_at p.stations i) (waiting i)
+        (ap (λ (i : ℕ). wanted_by p.settings.burst may_poll p.again (station_at p.stations i)
+        (waiting i)
         (station_at p.stations i).link p.phase) on.station ∙ on.is) on.request
     go (inr begins) = by false Starting begins.1.wanted begins.1.first begins.1.request

@@ -66,8 +66,10 @@ commands_known link burst may_poll fcb s (Some asdu) = go s.dfc
 next_known : (link : Link) (burst : ℕ) (may_poll fcb : Bool) (s : StationState)
     (command : Option (List ℕ)) (phase : Phase)
     → IsKnownWant link command (next_of burst may_poll fcb s command phase)
-next_known link burst may_poll fcb s command Starting = commands_known link burst may_poll fcb s command
-next_known link burst may_poll fcb s command Commanding = commands_known link burst may_poll fcb s command
+next_known link burst may_poll fcb s command Starting =
+    commands_known link burst may_poll fcb s command
+next_known link burst may_poll fcb s command Commanding =
+    commands_known link burst may_poll fcb s command
 next_known link burst may_poll fcb s command Polling = polls_known link command burst may_poll fcb s
     Polling
 next_known link burst may_poll fcb s command (Class1Polling sent) =
@@ -91,7 +93,8 @@ again_known burst may_poll true fcb service missed s command Polling =
     held_known fcb service missed command
 again_known burst may_poll true fcb service missed s command (Class1Polling sent) =
     held_known fcb service missed command
-again_known burst may_poll true fcb service missed s command Over = held_known fcb service missed command
+again_known burst may_poll true fcb service missed s command Over =
+    held_known fcb service missed command
 again_known burst may_poll false fcb service missed s command Commanding = tt
 again_known burst may_poll false fcb service missed s command Polling = tt
 again_known burst may_poll false fcb service missed s command (Class1Polling sent) = tt

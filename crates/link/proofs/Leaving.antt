@@ -22,7 +22,8 @@ use Rattle.link.specs.Primary.{sending_by, sending_from, sending, station_answer
 use Rattle.link.specs.Primary.{answer_at, said_by, open_octets, took, with_octets, received_after}
 use Rattle.link.specs.Primary.{received_from, received, outcome_by, outcome_of, outcome_at}
 use Rattle.link.specs.Primary.{outcome_after, outcome_from, received_outcome, station_unanswered}
-use Rattle.link.specs.Primary.{unanswered, is_late, due_from, timed_out, Outcome, turn_gap, started, with_gap}
+use Rattle.link.specs.Primary.{unanswered, is_late, due_from, timed_out, Outcome, turn_gap, started}
+use Rattle.link.specs.Primary.{with_gap}
 use Rattle.link.specs.declared.outcome.Outcome.TheVariants as outcome
 use Rattle.link.specs.Leave.{is_poll_request, holds_poll, is_polling_by, is_polling, is_report}
 use Rattle.link.proofs.Turning.{present, goes_on, passes_on}
@@ -51,17 +52,20 @@ no_command_poll burst fcb s (Some asdu) w is poll = go s.dfc is
     go true e = cc
     go false e = no_poll w (poll_is (Counted fcb (Command asdu)) _ w e) poll
 
-no_next_poll : (burst : ℕ) (fcb : Bool) (s : StationState) (command : Option (List ℕ)) (phase : Phase) (w : Wanted)
+no_next_poll : (burst : ℕ) (fcb : Bool) (s : StationState) (command : Option (List ℕ))
+    (phase : Phase) (w : Wanted)
     → next_of burst false fcb s command phase ≡ Some w →
     is_poll_request w.request ≡ true → ⊥
 no_next_poll burst fcb s command Starting w is poll = no_command_poll burst fcb s command w is poll
-no_next_poll burst fcb s command Commanding w is poll = no_command_poll burst fcb s command w is poll
+no_next_poll burst fcb s command Commanding w is poll =
+    no_command_poll burst fcb s command w is poll
 no_next_poll burst fcb s command Polling w is poll = cc
 no_next_poll burst fcb s command (Class1Polling sent) w is poll = cc
 no_next_poll burst fcb s command Over w is poll = cc
 
 -- Only an unanswered poll is wanted, and only at once.
-pub repeated : (burst : ℕ) (again : Bool) (s : StationState) (command : Option (List ℕ)) (link : Link) (phase : Phase)
+pub repeated : (burst : ℕ) (again : Bool) (s : StationState) (command : Option (List ℕ))
+    (link : Link) (phase : Phase)
     (w : Wanted)
     → wanted_by burst false again s command link phase ≡ Some w →
     is_poll_request w.request ≡ true → (again && holds_poll link) ≡ true
@@ -79,7 +83,8 @@ repeated burst again s command Available (Class1Polling sent) w is poll = cc
 repeated burst again s command Available Over w is poll = cc
 repeated burst again s command (Next fcb) phase w is poll =
     absurd (no_next_poll burst fcb s command phase w is poll)
-repeated burst again s command (Held fcb service missed) Starting w is poll = go (is_poll service) refl is
+repeated burst again s command (Held fcb service missed) Starting w is poll =
+    go (is_poll service) refl is
   where
     go : (b : Bool) → is_poll service ≡ b
         → (if false || not b then wants (Counted fcb service) Commanding else None)
@@ -103,7 +108,8 @@ repeated burst false s command (Held fcb service missed) Over w is poll = cc
 
 -- ---- `next`
 
-without_free : (p : Primary) (waiting : CommandsWaiting) (s : Sending) → p.outstanding ≡ None → sending p false waiting ≡ Some s
+without_free : (p : Primary) (waiting : CommandsWaiting) (s : Sending) → p.outstanding ≡ None
+    → sending p false waiting ≡ Some s
     → is_poll_request s.request ≡ true → is_polling p ≡ true
 without_free p waiting s free sent poll = ap (λ (o : Option Outstanding). is_polling_by p o) free
     ∙ go (present p false waiting) refl
@@ -124,7 +130,8 @@ without_free p waiting s free sent poll = ap (λ (o : Option Outstanding). is_po
         (ap is_poll_request (sym b.request) ∙ poll) in
         cc
 
-pub without : (p : Primary) (waiting : CommandsWaiting) (s : Sending) → sending p false waiting ≡ Some s → is_poll_request s.request
+pub without : (p : Primary) (waiting : CommandsWaiting) (s : Sending) → sending p false waiting
+    ≡ Some s → is_poll_request s.request
     ≡ true
     → is_polling p ≡ true
 without p waiting s sent poll = go p.outstanding refl sent
@@ -134,7 +141,8 @@ without p waiting s sent poll = go p.outstanding refl sent
     go (Some x) e none = cc
     go None e some = without_free p waiting s e sent poll
 
-asked_without : (p : Primary) (now : ℕ) (waiting : CommandsWaiting) → is_polling (asked p now false waiting) ≡ true → is_polling p
+asked_without : (p : Primary) (now : ℕ) (waiting : CommandsWaiting)
+    → is_polling (asked p now false waiting) ≡ true → is_polling p
     ≡ true
 asked_without p now waiting poll = go p.outstanding refl poll
   where
@@ -150,12 +158,14 @@ asked_without p now waiting poll = go p.outstanding refl poll
         without_free p waiting (record { station = c.station; request = c.wanted.request }) free
         (ap (λ (o : Option Outstanding). sending_from p o false waiting) free ∙ ap sending_by is) h
 
-    go : (o : Option Outstanding) → p.outstanding ≡ o → is_polling (asked_from p o now false waiting) ≡ true
+    go : (o : Option Outstanding) → p.outstanding ≡ o
+        → is_polling (asked_from p o now false waiting) ≡ true
         → is_polling p ≡ true
     go (Some x) e h = h
     go None e h = by e (choice p false waiting) refl h
 
-pub next : (p : Primary) (now : ℕ) (may_poll : Bool) (waiting : CommandsWaiting) → is_polling (asked p now may_poll waiting) ≡ true
+pub next : (p : Primary) (now : ℕ) (may_poll : Bool) (waiting : CommandsWaiting)
+    → is_polling (asked p now may_poll waiting) ≡ true
     → (is_polling p ≡ true) ⊎ (may_poll ≡ true)
 next p now true waiting poll = inr refl
 next p now false waiting poll = inl (asked_without p now waiting poll)

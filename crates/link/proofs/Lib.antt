@@ -1,7 +1,3 @@
-
-
-
-
 pub mod Assembling
 pub mod Timed
 pub mod OneVisits

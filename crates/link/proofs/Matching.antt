@@ -277,7 +277,8 @@ answered_front front a x octets answer stable said = go (front x.octets) refl sa
 pub ask_says : (front : List ℕ → Front) (settings : LinkSettings) (addresses : List ℕ) (p : Primary)
     (e : Exchanges)
     (now : ℕ) (may_poll : Bool) (waiting : CommandsWaiting) → IsStable front →
-    FitsLine p may_poll waiting → SaysBy front settings addresses p e → SaysBy front settings addresses (asked p now may_poll waiting)
+    FitsLine p may_poll waiting → SaysBy front settings addresses p e
+    → SaysBy front settings addresses (asked p now may_poll waiting)
     (begun_by now (sending p may_poll waiting) e)
 ask_says front settings addresses p e now may_poll waiting stable carried t = go p.outstanding refl
   where

@@ -53,22 +53,29 @@ pub record IsAt (p : Primary) (v : Present) : Type 0 where
 -- ---- `next`
 
 -- a held service that goes out in a turn has a repeat left
-repeats_left : (settings : LinkSettings) (may_poll again : Bool) (s : StationState) (command : Option (List ℕ)) (link : Link)
+repeats_left : (settings : LinkSettings) (may_poll again : Bool) (s : StationState)
+    (command : Option (List ℕ)) (link : Link)
     (phase : Phase) (left : Left) (w : Wanted) → IsReady settings again phase link left
     → wanted_by settings.burst may_poll again s command link phase ≡ Some w → is_held link ≡ true
     → has_repeats settings link ≡ true
 repeats_left settings may_poll again s command Down phase left w ready is held = cc
 repeats_left settings may_poll again s command Available phase left w ready is held = cc
 repeats_left settings may_poll again s command (Next fcb) phase left w ready is held = cc
-repeats_left settings may_poll again s command (Held fcb service missed) phase left w (over o a) is held =
-    let none : wanted_by settings.burst may_poll again s command (Held fcb service missed) phase ≡ None =
-    ap (λ (b : Bool). wanted_by settings.burst may_poll b s command (Held fcb service missed) phase) a
-    ∙ ap (λ (f : Phase). wanted_by settings.burst may_poll false s command (Held fcb service missed) f) o
+repeats_left settings may_poll again s command (Held fcb service missed) phase left w (over o a) is
+    held =
+    let none : wanted_by settings.burst may_poll again s command (Held fcb service missed) phase
+    ≡ None =
+    ap (λ (b : Bool). wanted_by settings.burst may_poll b s command (Held fcb service missed) phase)
+    a
+    ∙ ap (λ (f : Phase). wanted_by settings.burst may_poll false s command (Held fcb service missed)
+    f) o
     ∙ over_wants settings.burst may_poll s command (Held fcb service missed) in
     let no : None ≡ Some w = sym none ∙ is in cc
-repeats_left settings may_poll again s command (Held fcb service missed) phase left w (starting o plan) is
+repeats_left settings may_poll again s command (Held fcb service missed) phase left w
+    (starting o plan) is
     held = absurd plan
-repeats_left settings may_poll again s command (Held fcb service missed) phase left w (serving plan more) is
+repeats_left settings may_poll again s command (Held fcb service missed) phase left w
+    (serving plan more) is
     held = go again phase plan more is
   where
     go : (b : Bool) (f : Phase) → HasPlan settings.burst f left.plan
@@ -83,7 +90,8 @@ repeats_left settings may_poll again s command (Held fcb service missed) phase l
     go false (Class1Polling sent) has few e = cc
 
 -- the visit after a call of `next`
-pub record Visited (p : Primary) (now : ℕ) (may_poll : Bool) (waiting : CommandsWaiting) (v : Present)
+pub record Visited (p : Primary) (now : ℕ) (may_poll : Bool) (waiting : CommandsWaiting)
+    (v : Present)
     (o : Option Outstanding) : Type 0 where
   pub after : Present
   pub visited : IsVisitedBy p may_poll waiting o v after
@@ -105,7 +113,8 @@ module _ (front : List ℕ → Front) (addresses : List ℕ) (p : Primary) (e : 
       let s : StationState = station_asked (station_at p.stations p.turn) w.request in
       let f : Follows p.settings (station_at p.stations p.turn).link v.left w =
       subst (λ (x : Option Wanted). FollowsIt p.settings (station_at p.stations p.turn).link v.left
-      x) is (ready_follows p.settings may_poll p.again (station_at p.stations p.turn) (waiting p.turn)
+      x) is (ready_follows p.settings may_poll p.again (station_at p.stations p.turn)
+      (waiting p.turn)
       (station_at p.stations p.turn).link p.phase v.left some ready) in (
         record { station = p.turn; left = f.later },
         (
@@ -113,7 +122,8 @@ module _ (front : List ℕ → Front) (addresses : List ℕ) (p : Primary) (e : 
           inl (
             is_at.turn,
             repeats_left p.settings may_poll p.again
-                (station_at p.stations p.turn) (waiting p.turn) (station_at p.stations p.turn).link p.phase v.left w
+                (station_at p.stations p.turn) (waiting p.turn) (station_at p.stations p.turn).link
+                p.phase v.left w
                 ready is,
             f.follow,
           ),
@@ -128,7 +138,8 @@ module _ (front : List ℕ → Front) (addresses : List ℕ) (p : Primary) (e : 
           );
           begun = begun_choice p now may_poll waiting p.again p.phase
               (record { station = p.turn; wanted = w }) is
-              (may_want p e front addresses may_poll waiting p.again p.turn p.phase w t t.fits.turn is)
+              (may_want p e front addresses may_poll waiting p.again p.turn p.phase w t t.fits.turn
+              is)
               is_at.begun.away;
         },
       )
@@ -173,7 +184,8 @@ module _ (front : List ℕ → Front) (addresses : List ℕ) (p : Primary) (e : 
                 g.awaits,
           );
           begun = begun_choice p now may_poll waiting false Starting c f.first
-              (may_want p e front addresses may_poll waiting false c.station Starting c.wanted t within
+              (may_want p e front addresses may_poll waiting false c.station Starting c.wanted t
+              within
               f.first)
               (λ i known. absurd (fresh i known));
         },
@@ -196,11 +208,13 @@ module _ (front : List ℕ → Front) (addresses : List ℕ) (p : Primary) (e : 
     },
   )
   by_rest gone (Some c) is there =
-      begins_by c gone (found p.settings.burst may_poll p.stations waiting (length p.stations) p.turn c is)
+      begins_by c gone (found p.settings.burst may_poll p.stations waiting (length p.stations)
+      p.turn c is)
       there
 
   by_present : (w : Option Wanted) → present p may_poll waiting ≡ w
-      → (after : Present) × IsVisited p may_poll waiting (sending_by (chosen_or w p.turn rest)) v after
+      → (after : Present) × IsVisited p may_poll waiting (sending_by (chosen_or w p.turn rest)) v
+      after
       × IsAt (after_choice p now (chosen_or w p.turn rest)) after
   by_present None is = by_rest is rest refl (rest_there front addresses p e may_poll waiting t)
   by_present (Some w) is = goes w is

@@ -106,10 +106,12 @@ commands_go burst may_poll fcb s phase (Some asdu) waits = go s.dfc waits
     go true e = let no : ⊥ = cc in absurd no
     go false e = new_command refl refl
 
-next_goes : (burst : ℕ) (may_poll fcb : Bool) (s : StationState) (command : Option (List ℕ)) (phase : Phase) → command_waits command s
+next_goes : (burst : ℕ) (may_poll fcb : Bool) (s : StationState) (command : Option (List ℕ))
+    (phase : Phase) → command_waits command s
     ≡ true
     → GoesIt burst false phase (next_of burst may_poll fcb s command phase)
-next_goes burst may_poll fcb s command Starting waits = commands_go burst may_poll fcb s Starting command
+next_goes burst may_poll fcb s command Starting waits =
+    commands_go burst may_poll fcb s Starting command
     waits
 next_goes burst may_poll fcb s command Commanding waits =
     commands_go burst may_poll fcb s Commanding command waits
@@ -122,9 +124,11 @@ no_more : (b : Bool) → (b && not true) ≡ false
 no_more true = refl
 no_more false = refl
 
-held_goes : (burst : ℕ) (may_poll again fcb : Bool) (s : StationState) (command : Option (List ℕ)) (service : Service)
+held_goes : (burst : ℕ) (may_poll again fcb : Bool) (s : StationState) (command : Option (List ℕ))
+    (service : Service)
     (missed : ℕ) (phase : Phase)
-    → GoesIt burst true phase (wanted_by burst may_poll again s command (Held fcb service missed) phase)
+    → GoesIt burst true phase (wanted_by burst may_poll again s command (Held fcb service missed)
+    phase)
 held_goes burst may_poll again fcb s command service missed Starting =
     go (may_poll || not (is_poll service))
   where
@@ -145,7 +149,8 @@ held_goes burst may_poll false fcb s command service missed Polling = tt
 held_goes burst may_poll false fcb s command service missed (Class1Polling sent) = tt
 held_goes burst may_poll false fcb s command service missed Over = tt
 
-wanted_goes : (burst : ℕ) (may_poll again : Bool) (s : StationState) (command : Option (List ℕ)) (link : Link) (phase : Phase)
+wanted_goes : (burst : ℕ) (may_poll again : Bool) (s : StationState) (command : Option (List ℕ))
+    (link : Link) (phase : Phase)
     → command_waits command s ≡ true
     → GoesIt burst (is_held link) phase (wanted_by burst may_poll again s command link phase)
 wanted_goes burst may_poll again s command (Next fcb) phase waits =
@@ -166,32 +171,39 @@ wanted_goes burst may_poll again s command Available Over waits = tt
 -- ---- what is chosen
 
 -- What is chosen goes on with the present turn, or begins another.
-pub data IsChosen (p : Primary) (may_poll : Bool) (waiting : CommandsWaiting) (c : Chosen) : Type 0 where
+pub data IsChosen (p : Primary) (may_poll : Bool) (waiting : CommandsWaiting) (c : Chosen) : Type
+    0 where
   here : c.station ≡ p.turn
-      → wanted p.settings.burst may_poll p.again (station_at p.stations c.station) (waiting c.station) p.phase
+      → wanted p.settings.burst may_poll p.again (station_at p.stations c.station)
+      (waiting c.station) p.phase
       ≡ Some c.wanted → IsChosen p may_poll waiting c
-  there : wanted p.settings.burst may_poll false (station_at p.stations c.station) (waiting c.station) Starting
+  there : wanted p.settings.burst may_poll false (station_at p.stations c.station)
+      (waiting c.station) Starting
       ≡ Some c.wanted
       → IsChosen p may_poll waiting c
 
-pub is_chosen : (p : Primary) (may_poll : Bool) (waiting : CommandsWaiting) (c : Chosen) → choice p may_poll waiting ≡ Some c
+pub is_chosen : (p : Primary) (may_poll : Bool) (waiting : CommandsWaiting) (c : Chosen)
+    → choice p may_poll waiting ≡ Some c
     → IsChosen p may_poll waiting c
 is_chosen p may_poll waiting c is = go (present p may_poll waiting) refl is
   where
     other_one : Option Chosen
     other_one = first_after p.settings.burst may_poll p.stations waiting (length p.stations) p.turn
 
-    go : (v : Option Wanted) → present p may_poll waiting ≡ v → chosen_or v p.turn other_one ≡ Some c
+    go : (v : Option Wanted) → present p may_poll waiting ≡ v → chosen_or v p.turn other_one
+        ≡ Some c
         → IsChosen p may_poll waiting c
     go (Some w) e same =
         let at : c.station ≡ p.turn = cc in
         let is_w : w ≡ c.wanted = cc in
         here at
-        (ap (λ (i : ℕ). wanted p.settings.burst may_poll p.again (station_at p.stations i) (waiting i) p.phase)
+        (ap (λ (i : ℕ). wanted p.settings.burst may_poll p.again (station_at p.stations i)
+        (waiting i) p.phase)
         at ∙ e
         ∙ ap (λ (x : Wanted). Some x) is_w)
     go None e same =
-        there (found p.settings.burst may_poll p.stations waiting (length p.stations) p.turn c same).first
+        there (found p.settings.burst may_poll p.stations waiting (length p.stations) p.turn c
+        same).first
 
 -- what goes out
 abbrev pub sent : Chosen → Sending

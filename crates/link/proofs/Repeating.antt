@@ -304,7 +304,8 @@ give_up_matches p k (Some s) (turn, state) = (turn, go (p.turn == k) refl)
 
 pub call_matches : (p : Primary) (latest : Option Sending) (call : Call) → Matches p latest
     → Matches (called p call) (latest_after p call latest)
-call_matches p latest (runs.Next now may_poll waiting) matches = asked_matches p latest now may_poll waiting matches
+call_matches p latest (runs.Next now may_poll waiting) matches =
+    asked_matches p latest now may_poll waiting matches
 call_matches p latest (Octets octets) matches =
     octets_match (front_of p.settings.size) p octets latest matches
 call_matches p latest (Due now) matches = due_matches p now latest matches
@@ -319,23 +320,27 @@ held_by settings Down has = let no : ⊥ = cc in absurd no
 held_by settings Available has = let no : ⊥ = cc in absurd no
 held_by settings (Next fcb) has = let no : ⊥ = cc in absurd no
 
-again_wanted : (burst : ℕ) (may_poll : Bool) (s : StationState) (command : Option (List ℕ)) (link : Link) (phase : Phase)
+again_wanted : (burst : ℕ) (may_poll : Bool) (s : StationState) (command : Option (List ℕ))
+    (link : Link) (phase : Phase)
     → is_held link ≡ true → Follows (held_request link) phase
     → wanted_by burst may_poll true s command link phase ≡ wants (held_request link) phase
 again_wanted burst may_poll s command (Held fcb service missed) Starting held follows =
     absurd (begun fcb service Starting follows)
 again_wanted burst may_poll s command (Held fcb service missed) Commanding held follows = refl
 again_wanted burst may_poll s command (Held fcb service missed) Polling held follows = refl
-again_wanted burst may_poll s command (Held fcb service missed) (Class1Polling sent) held follows = refl
+again_wanted burst may_poll s command (Held fcb service missed) (Class1Polling sent) held follows =
+    refl
 again_wanted burst may_poll s command (Held fcb service missed) Over held follows = refl
 again_wanted burst may_poll s command Down phase held follows = let no : ⊥ = cc in absurd no
 again_wanted burst may_poll s command Available phase held follows = let no : ⊥ = cc in absurd no
 again_wanted burst may_poll s command (Next fcb) phase held follows = let no : ⊥ = cc in absurd no
 
 -- What the present turn has next goes out.
-pub turn_sends : (p : Primary) (may_poll : Bool) (waiting : CommandsWaiting) (request : Asked) (following : Phase)
+pub turn_sends : (p : Primary) (may_poll : Bool) (waiting : CommandsWaiting) (request : Asked)
+    (following : Phase)
     → p.outstanding ≡ None
-    → wanted p.settings.burst may_poll p.again (station_at p.stations p.turn) (waiting p.turn) p.phase
+    → wanted p.settings.burst may_poll p.again (station_at p.stations p.turn) (waiting p.turn)
+    p.phase
     ≡ wants request following
     → sending p may_poll waiting ≡ Some (record { station = p.turn; request = request })
 turn_sends p may_poll waiting request following out is =
@@ -347,14 +352,17 @@ repeats : (p : Primary) (latest : Option Sending) (call : Call) → Matches p la
     → RepeatIsNext p latest call
 repeats p (Some s) (runs.Next now may_poll waiting) (turn, waits o awaited same once follows new) =
     λ out has. absurd (none_out p.outstanding o out awaited)
-repeats p (Some s) (runs.Next now may_poll waiting) (turn, ended free more again_is go_on) = λ out has.
+repeats p (Some s) (runs.Next now may_poll waiting) (turn, ended free more again_is go_on) =
+    λ out has.
     let has_here : has_repeats p.settings (station_at p.stations p.turn).link ≡ true =
     subst (λ (i : ℕ). has_repeats p.settings (station_at p.stations i).link ≡ true) (sym turn) has
     in
     let held = held_by p.settings (station_at p.stations p.turn).link has_here in
     let again = more has_here in
     let it = again_is again held in
-    let is = ap (λ (b : Bool). wanted p.settings.burst may_poll b (station_at p.stations p.turn) (waiting p.turn)
+    let is =
+    ap (λ (b : Bool). wanted p.settings.burst may_poll b (station_at p.stations p.turn)
+    (waiting p.turn)
     p.phase) again
     ∙ again_wanted p.settings.burst may_poll (station_at p.stations p.turn) (waiting p.turn)
     (station_at p.stations p.turn).link p.phase held

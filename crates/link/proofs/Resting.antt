@@ -90,13 +90,15 @@ commands_none burst may_poll fcb s (Some asdu) none = go s.dfc refl none
     go true full h = (polls_none burst may_poll fcb s h, inr full)
     go false open_ h = cc
 
-pub left : (burst : ℕ) (may_poll : Bool) (s : StationState) (command : Option (List ℕ)) (link : Link)
+pub left : (burst : ℕ) (may_poll : Bool) (s : StationState) (command : Option (List ℕ))
+    (link : Link)
     → wanted_by burst may_poll false s command link Starting ≡ None →
     (may_poll ≡ false) × IsLeftToPolls s command link
 left burst may_poll s command Down none = cc
 left burst may_poll s command Available none = cc
 left burst may_poll s command (Next fcb) none = commands_none burst may_poll fcb s command none
-left burst may_poll s command (Held fcb service missed) none = go may_poll (is_poll service) refl none
+left burst may_poll s command (Held fcb service missed) none =
+    go may_poll (is_poll service) refl none
   where
     go : (leave poll : Bool) → is_poll service ≡ poll → (if leave
         || not poll then wants (Counted fcb service) Commanding else None) ≡ None →
@@ -105,25 +107,32 @@ left burst may_poll s command (Held fcb service missed) none = go may_poll (is_p
     go false false e h = cc
     go false true e h = (refl, e)
 
-each_left : (p : Primary) (may_poll : Bool) (waiting : CommandsWaiting) → p.turn < length p.stations → p.outstanding ≡ None
+each_left : (p : Primary) (may_poll : Bool) (waiting : CommandsWaiting) → p.turn < length p.stations
+    → p.outstanding ≡ None
     → sending p may_poll waiting ≡ None → (i : ℕ) → i < length p.stations →
-    (may_poll ≡ false) × IsLeftToPolls (station_at p.stations i) (waiting i) (station_at p.stations i).link
+    (may_poll ≡ false) × IsLeftToPolls (station_at p.stations i) (waiting i)
+    (station_at p.stations i).link
 each_left p may_poll waiting within free none =
     each_place (length p.stations) p.turn (λ i. (may_poll ≡ false)
     × IsLeftToPolls (station_at p.stations i) (waiting i) (station_at p.stations i).link) within
     (λ n less. left p.settings.burst may_poll
-    (station_at p.stations (nth_after (length p.stations) p.turn (suc n))) (waiting (nth_after (length p.stations) p.turn (suc n)))
+    (station_at p.stations (nth_after (length p.stations) p.turn (suc n)))
+    (waiting (nth_after (length p.stations) p.turn (suc n)))
     (station_at p.stations (nth_after (length p.stations) p.turn (suc n))).link
     (rests p may_poll waiting free none n less))
 
-pub leave : (p : Primary) (may_poll : Bool) (waiting : CommandsWaiting) → p.turn < length p.stations → p.outstanding ≡ None
+pub leave : (p : Primary) (may_poll : Bool) (waiting : CommandsWaiting) → p.turn < length p.stations
+    → p.outstanding ≡ None
     → sending p may_poll waiting ≡ None → may_poll ≡ false
-leave p may_poll waiting within free none = (each_left p may_poll waiting within free none p.turn within).0
+leave p may_poll waiting within free none =
+    (each_left p may_poll waiting within free none p.turn within).0
 
-pub stations : (p : Primary) (may_poll : Bool) (waiting : CommandsWaiting) → p.turn < length p.stations → p.outstanding ≡ None
+pub stations : (p : Primary) (may_poll : Bool) (waiting : CommandsWaiting)
+    → p.turn < length p.stations → p.outstanding ≡ None
     → sending p may_poll waiting ≡ None → (i : ℕ) → i < length p.stations →
     IsLeftToPolls (station_at p.stations i) (waiting i) (station_at p.stations i).link
-stations p may_poll waiting within free none i below = (each_left p may_poll waiting within free none i below).1
+stations p may_poll waiting within free none i below =
+    (each_left p may_poll waiting within free none i below).1
 
 -- who is left to polls is up, and holds no command
 left_up : (s : StationState) (command : Option (List ℕ)) (link : Link)
@@ -142,14 +151,16 @@ left_free s command (Held fcb Class1 missed) rest = refl
 left_free s command (Held fcb Class2 missed) rest = refl
 left_free s command (Held fcb (Command asdu) missed) rest = cc
 
-pub up : (p : Primary) (may_poll : Bool) (waiting : CommandsWaiting) → p.turn < length p.stations → p.outstanding ≡ None
+pub up : (p : Primary) (may_poll : Bool) (waiting : CommandsWaiting) → p.turn < length p.stations
+    → p.outstanding ≡ None
     → sending p may_poll waiting ≡ None → (i : ℕ) → i < length p.stations →
     is_up (station_at p.stations i).link ≡ true
 up p may_poll waiting within free none i below =
     left_up (station_at p.stations i) (waiting i) (station_at p.stations i).link
     (stations p may_poll waiting within free none i below)
 
-pub no_command : (p : Primary) (may_poll : Bool) (waiting : CommandsWaiting) → p.turn < length p.stations → p.outstanding ≡ None
+pub no_command : (p : Primary) (may_poll : Bool) (waiting : CommandsWaiting)
+    → p.turn < length p.stations → p.outstanding ≡ None
     → sending p may_poll waiting ≡ None → (i : ℕ) → i < length p.stations →
     holds_command (station_at p.stations i).link ≡ false
 no_command p may_poll waiting within free none i below =
@@ -157,51 +168,59 @@ no_command p may_poll waiting within free none i below =
     (stations p may_poll waiting within free none i below)
 
 -- a primary that has just been made has a request
-pub begins : (settings : LinkSettings) (addresses : List ℕ) (may_poll : Bool) (waiting : CommandsWaiting) → 0 < length addresses
+pub begins : (settings : LinkSettings) (addresses : List ℕ) (may_poll : Bool)
+    (waiting : CommandsWaiting) → 0 < length addresses
     → sending (start settings addresses) may_poll waiting ≡ None → ⊥
 begins settings [] may_poll waiting some none = absurd (omega arith)
 begins settings (a ∷ addresses) may_poll waiting some none = cc
 
 -- ---- `next` again
 
-out_stays : (p : Primary) (o : Outstanding) → p.outstanding ≡ Some o → (now : ℕ) (may_poll : Bool) (waiting : CommandsWaiting)
+out_stays : (p : Primary) (o : Outstanding) → p.outstanding ≡ Some o
+    → (now : ℕ) (may_poll : Bool) (waiting : CommandsWaiting)
     → (sending p may_poll waiting ≡ None) × (asked p now may_poll waiting ≡ p)
 out_stays p o e now may_poll waiting = (
   ap (λ (x : Option Outstanding). sending_from p x may_poll waiting) e,
   ap (λ (x : Option Outstanding). asked_from p x now may_poll waiting) e,
 )
 
-sent_stays : (p : Primary) (now : ℕ) (may_poll : Bool) (waiting : CommandsWaiting) (s : Sending) → sending p may_poll waiting ≡ Some s
+sent_stays : (p : Primary) (now : ℕ) (may_poll : Bool) (waiting : CommandsWaiting) (s : Sending)
+    → sending p may_poll waiting ≡ Some s
     → (at : ℕ) (later : Bool) (others : CommandsWaiting) →
     (sending (asked p now may_poll waiting) later others ≡ None)
     × (asked (asked p now may_poll waiting) at later others ≡ asked p now may_poll waiting)
 sent_stays p now may_poll waiting s sent at later others = go p.outstanding sent
   where
-    by : (c : Option Chosen) → sending_by c ≡ Some s → (sending (after_choice p now c) later others ≡ None)
+    by : (c : Option Chosen) → sending_by c ≡ Some s
+        → (sending (after_choice p now c) later others ≡ None)
         × (asked (after_choice p now c) at later others ≡ after_choice p now c)
     by None e = cc
     by (Some c) e = out_stays (after_choice p now (Some c)) _ refl at later others
 
     go : (o : Option Outstanding) → sending_from p o may_poll waiting ≡ Some s →
         (sending (asked_from p o now may_poll waiting) later others ≡ None)
-        × (asked (asked_from p o now may_poll waiting) at later others ≡ asked_from p o now may_poll waiting)
+        × (asked (asked_from p o now may_poll waiting) at later others
+        ≡ asked_from p o now may_poll waiting)
     go (Some o) e = cc
     go None e = by (choice p may_poll waiting) e
 
-pub out : (p : Primary) (now : ℕ) (may_poll : Bool) (waiting : CommandsWaiting) (s : Sending) → sending p may_poll waiting ≡ Some s
+pub out : (p : Primary) (now : ℕ) (may_poll : Bool) (waiting : CommandsWaiting) (s : Sending)
+    → sending p may_poll waiting ≡ Some s
     → (later : Bool) (others : CommandsWaiting)
     → sending (asked p now may_poll waiting) later others ≡ None
 out p now may_poll waiting s sent later others =
     (sent_stays p now may_poll waiting s sent 0 later others).0
 
-pub same : (p : Primary) (now : ℕ) (may_poll : Bool) (waiting : CommandsWaiting) (s : Sending) → sending p may_poll waiting ≡ Some s
+pub same : (p : Primary) (now : ℕ) (may_poll : Bool) (waiting : CommandsWaiting) (s : Sending)
+    → sending p may_poll waiting ≡ Some s
     → (at : ℕ) (later : Bool) (others : CommandsWaiting) →
     asked (asked p now may_poll waiting) at later others ≡ asked p now may_poll waiting
 same p now may_poll waiting s sent at later others =
     (sent_stays p now may_poll waiting s sent at later others).1
 
 -- a turn that is over has no request
-over_none : (burst : ℕ) (may_poll : Bool) (s : StationState) (command : Option (List ℕ)) (link : Link)
+over_none : (burst : ℕ) (may_poll : Bool) (s : StationState) (command : Option (List ℕ))
+    (link : Link)
     → wanted_by burst may_poll false s command link Over ≡ None
 over_none burst may_poll s command Down = refl
 over_none burst may_poll s command Available = refl
@@ -213,14 +232,16 @@ others_none : (w : Option Wanted) (place : ℕ) (others : Option Chosen) → cho
 others_none None place others e = e
 others_none (Some w) place others e = cc
 
-pub over : (p : Primary) (now : ℕ) (may_poll : Bool) (waiting : CommandsWaiting) → sending p may_poll waiting ≡ None
+pub over : (p : Primary) (now : ℕ) (may_poll : Bool) (waiting : CommandsWaiting)
+    → sending p may_poll waiting ≡ None
     → sending (asked p now may_poll waiting) may_poll waiting ≡ None
 over p now may_poll waiting none = go p.outstanding refl
   where
     ended : Primary
     ended = after_choice p now None
 
-    by : (c : Option Chosen) → p.outstanding ≡ None → choice p may_poll waiting ≡ c → sending_by c ≡ None
+    by : (c : Option Chosen) → p.outstanding ≡ None → choice p may_poll waiting ≡ c → sending_by c
+        ≡ None
         → sending (after_choice p now c) may_poll waiting ≡ None
     by (Some c) free is e = cc
     by None free is e =
@@ -236,6 +257,7 @@ over p now may_poll waiting none = go p.outstanding refl
         → sending (asked_from p o now may_poll waiting) may_poll waiting ≡ None
     go (Some o) e = none
     go None e =
-        by (choice p may_poll waiting) e refl (ap (λ (o : Option Outstanding). sending_from p o may_poll waiting)
+        by (choice p may_poll waiting) e refl
+        (ap (λ (o : Option Outstanding). sending_from p o may_poll waiting)
         (sym e)
         ∙ none)

@@ -23,7 +23,8 @@ IsSince (Some o) since = since ≡ Some o.since
 any_time : (since : Option ℕ) (o : Option Outstanding) → o ≡ None → IsSince o since
 any_time since o none = subst (λ (x : Option Outstanding). IsSince x since) (sym none) tt
 
-next_since : (p : Primary) (now : ℕ) (may_poll : Bool) (waiting : CommandsWaiting) (since : Option ℕ)
+next_since : (p : Primary) (now : ℕ) (may_poll : Bool) (waiting : CommandsWaiting)
+    (since : Option ℕ)
     → IsSince p.outstanding since
     → IsSince (asked_from p p.outstanding now may_poll waiting).outstanding
     (since_by (sending_from p p.outstanding may_poll waiting) now since)

@@ -207,7 +207,8 @@ link_now front addresses p e many v t free =
 -- ---- `next`
 
 -- what asking does: nothing goes out, or the present visit goes on, or another one begins
-pub data IsAsked (front : List ℕ → Front) (addresses : List ℕ) (p : Primary) (may_poll : Bool) (waiting : CommandsWaiting)
+pub data IsAsked (front : List ℕ → Front) (addresses : List ℕ) (p : Primary) (may_poll : Bool)
+    (waiting : CommandsWaiting)
     (many : ℕ)
     (p' : Primary) (e' : Exchanges) (s : Option Sending) : Type 0 where
   nothing : s ≡ None → p'.turn ≡ p.turn → InVisit front addresses p' e' many
@@ -223,9 +224,11 @@ pub data IsAsked (front : List ℕ → Front) (addresses : List ℕ) (p : Primar
       InVisit front addresses p' e' 1 → IsAsked front addresses p may_poll waiting many p' e' s
 
 pub may_want : (p : Primary) (e : Exchanges) (front : List ℕ
-    → Front) (addresses : List ℕ) (may_poll : Bool) (waiting : CommandsWaiting) (again : Bool) (place : ℕ) (phase : Phase) (w : Wanted) →
+    → Front) (addresses : List ℕ) (may_poll : Bool) (waiting : CommandsWaiting) (again : Bool)
+    (place : ℕ) (phase : Phase) (w : Wanted) →
     MatchesBy front p.settings addresses p e → place < length p.stations →
-    wanted p.settings.burst may_poll again (station_at p.stations place) (waiting place) phase ≡ Some w
+    wanted p.settings.burst may_poll again (station_at p.stations place) (waiting place) phase
+    ≡ Some w
     → MaySend (station_at p.stations place).link w.request
 may_want p e front addresses may_poll waiting again place phase w t within is =
     subst (λ (v : Option Wanted). MayWant (station_at p.stations place).link v) is
@@ -234,7 +237,8 @@ may_want p e front addresses may_poll waiting again place phase w t within is =
 on_visit : (front : List ℕ → Front) (addresses : List ℕ) (p : Primary) (e : Exchanges)
     (many now : ℕ) (may_poll : Bool) (waiting : CommandsWaiting)
     (w : Wanted) → 0 < p.settings.burst →
-    MatchesBy front p.settings addresses p e → p.outstanding ≡ None → present p may_poll waiting ≡ Some w
+    MatchesBy front p.settings addresses p e → p.outstanding ≡ None → present p may_poll waiting
+    ≡ Some w
     → InVisit front addresses p e many →
     InVisit front addresses (after_choice p now (Some (record { station = p.turn; wanted = w })))
     (begun_by now (Some (record { station = p.turn; request = w.request })) e) (suc many)
@@ -260,7 +264,8 @@ on_visit front addresses p e many now may_poll waiting w some t free is v =
       latest = (
         refl,
         subst (λ (l : Link). MaySend l w.request) (sym here)
-            (may_want p e front addresses may_poll waiting p.again p.turn p.phase w t t.fits.turn is),
+            (may_want p e front addresses may_poll waiting p.again p.turn p.phase w t t.fits.turn
+            is),
         subst (λ (l : Link). MayFollow p.settings l v.now w.request f.later) (sym here) f.follow,
       );
       fits = (
@@ -269,7 +274,8 @@ on_visit front addresses p e many now may_poll waiting w some t free is v =
             (sym (set_view (λ (r : StationState). r.link) p.stations p.turn s refl p.turn))
             f.awaits,
       );
-      begun = begun_choice p now may_poll waiting p.again p.phase (record { station = p.turn; wanted = w })
+      begun = begun_choice p now may_poll waiting p.again p.phase
+          (record { station = p.turn; wanted = w })
           is
           (may_want p e front addresses may_poll waiting p.again p.turn p.phase w t t.fits.turn is)
           v.begun.away;
@@ -279,9 +285,11 @@ on_visit front addresses p e many now may_poll waiting w some t free is v =
 new_visit : (front : List ℕ → Front) (addresses : List ℕ) (p : Primary) (e : Exchanges)
     (many now : ℕ)
     (may_poll : Bool) (waiting : CommandsWaiting) (c : Chosen) → 0 < p.settings.burst →
-    MatchesBy front p.settings addresses p e → p.outstanding ≡ None → present p may_poll waiting ≡ None
+    MatchesBy front p.settings addresses p e → p.outstanding ≡ None → present p may_poll waiting
+    ≡ None
     → c.station < length p.stations →
-    wanted p.settings.burst may_poll false (station_at p.stations c.station) (waiting c.station) Starting
+    wanted p.settings.burst may_poll false (station_at p.stations c.station) (waiting c.station)
+    Starting
     ≡ Some c.wanted
     → InVisit front addresses p e many →
     InVisit front addresses (after_choice p now (Some c))
@@ -320,7 +328,8 @@ new_visit front addresses p e many now may_poll waiting c some t free gone withi
       latest = (
         refl,
         subst (λ (l : Link). MaySend l c.wanted.request) (sym here)
-            (may_want p e front addresses may_poll waiting false c.station Starting c.wanted t within is),
+            (may_want p e front addresses may_poll waiting false c.station Starting c.wanted t
+            within is),
         subst (λ (l : Link). MayFollow p.settings l (whole_visit p.settings l) c.wanted.request
             f.later)
             (sym here) f.follow,
@@ -332,7 +341,8 @@ new_visit front addresses p e many now may_poll waiting c some t free gone withi
             f.awaits,
       );
       begun = begun_choice p now may_poll waiting false Starting c is
-          (may_want p e front addresses may_poll waiting false c.station Starting c.wanted t within is)
+          (may_want p e front addresses may_poll waiting false c.station Starting c.wanted t within
+          is)
           (λ i known. absurd (fresh i known));
       many_are = refl;
     }
@@ -364,7 +374,8 @@ MayBeThere p (Some c) = c.station < length p.stations
 pub rest_there : (front : List ℕ → Front) (addresses : List ℕ) (p : Primary) (e : Exchanges)
     (may_poll : Bool) (waiting : CommandsWaiting)
     → MatchesBy front p.settings addresses p e →
-    MayBeThere p (first_after p.settings.burst may_poll p.stations waiting (length p.stations) p.turn)
+    MayBeThere p (first_after p.settings.burst may_poll p.stations waiting (length p.stations)
+    p.turn)
 rest_there front addresses p e may_poll waiting t =
     go (first_after p.settings.burst may_poll p.stations waiting (length p.stations) p.turn)
     (first_may p.settings.burst may_poll p.stations waiting (length p.stations) p.turn
@@ -386,23 +397,28 @@ asked_visits front addresses p e many now may_poll waiting some t v = go p.outst
     rest : Option Chosen
     rest = first_after p.settings.burst may_poll p.stations waiting (length p.stations) p.turn
 
-    by_rest : p.outstanding ≡ None → present p may_poll waiting ≡ None → (r : Option Chosen) → rest ≡ r
+    by_rest : p.outstanding ≡ None → present p may_poll waiting ≡ None → (r : Option Chosen)
+        → rest ≡ r
         → MayBeThere p r →
         IsAsked front addresses p may_poll waiting many (after_choice p now r)
         (begun_by now (sending_by r) e) (sending_by r)
     by_rest free gone None is there =
         nothing refl refl (no_visit front addresses p e many now may_poll waiting free gone v)
     by_rest free gone (Some c) is there =
-        let f = found p.settings.burst may_poll p.stations waiting (length p.stations) p.turn c is in
-        begins c refl free f there refl (new_visit front addresses p e many now may_poll waiting c some t
+        let f = found p.settings.burst may_poll p.stations waiting (length p.stations) p.turn c
+        is in
+        begins c refl free f there refl (new_visit front addresses p e many now may_poll waiting c
+        some t
         free gone there
         f.first v)
 
     by_present : p.outstanding ≡ None → (w : Option Wanted) → present p may_poll waiting ≡ w →
-        IsAsked front addresses p may_poll waiting many (after_choice p now (chosen_or w p.turn rest))
+        IsAsked front addresses p may_poll waiting many
+        (after_choice p now (chosen_or w p.turn rest))
         (begun_by now (sending_by (chosen_or w p.turn rest)) e)
         (sending_by (chosen_or w p.turn rest))
-    by_present free None is = by_rest free is rest refl (rest_there front addresses p e may_poll waiting t)
+    by_present free None is =
+        by_rest free is rest refl (rest_there front addresses p e may_poll waiting t)
     by_present free (Some w) is =
         goes_on (record { station = p.turn; request = w.request }) refl refl refl
         (on_visit front addresses p e many now may_poll waiting w some t free is v)

@@ -285,7 +285,8 @@ commands_follow settings may_poll fcb s (Some asdu) left some plan = go s.dfc
       awaits = (refl, omega arith);
     }
 
-next_follows : (settings : LinkSettings) (may_poll fcb : Bool) (s : StationState) (command : Option (List ℕ)) (phase : Phase)
+next_follows : (settings : LinkSettings) (may_poll fcb : Bool) (s : StationState)
+    (command : Option (List ℕ)) (phase : Phase)
     (left : Left)
     → 0 < settings.burst →
     HasPlan settings.burst phase left.plan → FollowsIt settings (Next fcb) left
@@ -300,7 +301,8 @@ next_follows settings may_poll fcb s command (Class1Polling sent) left some plan
 next_follows settings may_poll fcb s command Over left some plan = absurd plan
 
 -- a link that isn't up begins so
-start_follows : (settings : LinkSettings) (may_poll again : Bool) (s : StationState) (command : Option (List ℕ)) (link : Link)
+start_follows : (settings : LinkSettings) (may_poll again : Bool) (s : StationState)
+    (command : Option (List ℕ)) (link : Link)
     (left : Left)
     → IsStarting link left →
     FollowsIt settings link left (wanted_by settings.burst may_poll again s command link Starting)
@@ -337,29 +339,37 @@ repeat_follows settings fcb service missed phase left (suc repeats) is plan more
   awaits = (plan, omega (arith, more.enough, is));
 }
 
-serve_follows : (settings : LinkSettings) (may_poll again : Bool) (s : StationState) (command : Option (List ℕ)) (link : Link)
+serve_follows : (settings : LinkSettings) (may_poll again : Bool) (s : StationState)
+    (command : Option (List ℕ)) (link : Link)
     (phase : Phase)
     (left : Left) → 0 < settings.burst →
     HasPlan settings.burst phase left.plan → (again ≡ true → IsRepeatable settings link left) →
     FollowsIt settings link left (wanted_by settings.burst may_poll again s command link phase)
 serve_follows settings may_poll again s command (Next fcb) phase left some plan more =
     next_follows settings may_poll fcb s command phase left some plan
-serve_follows settings may_poll again s command (Held fcb service missed) Starting left some plan more =
+serve_follows settings may_poll again s command (Held fcb service missed) Starting left some plan
+    more =
     absurd plan
 serve_follows settings may_poll again s command (Held fcb service missed) Over left some plan more =
     absurd plan
-serve_follows settings may_poll true s command (Held fcb service missed) Commanding left some plan more =
+serve_follows settings may_poll true s command (Held fcb service missed) Commanding left some plan
+    more =
     repeat_follows settings fcb service missed Commanding left left.repeats refl plan (more refl)
-serve_follows settings may_poll true s command (Held fcb service missed) Polling left some plan more =
+serve_follows settings may_poll true s command (Held fcb service missed) Polling left some plan
+    more =
     repeat_follows settings fcb service missed Polling left left.repeats refl plan (more refl)
-serve_follows settings may_poll true s command (Held fcb service missed) (Class1Polling sent) left some plan
+serve_follows settings may_poll true s command (Held fcb service missed) (Class1Polling sent) left
+    some plan
     more =
     repeat_follows settings fcb service missed (Class1Polling sent) left left.repeats refl plan
     (more refl)
-serve_follows settings may_poll false s command (Held fcb service missed) Commanding left some plan more =
+serve_follows settings may_poll false s command (Held fcb service missed) Commanding left some plan
+    more =
     tt
-serve_follows settings may_poll false s command (Held fcb service missed) Polling left some plan more = tt
-serve_follows settings may_poll false s command (Held fcb service missed) (Class1Polling sent) left some
+serve_follows settings may_poll false s command (Held fcb service missed) Polling left some plan
+    more = tt
+serve_follows settings may_poll false s command (Held fcb service missed) (Class1Polling sent) left
+    some
     plan more = tt
 serve_follows settings may_poll again s command link Starting left some plan more = absurd plan
 serve_follows settings may_poll again s command Down Commanding left some plan more = tt
@@ -368,10 +378,12 @@ serve_follows settings may_poll again s command Down (Class1Polling sent) left s
 serve_follows settings may_poll again s command Down Over left some plan more = tt
 serve_follows settings may_poll again s command Available Commanding left some plan more = tt
 serve_follows settings may_poll again s command Available Polling left some plan more = tt
-serve_follows settings may_poll again s command Available (Class1Polling sent) left some plan more = tt
+serve_follows settings may_poll again s command Available (Class1Polling sent) left some plan more =
+    tt
 serve_follows settings may_poll again s command Available Over left some plan more = tt
 
-pub over_wants : (burst : ℕ) (may_poll : Bool) (s : StationState) (command : Option (List ℕ)) (link : Link)
+pub over_wants : (burst : ℕ) (may_poll : Bool) (s : StationState) (command : Option (List ℕ))
+    (link : Link)
     → wanted_by burst may_poll false s command link Over ≡ None
 over_wants burst may_poll s command Down = refl
 over_wants burst may_poll s command Available = refl
@@ -379,7 +391,8 @@ over_wants burst may_poll s command (Next fcb) = refl
 over_wants burst may_poll s command (Held fcb service missed) = refl
 
 -- the turn goes on
-pub ready_follows : (settings : LinkSettings) (may_poll again : Bool) (s : StationState) (command : Option (List ℕ))
+pub ready_follows : (settings : LinkSettings) (may_poll again : Bool) (s : StationState)
+    (command : Option (List ℕ))
     (link : Link) (phase : Phase)
     (left : Left) → 0 < settings.burst →
     IsReady settings again phase link left → FollowsIt settings link left
@@ -390,19 +403,23 @@ ready_follows settings may_poll again s command link phase left some (over o a) 
     ∙ ap (λ (f : Phase). wanted_by settings.burst may_poll false s command link f) o
     ∙ over_wants settings.burst may_poll s command link)) tt
 ready_follows settings may_poll again s command link phase left some (starting o plan) =
-    subst (λ (f : Phase). FollowsIt settings link left (wanted_by settings.burst may_poll again s command
+    subst (λ (f : Phase). FollowsIt settings link left (wanted_by settings.burst may_poll again s
+    command
     link f)) (sym o)
     (start_follows settings may_poll again s command link left plan)
 ready_follows settings may_poll again s command link phase left some (serving plan more) =
     serve_follows settings may_poll again s command link phase left some plan more
 
 -- a turn begins, with a link whose status isn't known
-pub begin_follows : (settings : LinkSettings) (may_poll : Bool) (s : StationState) (command : Option (List ℕ)) (link : Link)
+pub begin_follows : (settings : LinkSettings) (may_poll : Bool) (s : StationState)
+    (command : Option (List ℕ)) (link : Link)
     → 0 < settings.burst
     → (link ≡ Available → ⊥) →
-    FollowsIt settings link (whole_visit settings link) (wanted_by settings.burst may_poll false s command
+    FollowsIt settings link (whole_visit settings link) (wanted_by settings.burst may_poll false s
+    command
     link Starting)
-begin_follows settings may_poll s command Down some fresh = start_follows settings may_poll false s command Down
+begin_follows settings may_poll s command Down some fresh =
+    start_follows settings may_poll false s command Down
     (whole_visit settings Down) refl
 begin_follows settings may_poll s command Available some fresh = absurd (fresh refl)
 begin_follows settings may_poll s command (Next fcb) some fresh =

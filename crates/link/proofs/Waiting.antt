@@ -74,7 +74,8 @@ pub sending_carried : (front : List ℕ → Front) (settings : LinkSettings) (ad
     (p : Primary) (e : Exchanges) (may_poll : Bool) (waiting : CommandsWaiting)
     → AreUserData settings.size waiting → MatchesBy front settings addresses p e
     → FitsLine p may_poll waiting
-sending_carried front settings addresses p e may_poll waiting carries t = λ s is. go s p.outstanding is
+sending_carried front settings addresses p e may_poll waiting carries t =
+    λ s is. go s p.outstanding is
   where
     all : AreUserData p.settings.size waiting
     all = subst (λ (w : LinkSettings). AreUserData w.size waiting) (sym t.settings_are) carries
@@ -113,7 +114,8 @@ sending_octets front settings addresses p e s t =
 pub sending_alone : (front : List ℕ → Front) (settings : LinkSettings) (addresses : List ℕ)
     (p : Primary)
     (e : Exchanges) (may_poll : Bool) (waiting : CommandsWaiting) (s : Sending) (x : OpenExchange) →
-    MatchesBy front settings addresses p e → sending p may_poll waiting ≡ Some s → e.current ≡ Some x →
+    MatchesBy front settings addresses p e → sending p may_poll waiting ≡ Some s → e.current
+    ≡ Some x →
     IsOutstanding (slice_index addresses x.station) (view front x).exchange → ⊥
 sending_alone front settings addresses p e may_poll waiting s x t is latest out =
     go p.outstanding is
