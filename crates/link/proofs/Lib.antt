@@ -11,8 +11,6 @@ pub mod Fitting
 pub mod Links
 pub mod Marks
 pub mod Known
-pub mod FirstSendings
-pub mod Offering
 pub mod ReadingBack
 pub mod Reports
 pub mod Resets
@@ -20,7 +18,7 @@ pub mod Waiting
 pub mod Spoilt
 pub mod Matching
 pub mod Answering
-pub mod MatchingOffers
+pub mod MatchingStart
 pub mod Bit
 pub mod Sendings
 pub mod Commands

@@ -48,7 +48,8 @@ TurnGoesOn p waiting station s =
     (fcb : Bool) × ((sending p true waiting ≡ Some (record {
       station = station;
       request = Counted fcb (poll_by s.acd);
-    })) ⊎ ((asdu : List ℕ) × (waiting station ≡ Some asdu) × (sending p true waiting ≡ Some (record {
+    })) ⊎ ((asdu : List ℕ) × (waiting station ≡ Some asdu)
+    × (sending p true waiting ≡ Some (record {
       station = station;
       request = Counted fcb (Command asdu);
     }))))

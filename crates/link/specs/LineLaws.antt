@@ -2,7 +2,6 @@
 -- crates above go by, in one record.
 use Rattle.std.specs.Prelude.{◌≡◌, ℕ, ◌<◌, ◌++◌, Bool, true, false, List}
 use Rattle.std.specs.Prelude.{All, length, slice_index, Option, Some, None}
-use Rattle.ft12.specs.declared.frame.Front.{Front}
 use Rattle.ft12.specs.declared.frame.LinkSize.{LinkSize}
 use Rattle.ft12.specs.Fronts.{front_of}
 use Rattle.ft12.specs.Spelling.{spelling}
@@ -19,7 +18,7 @@ use Rattle.link.specs.Primary.{outcome_of, with_gap, received, received_outcome,
 use Rattle.link.specs.Procedure.{LinkSettings, is_up, is_held, holds_command}
 use Rattle.link.specs.Requests.{request_frame, request_in, FitsAddress, FitsAsked}
 use Rattle.link.specs.Matching.{Matches, report_in, gap_in_outcome, IsFittingSending}
-use Rattle.link.specs.Runs.{FitsLine}
+use Rattle.link.specs.Runs.{AreUserData, FitsLine}
 use Rattle.link.specs.Turns.{CommandsWaiting, station_at}
 
 pub record LineLaws : Type 0 where
@@ -84,6 +83,9 @@ pub record LineLaws : Type 0 where
       (may_poll : Bool) (waiting : CommandsWaiting) (s : Sending) → FitsLine q may_poll waiting →
       Matches settings addresses q e → sending q may_poll waiting ≡ Some s →
       IsFittingSending settings addresses s
+  pub carried : (settings : LinkSettings) (addresses : List ℕ) (q : Primary) (e : Exchanges)
+      (may_poll : Bool) (waiting : CommandsWaiting) → AreUserData settings.size waiting →
+      Matches settings addresses q e → FitsLine q may_poll waiting
   pub spelled : (settings : LinkSettings) (addresses : List ℕ) (q : Primary) (e : Exchanges)
       (s : Sending) → Matches settings addresses q e →
       (request_of q s).octets.items

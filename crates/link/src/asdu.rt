@@ -59,7 +59,7 @@ impl UserData {
 
 /// How many octets a command has at most: a set point in the largest sizes, with two octets each
 /// for the cause and the common address, and three for the object's address.
-// A command is kept by value in two places (docs/DECISIONS.md, "Commands of 12 octets").
+// The primary keeps a command in two places (docs/DECISIONS.md, "Commands of 12 octets").
 pub const LONGEST_COMMAND: usize = 12;
 
 /// The octets of a command to a station: at most [`LONGEST_COMMAND`].
