@@ -15,7 +15,7 @@ use Rattle.link.specs.Saved.{command_service, service_from, held_with, held_miss
 use Rattle.link.specs.Saved.{FitsSavedCommand, FitsSavedService, FitsSavedLink, LinkReadsBack}
 use Rattle.link.specs.Saved.{FitsSavedStation, flags_numbers, flags_from, station_by}
 use Rattle.link.specs.Saved.{StationReadsBack}
-use Rattle.link.specs.Saved.{lines_of}
+use Rattle.link.specs.Saved.{no_command_numbers, lines_of}
 
 pub bit_back : (b : Bool) → bit_from (bit_number b) ≡ Some b
 bit_back true = refl
@@ -85,7 +85,12 @@ pub second_line : (s : StationState) (rest all behind : List (List ℕ)) (link :
     → (link ≡ link_numbers s.link) × (behind ≡ rest)
 second_line s rest all behind link e h = (cc, cc)
 
--- a fault at one of them is none
+-- whatever it says
+pub third_line : (rest all behind : List (List ℕ)) (third other : List ℕ) → all ≡ third ∷ rest
+    → all ≡ other ∷ behind → behind ≡ rest
+third_line rest all behind third other e h = cc
+
+-- a fault at one of the first two is none
 pub no_link : (s : StationState) (ns : List ℕ) (r : Option Link) → FitsSavedStation s
     → ns ≡ link_numbers s.link
     → r ≡ link_from ns → r ≡ Some s.link
@@ -130,7 +135,7 @@ some_same t s e = cc
 pub lines_of-append : (ss ts : List StationState) → lines_of (ss ++ ts) ≡ lines_of ss ++ lines_of ts
 lines_of-append [] ts = refl
 lines_of-append (s ∷ ss) ts =
-    ap (λ (l : List (List ℕ)). flags_numbers s ∷ link_numbers s.link ∷ l)
+    ap (λ (l : List (List ℕ)). flags_numbers s ∷ link_numbers s.link ∷ no_command_numbers ∷ l)
     (lines_of-append ss ts)
 
 pub put_one_more : (old new : List (List ℕ)) (ss : List StationState) (i : ℕ) (s : StationState)
@@ -153,7 +158,7 @@ fits_at (s ∷ ss) (suc i) all lt = fits_at ss i all.1 (omega arith)
 pub lines_at : (ss : List StationState) (i : ℕ) (rest : List (List ℕ)) → i < length ss
     → lines_of (drop i ss) ++ rest
     ≡ flags_numbers (station_at ss i) ∷ link_numbers (station_at ss i).link
-    ∷ (lines_of (drop (i + 1) ss) ++ rest)
+    ∷ no_command_numbers ∷ (lines_of (drop (i + 1) ss) ++ rest)
 lines_at ss i rest lt = ap (λ (ts : List StationState). lines_of ts ++ rest)
     (drop_more ss i no_station lt)
 

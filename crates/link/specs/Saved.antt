@@ -149,12 +149,16 @@ pub record FitsSavedStation (s : StationState) : Type 0 where
   pub address : s.address < 65536
   pub link : FitsSavedLink s.link
 
--- the station that its two lines say is the station
+-- the station that its first two lines say is the station
 abbrev pub StationReadsBack : StationState → Type 0
 StationReadsBack s =
     station_by (flags_from (flags_numbers s)) (link_from (link_numbers s.link)) ≡ Some s
 
--- the lines of stations, two for each
+-- no command of the station is kept here
+abbrev pub no_command_numbers : List ℕ
+no_command_numbers = 0 ∷ []
+
+-- the lines of stations, three for each
 abbrev pub lines_of : List StationState → List (List ℕ)
 lines_of [] = []
-lines_of (s ∷ ss) = flags_numbers s ∷ link_numbers s.link ∷ lines_of ss
+lines_of (s ∷ ss) = flags_numbers s ∷ link_numbers s.link ∷ no_command_numbers ∷ lines_of ss

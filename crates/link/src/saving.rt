@@ -1,6 +1,7 @@
 //! A station's state as lines of numbers, and back.
 //!
-//! A station has two lines: its address, flags and session; and its link.
+//! A station has three lines: its address, flags and session; its link; and one that says that no
+//! command of it is kept here.
 //! The part of a line whose length varies ends the line, so that no reader hands on a rest.
 ghost use Rattle.std.specs.Prelude.{◌≡◌, ◌++◌, ◌∷◌, ◌<◌, [], List, ℕ, length, OnOk, MatchResult};
 ghost use Rattle.std.specs.List.{AllByRecursion};
@@ -8,7 +9,7 @@ ghost use Rattle.checkpoint.specs.declared.StateFault.TheVariants.{Wrong};
 ghost use Rattle.link.specs.Saved.{bit_number, bit_from, service_numbers, service_by, service_from};
 ghost use Rattle.link.specs.Saved.{link_numbers, link_by, link_from, next_from, held_from};
 ghost use Rattle.link.specs.Saved.{held_missed};
-ghost use Rattle.link.specs.Saved.{flags_numbers, flags_from};
+ghost use Rattle.link.specs.Saved.{flags_numbers, flags_from, no_command_numbers};
 ghost use Rattle.link.specs.Saved.{command_from, lines_of};
 ghost use Rattle.link.specs.Saved.{FitsSavedService, FitsSavedLink};
 ghost use Rattle.link.specs.Saved.{FitsSavedStation};
@@ -191,6 +192,16 @@ fn put_flags(station: &StationState, line: &mut Vec<u64>) -> Result<(), AllocErr
     Ok(())
 }
 
+/// Puts a station's third line.
+fn put_no_command(line: &mut Vec<u64>) -> Result<(), AllocError>
+    ensures { OnOk result (line.new.items ≡ line.old.items ++ no_command_numbers) }
+{
+    // Earlier versions had a command here that was handed to the line, and they still want the line
+    // (docs/DECISIONS.md, "What waits for a station").
+    line.push(0)?;
+    Ok(())
+}
+
 /// A station that is down, with what its first line says.
 fn flags_from(numbers: &[u64]) -> Option<StationState>
     ensures { result ≡ flags_from numbers.now }
@@ -218,7 +229,7 @@ fn flags_from(numbers: &[u64]) -> Option<StationState>
     }
 }
 
-/// Puts a station's two lines.
+/// Puts a station's three lines.
 fn put_station<S: Sheet>(
     station: &StationState,
     sheet: &mut S,
@@ -234,13 +245,16 @@ fn put_station<S: Sheet>(
     line.clear();
     put_link(&station.link, line)?;
     sheet.put(line.as_slice())?;
+    line.clear();
+    put_no_command(line)?;
+    sheet.put(line.as_slice())?;
     Ok(())
 }
 
-/// Reads a station's two lines.
+/// Reads a station's three lines, whatever the third one says.
 fn read_station<L: Lines>(lines: &mut L, line: &mut Vec<u64>) -> Result<StationState, StateFault>
-    ensures { (s : StationState) (rest : List (List ℕ)) → FitsSavedStation s →
-        L.coming lines.old ≡ flags_numbers s ∷ link_numbers s.link ∷ rest →
+    ensures { (s : StationState) (third : List ℕ) (rest : List (List ℕ)) → FitsSavedStation s →
+        L.coming lines.old ≡ flags_numbers s ∷ link_numbers s.link ∷ third ∷ rest →
         MatchResult result (λ t. (t ≡ s) × (L.coming lines.new ≡ rest)) (λ e. e ≡ Wrong → ⊥) }
 {
     lines.next(line)?;
@@ -251,6 +265,8 @@ fn read_station<L: Lines>(lines: &mut L, line: &mut Vec<u64>) -> Result<StationS
     let Some(link) = link_from(line.as_slice()) else {
         return Err(StateFault::Wrong);
     };
+    // The command that an earlier version had handed to the line stands with those that wait, too.
+    lines.next(line)?;
     Ok(StationState {
         address: bare.address,
         link,
