@@ -5,7 +5,7 @@ ghost use Rattle.ft12.specs.declared.frame.LinkSize.TheVariants.{One};
 
 use super::bench::settings;
 use ft12::{LinkSize, encode};
-use link::{Master, NoMemory, Outcome, Station};
+use link::{Master, NoCommands, NoMemory, Outcome, Station};
 use std::alloc::Global;
 
 /// What is lost of the exchange with this number.
