@@ -19,7 +19,7 @@ use Rattle.link.specs.Primary.{outcome_of, with_gap, received, received_outcome,
 use Rattle.link.specs.Procedure.{LinkSettings, is_up, is_held, holds_command}
 use Rattle.link.specs.Requests.{request_frame, request_in, FitsAddress, FitsAsked}
 use Rattle.link.specs.Matching.{Matches, report_in, gap_in_outcome, IsFittingSending}
-use Rattle.link.specs.Runs.{FitsLine}
+use Rattle.link.specs.Runs.{AreUserData, FitsLine}
 use Rattle.link.specs.Turns.{CommandsWaiting, station_at}
 
 pub record LineLaws : Type 0 where
@@ -84,6 +84,9 @@ pub record LineLaws : Type 0 where
       (may_poll : Bool) (waiting : CommandsWaiting) (s : Sending) → FitsLine q may_poll waiting →
       Matches settings addresses q e → sending q may_poll waiting ≡ Some s →
       IsFittingSending settings addresses s
+  pub carried : (settings : LinkSettings) (addresses : List ℕ) (q : Primary) (e : Exchanges)
+      (may_poll : Bool) (waiting : CommandsWaiting) → AreUserData settings.size waiting →
+      Matches settings addresses q e → FitsLine q may_poll waiting
   pub spelled : (settings : LinkSettings) (addresses : List ℕ) (q : Primary) (e : Exchanges)
       (s : Sending) → Matches settings addresses q e →
       (request_of q s).octets.items

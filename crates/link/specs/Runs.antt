@@ -1,13 +1,14 @@
 -- Whole runs of a primary station: its calls, one after another, and the exchanges of its line
 -- meanwhile.
-use Rattle.std.specs.Prelude.{◌≡◌, ℕ, zero, suc, ◌<◌, ◌&&◌, not, Bool, List, [], ◌∷◌, length}
+use Rattle.std.specs.Prelude.{◌≡◌, ℕ, zero, suc, ◌<◌, ◌&&◌, not, Bool, false, List, [], ◌∷◌, length}
 use Rattle.std.specs.Prelude.{Option, Some, None, if◌then◌else◌}
+use Rattle.ft12.specs.declared.frame.LinkSize.{LinkSize}
 use Rattle.ft12.specs.Fronts.{front_of}
 use Rattle.link.specs.Exchanges.{Exchanges, Sending, no_exchanges, received_current, timed_current}
 use Rattle.link.specs.Exchanges.{begun_by, given_up_at}
 use Rattle.link.specs.Carried.{given_up}
 use Rattle.link.specs.Procedure.{LinkSettings, Link, is_up}
-use Rattle.link.specs.Requests.{FitsAsked}
+use Rattle.link.specs.Requests.{FitsAsked, IsUserData}
 use Rattle.link.specs.Turns.{Starting, Wanted, CommandsWaiting, station_at, wanted, place_after}
 use Rattle.link.specs.Primary.{Primary, start, asked, sending, received, timed_out, Outcome}
 use Rattle.link.specs.declared.outcome.Outcome.TheVariants as outcome
@@ -36,7 +37,12 @@ exchanged p (Due now) e = record {
 }
 exchanged p (GivesUp station) e = given_up_at station e
 
--- The request that goes out is one that a frame can carry: of a command that waits, its data.
+-- What waits is user data that a frame can carry.
+abbrev pub AreUserData : LinkSize → CommandsWaiting → Type 0
+AreUserData size waiting =
+    (station : ℕ) (asdu : List ℕ) → waiting station ≡ Some asdu → IsUserData size asdu
+
+-- The request that goes out is one that a frame can carry.
 abbrev pub FitsLine : Primary → (may_poll : Bool) → CommandsWaiting → Type 0
 FitsLine p may_poll waiting =
     (s : Sending) → sending p may_poll waiting ≡ Some s → FitsAsked p.settings.size s.request

@@ -29,7 +29,7 @@ ghost use Rattle.link.specs.Requests.{request_frame, FitsAddress, FitsAsked, ask
 ghost use Rattle.link.specs.Requests.{request_in};
 ghost use Rattle.link.specs.Primary.{Primary, start, asked, sending, request_of, received};
 ghost use Rattle.link.specs.Primary.{received_outcome, timed_out};
-ghost use Rattle.link.specs.Runs.{FitsLine};
+ghost use Rattle.link.specs.Runs.{AreUserData, FitsLine};
 ghost use Rattle.link.specs.Turns.{CommandsWaiting};
 ghost use Rattle.link.specs.Matching.{Matches, report_in, IsFittingSending};
 
@@ -112,6 +112,11 @@ pub fn requests_wait_their_turn()
         (may_poll : Bool) (waiting : CommandsWaiting) (s : Sending) →
         FitsLine p may_poll waiting → Matches settings addresses p e →
         sending p may_poll waiting ≡ Some s → IsFittingSending settings addresses s }
+    // Added by the lead: what goes out fits the line where what waits does.
+    ensures carried { (settings : LinkSettings) (addresses : List ℕ) (p : Primary)
+        (e : Exchanges) (may_poll : Bool) (waiting : CommandsWaiting) →
+        AreUserData settings.size waiting → Matches settings addresses p e →
+        FitsLine p may_poll waiting }
     ensures octets { (settings : LinkSettings) (addresses : List ℕ) (p : Primary) (e : Exchanges)
         (s : Sending) → Matches settings addresses p e →
         (request_of p s).octets.items

@@ -1,5 +1,5 @@
 //! Commands that go out for the first time.
-ghost use Rattle.std.specs.Prelude.{◌≡◌, ℕ, slice_index, Bool, false, List, Some};
+ghost use Rattle.std.specs.Prelude.{◌≡◌, ℕ, slice_index, Bool, true, false, List, Some};
 ghost use Rattle.ft12.specs.Fronts.{front_of};
 ghost use Rattle.link.specs.Answers.{Command, Counted};
 ghost use Rattle.link.specs.Exchanges.{Sending, Exchanges};
