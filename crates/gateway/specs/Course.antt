@@ -33,10 +33,10 @@ use Rattle.gateway.specs.Frames.{monitor_objects_sent, acknowledged_reports, rep
 use Rattle.gateway.specs.Connections.{Channel, present, received_before, is_replaced, IsConnection}
 use Rattle.gateway.specs.Reports.{Setup, address_at, reports_in, parts_of_all, taken_objects}
 use Rattle.gateway.specs.Reports.{taken_pieces}
-use Rattle.gateway.specs.Serial.{is_first_command, answer_outcome}
+use Rattle.gateway.specs.Serial.{is_first_command, answer_outcome, next_request}
 use Rattle.gateway.specs.Works.{Works, first_works, has_lacked_place, LearnsOf, received_works}
 use Rattle.gateway.specs.Works.{sent_works, cut_works, octets_works, begun_works, settled_works}
-use Rattle.gateway.specs.Works.{settled_works, gapless_works, asked_works, done_works}
+use Rattle.gateway.specs.Works.{gapless_works, asked_works, done_works}
 use Rattle.gateway.specs.Works.{restarted_works}
 
 pub record Course : Type 0 where

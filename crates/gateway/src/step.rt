@@ -216,7 +216,6 @@ impl Gateway {
         ensures closed { OnTrue result (self.new ≡ disconnected self.old) }
         ensures puts { Puts P.log P.script P.failed port.old port.new (faults_unless result) }
     {
-        line_keeps_the_procedures();
         let went = port.put(self.moment(), &Action::Close(cause));
         if went {
             self.disconnect();
