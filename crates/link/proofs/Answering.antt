@@ -1,5 +1,5 @@
 -- The primary's state is what the exchanges make it: kept as octets come.
-use Rattle.std.proofs.Common.{◌≡◌, ℕ, ◌+◌, ◌<◌, ◌||◌, slice_index, Bool, true, false, List, [], ◌∷◌}
+use Rattle.std.proofs.Common.{◌≡◌, ℕ, ◌<◌, ◌||◌, slice_index, Bool, true, false, List, [], ◌∷◌}
 use Rattle.std.proofs.Common.{◌++◌, Option, Some, None, option_and_then, refl, sym, ap, subst, ◌∙◌}
 use Rattle.std.proofs.Common.{inr, if◌then◌else◌}
 use Rattle.std.proofs.lemmas.List.{length-set}

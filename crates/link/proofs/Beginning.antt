@@ -16,11 +16,11 @@ use Rattle.link.specs.Turns.{StationState, no_station, station_at, Phase, Starti
 use Rattle.link.specs.Turns.{Polling, Class1Polling, Over, Wanted, wants, wanted_by, Chosen}
 use Rattle.link.specs.Primary.{Outstanding, Primary, start, station_down, station_asked}
 use Rattle.link.specs.Primary.{after_choice, phase_after, with_octets, awaits, station_answered}
-use Rattle.link.specs.Primary.{answered, station_unanswered, unanswered, without_offer}
+use Rattle.link.specs.Primary.{answered, station_unanswered, unanswered}
 use Rattle.link.specs.Carried.{station_given_up, given_up}
-use Rattle.link.proofs.FirstSendings.{set_at}
-use Rattle.link.proofs.Links.{set_view}
+use Rattle.link.proofs.Links.{set_view, set_at}
 use Rattle.link.proofs.Turning.{present}
+use Rattle.link.specs.Turns.{CommandsWaiting}
 
 -- the link of the station whose turn it is, by what is outstanding and what the turn goes on with
 abbrev pub IsAlong : Option Outstanding → Phase → Link → Type 0
@@ -35,68 +35,68 @@ pub record IsBegun (p : Primary) : Type 0 where
 
 -- ---- `next`
 
-goes_on_with : (burst : ℕ) (may_poll again : Bool) (s : StationState) (link : Link) (phase : Phase)
+goes_on_with : (burst : ℕ) (may_poll again : Bool) (s : StationState) (command : Option (List ℕ)) (link : Link) (phase : Phase)
     → link ≡ Available
     → phase ≡ Starting →
-    wanted_by burst may_poll again s link phase ≡ wants Reset Over
-goes_on_with burst may_poll again s link phase is starts =
-    ap (λ (l : Link). wanted_by burst may_poll again s l phase) is
-    ∙ ap (λ (f : Phase). wanted_by burst may_poll again s Available f) starts
+    wanted_by burst may_poll again s command link phase ≡ wants Reset Over
+goes_on_with burst may_poll again s command link phase is starts =
+    ap (λ (l : Link). wanted_by burst may_poll again s command l phase) is
+    ∙ ap (λ (f : Phase). wanted_by burst may_poll again s command Available f) starts
 
 -- where the present turn is over, no link is so
-pub none_known : (p : Primary) (may_poll : Bool) → p.outstanding ≡ None → present p may_poll ≡ None
+pub none_known : (p : Primary) (may_poll : Bool) (waiting : CommandsWaiting) → p.outstanding ≡ None → present p may_poll waiting ≡ None
     → IsBegun p →
     (i : ℕ) → (station_at p.stations i).link ≡ Available → ⊥
-none_known p may_poll free is b i known =
+none_known p may_poll waiting free is b i known =
     let here : (station_at p.stations p.turn).link ≡ Available =
     subst (λ (n : ℕ). (station_at p.stations n).link ≡ Available) (b.away i known) known in
     let along : IsAlong None p.phase (station_at p.stations p.turn).link =
     subst (λ (o : Option Outstanding). IsAlong o p.phase (station_at p.stations p.turn).link) free
     b.here in
-    let goes : present p may_poll ≡ wants Reset Over =
-    goes_on_with p.settings.burst may_poll p.again (station_at p.stations p.turn) _ p.phase here
+    let goes : present p may_poll waiting ≡ wants Reset Over =
+    goes_on_with p.settings.burst may_poll p.again (station_at p.stations p.turn) (waiting p.turn) _ p.phase here
     (along here) in
     let bad : wants Reset Over ≡ None = sym goes ∙ is in
     cc
 
 -- what is wanted of a link
-wanted_along : (burst : ℕ) (may_poll again : Bool) (s : StationState) (link : Link) (phase : Phase)
+wanted_along : (burst : ℕ) (may_poll again : Bool) (s : StationState) (command : Option (List ℕ)) (link : Link) (phase : Phase)
     (w : Wanted) →
-    wanted_by burst may_poll again s link phase ≡ Some w → MaySend link w.request →
+    wanted_by burst may_poll again s command link phase ≡ Some w → MaySend link w.request →
     (w.request ≡ Status → w.following ≡ Starting) × (link ≡ Available → w.request ≡ Reset)
-wanted_along burst may_poll again s Down Starting w is may =
+wanted_along burst may_poll again s command Down Starting w is may =
     let one : Wanted = record { request = Status; following = Starting } in
     let same : one ≡ w = cc in
     ((λ e. ap (λ (v : Wanted). v.following) (sym same)), λ e. cc)
-wanted_along burst may_poll again s Down Commanding w is may = cc
-wanted_along burst may_poll again s Down Polling w is may = cc
-wanted_along burst may_poll again s Down (Class1Polling sent) w is may = cc
-wanted_along burst may_poll again s Down Over w is may = cc
-wanted_along burst may_poll again s Available Starting w is may =
+wanted_along burst may_poll again s command Down Commanding w is may = cc
+wanted_along burst may_poll again s command Down Polling w is may = cc
+wanted_along burst may_poll again s command Down (Class1Polling sent) w is may = cc
+wanted_along burst may_poll again s command Down Over w is may = cc
+wanted_along burst may_poll again s command Available Starting w is may =
     let one : Wanted = record { request = Reset; following = Over } in
     let same : one ≡ w = cc in (
       (λ e. let bad : Reset ≡ Status = ap (λ (v : Wanted). v.request) same ∙ e in cc),
       λ e. ap (λ (v : Wanted). v.request) (sym same),
     )
-wanted_along burst may_poll again s Available Commanding w is may = cc
-wanted_along burst may_poll again s Available Polling w is may = cc
-wanted_along burst may_poll again s Available (Class1Polling sent) w is may = cc
-wanted_along burst may_poll again s Available Over w is may = cc
-wanted_along burst may_poll again s (Next fcb) phase w is may =
+wanted_along burst may_poll again s command Available Commanding w is may = cc
+wanted_along burst may_poll again s command Available Polling w is may = cc
+wanted_along burst may_poll again s command Available (Class1Polling sent) w is may = cc
+wanted_along burst may_poll again s command Available Over w is may = cc
+wanted_along burst may_poll again s command (Next fcb) phase w is may =
     ((λ e. absurd (subst (λ (r : Asked). MaySend (Next fcb) r) e may)), λ e. cc)
-wanted_along burst may_poll again s (Held fcb service missed) phase w is may =
+wanted_along burst may_poll again s command (Held fcb service missed) phase w is may =
     ((λ e. absurd (subst (λ (r : Asked). MaySend (Held fcb service missed) r) e may)), λ e. cc)
 
-pub begun_choice : (p : Primary) (now : ℕ) (may_poll again : Bool) (phase : Phase) (c : Chosen) →
-    wanted_by p.settings.burst may_poll again (station_at p.stations c.station)
+pub begun_choice : (p : Primary) (now : ℕ) (may_poll : Bool) (waiting : CommandsWaiting) (again : Bool) (phase : Phase) (c : Chosen) →
+    wanted_by p.settings.burst may_poll again (station_at p.stations c.station) (waiting c.station)
     (station_at p.stations c.station).link phase ≡ Some c.wanted →
     MaySend (station_at p.stations c.station).link c.wanted.request →
     ((i : ℕ) → (station_at p.stations i).link ≡ Available → i ≡ c.station)
     → IsBegun (after_choice p now (Some c))
-begun_choice p now may_poll again phase c is may away =
+begun_choice p now may_poll waiting again phase c is may away =
     let s : StationState = station_asked (station_at p.stations c.station) c.wanted.request in
     let link = set_view (λ (r : StationState). r.link) p.stations c.station s refl in
-    let along = wanted_along p.settings.burst may_poll again (station_at p.stations c.station)
+    let along = wanted_along p.settings.burst may_poll again (station_at p.stations c.station) (waiting c.station)
     (station_at p.stations c.station).link phase c.wanted is may in
     record {
       here = (along.0, λ known. along.1 (sym (link c.station) ∙ known));
@@ -256,15 +256,6 @@ begun_unanswered p q within b =
 
 -- ---- the other calls
 
--- the links are as they were
-pub begun_linked : (p : Primary) (stations : List StationState)
-    → ((i : ℕ) → (station_at stations i).link ≡ (station_at p.stations i).link) → IsBegun p →
-    IsBegun (record p { stations = stations })
-begun_linked p stations same b = record {
-  here = subst (λ (l : Link). IsAlong p.outstanding p.phase l) (sym (same p.turn)) b.here;
-  away = λ i known. b.away i (sym (same i) ∙ known);
-}
-
 -- the link to a station is given up
 pub begun_given_up : (p : Primary) (k : ℕ) → k < length p.stations → IsBegun p
     → IsBegun (given_up k p)
@@ -302,12 +293,6 @@ begun_given_up p k within b = record {
     along false e =
         subst (λ (t : StationState). IsAlong p.outstanding p.phase t.link)
         (sym (get_or-set_other p.stations k p.turn s no_station (eqb-false p.turn k e))) b.here
-
-pub withdrawn_link : (ss : List StationState) (i : ℕ) → (station_at (map without_offer ss) i).link
-    ≡ (station_at ss i).link
-withdrawn_link [] i = refl
-withdrawn_link (s ∷ ss) zero = refl
-withdrawn_link (s ∷ ss) (suc i) = withdrawn_link ss i
 
 pub begun_start : (settings : LinkSettings) (addresses : List ℕ)
     → IsBegun (start settings addresses)

@@ -1,7 +1,7 @@
 -- What goes out behind a held service with which a turn began.
 use Rattle.std.specs.Prelude.{◌==◌}
 use Rattle.std.proofs.Common.{◌≡◌, ℕ, ◌||◌, ◌&&◌, not, Bool, true, false, List, [], ◌∷◌, ◌++◌}
-use Rattle.std.proofs.Common.{slice_set, map, Option, Some, None, refl, sym, ap, subst, ◌∙◌}
+use Rattle.std.proofs.Common.{slice_set, Option, Some, None, refl, sym, ap, subst, ◌∙◌}
 use Rattle.std.proofs.Common.{if◌then◌else◌}
 use Rattle.std.proofs.lemmas.Bool.{eqb-true, eqb-false}
 use Rattle.std.proofs.lemmas.List.{get_or-set_other}
@@ -19,21 +19,20 @@ use Rattle.link.specs.Primary.{Outstanding, Primary, start, choice, after_choice
 use Rattle.link.specs.Primary.{asked, sending_by, sending_from, phase_after, answer_at, answered}
 use Rattle.link.specs.Primary.{station_answered, said_by, open_octets, took, with_octets}
 use Rattle.link.specs.Primary.{received_after, received_from, received, station_unanswered}
-use Rattle.link.specs.Primary.{unanswered, is_late, due_from, timed_out, may_offer, with_offer}
-use Rattle.link.specs.Primary.{without_offer, offered_to}
+use Rattle.link.specs.Primary.{unanswered, is_late, due_from, timed_out}
 use Rattle.link.specs.Carried.{station_given_up, given_up}
-use Rattle.link.specs.Runs.{Call, Octets, Due, Offer, Withdraw, GivesUp, called}
+use Rattle.link.specs.Runs.{Call, Octets, Due, GivesUp, called}
 use Rattle.link.specs.Runs as runs
 use Rattle.link.specs.Bursts.{is_answered}
 use Rattle.link.specs.AtOnce.{is_spent, began_by, began_out, began_after, TurnGoesOn, TurnIsNext}
 use Rattle.link.specs.AtOnce.{TurnsGoOn}
-use Rattle.link.proofs.Leaving.{set_none, without_links}
+use Rattle.link.proofs.Leaving.{set_none}
 use Rattle.link.proofs.Preceding.{IsChosen, here, there, is_chosen}
-use Rattle.link.proofs.Links.{set_view}
 use Rattle.link.proofs.Bursting.{not_both, silent_down}
 use Rattle.link.proofs.Following.{IsBeforePolls, none_out}
 use Rattle.link.proofs.Repeating.{held_is}
 use Rattle.link.proofs.BehindCommands.{goes_on}
+use Rattle.link.specs.Turns.{CommandsWaiting}
 
 -- A service is sent again at once only where repeats are left, and nothing is outstanding.
 abbrev pub AgainHas : Primary → Type 0
@@ -66,11 +65,11 @@ same_want : (v w : Wanted) → Some v ≡ Some w → v ≡ w
 same_want v w e = cc
 
 -- A held service that begins a turn is followed by a command and polls.
-held_follows : (burst : ℕ) (may_poll again : Bool) (s : StationState) (link : Link) (phase : Phase)
+held_follows : (burst : ℕ) (may_poll again : Bool) (s : StationState) (command : Option (List ℕ)) (link : Link) (phase : Phase)
     (w : Wanted) → is_held link ≡ true → (again ≡ true → ⊥)
-    → wanted_by burst may_poll again s link phase ≡ Some w
+    → wanted_by burst may_poll again s command link phase ≡ Some w
     → (is_service w.request ≡ true) × (w.following ≡ Commanding)
-held_follows burst may_poll again s (Held fcb service missed) Starting w held once is =
+held_follows burst may_poll again s command (Held fcb service missed) Starting w held once is =
     go (may_poll || not (is_poll service)) is
   where
     go : (b : Bool) → (if b then wants (Counted fcb service) Commanding else None) ≡ Some w
@@ -81,36 +80,37 @@ held_follows burst may_poll again s (Held fcb service missed) Starting w held on
           ap (λ (x : Wanted). x.following) (sym same),
         )
     go false e = let no : ⊥ = cc in absurd no
-held_follows burst may_poll true s (Held fcb service missed) Commanding w held once is =
+held_follows burst may_poll true s command (Held fcb service missed) Commanding w held once is =
     absurd (once refl)
-held_follows burst may_poll true s (Held fcb service missed) Polling w held once is =
+held_follows burst may_poll true s command (Held fcb service missed) Polling w held once is =
     absurd (once refl)
-held_follows burst may_poll true s (Held fcb service missed) (Class1Polling sent) w held once is =
+held_follows burst may_poll true s command (Held fcb service missed) (Class1Polling sent) w held once is =
     absurd (once refl)
-held_follows burst may_poll true s (Held fcb service missed) Over w held once is =
+held_follows burst may_poll true s command (Held fcb service missed) Over w held once is =
     absurd (once refl)
-held_follows burst may_poll false s (Held fcb service missed) Commanding w held once is =
+held_follows burst may_poll false s command (Held fcb service missed) Commanding w held once is =
     let no : ⊥ = cc in absurd no
-held_follows burst may_poll false s (Held fcb service missed) Polling w held once is =
+held_follows burst may_poll false s command (Held fcb service missed) Polling w held once is =
     let no : ⊥ = cc in absurd no
-held_follows burst may_poll false s (Held fcb service missed) (Class1Polling sent) w held once is =
+held_follows burst may_poll false s command (Held fcb service missed) (Class1Polling sent) w held once is =
     let no : ⊥ = cc in absurd no
-held_follows burst may_poll false s (Held fcb service missed) Over w held once is =
+held_follows burst may_poll false s command (Held fcb service missed) Over w held once is =
     let no : ⊥ = cc in absurd no
-held_follows burst may_poll again s Down phase w held once is = let no : ⊥ = cc in absurd no
-held_follows burst may_poll again s Available phase w held once is = let no : ⊥ = cc in absurd no
-held_follows burst may_poll again s (Next fcb) phase w held once is = let no : ⊥ = cc in absurd no
+held_follows burst may_poll again s command Down phase w held once is = let no : ⊥ = cc in absurd no
+held_follows burst may_poll again s command Available phase w held once is = let no : ⊥ = cc in absurd no
+held_follows burst may_poll again s command (Next fcb) phase w held once is = let no : ⊥ = cc in absurd no
 
 parts : (a b : Bool) → (a && not b) ≡ true → (a ≡ true) × (b ≡ false)
 parts true false e = (refl, refl)
 parts true true e = let no : ⊥ = cc in absurd no
 parts false b e = let no : ⊥ = cc in absurd no
 
-begins : (p : Primary) (c : Chosen) (may_poll : Bool) → AgainHas p → IsChosen p may_poll c
+begins : (p : Primary) (c : Chosen) (may_poll : Bool) (waiting : CommandsWaiting) → AgainHas p
+    → IsChosen p may_poll waiting c
     → is_spent p c.station ≡ true
     → (is_service c.wanted.request ≡ true) × (c.wanted.following ≡ Commanding)
-begins p c may_poll has (here at is) spent =
-    held_follows p.settings.burst may_poll p.again (station_at p.stations c.station) link p.phase
+begins p c may_poll waiting has (here at is) spent =
+    held_follows p.settings.burst may_poll p.again (station_at p.stations c.station) (waiting c.station) link p.phase
     c.wanted both.0 (λ again. not_both (has_repeats p.settings link) (repeats again) both.1) is
   where
     link : Link
@@ -123,18 +123,18 @@ begins p c may_poll has (here at is) spent =
     repeats again = subst (λ (i : ℕ). is_held (station_at p.stations i).link ≡ true
         → has_repeats p.settings (station_at p.stations i).link ≡ true) (sym at) (has again).1
         both.0
-begins p c may_poll has (there is) spent =
-    held_follows p.settings.burst may_poll false (station_at p.stations c.station)
+begins p c may_poll waiting has (there is) spent =
+    held_follows p.settings.burst may_poll false (station_at p.stations c.station) (waiting c.station)
     (station_at p.stations c.station).link Starting c.wanted
     (parts (is_held (station_at p.stations c.station).link)
     (has_repeats p.settings (station_at p.stations c.station).link) spent).0
     (λ e. not_both false e refl) is
 
-asked_matches : (p : Primary) (began : Option ℕ) (now : ℕ) (may_poll : Bool) → Matches p began
-    → Matches (asked p now may_poll) (began_out p p.outstanding may_poll began)
-asked_matches p began now may_poll matches = go p.outstanding refl
+asked_matches : (p : Primary) (began : Option ℕ) (now : ℕ) (may_poll : Bool) (waiting : CommandsWaiting) → Matches p began
+    → Matches (asked p now may_poll waiting) (began_out p p.outstanding may_poll waiting began)
+asked_matches p began now may_poll waiting matches = go p.outstanding refl
   where
-    by : p.outstanding ≡ None → (c : Option Chosen) → choice p may_poll ≡ c
+    by : p.outstanding ≡ None → (c : Option Chosen) → choice p may_poll waiting ≡ c
         → Matches (after_choice p now c) (began_by p (sending_by c))
     by out None e = ((λ again. absurd (not_both false again refl)), tt)
     by out (Some c) e =
@@ -143,7 +143,7 @@ asked_matches p began now may_poll matches = go p.outstanding refl
         mark : (b : Bool) → is_spent p c.station ≡ b
             → Began (after_choice p now (Some c)) (if b then Some c.station else None)
         mark true is =
-            let it = begins p c may_poll matches.0 (is_chosen p may_poll c e) is in (
+            let it = begins p c may_poll waiting matches.0 (is_chosen p may_poll waiting c e) is in (
               refl,
               waits (record {
                 request = c.wanted.request;
@@ -155,13 +155,13 @@ asked_matches p began now may_poll matches = go p.outstanding refl
         mark false is = tt
 
     go : (o : Option Outstanding) → p.outstanding ≡ o
-        → Matches (asked_from p o now may_poll) (began_out p o may_poll began)
+        → Matches (asked_from p o now may_poll waiting) (began_out p o may_poll waiting began)
     go (Some o) e = matches
     go None e =
-        subst (λ (s : Option Sending). Matches (after_choice p now (choice p may_poll))
+        subst (λ (s : Option Sending). Matches (after_choice p now (choice p may_poll waiting))
         (began_by p s))
-        (sym (ap (λ (o : Option Outstanding). sending_from p o may_poll) e))
-        (by e (choice p may_poll) refl)
+        (sym (ap (λ (o : Option Outstanding). sending_from p o may_poll waiting) e))
+        (by e (choice p may_poll waiting) refl)
 
 -- ---- an answer
 
@@ -296,39 +296,6 @@ due_matches p at began matches = go p.outstanding refl
 
 -- ---- the other calls
 
--- Only what is offered is another.
-offers_match : (p : Primary) (stations : List StationState) (began : Option ℕ)
-    → (station_at stations p.turn).link ≡ (station_at p.stations p.turn).link → Matches p began
-    → Matches (record p { stations = stations }) began
-offers_match p stations began same matches = (
-  (λ again. (
-    (matches.0 again).0,
-    subst (λ (l : Link). is_held l ≡ true → has_repeats p.settings l ≡ true) (sym same)
-        (matches.0 again).1,
-  )),
-  go began matches.1,
-)
-  where
-    go : (b : Option ℕ) → Began p b → Began (record p { stations = stations }) b
-    go None state = tt
-    go (Some station) (turn, state) =
-        (turn, subst (λ (l : Link). Stays p.outstanding p.phase l) (sym same) state)
-
-offer_matches : (p : Primary) (i : ℕ) (asdu : List ℕ) (began : Option ℕ) → Matches p began
-    → Matches (offered_to p i asdu) began
-offer_matches p i asdu began matches = go (may_offer p i)
-  where
-    go : (b : Bool) → Matches (if b then record p {
-      stations = slice_set p.stations i (with_offer (station_at p.stations i) (Some asdu));
-    } else p) began
-    go true =
-        offers_match p (slice_set p.stations i (with_offer (station_at p.stations i) (Some asdu)))
-        began
-        (set_view (λ (s : StationState). s.link) p.stations i
-        (with_offer (station_at p.stations i) (Some asdu)) refl p.turn)
-        matches
-    go false = matches
-
 -- Where the link of the station is given up, its request is over.
 give_up_matches : (p : Primary) (k : ℕ) (began : Option ℕ) → Matches p began
     → Matches (given_up k p) began
@@ -373,32 +340,27 @@ give_up_matches p k began matches = (repeats (p.turn == k) refl, go began matche
 
 call_matches : (p : Primary) (began : Option ℕ) (call : Call) → Matches p began
     → Matches (called p call) (began_after p call began)
-call_matches p began (runs.Next now may_poll) matches = asked_matches p began now may_poll matches
+call_matches p began (runs.Next now may_poll waiting) matches = asked_matches p began now may_poll waiting matches
 call_matches p began (Octets octets) matches =
     octets_match (front_of p.settings.size) p octets began matches
 call_matches p began (Due now) matches = due_matches p now began matches
-call_matches p began (Offer station asdu) matches = offer_matches p station asdu began matches
-call_matches p began Withdraw matches =
-    offers_match p (map without_offer p.stations) began (without_links p.stations p.turn) matches
 call_matches p began (GivesUp station) matches = give_up_matches p station began matches
 
 -- ---- what goes out behind it
 
 goes_behind : (p : Primary) (began : Option ℕ) (call : Call) → Matches p began
     → TurnIsNext p began call
-goes_behind p (Some station) (runs.Next now true) (has, (turn, waits o awaited service phase)) =
+goes_behind p (Some station) (runs.Next now true waiting) (has, (turn, waits o awaited service phase)) =
     λ out is. absurd (none_out p.outstanding o out awaited)
-goes_behind p (Some station) (runs.Next now true) (has, (turn, ended free phase)) =
+goes_behind p (Some station) (runs.Next now true waiting) (has, (turn, ended free phase)) =
     λ out is.
     let up : is_answered (station_at p.stations p.turn).link ≡ true =
     subst (λ (i : ℕ). is_answered (station_at p.stations i).link ≡ true) (sym turn) is in
-    subst (λ (i : ℕ). TurnGoesOn p i (station_at p.stations i)) turn
-    (goes_on p out up (subst (λ (f : Phase). IsBeforePolls f) (sym (phase up)) tt))
-goes_behind p (Some station) (runs.Next now false) matches = tt
+    subst (λ (i : ℕ). TurnGoesOn p waiting i (station_at p.stations i)) turn
+    (goes_on p waiting out up (subst (λ (f : Phase). IsBeforePolls f) (sym (phase up)) tt))
+goes_behind p (Some station) (runs.Next now false waiting) matches = tt
 goes_behind p (Some station) (Octets octets) matches = tt
 goes_behind p (Some station) (Due now) matches = tt
-goes_behind p (Some station) (Offer other asdu) matches = tt
-goes_behind p (Some station) Withdraw matches = tt
 goes_behind p (Some station) (GivesUp other) matches = tt
 goes_behind p None call matches = tt
 

@@ -1,5 +1,5 @@
 -- The frame count bit from one exchange to the next.
-use Rattle.std.proofs.Common.{◌≡◌, ℕ, suc, nat_lt, Bool, true, false, not, List, [], ◌∷◌, Option}
+use Rattle.std.proofs.Common.{◌≡◌, ℕ, suc, nat_lt, Bool, true, false, List, [], ◌∷◌, Option}
 use Rattle.std.proofs.Common.{Some, None, refl, if◌then◌else◌}
 use Rattle.link.specs.Answers.{Service, Asked, Status, Reset, Counted, Answer, Ready, Confirmed}
 use Rattle.link.specs.Answers.{Busy, Report, NoData, Unable}

@@ -1,7 +1,7 @@
 -- Polls of class 1 go on while ACD is set, up to burst.
 use Rattle.std.specs.Prelude.{◌==◌}
 use Rattle.std.proofs.Common.{◌≡◌, ℕ, suc, ◌<◌, ◌≤◌, ◌&&◌, nat_lt, Bool, true, false, List, [], ◌∷◌}
-use Rattle.std.proofs.Common.{◌++◌, length, slice_set, map, Option, Some, None, refl, sym, ap}
+use Rattle.std.proofs.Common.{◌++◌, length, slice_set, Option, Some, None, refl, sym, ap}
 use Rattle.std.proofs.Common.{subst, ◌∙◌, ◌⊎◌, inl, inr, arith, if◌then◌else◌}
 use Rattle.std.proofs.lemmas.Bool.{lt-ltb, eqb-true, eqb-false}
 use Rattle.std.proofs.lemmas.List.{get_or-set_other}
@@ -21,17 +21,16 @@ use Rattle.link.specs.Primary.{Outstanding, Primary, start, choice, after_choice
 use Rattle.link.specs.Primary.{sending_by, sending_from, phase_after, answer_at, answered}
 use Rattle.link.specs.Primary.{station_answered, said_by, open_octets, took, with_octets}
 use Rattle.link.specs.Primary.{received_after, received_from, received, station_unanswered}
-use Rattle.link.specs.Primary.{unanswered, is_late, due_from, timed_out, may_offer, with_offer}
-use Rattle.link.specs.Primary.{without_offer, offered_to}
+use Rattle.link.specs.Primary.{unanswered, is_late, due_from, timed_out}
 use Rattle.link.specs.Leave.{is_poll_request}
 use Rattle.link.specs.Carried.{station_given_up, given_up}
-use Rattle.link.specs.Runs.{Call, Octets, Due, Offer, Withdraw, GivesUp, called}
+use Rattle.link.specs.Runs.{Call, Octets, Due, GivesUp, called}
 use Rattle.link.specs.Runs as runs
 use Rattle.link.specs.Bursts.{Row, Polls, Repeat, Other, one_more, row_by_request, row_by, row_out}
 use Rattle.link.specs.Bursts.{row_after, is_answered, PollsGoOn, BurstsGoOn}
-use Rattle.link.proofs.Leaving.{set_none, without_links}
+use Rattle.link.proofs.Leaving.{set_none}
 use Rattle.link.proofs.Preceding.{IsChosen, here, there, is_chosen}
-use Rattle.link.proofs.Links.{set_view}
+use Rattle.link.specs.Turns.{CommandsWaiting}
 
 abbrev pub IsNotBegun : Phase → Type 0
 IsNotBegun (Class1Polling sent) = ⊥
@@ -92,8 +91,8 @@ first_goes burst true fcb s phase one = go s.acd
     go false = second_class fcb refl refl refl
 
 commands_go : (burst : ℕ) (may_poll fcb : Bool) (s : StationState) (phase : Phase)
-    (offered : Option (List ℕ))
-    → OneMore phase 1 → GoesIt (Next fcb) phase (commands_from burst may_poll fcb s offered)
+    (command : Option (List ℕ))
+    → OneMore phase 1 → GoesIt (Next fcb) phase (commands_from burst may_poll fcb s command)
 commands_go burst may_poll fcb s phase None one = first_goes burst may_poll fcb s phase one
 commands_go burst may_poll fcb s phase (Some asdu) one = go s.dfc
   where
@@ -107,37 +106,37 @@ polls_go : (burst : ℕ) (may_poll fcb : Bool) (s : StationState) (phase : Phase
 polls_go burst true fcb s phase = poll_goes burst fcb s phase
 polls_go burst false fcb s phase = tt
 
-next_goes : (burst : ℕ) (may_poll fcb : Bool) (s : StationState) (phase : Phase)
-    → GoesIt (Next fcb) phase (next_of burst may_poll fcb s phase)
-next_goes burst may_poll fcb s Starting = commands_go burst may_poll fcb s Starting s.offered refl
-next_goes burst may_poll fcb s Commanding = commands_go burst may_poll fcb s Commanding s.offered
+next_goes : (burst : ℕ) (may_poll fcb : Bool) (s : StationState) (command : Option (List ℕ)) (phase : Phase)
+    → GoesIt (Next fcb) phase (next_of burst may_poll fcb s command phase)
+next_goes burst may_poll fcb s command Starting = commands_go burst may_poll fcb s Starting command refl
+next_goes burst may_poll fcb s command Commanding = commands_go burst may_poll fcb s Commanding command
     refl
-next_goes burst may_poll fcb s Polling = polls_go burst may_poll fcb s Polling
-next_goes burst may_poll fcb s (Class1Polling sent) =
+next_goes burst may_poll fcb s command Polling = polls_go burst may_poll fcb s Polling
+next_goes burst may_poll fcb s command (Class1Polling sent) =
     polls_go burst may_poll fcb s (Class1Polling sent)
-next_goes burst may_poll fcb s Over = tt
+next_goes burst may_poll fcb s command Over = tt
 
 held_goes : (link : Link) (phase : Phase) → is_held link ≡ true → (w : Option Wanted)
     → GoesIt link phase w
 held_goes link phase is None = tt
 held_goes link phase is (Some w) = repeated is
 
-wanted_goes : (burst : ℕ) (may_poll again : Bool) (s : StationState) (link : Link) (phase : Phase)
-    → GoesIt link phase (wanted_by burst may_poll again s link phase)
-wanted_goes burst may_poll again s (Next fcb) phase = next_goes burst may_poll fcb s phase
-wanted_goes burst may_poll again s (Held fcb service missed) phase =
+wanted_goes : (burst : ℕ) (may_poll again : Bool) (s : StationState) (command : Option (List ℕ)) (link : Link) (phase : Phase)
+    → GoesIt link phase (wanted_by burst may_poll again s command link phase)
+wanted_goes burst may_poll again s command (Next fcb) phase = next_goes burst may_poll fcb s command phase
+wanted_goes burst may_poll again s command (Held fcb service missed) phase =
     held_goes (Held fcb service missed) phase refl
-    (wanted_by burst may_poll again s (Held fcb service missed) phase)
-wanted_goes burst may_poll again s Down Starting = starts refl tt (λ station row. refl)
-wanted_goes burst may_poll again s Available Starting = starts refl tt (λ station row. refl)
-wanted_goes burst may_poll again s Down Commanding = tt
-wanted_goes burst may_poll again s Down Polling = tt
-wanted_goes burst may_poll again s Down (Class1Polling sent) = tt
-wanted_goes burst may_poll again s Down Over = tt
-wanted_goes burst may_poll again s Available Commanding = tt
-wanted_goes burst may_poll again s Available Polling = tt
-wanted_goes burst may_poll again s Available (Class1Polling sent) = tt
-wanted_goes burst may_poll again s Available Over = tt
+    (wanted_by burst may_poll again s command (Held fcb service missed) phase)
+wanted_goes burst may_poll again s command Down Starting = starts refl tt (λ station row. refl)
+wanted_goes burst may_poll again s command Available Starting = starts refl tt (λ station row. refl)
+wanted_goes burst may_poll again s command Down Commanding = tt
+wanted_goes burst may_poll again s command Down Polling = tt
+wanted_goes burst may_poll again s command Down (Class1Polling sent) = tt
+wanted_goes burst may_poll again s command Down Over = tt
+wanted_goes burst may_poll again s command Available Commanding = tt
+wanted_goes burst may_poll again s command Available Polling = tt
+wanted_goes burst may_poll again s command Available (Class1Polling sent) = tt
+wanted_goes burst may_poll again s command Available Over = tt
 
 -- ---- what the row says of the primary
 
@@ -270,40 +269,40 @@ goes_matches p p' c row phase matches at turn follows out (starts new none is) =
     (subst (λ (r : Row). Matches p' r) (sym (is c.station row))
     (subst IsNotBegun (sym follows) none))
 
-chosen_matches : (p : Primary) (c : Chosen) (row : Row) (now : ℕ) (may_poll : Bool) → Matches p row
-    → IsChosen p may_poll c
+chosen_matches : (p : Primary) (c : Chosen) (row : Row) (now : ℕ) (may_poll : Bool) (waiting : CommandsWaiting) → Matches p row
+    → IsChosen p may_poll waiting c
     → Matches (after_choice p now (Some c))
     (row_by_request (is_held (station_at p.stations c.station).link) c.station c.wanted.request row)
-chosen_matches p c row now may_poll matches (here at is) =
+chosen_matches p c row now may_poll waiting matches (here at is) =
     goes_matches p (after_choice p now (Some c)) c row p.phase matches (inl (at, refl)) refl refl
     (λ h. h)
     (subst (λ (v : Option Wanted). GoesIt (station_at p.stations c.station).link p.phase v) is
-    (wanted_goes p.settings.burst may_poll p.again (station_at p.stations c.station)
+    (wanted_goes p.settings.burst may_poll p.again (station_at p.stations c.station) (waiting c.station)
     (station_at p.stations c.station).link p.phase))
-chosen_matches p c row now may_poll matches (there is) =
+chosen_matches p c row now may_poll waiting matches (there is) =
     goes_matches p (after_choice p now (Some c)) c row Starting matches (inr refl) refl refl
     (λ h. h)
     (subst (λ (v : Option Wanted). GoesIt (station_at p.stations c.station).link Starting v) is
-    (wanted_goes p.settings.burst may_poll false (station_at p.stations c.station)
+    (wanted_goes p.settings.burst may_poll false (station_at p.stations c.station) (waiting c.station)
     (station_at p.stations c.station).link Starting))
 
-asked_matches : (p : Primary) (row : Row) (now : ℕ) (may_poll : Bool) → Matches p row
-    → Matches (asked p now may_poll) (row_out p p.outstanding may_poll row)
-asked_matches p row now may_poll matches = go p.outstanding refl
+asked_matches : (p : Primary) (row : Row) (now : ℕ) (may_poll : Bool) (waiting : CommandsWaiting) → Matches p row
+    → Matches (asked p now may_poll waiting) (row_out p p.outstanding may_poll waiting row)
+asked_matches p row now may_poll waiting matches = go p.outstanding refl
   where
-    by : (c : Option Chosen) → choice p may_poll ≡ c
+    by : (c : Option Chosen) → choice p may_poll waiting ≡ c
         → Matches (after_choice p now c) (row_by p (sending_by c) row)
     by None e = tt
-    by (Some c) e = chosen_matches p c row now may_poll matches (is_chosen p may_poll c e)
+    by (Some c) e = chosen_matches p c row now may_poll waiting matches (is_chosen p may_poll waiting c e)
 
     go : (o : Option Outstanding) → p.outstanding ≡ o
-        → Matches (asked_from p o now may_poll) (row_out p o may_poll row)
+        → Matches (asked_from p o now may_poll waiting) (row_out p o may_poll waiting row)
     go (Some o) e = matches
     go None e =
-        subst (λ (s : Option Sending). Matches (after_choice p now (choice p may_poll))
+        subst (λ (s : Option Sending). Matches (after_choice p now (choice p may_poll waiting))
         (row_by p s row))
-        (sym (ap (λ (o : Option Outstanding). sending_from p o may_poll) e))
-        (by (choice p may_poll) refl)
+        (sym (ap (λ (o : Option Outstanding). sending_from p o may_poll waiting) e))
+        (by (choice p may_poll waiting) refl)
 
 -- ---- the other calls
 
@@ -433,32 +432,6 @@ due_matches p at row matches = go p.outstanding
     go None = matches
     go (Some o) = late o (is_late p o at)
 
--- Only what is offered is another.
-offers_match : (p : Primary) (stations : List StationState) (row : Row)
-    → ((i : ℕ) → (station_at stations i).link ≡ (station_at p.stations i).link) → Matches p row
-    → Matches (record p { stations = stations }) row
-offers_match p stations Other same matches = matches
-offers_match p stations (Repeat k) same matches = matches
-offers_match p stations (Polls k n) same (turn, going so_far le is poll) =
-    (turn, going so_far le is poll)
-offers_match p stations (Polls k n) same (turn, lost free down) =
-    (turn, lost free (ap is_answered (same k) ∙ down))
-
-offer_matches : (p : Primary) (i : ℕ) (asdu : List ℕ) (row : Row) → Matches p row
-    → Matches (offered_to p i asdu) row
-offer_matches p i asdu row matches = go (may_offer p i)
-  where
-    go : (b : Bool) → Matches (if b then record p {
-      stations = slice_set p.stations i (with_offer (station_at p.stations i) (Some asdu));
-    } else p) row
-    go true =
-        offers_match p (slice_set p.stations i (with_offer (station_at p.stations i) (Some asdu)))
-        row
-        (λ k. set_view (λ (s : StationState). s.link) p.stations i
-        (with_offer (station_at p.stations i) (Some asdu)) refl k)
-        matches
-    go false = matches
-
 -- Where the link of the station is given up, its poll is lost.
 give_up_matches : (p : Primary) (k : ℕ) (row : Row) → Matches p row → Matches (given_up k p) row
 give_up_matches p k Other matches = go (p.turn == k)
@@ -491,55 +464,50 @@ give_up_matches p k (Polls j n) (turn, polls) = (turn, go (p.turn == k) refl pol
 
 call_matches : (p : Primary) (row : Row) (call : Call) → Matches p row
     → Matches (called p call) (row_after p call row)
-call_matches p row (runs.Next now may_poll) matches = asked_matches p row now may_poll matches
+call_matches p row (runs.Next now may_poll waiting) matches = asked_matches p row now may_poll waiting matches
 call_matches p row (Octets octets) matches = octets_match (front_of p.settings.size) p octets row
     matches
 call_matches p row (Due now) matches = due_matches p now row matches
-call_matches p row (Offer station asdu) matches = offer_matches p station asdu row matches
-call_matches p row Withdraw matches = offers_match p (map without_offer p.stations) row
-    (without_links p.stations) matches
 call_matches p row (GivesUp station) matches = give_up_matches p station row matches
 
 -- ---- one more
 
-one_wanted : (burst many : ℕ) (again : Bool) (s : StationState) (link : Link) → is_answered link
+one_wanted : (burst many : ℕ) (again : Bool) (s : StationState) (command : Option (List ℕ)) (link : Link) → is_answered link
     ≡ true → s.acd ≡ true
-    → many < burst → (fcb : Bool) × (wanted_by burst true again s link (Class1Polling many)
+    → many < burst → (fcb : Bool) × (wanted_by burst true again s command link (Class1Polling many)
     ≡ wants (Counted fcb Class1) (Class1Polling (suc many)))
-one_wanted burst many again s (Next fcb) up acd less = (
+one_wanted burst many again s command (Next fcb) up acd less = (
   fcb,
   ap (λ (b : Bool). if b && nat_lt many burst
       then wants (Counted fcb Class1) (Class1Polling (suc many)) else None) acd
       ∙ ap (λ (b : Bool). if b then wants (Counted fcb Class1) (Class1Polling (suc many)) else None)
       (lt-ltb many burst less),
 )
-one_wanted burst many again s Down up acd less = let bad : ⊥ = cc in absurd bad
-one_wanted burst many again s Available up acd less = let bad : ⊥ = cc in absurd bad
-one_wanted burst many again s (Held fcb service missed) up acd less = let bad : ⊥ = cc in absurd bad
+one_wanted burst many again s command Down up acd less = let bad : ⊥ = cc in absurd bad
+one_wanted burst many again s command Available up acd less = let bad : ⊥ = cc in absurd bad
+one_wanted burst many again s command (Held fcb service missed) up acd less = let bad : ⊥ = cc in absurd bad
 
 goes_on : (p : Primary) (row : Row) (call : Call) → Matches p row → PollsGoOn p row call
-goes_on p (Polls k n) (runs.Next now true) (turn, lost free down) =
+goes_on p (Polls k n) (runs.Next now true waiting) (turn, lost free down) =
     λ out up acd less. absurd (not_both (is_answered (station_at p.stations k).link) up down)
-goes_on p (Polls k n) (runs.Next now true) (turn, going so_far le is poll) = λ out up acd less.
-    let one = one_wanted p.settings.burst so_far p.again (station_at p.stations k)
+goes_on p (Polls k n) (runs.Next now true waiting) (turn, going so_far le is poll) = λ out up acd less.
+    let one = one_wanted p.settings.burst so_far p.again (station_at p.stations k) (waiting k)
     (station_at p.stations k).link up acd
     (omega (arith, le, less)) in
-    let there_is : wanted p.settings.burst true p.again (station_at p.stations p.turn) p.phase
+    let there_is : wanted p.settings.burst true p.again (station_at p.stations p.turn) (waiting p.turn) p.phase
     ≡ wants (Counted one.0 Class1) (Class1Polling (suc so_far)) =
-    ap (λ (i : ℕ). wanted p.settings.burst true p.again (station_at p.stations i) p.phase) turn
-    ∙ ap (λ (f : Phase). wanted p.settings.burst true p.again (station_at p.stations k) f) is
+    ap (λ (i : ℕ). wanted p.settings.burst true p.again (station_at p.stations i) (waiting i) p.phase) turn
+    ∙ ap (λ (f : Phase). wanted p.settings.burst true p.again (station_at p.stations k) (waiting k) f) is
     ∙ one.1 in (
       one.0,
-      ap (λ (o : Option Outstanding). sending_from p o true) out
+      ap (λ (o : Option Outstanding). sending_from p o true waiting) out
           ∙ ap (λ (w : Option Wanted). sending_by (chosen_or w p.turn
-          (first_after p.settings.burst true p.stations (length p.stations) p.turn))) there_is
+          (first_after p.settings.burst true p.stations waiting (length p.stations) p.turn))) there_is
           ∙ ap (λ (i : ℕ). Some (record { station = i; request = Counted one.0 Class1 })) turn,
     )
-goes_on p (Polls k n) (runs.Next now false) matches = tt
+goes_on p (Polls k n) (runs.Next now false waiting) matches = tt
 goes_on p (Polls k n) (Octets octets) matches = tt
 goes_on p (Polls k n) (Due now) matches = tt
-goes_on p (Polls k n) (Offer station asdu) matches = tt
-goes_on p (Polls k n) Withdraw matches = tt
 goes_on p (Polls k n) (GivesUp station) matches = tt
 goes_on p (Repeat k) call matches = tt
 goes_on p Other call matches = tt

@@ -6,19 +6,18 @@ use Rattle.ft12.specs.Fronts.{front_of}
 use Rattle.link.specs.Exchanges.{Exchanges, no_exchanges, received_current, timed_current, begun_by}
 use Rattle.link.specs.Exchanges.{given_up_at}
 use Rattle.link.specs.Procedure.{LinkSettings}
-use Rattle.link.specs.Requests.{IsUserData, FitsAddress}
+use Rattle.link.specs.Requests.{FitsAddress}
 use Rattle.link.specs.Primary.{Outstanding, Primary, start, asked, sending, received, timed_out}
-use Rattle.link.specs.Primary.{offered_to, withdrawn}
 use Rattle.link.specs.Carried.{given_up}
-use Rattle.link.specs.Runs.{Call, Next, Octets, Due, Offer, Withdraw, GivesUp, called, exchanged}
+use Rattle.link.specs.Runs.{Call, Next, Octets, Due, GivesUp, FitsLine, called, exchanged}
 use Rattle.link.specs.Runs.{MayCall, MayCallAll, called_all, exchanged_all, AreCalled}
 use Rattle.link.specs.Matching.{IsStable, AreLinks, past, MatchesBy, Matches}
 use Rattle.link.proofs.Matching.{SaysBy, says, matches, links_said, due_says}
 use Rattle.link.proofs.Answering.{receive_says}
-use Rattle.link.proofs.MatchingOffers.{start_says}
+use Rattle.link.proofs.MatchingStart.{start_says}
 use Rattle.link.proofs.Matching.{ask_says}
-use Rattle.link.proofs.MatchingOffers.{offer_says, withdraw_says}
 use Rattle.link.proofs.GivenUpMatches.{given_up_says}
+use Rattle.link.specs.Turns.{CommandsWaiting}
 
 -- one call more
 
@@ -68,14 +67,15 @@ start_matches settings addresses some fit =
 
 pub ask_matches : (settings : LinkSettings) (addresses : List ℕ) (p : Primary) (e : Exchanges)
     (now : ℕ)
-    (may_poll : Bool) → IsStable (front_of settings.size) → Matches settings addresses p e
-    → Matches settings addresses (asked p now may_poll) (begun_by now (sending p may_poll) e)
-ask_matches settings addresses p e now may_poll stable t =
-    matches (front_of settings.size) settings addresses (asked p now may_poll)
-    (begun_by now (sending p may_poll) e)
-    (ask_says (front_of settings.size) settings addresses p e now may_poll stable
+    (may_poll : Bool) (waiting : CommandsWaiting) → IsStable (front_of settings.size)
+    → FitsLine p may_poll waiting → Matches settings addresses p e
+    → Matches settings addresses (asked p now may_poll waiting) (begun_by now (sending p may_poll waiting) e)
+ask_matches settings addresses p e now may_poll waiting stable carried t =
+    matches (front_of settings.size) settings addresses (asked p now may_poll waiting)
+    (begun_by now (sending p may_poll waiting) e)
+    (ask_says (front_of settings.size) settings addresses p e now may_poll waiting stable carried
     (says (front_of settings.size) settings addresses p e t))
-    (one_more settings addresses p e (Next now may_poll) tt t.called)
+    (one_more settings addresses p e (Next now may_poll waiting) carried t.called)
 
 pub receive_matches : (settings : LinkSettings) (addresses : List ℕ) (p : Primary) (e : Exchanges)
     (octets : List ℕ)
@@ -107,25 +107,6 @@ due_matches settings addresses p e at t =
     (subst (λ (s : LinkSettings). AreCalled settings addresses (timed_out p at)
     (record { ended = e.ended; current = timed_current s.answer_ms at e.current })) t.settings_are
     (one_more settings addresses p e (Due at) tt t.called))
-
-pub offer_matches : (settings : LinkSettings) (addresses : List ℕ) (p : Primary) (e : Exchanges)
-    (station : ℕ)
-    (asdu : List ℕ) → station < length p.stations → IsUserData p.settings.size asdu
-    → Matches settings addresses p e
-    → Matches settings addresses (offered_to p station asdu) e
-offer_matches settings addresses p e station asdu within carried t =
-    matches (front_of settings.size) settings addresses (offered_to p station asdu) e
-    (offer_says (front_of settings.size) settings addresses p e station asdu within carried
-    (says (front_of settings.size) settings addresses p e t))
-    (one_more settings addresses p e (Offer station asdu) (within, carried) t.called)
-
-pub withdraw_matches : (settings : LinkSettings) (addresses : List ℕ) (p : Primary) (e : Exchanges)
-    → Matches settings addresses p e → Matches settings addresses (withdrawn p) e
-withdraw_matches settings addresses p e t =
-    matches (front_of settings.size) settings addresses (withdrawn p) e
-    (withdraw_says (front_of settings.size) settings addresses p e
-    (says (front_of settings.size) settings addresses p e t))
-    (one_more settings addresses p e Withdraw tt t.called)
 
 pub give_up_matches : (settings : LinkSettings) (addresses : List ℕ) (p : Primary) (e : Exchanges)
     (k : ℕ) → k < length p.stations → Matches settings addresses p e

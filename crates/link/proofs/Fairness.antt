@@ -15,7 +15,7 @@ use Rattle.link.specs.Turns.{Starting, station_at, wanted, place_after}
 use Rattle.link.specs.Primary.{Primary, start, asked, sending, received}
 use Rattle.link.specs.Matching.{IsStable, MatchesBy, Matches}
 use Rattle.link.specs.Leave.{IsLeftToPolls}
-use Rattle.link.specs.Runs.{Call, Next, Octets, Due, Offer, Withdraw, GivesUp, called, exchanged}
+use Rattle.link.specs.Runs.{Call, Next, Octets, Due, GivesUp, called, exchanged}
 use Rattle.link.specs.Runs.{MayCall, MayCallAll, called_all, exchanged_all, nth_after}
 use Rattle.link.specs.Visits.{AreInVisits, most_of_visit}
 use Rattle.link.specs.Waits.{WantsAt, AlwaysWants, station_in, stations_by, stations_asked, waited}
@@ -27,9 +27,9 @@ use Rattle.link.proofs.VisitAsked.{InVisit, IsAsked, nothing, goes_on, begins, i
 use Rattle.link.proofs.VisitRuns.{Stays}
 use Rattle.link.proofs.VisitAsked.{many_most, asked_visits}
 use Rattle.link.proofs.VisitRuns.{received_visits, due_visits}
-use Rattle.link.proofs.VisitRuns.{offer_visits}
-use Rattle.link.proofs.VisitRuns.{withdraw_visits, start_visits}
+use Rattle.link.proofs.VisitRuns.{start_visits}
 use Rattle.link.proofs.VisitsGiven.{give_up_visits}
+use Rattle.link.specs.Turns.{CommandsWaiting}
 
 -- ---- the exchanges are visits
 
@@ -51,16 +51,16 @@ burst_there settings addresses p e t some =
     subst (λ (s : LinkSettings). 0 < s.burst) (sym t.settings_are) some
 
 asks_visit : (settings : LinkSettings) (addresses : List ℕ) (p p' : Primary) (e' : Exchanges)
-    (may_poll : Bool)
+    (may_poll : Bool) (waiting : CommandsWaiting)
     (many : ℕ) (s : Option Sending) →
-    IsAsked (front_of settings.size) addresses p may_poll many p' e' s
+    IsAsked (front_of settings.size) addresses p may_poll waiting many p' e' s
     → HasVisit settings addresses p' e'
-asks_visit settings addresses p p' e' may_poll many s (nothing none turn v) = (many, v)
-asks_visit settings addresses p p' e' may_poll many s (goes_on z is at turn v) = (suc many, v)
-asks_visit settings addresses p p' e' may_poll many s (begins c is free f within turn v) = (1, v)
+asks_visit settings addresses p p' e' may_poll waiting many s (nothing none turn v) = (many, v)
+asks_visit settings addresses p p' e' may_poll waiting many s (goes_on z is at turn v) = (suc many, v)
+asks_visit settings addresses p p' e' may_poll waiting many s (begins c is free f within turn v) = (1, v)
 
 abbrev pub IsOther : Call → Type 0
-IsOther (Next now may_poll) = ⊥
+IsOther (Next now may_poll waiting) = ⊥
 IsOther call = Unit {0}
 
 -- a call that asks for nothing
@@ -69,7 +69,7 @@ stays : (settings : LinkSettings) (addresses : List ℕ) (p : Primary) (e : Exch
     → IsOther call → MayCall p call →
     Matches settings addresses p e → InVisit (front_of settings.size) addresses p e many →
     Stays (front_of settings.size) addresses p.turn (called p call) (exchanged p call e) many
-stays settings addresses p e many (Next now may_poll) other may t v = absurd other
+stays settings addresses p e many (Next now may_poll waiting) other may t v = absurd other
 stays settings addresses p e many (Octets octets) other may t v =
     subst (λ (s : LinkSettings). Stays (front_of settings.size) addresses p.turn
     (received (front_of s.size) p octets)
@@ -80,10 +80,6 @@ stays settings addresses p e many (Octets octets) other may t v =
 stays settings addresses p e many (Due now) other may t v =
     due_visits (front_of settings.size) addresses p e.ended e.current p.settings.answer_ms now many
     t.fits.turn v
-stays settings addresses p e many (Offer station asdu) other may t v =
-    offer_visits (front_of settings.size) addresses p e many station asdu v
-stays settings addresses p e many Withdraw other may t v =
-    withdraw_visits (front_of settings.size) addresses p e many v
 stays settings addresses p e many (GivesUp station) other may t v =
     give_up_visits (front_of settings.size) addresses p e many station may v
 
@@ -92,19 +88,15 @@ call_visits : (settings : LinkSettings) (addresses : List ℕ) (p : Primary) (e 
     → 0 < settings.burst →
     MayCall p call → Matches settings addresses p e → HasVisit settings addresses p e
     → HasVisit settings addresses (called p call) (exchanged p call e)
-call_visits settings addresses p e (Next now may_poll) some may t v =
-    asks_visit settings addresses p _ _ may_poll v.0 _
-    (asked_visits (front_of settings.size) addresses p e v.0 now may_poll
+call_visits settings addresses p e (Next now may_poll waiting) some may t v =
+    asks_visit settings addresses p _ _ may_poll waiting v.0 _
+    (asked_visits (front_of settings.size) addresses p e v.0 now may_poll waiting
     (burst_there settings addresses p e t some)
     (own_matches settings addresses p e t) v.1)
 call_visits settings addresses p e (Octets octets) some may t v =
     (v.0, (stays settings addresses p e v.0 (Octets octets) tt may t v.1).0)
 call_visits settings addresses p e (Due now) some may t v =
     (v.0, (stays settings addresses p e v.0 (Due now) tt may t v.1).0)
-call_visits settings addresses p e (Offer station asdu) some may t v =
-    (v.0, (stays settings addresses p e v.0 (Offer station asdu) tt may t v.1).0)
-call_visits settings addresses p e Withdraw some may t v =
-    (v.0, (stays settings addresses p e v.0 Withdraw tt may t v.1).0)
 call_visits settings addresses p e (GivesUp station) some may t v =
     (v.0, (stays settings addresses p e v.0 (GivesUp station) tt may t v.1).0)
 
@@ -351,21 +343,21 @@ waits_short most count k before turn many within there short w = go (cases_eq tu
         (w.away off)
 
 -- who wants something isn't passed over
-not_past : (p : Primary) (may_poll : Bool) (k place : ℕ)
-    → ((may_poll ≡ true) ⊎ (IsLeftToPolls (station_at p.stations k) (station_at p.stations k).link
+not_past : (p : Primary) (may_poll : Bool) (waiting : CommandsWaiting) (k place : ℕ)
+    → ((may_poll ≡ true) ⊎ (IsLeftToPolls (station_at p.stations k) (waiting k) (station_at p.stations k).link
     → ⊥)) →
-    wanted p.settings.burst may_poll false (station_at p.stations place) Starting ≡ None → place ≡ k
+    wanted p.settings.burst may_poll false (station_at p.stations place) (waiting place) Starting ≡ None → place ≡ k
     → ⊥
-not_past p may_poll k place wants none at =
-    let idle = left p.settings.burst may_poll (station_at p.stations k)
+not_past p may_poll waiting k place wants none at =
+    let idle = left p.settings.burst may_poll (station_at p.stations k) (waiting k)
     (station_at p.stations k).link
-    (subst (λ (i : ℕ). wanted p.settings.burst may_poll false (station_at p.stations i) Starting
+    (subst (λ (i : ℕ). wanted p.settings.burst may_poll false (station_at p.stations i) (waiting i) Starting
     ≡ None) at none) in
     go idle wants
   where
-    go : (may_poll ≡ false) × IsLeftToPolls (station_at p.stations k) (station_at p.stations k).link
+    go : (may_poll ≡ false) × IsLeftToPolls (station_at p.stations k) (waiting k) (station_at p.stations k).link
         →
-        (may_poll ≡ true) ⊎ (IsLeftToPolls (station_at p.stations k) (station_at p.stations k).link
+        (may_poll ≡ true) ⊎ (IsLeftToPolls (station_at p.stations k) (waiting k) (station_at p.stations k).link
         → ⊥) → ⊥
     go idle (inl leave) = let off = idle.0 in cc
     go idle (inr more) = more idle.1
@@ -378,15 +370,15 @@ Waiting settings addresses k before p e =
     × Waits (most_of_visit settings) (length addresses) k before p.turn many
 
 ask_waits : (settings : LinkSettings) (addresses : List ℕ) (p p' : Primary) (e e' : Exchanges)
-    (may_poll : Bool)
+    (may_poll : Bool) (waiting : CommandsWaiting)
     (many k before : ℕ) (s : Option Sending) →
     k < length addresses → Matches settings addresses p e → many ≤ most_of_visit settings →
     ((z : Sending) → s ≡ Some z → (may_poll ≡ true)
-    ⊎ (IsLeftToPolls (station_at p.stations k) (station_at p.stations k).link → ⊥)) →
+    ⊎ (IsLeftToPolls (station_at p.stations k) (waiting k) (station_at p.stations k).link → ⊥)) →
     Waits (most_of_visit settings) (length addresses) k before p.turn many →
-    IsAsked (front_of settings.size) addresses p may_poll many p' e' s
+    IsAsked (front_of settings.size) addresses p may_poll waiting many p' e' s
     → Waiting settings addresses k (waited k before (station_in s)) p' e'
-ask_waits settings addresses p p' e e' may_poll many k before s there t short wants w
+ask_waits settings addresses p p' e e' may_poll waiting many k before s there t short wants w
     (nothing none turn v) = (
       many,
       v,
@@ -395,7 +387,7 @@ ask_waits settings addresses p p' e e' may_poll many k before s there t short wa
           (subst (λ (i : ℕ). Waits (most_of_visit settings) (length addresses) k before i many)
           (sym turn) w),
     )
-ask_waits settings addresses p p' e e' may_poll many k before s there t short wants w
+ask_waits settings addresses p p' e e' may_poll waiting many k before s there t short wants w
     (goes_on z is at turn v) = (
       suc many,
       v,
@@ -406,7 +398,7 @@ ask_waits settings addresses p p' e e' may_poll many k before s there t short wa
           (on_waits (most_of_visit settings) (length addresses) k before z.station p.turn many at
           w)),
     )
-ask_waits settings addresses p p' e e' may_poll many k before s there t short wants w
+ask_waits settings addresses p p' e e' may_poll waiting many k before s there t short wants w
     (begins c is free f within turn v) = (
       1,
       v,
@@ -425,7 +417,7 @@ ask_waits settings addresses p p' e e' may_poll many k before s there t short wa
         (sym f.station)
         (nth_distance (length p.stations) k (subst (λ (n : ℕ). k < n) (sym t.count) there) f.steps
         p.turn t.fits.turn
-        (λ m less at. not_past p may_poll k (nth_after (length p.stations) p.turn (suc m))
+        (λ m less at. not_past p may_poll waiting k (nth_after (length p.stations) p.turn (suc m))
         (wants _ is)
         (f.nearer m less) at))
 
@@ -463,22 +455,18 @@ call_waits : (settings : LinkSettings) (addresses : List ℕ) (p : Primary) (e :
     → Waiting settings addresses k before p e →
     Waiting settings addresses k (waited k before (stations_by p call)) (called p call)
     (exchanged p call e)
-call_waits settings addresses p e (Next now may_poll) k before some there may wants t w =
-    ask_waits settings addresses p (asked p now may_poll) e (begun_by now (sending p may_poll) e)
-    may_poll w.0 k before
-    (sending p may_poll) there t
+call_waits settings addresses p e (Next now may_poll waiting) k before some there may wants t w =
+    ask_waits settings addresses p (asked p now may_poll waiting) e (begun_by now (sending p may_poll waiting) e)
+    may_poll waiting w.0 k before
+    (sending p may_poll waiting) there t
     (short_visit settings addresses p e w.0 t w.1) wants w.2
-    (asked_visits (front_of settings.size) addresses p e w.0 now may_poll
+    (asked_visits (front_of settings.size) addresses p e w.0 now may_poll waiting
     (burst_there settings addresses p e t some)
     (own_matches settings addresses p e t) w.1)
 call_waits settings addresses p e (Octets octets) k before some there may wants t w =
     stay_waits settings addresses p e w.0 k before (Octets octets) tt may t w.1 w.2
 call_waits settings addresses p e (Due now) k before some there may wants t w =
     stay_waits settings addresses p e w.0 k before (Due now) tt may t w.1 w.2
-call_waits settings addresses p e (Offer station asdu) k before some there may wants t w =
-    stay_waits settings addresses p e w.0 k before (Offer station asdu) tt may t w.1 w.2
-call_waits settings addresses p e Withdraw k before some there may wants t w =
-    stay_waits settings addresses p e w.0 k before Withdraw tt may t w.1 w.2
 call_waits settings addresses p e (GivesUp station) k before some there may wants t w =
     stay_waits settings addresses p e w.0 k before (GivesUp station) tt may t w.1 w.2
 

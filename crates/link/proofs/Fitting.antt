@@ -1,21 +1,20 @@
 -- What is held fits the line, and stays so.
 use Rattle.std.specs.Prelude.{slice_index_or}
 use Rattle.std.proofs.Common.{◌≡◌, ℕ, suc, ◌<◌, ◌⊎◌, nat_lt, Bool, true, false, List, [], ◌∷◌, All}
-use Rattle.std.proofs.Common.{map, length, slice_set, Option, Some, refl, sym, ap, subst, inl, inr}
+use Rattle.std.proofs.Common.{map, length, slice_set, refl, sym, ap, subst, inl, inr}
 use Rattle.std.proofs.Common.{if◌then◌else◌}
 use Rattle.std.proofs.lemmas.List.{get_or-set_same, get_or-set_other, length-set}
 use Rattle.std.proofs.lemmas.List.Elements.{All-head, All-tail, All-cons, All-nil}
 use Rattle.std.proofs.lemmas.Bool.{cases_eq}
 use Rattle.ft12.specs.declared.frame.LinkSize.{LinkSize}
-use Rattle.link.specs.Answers.{Frame, Class1, Class2, Command, Asked, Status, Reset, Counted}
+use Rattle.link.specs.Answers.{Frame, Asked, Status, Reset, Counted}
 use Rattle.link.specs.Answers.{Answer, Ready, Confirmed, Busy, Report, NoData, Unable}
 use Rattle.link.specs.Procedure.{LinkSettings, Link, Down, Held, missed_so_far, after_answer}
 use Rattle.link.specs.Procedure.{after_silence}
-use Rattle.link.specs.Requests.{IsUserData, FitsAddress, FitsAsked}
+use Rattle.link.specs.Requests.{FitsAddress, FitsAsked}
 use Rattle.link.specs.Turns.{StationState, station_at}
 use Rattle.link.specs.Primary.{station_down, station_asked, station_answered, station_unanswered}
-use Rattle.link.specs.Primary.{offer_left, without_offer, with_offer}
-use Rattle.link.specs.Holding.{FitsLink, FitsOffer, FitsStation}
+use Rattle.link.specs.Holding.{FitsLink, FitsStation}
 
 abbrev pub FitStations : LinkSize → List StationState → Type 0
 FitStations size stations = All (FitsStation size) stations
@@ -23,6 +22,13 @@ FitStations size stations = All (FitsStation size) stations
 pub station_fits : (size : LinkSize) (stations : List StationState) (i : ℕ) → i < length stations
     → FitStations size stations → FitsStation size (station_at stations i)
 station_fits size stations i within fits = fits i _ within
+
+pub held_fits : (size : LinkSize) (stations : List StationState) (i : ℕ) (s : StationState)
+    → i < length stations → FitStations size stations → s ≡ station_at stations i
+    → FitsLink size s.link
+held_fits size stations i s within fits is =
+    subst (λ (t : StationState). FitsLink size t.link) (sym is)
+    (station_fits size stations i within fits).link
 
 -- one station is another
 pub set_fits : (size : LinkSize) (stations : List StationState) (k : ℕ) (s : StationState)
@@ -47,46 +53,12 @@ pub down_fits : (size : LinkSize) (addresses : List ℕ) → All (FitsAddress si
 down_fits size [] fits = All-nil (FitsStation size)
 down_fits size (a ∷ rest) fits =
     All-cons (FitsStation size) (station_down a) (map station_down rest)
-    (record { address = All-head (FitsAddress size) a rest fits; link = tt; offered = tt })
+    (record { address = All-head (FitsAddress size) a rest fits; link = tt })
     (down_fits size rest (All-tail (FitsAddress size) a rest fits))
-
--- no command is offered
-pub withdrawn_fits : (size : LinkSize) (stations : List StationState) → FitStations size stations
-    → FitStations size (map without_offer stations)
-withdrawn_fits size [] fits = fits
-withdrawn_fits size (s ∷ ss) fits =
-    let first = All-head (FitsStation size) s ss fits in
-    All-cons (FitsStation size) (without_offer s) (map without_offer ss)
-    (record { address = first.address; link = first.link; offered = tt })
-    (withdrawn_fits size ss (All-tail (FitsStation size) s ss fits))
-
-offer_left_fits : (size : LinkSize) (request : Asked) (offered : Option (List ℕ))
-    → FitsOffer size offered
-    → FitsOffer size (offer_left request offered)
-offer_left_fits size Status offered fits = fits
-offer_left_fits size Reset offered fits = fits
-offer_left_fits size (Counted fcb Class1) offered fits = fits
-offer_left_fits size (Counted fcb Class2) offered fits = fits
-offer_left_fits size (Counted fcb (Command asdu)) offered fits = tt
 
 pub asked_fits : (size : LinkSize) (s : StationState) (request : Asked) → FitsStation size s
     → FitsStation size (station_asked s request)
-asked_fits size s request fits = record {
-  address = fits.address;
-  link = fits.link;
-  offered =
-      offer_left_fits size request s.offered fits.offered;
-}
-
-pub offered_fits : (size : LinkSize) (s : StationState) (asdu : List ℕ) → FitsStation size s
-    → IsUserData size asdu
-    → FitsStation size (with_offer s (Some asdu))
-offered_fits size s asdu fits carried = record {
-  address = fits.address;
-  link = fits.link;
-  offered =
-      carried;
-}
+asked_fits size s request fits = record { address = fits.address; link = fits.link }
 
 answer_fits : (size : LinkSize) (request : Asked) (answer : Answer) (link : Link)
     → FitsLink size link
@@ -118,7 +90,6 @@ answered_fits size s request frame answer fits =
     record {
       address = fits.address;
       link = answer_fits size request answer s.link fits.link;
-      offered = fits.offered;
     }
 
 silence_fits : (settings : LinkSettings) (size : LinkSize) (request : Asked) (link : Link)
@@ -145,7 +116,6 @@ unanswered_fits settings size s request asked fits =
     record {
       address = fits.address;
       link = silence_fits settings size request s.link asked;
-      offered = fits.offered;
     }
 
 pub length-down : (addresses : List ℕ) → length (map station_down addresses) ≡ length addresses

@@ -7,7 +7,7 @@ use Rattle.link.specs.Procedure.{LinkSettings, Link, Down, Available, Next, Held
 use Rattle.link.specs.Procedure.{is_service, has_repeats}
 use Rattle.link.specs.Turns.{StationState, Phase, Starting, Commanding, Polling, Class1Polling}
 use Rattle.link.specs.Turns.{Over, Wanted, Chosen, station_at, is_poll, wants, wanted_poll}
-use Rattle.link.specs.Turns.{polls_from, wanted_command, commands_from, next_of, wanted_by, wanted}
+use Rattle.link.specs.Turns.{polls_from, wanted_command, commands_from, next_of, wanted_by}
 use Rattle.link.specs.Turns.{held_request}
 use Rattle.link.specs.Primary.{Outstanding, Primary, choice, station_asked, after_choice}
 use Rattle.link.specs.Primary.{asked_from, asked, sending_by, sending_from}
@@ -16,6 +16,7 @@ use Rattle.link.specs.AtOnce.{latest_by}
 use Rattle.link.proofs.Preceding.{IsChosen, here, there, is_chosen}
 use Rattle.link.proofs.Links.{set_view}
 use Rattle.link.proofs.Bursting.{not_both}
+use Rattle.link.specs.Turns.{CommandsWaiting}
 
 abbrev pub IsBegun : Phase → Type 0
 IsBegun Starting = ⊥
@@ -91,8 +92,8 @@ polls_go burst true fcb again s phase begun_in = poll_goes burst fcb again s pha
 polls_go burst false fcb again s phase begun_in = tt
 
 commands_go : (burst : ℕ) (may_poll fcb again : Bool) (s : StationState) (begun_in : Phase)
-    (offered : Option (List ℕ))
-    → GoesIt (Next fcb) again begun_in (commands_from burst may_poll fcb s offered)
+    (command : Option (List ℕ))
+    → GoesIt (Next fcb) again begun_in (commands_from burst may_poll fcb s command)
 commands_go burst may_poll fcb again s begun_in None =
     polls_go burst may_poll fcb again s Polling begun_in
 commands_go burst may_poll fcb again s begun_in (Some asdu) = go s.dfc
@@ -102,54 +103,54 @@ commands_go burst may_poll fcb again s begun_in (Some asdu) = go s.dfc
     go true = polls_go burst may_poll fcb again s Polling begun_in
     go false = other tt (λ e. refl)
 
-next_goes : (burst : ℕ) (may_poll fcb again : Bool) (s : StationState) (phase : Phase)
-    → GoesIt (Next fcb) again phase (next_of burst may_poll fcb s phase)
-next_goes burst may_poll fcb again s Starting =
-    commands_go burst may_poll fcb again s Starting s.offered
-next_goes burst may_poll fcb again s Commanding =
-    commands_go burst may_poll fcb again s Commanding s.offered
-next_goes burst may_poll fcb again s Polling =
+next_goes : (burst : ℕ) (may_poll fcb again : Bool) (s : StationState) (command : Option (List ℕ)) (phase : Phase)
+    → GoesIt (Next fcb) again phase (next_of burst may_poll fcb s command phase)
+next_goes burst may_poll fcb again s command Starting =
+    commands_go burst may_poll fcb again s Starting command
+next_goes burst may_poll fcb again s command Commanding =
+    commands_go burst may_poll fcb again s Commanding command
+next_goes burst may_poll fcb again s command Polling =
     polls_go burst may_poll fcb again s Polling Polling
-next_goes burst may_poll fcb again s (Class1Polling sent) =
+next_goes burst may_poll fcb again s command (Class1Polling sent) =
     polls_go burst may_poll fcb again s (Class1Polling sent) (Class1Polling sent)
-next_goes burst may_poll fcb again s Over = tt
+next_goes burst may_poll fcb again s command Over = tt
 
-held_goes : (burst : ℕ) (may_poll again fcb : Bool) (s : StationState) (service : Service)
+held_goes : (burst : ℕ) (may_poll again fcb : Bool) (s : StationState) (command : Option (List ℕ)) (service : Service)
     (missed : ℕ) (phase : Phase)
     → GoesIt (Held fcb service missed) again phase
-    (wanted_by burst may_poll again s (Held fcb service missed) phase)
-held_goes burst may_poll again fcb s service missed Starting =
+    (wanted_by burst may_poll again s command (Held fcb service missed) phase)
+held_goes burst may_poll again fcb s command service missed Starting =
     go (may_poll || not (is_poll service))
   where
     go : (b : Bool) → GoesIt (Held fcb service missed) again Starting
         (if b then wants (Counted fcb service) Commanding else None)
     go true = other (behind_held fcb service) (λ e. let no : ⊥ = cc in absurd no)
     go false = tt
-held_goes burst may_poll true fcb s service missed Commanding = repeated refl refl refl refl
-held_goes burst may_poll true fcb s service missed Polling = repeated refl refl refl refl
-held_goes burst may_poll true fcb s service missed (Class1Polling sent) =
+held_goes burst may_poll true fcb s command service missed Commanding = repeated refl refl refl refl
+held_goes burst may_poll true fcb s command service missed Polling = repeated refl refl refl refl
+held_goes burst may_poll true fcb s command service missed (Class1Polling sent) =
     repeated refl refl refl refl
-held_goes burst may_poll true fcb s service missed Over = repeated refl refl refl refl
-held_goes burst may_poll false fcb s service missed Commanding = tt
-held_goes burst may_poll false fcb s service missed Polling = tt
-held_goes burst may_poll false fcb s service missed (Class1Polling sent) = tt
-held_goes burst may_poll false fcb s service missed Over = tt
+held_goes burst may_poll true fcb s command service missed Over = repeated refl refl refl refl
+held_goes burst may_poll false fcb s command service missed Commanding = tt
+held_goes burst may_poll false fcb s command service missed Polling = tt
+held_goes burst may_poll false fcb s command service missed (Class1Polling sent) = tt
+held_goes burst may_poll false fcb s command service missed Over = tt
 
-wanted_goes : (burst : ℕ) (may_poll again : Bool) (s : StationState) (link : Link) (phase : Phase)
-    → GoesIt link again phase (wanted_by burst may_poll again s link phase)
-wanted_goes burst may_poll again s (Next fcb) phase = next_goes burst may_poll fcb again s phase
-wanted_goes burst may_poll again s (Held fcb service missed) phase =
-    held_goes burst may_poll again fcb s service missed phase
-wanted_goes burst may_poll again s Down Starting = other tt (λ e. refl)
-wanted_goes burst may_poll again s Available Starting = other tt (λ e. refl)
-wanted_goes burst may_poll again s Down Commanding = tt
-wanted_goes burst may_poll again s Down Polling = tt
-wanted_goes burst may_poll again s Down (Class1Polling sent) = tt
-wanted_goes burst may_poll again s Down Over = tt
-wanted_goes burst may_poll again s Available Commanding = tt
-wanted_goes burst may_poll again s Available Polling = tt
-wanted_goes burst may_poll again s Available (Class1Polling sent) = tt
-wanted_goes burst may_poll again s Available Over = tt
+wanted_goes : (burst : ℕ) (may_poll again : Bool) (s : StationState) (command : Option (List ℕ)) (link : Link) (phase : Phase)
+    → GoesIt link again phase (wanted_by burst may_poll again s command link phase)
+wanted_goes burst may_poll again s command (Next fcb) phase = next_goes burst may_poll fcb again s command phase
+wanted_goes burst may_poll again s command (Held fcb service missed) phase =
+    held_goes burst may_poll again fcb s command service missed phase
+wanted_goes burst may_poll again s command Down Starting = other tt (λ e. refl)
+wanted_goes burst may_poll again s command Available Starting = other tt (λ e. refl)
+wanted_goes burst may_poll again s command Down Commanding = tt
+wanted_goes burst may_poll again s command Down Polling = tt
+wanted_goes burst may_poll again s command Down (Class1Polling sent) = tt
+wanted_goes burst may_poll again s command Down Over = tt
+wanted_goes burst may_poll again s command Available Commanding = tt
+wanted_goes burst may_poll again s command Available Polling = tt
+wanted_goes burst may_poll again s command Available (Class1Polling sent) = tt
+wanted_goes burst may_poll again s command Available Over = tt
 
 -- ---- what the latest request says of the primary
 
@@ -223,13 +224,13 @@ repeat_follows p (Some s) c (turn, ended free more again_is go_on) out at again 
     subst (λ (f : Phase). Follows c.wanted.request f) (sym stays)
     (subst (λ (r : Asked). Follows r p.phase) same it.0)
 
-chosen_matches : (p : Primary) (latest : Option Sending) (c : Chosen) (now : ℕ) (may_poll : Bool)
-    → Matches p latest → p.outstanding ≡ None → IsChosen p may_poll c
+chosen_matches : (p : Primary) (latest : Option Sending) (c : Chosen) (now : ℕ) (may_poll : Bool) (waiting : CommandsWaiting)
+    → Matches p latest → p.outstanding ≡ None → IsChosen p may_poll waiting c
     → StateAt (after_choice p now (Some c)) c.wanted.request
-chosen_matches p latest c now may_poll matches out (here at is) =
+chosen_matches p latest c now may_poll waiting matches out (here at is) =
     by (subst (λ (v : Option Wanted). GoesIt (station_at p.stations c.station).link p.again p.phase
     v) is
-    (wanted_goes p.settings.burst may_poll p.again (station_at p.stations c.station)
+    (wanted_goes p.settings.burst may_poll p.again (station_at p.stations c.station) (waiting c.station)
     (station_at p.stations c.station).link p.phase))
   where
     by : Goes (station_at p.stations c.station).link p.again p.phase c.wanted.request
@@ -240,10 +241,10 @@ chosen_matches p latest c now may_poll matches out (here at is) =
         asks p now c (repeat_follows p latest c matches out at again held same stays)
         (λ e. absurd (asks_service (station_at p.stations c.station).link c.wanted.request held same
         e))
-chosen_matches p latest c now may_poll matches out (there is) =
+chosen_matches p latest c now may_poll waiting matches out (there is) =
     by (subst (λ (v : Option Wanted). GoesIt (station_at p.stations c.station).link false Starting
     v) is
-    (wanted_goes p.settings.burst may_poll false (station_at p.stations c.station)
+    (wanted_goes p.settings.burst may_poll false (station_at p.stations c.station) (waiting c.station)
     (station_at p.stations c.station).link Starting))
   where
     by : Goes (station_at p.stations c.station).link false Starting c.wanted.request
@@ -252,21 +253,21 @@ chosen_matches p latest c now may_poll matches out (there is) =
     by (other follows new) = asks p now c follows new
     by (repeated again held same stays) = absurd (not_both false again refl)
 
-pub asked_matches : (p : Primary) (latest : Option Sending) (now : ℕ) (may_poll : Bool)
+pub asked_matches : (p : Primary) (latest : Option Sending) (now : ℕ) (may_poll : Bool) (waiting : CommandsWaiting)
     → Matches p latest
-    → Matches (asked p now may_poll) (latest_by p p.outstanding may_poll latest)
-asked_matches p latest now may_poll matches = go p.outstanding refl
+    → Matches (asked p now may_poll waiting) (latest_by p p.outstanding may_poll waiting latest)
+asked_matches p latest now may_poll waiting matches = go p.outstanding refl
   where
-    by : p.outstanding ≡ None → (c : Option Chosen) → choice p may_poll ≡ c
+    by : p.outstanding ≡ None → (c : Option Chosen) → choice p may_poll waiting ≡ c
         → Matches (after_choice p now c) (sending_by c)
     by out None e = (out, refl)
     by out (Some c) e =
-        (refl, chosen_matches p latest c now may_poll matches out (is_chosen p may_poll c e))
+        (refl, chosen_matches p latest c now may_poll waiting matches out (is_chosen p may_poll waiting c e))
 
     go : (o : Option Outstanding) → p.outstanding ≡ o
-        → Matches (asked_from p o now may_poll) (latest_by p o may_poll latest)
+        → Matches (asked_from p o now may_poll waiting) (latest_by p o may_poll waiting latest)
     go (Some o) e = matches
     go None e =
-        subst (λ (s : Option Sending). Matches (after_choice p now (choice p may_poll)) s)
-        (sym (ap (λ (o : Option Outstanding). sending_from p o may_poll) e))
-        (by e (choice p may_poll) refl)
+        subst (λ (s : Option Sending). Matches (after_choice p now (choice p may_poll waiting)) s)
+        (sym (ap (λ (o : Option Outstanding). sending_from p o may_poll waiting) e))
+        (by e (choice p may_poll waiting) refl)

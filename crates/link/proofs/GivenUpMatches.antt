@@ -31,7 +31,7 @@ use Rattle.link.proofs.Matching.{SaysBy, links_said}
 given_up_fits : (size : LinkSize) (s : StationState) → FitsStation size s
     → FitsStation size (station_given_up s)
 given_up_fits size s fits =
-    record { address = fits.address; link = tt; offered = fits.offered }
+    record { address = fits.address; link = tt }
 
 -- the stations whose link isn't given up
 others_stay : (stations : List StationState) (k i : ℕ) → (i ≡ k → ⊥)

@@ -1,7 +1,7 @@
 -- Polls wait for leave: no call begins one, but `next` with leave.
 use Rattle.std.specs.Prelude.{◌==◌, ◌||◌}
-use Rattle.std.proofs.Common.{◌≡◌, ℕ, zero, suc, ◌<◌, ◌≤◌, ◌⊎◌, ◌&&◌, ◌%◌, nat_lt, Bool, true}
-use Rattle.std.proofs.Common.{false, not, List, [], ◌∷◌, ◌++◌, map, subst, length, slice_set}
+use Rattle.std.proofs.Common.{◌≡◌, ℕ, suc, ◌<◌, ◌≤◌, ◌⊎◌, ◌&&◌, ◌%◌, nat_lt, Bool, true}
+use Rattle.std.proofs.Common.{false, not, List, ◌++◌, subst, length, slice_set}
 use Rattle.std.proofs.Common.{Option, Some, None, refl, sym, ap, subst, ◌∙◌, inl, inr}
 use Rattle.std.proofs.Common.{if◌then◌else◌}
 use Rattle.std.proofs.lemmas.Bool.{cases_lt}
@@ -22,13 +22,11 @@ use Rattle.link.specs.Primary.{sending_by, sending_from, sending, station_answer
 use Rattle.link.specs.Primary.{answer_at, said_by, open_octets, took, with_octets, received_after}
 use Rattle.link.specs.Primary.{received_from, received, outcome_by, outcome_of, outcome_at}
 use Rattle.link.specs.Primary.{outcome_after, outcome_from, received_outcome, station_unanswered}
-use Rattle.link.specs.Primary.{unanswered, is_late, due_from, timed_out, may_offer, with_offer}
-use Rattle.link.specs.Primary.{offered_to, without_offer, withdrawn, Outcome, turn_gap, started}
-use Rattle.link.specs.Primary.{with_gap}
+use Rattle.link.specs.Primary.{unanswered, is_late, due_from, timed_out, Outcome, turn_gap, started, with_gap}
 use Rattle.link.specs.declared.outcome.Outcome.TheVariants as outcome
 use Rattle.link.specs.Leave.{is_poll_request, holds_poll, is_polling_by, is_polling, is_report}
-use Rattle.link.proofs.Links.{set_view}
 use Rattle.link.proofs.Turning.{present, goes_on, passes_on}
+use Rattle.link.specs.Turns.{CommandsWaiting}
 
 -- ---- what is wanted without leave
 
@@ -41,47 +39,47 @@ poll_is r following w is = (let same : record { request = r; following = followi
 no_poll : (w : Wanted) → is_poll_request w.request ≡ false → is_poll_request w.request ≡ true → ⊥
 no_poll w e poll = (let both : false ≡ true = sym e ∙ poll in cc)
 
-no_offered_poll : (burst : ℕ) (fcb : Bool) (s : StationState) (offered : Option (List ℕ))
+no_command_poll : (burst : ℕ) (fcb : Bool) (s : StationState) (command : Option (List ℕ))
     (w : Wanted)
-    → commands_from burst false fcb s offered ≡ Some w →
+    → commands_from burst false fcb s command ≡ Some w →
     is_poll_request w.request ≡ true → ⊥
-no_offered_poll burst fcb s None w is poll = cc
-no_offered_poll burst fcb s (Some asdu) w is poll = go s.dfc is
+no_command_poll burst fcb s None w is poll = cc
+no_command_poll burst fcb s (Some asdu) w is poll = go s.dfc is
   where
     go : (b : Bool) → (if b then polls_from burst false fcb s Polling else wanted_command fcb asdu)
         ≡ Some w → ⊥
     go true e = cc
     go false e = no_poll w (poll_is (Counted fcb (Command asdu)) _ w e) poll
 
-no_next_poll : (burst : ℕ) (fcb : Bool) (s : StationState) (phase : Phase) (w : Wanted)
-    → next_of burst false fcb s phase ≡ Some w →
+no_next_poll : (burst : ℕ) (fcb : Bool) (s : StationState) (command : Option (List ℕ)) (phase : Phase) (w : Wanted)
+    → next_of burst false fcb s command phase ≡ Some w →
     is_poll_request w.request ≡ true → ⊥
-no_next_poll burst fcb s Starting w is poll = no_offered_poll burst fcb s s.offered w is poll
-no_next_poll burst fcb s Commanding w is poll = no_offered_poll burst fcb s s.offered w is poll
-no_next_poll burst fcb s Polling w is poll = cc
-no_next_poll burst fcb s (Class1Polling sent) w is poll = cc
-no_next_poll burst fcb s Over w is poll = cc
+no_next_poll burst fcb s command Starting w is poll = no_command_poll burst fcb s command w is poll
+no_next_poll burst fcb s command Commanding w is poll = no_command_poll burst fcb s command w is poll
+no_next_poll burst fcb s command Polling w is poll = cc
+no_next_poll burst fcb s command (Class1Polling sent) w is poll = cc
+no_next_poll burst fcb s command Over w is poll = cc
 
 -- Only an unanswered poll is wanted, and only at once.
-pub repeated : (burst : ℕ) (again : Bool) (s : StationState) (link : Link) (phase : Phase)
+pub repeated : (burst : ℕ) (again : Bool) (s : StationState) (command : Option (List ℕ)) (link : Link) (phase : Phase)
     (w : Wanted)
-    → wanted_by burst false again s link phase ≡ Some w →
+    → wanted_by burst false again s command link phase ≡ Some w →
     is_poll_request w.request ≡ true → (again && holds_poll link) ≡ true
-repeated burst again s Down Starting w is poll =
+repeated burst again s command Down Starting w is poll =
     absurd (no_poll w (poll_is Status Starting w is) poll)
-repeated burst again s Down Commanding w is poll = cc
-repeated burst again s Down Polling w is poll = cc
-repeated burst again s Down (Class1Polling sent) w is poll = cc
-repeated burst again s Down Over w is poll = cc
-repeated burst again s Available Starting w is poll =
+repeated burst again s command Down Commanding w is poll = cc
+repeated burst again s command Down Polling w is poll = cc
+repeated burst again s command Down (Class1Polling sent) w is poll = cc
+repeated burst again s command Down Over w is poll = cc
+repeated burst again s command Available Starting w is poll =
     absurd (no_poll w (poll_is Reset Over w is) poll)
-repeated burst again s Available Commanding w is poll = cc
-repeated burst again s Available Polling w is poll = cc
-repeated burst again s Available (Class1Polling sent) w is poll = cc
-repeated burst again s Available Over w is poll = cc
-repeated burst again s (Next fcb) phase w is poll =
-    absurd (no_next_poll burst fcb s phase w is poll)
-repeated burst again s (Held fcb service missed) Starting w is poll = go (is_poll service) refl is
+repeated burst again s command Available Commanding w is poll = cc
+repeated burst again s command Available Polling w is poll = cc
+repeated burst again s command Available (Class1Polling sent) w is poll = cc
+repeated burst again s command Available Over w is poll = cc
+repeated burst again s command (Next fcb) phase w is poll =
+    absurd (no_next_poll burst fcb s command phase w is poll)
+repeated burst again s command (Held fcb service missed) Starting w is poll = go (is_poll service) refl is
   where
     go : (b : Bool) → is_poll service ≡ b
         → (if false || not b then wants (Counted fcb service) Commanding else None)
@@ -89,58 +87,58 @@ repeated burst again s (Held fcb service missed) Starting w is poll = go (is_pol
         (again && is_poll service) ≡ true
     go true e none = cc
     go false e some = absurd (no_poll w (poll_is (Counted fcb service) Commanding w some ∙ e) poll)
-repeated burst true s (Held fcb service missed) Commanding w is poll =
+repeated burst true s command (Held fcb service missed) Commanding w is poll =
     sym (poll_is (Counted fcb service) Commanding w is) ∙ poll
-repeated burst true s (Held fcb service missed) Polling w is poll =
+repeated burst true s command (Held fcb service missed) Polling w is poll =
     sym (poll_is (Counted fcb service) Polling w is)
     ∙ poll
-repeated burst true s (Held fcb service missed) (Class1Polling sent) w is poll =
+repeated burst true s command (Held fcb service missed) (Class1Polling sent) w is poll =
     sym (poll_is (Counted fcb service) (Class1Polling sent) w is) ∙ poll
-repeated burst true s (Held fcb service missed) Over w is poll =
+repeated burst true s command (Held fcb service missed) Over w is poll =
     sym (poll_is (Counted fcb service) Over w is) ∙ poll
-repeated burst false s (Held fcb service missed) Commanding w is poll = cc
-repeated burst false s (Held fcb service missed) Polling w is poll = cc
-repeated burst false s (Held fcb service missed) (Class1Polling sent) w is poll = cc
-repeated burst false s (Held fcb service missed) Over w is poll = cc
+repeated burst false s command (Held fcb service missed) Commanding w is poll = cc
+repeated burst false s command (Held fcb service missed) Polling w is poll = cc
+repeated burst false s command (Held fcb service missed) (Class1Polling sent) w is poll = cc
+repeated burst false s command (Held fcb service missed) Over w is poll = cc
 
 -- ---- `next`
 
-without_free : (p : Primary) (s : Sending) → p.outstanding ≡ None → sending p false ≡ Some s
+without_free : (p : Primary) (waiting : CommandsWaiting) (s : Sending) → p.outstanding ≡ None → sending p false waiting ≡ Some s
     → is_poll_request s.request ≡ true → is_polling p ≡ true
-without_free p s free sent poll = ap (λ (o : Option Outstanding). is_polling_by p o) free
-    ∙ go (present p false) refl
+without_free p waiting s free sent poll = ap (λ (o : Option Outstanding). is_polling_by p o) free
+    ∙ go (present p false waiting) refl
   where
-    go : (v : Option Wanted) → present p false ≡ v
+    go : (v : Option Wanted) → present p false waiting ≡ v
         → (p.again && holds_poll (station_at p.stations p.turn).link) ≡ true
     go (Some w) is =
-        let there = goes_on p false w free is in
+        let there = goes_on p false waiting w free is in
         let same : record { station = p.turn; request = w.request } ≡ s = cc in
-        repeated p.settings.burst p.again (station_at p.stations p.turn)
+        repeated p.settings.burst p.again (station_at p.stations p.turn) (waiting p.turn)
         (station_at p.stations p.turn).link p.phase w is
         (ap (λ (z : Sending). is_poll_request z.request) same ∙ poll)
     go None is =
-        let b = passes_on p false s free is sent in
+        let b = passes_on p false waiting s free is sent in
         let none : (false && holds_poll (station_at p.stations s.station).link) ≡ true =
-        repeated p.settings.burst false (station_at p.stations s.station)
+        repeated p.settings.burst false (station_at p.stations s.station) (waiting s.station)
         (station_at p.stations s.station).link Starting b.wanted b.first
         (ap is_poll_request (sym b.request) ∙ poll) in
         cc
 
-pub without : (p : Primary) (s : Sending) → sending p false ≡ Some s → is_poll_request s.request
+pub without : (p : Primary) (waiting : CommandsWaiting) (s : Sending) → sending p false waiting ≡ Some s → is_poll_request s.request
     ≡ true
     → is_polling p ≡ true
-without p s sent poll = go p.outstanding refl sent
+without p waiting s sent poll = go p.outstanding refl sent
   where
-    go : (o : Option Outstanding) → p.outstanding ≡ o → sending_from p o false ≡ Some s
+    go : (o : Option Outstanding) → p.outstanding ≡ o → sending_from p o false waiting ≡ Some s
         → is_polling p ≡ true
     go (Some x) e none = cc
-    go None e some = without_free p s e sent poll
+    go None e some = without_free p waiting s e sent poll
 
-asked_without : (p : Primary) (now : ℕ) → is_polling (asked p now false) ≡ true → is_polling p
+asked_without : (p : Primary) (now : ℕ) (waiting : CommandsWaiting) → is_polling (asked p now false waiting) ≡ true → is_polling p
     ≡ true
-asked_without p now poll = go p.outstanding refl poll
+asked_without p now waiting poll = go p.outstanding refl poll
   where
-    by : p.outstanding ≡ None → (c : Option Chosen) → choice p false ≡ c
+    by : p.outstanding ≡ None → (c : Option Chosen) → choice p false waiting ≡ c
         → is_polling (after_choice p now c) ≡ true
         → is_polling p ≡ true
     by free None is h =
@@ -149,18 +147,18 @@ asked_without p now poll = go p.outstanding refl poll
         (sym free)
         ∙ h in cc
     by free (Some c) is h =
-        without_free p (record { station = c.station; request = c.wanted.request }) free
-        (ap (λ (o : Option Outstanding). sending_from p o false) free ∙ ap sending_by is) h
+        without_free p waiting (record { station = c.station; request = c.wanted.request }) free
+        (ap (λ (o : Option Outstanding). sending_from p o false waiting) free ∙ ap sending_by is) h
 
-    go : (o : Option Outstanding) → p.outstanding ≡ o → is_polling (asked_from p o now false) ≡ true
+    go : (o : Option Outstanding) → p.outstanding ≡ o → is_polling (asked_from p o now false waiting) ≡ true
         → is_polling p ≡ true
     go (Some x) e h = h
-    go None e h = by e (choice p false) refl h
+    go None e h = by e (choice p false waiting) refl h
 
-pub next : (p : Primary) (now : ℕ) (may_poll : Bool) → is_polling (asked p now may_poll) ≡ true
+pub next : (p : Primary) (now : ℕ) (may_poll : Bool) (waiting : CommandsWaiting) → is_polling (asked p now may_poll waiting) ≡ true
     → (is_polling p ≡ true) ⊎ (may_poll ≡ true)
-next p now true poll = inr refl
-next p now false poll = inl (asked_without p now poll)
+next p now true waiting poll = inr refl
+next p now false waiting poll = inl (asked_without p now waiting poll)
 
 -- ---- `octets` and `due`
 
@@ -324,41 +322,6 @@ due p at poll = go p.outstanding refl poll
         → is_polling p ≡ true
     go None e h = h
     go (Some o) e h = late o e (is_late p o at) h
-
--- ---- `offer` and `withdraw`
-
--- the links are the same
-same_polling : (p : Primary) (stations : List StationState)
-    → (station_at stations p.turn).link ≡ (station_at p.stations p.turn).link →
-    (o : Option Outstanding) → is_polling_by (record p { stations = stations }) o
-    ≡ is_polling_by p o
-same_polling p stations same (Some o) = refl
-same_polling p stations same None = ap (λ (l : Link). p.again && holds_poll l) same
-
-pub offer : (p : Primary) (station : ℕ) (asdu : List ℕ) → is_polling (offered_to p station asdu)
-    ≡ is_polling p
-offer p station asdu = go (may_offer p station)
-  where
-    go : (b : Bool) → is_polling (if b then record p {
-      stations =
-          slice_set p.stations station (with_offer (station_at p.stations station) (Some asdu));
-    } else p) ≡ is_polling p
-    go true =
-        same_polling p
-        (slice_set p.stations station (with_offer (station_at p.stations station) (Some asdu)))
-        (set_view (λ (s : StationState). s.link) p.stations station
-        (with_offer (station_at p.stations station) (Some asdu)) refl p.turn) p.outstanding
-    go false = refl
-
-pub without_links : (ss : List StationState) (i : ℕ) → (station_at (map without_offer ss) i).link
-    ≡ (station_at ss i).link
-without_links [] i = refl
-without_links (s ∷ ss) zero = refl
-without_links (s ∷ ss) (suc i) = without_links ss i
-
-pub withdraw : (p : Primary) → is_polling (withdrawn p) ≡ is_polling p
-withdraw p = same_polling p (map without_offer p.stations) (without_links p.stations p.turn)
-    p.outstanding
 
 -- ---- reports
 

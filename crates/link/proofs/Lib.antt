@@ -1,3 +1,7 @@
+
+
+
+
 pub mod Assembling
 pub mod Timed
 pub mod OneVisits
@@ -11,8 +15,6 @@ pub mod Fitting
 pub mod Links
 pub mod Marks
 pub mod Known
-pub mod FirstSendings
-pub mod Offering
 pub mod ReadingBack
 pub mod Reports
 pub mod Resets
@@ -20,7 +22,7 @@ pub mod Waiting
 pub mod Spoilt
 pub mod Matching
 pub mod Answering
-pub mod MatchingOffers
+pub mod MatchingStart
 pub mod Bit
 pub mod Sendings
 pub mod Commands

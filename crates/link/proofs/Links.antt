@@ -30,6 +30,24 @@ set_view {A} f stations k s same i = go (cases_lt k (length stations)) (cases_eq
         ∙ ap f (get_or-set_same stations k s no_station fits) ∙ same
         ∙ ap (λ (j : ℕ). f (station_at stations j)) (sym at)
 
+-- one station is another
+pub set_at : (stations : List StationState) (k i : ℕ) (s : StationState) →
+    (i ≡ k) × (station_at (slice_set stations k s) i ≡ s)
+    ⊎ (station_at (slice_set stations k s) i ≡ station_at stations i)
+set_at stations k i s = go (cases_lt k (length stations)) (cases_eq i k)
+  where
+    go : (k < length stations) ⊎ (length stations ≤ k) → (i ≡ k) ⊎ (i ≡ k → ⊥) →
+        (i ≡ k) × (station_at (slice_set stations k s) i ≡ s)
+        ⊎ (station_at (slice_set stations k s) i ≡ station_at stations i)
+    go (inr past) e =
+        inr (ap (λ (l : List StationState). station_at l i) (set_past stations k s past))
+    go (inl fits) (inr other) = inr (get_or-set_other stations k i s no_station other)
+    go (inl fits) (inl here) = inl (
+      here,
+      ap (λ (j : ℕ). station_at (slice_set stations k s) j) here
+          ∙ get_or-set_same stations k s no_station fits,
+    )
+
 pub with_station-append : (i : ℕ) (es fs : List LineExchange)
     → with_station i (es ++ fs) ≡ with_station i es ++ with_station i fs
 with_station-append i [] fs = refl

@@ -8,7 +8,7 @@ use Rattle.ft12.specs.declared.frame.Front.{Front}
 use Rattle.ft12.specs.declared.frame.Front.TheVariants.{Whole, More, Never}
 use Rattle.link.specs.Answers.{Asked, Answer, answer_of}
 use Rattle.std.specs.Io.Iter.{u64_saturate}
-use Rattle.link.specs.Exchanges.{OpenExchange, Exchanges, all_of, as_list, whole_of}
+use Rattle.link.specs.Exchanges.{Sending, OpenExchange, Exchanges, all_of, as_list, whole_of}
 use Rattle.link.specs.Exchanges.{received_octets, timed, timed_current, begun_by, spoilt_count}
 use Rattle.link.specs.Procedure.{LinkSettings, Link, Down, MaySend, after_outcome, after_silence}
 use Rattle.link.specs.Requests.{FitsAsked}
@@ -27,6 +27,8 @@ use Rattle.link.proofs.Links.{set_view, grown_keeps, begun_keeps, ended_links, a
 use Rattle.link.proofs.Flagging.{unanswered_flags, alike_flags}
 use Rattle.link.proofs.OneMore.{begun_sessions, alike_sessions}
 use Rattle.link.proofs.Spoilt.{open_push, answered_push, missed_push}
+use Rattle.link.specs.Turns.{CommandsWaiting}
+use Rattle.link.specs.Runs.{FitsLine}
 
 -- what `MatchesBy` says of the state, without the calls that led to it
 pub record SaysBy (front : List ℕ → Front) (settings : LinkSettings) (addresses : List ℕ)
@@ -274,20 +276,23 @@ answered_front front a x octets answer stable said = go (front x.octets) refl sa
 
 pub ask_says : (front : List ℕ → Front) (settings : LinkSettings) (addresses : List ℕ) (p : Primary)
     (e : Exchanges)
-    (now : ℕ) (may_poll : Bool) → IsStable front →
-    SaysBy front settings addresses p e → SaysBy front settings addresses (asked p now may_poll)
-    (begun_by now (sending p may_poll) e)
-ask_says front settings addresses p e now may_poll stable t = go p.outstanding refl
+    (now : ℕ) (may_poll : Bool) (waiting : CommandsWaiting) → IsStable front →
+    FitsLine p may_poll waiting → SaysBy front settings addresses p e → SaysBy front settings addresses (asked p now may_poll waiting)
+    (begun_by now (sending p may_poll waiting) e)
+ask_says front settings addresses p e now may_poll waiting stable carried t = go p.outstanding refl
   where
     go : (o : Option Outstanding) → p.outstanding ≡ o →
-        SaysBy front settings addresses (asked_from p o now may_poll)
-        (begun_by now (sending_from p o may_poll) e)
+        SaysBy front settings addresses (asked_from p o now may_poll waiting)
+        (begun_by now (sending_from p o may_poll waiting) e)
     go (Some o) is = t
-    go None is = choose (choice p may_poll) (choice_may p may_poll t.fits)
+    go None is = choose (choice p may_poll waiting) (choice_may p may_poll waiting t.fits)
+        (subst (λ (o : Option Outstanding). (s : Sending) → sending_from p o may_poll waiting
+        ≡ Some s → FitsAsked p.settings.size s.request) is carried)
       where
-        choose : (c : Option Chosen) → MayChooseIt p.settings.size p.stations c →
+        choose : (c : Option Chosen) → MayChooseIt p.stations c →
+            ((s : Sending) → sending_by c ≡ Some s → FitsAsked p.settings.size s.request) →
             SaysBy front settings addresses (after_choice p now c) (begun_by now (sending_by c) e)
-        choose None may = record {
+        choose None may fit = record {
           settings_are = t.settings_are;
           fits = record {
             turn = t.fits.turn;
@@ -305,7 +310,7 @@ ask_says front settings addresses p e now may_poll stable t = go p.outstanding r
           sessions = t.sessions;
           spoilt = t.spoilt;
         }
-        choose (Some c) may =
+        choose (Some c) may fit =
             let s : StationState = station_asked (station_at p.stations c.station)
             c.wanted.request in
             let x : OpenExchange = record {
@@ -329,7 +334,8 @@ ask_says front settings addresses p e now may_poll stable t = go p.outstanding r
                     t.fits.stations
                     (asked_fits p.settings.size (station_at p.stations c.station) c.wanted.request
                     there);
-                outstanding = may.fits;
+                outstanding =
+                    fit (record { station = c.station; request = c.wanted.request }) refl;
               };
               count = length-set p.stations c.station s ∙ t.count;
               address = λ i. set_view (λ (r : StationState). r.address) p.stations c.station s refl

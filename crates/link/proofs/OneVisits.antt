@@ -20,18 +20,17 @@ use Rattle.link.specs.Primary.{Outstanding, Primary, start, station_down, after_
 use Rattle.link.specs.Primary.{sending_by, sending_from, phase_after, station_asked}
 use Rattle.link.specs.Primary.{station_answered, station_unanswered, unanswered, answer_at, awaits}
 use Rattle.link.specs.Primary.{said_by, open_octets, took, with_octets, received_after}
-use Rattle.link.specs.Primary.{received_from, received, is_late, due_from, timed_out, may_offer}
-use Rattle.link.specs.Primary.{with_offer, offered_to, without_offer}
+use Rattle.link.specs.Primary.{received_from, received, is_late, due_from, timed_out}
 use Rattle.link.specs.Carried.{station_given_up, given_up}
 use Rattle.link.specs.Matching.{IsStable, MatchesBy, Matches}
-use Rattle.link.specs.Runs.{Call, Octets, Due, Offer, Withdraw, GivesUp, called, exchanged, MayCall}
+use Rattle.link.specs.Runs.{Call, Octets, Due, GivesUp, called, exchanged, MayCall}
 use Rattle.link.specs.Runs.{MayCallAll, BeginsTurn}
 use Rattle.link.specs.Runs as runs
 use Rattle.link.specs.Visits.{Left, whole_visit}
 use Rattle.link.specs.OneVisit.{Present, nothing_left, IsVisited, IsVisitedBy}
 use Rattle.link.specs.OneVisit.{VisitStep, TurnsAreVisits}
 use Rattle.link.proofs.Beginning.{IsBegun, none_known, begun_choice, begun_none, begun_awaits}
-use Rattle.link.proofs.Beginning.{begun_answered, begun_unanswered, begun_linked, withdrawn_link}
+use Rattle.link.proofs.Beginning.{begun_answered, begun_unanswered}
 use Rattle.link.proofs.Beginning.{begun_given_up, begun_start}
 use Rattle.link.proofs.Links.{set_view}
 use Rattle.link.proofs.Called.{start_matches}
@@ -42,6 +41,7 @@ use Rattle.link.proofs.Visiting.{IsRepeatable, Follows, FollowsIt, over_wants, r
 use Rattle.link.proofs.Visiting.{begin_follows}
 use Rattle.link.proofs.VisitAsked.{FitsPhase, MayBeThere, rest_there, may_want}
 use Rattle.link.proofs.Statuses.{answered_ready, missed_ready}
+use Rattle.link.specs.Turns.{CommandsWaiting}
 
 -- the machine stands in this visit
 pub record IsAt (p : Primary) (v : Present) : Type 0 where
@@ -53,27 +53,27 @@ pub record IsAt (p : Primary) (v : Present) : Type 0 where
 -- ---- `next`
 
 -- a held service that goes out in a turn has a repeat left
-repeats_left : (settings : LinkSettings) (may_poll again : Bool) (s : StationState) (link : Link)
+repeats_left : (settings : LinkSettings) (may_poll again : Bool) (s : StationState) (command : Option (List ℕ)) (link : Link)
     (phase : Phase) (left : Left) (w : Wanted) → IsReady settings again phase link left
-    → wanted_by settings.burst may_poll again s link phase ≡ Some w → is_held link ≡ true
+    → wanted_by settings.burst may_poll again s command link phase ≡ Some w → is_held link ≡ true
     → has_repeats settings link ≡ true
-repeats_left settings may_poll again s Down phase left w ready is held = cc
-repeats_left settings may_poll again s Available phase left w ready is held = cc
-repeats_left settings may_poll again s (Next fcb) phase left w ready is held = cc
-repeats_left settings may_poll again s (Held fcb service missed) phase left w (over o a) is held =
-    let none : wanted_by settings.burst may_poll again s (Held fcb service missed) phase ≡ None =
-    ap (λ (b : Bool). wanted_by settings.burst may_poll b s (Held fcb service missed) phase) a
-    ∙ ap (λ (f : Phase). wanted_by settings.burst may_poll false s (Held fcb service missed) f) o
-    ∙ over_wants settings.burst may_poll s (Held fcb service missed) in
+repeats_left settings may_poll again s command Down phase left w ready is held = cc
+repeats_left settings may_poll again s command Available phase left w ready is held = cc
+repeats_left settings may_poll again s command (Next fcb) phase left w ready is held = cc
+repeats_left settings may_poll again s command (Held fcb service missed) phase left w (over o a) is held =
+    let none : wanted_by settings.burst may_poll again s command (Held fcb service missed) phase ≡ None =
+    ap (λ (b : Bool). wanted_by settings.burst may_poll b s command (Held fcb service missed) phase) a
+    ∙ ap (λ (f : Phase). wanted_by settings.burst may_poll false s command (Held fcb service missed) f) o
+    ∙ over_wants settings.burst may_poll s command (Held fcb service missed) in
     let no : None ≡ Some w = sym none ∙ is in cc
-repeats_left settings may_poll again s (Held fcb service missed) phase left w (starting o plan) is
+repeats_left settings may_poll again s command (Held fcb service missed) phase left w (starting o plan) is
     held = absurd plan
-repeats_left settings may_poll again s (Held fcb service missed) phase left w (serving plan more) is
+repeats_left settings may_poll again s command (Held fcb service missed) phase left w (serving plan more) is
     held = go again phase plan more is
   where
     go : (b : Bool) (f : Phase) → HasPlan settings.burst f left.plan
         → (b ≡ true → IsRepeatable settings (Held fcb service missed) left)
-        → wanted_by settings.burst may_poll b s (Held fcb service missed) f ≡ Some w
+        → wanted_by settings.burst may_poll b s command (Held fcb service missed) f ≡ Some w
         → nat_le missed settings.retries ≡ true
     go true f has few e = let le : missed ≤ settings.retries = (few refl).more in grind (arith, le)
     go false Starting has few e = absurd has
@@ -83,29 +83,29 @@ repeats_left settings may_poll again s (Held fcb service missed) phase left w (s
     go false (Class1Polling sent) has few e = cc
 
 -- the visit after a call of `next`
-pub record Visited (p : Primary) (now : ℕ) (may_poll : Bool) (v : Present)
+pub record Visited (p : Primary) (now : ℕ) (may_poll : Bool) (waiting : CommandsWaiting) (v : Present)
     (o : Option Outstanding) : Type 0 where
   pub after : Present
-  pub visited : IsVisitedBy p may_poll o v after
-  pub at : IsAt (asked_from p o now may_poll) after
+  pub visited : IsVisitedBy p may_poll waiting o v after
+  pub at : IsAt (asked_from p o now may_poll waiting) after
 
 module _ (front : List ℕ → Front) (addresses : List ℕ) (p : Primary) (e : Exchanges) (v : Present)
-    (now : ℕ) (may_poll : Bool) (some : 0 < p.settings.burst)
+    (now : ℕ) (may_poll : Bool) (waiting : CommandsWaiting) (some : 0 < p.settings.burst)
     (t : MatchesBy front p.settings addresses p e) (is_at : IsAt p v)
     (free : p.outstanding ≡ None) where
   ready : IsReady p.settings p.again p.phase (station_at p.stations p.turn).link v.left
   ready = subst (λ (o : Option Outstanding). FitsPhase p.settings o p.again p.phase
       (station_at p.stations p.turn).link v.left) free is_at.fits
 
-  goes : (w : Wanted) → present p may_poll ≡ Some w
-      → (after : Present) × IsVisited p may_poll
+  goes : (w : Wanted) → present p may_poll waiting ≡ Some w
+      → (after : Present) × IsVisited p may_poll waiting
       (Some (record { station = p.turn; request = w.request })) v after
       × IsAt (after_choice p now (Some (record { station = p.turn; wanted = w }))) after
   goes w is =
       let s : StationState = station_asked (station_at p.stations p.turn) w.request in
       let f : Follows p.settings (station_at p.stations p.turn).link v.left w =
       subst (λ (x : Option Wanted). FollowsIt p.settings (station_at p.stations p.turn).link v.left
-      x) is (ready_follows p.settings may_poll p.again (station_at p.stations p.turn)
+      x) is (ready_follows p.settings may_poll p.again (station_at p.stations p.turn) (waiting p.turn)
       (station_at p.stations p.turn).link p.phase v.left some ready) in (
         record { station = p.turn; left = f.later },
         (
@@ -113,7 +113,7 @@ module _ (front : List ℕ → Front) (addresses : List ℕ) (p : Primary) (e : 
           inl (
             is_at.turn,
             repeats_left p.settings may_poll p.again
-                (station_at p.stations p.turn) (station_at p.stations p.turn).link p.phase v.left w
+                (station_at p.stations p.turn) (waiting p.turn) (station_at p.stations p.turn).link p.phase v.left w
                 ready is,
             f.follow,
           ),
@@ -126,25 +126,25 @@ module _ (front : List ℕ → Front) (addresses : List ℕ) (p : Primary) (e : 
                 (sym (set_view (λ (r : StationState). r.link) p.stations p.turn s refl p.turn))
                 f.awaits,
           );
-          begun = begun_choice p now may_poll p.again p.phase
+          begun = begun_choice p now may_poll waiting p.again p.phase
               (record { station = p.turn; wanted = w }) is
-              (may_want p e front addresses may_poll p.again p.turn p.phase w t t.fits.turn is)
+              (may_want p e front addresses may_poll waiting p.again p.turn p.phase w t t.fits.turn is)
               is_at.begun.away;
         },
       )
 
-  begins_by : (c : Chosen) → present p may_poll ≡ None
-      → IsFound p.settings.burst may_poll p.stations (length p.stations) p.turn c
+  begins_by : (c : Chosen) → present p may_poll waiting ≡ None
+      → IsFound p.settings.burst may_poll p.stations waiting (length p.stations) p.turn c
       → c.station < length p.stations
-      → (after : Present) × IsVisited p may_poll
+      → (after : Present) × IsVisited p may_poll waiting
       (Some (record { station = c.station; request = c.wanted.request })) v after
       × IsAt (after_choice p now (Some c)) after
   begins_by c gone f within =
-      let fresh = none_known p may_poll free gone is_at.begun in
+      let fresh = none_known p may_poll waiting free gone is_at.begun in
       let s : StationState = station_asked (station_at p.stations c.station) c.wanted.request in
-      let begun : BeginsTurn (record p { turn = v.station }) may_poll
+      let begun : BeginsTurn (record p { turn = v.station }) may_poll waiting
       (record { station = c.station; request = c.wanted.request }) =
-      subst (λ (n : ℕ). BeginsTurn (record p { turn = n }) may_poll
+      subst (λ (n : ℕ). BeginsTurn (record p { turn = n }) may_poll waiting
       (record { station = c.station; request = c.wanted.request })) is_at.turn
       (record {
         steps = f.steps;
@@ -159,7 +159,7 @@ module _ (front : List ℕ → Front) (addresses : List ℕ) (p : Primary) (e : 
       (whole_visit p.settings (station_at p.stations c.station).link) c.wanted =
       subst (λ (x : Option Wanted). FollowsIt p.settings (station_at p.stations c.station).link
       (whole_visit p.settings (station_at p.stations c.station).link) x) f.first
-      (begin_follows p.settings may_poll (station_at p.stations c.station)
+      (begin_follows p.settings may_poll (station_at p.stations c.station) (waiting c.station)
       (station_at p.stations c.station).link some (fresh c.station)) in (
         record { station = c.station; left = g.later },
         (refl, inr (begun, g.follow)),
@@ -172,18 +172,18 @@ module _ (front : List ℕ → Front) (addresses : List ℕ) (p : Primary) (e : 
                 c.station))
                 g.awaits,
           );
-          begun = begun_choice p now may_poll false Starting c f.first
-              (may_want p e front addresses may_poll false c.station Starting c.wanted t within
+          begun = begun_choice p now may_poll waiting false Starting c f.first
+              (may_want p e front addresses may_poll waiting false c.station Starting c.wanted t within
               f.first)
               (λ i known. absurd (fresh i known));
         },
       )
 
   abbrev rest : Option Chosen
-  rest = first_after p.settings.burst may_poll p.stations (length p.stations) p.turn
+  rest = first_after p.settings.burst may_poll p.stations waiting (length p.stations) p.turn
 
-  by_rest : present p may_poll ≡ None → (r : Option Chosen) → rest ≡ r → MayBeThere p r
-      → (after : Present) × IsVisited p may_poll (sending_by r) v after
+  by_rest : present p may_poll waiting ≡ None → (r : Option Chosen) → rest ≡ r → MayBeThere p r
+      → (after : Present) × IsVisited p may_poll waiting (sending_by r) v after
       × IsAt (after_choice p now r) after
   by_rest gone None is there = (
     record { station = v.station; left = nothing_left },
@@ -192,37 +192,37 @@ module _ (front : List ℕ → Front) (addresses : List ℕ) (p : Primary) (e : 
       turn = is_at.turn;
       fits = subst (λ (o : Option Outstanding). FitsPhase p.settings o false Over
           (station_at p.stations p.turn).link nothing_left) (sym free) (over refl refl);
-      begun = begun_none p now free (none_known p may_poll free gone is_at.begun);
+      begun = begun_none p now free (none_known p may_poll waiting free gone is_at.begun);
     },
   )
   by_rest gone (Some c) is there =
-      begins_by c gone (found p.settings.burst may_poll p.stations (length p.stations) p.turn c is)
+      begins_by c gone (found p.settings.burst may_poll p.stations waiting (length p.stations) p.turn c is)
       there
 
-  by_present : (w : Option Wanted) → present p may_poll ≡ w
-      → (after : Present) × IsVisited p may_poll (sending_by (chosen_or w p.turn rest)) v after
+  by_present : (w : Option Wanted) → present p may_poll waiting ≡ w
+      → (after : Present) × IsVisited p may_poll waiting (sending_by (chosen_or w p.turn rest)) v after
       × IsAt (after_choice p now (chosen_or w p.turn rest)) after
-  by_present None is = by_rest is rest refl (rest_there front addresses p e may_poll t)
+  by_present None is = by_rest is rest refl (rest_there front addresses p e may_poll waiting t)
   by_present (Some w) is = goes w is
 
-  freed : Visited p now may_poll v None
+  freed : Visited p now may_poll waiting v None
   freed =
-      let found = by_present (present p may_poll) refl in
+      let found = by_present (present p may_poll waiting) refl in
       record {
         after = found.0;
-        visited = subst (λ (s : Option Sending). IsVisited p may_poll s v found.0)
-            (sym (ap (λ (o : Option Outstanding). sending_from p o may_poll) free)) found.1;
+        visited = subst (λ (s : Option Sending). IsVisited p may_poll waiting s v found.0)
+            (sym (ap (λ (o : Option Outstanding). sending_from p o may_poll waiting) free)) found.1;
         at = found.2;
       }
 
 next_visit : (front : List ℕ → Front) (addresses : List ℕ) (p : Primary) (e : Exchanges)
-    (v : Present) (now : ℕ) (may_poll : Bool) → 0 < p.settings.burst
+    (v : Present) (now : ℕ) (may_poll : Bool) (waiting : CommandsWaiting) → 0 < p.settings.burst
     → MatchesBy front p.settings addresses p e → IsAt p v
-    → Visited p now may_poll v p.outstanding
-next_visit front addresses p e v now may_poll some t is_at = go p.outstanding refl
+    → Visited p now may_poll waiting v p.outstanding
+next_visit front addresses p e v now may_poll waiting some t is_at = go p.outstanding refl
   where
-    go : (o : Option Outstanding) → p.outstanding ≡ o → Visited p now may_poll v o
-    go None is = freed front addresses p e v now may_poll some t is_at is
+    go : (o : Option Outstanding) → p.outstanding ≡ o → Visited p now may_poll waiting v o
+    go None is = freed front addresses p e v now may_poll waiting some t is_at is
     go (Some o) is = record { after = v; visited = refl; at = is_at }
 
 -- ---- the other calls
@@ -318,30 +318,6 @@ due_stays p moment v within is_at = go p.outstanding refl
               begun = begun_unanswered p q within is_at.begun;
             }
 
-linked_stays : (p : Primary) (stations : List StationState) (v : Present)
-    → ((i : ℕ) → (station_at stations i).link ≡ (station_at p.stations i).link)
-    → IsAt p v → IsAt (record p { stations = stations }) v
-linked_stays p stations v same is_at = record {
-  turn = is_at.turn;
-  fits = subst (λ (l : Link). FitsPhase p.settings p.outstanding p.again p.phase l v.left)
-      (sym (same p.turn)) is_at.fits;
-  begun = begun_linked p stations same is_at.begun;
-}
-
-offer_stays : (p : Primary) (station : ℕ) (asdu : List ℕ) (v : Present) → IsAt p v
-    → IsAt (offered_to p station asdu) v
-offer_stays p station asdu v is_at = go (may_offer p station)
-  where
-    go : (b : Bool) → IsAt (if b then record p {
-      stations = slice_set p.stations station
-          (with_offer (station_at p.stations station) (Some asdu));
-    } else p) v
-    go false = is_at
-    go true =
-        linked_stays p (slice_set p.stations station
-        (with_offer (station_at p.stations station) (Some asdu))) v
-        (set_view (λ (r : StationState). r.link) p.stations station _ refl) is_at
-
 given_up_stays : (p : Primary) (k : ℕ) (v : Present) → k < length p.stations → IsAt p v
     → IsAt (given_up k p) v
 given_up_stays p k v within is_at = record {
@@ -372,8 +348,8 @@ pub record Stepped (p : Primary) (call : Call) (v : Present) : Type 0 where
 step : (settings : LinkSettings) (addresses : List ℕ) (p : Primary) (e : Exchanges) (v : Present)
     (call : Call) → 0 < settings.burst → MayCall p call → Matches settings addresses p e → IsAt p v
     → Stepped p call v
-step settings addresses p e v (runs.Next now may_poll) some may t is_at =
-    let n = next_visit (front_of settings.size) addresses p e v now may_poll
+step settings addresses p e v (runs.Next now may_poll waiting) some may t is_at =
+    let n = next_visit (front_of settings.size) addresses p e v now may_poll waiting
     (subst (λ (s : LinkSettings). 0 < s.burst) (sym t.settings_are) some)
     (subst (λ (s : LinkSettings). MatchesBy (front_of settings.size) s addresses p e)
     (sym t.settings_are) t) is_at in
@@ -385,13 +361,6 @@ step settings addresses p e v (Octets octets) some may t is_at = record {
 }
 step settings addresses p e v (Due moment) some may t is_at =
     record { after = v; step = refl; at = due_stays p moment v t.fits.turn is_at }
-step settings addresses p e v (Offer station asdu) some may t is_at =
-    record { after = v; step = refl; at = offer_stays p station asdu v is_at }
-step settings addresses p e v Withdraw some may t is_at = record {
-  after = v;
-  step = refl;
-  at = linked_stays p (map without_offer p.stations) v (withdrawn_link p.stations) is_at;
-}
 step settings addresses p e v (GivesUp station) some may t is_at =
     record { after = v; step = refl; at = given_up_stays p station v may is_at }
 

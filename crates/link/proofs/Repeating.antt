@@ -1,7 +1,7 @@
 -- What goes out at once: repeats.
 use Rattle.std.specs.Prelude.{◌==◌}
 use Rattle.std.proofs.Common.{◌≡◌, ℕ, suc, ◌<◌, ◌≤◌, nat_lt, Bool, true, false, List, [], ◌∷◌, ◌++◌}
-use Rattle.std.proofs.Common.{length, slice_set, map, Option, Some, None, refl, sym, ap, subst, ◌∙◌}
+use Rattle.std.proofs.Common.{length, slice_set, Option, Some, None, refl, sym, ap, subst, ◌∙◌}
 use Rattle.std.proofs.Common.{◌⊎◌, inl, inr, if◌then◌else◌}
 use Rattle.std.proofs.lemmas.Bool.{cases_lt, eqb-true, eqb-false}
 use Rattle.std.proofs.lemmas.List.{get_or-set_same, get_or-set_other, get_or_past, set_past}
@@ -20,17 +20,17 @@ use Rattle.link.specs.Primary.{Outstanding, Primary, start, sending_by, sending_
 use Rattle.link.specs.Primary.{phase_after, answer_at, answered, station_answered, said_by}
 use Rattle.link.specs.Primary.{open_octets, took, with_octets, received_after, received_from}
 use Rattle.link.specs.Primary.{received, station_unanswered, unanswered, is_late, due_from}
-use Rattle.link.specs.Primary.{timed_out, may_offer, with_offer, without_offer, offered_to}
+use Rattle.link.specs.Primary.{timed_out}
 use Rattle.link.specs.Carried.{station_given_up, given_up}
-use Rattle.link.specs.Runs.{Call, Octets, Due, Offer, Withdraw, GivesUp, called}
+use Rattle.link.specs.Runs.{Call, Octets, Due, GivesUp, called}
 use Rattle.link.specs.Runs as runs
 use Rattle.link.specs.Bursts.{is_answered}
 use Rattle.link.specs.AtOnce.{latest_after, RepeatIsNext, RepeatsComeAtOnce}
-use Rattle.link.proofs.Leaving.{set_none, without_links}
-use Rattle.link.proofs.Links.{set_view}
+use Rattle.link.proofs.Leaving.{set_none}
 use Rattle.link.proofs.Bursting.{not_both, silent_down}
 use Rattle.link.proofs.Following.{Follows, begun, State, waits, ended, Matches, none_out}
 use Rattle.link.proofs.Following.{asked_matches}
+use Rattle.link.specs.Turns.{CommandsWaiting}
 
 -- ---- an answer
 
@@ -265,31 +265,6 @@ due_matches p at latest matches = go p.outstanding refl
 
 -- ---- the other calls
 
--- Only what is offered is another.
-offers_match : (p : Primary) (stations : List StationState) (latest : Option Sending)
-    → (station_at stations p.turn).link ≡ (station_at p.stations p.turn).link → Matches p latest
-    → Matches (record p { stations = stations }) latest
-offers_match p stations None same matches = matches
-offers_match p stations (Some s) same (turn, state) = (
-  turn,
-  subst (λ (l : Link). State p.settings p.outstanding p.again p.phase l s.request) (sym same) state,
-)
-
-offer_matches : (p : Primary) (i : ℕ) (asdu : List ℕ) (latest : Option Sending) → Matches p latest
-    → Matches (offered_to p i asdu) latest
-offer_matches p i asdu latest matches = go (may_offer p i)
-  where
-    go : (b : Bool) → Matches (if b then record p {
-      stations = slice_set p.stations i (with_offer (station_at p.stations i) (Some asdu));
-    } else p) latest
-    go true =
-        offers_match p (slice_set p.stations i (with_offer (station_at p.stations i) (Some asdu)))
-        latest
-        (set_view (λ (s : StationState). s.link) p.stations i
-        (with_offer (station_at p.stations i) (Some asdu)) refl p.turn)
-        matches
-    go false = matches
-
 -- Where the link of the station is given up, its request is over.
 give_up_matches : (p : Primary) (k : ℕ) (latest : Option Sending) → Matches p latest
     → Matches (given_up k p) latest
@@ -329,13 +304,10 @@ give_up_matches p k (Some s) (turn, state) = (turn, go (p.turn == k) refl)
 
 pub call_matches : (p : Primary) (latest : Option Sending) (call : Call) → Matches p latest
     → Matches (called p call) (latest_after p call latest)
-call_matches p latest (runs.Next now may_poll) matches = asked_matches p latest now may_poll matches
+call_matches p latest (runs.Next now may_poll waiting) matches = asked_matches p latest now may_poll waiting matches
 call_matches p latest (Octets octets) matches =
     octets_match (front_of p.settings.size) p octets latest matches
 call_matches p latest (Due now) matches = due_matches p now latest matches
-call_matches p latest (Offer station asdu) matches = offer_matches p station asdu latest matches
-call_matches p latest Withdraw matches =
-    offers_match p (map without_offer p.stations) latest (without_links p.stations p.turn) matches
 call_matches p latest (GivesUp station) matches = give_up_matches p station latest matches
 
 -- ---- the repeat
@@ -347,53 +319,51 @@ held_by settings Down has = let no : ⊥ = cc in absurd no
 held_by settings Available has = let no : ⊥ = cc in absurd no
 held_by settings (Next fcb) has = let no : ⊥ = cc in absurd no
 
-again_wanted : (burst : ℕ) (may_poll : Bool) (s : StationState) (link : Link) (phase : Phase)
+again_wanted : (burst : ℕ) (may_poll : Bool) (s : StationState) (command : Option (List ℕ)) (link : Link) (phase : Phase)
     → is_held link ≡ true → Follows (held_request link) phase
-    → wanted_by burst may_poll true s link phase ≡ wants (held_request link) phase
-again_wanted burst may_poll s (Held fcb service missed) Starting held follows =
+    → wanted_by burst may_poll true s command link phase ≡ wants (held_request link) phase
+again_wanted burst may_poll s command (Held fcb service missed) Starting held follows =
     absurd (begun fcb service Starting follows)
-again_wanted burst may_poll s (Held fcb service missed) Commanding held follows = refl
-again_wanted burst may_poll s (Held fcb service missed) Polling held follows = refl
-again_wanted burst may_poll s (Held fcb service missed) (Class1Polling sent) held follows = refl
-again_wanted burst may_poll s (Held fcb service missed) Over held follows = refl
-again_wanted burst may_poll s Down phase held follows = let no : ⊥ = cc in absurd no
-again_wanted burst may_poll s Available phase held follows = let no : ⊥ = cc in absurd no
-again_wanted burst may_poll s (Next fcb) phase held follows = let no : ⊥ = cc in absurd no
+again_wanted burst may_poll s command (Held fcb service missed) Commanding held follows = refl
+again_wanted burst may_poll s command (Held fcb service missed) Polling held follows = refl
+again_wanted burst may_poll s command (Held fcb service missed) (Class1Polling sent) held follows = refl
+again_wanted burst may_poll s command (Held fcb service missed) Over held follows = refl
+again_wanted burst may_poll s command Down phase held follows = let no : ⊥ = cc in absurd no
+again_wanted burst may_poll s command Available phase held follows = let no : ⊥ = cc in absurd no
+again_wanted burst may_poll s command (Next fcb) phase held follows = let no : ⊥ = cc in absurd no
 
 -- What the present turn has next goes out.
-pub turn_sends : (p : Primary) (may_poll : Bool) (request : Asked) (following : Phase)
+pub turn_sends : (p : Primary) (may_poll : Bool) (waiting : CommandsWaiting) (request : Asked) (following : Phase)
     → p.outstanding ≡ None
-    → wanted p.settings.burst may_poll p.again (station_at p.stations p.turn) p.phase
+    → wanted p.settings.burst may_poll p.again (station_at p.stations p.turn) (waiting p.turn) p.phase
     ≡ wants request following
-    → sending p may_poll ≡ Some (record { station = p.turn; request = request })
-turn_sends p may_poll request following out is =
-    ap (λ (o : Option Outstanding). sending_from p o may_poll) out
+    → sending p may_poll waiting ≡ Some (record { station = p.turn; request = request })
+turn_sends p may_poll waiting request following out is =
+    ap (λ (o : Option Outstanding). sending_from p o may_poll waiting) out
     ∙ ap (λ (w : Option Wanted). sending_by (chosen_or w p.turn
-    (first_after p.settings.burst may_poll p.stations (length p.stations) p.turn))) is
+    (first_after p.settings.burst may_poll p.stations waiting (length p.stations) p.turn))) is
 
 repeats : (p : Primary) (latest : Option Sending) (call : Call) → Matches p latest
     → RepeatIsNext p latest call
-repeats p (Some s) (runs.Next now may_poll) (turn, waits o awaited same once follows new) =
+repeats p (Some s) (runs.Next now may_poll waiting) (turn, waits o awaited same once follows new) =
     λ out has. absurd (none_out p.outstanding o out awaited)
-repeats p (Some s) (runs.Next now may_poll) (turn, ended free more again_is go_on) = λ out has.
+repeats p (Some s) (runs.Next now may_poll waiting) (turn, ended free more again_is go_on) = λ out has.
     let has_here : has_repeats p.settings (station_at p.stations p.turn).link ≡ true =
     subst (λ (i : ℕ). has_repeats p.settings (station_at p.stations i).link ≡ true) (sym turn) has
     in
     let held = held_by p.settings (station_at p.stations p.turn).link has_here in
     let again = more has_here in
     let it = again_is again held in
-    let is = ap (λ (b : Bool). wanted p.settings.burst may_poll b (station_at p.stations p.turn)
+    let is = ap (λ (b : Bool). wanted p.settings.burst may_poll b (station_at p.stations p.turn) (waiting p.turn)
     p.phase) again
-    ∙ again_wanted p.settings.burst may_poll (station_at p.stations p.turn)
+    ∙ again_wanted p.settings.burst may_poll (station_at p.stations p.turn) (waiting p.turn)
     (station_at p.stations p.turn).link p.phase held
     (subst (λ (r : Asked). Follows r p.phase) it.1 it.0) in
-    turn_sends p may_poll (held_request (station_at p.stations p.turn).link) p.phase out is
+    turn_sends p may_poll waiting (held_request (station_at p.stations p.turn).link) p.phase out is
     ∙ ap (λ (r : Asked). Some (record { station = p.turn; request = r })) (sym it.1)
     ∙ ap (λ (i : ℕ). Some (record { station = i; request = s.request })) turn
 repeats p (Some s) (Octets octets) matches = tt
 repeats p (Some s) (Due now) matches = tt
-repeats p (Some s) (Offer station asdu) matches = tt
-repeats p (Some s) Withdraw matches = tt
 repeats p (Some s) (GivesUp station) matches = tt
 repeats p None call matches = tt
 

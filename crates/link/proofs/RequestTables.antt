@@ -5,10 +5,10 @@ use Rattle.std.proofs.Common.{arith, ◌∙◌, ◌⊎◌, inl, inr, if◌then�
 use Rattle.std.proofs.lemmas.Bool.{eq-eqb, ne_eqb}
 use Rattle.arrayvec.specs.ArrayVec.{ArrayVec}
 use Rattle.link.specs.Control.{is_primary}
-use Rattle.link.specs.Answers.{Single, Fixed, Data, Class1, Class2, Command, Asked, Status, Reset}
+use Rattle.link.specs.Answers.{Single, Fixed, Data, Class1, Class2, Command, Status, Reset}
 use Rattle.link.specs.Answers.{Counted}
 use Rattle.link.specs.Requests.{request_frame, short_by, short_reading, data_by, data_reading}
-use Rattle.link.specs.Requests.{counted_reading, plain_reading, comes_to, reading_of, Reading}
+use Rattle.link.specs.Requests.{plain_reading, comes_to, reading_of, Reading}
 use Rattle.link.specs.Requests.{Foreign, Unknown, Asks}
 use Rattle.link.specs.Secondary.{data_frame}
 use Rattle.link.specs.Tables.{plain_row, counted_row, reading_in}

@@ -7,19 +7,18 @@ use Rattle.link.specs.Procedure.{LinkSettings, Down, KeepsFrameCountBit}
 use Rattle.link.specs.Requests.{FitsAddress}
 use Rattle.link.specs.Primary.{Primary, start, timed_out}
 use Rattle.link.specs.Matching.{IsStable, AreSpoilt, Matches}
-use Rattle.link.specs.Runs.{Call, Next, Octets, Due, Offer, Withdraw, GivesUp, called, exchanged}
+use Rattle.link.specs.Runs.{Call, Next, Octets, Due, GivesUp, called, exchanged}
 use Rattle.link.specs.Runs.{MayCall, MayCallAll, called_all, exchanged_all}
 use Rattle.link.proofs.Called.{start_matches, receive_matches, due_matches, ask_matches}
-use Rattle.link.proofs.Called.{offer_matches}
-use Rattle.link.proofs.Called.{withdraw_matches, give_up_matches}
+use Rattle.link.proofs.Called.{give_up_matches}
 
 pub call_matches : (settings : LinkSettings) (addresses : List ℕ)
     → IsStable (front_of settings.size)
     → (p : Primary) (e : Exchanges) (call : Call) →
     MayCall p call → Matches settings addresses p e
     → Matches settings addresses (called p call) (exchanged p call e)
-call_matches settings addresses stable p e (Next now may_poll) may t =
-    ask_matches settings addresses p e now may_poll stable t
+call_matches settings addresses stable p e (Next now may_poll waiting) may t =
+    ask_matches settings addresses p e now may_poll waiting stable may t
 call_matches settings addresses stable p e (Octets octets) may t =
     receive_matches settings addresses p e octets stable t
 call_matches settings addresses stable p e (Due now) may t =
@@ -27,10 +26,6 @@ call_matches settings addresses stable p e (Due now) may t =
     (record { ended = e.ended; current = timed_current s.answer_ms now e.current }))
     (sym t.settings_are)
     (due_matches settings addresses p e now t)
-call_matches settings addresses stable p e (Offer station asdu) may t =
-    offer_matches settings addresses p e station asdu may.0 may.1 t
-call_matches settings addresses stable p e Withdraw may t =
-    withdraw_matches settings addresses p e t
 call_matches settings addresses stable p e (GivesUp station) may t =
     give_up_matches settings addresses p e station may t
 

@@ -1,6 +1,6 @@
 -- What is said of a link by numbers reads back.
 use Rattle.std.proofs.Common.{◌≡◌, ℕ, ◌<◌, ◌≤◌, ◌&&◌, nat_le, nat_lt, Bool, true, false, List, []}
-use Rattle.std.proofs.Common.{◌∷◌, ◌++◌, take, drop, length, Option, Some, None, ◌+◌, append_assoc}
+use Rattle.std.proofs.Common.{◌∷◌, ◌++◌, take, drop, length, Option, Some, ◌+◌, append_assoc}
 use Rattle.std.proofs.Common.{refl, sym, ap, ◌∙◌, arith}
 use Rattle.std.specs.List.{All, list_all}
 use Rattle.std.proofs.lemmas.List.Elements.{All-head, All-tail}
@@ -13,8 +13,8 @@ use Rattle.link.specs.Turns.{StationState, station_at, no_station}
 use Rattle.link.specs.Saved.{bit_number, bit_from, service_numbers, link_numbers, command_from}
 use Rattle.link.specs.Saved.{command_service, service_from, held_with, held_missed, link_from}
 use Rattle.link.specs.Saved.{FitsSavedCommand, FitsSavedService, FitsSavedLink, LinkReadsBack}
-use Rattle.link.specs.Saved.{FitsSavedOffer, FitsSavedStation, flags_numbers, offered_numbers}
-use Rattle.link.specs.Saved.{flags_from, offered_from, some_offer, station_by, StationReadsBack}
+use Rattle.link.specs.Saved.{FitsSavedStation, flags_numbers, flags_from, station_by}
+use Rattle.link.specs.Saved.{StationReadsBack}
 use Rattle.link.specs.Saved.{lines_of}
 
 pub bit_back : (b : Bool) → bit_from (bit_number b) ≡ Some b
@@ -64,50 +64,32 @@ bare_back : (s : StationState) → s.address < 65536
       link = Down;
       acd = s.acd;
       dfc = s.dfc;
-      offered =
-          None;
       session = s.session;
     })
 bare_back s lt =
     let on : nat_lt s.address 65536 ≡ true = grind arith in
     rw (bit_back s.acd, bit_back s.dfc, bit_back s.session.has_gap, on) refl
 
-offered_back : (offered : Option (List ℕ)) → FitsSavedOffer offered
-    → offered_from (offered_numbers offered) ≡ Some offered
-offered_back None fits = refl
-offered_back (Some asdu) fits = ap some_offer (command_back asdu fits)
-
 pub station_back : (s : StationState) → FitsSavedStation s → StationReadsBack s
 station_back s fits =
-    rw (bare_back s fits.address, link_back s.link fits.link, offered_back s.offered fits.offered)
-    refl
+    rw (bare_back s fits.address, link_back s.link fits.link) refl
 
 pub first_line : (s : StationState) (rest all behind : List (List ℕ)) (flags : List ℕ)
-    → all ≡ flags_numbers s ∷ link_numbers s.link ∷ offered_numbers s.offered ∷ rest
+    → all ≡ flags_numbers s ∷ link_numbers s.link ∷ rest
     → all ≡ flags ∷ behind
-    → (flags ≡ flags_numbers s) × (behind ≡ link_numbers s.link ∷ offered_numbers s.offered ∷ rest)
+    → (flags ≡ flags_numbers s) × (behind ≡ link_numbers s.link ∷ rest)
 first_line s rest all behind flags e h = (cc, cc)
 
 pub second_line : (s : StationState) (rest all behind : List (List ℕ)) (link : List ℕ)
-    → all ≡ link_numbers s.link ∷ offered_numbers s.offered ∷ rest → all ≡ link ∷ behind
-    → (link ≡ link_numbers s.link) × (behind ≡ offered_numbers s.offered ∷ rest)
+    → all ≡ link_numbers s.link ∷ rest → all ≡ link ∷ behind
+    → (link ≡ link_numbers s.link) × (behind ≡ rest)
 second_line s rest all behind link e h = (cc, cc)
-
-pub third_line : (s : StationState) (rest all behind : List (List ℕ)) (offered : List ℕ)
-    → all ≡ offered_numbers s.offered ∷ rest → all ≡ offered ∷ behind
-    → (offered ≡ offered_numbers s.offered) × (behind ≡ rest)
-third_line s rest all behind offered e h = (cc, cc)
 
 -- a fault at one of them is none
 pub no_link : (s : StationState) (ns : List ℕ) (r : Option Link) → FitsSavedStation s
     → ns ≡ link_numbers s.link
     → r ≡ link_from ns → r ≡ Some s.link
 no_link s ns r fits is e = e ∙ ap link_from is ∙ link_back s.link fits.link
-
-pub no_offered : (s : StationState) (ns : List ℕ) (r : Option (Option (List ℕ)))
-    → FitsSavedStation s
-    → ns ≡ offered_numbers s.offered → r ≡ offered_from ns → r ≡ Some s.offered
-no_offered s ns r fits is e = e ∙ ap offered_from is ∙ offered_back s.offered fits.offered
 
 pub no_bare : (s : StationState) (ns : List ℕ) (r : Option StationState) → FitsSavedStation s
     → ns ≡ flags_numbers s
@@ -117,45 +99,30 @@ pub no_bare : (s : StationState) (ns : List ℕ) (r : Option StationState) → F
       link = Down;
       acd = s.acd;
       dfc = s.dfc;
-      offered =
-          None;
       session = s.session;
     })
 no_bare s ns r fits is e = e ∙ ap flags_from is ∙ bare_back s fits.address
 
 -- what was read is the station
-pub joined : (s bare : StationState) (link : Link) (offered : Option (List ℕ))
-    (a : Option StationState)
-    (b : Option Link) (o : Option (Option (List ℕ)))
+pub joined : (s bare : StationState) (link : Link) (a : Option StationState) (b : Option Link)
     → a ≡ Some (record {
       address = s.address;
       link = Down;
       acd = s.acd;
       dfc = s.dfc;
-      offered =
-          None;
       session = s.session;
     })
-    → b ≡ Some s.link → o ≡ Some s.offered → a ≡ Some bare → b ≡ Some link → o ≡ Some offered
-    → station_by (Some bare) (Some link) (Some offered) ≡ Some s
-joined s bare link offered a b o ea eb eo fa fb fo =
-    ap (λ (x : Option StationState). station_by x (Some link) (Some offered)) (sym fa ∙ ea)
+    → b ≡ Some s.link → a ≡ Some bare → b ≡ Some link
+    → station_by (Some bare) (Some link) ≡ Some s
+joined s bare link a b ea eb fa fb =
+    ap (λ (x : Option StationState). station_by x (Some link)) (sym fa ∙ ea)
     ∙ ap (λ (x : Option Link). station_by (Some (record {
       address = s.address;
       link = Down;
       acd = s.acd;
       dfc = s.dfc;
-      offered = None;
       session = s.session;
-    })) x (Some offered)) (sym fb ∙ eb)
-    ∙ ap (λ (x : Option (Option (List ℕ))). station_by (Some (record {
-      address = s.address;
-      link = Down;
-      acd = s.acd;
-      dfc = s.dfc;
-      offered = None;
-      session = s.session;
-    })) (Some s.link) x) (sym fo ∙ eo)
+    })) x) (sym fb ∙ eb)
 
 pub some_same : (t s : StationState) → Some t ≡ Some s → t ≡ s
 some_same t s e = cc
@@ -163,8 +130,7 @@ some_same t s e = cc
 pub lines_of-append : (ss ts : List StationState) → lines_of (ss ++ ts) ≡ lines_of ss ++ lines_of ts
 lines_of-append [] ts = refl
 lines_of-append (s ∷ ss) ts =
-    ap (λ (l : List (List ℕ)). flags_numbers s ∷ link_numbers s.link ∷ offered_numbers s.offered
-    ∷ l)
+    ap (λ (l : List (List ℕ)). flags_numbers s ∷ link_numbers s.link ∷ l)
     (lines_of-append ss ts)
 
 pub put_one_more : (old new : List (List ℕ)) (ss : List StationState) (i : ℕ) (s : StationState)
@@ -187,7 +153,7 @@ fits_at (s ∷ ss) (suc i) all lt = fits_at ss i all.1 (omega arith)
 pub lines_at : (ss : List StationState) (i : ℕ) (rest : List (List ℕ)) → i < length ss
     → lines_of (drop i ss) ++ rest
     ≡ flags_numbers (station_at ss i) ∷ link_numbers (station_at ss i).link
-    ∷ offered_numbers (station_at ss i).offered ∷ (lines_of (drop (i + 1) ss) ++ rest)
+    ∷ (lines_of (drop (i + 1) ss) ++ rest)
 lines_at ss i rest lt = ap (λ (ts : List StationState). lines_of ts ++ rest)
     (drop_more ss i no_station lt)
 

@@ -11,9 +11,9 @@ use Rattle.link.specs.Turns.{Chosen}
 use Rattle.link.specs.Primary.{Outstanding, Primary, choice, after_choice, asked_from, sending_by}
 use Rattle.link.specs.Primary.{sending_from, answer_at, said_by, open_octets, took, with_octets}
 use Rattle.link.specs.Primary.{received_after, received_from, is_late, due_from, unanswered}
-use Rattle.link.specs.Primary.{may_offer, offered_to}
-use Rattle.link.specs.Runs.{Call, Next, Octets, Due, Offer, Withdraw, GivesUp, called}
+use Rattle.link.specs.Runs.{Call, Next, Octets, Due, GivesUp, called}
 use Rattle.link.specs.Timing.{since_by, since_after, EndsInTime, AnswersHaveTheirTime}
+use Rattle.link.specs.Turns.{CommandsWaiting}
 
 -- What is outstanding went out at this moment.
 abbrev pub IsSince : Option Outstanding → Option ℕ → Type 0
@@ -23,11 +23,11 @@ IsSince (Some o) since = since ≡ Some o.since
 any_time : (since : Option ℕ) (o : Option Outstanding) → o ≡ None → IsSince o since
 any_time since o none = subst (λ (x : Option Outstanding). IsSince x since) (sym none) tt
 
-next_since : (p : Primary) (now : ℕ) (may_poll : Bool) (since : Option ℕ)
+next_since : (p : Primary) (now : ℕ) (may_poll : Bool) (waiting : CommandsWaiting) (since : Option ℕ)
     → IsSince p.outstanding since
-    → IsSince (asked_from p p.outstanding now may_poll).outstanding
-    (since_by (sending_from p p.outstanding may_poll) now since)
-next_since p now may_poll since is = go p.outstanding refl
+    → IsSince (asked_from p p.outstanding now may_poll waiting).outstanding
+    (since_by (sending_from p p.outstanding may_poll waiting) now since)
+next_since p now may_poll waiting since is = go p.outstanding refl
   where
     by : (c : Option Chosen) → p.outstanding ≡ None
         → IsSince (after_choice p now c).outstanding (since_by (sending_by c) now since)
@@ -35,10 +35,10 @@ next_since p now may_poll since is = go p.outstanding refl
     by (Some c) none = refl
 
     go : (o : Option Outstanding) → p.outstanding ≡ o
-        → IsSince (asked_from p o now may_poll).outstanding
-        (since_by (sending_from p o may_poll) now since)
+        → IsSince (asked_from p o now may_poll waiting).outstanding
+        (since_by (sending_from p o may_poll waiting) now since)
     go (Some o) e = is
-    go None e = by (choice p may_poll) e
+    go None e = by (choice p may_poll waiting) e
 
 said_since : (p : Primary) (o : Outstanding) (frame : Frame) (since : Option ℕ)
     → since ≡ Some o.since → (m : Option Answer) → IsSince (said_by p o frame m).outstanding since
@@ -76,17 +76,10 @@ due_since p at since (Some o) e is = go (is_late p o at)
 
 call_since : (p : Primary) (call : Call) (since : Option ℕ) → IsSince p.outstanding since
     → IsSince (called p call).outstanding (since_after p call since)
-call_since p (Next now may_poll) since is = next_since p now may_poll since is
+call_since p (Next now may_poll waiting) since is = next_since p now may_poll waiting since is
 call_since p (Octets octets) since is =
     octets_since (front_of p.settings.size) p octets since p.outstanding refl is
 call_since p (Due at) since is = due_since p at since p.outstanding refl is
-call_since p (Offer station asdu) since is = go (may_offer p station) refl
-  where
-    go : (b : Bool) → may_offer p station ≡ b
-        → IsSince (offered_to p station asdu).outstanding since
-    go true e = rw e is
-    go false e = rw e is
-call_since p Withdraw since is = is
 call_since p (GivesUp station) since is = go (p.turn == station)
   where
     go : (b : Bool) → IsSince (if b then None else p.outstanding) since
@@ -112,10 +105,8 @@ in_time : (p : Primary) (call : Call) (since : Option ℕ) → IsSince p.outstan
     → EndsInTime p since call
 in_time p call None is = tt
 in_time p (Due at) (Some since) is = ends p since at p.outstanding refl is
-in_time p (Next now may_poll) (Some since) is = tt
+in_time p (Next now may_poll waiting) (Some since) is = tt
 in_time p (Octets octets) (Some since) is = tt
-in_time p (Offer station asdu) (Some since) is = tt
-in_time p Withdraw (Some since) is = tt
 in_time p (GivesUp station) (Some since) is = tt
 
 pub all_in_time : (p : Primary) (since : Option ℕ) (calls : List Call)

@@ -9,37 +9,39 @@ use Rattle.link.specs.Answers.{Status}
 use Rattle.link.specs.Procedure.{LinkSettings}
 use Rattle.link.specs.Primary.{Outstanding, Primary, sending_by, sending_from, sending, start}
 use Rattle.link.specs.Runs.{nth_after, BeginsTurn, HaveNone}
+use Rattle.link.specs.Turns.{CommandsWaiting}
 
 -- the first of so many stations after a place that has a request
-pub record IsFound (burst : ℕ) (may_poll : Bool) (stations : List StationState) (many place : ℕ)
+pub record IsFound (burst : ℕ) (may_poll : Bool) (stations : List StationState)
+    (waiting : CommandsWaiting) (many place : ℕ)
     (c : Chosen) : Type 0 where
   pub steps : ℕ
   pub within : steps < many
   pub station : c.station ≡ nth_after (length stations) place (suc steps)
-  pub first : wanted burst may_poll false (station_at stations c.station) Starting ≡ Some c.wanted
+  pub first : wanted burst may_poll false (station_at stations c.station) (waiting c.station) Starting ≡ Some c.wanted
   pub nearer : (n : ℕ) → n < steps → wanted burst may_poll false
-      (station_at stations (nth_after (length stations) place (suc n))) Starting ≡ None
+      (station_at stations (nth_after (length stations) place (suc n))) (waiting (nth_after (length stations) place (suc n))) Starting ≡ None
 
-pub found : (burst : ℕ) (may_poll : Bool) (stations : List StationState) (many place : ℕ)
+pub found : (burst : ℕ) (may_poll : Bool) (stations : List StationState)
+    (waiting : CommandsWaiting) (many place : ℕ)
     (c : Chosen)
-    → first_after burst may_poll stations many place ≡ Some c →
-    IsFound burst may_poll stations many place c
-found burst may_poll stations zero place c is = cc
-found burst may_poll stations (suc many) place c is =
-    go (λ rest. found burst may_poll stations many (place_after (length stations) place) c rest)
-    (wanted burst may_poll false (station_at stations (place_after (length stations) place))
-    Starting) refl is
+    → first_after burst may_poll stations waiting many place ≡ Some c →
+    IsFound burst may_poll stations waiting many place c
+found burst may_poll stations waiting zero place c is = cc
+found burst may_poll stations waiting (suc many) place c is =
+    go (λ rest. found burst may_poll stations waiting many (place_after (length stations) place) c rest)
+    (wanted burst may_poll false (station_at stations (place_after (length stations) place)) (waiting (place_after (length stations) place)) Starting) refl is
   where
-    go : (first_after burst may_poll stations many (place_after (length stations) place) ≡ Some c →
-        IsFound burst may_poll stations many (place_after (length stations) place) c) →
+    go : (first_after burst may_poll stations waiting many (place_after (length stations) place) ≡ Some c →
+        IsFound burst may_poll stations waiting many (place_after (length stations) place) c) →
         (w : Option Wanted) → wanted burst may_poll false
-        (station_at stations (place_after (length stations) place)) Starting ≡ w →
+        (station_at stations (place_after (length stations) place)) (waiting (place_after (length stations) place)) Starting ≡ w →
         chosen_or w (place_after (length stations) place)
-        (first_after burst may_poll stations many (place_after (length stations) place)) ≡ Some c →
-        IsFound burst may_poll stations (suc many) place c
+        (first_after burst may_poll stations waiting many (place_after (length stations) place)) ≡ Some c →
+        IsFound burst may_poll stations waiting (suc many) place c
     go later (Some w) e some =
         let same : record { station = place_after (length stations) place; wanted = w } ≡ c = cc in
-        subst (λ (d : Chosen). IsFound burst may_poll stations (suc many) place d) same
+        subst (λ (d : Chosen). IsFound burst may_poll stations waiting (suc many) place d) same
         (record {
           steps = 0;
           within = omega arith;
@@ -62,76 +64,75 @@ found burst may_poll stations (suc many) place c is =
         nearer : (steps : ℕ) →
             ((n : ℕ) → n < steps → wanted burst may_poll false
             (station_at stations (nth_after (length stations) (place_after (length stations) place)
-            (suc n)))
-            Starting ≡ None) →
+            (suc n))) (waiting (nth_after (length stations) (place_after (length stations) place)
+            (suc n))) Starting ≡ None) →
             (n : ℕ) → n < suc steps → wanted burst may_poll false
-            (station_at stations (nth_after (length stations) place (suc n))) Starting ≡ None
+            (station_at stations (nth_after (length stations) place (suc n))) (waiting (nth_after (length stations) place (suc n))) Starting ≡ None
         nearer steps rest zero lt = e
         nearer steps rest (suc n) lt = rest n (omega (arith, lt))
 
-none_found : (burst : ℕ) (may_poll : Bool) (stations : List StationState) (many place : ℕ)
-    → first_after burst may_poll stations many place ≡ None →
+none_found : (burst : ℕ) (may_poll : Bool) (stations : List StationState)
+    (waiting : CommandsWaiting) (many place : ℕ)
+    → first_after burst may_poll stations waiting many place ≡ None →
     (n : ℕ) → n < many
-    → wanted burst may_poll false (station_at stations (nth_after (length stations) place (suc n)))
-    Starting ≡ None
-none_found burst may_poll stations zero place is n lt = absurd (omega (arith, lt))
-none_found burst may_poll stations (suc many) place is n lt =
-    go (λ rest m less. none_found burst may_poll stations many (place_after (length stations) place)
+    → wanted burst may_poll false (station_at stations (nth_after (length stations) place (suc n))) (waiting (nth_after (length stations) place (suc n))) Starting ≡ None
+none_found burst may_poll stations waiting zero place is n lt = absurd (omega (arith, lt))
+none_found burst may_poll stations waiting (suc many) place is n lt =
+    go (λ rest m less. none_found burst may_poll stations waiting many (place_after (length stations) place)
     rest m less)
-    (wanted burst may_poll false (station_at stations (place_after (length stations) place))
-    Starting) refl is n lt
+    (wanted burst may_poll false (station_at stations (place_after (length stations) place)) (waiting (place_after (length stations) place)) Starting) refl is n lt
   where
-    go : (first_after burst may_poll stations many (place_after (length stations) place) ≡ None
+    go : (first_after burst may_poll stations waiting many (place_after (length stations) place) ≡ None
         → (n : ℕ) → n < many →
         wanted burst may_poll false (station_at stations
-        (nth_after (length stations) (place_after (length stations) place) (suc n))) Starting
+        (nth_after (length stations) (place_after (length stations) place) (suc n))) (waiting (nth_after (length stations) (place_after (length stations) place) (suc n))) Starting
         ≡ None) →
         (w : Option Wanted) → wanted burst may_poll false
-        (station_at stations (place_after (length stations) place)) Starting ≡ w →
+        (station_at stations (place_after (length stations) place)) (waiting (place_after (length stations) place)) Starting ≡ w →
         chosen_or w (place_after (length stations) place)
-        (first_after burst may_poll stations many (place_after (length stations) place)) ≡ None →
+        (first_after burst may_poll stations waiting many (place_after (length stations) place)) ≡ None →
         (n : ℕ) → n < suc many → wanted burst may_poll false
-        (station_at stations (nth_after (length stations) place (suc n))) Starting ≡ None
+        (station_at stations (nth_after (length stations) place (suc n))) (waiting (nth_after (length stations) place (suc n))) Starting ≡ None
     go later (Some w) e some n lt = cc
     go later None e rest zero lt = e
     go later None e rest (suc n) lt = later rest n (omega (arith, lt))
 
 -- what the present turn goes on with
-abbrev pub present : Primary → (may_poll : Bool) → Option Wanted
-present p may_poll = wanted p.settings.burst may_poll p.again (station_at p.stations p.turn) p.phase
+abbrev pub present : Primary → (may_poll : Bool) → CommandsWaiting → Option Wanted
+present p may_poll waiting = wanted p.settings.burst may_poll p.again (station_at p.stations p.turn) (waiting p.turn) p.phase
 
-pub goes_on : (p : Primary) (may_poll : Bool) (w : Wanted) → p.outstanding ≡ None
-    → present p may_poll ≡ Some w →
-    sending p may_poll ≡ Some (record { station = p.turn; request = w.request })
-goes_on p may_poll w free is =
-    ap (λ (o : Option Outstanding). sending_from p o may_poll) free
+pub goes_on : (p : Primary) (may_poll : Bool) (waiting : CommandsWaiting) (w : Wanted) → p.outstanding ≡ None
+    → present p may_poll waiting ≡ Some w →
+    sending p may_poll waiting ≡ Some (record { station = p.turn; request = w.request })
+goes_on p may_poll waiting w free is =
+    ap (λ (o : Option Outstanding). sending_from p o may_poll waiting) free
     ∙ ap (λ (v : Option Wanted). sending_by (chosen_or v p.turn
-    (first_after p.settings.burst may_poll p.stations (length p.stations) p.turn))) is
+    (first_after p.settings.burst may_poll p.stations waiting (length p.stations) p.turn))) is
 
-passed : (p : Primary) (may_poll : Bool) → p.outstanding ≡ None → present p may_poll ≡ None →
-    sending p may_poll
-    ≡ sending_by (first_after p.settings.burst may_poll p.stations (length p.stations) p.turn)
-passed p may_poll free is =
-    ap (λ (o : Option Outstanding). sending_from p o may_poll) free
+passed : (p : Primary) (may_poll : Bool) (waiting : CommandsWaiting) → p.outstanding ≡ None → present p may_poll waiting ≡ None →
+    sending p may_poll waiting
+    ≡ sending_by (first_after p.settings.burst may_poll p.stations waiting (length p.stations) p.turn)
+passed p may_poll waiting free is =
+    ap (λ (o : Option Outstanding). sending_from p o may_poll waiting) free
     ∙ ap (λ (v : Option Wanted). sending_by (chosen_or v p.turn
-    (first_after p.settings.burst may_poll p.stations (length p.stations) p.turn))) is
+    (first_after p.settings.burst may_poll p.stations waiting (length p.stations) p.turn))) is
 
-pub passes_on : (p : Primary) (may_poll : Bool) (s : Sending) → p.outstanding ≡ None
-    → present p may_poll ≡ None
-    → sending p may_poll ≡ Some s →
-    BeginsTurn p may_poll s
-passes_on p may_poll s free is sent =
-    go (first_after p.settings.burst may_poll p.stations (length p.stations) p.turn) refl
-    (sym (passed p may_poll free is) ∙ sent)
+pub passes_on : (p : Primary) (may_poll : Bool) (waiting : CommandsWaiting) (s : Sending) → p.outstanding ≡ None
+    → present p may_poll waiting ≡ None
+    → sending p may_poll waiting ≡ Some s →
+    BeginsTurn p may_poll waiting s
+passes_on p may_poll waiting s free is sent =
+    go (first_after p.settings.burst may_poll p.stations waiting (length p.stations) p.turn) refl
+    (sym (passed p may_poll waiting free is) ∙ sent)
   where
-    go : (c : Option Chosen) → first_after p.settings.burst may_poll p.stations (length p.stations)
+    go : (c : Option Chosen) → first_after p.settings.burst may_poll p.stations waiting (length p.stations)
         p.turn ≡ c
-        → sending_by c ≡ Some s → BeginsTurn p may_poll s
+        → sending_by c ≡ Some s → BeginsTurn p may_poll waiting s
     go None e none = cc
     go (Some c) e some =
         let same : record { station = c.station; request = c.wanted.request } ≡ s = cc in
-        let f = found p.settings.burst may_poll p.stations (length p.stations) p.turn c e in
-        subst (λ (z : Sending). BeginsTurn p may_poll z) same
+        let f = found p.settings.burst may_poll p.stations waiting (length p.stations) p.turn c e in
+        subst (λ (z : Sending). BeginsTurn p may_poll waiting z) same
         (record {
           steps = f.steps;
           once_round = f.within;
@@ -143,52 +144,52 @@ passes_on p may_poll s free is sent =
           nearer = f.nearer;
         })
 
-pub rests : (p : Primary) (may_poll : Bool) → p.outstanding ≡ None → sending p may_poll ≡ None
-    → HaveNone p may_poll
-rests p may_poll free none = go (present p may_poll) refl
+pub rests : (p : Primary) (may_poll : Bool) (waiting : CommandsWaiting) → p.outstanding ≡ None → sending p may_poll waiting ≡ None
+    → HaveNone p may_poll waiting
+rests p may_poll waiting free none = go (present p may_poll waiting) refl
   where
-    by : (c : Option Chosen) → first_after p.settings.burst may_poll p.stations (length p.stations)
+    by : (c : Option Chosen) → first_after p.settings.burst may_poll p.stations waiting (length p.stations)
         p.turn ≡ c
         → sending_by c ≡ None →
-        HaveNone p may_poll
-    by None e quiet = none_found p.settings.burst may_poll p.stations (length p.stations) p.turn e
+        HaveNone p may_poll waiting
+    by None e quiet = none_found p.settings.burst may_poll p.stations waiting (length p.stations) p.turn e
     by (Some c) e some = cc
 
-    go : (v : Option Wanted) → present p may_poll ≡ v → HaveNone p may_poll
-    go (Some w) is = let some = goes_on p may_poll w free is in cc
-    go None is = by (first_after p.settings.burst may_poll p.stations (length p.stations) p.turn)
+    go : (v : Option Wanted) → present p may_poll waiting ≡ v → HaveNone p may_poll waiting
+    go (Some w) is = let some = goes_on p may_poll waiting w free is in cc
+    go None is = by (first_after p.settings.burst may_poll p.stations waiting (length p.stations) p.turn)
         refl
-        (sym (passed p may_poll free is) ∙ none)
+        (sym (passed p may_poll waiting free is) ∙ none)
 
 -- what goes out goes on with the present turn, or begins one
-pub record GoesOn (p : Primary) (may_poll : Bool) (s : Sending) : Type 0 where
+pub record GoesOn (p : Primary) (may_poll : Bool) (waiting : CommandsWaiting) (s : Sending) : Type 0 where
   pub wanted : Wanted
-  pub is : present p may_poll ≡ Some wanted
+  pub is : present p may_poll waiting ≡ Some wanted
   pub station : s.station ≡ p.turn
   pub request : s.request ≡ wanted.request
 
-pub free_where : (p : Primary) (may_poll : Bool) (s : Sending) → sending p may_poll ≡ Some s
+pub free_where : (p : Primary) (may_poll : Bool) (waiting : CommandsWaiting) (s : Sending) → sending p may_poll waiting ≡ Some s
     → p.outstanding ≡ None
-free_where p may_poll s sent = go p.outstanding refl sent
+free_where p may_poll waiting s sent = go p.outstanding refl sent
   where
-    go : (o : Option Outstanding) → p.outstanding ≡ o → sending_from p o may_poll ≡ Some s
+    go : (o : Option Outstanding) → p.outstanding ≡ o → sending_from p o may_poll waiting ≡ Some s
         → o ≡ None
     go None is e = refl
     go (Some o) is e = cc
 
-pub either_turn : (p : Primary) (may_poll : Bool) (s : Sending) → sending p may_poll ≡ Some s →
-    GoesOn p may_poll s ⊎ ((present p may_poll ≡ None) × BeginsTurn p may_poll s)
-either_turn p may_poll s sent = go (present p may_poll) refl
+pub either_turn : (p : Primary) (may_poll : Bool) (waiting : CommandsWaiting) (s : Sending) → sending p may_poll waiting ≡ Some s →
+    GoesOn p may_poll waiting s ⊎ ((present p may_poll waiting ≡ None) × BeginsTurn p may_poll waiting s)
+either_turn p may_poll waiting s sent = go (present p may_poll waiting) refl
   where
     free : p.outstanding ≡ None
-    free = free_where p may_poll s sent
+    free = free_where p may_poll waiting s sent
 
-    go : (v : Option Wanted) → present p may_poll ≡ v → GoesOn p may_poll s
-        ⊎ ((present p may_poll ≡ None) × BeginsTurn p may_poll s)
-    go None is = inr (is, passes_on p may_poll s free is sent)
+    go : (v : Option Wanted) → present p may_poll waiting ≡ v → GoesOn p may_poll waiting s
+        ⊎ ((present p may_poll waiting ≡ None) × BeginsTurn p may_poll waiting s)
+    go None is = inr (is, passes_on p may_poll waiting s free is sent)
     go (Some w) is =
         let same : Some s ≡ Some (record { station = p.turn; request = w.request }) = sym sent
-        ∙ goes_on p may_poll w free is in
+        ∙ goes_on p may_poll waiting w free is in
         let at : s ≡ record { station = p.turn; request = w.request } = cc in
         inl (record {
           wanted = w;
@@ -198,8 +199,8 @@ either_turn p may_poll s sent = go (present p may_poll) refl
               ap (λ (z : Sending). z.request) at;
         })
 
-pub first_turn : (settings : LinkSettings) (addresses : List ℕ) (may_poll : Bool)
+pub first_turn : (settings : LinkSettings) (addresses : List ℕ) (may_poll : Bool) (waiting : CommandsWaiting)
     → 0 < length addresses
-    → sending (start settings addresses) may_poll ≡ Some (record { station = 0; request = Status })
-first_turn settings [] may_poll some = absurd (omega (arith, some))
-first_turn settings (a ∷ rest) may_poll some = refl
+    → sending (start settings addresses) may_poll waiting ≡ Some (record { station = 0; request = Status })
+first_turn settings [] may_poll waiting some = absurd (omega (arith, some))
+first_turn settings (a ∷ rest) may_poll waiting some = refl

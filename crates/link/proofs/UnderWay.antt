@@ -1,6 +1,6 @@
 -- Whether a command is under way, as the exchanges with its station show it.
 use Rattle.std.specs.Prelude.{◌==◌}
-use Rattle.std.proofs.Common.{◌≡◌, ℕ, suc, nat_lt, ◌&&◌, ◌||◌, not, is_none, slice_index, Bool}
+use Rattle.std.proofs.Common.{◌≡◌, ℕ, suc, nat_lt, ◌&&◌, ◌||◌, not, slice_index, Bool}
 use Rattle.std.proofs.Common.{true, false, List, [], ◌∷◌, ◌++◌, Option, Some, None, refl, sym, ap}
 use Rattle.std.proofs.Common.{subst, ◌∙◌, if◌then◌else◌}
 use Rattle.std.proofs.lemmas.Bool.{eqb-true}
@@ -11,11 +11,11 @@ use Rattle.link.specs.Exchanges.{Exchange, OpenExchange, Exchanges, answer_to, a
 use Rattle.link.specs.Exchanges.{with_station}
 use Rattle.link.specs.Procedure.{LinkSettings, Link, Down, Available, Next, Held, held}
 use Rattle.link.specs.Procedure.{missed_so_far, after_outcome, after_silence, after, link_after}
-use Rattle.link.specs.Procedure.{MaySend, is_up, holds_command}
+use Rattle.link.specs.Procedure.{MaySend, is_up, is_held, holds_command}
 use Rattle.link.specs.Delivery.{pending_by, pending_after, is_command_pending}
-use Rattle.link.specs.Offers.{is_under_way}
+use Rattle.link.specs.UnderWay.{is_under_way}
 use Rattle.link.specs.Turns.{station_at}
-use Rattle.link.specs.Primary.{Outstanding, Primary, is_command, is_sending_command, may_offer}
+use Rattle.link.specs.Primary.{Outstanding, Primary, is_command, is_sending_command}
 use Rattle.link.specs.Matching.{IsAllowed, IsAwaited, IsCurrent, AreLinks, MatchesBy}
 use Rattle.link.proofs.Links.{nil, with_one, link_after-push}
 use Rattle.link.proofs.Marks.{by_mark}
@@ -230,16 +230,20 @@ not_awaited front settings addresses p e i t = go p.outstanding e.current refl t
             (sym (link_after-push settings a Down (with_station i (views front ended))
             (view front x).exchange))
 
-pub taken : (front : List ℕ → Front) (settings : LinkSettings) (addresses : List ℕ) (p : Primary)
-    (e : Exchanges)
-    (i : ℕ) →
-    MatchesBy front settings addresses p e →
-    may_offer p i
-    ≡ (is_none (station_at p.stations i).offered
-    && not (is_under_way settings (slice_index addresses i)
-    (with_station i (views front (e.ended ++ as_list e.current)))))
-taken front settings addresses p e i t =
-    ap (λ (b : Bool). is_none (station_at p.stations i).offered && b)
-    (not_awaited front settings addresses p e i t
-    ∙ ap not (sym (under_way settings (slice_index addresses i)
-    (with_station i (views front (e.ended ++ as_list e.current))))))
+free_holds : (link : Link) → is_held link ≡ false → holds_command link ≡ false
+free_holds Down free = refl
+free_holds Available free = refl
+free_holds (Next fcb) free = refl
+free_holds (Held fcb service missed) free = cc
+
+-- where no request is outstanding, and the station's service isn't held, no command is under way
+pub none_under_way : (front : List ℕ → Front) (settings : LinkSettings) (addresses : List ℕ)
+    (p : Primary) (e : Exchanges) (i : ℕ) → MatchesBy front settings addresses p e →
+    p.outstanding ≡ None → is_held (station_at p.stations i).link ≡ false →
+    is_under_way settings (slice_index addresses i)
+    (with_station i (views front (e.ended ++ as_list e.current))) ≡ false
+none_under_way front settings addresses p e i t none free =
+    under_way settings (slice_index addresses i)
+    (with_station i (views front (e.ended ++ as_list e.current)))
+    ∙ ap holds_command (links_at front settings addresses p e None none t i)
+    ∙ free_holds (station_at p.stations i).link free

@@ -11,7 +11,7 @@ use Rattle.link.specs.Procedure.{LinkSettings, Link, Down, MaySend, after, link_
 use Rattle.link.specs.Turns.{StationState, station_at, Phase, Starting, Over, Wanted, wanted}
 use Rattle.link.specs.Turns.{Chosen, chosen_or, first_after}
 use Rattle.link.specs.Primary.{Outstanding, Primary, after_choice, asked_from, asked, sending_by}
-use Rattle.link.specs.Primary.{sending_from, sending, station_asked, awaits}
+use Rattle.link.specs.Primary.{sending_from, sending, station_asked}
 use Rattle.link.specs.Matching.{MatchesBy}
 use Rattle.link.specs.Visits.{Left, whole_visit, MayFollow, Visit, at_station, line_of, AreVisits}
 use Rattle.link.specs.Visits.{AreInVisits, most_of_visit}
@@ -22,6 +22,7 @@ use Rattle.link.proofs.Called.{links_at}
 use Rattle.link.proofs.Turning.{IsFound, found, present}
 use Rattle.link.proofs.Visiting.{Leads, leads_visit, leads_on, visit_room, whole_room, Awaits}
 use Rattle.link.proofs.Visiting.{IsReady, over, Follows, FollowsIt, ready_follows, begin_follows}
+use Rattle.link.specs.Turns.{CommandsWaiting}
 
 -- ---- lists
 
@@ -206,39 +207,38 @@ link_now front addresses p e many v t free =
 -- ---- `next`
 
 -- what asking does: nothing goes out, or the present visit goes on, or another one begins
-pub data IsAsked (front : List ℕ → Front) (addresses : List ℕ) (p : Primary) (may_poll : Bool)
+pub data IsAsked (front : List ℕ → Front) (addresses : List ℕ) (p : Primary) (may_poll : Bool) (waiting : CommandsWaiting)
     (many : ℕ)
     (p' : Primary) (e' : Exchanges) (s : Option Sending) : Type 0 where
   nothing : s ≡ None → p'.turn ≡ p.turn → InVisit front addresses p' e' many
-      → IsAsked front addresses p may_poll many p' e' s
+      → IsAsked front addresses p may_poll waiting many p' e' s
   goes_on : (z : Sending) → s ≡ Some z → z.station ≡ p.turn → p'.turn ≡ p.turn
       → InVisit front addresses p' e' (suc many) →
-      IsAsked front addresses p may_poll many p' e' s
+      IsAsked front addresses p may_poll waiting many p' e' s
   begins : (c : Chosen) → s ≡ Some (record { station = c.station; request = c.wanted.request })
       → p.outstanding ≡ None →
-      IsFound p.settings.burst may_poll p.stations (length p.stations) p.turn c → c.station
+      IsFound p.settings.burst may_poll p.stations waiting (length p.stations) p.turn c → c.station
       < length p.stations
       → p'.turn ≡ c.station →
-      InVisit front addresses p' e' 1 → IsAsked front addresses p may_poll many p' e' s
+      InVisit front addresses p' e' 1 → IsAsked front addresses p may_poll waiting many p' e' s
 
 pub may_want : (p : Primary) (e : Exchanges) (front : List ℕ
-    → Front) (addresses : List ℕ) (may_poll again : Bool) (place : ℕ) (phase : Phase) (w : Wanted) →
+    → Front) (addresses : List ℕ) (may_poll : Bool) (waiting : CommandsWaiting) (again : Bool) (place : ℕ) (phase : Phase) (w : Wanted) →
     MatchesBy front p.settings addresses p e → place < length p.stations →
-    wanted p.settings.burst may_poll again (station_at p.stations place) phase ≡ Some w
+    wanted p.settings.burst may_poll again (station_at p.stations place) (waiting place) phase ≡ Some w
     → MaySend (station_at p.stations place).link w.request
-may_want p e front addresses may_poll again place phase w t within is =
-    (subst (λ (v : Option Wanted). MayWant p.settings.size (station_at p.stations place).link v) is
-    (at_may p.settings.size p.settings.burst may_poll again p.stations place phase t.fits.stations
-    within)).1
+may_want p e front addresses may_poll waiting again place phase w t within is =
+    subst (λ (v : Option Wanted). MayWant (station_at p.stations place).link v) is
+    (at_may p.settings.burst may_poll again p.stations waiting place phase)
 
 on_visit : (front : List ℕ → Front) (addresses : List ℕ) (p : Primary) (e : Exchanges)
-    (many now : ℕ) (may_poll : Bool)
+    (many now : ℕ) (may_poll : Bool) (waiting : CommandsWaiting)
     (w : Wanted) → 0 < p.settings.burst →
-    MatchesBy front p.settings addresses p e → p.outstanding ≡ None → present p may_poll ≡ Some w
+    MatchesBy front p.settings addresses p e → p.outstanding ≡ None → present p may_poll waiting ≡ Some w
     → InVisit front addresses p e many →
     InVisit front addresses (after_choice p now (Some (record { station = p.turn; wanted = w })))
     (begun_by now (Some (record { station = p.turn; request = w.request })) e) (suc many)
-on_visit front addresses p e many now may_poll w some t free is v =
+on_visit front addresses p e many now may_poll waiting w some t free is v =
     let here = link_now front addresses p e many v t free in
     let s : StationState = station_asked (station_at p.stations p.turn) w.request in
     let ready = subst (λ (o : Option Outstanding). FitsPhase p.settings o p.again p.phase
@@ -246,7 +246,7 @@ on_visit front addresses p e many now may_poll w some t free is v =
     let f : Follows p.settings (station_at p.stations p.turn).link v.now w =
     subst (λ (x : Option Wanted). FollowsIt p.settings (station_at p.stations p.turn).link v.now x)
     is
-    (ready_follows p.settings may_poll p.again (station_at p.stations p.turn)
+    (ready_follows p.settings may_poll p.again (station_at p.stations p.turn) (waiting p.turn)
     (station_at p.stations p.turn).link p.phase v.now some ready) in
     record {
       earlier = v.earlier;
@@ -260,7 +260,7 @@ on_visit front addresses p e many now may_poll w some t free is v =
       latest = (
         refl,
         subst (λ (l : Link). MaySend l w.request) (sym here)
-            (may_want p e front addresses may_poll p.again p.turn p.phase w t t.fits.turn is),
+            (may_want p e front addresses may_poll waiting p.again p.turn p.phase w t t.fits.turn is),
         subst (λ (l : Link). MayFollow p.settings l v.now w.request f.later) (sym here) f.follow,
       );
       fits = (
@@ -269,25 +269,25 @@ on_visit front addresses p e many now may_poll w some t free is v =
             (sym (set_view (λ (r : StationState). r.link) p.stations p.turn s refl p.turn))
             f.awaits,
       );
-      begun = begun_choice p now may_poll p.again p.phase (record { station = p.turn; wanted = w })
+      begun = begun_choice p now may_poll waiting p.again p.phase (record { station = p.turn; wanted = w })
           is
-          (may_want p e front addresses may_poll p.again p.turn p.phase w t t.fits.turn is)
+          (may_want p e front addresses may_poll waiting p.again p.turn p.phase w t t.fits.turn is)
           v.begun.away;
       many_are = one_longer (v.before ++ shown front e.current) _ many v.many_are;
     }
 
 new_visit : (front : List ℕ → Front) (addresses : List ℕ) (p : Primary) (e : Exchanges)
     (many now : ℕ)
-    (may_poll : Bool) (c : Chosen) → 0 < p.settings.burst →
-    MatchesBy front p.settings addresses p e → p.outstanding ≡ None → present p may_poll ≡ None
+    (may_poll : Bool) (waiting : CommandsWaiting) (c : Chosen) → 0 < p.settings.burst →
+    MatchesBy front p.settings addresses p e → p.outstanding ≡ None → present p may_poll waiting ≡ None
     → c.station < length p.stations →
-    wanted p.settings.burst may_poll false (station_at p.stations c.station) Starting
+    wanted p.settings.burst may_poll false (station_at p.stations c.station) (waiting c.station) Starting
     ≡ Some c.wanted
     → InVisit front addresses p e many →
     InVisit front addresses (after_choice p now (Some c))
     (begun_by now (Some (record { station = c.station; request = c.wanted.request })) e) 1
-new_visit front addresses p e many now may_poll c some t free gone within is v =
-    let fresh = none_known p may_poll free gone v.begun in
+new_visit front addresses p e many now may_poll waiting c some t free gone within is v =
+    let fresh = none_known p may_poll waiting free gone v.begun in
     let latest : Visit =
     record { station = p.turn; exchanges = v.before ++ shown front e.current } in
     let s : StationState = station_asked (station_at p.stations c.station) c.wanted.request in
@@ -300,7 +300,7 @@ new_visit front addresses p e many now may_poll c some t free gone within is v =
     (whole_visit p.settings (station_at p.stations c.station).link) c.wanted =
     subst (λ (x : Option Wanted). FollowsIt p.settings (station_at p.stations c.station).link
     (whole_visit p.settings (station_at p.stations c.station).link) x) is
-    (begin_follows p.settings may_poll (station_at p.stations c.station)
+    (begin_follows p.settings may_poll (station_at p.stations c.station) (waiting c.station)
     (station_at p.stations c.station).link some
     (fresh c.station)) in
     record {
@@ -320,7 +320,7 @@ new_visit front addresses p e many now may_poll c some t free gone within is v =
       latest = (
         refl,
         subst (λ (l : Link). MaySend l c.wanted.request) (sym here)
-            (may_want p e front addresses may_poll false c.station Starting c.wanted t within is),
+            (may_want p e front addresses may_poll waiting false c.station Starting c.wanted t within is),
         subst (λ (l : Link). MayFollow p.settings l (whole_visit p.settings l) c.wanted.request
             f.later)
             (sym here) f.follow,
@@ -331,17 +331,17 @@ new_visit front addresses p e many now may_poll c some t free gone within is v =
             (sym (set_view (λ (r : StationState). r.link) p.stations c.station s refl c.station))
             f.awaits,
       );
-      begun = begun_choice p now may_poll false Starting c is
-          (may_want p e front addresses may_poll false c.station Starting c.wanted t within is)
+      begun = begun_choice p now may_poll waiting false Starting c is
+          (may_want p e front addresses may_poll waiting false c.station Starting c.wanted t within is)
           (λ i known. absurd (fresh i known));
       many_are = refl;
     }
 
 no_visit : (front : List ℕ → Front) (addresses : List ℕ) (p : Primary) (e : Exchanges)
-    (many now : ℕ) (may_poll : Bool)
-    → p.outstanding ≡ None → present p may_poll ≡ None →
+    (many now : ℕ) (may_poll : Bool) (waiting : CommandsWaiting)
+    → p.outstanding ≡ None → present p may_poll waiting ≡ None →
     InVisit front addresses p e many → InVisit front addresses (after_choice p now None) e many
-no_visit front addresses p e many now may_poll free gone v = record {
+no_visit front addresses p e many now may_poll waiting free gone v = record {
   earlier = v.earlier;
   are = v.are;
   before = v.before;
@@ -353,7 +353,7 @@ no_visit front addresses p e many now may_poll free gone v = record {
   latest = v.latest;
   fits = subst (λ (o : Option Outstanding). FitsPhase p.settings o false Over
       (station_at p.stations p.turn).link v.now) (sym free) (over refl refl);
-  begun = begun_none p now free (none_known p may_poll free gone v.begun);
+  begun = begun_none p now free (none_known p may_poll waiting free gone v.begun);
   many_are = v.many_are;
 }
 
@@ -362,54 +362,53 @@ MayBeThere p None = Unit {0}
 MayBeThere p (Some c) = c.station < length p.stations
 
 pub rest_there : (front : List ℕ → Front) (addresses : List ℕ) (p : Primary) (e : Exchanges)
-    (may_poll : Bool)
+    (may_poll : Bool) (waiting : CommandsWaiting)
     → MatchesBy front p.settings addresses p e →
-    MayBeThere p (first_after p.settings.burst may_poll p.stations (length p.stations) p.turn)
-rest_there front addresses p e may_poll t =
-    go (first_after p.settings.burst may_poll p.stations (length p.stations) p.turn)
-    (first_may p.settings.size p.settings.burst may_poll p.stations (length p.stations) p.turn
-    t.fits.stations
+    MayBeThere p (first_after p.settings.burst may_poll p.stations waiting (length p.stations) p.turn)
+rest_there front addresses p e may_poll waiting t =
+    go (first_after p.settings.burst may_poll p.stations waiting (length p.stations) p.turn)
+    (first_may p.settings.burst may_poll p.stations waiting (length p.stations) p.turn
     (omega (arith, t.fits.turn)))
   where
-    go : (c : Option Chosen) → MayChooseIt p.settings.size p.stations c → MayBeThere p c
+    go : (c : Option Chosen) → MayChooseIt p.stations c → MayBeThere p c
     go None may = tt
     go (Some c) may = may.within
 
 pub asked_visits : (front : List ℕ → Front) (addresses : List ℕ) (p : Primary) (e : Exchanges)
     (many now : ℕ)
-    (may_poll : Bool) → 0 < p.settings.burst →
+    (may_poll : Bool) (waiting : CommandsWaiting) → 0 < p.settings.burst →
     MatchesBy front p.settings addresses p e → InVisit front addresses p e many →
-    IsAsked front addresses p may_poll many (asked p now may_poll)
-    (begun_by now (sending p may_poll) e)
-    (sending p may_poll)
-asked_visits front addresses p e many now may_poll some t v = go p.outstanding refl
+    IsAsked front addresses p may_poll waiting many (asked p now may_poll waiting)
+    (begun_by now (sending p may_poll waiting) e)
+    (sending p may_poll waiting)
+asked_visits front addresses p e many now may_poll waiting some t v = go p.outstanding refl
   where
     rest : Option Chosen
-    rest = first_after p.settings.burst may_poll p.stations (length p.stations) p.turn
+    rest = first_after p.settings.burst may_poll p.stations waiting (length p.stations) p.turn
 
-    by_rest : p.outstanding ≡ None → present p may_poll ≡ None → (r : Option Chosen) → rest ≡ r
+    by_rest : p.outstanding ≡ None → present p may_poll waiting ≡ None → (r : Option Chosen) → rest ≡ r
         → MayBeThere p r →
-        IsAsked front addresses p may_poll many (after_choice p now r)
+        IsAsked front addresses p may_poll waiting many (after_choice p now r)
         (begun_by now (sending_by r) e) (sending_by r)
     by_rest free gone None is there =
-        nothing refl refl (no_visit front addresses p e many now may_poll free gone v)
+        nothing refl refl (no_visit front addresses p e many now may_poll waiting free gone v)
     by_rest free gone (Some c) is there =
-        let f = found p.settings.burst may_poll p.stations (length p.stations) p.turn c is in
-        begins c refl free f there refl (new_visit front addresses p e many now may_poll c some t
+        let f = found p.settings.burst may_poll p.stations waiting (length p.stations) p.turn c is in
+        begins c refl free f there refl (new_visit front addresses p e many now may_poll waiting c some t
         free gone there
         f.first v)
 
-    by_present : p.outstanding ≡ None → (w : Option Wanted) → present p may_poll ≡ w →
-        IsAsked front addresses p may_poll many (after_choice p now (chosen_or w p.turn rest))
+    by_present : p.outstanding ≡ None → (w : Option Wanted) → present p may_poll waiting ≡ w →
+        IsAsked front addresses p may_poll waiting many (after_choice p now (chosen_or w p.turn rest))
         (begun_by now (sending_by (chosen_or w p.turn rest)) e)
         (sending_by (chosen_or w p.turn rest))
-    by_present free None is = by_rest free is rest refl (rest_there front addresses p e may_poll t)
+    by_present free None is = by_rest free is rest refl (rest_there front addresses p e may_poll waiting t)
     by_present free (Some w) is =
         goes_on (record { station = p.turn; request = w.request }) refl refl refl
-        (on_visit front addresses p e many now may_poll w some t free is v)
+        (on_visit front addresses p e many now may_poll waiting w some t free is v)
 
     go : (o : Option Outstanding) → p.outstanding ≡ o →
-        IsAsked front addresses p may_poll many (asked_from p o now may_poll)
-        (begun_by now (sending_from p o may_poll) e) (sending_from p o may_poll)
+        IsAsked front addresses p may_poll waiting many (asked_from p o now may_poll waiting)
+        (begun_by now (sending_from p o may_poll waiting) e) (sending_from p o may_poll waiting)
     go (Some o) is = nothing refl refl v
-    go None is = by_present is (present p may_poll) refl
+    go None is = by_present is (present p may_poll waiting) refl

@@ -13,12 +13,10 @@ use Rattle.link.specs.Turns.{StationState, no_station, station_at, Phase, Over}
 use Rattle.link.specs.Primary.{Outstanding, Primary, start, station_down, phase_after}
 use Rattle.link.specs.Primary.{station_answered, station_unanswered, unanswered, answer_at, awaits}
 use Rattle.link.specs.Primary.{said_by, open_octets, took, with_octets, received_after}
-use Rattle.link.specs.Primary.{received_from, received, is_late, due_from, timed_out, may_offer}
-use Rattle.link.specs.Primary.{with_offer, offered_to, without_offer, withdrawn}
+use Rattle.link.specs.Primary.{received_from, received, is_late, due_from, timed_out}
 use Rattle.link.specs.Visits.{Left, whole_visit}
 use Rattle.link.proofs.Beginning.{IsBegun, begun_awaits, begun_answered, begun_unanswered}
-use Rattle.link.proofs.Beginning.{begun_linked, withdrawn_link, begun_start}
-use Rattle.link.proofs.Links.{set_view}
+use Rattle.link.proofs.Beginning.{begun_start}
 use Rattle.link.proofs.Visiting.{Awaits, IsReady, starting, IsStarting}
 use Rattle.link.proofs.Statuses.{answered_ready, missed_ready}
 use Rattle.link.proofs.VisitAsked.{one_longer, shown, IsLatest, FitsPhase, InVisit}
@@ -262,46 +260,6 @@ due_visits front addresses p ended cur ms at many within v = go p.outstanding re
             (missed_ready p.settings q.request p.phase (station_at p.stations p.turn).link v.now
             aw.1))
             (begun_unanswered p q within v.begun)
-
--- the links are as they were
-linked_visits : (front : List ℕ → Front) (addresses : List ℕ) (p : Primary) (e : Exchanges)
-    (many : ℕ)
-    (stations : List StationState) →
-    ((i : ℕ) → (station_at stations i).link ≡ (station_at p.stations i).link)
-    → InVisit front addresses p e many →
-    Stays front addresses p.turn (record p { stations = stations }) e many
-linked_visits front addresses p e many stations same v =
-    kept front addresses p e.ended e.current e.current many stations p.phase p.again p.outstanding
-    p.spoilt v
-    (λ link latest. latest) (λ none. none) refl
-    (subst (λ (l : Link). FitsPhase p.settings p.outstanding p.again p.phase l v.now)
-    (sym (same p.turn)) v.fits)
-    (begun_linked p stations same v.begun)
-
-pub offer_visits : (front : List ℕ → Front) (addresses : List ℕ) (p : Primary) (e : Exchanges)
-    (many station : ℕ)
-    (asdu : List ℕ) →
-    InVisit front addresses p e many → Stays front addresses p.turn (offered_to p station asdu) e
-    many
-offer_visits front addresses p e many station asdu v = go (may_offer p station)
-  where
-    go : (b : Bool) → Stays front addresses p.turn
-        (if b then record p {
-          stations = slice_set p.stations station
-              (with_offer (station_at p.stations station) (Some asdu));
-        } else p) e many
-    go false = (v, refl)
-    go true =
-        linked_visits front addresses p e many (slice_set p.stations station
-        (with_offer (station_at p.stations station) (Some asdu)))
-        (set_view (λ (r : StationState). r.link) p.stations station _ refl) v
-
-pub withdraw_visits : (front : List ℕ → Front) (addresses : List ℕ) (p : Primary) (e : Exchanges)
-    (many : ℕ) →
-    InVisit front addresses p e many → Stays front addresses p.turn (withdrawn p) e many
-withdraw_visits front addresses p e many v =
-    linked_visits front addresses p e many (map without_offer p.stations)
-    (withdrawn_link p.stations) v
 
 pub start_visits : (front : List ℕ → Front) (settings : LinkSettings) (addresses : List ℕ)
     → InVisit front addresses (start settings addresses) no_exchanges 0

@@ -263,10 +263,10 @@ class1_follows settings true fcb s left sent plan = go s.acd (nat_lt sent settin
     }
 
 commands_follow : (settings : LinkSettings) (may_poll fcb : Bool) (s : StationState)
-    (offered : Option (List ℕ))
+    (command : Option (List ℕ))
     (left : Left) → 0 < settings.burst →
     services settings.burst ≡ left.plan → FollowsIt settings (Next fcb) left
-    (commands_from settings.burst may_poll fcb s offered)
+    (commands_from settings.burst may_poll fcb s command)
 commands_follow settings may_poll fcb s None left some plan =
     polls_follow settings may_poll fcb s left (kind.Command ∷ []) some plan
 commands_follow settings may_poll fcb s (Some asdu) left some plan = go s.dfc
@@ -285,41 +285,41 @@ commands_follow settings may_poll fcb s (Some asdu) left some plan = go s.dfc
       awaits = (refl, omega arith);
     }
 
-next_follows : (settings : LinkSettings) (may_poll fcb : Bool) (s : StationState) (phase : Phase)
+next_follows : (settings : LinkSettings) (may_poll fcb : Bool) (s : StationState) (command : Option (List ℕ)) (phase : Phase)
     (left : Left)
     → 0 < settings.burst →
     HasPlan settings.burst phase left.plan → FollowsIt settings (Next fcb) left
-    (next_of settings.burst may_poll fcb s phase)
-next_follows settings may_poll fcb s Starting left some plan = absurd plan
-next_follows settings may_poll fcb s Commanding left some plan =
-    commands_follow settings may_poll fcb s s.offered left some plan
-next_follows settings may_poll fcb s Polling left some plan =
+    (next_of settings.burst may_poll fcb s command phase)
+next_follows settings may_poll fcb s command Starting left some plan = absurd plan
+next_follows settings may_poll fcb s command Commanding left some plan =
+    commands_follow settings may_poll fcb s command left some plan
+next_follows settings may_poll fcb s command Polling left some plan =
     polls_follow settings may_poll fcb s left [] some plan
-next_follows settings may_poll fcb s (Class1Polling sent) left some plan =
+next_follows settings may_poll fcb s command (Class1Polling sent) left some plan =
     class1_follows settings may_poll fcb s left sent plan
-next_follows settings may_poll fcb s Over left some plan = absurd plan
+next_follows settings may_poll fcb s command Over left some plan = absurd plan
 
 -- a link that isn't up begins so
-start_follows : (settings : LinkSettings) (may_poll again : Bool) (s : StationState) (link : Link)
+start_follows : (settings : LinkSettings) (may_poll again : Bool) (s : StationState) (command : Option (List ℕ)) (link : Link)
     (left : Left)
     → IsStarting link left →
-    FollowsIt settings link left (wanted_by settings.burst may_poll again s link Starting)
-start_follows settings may_poll again s Down left plan =
+    FollowsIt settings link left (wanted_by settings.burst may_poll again s command link Starting)
+start_follows settings may_poll again s command Down left plan =
     record {
       later = record { plan = kind.Reset ∷ []; repeats = settings.retries };
       follow =
           (([], plan), refl);
       awaits = (refl, refl);
     }
-start_follows settings may_poll again s Available left plan =
+start_follows settings may_poll again s command Available left plan =
     record {
       later = record { plan = []; repeats = settings.retries };
       follow =
           (([], plan), refl);
       awaits = refl;
     }
-start_follows settings may_poll again s (Next fcb) left plan = absurd plan
-start_follows settings may_poll again s (Held fcb service missed) left plan = absurd plan
+start_follows settings may_poll again s command (Next fcb) left plan = absurd plan
+start_follows settings may_poll again s command (Held fcb service missed) left plan = absurd plan
 
 -- what is sent again
 repeat_follows : (settings : LinkSettings) (fcb : Bool) (service : Service) (missed : ℕ)
@@ -337,77 +337,77 @@ repeat_follows settings fcb service missed phase left (suc repeats) is plan more
   awaits = (plan, omega (arith, more.enough, is));
 }
 
-serve_follows : (settings : LinkSettings) (may_poll again : Bool) (s : StationState) (link : Link)
+serve_follows : (settings : LinkSettings) (may_poll again : Bool) (s : StationState) (command : Option (List ℕ)) (link : Link)
     (phase : Phase)
     (left : Left) → 0 < settings.burst →
     HasPlan settings.burst phase left.plan → (again ≡ true → IsRepeatable settings link left) →
-    FollowsIt settings link left (wanted_by settings.burst may_poll again s link phase)
-serve_follows settings may_poll again s (Next fcb) phase left some plan more =
-    next_follows settings may_poll fcb s phase left some plan
-serve_follows settings may_poll again s (Held fcb service missed) Starting left some plan more =
+    FollowsIt settings link left (wanted_by settings.burst may_poll again s command link phase)
+serve_follows settings may_poll again s command (Next fcb) phase left some plan more =
+    next_follows settings may_poll fcb s command phase left some plan
+serve_follows settings may_poll again s command (Held fcb service missed) Starting left some plan more =
     absurd plan
-serve_follows settings may_poll again s (Held fcb service missed) Over left some plan more =
+serve_follows settings may_poll again s command (Held fcb service missed) Over left some plan more =
     absurd plan
-serve_follows settings may_poll true s (Held fcb service missed) Commanding left some plan more =
+serve_follows settings may_poll true s command (Held fcb service missed) Commanding left some plan more =
     repeat_follows settings fcb service missed Commanding left left.repeats refl plan (more refl)
-serve_follows settings may_poll true s (Held fcb service missed) Polling left some plan more =
+serve_follows settings may_poll true s command (Held fcb service missed) Polling left some plan more =
     repeat_follows settings fcb service missed Polling left left.repeats refl plan (more refl)
-serve_follows settings may_poll true s (Held fcb service missed) (Class1Polling sent) left some plan
+serve_follows settings may_poll true s command (Held fcb service missed) (Class1Polling sent) left some plan
     more =
     repeat_follows settings fcb service missed (Class1Polling sent) left left.repeats refl plan
     (more refl)
-serve_follows settings may_poll false s (Held fcb service missed) Commanding left some plan more =
+serve_follows settings may_poll false s command (Held fcb service missed) Commanding left some plan more =
     tt
-serve_follows settings may_poll false s (Held fcb service missed) Polling left some plan more = tt
-serve_follows settings may_poll false s (Held fcb service missed) (Class1Polling sent) left some
+serve_follows settings may_poll false s command (Held fcb service missed) Polling left some plan more = tt
+serve_follows settings may_poll false s command (Held fcb service missed) (Class1Polling sent) left some
     plan more = tt
-serve_follows settings may_poll again s link Starting left some plan more = absurd plan
-serve_follows settings may_poll again s Down Commanding left some plan more = tt
-serve_follows settings may_poll again s Down Polling left some plan more = tt
-serve_follows settings may_poll again s Down (Class1Polling sent) left some plan more = tt
-serve_follows settings may_poll again s Down Over left some plan more = tt
-serve_follows settings may_poll again s Available Commanding left some plan more = tt
-serve_follows settings may_poll again s Available Polling left some plan more = tt
-serve_follows settings may_poll again s Available (Class1Polling sent) left some plan more = tt
-serve_follows settings may_poll again s Available Over left some plan more = tt
+serve_follows settings may_poll again s command link Starting left some plan more = absurd plan
+serve_follows settings may_poll again s command Down Commanding left some plan more = tt
+serve_follows settings may_poll again s command Down Polling left some plan more = tt
+serve_follows settings may_poll again s command Down (Class1Polling sent) left some plan more = tt
+serve_follows settings may_poll again s command Down Over left some plan more = tt
+serve_follows settings may_poll again s command Available Commanding left some plan more = tt
+serve_follows settings may_poll again s command Available Polling left some plan more = tt
+serve_follows settings may_poll again s command Available (Class1Polling sent) left some plan more = tt
+serve_follows settings may_poll again s command Available Over left some plan more = tt
 
-pub over_wants : (burst : ℕ) (may_poll : Bool) (s : StationState) (link : Link)
-    → wanted_by burst may_poll false s link Over ≡ None
-over_wants burst may_poll s Down = refl
-over_wants burst may_poll s Available = refl
-over_wants burst may_poll s (Next fcb) = refl
-over_wants burst may_poll s (Held fcb service missed) = refl
+pub over_wants : (burst : ℕ) (may_poll : Bool) (s : StationState) (command : Option (List ℕ)) (link : Link)
+    → wanted_by burst may_poll false s command link Over ≡ None
+over_wants burst may_poll s command Down = refl
+over_wants burst may_poll s command Available = refl
+over_wants burst may_poll s command (Next fcb) = refl
+over_wants burst may_poll s command (Held fcb service missed) = refl
 
 -- the turn goes on
-pub ready_follows : (settings : LinkSettings) (may_poll again : Bool) (s : StationState)
+pub ready_follows : (settings : LinkSettings) (may_poll again : Bool) (s : StationState) (command : Option (List ℕ))
     (link : Link) (phase : Phase)
     (left : Left) → 0 < settings.burst →
     IsReady settings again phase link left → FollowsIt settings link left
-    (wanted_by settings.burst may_poll again s link phase)
-ready_follows settings may_poll again s link phase left some (over o a) =
+    (wanted_by settings.burst may_poll again s command link phase)
+ready_follows settings may_poll again s command link phase left some (over o a) =
     subst (λ (v : Option Wanted). FollowsIt settings link left v)
-    (sym (ap (λ (b : Bool). wanted_by settings.burst may_poll b s link phase) a
-    ∙ ap (λ (f : Phase). wanted_by settings.burst may_poll false s link f) o
-    ∙ over_wants settings.burst may_poll s link)) tt
-ready_follows settings may_poll again s link phase left some (starting o plan) =
-    subst (λ (f : Phase). FollowsIt settings link left (wanted_by settings.burst may_poll again s
+    (sym (ap (λ (b : Bool). wanted_by settings.burst may_poll b s command link phase) a
+    ∙ ap (λ (f : Phase). wanted_by settings.burst may_poll false s command link f) o
+    ∙ over_wants settings.burst may_poll s command link)) tt
+ready_follows settings may_poll again s command link phase left some (starting o plan) =
+    subst (λ (f : Phase). FollowsIt settings link left (wanted_by settings.burst may_poll again s command
     link f)) (sym o)
-    (start_follows settings may_poll again s link left plan)
-ready_follows settings may_poll again s link phase left some (serving plan more) =
-    serve_follows settings may_poll again s link phase left some plan more
+    (start_follows settings may_poll again s command link left plan)
+ready_follows settings may_poll again s command link phase left some (serving plan more) =
+    serve_follows settings may_poll again s command link phase left some plan more
 
 -- a turn begins, with a link whose status isn't known
-pub begin_follows : (settings : LinkSettings) (may_poll : Bool) (s : StationState) (link : Link)
+pub begin_follows : (settings : LinkSettings) (may_poll : Bool) (s : StationState) (command : Option (List ℕ)) (link : Link)
     → 0 < settings.burst
     → (link ≡ Available → ⊥) →
-    FollowsIt settings link (whole_visit settings link) (wanted_by settings.burst may_poll false s
+    FollowsIt settings link (whole_visit settings link) (wanted_by settings.burst may_poll false s command
     link Starting)
-begin_follows settings may_poll s Down some fresh = start_follows settings may_poll false s Down
+begin_follows settings may_poll s command Down some fresh = start_follows settings may_poll false s command Down
     (whole_visit settings Down) refl
-begin_follows settings may_poll s Available some fresh = absurd (fresh refl)
-begin_follows settings may_poll s (Next fcb) some fresh =
-    commands_follow settings may_poll fcb s s.offered (whole_visit settings (Next fcb)) some refl
-begin_follows settings may_poll s (Held fcb service missed) some fresh =
+begin_follows settings may_poll s command Available some fresh = absurd (fresh refl)
+begin_follows settings may_poll s command (Next fcb) some fresh =
+    commands_follow settings may_poll fcb s command (whole_visit settings (Next fcb)) some refl
+begin_follows settings may_poll s command (Held fcb service missed) some fresh =
     go (may_poll || not (is_poll service))
   where
     go : (b : Bool)

@@ -2,7 +2,6 @@
 -- crates above go by, in one record.
 use Rattle.std.specs.Prelude.{◌≡◌, ℕ, ◌<◌, ◌++◌, Bool, true, false, List}
 use Rattle.std.specs.Prelude.{All, length, slice_index, Option, Some, None}
-use Rattle.ft12.specs.declared.frame.Front.{Front}
 use Rattle.ft12.specs.declared.frame.LinkSize.{LinkSize}
 use Rattle.ft12.specs.Fronts.{front_of}
 use Rattle.ft12.specs.Spelling.{spelling}

@@ -1,6 +1,6 @@
 -- The primary station of unbalanced transmission as a machine: whose turn it is, the request whose
 -- answer is awaited, and what a call of it does.
-use Rattle.std.specs.Prelude.{ℕ, ◌+◌, ◌==◌, ◌&&◌, ◌||◌, nat_le, Bool, true, false, not, List, []}
+use Rattle.std.specs.Prelude.{ℕ, ◌+◌, ◌==◌, ◌||◌, nat_le, Bool, true, false, not, List, []}
 use Rattle.std.specs.Prelude.{◌++◌, map, length, slice_set, Option, Some, None}
 use Rattle.std.specs.Prelude.{if◌then◌else◌}
 use Rattle.ft12.specs.declared.frame.Front.{Front}
@@ -312,7 +312,7 @@ station_unanswered settings s request =
       link = after_silence settings request true s.link;
       acd = s.acd;
       dfc = s.dfc;
-          session = s.session;
+      session = s.session;
     }
 
 -- The exchange of the station whose turn it is ends with no answer, and is spoilt where octets came

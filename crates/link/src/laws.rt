@@ -105,14 +105,13 @@ pub fn outcomes_bear_the_reports()
     front_is_computed();
 }
 
-/// A request of a primary station is a station's, fits the line, and goes out only while no
-/// exchange is outstanding.
+/// A request of a primary station is a station's, fits the line where what waits does, and goes out
+/// only while no exchange is outstanding.
 pub fn requests_wait_their_turn()
     ensures fit { (settings : LinkSettings) (addresses : List ℕ) (p : Primary) (e : Exchanges)
         (may_poll : Bool) (waiting : CommandsWaiting) (s : Sending) →
         FitsLine p may_poll waiting → Matches settings addresses p e →
         sending p may_poll waiting ≡ Some s → IsFittingSending settings addresses s }
-    // Added by the lead: what goes out fits the line where what waits does.
     ensures carried { (settings : LinkSettings) (addresses : List ℕ) (p : Primary)
         (e : Exchanges) (may_poll : Bool) (waiting : CommandsWaiting) →
         AreUserData settings.size waiting → Matches settings addresses p e →

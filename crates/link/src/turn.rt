@@ -3,15 +3,16 @@ ghost use Rattle.std.specs.Prelude.{◌≡◌, ◌<◌, List, length, option_map
 ghost use Rattle.link.specs.Procedure.{is_held};
 ghost use Rattle.link.specs.Turns.{is_poll, wanted_poll, polls_from, commands_from, next_of};
 ghost use Rattle.link.specs.Turns.{wanted, wished, command_request, held_request, picked};
-ghost use Rattle.link.specs.Turns.{station_at};
-ghost use Rattle.link.specs.Turns.{IsPossible};
-ghost use Rattle.link.specs.Turns.{place_after, first_after};
+ghost use Rattle.link.specs.Turns.{station_at, IsPossible, place_after, first_after};
+ghost use Rattle.link.specs.Requests.{FitsAsked};
+ghost use Rattle.link.specs.Holding.{FitsLink};
+ghost use Rattle.ft12.specs.declared.frame.LinkSize.{LinkSize};
 
 use crate::asdu::CommandOctets;
-use crate::user::LinkUser;
 use crate::procedure::Link;
 use crate::service::{Asked, Service};
 use crate::session::SessionState;
+use crate::user::LinkUser;
 
 /// How far the present turn is.
 #[derive(Clone, Copy)]
@@ -201,7 +202,8 @@ impl StationState {
     /// The request for the held service.
     fn held_request(&self) -> Asked
         requires { is_held self.now.link ≡ true }
-        ensures { result ≡ held_request self.now.link }
+        ensures value { result ≡ held_request self.now.link }
+        ensures fits { (size : LinkSize) → FitsLink size self.now.link → FitsAsked size result }
     {
         let Link::Held(fcb, service, _) = &self.link else {
             unreachable!();
@@ -214,6 +216,8 @@ impl StationState {
     pub(crate) fn wanted<U: LinkUser>(&self, wish: Wish, user: &U, place: usize) -> Wanted
         requires { IsPossible self.now (U.waiting user.now place) wish }
         ensures value { result ≡ wished self.now (U.waiting user.now place) wish }
+        ensures fits { (size : LinkSize) → FitsLink size self.now.link →
+            FitsAsked size result.request }
     {
         match wish {
             // The reset belongs to the same turn.
@@ -251,7 +255,8 @@ impl StationState {
 /// The request for the command that waits for the station with this index.
 fn command_request<U: LinkUser>(fcb: bool, user: &U, place: usize) -> Asked
     requires { is_some (U.waiting user.now place) ≡ true }
-    ensures { result ≡ command_request fcb (U.waiting user.now place) }
+    ensures value { result ≡ command_request fcb (U.waiting user.now place) }
+    ensures fits { (size : LinkSize) → FitsAsked size result }
 {
     let Some(octets) = user.command(place) else {
         unreachable!();

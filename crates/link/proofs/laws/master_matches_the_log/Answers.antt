@@ -1,8 +1,6 @@
 use Rattle.ft12.specs.Fronts.{front_of}
 use Rattle.link.specs.Matching.{IsStable}
 use Rattle.link.proofs.Called.{start_matches, receive_matches, due_matches, ask_matches}
-use Rattle.link.proofs.Called.{offer_matches}
-use Rattle.link.proofs.Called.{withdraw_matches}
 use Rattle.link.proofs.laws.master_matches_the_log.Goals as goal
 
 pub returns-clause-start : goal.returns-clause-start
@@ -23,7 +21,7 @@ pub returns-clause-due : goal.returns-clause-due
 returns-clause-due c = due_matches
 
 pub returns-clause-next : goal.returns-clause-next
-returns-clause-next c = λ settings addresses p e now may_poll t.
+returns-clause-next c = λ settings addresses p e now may_poll waiting carried t.
     let law = c.front_is_computed.ensures in
     let stable : IsStable (front_of settings.size) = record {
       nothing = law.nothing settings.size;
@@ -31,10 +29,4 @@ returns-clause-next c = λ settings addresses p e now may_poll t.
           law.whole settings.size;
       never = law.never settings.size;
     } in
-    ask_matches settings addresses p e now may_poll stable t
-
-pub returns-clause-offer : goal.returns-clause-offer
-returns-clause-offer c = offer_matches
-
-pub returns-clause-withdraw : goal.returns-clause-withdraw
-returns-clause-withdraw c = withdraw_matches
+    ask_matches settings addresses p e now may_poll waiting stable carried t

@@ -14,7 +14,9 @@ pub returns-clause-begins : goal.returns-clause-begins
 returns-clause-begins c = begins
 
 pub returns-clause-up : goal.returns-clause-up
-returns-clause-up c = λ p may_poll fits free none. up p may_poll fits.turn free none
+returns-clause-up c = λ p may_poll waiting fits free none.
+    up p may_poll waiting fits.turn free none
 
 pub returns-clause-free : goal.returns-clause-free
-returns-clause-free c = λ p may_poll fits free none. no_command p may_poll fits.turn free none
+returns-clause-free c = λ p may_poll waiting fits free none.
+    no_command p may_poll waiting fits.turn free none

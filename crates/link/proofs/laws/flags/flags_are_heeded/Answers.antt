@@ -13,5 +13,5 @@ returns-clause-dfc c = λ settings addresses p e station t. ap (λ (f : Flags). 
     (sym (t.flags station))
 
 pub returns-clause-heeds : goal.returns-clause-heeds
-returns-clause-heeds c = λ settings addresses p e may_poll s t sent new. sending_heeds
-    (front_of settings.size) settings addresses p e may_poll s t sent new
+returns-clause-heeds c = λ settings addresses p e may_poll waiting s t sent new.
+    sending_heeds (front_of settings.size) settings addresses p e may_poll waiting s t sent new

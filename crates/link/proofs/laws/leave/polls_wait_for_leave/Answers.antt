@@ -1,4 +1,4 @@
-use Rattle.link.proofs.Leaving.{without, next, octets, due, offer, withdraw, report}
+use Rattle.link.proofs.Leaving.{without, next, octets, due, report}
 use Rattle.link.proofs.laws.leave.polls_wait_for_leave.Goals as goal
 
 pub returns-clause-without : goal.returns-clause-without
@@ -12,12 +12,6 @@ returns-clause-octets c = octets
 
 pub returns-clause-due : goal.returns-clause-due
 returns-clause-due c = due
-
-pub returns-clause-offer : goal.returns-clause-offer
-returns-clause-offer c = offer
-
-pub returns-clause-withdraw : goal.returns-clause-withdraw
-returns-clause-withdraw c = withdraw
 
 pub returns-clause-report : goal.returns-clause-report
 returns-clause-report c = report

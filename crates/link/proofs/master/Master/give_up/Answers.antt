@@ -23,7 +23,7 @@ invariant_of-self-else-self-station c =
         turn = subst (λ (n : ℕ). c.self.inside.turn < n) (sym (length-set ss c.args.station s))
             f.turn;
         stations = set_fits size ss c.args.station s within f.stations
-            (record { address = there.address; link = tt; offered = there.offered });
+            (record { address = there.address; link = tt });
         outstanding = f.outstanding;
       };
     }
