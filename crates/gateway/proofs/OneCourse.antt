@@ -23,6 +23,7 @@ use Rattle.gateway.specs.Frames.{Connection}
 use Rattle.gateway.specs.Connections.{no_channel, present, is_replaced, ends, IsConnection}
 use Rattle.gateway.specs.Walls.{wall_on}
 use Rattle.gateway.specs.Reports.{Setup, taken_objects}
+use Rattle.gateway.specs.Serial.{next_request}
 use Rattle.gateway.specs.Works.{has_lacked_place, begun_works, gapless_works, settled_works}
 use Rattle.gateway.specs.Works.{done_works, asked_works}
 use Rattle.gateway.specs.Course.{Course, here_of, came_frames, with_frame, with_frames, with_works}

@@ -57,6 +57,11 @@ restarted_silent w = kept_over (λ v. v.serial.silent ≡ w.serial.silent) (λ s
 pub restarted_gap : (w : Works) → (restarted_works w).serial.gap ≡ w.serial.gap
 restarted_gap w = kept_over (λ v. v.serial.gap ≡ w.serial.gap) (λ station v h. h) w refl
 
+pub restarted_waiting : (w : Works) → (restarted_works w).serial.commands.waiting
+    ≡ w.serial.commands.waiting
+restarted_waiting w =
+    kept_over (λ v. v.serial.commands.waiting ≡ w.serial.commands.waiting) (λ station v h. h) w refl
+
 pub restarted_answers : (w : Works) → (restarted_works w).serial.commands.answers
     ≡ w.serial.commands.answers
 restarted_answers w =

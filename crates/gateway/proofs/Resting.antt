@@ -22,7 +22,8 @@ use Rattle.gateway.specs.State.{State}
 use Rattle.gateway.specs.Works.{Works, settled_works, unasked_works}
 use Rattle.gateway.specs.Line.{IsServed, done_in}
 use Rattle.link.specs.Leave.{holds_poll, IsLeftToPolls}
-use Rattle.link.specs.Turns.{StationState, station_at}
+use Rattle.link.specs.declared.turn.StationState.{StationState}
+use Rattle.link.specs.Turns.{station_at}
 use Rattle.link.specs.Procedure.{link_after}
 use Rattle.link.specs.declared.procedure.Link.{Link}
 use Rattle.link.specs.declared.procedure.Link.TheVariants.{Down, Available, Next, Held}
