@@ -1,13 +1,12 @@
 -- The calls by which a request is asked for, and those by which a step ends before an event.
 use Rattle.std.specs.Prelude.{if◌then◌else◌, nat_lt, not, option_map}
-use Rattle.std.proofs.Common.{◌≡◌, ℕ, zero, suc, ◌<◌, ◌≤◌, Bool, true, false, List, [], ◌∷◌, ◌++◌}
+use Rattle.std.proofs.Common.{◌≡◌, ℕ, ◌<◌, Bool, true, false, List, [], ◌∷◌, ◌++◌}
 use Rattle.std.proofs.Common.{length, Option, Some, None, refl, ap, sym, subst, ◌∙◌, arith}
 use Rattle.std.proofs.lemmas.Bool.Decides.{nat_tests}
 use Rattle.ft12.specs.Fronts.{front_of}
 use Rattle.link.specs.declared.settings.LinkSettings.{LinkSettings}
 use Rattle.link.specs.Exchanges.{Exchanges, Sending, begun_by, given_up_at}
 use Rattle.link.specs.Carried.{awaits_command, awaits_command_in, given_up}
-use Rattle.link.specs.Carried as line
 use Rattle.link.specs.Runs.{Call, Next, FitsLine, called, exchanged, MayCallAll, called_all}
 use Rattle.link.specs.Runs.{exchanged_all}
 use Rattle.link.specs.Turns.{CommandsWaiting}

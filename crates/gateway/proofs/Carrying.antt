@@ -4,7 +4,6 @@ use Rattle.std.proofs.Common.{length, refl, sym, ap, subst, ◌∙◌, arith}
 use Rattle.std.specs.Prelude.{◌⊎◌, if◌then◌else◌}
 use Rattle.std.proofs.Common.{inl, inr}
 use Rattle.std.proofs.lemmas.Bool.{cases_eq}
-use Rattle.link.specs.declared.turn.StationState.{StationState}
 use Rattle.link.specs.Turns.{station_at}
 use Rattle.link.specs.Primary.{Primary}
 use Rattle.link.specs.Carried as line

@@ -19,10 +19,9 @@ use Rattle.gateway.specs.Frames.{Connection, new_connection, acknowledged_count,
 use Rattle.gateway.specs.Frames.{AreInOrder}
 use Rattle.gateway.specs.Connections.{Channel, no_channel, ends, present, past, over, closed_by}
 use Rattle.gateway.specs.Connections.{IsBehind, BeginsWithFault, IsConnection, AreConnections}
-use Rattle.gateway.specs.Reports.{Setup, exchanges_of, taken_objects, taken_pieces, reports_in}
+use Rattle.gateway.specs.Reports.{Setup, taken_objects, taken_pieces, reports_in}
 use Rattle.gateway.specs.Reports.{parts_of_all}
 use Rattle.gateway.specs.Traffic.{replaces}
-use Rattle.command.specs.State as tasks
 use Rattle.gateway.specs.Serial as serial
 use Rattle.gateway.specs.Serial.{Serial}
 use Rattle.gateway.specs.Centre.{Centre}

@@ -4,10 +4,8 @@ use Rattle.std.proofs.Common.{Option, None, refl, sym, ap, subst, ◌∙◌, app
 use Rattle.std.proofs.Common.{length-append}
 use Rattle.std.specs.Prelude.{if◌then◌else◌}
 use Rattle.std.proofs.lemmas.List.{append-nil}
-use Rattle.link.specs.Matching.{Matches}
 use Rattle.session.specs.declared.kinds.Close.TheVariants.{Replaced}
 use Rattle.session.specs.Session as session
-use Rattle.command.specs.State as tasks
 use Rattle.events.specs.Queue as queue
 use Rattle.gateway.specs.Log.{Log, Input, Opened, TcpIn, CutOff, Came, Went, Closed, latest}
 use Rattle.gateway.specs.Streams.{spelled}
@@ -15,7 +13,7 @@ use Rattle.gateway.specs.Frames.{Sent, Connection, new_connection, AreInOrder}
 use Rattle.gateway.specs.Behind.{GoesBehindFrames}
 use Rattle.gateway.specs.Connections.{is_replaced, Channel, no_channel, new_channel, receiving}
 use Rattle.gateway.specs.Connections.{present, past, AreConnections}
-use Rattle.gateway.specs.Reports.{Setup, exchanges_of, taken_objects, taken_pieces, reports_in}
+use Rattle.gateway.specs.Reports.{Setup, taken_objects, taken_pieces, reports_in}
 use Rattle.gateway.specs.Reports.{parts_of_all}
 use Rattle.gateway.specs.Traffic.{HasRested, IsFaithful}
 use Rattle.gateway.specs.declared.walls.Wall.{Wall}

@@ -31,7 +31,8 @@ settled_waiting at w = by_silent w.serial.silent
 
 pub are_user_data : AnswersStay → (p : Setup) (log : Log) (c : Course) → Runs p log c → (at : ℕ)
     → AreUserData p.link.size (waiting_in (settled_works at c.works).serial.commands)
-are_user_data stay p log c r at = λ station asdu e. by_oldest station asdu (oldest station ws) refl e
+are_user_data stay p log c r at =
+    λ station asdu e. by_oldest station asdu (oldest station ws) refl e
   where
     ws : List Waiting
     ws = (settled_works at c.works).serial.commands.waiting

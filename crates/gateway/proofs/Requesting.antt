@@ -1,5 +1,5 @@
 -- A request is asked for: the lemmas in the form that answers cite.
-use Rattle.std.proofs.Common.{◌≡◌, ℕ, ◌≤◌, ◌+◌, Bool, true, false, not, List, [], ◌∷◌, ◌++◌, refl}
+use Rattle.std.proofs.Common.{◌≡◌, ℕ, ◌≤◌, Bool, true, false, not, List, [], ◌∷◌, ◌++◌, refl}
 use Rattle.std.proofs.Common.{ap, sym, ◌∙◌, subst, arith, Option, Some, None}
 use Rattle.std.specs.Prelude.{IfSome, is_some, if◌then◌else◌, option_map}
 use Rattle.std.proofs.lemmas.List.{append-nil}
@@ -10,7 +10,7 @@ use Rattle.link.specs.Procedure.{is_held}
 use Rattle.link.specs.declared.turn.Chosen.{Chosen}
 use Rattle.link.specs.Turns.{CommandsWaiting, station_at}
 use Rattle.link.specs.Runs.{AreUserData, FitsLine}
-use Rattle.link.specs.Exchanges.{Exchanges, Sending, begun_by}
+use Rattle.link.specs.Exchanges.{Sending, begun_by}
 use Rattle.link.specs.Primary.{Primary, Outstanding, asked, asked_from, after_choice, choice}
 use Rattle.link.specs.Primary.{sending_from, sending_by, request_of, is_command}
 use Rattle.link.specs.declared.request.Request.{Request}
@@ -96,7 +96,8 @@ module _ (laws : LineLaws) (p : Setup) (s : State) (log : Log) (a : Agrees p s l
   fits_line : FitsLine q may waiting
   fits_line = laws.carried p.link p.addresses q (exchanges_of p log) may waiting
       (subst (λ (z : Serial). AreUserData p.link.size (waiting_in z.commands)) (sym a.stands.does)
-      (are_user_data a.talk.command_laws.mirrored_waits p log a.course a.talk.course_runs at)) a.line
+      (are_user_data a.talk.command_laws.mirrored_waits p log a.course a.talk.course_runs at))
+      a.line
 
   command_waits : (x : Sending) → next_request may s.serial ≡ Some x
       → (fcb : Bool) (asdu : List ℕ)

@@ -2,16 +2,13 @@
 use Rattle.std.proofs.Common.{◌≡◌, ℕ, ◌<◌, ◌&&◌, Bool, true, false, nat_lt, List, [], ◌∷◌, ◌++◌}
 use Rattle.std.proofs.Common.{length, refl, ap, sym, ◌∙◌, subst, arith, Option, Some, None, inl}
 use Rattle.std.proofs.Common.{inr}
-use Rattle.std.specs.Prelude.{if◌then◌else◌, option_map, ◌⊎◌}
+use Rattle.std.specs.Prelude.{if◌then◌else◌, ◌⊎◌}
 use Rattle.std.proofs.lemmas.List.{append-nil}
 use Rattle.std.proofs.lemmas.Bool.{lt-ltb}
 use Rattle.link.specs.Primary.{Primary, Outstanding}
 use Rattle.link.specs.Primary as primary
-use Rattle.session.specs.Session as session
 use Rattle.session.specs.Session.{is_transferring}
-use Rattle.events.specs.Queue as queue
 use Rattle.gateway.specs.Log.{Log, latest}
-use Rattle.gateway.specs.Connections.{past, over}
 use Rattle.gateway.specs.Reports.{Setup, address_at, exchanges_of, exchanges_with}
 use Rattle.gateway.specs.Gaps.{gaps_reported, gap_for}
 use Rattle.gateway.specs.Traffic.{IsAtRest}
@@ -42,7 +39,7 @@ use Rattle.link.specs.LineLaws.{LineLaws}
 use Rattle.gateway.proofs.Stations.{line_rests}
 use Rattle.gateway.proofs.Phases.{sent_all}
 use Rattle.gateway.proofs.Agreement.{is_full, same_room}
-use Rattle.gateway.proofs.Closing.{stands, stands_now}
+use Rattle.gateway.proofs.Closing.{stands_now}
 
 -- what is left to a station at rest
 left_at_rest : (s : StationState) (command : Option (List ℕ)) → IsLeftToPolls s command s.link

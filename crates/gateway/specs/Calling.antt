@@ -2,7 +2,7 @@
 -- octets of its event, its moment, and a request, with the commands that wait (this gateway's own
 -- profile, over the procedures of IEC 60870-5-2).
 use Rattle.std.specs.Prelude.{◌≡◌, ℕ, zero, suc, Bool, true, false, if◌then◌else◌, List, [], ◌∷◌}
-use Rattle.std.specs.Prelude.{◌++◌, length, Option, Some, None}
+use Rattle.std.specs.Prelude.{◌++◌, length}
 use Rattle.ft12.specs.Fronts.{front_of}
 use Rattle.link.specs.Exchanges.{Exchanges}
 use Rattle.link.specs.Carried.{awaits_command_in, given_up_upto}

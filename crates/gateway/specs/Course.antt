@@ -36,8 +36,7 @@ use Rattle.gateway.specs.Reports.{taken_pieces}
 use Rattle.gateway.specs.Serial.{is_first_command, answer_outcome, next_request}
 use Rattle.gateway.specs.Works.{Works, first_works, has_lacked_place, LearnsOf, received_works}
 use Rattle.gateway.specs.Works.{sent_works, cut_works, octets_works, begun_works, settled_works}
-use Rattle.gateway.specs.Works.{gapless_works, asked_works, done_works}
-use Rattle.gateway.specs.Works.{restarted_works}
+use Rattle.gateway.specs.Works.{gapless_works, asked_works, done_works, restarted_works}
 
 pub record Course : Type 0 where
   -- what was said on the open connection: frames that came and frames that went out, each with its

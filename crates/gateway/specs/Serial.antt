@@ -1,6 +1,6 @@
 -- The line's side of a gateway: its primary station, commands, and what is counted; and what each
--- thing that happens makes of them (IEC 60870-5-101, 7.2.3; when own answers are kept is
--- this gateway's own profile).
+-- thing that happens makes of them (IEC 60870-5-101, 7.2.3; when own answers are kept is this
+-- gateway's own profile).
 use Rattle.std.specs.Prelude.{ℕ, Bool, true, false, not, ◌&&◌, if◌then◌else◌, List, [], ◌∷◌}
 use Rattle.std.specs.Prelude.{Option, Some, None}
 use Rattle.ft12.specs.Fronts.{front_of}

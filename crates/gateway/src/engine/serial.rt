@@ -37,9 +37,7 @@ use asdu::{Asdu, Piece, objects_are_those_of_the_asdu, pieces_carry_the_report, 
 use command::{Act, Commands};
 use elements::TypeId;
 use ft12::{Frame, FrameRef};
-use link::{
-    LinkUser, Master, Outcome, Request, RequestKind, polls_wait_for_leave,
-};
+use link::{LinkUser, Master, Outcome, Request, RequestKind, polls_wait_for_leave};
 use session::Close;
 use std::marker::Model;
 
