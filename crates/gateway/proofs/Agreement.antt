@@ -1,5 +1,5 @@
 -- Each frame that goes out keeps the agreement of state and log.
-use Rattle.std.proofs.Common.{◌≡◌, ℕ, ◌+◌, ◌-◌, ◌%◌, ◌<◌, ◌≤◌, true, false, not, nat_lt, List, []}
+use Rattle.std.proofs.Common.{◌≡◌, ℕ, ◌+◌, ◌%◌, ◌<◌, ◌≤◌, true, false, not, nat_lt, List, []}
 use Rattle.std.proofs.Common.{◌∷◌, ◌++◌, length, take, drop, refl, ap, sym, ◌∙◌, subst, arith}
 use Rattle.std.proofs.Common.{length-append, Some, None, zero-add, inl, inr}
 use Rattle.std.specs.Prelude.{if◌then◌else◌, ◌⊎◌}
@@ -335,7 +335,6 @@ after_piece p s log unjudged asdu rest phase a flushing ready may on none unsent
             a.stands.answered;
       };
       gaps = a.gaps;
-      offers = a.offers;
       plain = a.plain;
       here = went_out s.centre (piece_sent s).centre (present log) unjudged (here_of a.course)
           (a.course.sent ++ f
@@ -436,7 +435,6 @@ after_own p s log unjudged asdu phase a flushing ready may on first fits =
             a.stands.answered;
       };
       gaps = a.gaps;
-      offers = a.offers;
       plain = fewer_plain s.serial.commands.answers a.plain;
       here = went_out s.centre (own_sent s).centre (present log) unjudged (here_of a.course)
           (a.course.sent ++ f ∷ [])
@@ -510,7 +508,6 @@ after_due p s t log unjudged f phase a flushing next on fits none goes same = re
         a.stands.answered;
   };
   gaps = a.gaps;
-  offers = a.offers;
   plain = a.plain;
   here = went_out s.centre (with_session t s).centre (present log) unjudged
       (here_of a.course) a.course.sent f a.here fits on same.same_connected refl refl (a.here.sent

@@ -1,34 +1,35 @@
 -- The calls by which a request is asked for, and those by which a step ends before an event.
 use Rattle.std.specs.Prelude.{if◌then◌else◌, nat_lt, not, option_map}
-use Rattle.std.proofs.Common.{◌≡◌, ℕ, zero, suc, ◌<◌, ◌≤◌, Bool, true, false, List, [], ◌∷◌, ◌++◌}
+use Rattle.std.proofs.Common.{◌≡◌, ℕ, ◌<◌, Bool, true, false, List, [], ◌∷◌, ◌++◌}
 use Rattle.std.proofs.Common.{length, Option, Some, None, refl, ap, sym, subst, ◌∙◌, arith}
 use Rattle.std.proofs.lemmas.Bool.Decides.{nat_tests}
 use Rattle.ft12.specs.Fronts.{front_of}
 use Rattle.link.specs.declared.settings.LinkSettings.{LinkSettings}
 use Rattle.link.specs.Exchanges.{Exchanges, Sending, begun_by, given_up_at}
 use Rattle.link.specs.Carried.{awaits_command, awaits_command_in, given_up}
-use Rattle.link.specs.Carried as line
-use Rattle.link.specs.Requests.{IsUserData}
-use Rattle.link.specs.Runs.{Call, Next, called, exchanged, MayCallAll, called_all, exchanged_all}
+use Rattle.link.specs.Runs.{Call, Next, FitsLine, called, exchanged, MayCallAll, called_all}
+use Rattle.link.specs.Runs.{exchanged_all}
+use Rattle.link.specs.Turns.{CommandsWaiting}
 use Rattle.link.specs.Primary.{Primary, asked, sending}
 use Rattle.link.specs.Matching.{Matches}
 use Rattle.link.specs.LineLaws.{LineLaws}
 use Rattle.command.specs.declared.waiting.Waiting.{Waiting}
 use Rattle.command.specs.State.{octets_waiting, oldest}
-use Rattle.command.specs.History.{History, next_octets}
+use Rattle.command.specs.History.{next_octets}
 use Rattle.command.specs.Calls.{Run}
 use Rattle.command.specs.Laws.{AfterEachRun}
 use Rattle.gateway.specs.Log.{Log, LineIn, Opened, TcpIn, CutOff, Ticked, WallIs, Restarted, Came}
 use Rattle.gateway.specs.Log.{Went, LineOut, TcpOut, Closed, GapOut, latest}
 use Rattle.gateway.specs.Connections.{present}
 use Rattle.gateway.specs.Reports.{Setup, exchanges_of}
-use Rattle.gateway.specs.Serial.{offered_by, offered_upto, unless_silent}
-use Rattle.gateway.specs.Works.{Works, settled_works, ready_works, unasked_works}
+use Rattle.gateway.specs.Serial as serial
+use Rattle.gateway.specs.Serial.{Serial, unless_silent, waiting_in, next_request}
+use Rattle.gateway.specs.Works.{Works, settled_works, unasked_works}
 use Rattle.gateway.specs.Course.{Course, room_in, HasTakenAll, IsLeft, Runs}
-use Rattle.gateway.specs.Calling.{is_asking, offer_of, offers, IsLeave, Asks, EndsStep}
-use Rattle.gateway.proofs.Waiting.{AnswersStay, AllFitLine, call_fits, oldest_fits}
-use Rattle.gateway.proofs.Called.{IsMade, all_so, all_made}
-use Rattle.gateway.proofs.Offering.{count_upto}
+use Rattle.gateway.specs.Calling.{is_asking, waiting_by, IsLeave, Asks, EndsStep}
+use Rattle.gateway.proofs.Waiting.{AnswersStay}
+use Rattle.gateway.proofs.Called.{IsMade, all_made}
+use Rattle.gateway.proofs.Lending.{settled_waiting, are_user_data}
 use Rattle.gateway.proofs.Order.{frames_due, sent_due, closed_due}
 use Rattle.gateway.proofs.Restarting.{restarted_due, done_due}
 use Rattle.gateway.proofs.Carrying.{IsForOne}
@@ -95,15 +96,9 @@ pub leads_nowhere : (p : Setup) (q : Primary) (e : Exchanges) → Matches p.link
 leads_nowhere p q e t = record { may = tt; line = refl; exchanges = refl; matches = t }
 
 module _ (laws : Laws) (p : Setup) where
-  -- What waits fits the line
+  -- What waits
 
-  pub waits_fit : (log : Log) (c : Course) → Runs p log c
-      → AllFitLine p.link.size c.works.serial.commands.waiting
-  waits_fit = all_so p (λ log r. AllFitLine p.link.size r.state.waiting)
-      (λ log call r is h. call_fits laws.stay p.link.size call r is.octets h)
-      (λ entry log r h. h) tt
-
-  pub waiting_is : (log : Log) (c : Course) → Runs p log c → (k : ℕ)
+  waiting_is : (log : Log) (c : Course) → Runs p log c → (k : ℕ)
       → octets_waiting k c.works.serial.commands
       ≡ next_octets p.sizes p.stations p.select_ms p.max_age_ms k c.works.history
   waiting_is log c r k =
@@ -112,40 +107,15 @@ module _ (laws : Laws) (p : Setup) where
       ≡ next_octets p.sizes p.stations p.select_ms p.max_age_ms k r.history) m.leave
       (laws.waiting p.stations p.sizes p.select_ms p.max_age_ms m.made k)
 
-  -- What waits is offered
-
-  offers_lead : (n : ℕ) (ws : List Waiting) (h : History) (q : Primary) (e : Exchanges)
-      → n ≤ length q.stations → AllFitLine p.link.size ws
-      → ((k : ℕ) → option_map (λ (w : Waiting). w.octets) (oldest k ws)
-      ≡ next_octets p.sizes p.stations p.select_ms p.max_age_ms k h)
-      → Matches p.link p.addresses q e
-      → Leads p q e (offers p n h) (offered_upto n ws q) e
-  offers_lead zero ws h q e within fit waits t = leads_nowhere p q e t
-  offers_lead (suc k) ws h q e within fit waits t =
-      let so_far : Primary = offered_upto k ws q in
-      let before : Leads p q e (offers p k h) so_far e =
-      offers_lead k ws h q e (omega (arith, within)) fit waits t in
-      leads_on p q so_far (offered_by (oldest k ws) k so_far) e e e (offers p k h)
-      (offer_of k (next_octets p.sizes p.stations p.select_ms p.max_age_ms k h)) before
-      (subst (λ (o : Option (List ℕ)). Leads p so_far e (offer_of k o)
-      (offered_by (oldest k ws) k so_far) e) (waits k)
-      (by_oldest so_far (omega (arith, within, count_upto laws.line k ws q)) before.matches
-      (oldest k ws) refl))
+  -- What waits in the commands is what waits by the history, for each station alike.
+  lent_is : (log : Log) (c : Course) → Runs p log c → (at : ℕ)
+      → waiting_in (settled_works at c.works).serial.commands ≡ waiting_by p c.works.history
+  lent_is log c r at = λ i k. each k i
     where
-      by_oldest : (r : Primary) → k < length r.stations → Matches p.link p.addresses r e
-          → (o : Option Waiting) → oldest k ws ≡ o
-          → Leads p r e (offer_of k (option_map (λ (w : Waiting). w.octets) o)) (offered_by o k r) e
-      by_oldest r less matches None is = leads_nowhere p r e matches
-      by_oldest r less matches (Some w) is =
-          let fits : IsUserData r.settings.size w.octets =
-          subst (λ (s : LinkSettings). IsUserData s.size w.octets) (sym matches.settings_are)
-          (oldest_fits p.link.size k ws w fit is) in
-          record {
-            may = ((less, fits), tt);
-            line = refl;
-            exchanges = refl;
-            matches = laws.line.offer p.link p.addresses r e k w.octets less fits matches;
-          }
+      each : (k : ℕ) → octets_waiting k (settled_works at c.works).serial.commands
+          ≡ next_octets p.sizes p.stations p.select_ms p.max_age_ms k c.works.history
+      each k = ap (λ (ws : List Waiting). option_map (λ (w : Waiting). w.octets) (oldest k ws))
+          (settled_waiting at c.works) ∙ waiting_is log c r k
 
   pub settled_line : (at : ℕ) (w : Works) → (settled_works at w).serial.line ≡ w.serial.line
   settled_line at w = by_silent w.serial.silent
@@ -153,24 +123,6 @@ module _ (laws : Laws) (p : Setup) where
       by_silent : (o : Option ℕ) → (unless_silent o w.serial).line ≡ w.serial.line
       by_silent None = refl
       by_silent (Some i) = refl
-
-  settled_waiting : (at : ℕ) (w : Works) → (settled_works at w).serial.commands.waiting
-      ≡ w.serial.commands.waiting
-  settled_waiting at w = by_silent w.serial.silent
-    where
-      by_silent : (o : Option ℕ) → (unless_silent o w.serial).commands.waiting
-          ≡ w.serial.commands.waiting
-      by_silent None = refl
-      by_silent (Some i) = refl
-
-  ready_line : (at : ℕ) (w : Works) → (ready_works at w).serial.line
-      ≡ offered_upto (length w.serial.line.stations) w.serial.commands.waiting w.serial.line
-  ready_line at w =
-      ap (λ (q : Primary).
-      offered_upto (length q.stations) (settled_works at w).serial.commands.waiting q)
-      (settled_line at w)
-      ∙ ap (λ (ws : List Waiting). offered_upto (length w.serial.line.stations) ws w.serial.line)
-      (settled_waiting at w)
 
   -- A request is asked for
 
@@ -187,47 +139,47 @@ module _ (laws : Laws) (p : Setup) where
       by_test true e = none_full _ _ e
       by_test false e = full _ _ e
 
-  pub ready_leads : (at : ℕ) (w : Works) (e : Exchanges)
-      → Matches p.link p.addresses w.serial.line e
-      → AllFitLine p.link.size w.serial.commands.waiting
-      → ((k : ℕ) → octets_waiting k w.serial.commands
-      ≡ next_octets p.sizes p.stations p.select_ms p.max_age_ms k w.history)
-      → Leads p w.serial.line e (offers p (length p.addresses) w.history)
-      (ready_works at w).serial.line e
-  ready_leads at w e t fit waits =
-      subst (λ (r : Primary). Leads p w.serial.line e (offers p (length p.addresses) w.history) r e)
-      (sym (ready_line at w))
-      (subst (λ (n : ℕ). Leads p w.serial.line e (offers p n w.history)
-      (offered_upto (length w.serial.line.stations) w.serial.commands.waiting w.serial.line) e)
-      t.count
-      (offers_lead (length w.serial.line.stations) w.serial.commands.waiting w.history
-      w.serial.line e (omega arith) fit waits t))
+  -- what goes out fits the line
+  pub line_fits : (log : Log) (c : Course) → Runs p log c → (at : ℕ) (room : Bool) (e : Exchanges)
+      → Matches p.link p.addresses (settled_works at c.works).serial.line e
+      → FitsLine (settled_works at c.works).serial.line room
+      (waiting_in (settled_works at c.works).serial.commands)
+  line_fits log c r at room e t =
+      let s : Serial = (settled_works at c.works).serial in
+      laws.line.carried p.link p.addresses s.line e room (waiting_in s.commands)
+      (are_user_data laws.stay p log c r at) t
 
-  pub asking : (at : ℕ) (room : Bool) (w : Works) (e : Exchanges)
-      → Matches p.link p.addresses w.serial.line e
-      → AllFitLine p.link.size w.serial.commands.waiting
-      → ((k : ℕ) → octets_waiting k w.serial.commands
-      ≡ next_octets p.sizes p.stations p.select_ms p.max_age_ms k w.history)
-      → Leads p w.serial.line e
-      (offers p (length p.addresses) w.history ++ Next at room ∷ [])
-      (asked (ready_works at w).serial.line at room)
-      (begun_by at (sending (ready_works at w).serial.line room) e)
-  asking at room w e t fit waits =
-      let q : Primary = (ready_works at w).serial.line in
-      let ready : Leads p w.serial.line e (offers p (length p.addresses) w.history) q e =
-      ready_leads at w e t fit waits in
-      leads_on p w.serial.line q (asked q at room) e e (begun_by at (sending q room) e)
-      (offers p (length p.addresses) w.history) (Next at room ∷ []) ready
-      (record {
-        may = (tt, tt);
-        line = refl;
-        exchanges = refl;
-        matches = laws.line.next p.link p.addresses q e at room ready.matches;
-      })
+  next_leads : (at : ℕ) (room : Bool) (q : Primary) (waiting : CommandsWaiting) (e : Exchanges)
+      → FitsLine q room waiting → Matches p.link p.addresses q e
+      → Leads p q e (Next at room waiting ∷ []) (asked q at room waiting)
+      (begun_by at (sending q room waiting) e)
+  next_leads at room q waiting e fits t = record {
+    may = (fits, tt);
+    line = refl;
+    exchanges = refl;
+    matches = laws.line.next p.link p.addresses q e at room waiting fits t;
+  }
+
+  pub asking : (log : Log) (c : Course) → Runs p log c → (at : ℕ) (room : Bool) (e : Exchanges)
+      → Matches p.link p.addresses c.works.serial.line e
+      → Leads p c.works.serial.line e (Next at room (waiting_by p c.works.history) ∷ [])
+      (serial.asked at room None (settled_works at c.works).serial).line
+      (begun_by at (next_request room (settled_works at c.works).serial) e)
+  asking log c r at room e t =
+      let s : Serial = (settled_works at c.works).serial in
+      let same : s.line ≡ c.works.serial.line = settled_line at c.works in
+      let matches : Matches p.link p.addresses s.line e =
+      subst (λ (q : Primary). Matches p.link p.addresses q e) (sym same) t in
+      subst (λ (q : Primary). Leads p q e (Next at room (waiting_by p c.works.history) ∷ [])
+      (serial.asked at room None s).line (begun_by at (next_request room s) e)) same
+      (subst (λ (waiting : CommandsWaiting). Leads p s.line e (Next at room waiting ∷ [])
+      (serial.asked at room None s).line (begun_by at (next_request room s) e))
+      (lent_is log c r at)
+      (next_leads at room s.line (waiting_in s.commands) e (line_fits log c r at room e matches)
+      matches))
 
   pub asks : (log : Log) (c : Course) → Runs p log c → HasTakenAll (present log) c.talk
-      → Asks p log (offers p (length p.addresses) c.works.history
-      ++ Next (latest log) (room_in p log c) ∷ [])
+      → Asks p log (Next (latest log) (room_in p log c) (waiting_by p c.works.history) ∷ [])
   asks log c r all = record {
     course = c;
     runs = r;
@@ -288,18 +240,17 @@ module _ (laws : Laws) (p : Setup) where
 
       by_due : (b : Bool) → w.is_due ≡ b → is_asking log ≡ w.is_due
           → Ends log w.serial.line (exchanges_of p log)
-          (if b then unasked_works at room (ready_works at w) else w).serial.line
+          (if b then unasked_works at room (settled_works at w) else w).serial.line
       by_due true due same = record {
-        calls = offers p (length p.addresses) w.history ++ Next at room ∷ [];
+        calls = Next at room (waiting_by p w.history) ∷ [];
         shown = subst (λ (b : Bool). EndsStep p log b
-            (offers p (length p.addresses) w.history ++ Next at room ∷ []))
+            (Next at room (waiting_by p w.history) ∷ []))
             (sym (same ∙ due)) (asks log before r all);
         leads = subst (λ (o : Option Sending). Leads p w.serial.line (exchanges_of p log)
-            (offers p (length p.addresses) w.history ++ Next at room ∷ [])
-            (asked (ready_works at w).serial.line at room) (begun_by at o (exchanges_of p log)))
-            (left.none due)
-            (asking at room w (exchanges_of p log) t (waits_fit log before r)
-            (waiting_is log before r));
+            (Next at room (waiting_by p w.history) ∷ [])
+            (serial.asked at room None (settled_works at w).serial).line
+            (begun_by at o (exchanges_of p log)))
+            (left.none due) (asking log before r at room (exchanges_of p log) t);
       }
       by_due false due same = record {
         calls = [];

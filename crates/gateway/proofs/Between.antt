@@ -9,7 +9,7 @@ use Rattle.gateway.specs.Log.{LineOut, TcpOut, Closed, GapOut, Came, Went, lates
 use Rattle.gateway.specs.Connections.{present}
 use Rattle.gateway.specs.Reports.{Setup}
 use Rattle.gateway.specs.Serial.{Serial}
-use Rattle.gateway.specs.Works.{Works, unasked_works, ready_works, done_works}
+use Rattle.gateway.specs.Works.{Works, unasked_works, settled_works, done_works}
 use Rattle.gateway.specs.Course.{Course, closed_course, room_in, Runs}
 use Rattle.gateway.specs.Phases.{resting}
 use Rattle.gateway.specs.State.{State, IsBetweenSteps}
@@ -36,7 +36,7 @@ done_silent : (at : ℕ) (room : Bool) (w : Works)
 done_silent at room w h = by_due w.is_due h
   where
     by_due : (b : Bool) → (b ≡ false → w.serial.silent ≡ None)
-        → (if b then unasked_works at room (ready_works at w) else w).serial.silent ≡ None
+        → (if b then unasked_works at room (settled_works at w) else w).serial.silent ≡ None
     by_due true h = refl
     by_due false h = h refl
 

@@ -35,7 +35,7 @@ use Rattle.gateway.specs.Serial.{unless_silent}
 use Rattle.gateway.specs.Works.{Works, tasks_of, logged_kept, is_command_report, mirrored_works}
 use Rattle.gateway.specs.Works.{LearnsReport, LearnsOf, received_works, answered_works}
 use Rattle.gateway.specs.Works.{logged_silent}
-use Rattle.gateway.specs.Works.{settled_works, ready_works, unasked_works, done_works, logged_put}
+use Rattle.gateway.specs.Works.{settled_works, unasked_works, done_works, logged_put}
 use Rattle.gateway.specs.Works.{link_given_up_works, command_given_up_works}
 use Rattle.gateway.specs.Works.{commands_given_up_works_upto, restarted_works}
 use Rattle.link.specs.Carried.{awaits_command}
@@ -216,7 +216,7 @@ module _ (p : Setup) (at : ℕ) (Q : Run → Type 0) (one : (call : Call) (r : R
   pub finish : (room : Bool) (w : Works) → Q (tasks_of w) → Q (tasks_of (done_works at room w))
   finish room w c = go w.is_due
     where
-      go : (b : Bool) → Q (tasks_of (if b then unasked_works at room (ready_works at w) else w))
+      go : (b : Bool) → Q (tasks_of (if b then unasked_works at room (settled_works at w) else w))
       go true = settle w c
       go false = c
 
@@ -319,13 +319,13 @@ module _ (p : Setup) (P : Log → Run → Type 0) (one : (log : Log) (call : Cal
       (left_so log now CutOff r.0 r.1 r.4 (all_so start log r.0 r.2)))
   all_so start (Went now (LineOut octets) ∷ log) c r =
       let new : Log = Went now (LineOut octets) ∷ log in
-      let ready : P new (tasks_of (ready_works (latest log) r.0.works)) =
-      next (Went now (LineOut octets)) log (tasks_of (ready_works (latest log) r.0.works))
+      let ready : P new (tasks_of (settled_works (latest log) r.0.works)) =
+      next (Went now (LineOut octets)) log (tasks_of (settled_works (latest log) r.0.works))
       (settle p (latest log) (P log) (one log) r.0.works (all_so start log r.0 r.1)) in
       subst (So new) (sym r.2.is)
       (put p (latest new) (P new) (one new) (is_first_command
-      (ready_works (latest log) r.0.works).serial.line r.2.request) r.2.request.station
-      (ready_works (latest log) r.0.works) ready)
+      (settled_works (latest log) r.0.works).serial.line r.2.request) r.2.request.station
+      (settled_works (latest log) r.0.works) ready)
   all_so start (Went now (GapOut station session) ∷ log) c r =
       subst (So (Went now (GapOut station session) ∷ log)) (sym r.2.is)
       (next (Went now (GapOut station session)) log (tasks_of r.0.works) (all_so start log r.0 r.1))

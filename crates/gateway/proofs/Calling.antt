@@ -14,27 +14,28 @@ use Rattle.link.specs.Exchanges.{Exchanges, Sending, no_exchanges, begun_by, rec
 use Rattle.link.specs.Exchanges.{timed_current, given_up_at}
 use Rattle.link.specs.Carried.{awaits_command, awaits_command_in, given_up, given_up_upto}
 use Rattle.link.specs.Carried as line
-use Rattle.link.specs.Runs.{Call, Next, Octets, Due, Withdraw, GivesUp, called}
-use Rattle.link.specs.Primary.{Primary, asked, sending, withdrawn}
+use Rattle.link.specs.Runs.{Call, Next, Octets, Due, GivesUp, called}
+use Rattle.link.specs.Primary.{Primary}
 use Rattle.link.specs.Matching.{Matches}
 use Rattle.gateway.specs.Log.{Log, Input, LineIn, Opened, TcpIn, CutOff, Ticked, WallIs, Restarted}
 use Rattle.gateway.specs.Log.{Came, Went, LineOut, TcpOut, Closed, GapOut, latest}
 use Rattle.gateway.specs.Connections.{present}
 use Rattle.gateway.specs.Reports.{Setup, AreFound, exchanges_of, sending_in}
-use Rattle.gateway.specs.Serial.{Serial}
+use Rattle.gateway.specs.Serial as serial
+use Rattle.gateway.specs.Serial.{Serial, waiting_in, next_request}
 use Rattle.gateway.specs.Works.{Works, LearnsReport, LearnsOf, is_command_report, mirrored_works}
-use Rattle.gateway.specs.Works.{octets_works, ready_works}
+use Rattle.gateway.specs.Works.{octets_works, settled_works}
 use Rattle.gateway.specs.Course.{Course, room_in, closed_course, HasTakenAll, IsLeft, SendsNext}
 use Rattle.gateway.specs.Course.{Runs}
 use Rattle.gateway.specs.Traffic.{ActsRightly}
-use Rattle.gateway.specs.Calling.{offers, give_ups, event_calls, action_calls, CallsOf}
+use Rattle.gateway.specs.Calling.{waiting_by, give_ups, event_calls, CallsOf}
 use Rattle.gateway.specs.Turning.{new_line}
 use Rattle.gateway.proofs.Order.{frames_others, sent_others}
 use Rattle.gateway.proofs.Restarting.{restarted_serial}
 use Rattle.gateway.proofs.Carrying.{line_is}
 use Rattle.gateway.proofs.Stations.{request_back}
-use Rattle.gateway.proofs.AskingCalls.{Laws, Leads, leads_on, leads_nowhere, waits_fit, waiting_is}
-use Rattle.gateway.proofs.AskingCalls.{settled_line, ready_leads, asking, asks, Ends, ends}
+use Rattle.gateway.proofs.AskingCalls.{Laws, Leads, leads_on, leads_nowhere, settled_line}
+use Rattle.gateway.proofs.AskingCalls.{line_fits, asking, asks, Ends, ends}
 
 module _ (laws : Laws) (p : Setup) where
   -- A restart
@@ -130,15 +131,6 @@ module _ (laws : Laws) (p : Setup) where
     matches = laws.line.octets p.link p.addresses q e octets t;
   }
 
-  withdraw_leads : (q : Primary) (e : Exchanges) → Matches p.link p.addresses q e
-      → Leads p q e (Withdraw ∷ []) (withdrawn q) e
-  withdraw_leads q e t = record {
-    may = (tt, tt);
-    line = refl;
-    exchanges = refl;
-    matches = laws.line.withdraw p.link p.addresses q e t;
-  }
-
   -- Each log
 
   pub record Made (log : Log) (c : Course) : Type 0 where
@@ -171,18 +163,6 @@ module _ (laws : Laws) (p : Setup) where
             (leads e.leads.matches));
       }
 
-  connection_leads : (at : ℕ) (q : Primary) (e : Exchanges) → Matches p.link p.addresses q e
-      → Leads p q e (Due at ∷ Withdraw ∷ []) (withdrawn (called q (Due at)))
-      (record { ended = e.ended; current = timed_current p.link.answer_ms at e.current })
-  connection_leads at q e t =
-      let timed : Exchanges = record {
-        ended = e.ended;
-        current = timed_current p.link.answer_ms at e.current;
-      } in
-      leads_on p q (called q (Due at)) (withdrawn (called q (Due at))) e timed timed (Due at ∷ [])
-      (Withdraw ∷ []) (due_leads at q e t)
-      (withdraw_leads (called q (Due at)) timed (due_leads at q e t).matches)
-
   received_leads : (octets : List ℕ) (at : ℕ) (q : Primary) (e : Exchanges)
       → Matches p.link p.addresses q e
       → Leads p q e (Octets octets ∷ Due at ∷ []) (called (called q (Octets octets)) (Due at))
@@ -204,38 +184,23 @@ module _ (laws : Laws) (p : Setup) where
 
   -- a connection is closed
 
-  closes : (cause : Close) (is_open : Bool) (at : ℕ) (c : Course) (e : Exchanges)
-      → Matches p.link p.addresses c.works.serial.line e
-      → Leads p c.works.serial.line e (action_calls (Closed cause))
-      (closed_course p cause is_open at c).works.serial.line e
-  closes Grammar is_open at c e t = withdraw_leads c.works.serial.line e t
-  closes SendNumber is_open at c e t = withdraw_leads c.works.serial.line e t
-  closes ReceiveNumber is_open at c e t = withdraw_leads c.works.serial.line e t
-  closes Stopped is_open at c e t = withdraw_leads c.works.serial.line e t
-  closes OwnAnswers is_open at c e t = withdraw_leads c.works.serial.line e t
-  closes Timeout is_open at c e t =
-      subst (λ (q : Primary). Leads p c.works.serial.line e (Withdraw ∷ []) (withdrawn q) e)
-      (sym (settled_line laws p at c.works)) (withdraw_leads c.works.serial.line e t)
-  closes Replaced is_open at c e t = leads_nowhere p c.works.serial.line e t
+  closed_line : (cause : Close) (is_open : Bool) (at : ℕ) (c : Course)
+      → (closed_course p cause is_open at c).works.serial.line ≡ c.works.serial.line
+  closed_line Grammar is_open at c = refl
+  closed_line SendNumber is_open at c = refl
+  closed_line ReceiveNumber is_open at c = refl
+  closed_line Stopped is_open at c = refl
+  closed_line OwnAnswers is_open at c = refl
+  closed_line Timeout is_open at c = settled_line laws p at c.works
+  closed_line Replaced is_open at c = refl
 
-  -- what goes out behind calls
-  go : (log : Log) (before : Course) (more : List Call) (r : Primary) (d : Exchanges)
-      → (made : Made log before)
-      → Leads p before.works.serial.line (exchanges_of p log) more r d
-      → Leads p (new_line p) no_exchanges (made.calls ++ more) r d
-  go log before more r d made leads = leads_on p (new_line p) before.works.serial.line r
-      no_exchanges (exchanges_of p log) d made.calls more made.leads leads
-
-  -- and leaves the line as it is
+  -- what goes to TCP leaves the line as it is
   stay_so : (log : Log) (before c : Course) (made : Made log before)
       → c.works.serial.line ≡ before.works.serial.line
-      → Leads p (new_line p) no_exchanges (made.calls ++ []) c.works.serial.line
-      (exchanges_of p log)
+      → Leads p (new_line p) no_exchanges made.calls c.works.serial.line (exchanges_of p log)
   stay_so log before c made same =
-      subst (λ (q : Primary). Leads p (new_line p) no_exchanges (made.calls ++ []) q
-      (exchanges_of p log)) (sym same)
-      (go log before [] before.works.serial.line (exchanges_of p log) made
-      (leads_nowhere p before.works.serial.line (exchanges_of p log) made.leads.matches))
+      subst (λ (q : Primary). Leads p (new_line p) no_exchanges made.calls q (exchanges_of p log))
+      (sym same) made.leads
 
   -- a request goes out
   sent : (found : AreFound p.addresses) (log : Log) (now : ℕ) (octets : List ℕ)
@@ -244,17 +209,17 @@ module _ (laws : Laws) (p : Setup) where
   sent found log now octets before c moment r sends made =
       let at : ℕ = latest log in
       let room : Bool = room_in p log before in
-      let w : Works = before.works in
+      let s : Serial = (settled_works at before.works).serial in
       let e : Exchanges = exchanges_of p log in
-      let q : Primary = (ready_works at w).serial.line in
-      let calls : List Call = offers p (length p.addresses) w.history ++ Next at room ∷ [] in
-      let fit = waits_fit laws p log before r in
-      let waits = waiting_is laws p log before r in
+      let calls : List Call = Next at room (waiting_by p before.works.history) ∷ [] in
+      let matches : Matches p.link p.addresses s.line e =
+      subst (λ (q : Primary). Matches p.link p.addresses q e)
+      (sym (settled_line laws p at before.works)) made.leads.matches in
       let read : sending_in p octets ≡ Some sends.request =
       ap (sending_in p) sends.spelled_so
-      ∙ request_back laws.line p q log room sends.request found
-      (ready_leads laws p at w e made.leads.matches fit waits).matches sends.next in
-      let same : begun_by now (sending_in p octets) e ≡ begun_by at (sending q room) e =
+      ∙ request_back laws.line p s.line log room (waiting_in s.commands) sends.request
+      (line_fits laws p log before r at room e matches) found matches sends.next in
+      let same : begun_by now (sending_in p octets) e ≡ begun_by at (next_request room s) e =
       ap (λ (n : ℕ). begun_by n (sending_in p octets) e) moment
       ∙ ap (λ (o : Option Sending). begun_by at o e) (read ∙ sym sends.next) in
       record {
@@ -263,9 +228,10 @@ module _ (laws : Laws) (p : Setup) where
         leads = subst (λ (d : Course). Leads p (new_line p) no_exchanges (made.calls ++ calls)
             d.works.serial.line (begun_by now (sending_in p octets) e)) (sym sends.is)
             (subst (λ (d : Exchanges). Leads p (new_line p) no_exchanges (made.calls ++ calls)
-            (asked q at room) d) (sym same)
-            (go log before calls (asked q at room) (begun_by at (sending q room) e) made
-            (asking laws p at room w e made.leads.matches fit waits)));
+            (serial.asked at room None s).line d) (sym same)
+            (leads_on p (new_line p) before.works.serial.line (serial.asked at room None s).line
+            no_exchanges e (begun_by at (next_request room s) e) made.calls calls made.leads
+            (asking laws p log before r at room e made.leads.matches)));
       }
 
   pub makes : AreFound p.addresses → Matches p.link p.addresses (new_line p) no_exchanges
@@ -304,15 +270,13 @@ module _ (laws : Laws) (p : Setup) where
   makes found starts (Came now Opened ∷ log) c r acts =
       let at : ℕ = latest (Came now Opened ∷ log) in
       come log now Opened r.0 r.1 c r.2 r.3 r.4 (makes found starts log r.0 r.2 acts)
-      (withdrawn (called r.1.works.serial.line (Due at)))
-      (ap (λ (d : Course). d.works.serial.line) r.5)
-      (connection_leads at r.1.works.serial.line (exchanges_of p log))
+      (called r.1.works.serial.line (Due at)) (ap (λ (d : Course). d.works.serial.line) r.5)
+      (due_leads at r.1.works.serial.line (exchanges_of p log))
   makes found starts (Came now CutOff ∷ log) c r acts =
       let at : ℕ = latest (Came now CutOff ∷ log) in
       come log now CutOff r.0 r.1 c r.2 r.3 r.4 (makes found starts log r.0 r.2 acts)
-      (withdrawn (called r.1.works.serial.line (Due at)))
-      (ap (λ (d : Course). d.works.serial.line) r.5)
-      (connection_leads at r.1.works.serial.line (exchanges_of p log))
+      (called r.1.works.serial.line (Due at)) (ap (λ (d : Course). d.works.serial.line) r.5)
+      (due_leads at r.1.works.serial.line (exchanges_of p log))
   makes found starts (Came now Restarted ∷ log) c r acts =
       come log now Restarted r.0 r.1 c r.2 r.3 r.4 (makes found starts log r.0 r.2 acts)
       (line.without_commands r.1.works.serial.line)
@@ -330,15 +294,15 @@ module _ (laws : Laws) (p : Setup) where
   makes found starts (Went now (GapOut station session) ∷ log) c r acts =
       let made : Made log r.0 = makes found starts log r.0 r.1 acts.1 in
       record {
-        calls = made.calls ++ [];
-        shown = (made.calls, made.shown, refl);
+        calls = made.calls;
+        shown = made.shown;
         leads = stay_so log r.0 c made (ap (λ (d : Course). d.works.serial.line) r.2.is);
       }
   makes found starts (Went now (TcpOut octets) ∷ log) c r acts =
       let made : Made log r.0 = makes found starts log r.0 r.2 acts.1 in
       record {
-        calls = made.calls ++ [];
-        shown = (made.calls, made.shown, refl);
+        calls = made.calls;
+        shown = made.shown;
         leads = stay_so log r.0 c made (ap (λ (d : Course). d.works.serial.line) r.4.taken
             ∙ ap (λ (s : Serial). s.line) (frames_others p r.4.frames _ _ r.1)
             ∙ ap (λ (d : Course). d.works.serial.line) r.3.put
@@ -347,14 +311,8 @@ module _ (laws : Laws) (p : Setup) where
   makes found starts (Went now (Closed cause) ∷ log) c r acts =
       let made : Made log r.0 = makes found starts log r.0 r.1 acts.1 in
       record {
-        calls = made.calls ++ action_calls (Closed cause);
-        shown = (made.calls, made.shown, refl);
-        leads = subst (λ (d : Course). Leads p (new_line p) no_exchanges
-            (made.calls ++ action_calls (Closed cause)) d.works.serial.line (exchanges_of p log))
-            (sym r.2)
-            (go log r.0 (action_calls (Closed cause))
-            (closed_course p cause (present log).is_open (latest log) r.0).works.serial.line
-            (exchanges_of p log) made
-            (closes cause (present log).is_open (latest log) r.0 (exchanges_of p log)
-            made.leads.matches));
+        calls = made.calls;
+        shown = made.shown;
+        leads = stay_so log r.0 c made (ap (λ (d : Course). d.works.serial.line) r.2
+            ∙ closed_line cause (present log).is_open (latest log) r.0);
       }

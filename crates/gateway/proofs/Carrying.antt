@@ -4,10 +4,8 @@ use Rattle.std.proofs.Common.{length, refl, sym, ap, subst, ◌∙◌, arith}
 use Rattle.std.specs.Prelude.{◌⊎◌, if◌then◌else◌}
 use Rattle.std.proofs.Common.{inl, inr}
 use Rattle.std.proofs.lemmas.Bool.{cases_eq}
-use Rattle.link.specs.declared.turn.StationState.{StationState}
 use Rattle.link.specs.Turns.{station_at}
 use Rattle.link.specs.Primary.{Primary}
-use Rattle.link.specs.Offers.{offered_at}
 use Rattle.link.specs.Carried as line
 use Rattle.link.specs.Carried.{awaits_command, station_given_up, given_up}
 use Rattle.gateway.specs.Serial.{Serial}
@@ -167,31 +165,7 @@ module _ (law : IsForOne) where
       let before : commands_given_up_upto n s ≡ s = kept_upto n s (λ k lt. none k (omega arith)) in
       ap (command_given_up n) before ∙ one_kept n s (none n (omega arith))
 
-  one_offered : (k j : ℕ) (s : Serial) → k < length s.line.stations
-      → offered_at (command_given_up k s).line j ≡ offered_at s.line j
-  one_offered k j s within = go (awaits_command s.line k) refl (cases_eq j k)
-    where
-      go : (b : Bool) → awaits_command s.line k ≡ b → (j ≡ k) ⊎ (j ≡ k → ⊥)
-          → offered_at (command_given_up k s).line j ≡ offered_at s.line j
-      go true e (inl here) =
-          subst (λ (i : ℕ). offered_at (command_given_up k s).line i ≡ offered_at s.line i)
-          (sym here)
-          (ap (λ (t : StationState). t.offered) (one_down k s within e))
-      go true e (inr other) = ap (λ (t : StationState). t.offered) (one_station k j s other)
-      go false e at = ap (λ (t : Serial). offered_at t.line j) (one_kept k s e)
-
-  offered_upto : (n j : ℕ) (s : Serial) → n ≤ length s.line.stations
-      → offered_at (commands_given_up_upto n s).line j ≡ offered_at s.line j
-  offered_upto zero j s most = refl
-  offered_upto (suc n) j s most =
-      one_offered n j (commands_given_up_upto n s) (omega (arith, number n s, most))
-      ∙ offered_upto n j s (omega arith)
-
   -- all stations
-
-  pub offered : (s : Serial) (j : ℕ) → offered_at (without_commands s).line j
-      ≡ offered_at s.line j
-  offered s j = offered_upto (length s.line.stations) j s (omega arith)
 
   pub done : (s : Serial) (k : ℕ) → k < length s.line.stations
       → awaits_command (without_commands s).line k ≡ false

@@ -19,10 +19,9 @@ use Rattle.gateway.specs.Frames.{Connection, new_connection, acknowledged_count,
 use Rattle.gateway.specs.Frames.{AreInOrder}
 use Rattle.gateway.specs.Connections.{Channel, no_channel, ends, present, past, over, closed_by}
 use Rattle.gateway.specs.Connections.{IsBehind, BeginsWithFault, IsConnection, AreConnections}
-use Rattle.gateway.specs.Reports.{Setup, exchanges_of, taken_objects, taken_pieces, reports_in}
+use Rattle.gateway.specs.Reports.{Setup, taken_objects, taken_pieces, reports_in}
 use Rattle.gateway.specs.Reports.{parts_of_all}
 use Rattle.gateway.specs.Traffic.{replaces}
-use Rattle.command.specs.State as tasks
 use Rattle.gateway.specs.Serial as serial
 use Rattle.gateway.specs.Serial.{Serial}
 use Rattle.gateway.specs.Centre.{Centre}
@@ -34,12 +33,10 @@ use Rattle.gateway.specs.Course.{closed_course, IsCause, Runs}
 use Rattle.gateway.specs.Phases.{Phase, Fresh, Taking, Judged, Idle, Crowded, Timed, Asked}
 use Rattle.gateway.specs.Phases.{IsLeftIn, IsPhase, works_in, IsAsked}
 use Rattle.gateway.specs.Agrees.{Presently, Carries, Talks, Agrees, pieces_of, IsAnswered}
-use Rattle.gateway.proofs.Offering.{offers_cut}
 use Rattle.gateway.proofs.Talking.{at, kept_talk, talk_cut}
 use Rattle.gateway.proofs.Tied.{fault_cases}
 use Rattle.gateway.proofs.Frames.{nothing_waits}
 use Rattle.gateway.proofs.Objects.{carries_end}
-use Rattle.link.specs.LineLaws.{LineLaws}
 use Rattle.gateway.proofs.Phases.{placed_cut}
 use Rattle.gateway.proofs.Agreement.{in_order}
 
@@ -388,14 +385,14 @@ same_open Timeout c = refl
 same_open OwnAnswers c = refl
 same_open Replaced c = refl
 
-pub after_close : (laws : LineLaws) (p : Setup) (s : State) (log : Log) (unjudged : List ℕ)
+pub after_close : (p : Setup) (s : State) (log : Log) (unjudged : List ℕ)
     (cause : Close)
     (phase : Phase) (fault : Option Close) (a : Agrees p s log unjudged phase)
     → session.is_open s.centre.session ≡ true → ends cause ≡ true → IsCloseAt cause phase
     → IsConnection (closed_by cause (present log)) (here_of a.course) fault
     → IsCause p log cause a.course →
     Agrees p (disconnected s) (Went s.moment (Closed cause) ∷ log) [] (after_closing phase)
-after_close laws p s log unjudged cause phase fault a on last timely stands why =
+after_close p s log unjudged cause phase fault a on last timely stands why =
     let new : Log = Went s.moment (Closed cause) ∷ log in
     let octets : Channel = closed_by cause (present log) in
     let course : Course = ended_course octets.is_open (works_at cause (latest log) a.course.works)
@@ -424,7 +421,7 @@ after_close laws p s log unjudged cause phase fault a on last timely stands why 
       wall = a.wall;
       settled = refl;
       found = a.found;
-      line = laws.withdraw p.link p.addresses s.serial.line (exchanges_of p log) a.line;
+      line = a.line;
       course = course;
       talk = talk;
       stands = record {
@@ -437,7 +434,6 @@ after_close laws p s log unjudged cause phase fault a on last timely stands why 
         answered = closed_answered (after_closing phase) (not_asked_then cause phase timely);
       };
       gaps = a.gaps;
-      offers = offers_cut laws s.serial.line (tasks.closed s.serial.commands);
       plain = tt;
       here = subst (λ octets. Presently (disconnected s).centre octets [] new_connection) (sym shut)
           (fresh (disconnected s).centre no_channel a.here.tied.small refl

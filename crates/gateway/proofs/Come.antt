@@ -11,7 +11,6 @@ use Rattle.asdu.specs.Translation.{parts}
 use Rattle.ft12.specs.Fronts.{front_of}
 use Rattle.link.specs.Exchanges.{received_current, timed_current}
 use Rattle.link.specs.Gaps.{gaps_at}
-use Rattle.link.specs.Offers.{offered_at}
 use Rattle.link.specs.Primary.{Primary, timed_out}
 use Rattle.link.specs.declared.outcome.Outcome.{Outcome}
 use Rattle.link.specs.declared.outcome.Outcome.TheVariants as outcome
@@ -38,10 +37,9 @@ use Rattle.gateway.specs.Phases.{resting, IsPlaced}
 use Rattle.link.specs.LineLaws.{LineLaws}
 use Rattle.gateway.specs.Steps as steps
 use Rattle.gateway.specs.Steps.{Keeps, Learns, ReceivesEvent}
-use Rattle.gateway.specs.Agrees.{Agrees, GapsReported, OffersWait, ArePlain}
+use Rattle.gateway.specs.Agrees.{Agrees, GapsReported, ArePlain}
 use Rattle.gateway.proofs.Working.{done_placed}
 use Rattle.gateway.proofs.Reached.{IsReached, left_reached}
-use Rattle.gateway.proofs.Offering.{offers_stay}
 use Rattle.gateway.proofs.Stations.{LineGoesOn, taken_grows, pieces_grow, parts_grow, after_octets}
 use Rattle.gateway.proofs.Stations.{after_moment}
 use Rattle.gateway.proofs.Learning.{left_of, at_rest_works, is_left, none_left, all_logged, beside}
@@ -188,7 +186,6 @@ pub record Received (p : Setup) (s t : State) (old : Log) (now : ℕ) (event : I
   pub full : fits ≡ false → has_lacked_place z.history ≡ true
   pub placed : fits ≡ true → has_lacked_place z.history ≡ has_lacked_place left.works.history
   pub gaps : GapsReported p (Came now event ∷ old) t.serial.gap
-  pub offers : OffersWait t.serial.line t.serial.commands
   pub plain : ArePlain t.serial.commands.answers
   pub more : List InformationObject
   pub taken : taken_objects p (Came now event ∷ old) ≡ taken_objects p old ++ more
@@ -271,13 +268,6 @@ received_line laws p s t log now octets fits a b =
                 received_current octets (exchanges_of p log).current;
           }) i
           ∙ laws.octets_gap p.link p.addresses s.serial.line (exchanges_of p log) octets i a.line);
-      offers = offers_stay s.serial.line (timed_out b.middle.serial.line b.middle.moment)
-          s.serial.commands
-          b.middle.serial.commands
-          (λ i. laws.timed_offers b.middle.serial.line b.middle.moment i
-          ∙ ap (λ x. offered_at x i) k.line
-          ∙ laws.received_offers (front_of s.serial.line.settings.size) s.serial.line octets i)
-          l.waiting a.offers;
       plain = l.plain;
       more = flat_map (λ (r : ℕ × List ℕ). monitor_objects p.sizes r.1) (report_in o);
       taken = taken_grows p log new (report_in o) on.reported;
@@ -332,9 +322,6 @@ only_time laws p s t log now event fits a other works is b =
       placed = λ on. refl;
       gaps = λ i. a.gaps i ∙ sym (ap (gaps_at (front_of p.link.size) p.addresses i) is
           ∙ laws.due_gaps p.link.size p.addresses p.link.answer_ms at (exchanges_of p log) i);
-      offers = offers_stay s.serial.line (timed_out s.serial.line first.moment) s.serial.commands
-          s.serial.commands
-          (λ i. laws.timed_offers s.serial.line first.moment i) refl a.offers;
       plain = a.plain;
       more = [];
       taken = taken_grows p log new [] on.reported;

@@ -4,11 +4,8 @@ use Rattle.std.proofs.Common.{Option, None, refl, sym, ap, subst, ◌∙◌, app
 use Rattle.std.proofs.Common.{length-append}
 use Rattle.std.specs.Prelude.{if◌then◌else◌}
 use Rattle.std.proofs.lemmas.List.{append-nil}
-use Rattle.link.specs.Primary.{withdrawn}
-use Rattle.link.specs.Matching.{Matches}
 use Rattle.session.specs.declared.kinds.Close.TheVariants.{Replaced}
 use Rattle.session.specs.Session as session
-use Rattle.command.specs.State as tasks
 use Rattle.events.specs.Queue as queue
 use Rattle.gateway.specs.Log.{Log, Input, Opened, TcpIn, CutOff, Came, Went, Closed, latest}
 use Rattle.gateway.specs.Streams.{spelled}
@@ -16,7 +13,7 @@ use Rattle.gateway.specs.Frames.{Sent, Connection, new_connection, AreInOrder}
 use Rattle.gateway.specs.Behind.{GoesBehindFrames}
 use Rattle.gateway.specs.Connections.{is_replaced, Channel, no_channel, new_channel, receiving}
 use Rattle.gateway.specs.Connections.{present, past, AreConnections}
-use Rattle.gateway.specs.Reports.{Setup, exchanges_of, taken_objects, taken_pieces, reports_in}
+use Rattle.gateway.specs.Reports.{Setup, taken_objects, taken_pieces, reports_in}
 use Rattle.gateway.specs.Reports.{parts_of_all}
 use Rattle.gateway.specs.Traffic.{HasRested, IsFaithful}
 use Rattle.gateway.specs.declared.walls.Wall.{Wall}
@@ -29,11 +26,9 @@ use Rattle.gateway.specs.Course.{Course, came_frames, here_of, IsUntouched, Take
 use Rattle.gateway.specs.Course.{HasTakenAll}
 use Rattle.gateway.specs.Course.{ended_course, opened_course, with_works, Comes, Runs}
 use Rattle.gateway.specs.Phases.{Idle, Taking, resting, IsLeftIn, after_line}
-use Rattle.link.specs.LineLaws.{LineLaws}
 use Rattle.gateway.specs.Agrees.{IsAt, Presently, Carries, Talks, Agrees}
 use Rattle.gateway.proofs.Talking.{kept_talk, talk_on, talk_cut, talk_open, all_taken}
 use Rattle.gateway.proofs.Objects.{orders_grow, carries_more}
-use Rattle.gateway.proofs.Offering.{offers_cut}
 use Rattle.gateway.proofs.Closing.{Ended, ended, fresh, stands_now}
 use Rattle.gateway.proofs.Agreement.{in_order}
 use Rattle.gateway.proofs.Stations.{keeps_links}
@@ -182,7 +177,6 @@ come_other p s t log now event fits kept wall shows counts aside on rest a h =
             length-append (spelled (came_frames a.course.talk)) (a.here.so_far ++ []),
           ));
       gaps = h.gaps;
-      offers = h.offers;
       plain = h.plain;
       here = subst (λ x. Presently t.centre x [] (here_of a.course)) (sym aside.0)
           (goes_on p s t log now event left fits (present log) [] (here_of a.course) h a.here);
@@ -244,7 +238,7 @@ left_over p s t log now event left fits earlier h c =
     (queue.rewound s.centre.queue).unsent h.pieces h.objects_are h.whole c))))
 
 -- The open connection, if any, is over by an event that the line's part leaves alone.
-module _ (laws : LineLaws) (p : Setup) (s t : State) (log : Log) (now : ℕ) (event : Input)
+module _ (p : Setup) (s t : State) (log : Log) (now : ℕ) (event : Input)
     (fits : Bool)
     (rest : HasRested p log) (a : Agrees p s log [] (resting log))
     (h : Received p s t log now event (left_of p log a.course) fits) where
@@ -270,25 +264,20 @@ module _ (laws : LineLaws) (p : Setup) (s t : State) (log : Log) (now : ℕ) (ev
       (queue.rewound t.centre.queue).unsent
   over_carries = left_over p s t log now event left fits over_course.earlier h over_ended.carries
 
-  over_line : Matches p.link p.addresses (withdrawn t.serial.line)
-      (exchanges_of p (Came now event ∷ log))
-  over_line = laws.withdraw p.link p.addresses t.serial.line (exchanges_of p (Came now event ∷ log))
-      h.line
-
   small : t.centre.session.k < 32768
   small = subst (λ (c : Centre). c.session.k < 32768) (sym h.centre) a.here.tied.small
 
   all_came : HasTakenAll (present log) a.course.talk
   all_came = all_taken log a.course a.here.so_far a.here.joined a.here.waits
 
-pub come_cut : (laws : LineLaws) (p : Setup) (s t : State) (log : Log) (now : ℕ) (fits : Bool)
+pub come_cut : (p : Setup) (s t : State) (log : Log) (now : ℕ) (fits : Bool)
     → HasRested p log
     → (a : Agrees p s log [] (resting log))
     → (h : Received p s t log now CutOff (left_of p log a.course) fits)
     → Agrees p (disconnected t) (Came now CutOff ∷ log) [] Idle
-come_cut laws p s t log now fits rest a h =
+come_cut p s t log now fits rest a h =
     let new : Log = Came now CutOff ∷ log in
-    let d : Course = over_course laws p s t log now CutOff fits rest a h in
+    let d : Course = over_course p s t log now CutOff fits rest a h in
     let same : ended_course (present log).is_open
     (begun_works (latest new) (left_of p log a.course).works)
     (left_of p log a.course) ≡ d =
@@ -298,7 +287,7 @@ come_cut laws p s t log now fits rest a h =
       a.course,
       left_of p log a.course,
       a.talk.course_runs,
-      all_came laws p s t log now CutOff fits rest a h,
+      all_came p s t log now CutOff fits rest a h,
       is_left p s log a,
       sym same,
     ) in
@@ -313,7 +302,7 @@ come_cut laws p s t log now fits rest a h =
       wall = h.wall ∙ a.wall;
       settled = refl;
       found = a.found;
-      line = over_line laws p s t log now CutOff fits rest a h;
+      line = h.line;
       course = d;
       talk = talk;
       stands = record {
@@ -324,16 +313,15 @@ come_cut laws p s t log now fits rest a h =
         answered = inl (omega arith);
       };
       gaps = h.gaps;
-      offers = offers_cut laws t.serial.line (tasks.closed t.serial.commands);
       plain = tt;
-      here = fresh (disconnected t).centre no_channel (small laws p s t log now CutOff fits rest a
+      here = fresh (disconnected t).centre no_channel (small p s t log now CutOff fits rest a
           h) refl
           (λ h. refl) refl refl refl refl refl refl refl refl refl;
       left = refl;
-      carries = over_carries laws p s t log now CutOff fits rest a h;
+      carries = over_carries p s t log now CutOff fits rest a h;
       before = record {
-        are = (over_ended laws p s t log now CutOff fits rest a h).are;
-        orders = over_orders laws p s t log now CutOff fits rest a h;
+        are = (over_ended p s t log now CutOff fits rest a h).are;
+        orders = over_orders p s t log now CutOff fits rest a h;
         times = (kept_talk p _ _ _ talk, a.before.times);
         acts = a.before.acts;
         rests = (rest, a.before.rests);
@@ -342,13 +330,13 @@ come_cut laws p s t log now fits rest a h =
 
 -- A connection opens.
 
-module _ (laws : LineLaws) (p : Setup) (s t : State) (log : Log) (now : ℕ) (fits : Bool)
+module _ (p : Setup) (s t : State) (log : Log) (now : ℕ) (fits : Bool)
     (rest : HasRested p log)
     (a : Agrees p s log [] (resting log))
     (h : Received p s t log now Opened (left_of p log a.course)
     fits) where
   abbrev opened : Course
-  opened = opened_course t.moment (over_course laws p s t log now Opened fits rest a h)
+  opened = opened_course t.moment (over_course p s t log now Opened fits rest a h)
 
   opened_runs : Runs p (Came now Opened ∷ log) opened
   opened_runs =
@@ -358,12 +346,12 @@ module _ (laws : LineLaws) (p : Setup) (s t : State) (log : Log) (now : ℕ) (fi
       (left_of p log a.course)) ≡ opened =
       ap (λ z. opened_course at (ended_course (present log).is_open z (left_of p log a.course)))
       (sym h.worked)
-      ∙ ap (λ m. opened_course m (over_course laws p s t log now Opened fits rest a h))
+      ∙ ap (λ m. opened_course m (over_course p s t log now Opened fits rest a h))
       (sym h.clock) in (
         a.course,
         left_of p log a.course,
         a.talk.course_runs,
-        all_came laws p s t log now Opened fits rest a h,
+        all_came p s t log now Opened fits rest a h,
         is_left p s log a,
         sym same,
       )
@@ -378,7 +366,7 @@ module _ (laws : LineLaws) (p : Setup) (s t : State) (log : Log) (now : ℕ) (fi
 
   opened_here : Presently (connected (disconnected t)).centre new_channel [] new_connection
   opened_here = fresh (connected (disconnected t)).centre new_channel
-      (small laws p s t log now Opened fits rest a h) refl (λ h. cc) refl refl refl refl refl refl
+      (small p s t log now Opened fits rest a h) refl (λ h. cc) refl refl refl refl refl refl
       refl refl refl
 
   -- as it is once the close of the one before it, if any, has gone out
@@ -392,7 +380,7 @@ module _ (laws : LineLaws) (p : Setup) (s t : State) (log : Log) (now : ℕ) (fi
     wall = h.wall ∙ a.wall;
     settled = sym a.here.link ∙ sym (ap (λ (c : Centre). session.is_open c.session) h.centre) ∙ off;
     found = a.found;
-    line = over_line laws p s t log now Opened fits rest a h;
+    line = h.line;
     course = opened;
     talk = opened_talk;
     stands = record {
@@ -403,14 +391,13 @@ module _ (laws : LineLaws) (p : Setup) (s t : State) (log : Log) (now : ℕ) (fi
       answered = inl (omega arith);
     };
     gaps = h.gaps;
-    offers = offers_cut laws t.serial.line (tasks.closed t.serial.commands);
     plain = tt;
     here = opened_here;
     left = refl;
-    carries = over_carries laws p s t log now Opened fits rest a h;
+    carries = over_carries p s t log now Opened fits rest a h;
     before = record {
-      are = (over_ended laws p s t log now Opened fits rest a h).are;
-      orders = over_orders laws p s t log now Opened fits rest a h;
+      are = (over_ended p s t log now Opened fits rest a h).are;
+      orders = over_orders p s t log now Opened fits rest a h;
       times = (kept_talk p _ _ _ opened_talk, a.before.times);
       acts = a.before.acts;
       rests = (rest, a.before.rests);
@@ -442,7 +429,7 @@ module _ (laws : LineLaws) (p : Setup) (s t : State) (log : Log) (now : ℕ) (fi
         wall = h.wall ∙ a.wall;
         settled = refl;
         found = a.found;
-        line = over_line laws p s t log now Opened fits rest a h;
+        line = h.line;
         course = opened;
         talk = talk;
         stands = record {
@@ -453,14 +440,13 @@ module _ (laws : LineLaws) (p : Setup) (s t : State) (log : Log) (now : ℕ) (fi
           answered = inl (omega arith);
         };
         gaps = h.gaps;
-        offers = offers_cut laws t.serial.line (tasks.closed t.serial.commands);
         plain = tt;
         here = opened_here;
         left = refl;
-        carries = over_carries laws p s t log now Opened fits rest a h;
+        carries = over_carries p s t log now Opened fits rest a h;
         before = record {
-          are = (over_ended laws p s t log now Opened fits rest a h).are;
-          orders = over_orders laws p s t log now Opened fits rest a h;
+          are = (over_ended p s t log now Opened fits rest a h).are;
+          orders = over_orders p s t log now Opened fits rest a h;
           times = (kept_talk p _ _ _ talk, (kept_talk p _ _ _ opened_talk, a.before.times));
           acts = (record { moment = h.clock; replaced = sym was; may = λ no'. cc }, a.before.acts);
           rests = (rest, a.before.rests);
@@ -482,15 +468,15 @@ module _ (laws : LineLaws) (p : Setup) (s t : State) (log : Log) (now : ℕ) (fi
       fit = tt;
       pass = tt;
     };
-    are = (over_ended laws p s t log now Opened fits rest a h).are;
+    are = (over_ended p s t log now Opened fits rest a h).are;
     orders = (
       in_order (taken_objects p (Came now Opened ∷ log))
           (parts_of_all p.sizes (reports_in p (Came now Opened ∷ log)))
           (taken_pieces p (Came now Opened ∷ log))
           new_connection opened.earlier
-          (queue.rewound t.centre.queue).unsent tt (over_carries laws p s t log now Opened fits rest
+          (queue.rewound t.centre.queue).unsent tt (over_carries p s t log now Opened fits rest
           a h),
-      over_orders laws p s t log now Opened fits rest a h,
+      over_orders p s t log now Opened fits rest a h,
     );
     links = keeps_links p t.serial.line (Came now Opened ∷ log) h.line;
     times = (kept_talk p _ _ _ opened_talk, a.before.times);
@@ -527,7 +513,6 @@ come_bytes p s t log now octets fits settled_fits rest a h =
         answered = tt;
       };
       gaps = h.gaps;
-      offers = h.offers;
       plain = h.plain;
       here = subst (λ x. Presently t.centre x more (here_of d))
           (sym (bytes_at (session.is_open s.centre.session) (present log) (sym a.here.link)))

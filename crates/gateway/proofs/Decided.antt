@@ -10,7 +10,7 @@ use Rattle.link.specs.Exchanges.{Sending}
 use Rattle.session.specs.History as talk
 use Rattle.session.specs.History.{frame_due}
 use Rattle.gateway.specs.declared.gaps.Gap.{Gap}
-use Rattle.gateway.specs.Objects.{objects, monitor_objects}
+use Rattle.gateway.specs.Objects.{monitor_objects}
 use Rattle.gateway.specs.Log.{Log, LogEntry, Output, Restarted, Came, Went, LineOut, TcpOut, Closed}
 use Rattle.gateway.specs.Log.{GapOut, latest, events_of}
 use Rattle.gateway.specs.Connections.{present}
@@ -28,7 +28,7 @@ use Rattle.gateway.proofs.Following.{fresh_due}
 use Rattle.gateway.proofs.OneCourse.{Laws, none_whole}
 use Rattle.gateway.proofs.OneCause.{came_transfers, came_acknowledged, counted, kinds, all_and_next}
 use Rattle.gateway.proofs.OneAction.{Stands, of_faithful, Needs, behind, fewer, no_both, not_both}
-use Rattle.gateway.proofs.OneAction.{settled, one_before, due, none_due, none_goes, open_placed}
+use Rattle.gateway.proofs.OneAction.{settled, one_before, none_goes, open_placed}
 use Rattle.gateway.proofs.OneAction.{closing, one_replaces, one_action}
 
 -- Nothing goes out behind a step that has done all that it could

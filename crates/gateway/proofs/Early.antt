@@ -1,14 +1,12 @@
 -- No answer becomes late by a frame that goes out.
-use Rattle.std.proofs.Common.{◌≡◌, ℕ, zero, suc, ◌+◌, ◌-◌, ◌<◌, ◌||◌, Bool, true, false, nat_le}
+use Rattle.std.proofs.Common.{◌≡◌, ℕ, zero, suc, ◌-◌, ◌<◌, ◌||◌, Bool, true, false, nat_le}
 use Rattle.std.proofs.Common.{List, [], ◌∷◌, ◌++◌, drop, refl, sym, subst, arith}
 use Rattle.std.proofs.lemmas.Bool.{false≢true, lt-leb}
 use Rattle.apci.specs.declared.apdu.Apdu.{Apdu}
 use Rattle.apci.specs.declared.apdu.Apdu.TheVariants.{I, S, U}
 use Rattle.apci.specs.declared.apdu.Uf.TheVariants.{StartAct, StartCon, StopAct, StopCon, TestAct}
 use Rattle.apci.specs.declared.apdu.Uf.TheVariants.{TestCon}
-use Rattle.session.specs.Session as session
 use Rattle.gateway.specs.Log.{Log, latest}
-use Rattle.gateway.specs.Frames.{acknowledged_count}
 use Rattle.gateway.specs.Reports.{Setup}
 use Rattle.gateway.specs.Course.{Course, kind_of, logged_sent}
 use Rattle.gateway.specs.Phases.{Phase, Fresh, Taking, Judged, Idle, Crowded, Timed, Asked}

@@ -4,7 +4,6 @@ use Rattle.std.proofs.Common.{length, refl, ap, sym, ◌∙◌, subst, arith, in
 use Rattle.std.proofs.Common.{None, length-append}
 use Rattle.std.specs.Prelude.{IfSome, if◌then◌else◌}
 use Rattle.std.proofs.lemmas.List.{append-nil}
-use Rattle.link.specs.Offers.{offered_at}
 use Rattle.link.specs.Matching.{Matches}
 use Rattle.session.specs.declared.kinds.Close.TheVariants.{OwnAnswers, Replaced}
 use Rattle.session.specs.Session.{is_open}
@@ -30,7 +29,6 @@ use Rattle.gateway.specs.Steps.{ReceivesEvent, Begins, MayClose}
 use Rattle.gateway.specs.Agrees.{Talks, Agrees, ArePlain, Tracks, Awaits, Leaves, HasCome, IsClear}
 use Rattle.gateway.specs.Agrees.{IsUndue, pending}
 use Rattle.gateway.proofs.Working.{settled_gap}
-use Rattle.gateway.proofs.Offering.{offers_stay}
 use Rattle.gateway.proofs.Closing.{stands_overfull}
 use Rattle.gateway.proofs.Receiving.{now_idle}
 use Rattle.gateway.proofs.Put.{logged_faithful}
@@ -39,7 +37,6 @@ use Rattle.gateway.proofs.Come.{Received, received_event, Worked}
 use Rattle.gateway.proofs.Connecting.{Counts, come_other, come_course, come_open, come_replaced}
 use Rattle.gateway.proofs.Connecting.{come_cut, come_bytes, opened_faithful}
 use Rattle.gateway.proofs.Learning.{left_of}
-use Rattle.gateway.proofs.Requesting.{w, q, offers, room}
 
 -- The timers
 
@@ -66,10 +63,6 @@ now_settled p s log a = record {
     answered = a.stands.answered;
   };
   gaps = λ i. ap (λ g. gaps_reported i log ++ gap_for i g) (same_gap s.serial.silent) ∙ a.gaps i;
-  offers = offers_stay s.serial.line (settled s).serial.line s.serial.commands
-      (settled s).serial.commands
-      (λ k. ap (λ q. offered_at q k) (same_line s.serial.silent)) (same_waiting s.serial.silent)
-      a.offers;
   plain = subst ArePlain (sym (same_answers s.serial.silent)) a.plain;
   here = a.here;
   left = refl;
@@ -84,11 +77,6 @@ now_settled p s log a = record {
     same_gap : (o : Option ℕ) → (serial.unless_silent o s.serial).gap ≡ s.serial.gap
     same_gap None = refl
     same_gap (Some i) = refl
-
-    same_waiting : (o : Option ℕ) → (serial.unless_silent o s.serial).commands.waiting
-        ≡ s.serial.commands.waiting
-    same_waiting None = refl
-    same_waiting (Some i) = refl
 
     same_answers : (o : Option ℕ) → (serial.unless_silent o s.serial).commands.answers
         ≡ s.serial.commands.answers
@@ -175,7 +163,6 @@ module _ (p : Setup) (s : State) (log : Log) (a : Agrees p s log [] Idle) (gap :
       answered = gap_answered a.stands.answered;
     };
     gaps = λ i. append-nil (gaps_reported i gap_log) ∙ reports_gap i;
-    offers = a.offers;
     plain = a.plain;
     here = a.here;
     left = refl;
@@ -328,7 +315,7 @@ pub logged_cut : (p : Setup) (logged : Option Log) (s t u : State) (now : ℕ) (
 logged_cut p None s t u now fits laws b is h = tt
 logged_cut p (Some log) s t u now fits laws b is h = subst (λ x. Agrees p x log [] Idle) (sym is)
     (as_log p (disconnected t) now CutOff log h.before [] Idle h.is
-    (come_cut laws p s t h.before now fits h.rested h.agrees
+    (come_cut p s t h.before now fits h.rested h.agrees
     (received_in laws p s t now CutOff fits log tt b h)))
 
 pub logged_open : (p : Setup) (logged : Option Log) (s t u : State) (now : ℕ) (fits : Bool)
@@ -339,7 +326,7 @@ logged_open p None s t u now fits laws b off is h = tt
 logged_open p (Some log) s t u now fits laws b off is h =
     subst (λ x. Agrees p x log [] Idle) (sym is) (as_log p (connected (disconnected t)) now Opened
     log h.before
-    [] Idle h.is (come_open laws p s t h.before now fits h.rested h.agrees
+    [] Idle h.is (come_open p s t h.before now fits h.rested h.agrees
     (received_in laws p s t now Opened fits log tt b h) off))
 
 pub logged_replaced : (p : Setup) (logged after : Option Log) (s t u : State) (now moment : ℕ)
@@ -359,7 +346,7 @@ logged_replaced p logged after s t u now moment fits laws b on is e same h =
     by_log (Some log) h =
         subst (λ l. Agrees p (connected (disconnected t)) (Went t.moment (Closed Replaced) ∷ l) []
         Idle) (sym h.is)
-        (come_replaced laws p s t h.before now fits h.rested h.agrees
+        (come_replaced p s t h.before now fits h.rested h.agrees
         (received_in laws p s t now Opened fits log tt b h) on)
 
 -- where the close couldn't be put out
@@ -369,7 +356,7 @@ pub logged_unreplaced : (p : Setup) (logged : Option Log) (s t : State) (now : �
     → IfSome logged (IsFaithful p)
 logged_unreplaced p None s t now fits laws b h = tt
 logged_unreplaced p (Some log) s t now fits laws b h = subst (IsFaithful p) (sym h.is)
-    (opened_faithful laws p s t h.before now fits h.rested h.agrees
+    (opened_faithful p s t h.before now fits h.rested h.agrees
     (received_in laws p s t now Opened fits log tt b h))
 
 -- how many octets have been received once more came

@@ -57,7 +57,6 @@ started p s log fresh a =
         answered = tt;
       };
       gaps = a.gaps;
-      offers = a.offers;
       plain = a.plain;
       carries = a.carries;
       before = a.before;

@@ -28,7 +28,7 @@ use Rattle.gateway.specs.Reports.{Setup}
 use Rattle.gateway.specs.Serial.{listed, is_first_command, answer_outcome}
 use Rattle.gateway.specs.Works.{Works, octets_works, tasks_of, logged_kept, is_command_report}
 use Rattle.gateway.specs.Works.{LearnsReport, LearnsOf, received_works, sent_works, answered_works}
-use Rattle.gateway.specs.Works.{logged_silent, settled_works, ready_works, unasked_works}
+use Rattle.gateway.specs.Works.{logged_silent, settled_works, unasked_works}
 use Rattle.gateway.specs.Works.{done_works}
 use Rattle.gateway.specs.Works.{logged_put, asked_works}
 use Rattle.gateway.specs.Course.{Course, came_frames, with_frames, closed_course, IsLeft, room_in}
@@ -186,7 +186,7 @@ done : (at : ℕ) (room : Bool) (w : Works) → AreGiven w.history
     → AreGiven (done_works at room w).history
 done at room w g = by_due w.is_due
   where
-    by_due : (b : Bool) → AreGiven (if b then unasked_works at room (ready_works at w)
+    by_due : (b : Bool) → AreGiven (if b then unasked_works at room (settled_works at w)
         else w).history
     by_due true = settled at w g
     by_due false = g
@@ -245,7 +245,7 @@ so_far p (Came now Restarted ∷ log) d r = subst (λ (e : Course). AreGiven e.w
     (left p log r.0 r.1 r.4 (so_far p log r.0 r.2)))
 so_far p (Went now (LineOut octets) ∷ log) d r =
     subst (λ (e : Course). AreGiven e.works.history) (sym r.2.is)
-    (asked (latest log) (room_in p log r.0) r.2.request (ready_works (latest log) r.0.works)
+    (asked (latest log) (room_in p log r.0) r.2.request (settled_works (latest log) r.0.works)
     (settled (latest log) r.0.works (so_far p log r.0 r.1)))
 so_far p (Went now (GapOut station session) ∷ log) d r =
     subst (λ (e : Course). AreGiven e.works.history) (sym r.2.is) (so_far p log r.0 r.1)

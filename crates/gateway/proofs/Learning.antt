@@ -23,16 +23,16 @@ use Rattle.gateway.specs.Serial.{Serial, refusals, mirrored}
 use Rattle.gateway.specs.State.{State, with_serial}
 use Rattle.gateway.specs.Works.{Works, has_lacked_place, logged, is_command_report, mirrored_works}
 use Rattle.gateway.specs.Works.{LearnsReport, accepted_works, given_up_works, refused_works}
-use Rattle.gateway.specs.Works.{LearnsOf, ready_works, unasked_works, done_works}
+use Rattle.gateway.specs.Works.{LearnsOf, settled_works, unasked_works, done_works}
 use Rattle.gateway.specs.Course.{Course, room_in, IsLeft}
 use Rattle.gateway.specs.Phases.{Asked, resting}
 use Rattle.command.specs.CommandLaws.{CommandLaws}
 use Rattle.gateway.specs.Steps as steps
 use Rattle.gateway.specs.Steps.{Keeps, Mirrors, Learns}
 use Rattle.gateway.specs.Agrees.{Agrees, ArePlain}
-use Rattle.gateway.proofs.Working.{gap_in, kept_overfull, kept_placed, kept_waiting, kept_plain}
+use Rattle.gateway.proofs.Working.{gap_in, kept_overfull, kept_placed, kept_plain}
 use Rattle.gateway.proofs.Reached.{IsReached}
-use Rattle.gateway.proofs.Offering.{no_monitor}
+use Rattle.gateway.proofs.Plain.{no_monitor}
 
 -- the step before is done
 abbrev pub left_of : Setup → Log → Course → Course
@@ -47,7 +47,7 @@ left_of p log c = record {
 -- where nothing is due nothing is left to be done
 pub done_fresh : (at : ℕ) (room : Bool) (w : Works) → w.is_due ≡ false
     → (done_works at room w).serial ≡ w.serial
-done_fresh at room w none = ap (λ b. (if b then unasked_works at room (ready_works at w)
+done_fresh at room w none = ap (λ b. (if b then unasked_works at room (settled_works at w)
     else w).serial) none
 
 fresh_works : (p : Setup) (s : State) (log : Log) (c : Course) → s.serial ≡ c.works.serial
@@ -104,7 +104,6 @@ pub record Learnt (p : Setup) (at : ℕ) (is_transferring : Bool) (o : Outcome) 
   pub full : fits ≡ false → has_lacked_place z.history ≡ true
   pub placed : fits ≡ true → has_lacked_place z.history ≡ has_lacked_place h
   pub gap : (i : ℕ) → gap_for i t.serial.gap ≡ gap_in_outcome i o
-  pub waiting : t.serial.commands.waiting ≡ s.serial.commands.waiting
   pub plain : ArePlain t.serial.commands.answers
 
 module _ (p : Setup) (at : ℕ) (s : State) (h : History) (is_due : Bool) (laws : CommandLaws)
@@ -123,10 +122,9 @@ module _ (p : Setup) (at : ℕ) (s : State) (h : History) (is_due : Bool) (laws 
       → LearnsOf p at is_transferring o w z
       → t ≡ with_serial z.serial s → fits ≡ true → z.is_due ≡ is_due → has_lacked_place z.history
       ≡ has_lacked_place h →
-      z.serial.commands.waiting ≡ s.serial.commands.waiting → z.serial.commands.answers
-      ≡ s.serial.commands.answers
+      z.serial.commands.answers ≡ s.serial.commands.answers
       → ((i : ℕ) → gap_for i z.serial.gap ≡ gap_in_outcome i o) → IsLearnt is_transferring o t fits
-  learnt_all is_transferring o t fits z learns is all due placed waiting answers gap = record {
+  learnt_all is_transferring o t fits z learns is all due placed answers gap = record {
     z = z;
     learns = learns;
     serial = ap (λ (x : State). x.serial) is;
@@ -134,7 +132,6 @@ module _ (p : Setup) (at : ℕ) (s : State) (h : History) (is_due : Bool) (laws 
     full = λ off. let no : false ≡ true = sym off ∙ all in cc;
     placed = λ on. placed;
     gap = λ i. ap (λ (x : State). gap_for i x.serial.gap) is ∙ gap i;
-    waiting = ap (λ (x : State). x.serial.commands.waiting) is ∙ waiting;
     plain = subst ArePlain (sym (ap (λ (x : State). x.serial.commands.answers) is ∙ answers)) plain;
   }
 
@@ -161,7 +158,6 @@ module _ (p : Setup) (at : ℕ) (s : State) (h : History) (is_due : Bool) (laws 
         full = λ off. kept_overfull own c (logged (Busy i) w) (sym e.1 ∙ off);
         placed = λ on. kept_placed own c (logged (Busy i) w) (sym e.1 ∙ on);
         gap = λ i. ap (λ (x : State). gap_for i x.serial.gap) e.0 ∙ ap (gap_for i) no_gap;
-        waiting = ap (λ (x : State). x.serial.commands.waiting) e.0 ∙ kept_waiting own c;
         plain = subst ArePlain (sym (ap (λ (x : State). x.serial.commands.answers) e.0))
             (kept_plain own c (refusal_plain i (refusal_of (line_of i s.serial.commands)) refl)
             plain);
@@ -185,8 +181,6 @@ module _ (p : Setup) (at : ℕ) (s : State) (h : History) (is_due : Bool) (laws 
         full = λ off. kept_overfull m.pieces c (logged (Mirror m.v at) w) (sym m.all ∙ off);
         placed = λ on. kept_placed m.pieces c (logged (Mirror m.v at) w) (sym m.all ∙ on);
         gap = λ i. ap (λ (x : Serial). gap_for i x.gap) m.after ∙ ap (gap_for i) no_gap;
-        waiting = ap (λ (x : Serial). x.commands.waiting) m.after ∙ kept_waiting m.pieces c
-            ∙ laws.mirrored_waits m.v at s.serial.commands;
         plain = subst ArePlain (sym (ap (λ (x : Serial). x.commands.answers) m.after))
             (kept_plain m.pieces c m.unmonitored (subst ArePlain
             (sym (laws.mirrored_answers m.v at s.serial.commands)) plain));
@@ -202,8 +196,6 @@ module _ (p : Setup) (at : ℕ) (s : State) (h : History) (is_due : Bool) (laws 
     full = λ off. let no : false ≡ true = sym off ∙ m.all in cc;
     placed = λ on. refl;
     gap = λ i. ap (λ (x : Serial). gap_for i x.gap) m.after ∙ ap (gap_for i) no_gap;
-    waiting = ap (λ (x : Serial). x.commands.waiting) m.after
-        ∙ laws.mirrored_waits m.v at s.serial.commands;
     plain = subst ArePlain (sym (ap (λ (x : Serial). x.commands.answers) m.after))
         (subst ArePlain (sym (laws.mirrored_answers m.v at s.serial.commands)) plain);
   }
@@ -224,7 +216,6 @@ module _ (p : Setup) (at : ℕ) (s : State) (h : History) (is_due : Bool) (laws 
         full = λ off. let no : false ≡ true = sym off ∙ e.1 in cc;
         placed = λ on. refl;
         gap = λ i. ap (λ (x : Serial). gap_for i x.gap) same ∙ ap (gap_for i) no_gap;
-        waiting = ap (λ (x : Serial). x.commands.waiting) same;
         plain = subst ArePlain (sym (ap (λ (x : Serial). x.commands.answers) same)) plain;
       }
 
@@ -255,21 +246,21 @@ module _ (p : Setup) (at : ℕ) (s : State) (h : History) (is_due : Bool) (laws 
       sizes e)
   learnt is_transferring (outcome.Accepted i) t fits runs e =
       learnt_all is_transferring (outcome.Accepted i) t fits (accepted_works i w) refl e.0 e.1 refl
-      refl refl refl
+      refl refl
       (λ k. ap (gap_for k) no_gap)
   learnt is_transferring (outcome.Busy i) t fits runs e = learnt_busy is_transferring i t fits e
   learnt is_transferring (outcome.Down i) t fits runs e =
       learnt_all is_transferring (outcome.Down i) t fits
-      (given_up_works i w) refl e.0 e.1 refl refl refl refl (λ k. ap (gap_for k) no_gap)
+      (given_up_works i w) refl e.0 e.1 refl refl refl (λ k. ap (gap_for k) no_gap)
   learnt is_transferring outcome.None t fits runs e =
-      learnt_all is_transferring outcome.None t fits w refl e.0 e.1 refl refl refl refl
+      learnt_all is_transferring outcome.None t fits w refl e.0 e.1 refl refl refl
       (λ k. ap (gap_for k) no_gap)
   learnt is_transferring (outcome.Started i) t fits runs e =
-      learnt_all is_transferring (outcome.Started i) t fits w refl e.0 e.1 refl refl refl refl
+      learnt_all is_transferring (outcome.Started i) t fits w refl e.0 e.1 refl refl refl
       (λ k. ap (gap_for k) no_gap)
   learnt is_transferring (outcome.StartedGap i k) t fits runs e =
       learnt_all is_transferring (outcome.StartedGap i k) t fits
-      (record w { serial = serial.with_gap i k w.serial }) refl e.0 e.1 refl refl refl refl
+      (record w { serial = serial.with_gap i k w.serial }) refl e.0 e.1 refl refl refl
       (λ j. refl)
   learnt is_transferring (outcome.Empty i) t fits runs e = learnt_all is_transferring
-      (outcome.Empty i) t fits w refl e.0 e.1 refl refl refl refl (λ k. ap (gap_for k) no_gap)
+      (outcome.Empty i) t fits w refl e.0 e.1 refl refl refl (λ k. ap (gap_for k) no_gap)

@@ -14,8 +14,8 @@ pub mod Waiting
 pub mod Called
 pub mod Passing
 pub mod Reached
-pub mod Offering
-pub mod Serving
+pub mod Plain
+pub mod Lending
 pub mod Talking
 pub mod Phases
 pub mod Early

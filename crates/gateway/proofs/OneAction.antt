@@ -1,5 +1,5 @@
 -- What comes next is decided: two actions that may both be next are the same.
-use Rattle.std.proofs.Common.{◌≡◌, ℕ, ◌+◌, ◌<◌, Bool, true, false, not, List, [], ◌∷◌, ◌++◌, length}
+use Rattle.std.proofs.Common.{◌≡◌, ℕ, ◌<◌, Bool, true, false, not, List, [], ◌∷◌, ◌++◌, length}
 use Rattle.std.proofs.Common.{refl, ap, sym, ◌∙◌, subst, arith, inl, inr, Option, Some, None}
 use Rattle.std.specs.Prelude.{◌⊎◌}
 use Rattle.apci.specs.declared.apdu.Apdu.{Apdu}
@@ -12,7 +12,6 @@ use Rattle.session.specs.declared.kinds.Close.{Close}
 use Rattle.session.specs.declared.kinds.Close.TheVariants.{Grammar, SendNumber, ReceiveNumber}
 use Rattle.session.specs.declared.kinds.Close.TheVariants.{Stopped, Timeout, OwnAnswers, Replaced}
 use Rattle.session.specs.Rules.{KeepsRules, MaySend}
-use Rattle.session.specs.History as talk
 use Rattle.session.specs.History.{confirmation_of, frame_due}
 use Rattle.command.specs.State.{first_answer}
 use Rattle.gateway.specs.declared.gaps.Gap.{Gap}

@@ -1,13 +1,13 @@
 -- A log shows one list of calls.
-use Rattle.std.proofs.Common.{◌≡◌, Bool, true, false, List, [], ◌∷◌, ◌++◌, length, refl, ap, sym}
+use Rattle.std.proofs.Common.{◌≡◌, Bool, true, false, List, [], ◌∷◌, ◌++◌, refl, ap, sym}
 use Rattle.std.proofs.Common.{◌∙◌, subst}
 use Rattle.link.specs.Runs.{Call, Next}
 use Rattle.gateway.specs.Log.{Log, LineOut, TcpOut, Closed, GapOut, Came, Went, latest}
 use Rattle.gateway.specs.Reports.{Setup, exchanges_of}
 use Rattle.gateway.specs.Room.{IsFull}
 use Rattle.gateway.specs.Course.{Course, here_of}
-use Rattle.gateway.specs.Calling.{is_asking, offers, IsLeave, Asks, EndsStep, event_calls}
-use Rattle.gateway.specs.Calling.{action_calls, CallsOf}
+use Rattle.gateway.specs.Calling.{is_asking, waiting_by, IsLeave, Asks, EndsStep, event_calls}
+use Rattle.gateway.specs.Calling.{CallsOf}
 use Rattle.gateway.proofs.OneCourse.{Laws, one_whole}
 
 -- the room decides the leave
@@ -28,10 +28,8 @@ one_asking laws p log xs ys a b =
     let leave : a.leave ≡ b.leave =
     one_leave p log a.course b.course same a.leave b.leave a.room b.room in
     a.are
-    ∙ ap (λ (c : Course). offers p (length p.addresses) c.works.history
-    ++ Next (latest log) a.leave ∷ []) same
-    ∙ ap (λ (l : Bool). offers p (length p.addresses) b.course.works.history
-    ++ Next (latest log) l ∷ []) leave
+    ∙ ap (λ (c : Course). Next (latest log) a.leave (waiting_by p c.works.history) ∷ []) same
+    ∙ ap (λ (l : Bool). Next (latest log) l (waiting_by p b.course.works.history) ∷ []) leave
     ∙ sym b.are
 
 one_end : Laws → (p : Setup) (log : Log) (asking : Bool) (xs ys : List Call)
@@ -52,10 +50,7 @@ one_list laws p (Came now event ∷ log) xs ys h k =
 one_list laws p (Went now (LineOut octets) ∷ log) xs ys h k =
     h.4 ∙ ap (λ (l : List Call). l ++ h.1) (one_list laws p log h.0 k.0 h.2 k.2)
     ∙ ap (λ (l : List Call). k.0 ++ l) (one_asking laws p log h.1 k.1 h.3 k.3) ∙ sym k.4
-one_list laws p (Went now (TcpOut octets) ∷ log) xs ys h k =
-    h.2 ∙ ap (λ (l : List Call). l ++ []) (one_list laws p log h.0 k.0 h.1 k.1) ∙ sym k.2
-one_list laws p (Went now (Closed cause) ∷ log) xs ys h k =
-    h.2 ∙ ap (λ (l : List Call). l ++ action_calls (Closed cause))
-    (one_list laws p log h.0 k.0 h.1 k.1) ∙ sym k.2
+one_list laws p (Went now (TcpOut octets) ∷ log) xs ys h k = one_list laws p log xs ys h k
+one_list laws p (Went now (Closed cause) ∷ log) xs ys h k = one_list laws p log xs ys h k
 one_list laws p (Went now (GapOut station session) ∷ log) xs ys h k =
-    h.2 ∙ ap (λ (l : List Call). l ++ []) (one_list laws p log h.0 k.0 h.1 k.1) ∙ sym k.2
+    one_list laws p log xs ys h k

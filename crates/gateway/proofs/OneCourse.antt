@@ -9,7 +9,6 @@ use Rattle.apci.specs.declared.apdu.Apdu.{Apdu}
 use Rattle.apci.specs.declared.apdu.Apdu.TheVariants.{I, S, U}
 use Rattle.apci.specs.Spelling.{spelling}
 use Rattle.asdu.specs.InformationObjects.{InformationObject}
-use Rattle.link.specs.Primary.{sending}
 use Rattle.session.specs.declared.kinds.Close.{Close}
 use Rattle.session.specs.declared.kinds.Close.TheVariants.{Grammar, SendNumber, ReceiveNumber}
 use Rattle.session.specs.declared.kinds.Close.TheVariants.{Stopped, Timeout, OwnAnswers, Replaced}
@@ -24,7 +23,8 @@ use Rattle.gateway.specs.Frames.{Connection}
 use Rattle.gateway.specs.Connections.{no_channel, present, is_replaced, ends, IsConnection}
 use Rattle.gateway.specs.Walls.{wall_on}
 use Rattle.gateway.specs.Reports.{Setup, taken_objects}
-use Rattle.gateway.specs.Works.{has_lacked_place, begun_works, gapless_works, ready_works}
+use Rattle.gateway.specs.Serial.{next_request}
+use Rattle.gateway.specs.Works.{has_lacked_place, begun_works, gapless_works, settled_works}
 use Rattle.gateway.specs.Works.{done_works, asked_works}
 use Rattle.gateway.specs.Course.{Course, here_of, came_frames, with_frame, with_frames, with_works}
 use Rattle.gateway.specs.Course.{logged_sent, with_sent, room_in, closed_course, sent_objects}
@@ -398,15 +398,15 @@ sends_one : (p : Setup) (log : Log) (octets : List ℕ) (b e c d : Course) → b
     → SendsNext p log octets e d → c ≡ d
 sends_one p log octets b e c d same h k =
     let next : Some h.request ≡ Some k.request = sym h.next
-    ∙ ap (λ (x : Course). sending (ready_works (latest log) x.works).serial.line (room_in p log x))
-    same
+    ∙ ap (λ (x : Course). next_request (room_in p log x)
+    (settled_works (latest log) x.works).serial) same
     ∙ k.next in
     let request : h.request ≡ k.request = cc in
     h.is ∙ ap (λ (x : Course). with_works (asked_works (latest log) (room_in p log x) h.request
-    (ready_works (latest log) x.works)) x) same
+    (settled_works (latest log) x.works)) x) same
     ∙ ap
     (λ r. with_works (asked_works (latest log) (room_in p log e) r
-    (ready_works (latest log) e.works)) e) request
+    (settled_works (latest log) e.works)) e) request
     ∙ sym k.is
 
 -- the same frame

@@ -28,7 +28,7 @@ use Rattle.gateway.specs.Frames.{Connection}
 use Rattle.gateway.specs.Connections.{is_replaced, Channel, new_channel, present, BeginsWithFault}
 use Rattle.gateway.specs.Connections.{IsConnection}
 use Rattle.gateway.specs.Reports.{Setup}
-use Rattle.gateway.specs.Works.{Works, has_lacked_place, answered_works, sent_works, ready_works}
+use Rattle.gateway.specs.Works.{Works, has_lacked_place, answered_works, sent_works, settled_works}
 use Rattle.gateway.specs.Serial.{Serial, is_first_command}
 use Rattle.gateway.specs.Course.{Course, came_frames, with_frames, logged_sent, closed_course}
 use Rattle.gateway.specs.Course.{IsCause, Runs}
@@ -181,9 +181,9 @@ request_after p log now octets h = record {
   settled = refl;
   said = λ c r. ap (λ (d : Course). d.talk) r.2.is ∙ h.said r.0 r.1;
   placed = λ c r. ap (λ (d : Course). has_lacked_place d.works.history) r.2.is
-      ∙ put_placed (is_first_command (ready_works (latest log) r.0.works).serial.line r.2.request)
+      ∙ put_placed (is_first_command (settled_works (latest log) r.0.works).serial.line r.2.request)
       r.2.request.station
-      (ready_works (latest log) r.0.works)
+      (settled_works (latest log) r.0.works)
       ∙ settled_placed (latest log) r.0.works
       ∙ h.placed r.0 r.1;
 }

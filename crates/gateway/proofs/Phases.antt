@@ -1,18 +1,16 @@
 -- What the agreement of state and log shows of the phase that a step is in.
-use Rattle.std.proofs.Common.{◌≡◌, ℕ, ◌+◌, ◌-◌, ◌≤◌, ◌&&◌, Bool, true, false, nat_lt, List, [], ◌∷◌}
+use Rattle.std.proofs.Common.{◌≡◌, ℕ, ◌≤◌, ◌&&◌, Bool, true, false, nat_lt, List, [], ◌∷◌}
 use Rattle.std.proofs.Common.{◌++◌, length, refl, ap, sym, ◌∙◌, subst, arith, length-append, None}
 use Rattle.std.proofs.Common.{inl, inr}
 use Rattle.std.specs.List.{flat_map}
 use Rattle.std.specs.Prelude.{◌⊎◌}
 use Rattle.std.proofs.lemmas.Bool.{lt-ltb}
-use Rattle.session.specs.Session as session
 use Rattle.gateway.specs.Objects.{objects}
 use Rattle.gateway.specs.Log.{Log, Went, TcpOut, latest}
 use Rattle.gateway.specs.Streams.{spelled}
 use Rattle.gateway.specs.Frames.{acknowledged_count, objects_of_frames}
 use Rattle.gateway.specs.Connections.{present}
 use Rattle.gateway.specs.Reports.{Setup}
-use Rattle.gateway.specs.Serial as serial
 use Rattle.gateway.specs.Serial.{Serial}
 use Rattle.gateway.specs.State.{State}
 use Rattle.gateway.specs.Works.{has_lacked_place, Works}

@@ -352,12 +352,12 @@ pulled_spent r s t e rest spent may =
           ∙ both.1,
     )
 
-pub logged_closed : (laws : LineLaws) (p : Setup) (logged after : Option Log) (s t : State)
+pub logged_closed : (p : Setup) (logged after : Option Log) (s t : State)
     (cause : Close) (now : ℕ)
     (phase : Phase) → after ≡ with_news logged (Went now (Closed cause) ∷ []) → now ≡ s.moment
     → t ≡ disconnected s
     → IfSome logged (MayClose p s cause phase) → Tracks p t after [] phase
-logged_closed laws p logged after s t cause now phase e same is h =
+logged_closed p logged after s t cause now phase e same is h =
     rw (e, same, is) (by_log logged h)
   where
     by_log : (logged : Option Log) → IfSome logged (MayClose p s cause phase)
@@ -365,7 +365,7 @@ logged_closed laws p logged after s t cause now phase e same is h =
     by_log None h = tt
     by_log (Some log) h =
         let moment : s.moment ≡ h.state.moment = ap (λ (x : State). x.moment) h.same in
-        rw (h.same, moment, ← h.leads) (after_close laws p h.state log h.unjudged cause h.phase
+        rw (h.same, moment, ← h.leads) (after_close p h.state log h.unjudged cause h.phase
         h.fault h.agrees
         h.open_is h.last h.timely h.stands h.why)
 

@@ -21,7 +21,7 @@ use Rattle.gateway.specs.Course.{Course, here_of, came_frames, with_frame, HasAn
 use Rattle.gateway.specs.Phases.{Phase, Taking, Judged, Idle, IsPast, IsLeftIn, after_frame}
 use Rattle.gateway.specs.Agrees.{IsAt, Agrees, IsClear, IsUndue, pending}
 use Rattle.gateway.proofs.Working.{received_placed}
-use Rattle.gateway.proofs.Offering.{offers_received, received_plain}
+use Rattle.gateway.proofs.Plain.{received_plain}
 use Rattle.gateway.proofs.Talking.{talk_received, confirmed_by}
 use Rattle.gateway.proofs.Tied.{tied_taken}
 use Rattle.gateway.proofs.Frames.{taken_stays, nothing_waits}
@@ -97,8 +97,6 @@ after_received p s log unjudged rest f a on ready undue past so fits whole passe
       stands = received_stands p s log f a.course kept (wall_on log s.moment)
           (ap (λ w. wall_of w s.moment) a.wall) place a.stands;
       gaps = a.gaps;
-      offers = offers_received a.talk.command_laws s.serial.line s.serial.line s.serial.commands
-          (framed f s).serial.commands f s.moment (wall_now s) refl refl a.offers;
       plain = received_plain a.talk.command_laws f s.moment (wall_now s) s.serial.commands fits
           a.plain;
       here = record {
@@ -166,7 +164,6 @@ with_so_far p s log unjudged rest so_far phase a waits joined left = record {
     answered = a.stands.answered;
   };
   gaps = a.gaps;
-  offers = a.offers;
   plain = a.plain;
   here = record {
     link = a.here.link;
@@ -236,7 +233,6 @@ now_idle p s log clear undue a = record {
     answered = answered_by p s log [] Taking a clear undue;
   };
   gaps = a.gaps;
-  offers = a.offers;
   plain = a.plain;
   here = a.here;
   left = refl;
@@ -267,7 +263,6 @@ now_taking p s log unjudged a = record {
     answered = tt;
   };
   gaps = a.gaps;
-  offers = a.offers;
   plain = a.plain;
   here = a.here;
   left = tt;

@@ -27,13 +27,12 @@ use Rattle.gateway.specs.Phases.{Fresh, resting}
 use Rattle.gateway.specs.Traffic.{HasRested}
 use Rattle.gateway.specs.Agrees.{Agrees, Talks, ArePlain, Carries, IsClear}
 use Rattle.gateway.proofs.Restarting.{restarted_serial, restarted_due, restarted_placed}
-use Rattle.gateway.proofs.Restarting.{restarted_gap, restarted_waiting, restarted_answers, done_due}
-use Rattle.gateway.proofs.Offering.{offers_stay}
+use Rattle.gateway.proofs.Restarting.{restarted_gap, restarted_answers, done_due}
 use Rattle.gateway.proofs.Talking.{kept_talk, talk_on, all_taken}
 use Rattle.gateway.proofs.Moments.{latest_is_greatest}
 use Rattle.gateway.proofs.Learning.{left_of, at_rest_works, is_left, none_left}
 use Rattle.gateway.proofs.Come.{placed_before}
-use Rattle.gateway.proofs.Carrying.{IsForOne, offered, line_is, gap}
+use Rattle.gateway.proofs.Carrying.{IsForOne, line_is, gap}
 
 -- what giving up commands leaves of the line's exchanges, as `giving_up_is_logged` says it
 pub record IsLogged : Type 0 where
@@ -102,10 +101,6 @@ module _ (logged : IsLogged) (law : IsForOne) (p : Setup) (s : State) (log : Log
   no_gap = restarted_gap left.works
       ∙ sym (ap (λ (t : Serial). t.gap) (at_rest_works p s log a)) ∙ none_left p s log a
 
-  waiting : after.serial.commands.waiting ≡ s.serial.commands.waiting
-  waiting = ap (λ (t : Serial). t.commands.waiting) does ∙ restarted_waiting left.works
-      ∙ sym (ap (λ (t : Serial). t.commands.waiting) (at_rest_works p s log a))
-
   answers : after.serial.commands.answers ≡ s.serial.commands.answers
   answers = ap (λ (t : Serial). t.commands.answers) does ∙ restarted_answers left.works
       ∙ sym (ap (λ (t : Serial). t.commands.answers) (at_rest_works p s log a))
@@ -132,8 +127,6 @@ module _ (logged : IsLogged) (law : IsForOne) (p : Setup) (s : State) (log : Log
     };
     gaps = λ i. ap (λ g. gaps_reported i log ++ gap_for i g) (gap s.serial) ∙ a.gaps i
         ∙ sym (logged.gaps p.link p.link.size p.addresses (exchanges_of p log) i);
-    offers = offers_stay s.serial.line after.serial.line s.serial.commands after.serial.commands
-        (offered law s.serial) waiting a.offers;
     plain = subst ArePlain (sym answers) a.plain;
     here = a.here;
     left = refl;

@@ -6,7 +6,7 @@ use Rattle.gateway.specs.Carried.{link_given_up, command_given_up, commands_give
 use Rattle.gateway.specs.Carried.{without_commands}
 use Rattle.gateway.specs.Works.{Works, has_lacked_place, link_given_up_works}
 use Rattle.gateway.specs.Works.{commands_given_up_works_upto, restarted_works, unasked_works}
-use Rattle.gateway.specs.Works.{ready_works, done_works}
+use Rattle.gateway.specs.Works.{settled_works, done_works}
 
 -- what each link that is given up keeps is kept by a restart
 pub kept_over : (P : Works → Type 0)
@@ -72,6 +72,6 @@ pub done_due : (at : ℕ) (room : Bool) (w : Works) → (done_works at room w).i
 done_due at room w = by_due w.is_due refl
   where
     by_due : (b : Bool) → w.is_due ≡ b
-        → (if b then unasked_works at room (ready_works at w) else w).is_due ≡ false
+        → (if b then unasked_works at room (settled_works at w) else w).is_due ≡ false
     by_due true e = refl
     by_due false e = e

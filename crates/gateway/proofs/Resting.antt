@@ -2,49 +2,57 @@
 use Rattle.std.proofs.Common.{◌≡◌, ℕ, ◌<◌, ◌&&◌, Bool, true, false, nat_lt, List, [], ◌∷◌, ◌++◌}
 use Rattle.std.proofs.Common.{length, refl, ap, sym, ◌∙◌, subst, arith, Option, Some, None, inl}
 use Rattle.std.proofs.Common.{inr}
-use Rattle.std.specs.Prelude.{if◌then◌else◌, option_map, ◌⊎◌}
+use Rattle.std.specs.Prelude.{if◌then◌else◌, ◌⊎◌}
 use Rattle.std.proofs.lemmas.List.{append-nil}
 use Rattle.std.proofs.lemmas.Bool.{lt-ltb}
 use Rattle.link.specs.Primary.{Primary, Outstanding}
 use Rattle.link.specs.Primary as primary
-use Rattle.session.specs.Session as session
 use Rattle.session.specs.Session.{is_transferring}
-use Rattle.events.specs.Queue as queue
 use Rattle.gateway.specs.Log.{Log, latest}
-use Rattle.gateway.specs.Connections.{past, over}
 use Rattle.gateway.specs.Reports.{Setup, address_at, exchanges_of, exchanges_with}
 use Rattle.gateway.specs.Gaps.{gaps_reported, gap_for}
 use Rattle.gateway.specs.Traffic.{IsAtRest}
 use Rattle.command.specs.State as tasks
 use Rattle.gateway.specs.Serial as serial
-use Rattle.gateway.specs.Serial.{Serial}
+use Rattle.gateway.specs.Serial.{Serial, waiting_in, next_request}
 use Rattle.gateway.specs.State.{State}
-use Rattle.gateway.specs.Works.{Works, settled_works, ready_works, unasked_works}
+use Rattle.gateway.specs.Works.{Works, settled_works, unasked_works}
 use Rattle.gateway.specs.Line.{IsServed, done_in}
-use Rattle.gateway.proofs.Serving.{upto_leaves, offers_reach, unasked_stays, left_at_rest}
-use Rattle.link.specs.Offers.{offered_at}
-use Rattle.link.specs.Leave.{holds_poll}
+use Rattle.link.specs.Leave.{holds_poll, IsLeftToPolls}
+use Rattle.link.specs.declared.turn.StationState.{StationState}
 use Rattle.link.specs.Turns.{station_at}
-use Rattle.link.specs.Procedure.{holds_command, link_after}
-use Rattle.link.specs.declared.procedure.Link.TheVariants.{Down}
+use Rattle.link.specs.Procedure.{link_after}
+use Rattle.link.specs.declared.procedure.Link.{Link}
+use Rattle.link.specs.declared.procedure.Link.TheVariants.{Down, Available, Next, Held}
 use Rattle.link.specs.Flags.{clear, flags_after}
 use Rattle.link.specs.Matching as logging
 use Rattle.ft12.specs.Fronts.{front_of}
-use Rattle.command.specs.State.{octets_waiting, oldest}
-use Rattle.command.specs.declared.waiting.Waiting.{Waiting}
+use Rattle.command.specs.State.{octets_waiting}
 use Rattle.gateway.specs.Course.{here_of, room_in}
 use Rattle.gateway.specs.Phases.{Asked, IsOut}
 use Rattle.session.specs.History.{frame_due, has_timed_out}
 use Rattle.gateway.specs.Agrees.{Agrees, IsSpent, IsQuiet}
 use Rattle.gateway.proofs.Working.{gap_in}
-use Rattle.gateway.proofs.Offering.{count_upto}
 use Rattle.gateway.proofs.Talking.{all_taken, confirmed_by, due_by, late_by}
 use Rattle.gateway.proofs.Sound.{no_room_means}
 use Rattle.link.specs.LineLaws.{LineLaws}
 use Rattle.gateway.proofs.Stations.{line_rests}
 use Rattle.gateway.proofs.Phases.{sent_all}
 use Rattle.gateway.proofs.Agreement.{is_full, same_room}
-use Rattle.gateway.proofs.Closing.{stands, stands_now}
+use Rattle.gateway.proofs.Closing.{stands_now}
+
+-- what is left to a station at rest
+left_at_rest : (s : StationState) (command : Option (List ℕ)) → IsLeftToPolls s command s.link
+    → (command ≡ None) ⊎ (s.dfc ≡ true) ⊎ (holds_poll s.link ≡ true)
+left_at_rest s command left = by_link s.link refl left
+  where
+    by_link : (l : Link) → s.link ≡ l → IsLeftToPolls s command l
+        → (command ≡ None) ⊎ (s.dfc ≡ true) ⊎ (holds_poll s.link ≡ true)
+    by_link Down e h = absurd h
+    by_link Available e h = absurd h
+    by_link (Next fcb) e (inl h) = inl h
+    by_link (Next fcb) e (inr h) = inr (inl h)
+    by_link (Held fcb service missed) e h = inr (inr (ap holds_poll e ∙ h))
 
 -- where nothing can be sent any more, the step has done all that it could
 pub rested : (laws : LineLaws) (p : Setup) (s : State) (log : Log) (a : Agrees p s log [] Asked)
@@ -61,7 +69,8 @@ rested laws p s log a spent quiet = record {
       ∙ started) (omega (arith, room, a.here.tied.unconfirmed.count, a.k))));
   gaps = λ i. sym (append-nil (gaps_reported i log))
       ∙ ap (λ g. gaps_reported i log ++ gap_for i g) (sym all_logged) ∙ a.gaps i;
-  line = line_rests laws p s.serial.line log a.course (room_in p log a.course) a.line
+  line = line_rests laws p s.serial.line log a.course (room_in p log a.course)
+      (waiting_in s.serial.commands) a.line
       (none_left a.course.works.is_due refl) (here_of a.course ∷ a.course.earlier)
       (λ none. is_full p s log [] Asked a
       (no_room_means s.centre.queue (sym (same_room p s log [] Asked a) ∙ none)))
@@ -97,90 +106,34 @@ rested laws p s log a spent quiet = record {
     all_logged = ap (λ (z : Serial). z.gap) a.stands.does ∙ gap_in Asked (latest log) room w
         ∙ a.stands.asks.2
 
-    out_none : (o : Option Outstanding) → IsOut o → primary.sending_from w.serial.line o room ≡ None
-    out_none None h = absurd h
-    out_none (Some o) h = refl
-
-    none_left : (b : Bool) → w.is_due ≡ b → primary.sending s.serial.line room ≡ None
+    -- a step that is done is asked in vain again, or a request is out
+    none_left : (b : Bool) → w.is_due ≡ b → next_request room s.serial ≡ None
     none_left true due =
-        let is : s.serial.line ≡ primary.asked (ready_works (latest log) w).serial.line (latest log)
-        room =
-        ap (λ (z : Serial). z.line) a.stands.does
-        ∙ ap (λ b. (if b then unasked_works (latest log) room (ready_works (latest log) w)
-        else w).serial.line)
+        let r : Serial = (settled_works (latest log) w).serial in
+        let is : s.serial ≡ serial.asked (latest log) room None r = a.stands.does
+        ∙ ap (λ b. (if b then unasked_works (latest log) room (settled_works (latest log) w)
+        else w).serial)
         due in
-        subst (λ q. primary.sending q room ≡ None) (sym is)
-        (laws.over (ready_works (latest log) w).serial.line (latest log) room (a.stands.asks.0 due))
+        subst (λ (z : Serial). next_request room z ≡ None) (sym is)
+        (laws.over r.line (latest log) room (waiting_in r.commands) (a.stands.asks.0 due))
     none_left false due =
-        let is : s.serial.line ≡ w.serial.line = ap (λ (z : Serial). z.line) a.stands.does
-        ∙ ap (λ b. (if b then unasked_works (latest log) room (ready_works (latest log) w)
-        else w).serial.line)
+        let is : s.serial ≡ w.serial = a.stands.does
+        ∙ ap (λ b. (if b then unasked_works (latest log) room (settled_works (latest log) w)
+        else w).serial)
         due in
-        subst (λ q. primary.sending q room ≡ None) (sym is)
+        subst (λ (z : Serial). next_request room z ≡ None) (sym is)
         (out_none w.serial.line.outstanding (a.stands.asks.1 due))
-
-    -- a command that waits was offered, and is offered no more only where it went out
-    none_waits : (b : Bool) → w.is_due ≡ b → s.serial.line.outstanding ≡ None → (i : ℕ)
-        → i < length p.addresses
-        → offered_at s.serial.line i ≡ None
-        → holds_command (station_at s.serial.line.stations i).link ≡ false
-        → octets_waiting i s.serial.commands ≡ None
-    none_waits false due out i within none free =
-        let is : s.serial.line ≡ w.serial.line = ap (λ (z : Serial). z.line) a.stands.does
-        ∙ ap (λ b. (if b then unasked_works (latest log) room (ready_works (latest log) w)
-        else w).serial.line)
-        due in
-        absurd (subst IsOut (sym (ap (λ (q : primary.Primary). q.outstanding) is)
-        ∙ out) (a.stands.asks.1 due))
-    none_waits true due out i within none free =
-        let r : Works = ready_works (latest log) w in
-        let is : s.serial.line ≡ primary.asked r.serial.line (latest log) room =
-        ap (λ (z : Serial). z.line) a.stands.does
-        ∙ ap (λ b. (if b then unasked_works (latest log) room r else w).serial.line) due in
-        let next : primary.sending r.serial.line room ≡ None = a.stands.asks.0 due in
-        let stays = unasked_stays r.serial.line (latest log) room next in
-        let same : s.serial.line.stations ≡ r.serial.line.stations =
-        ap (λ (q : primary.Primary). q.stations) is
-        ∙ stays.0 in
-        let quiet : r.serial.line.outstanding ≡ None = sym stays.1
-        ∙ sym (ap (λ (q : primary.Primary). q.outstanding) is) ∙ out in
-        let q : primary.Primary = (settled_works (latest log) w).serial.line in
-        let ws : List Waiting = (settled_works (latest log) w).serial.commands.waiting in
-        let kept = upto_leaves laws (length q.stations) ws q (omega arith) in
-        let waits : octets_waiting i s.serial.commands ≡ option_map (λ (z : Waiting). z.octets)
-        (oldest i ws) =
-        ap (λ (z : Serial). octets_waiting i z.commands) a.stands.does
-        ∙ ap (λ b. octets_waiting i (if b then unasked_works (latest log) room r
-        else w).serial.commands) due in
-        let empty : offered_at r.serial.line i ≡ None =
-        sym (ap (λ xs. (station_at xs i).offered) same) ∙ none in
-        let able : holds_command (station_at q.stations i).link ≡ false =
-        ap holds_command (sym (kept.link i))
-        ∙ ap (λ xs. holds_command (station_at xs i).link) (sym same) ∙ free in
-        let known : i < length q.stations = omega (
-          arith,
-          within,
-          a.line.count,
-          ap length same,
-          count_upto laws (length q.stations) ws q,
-        ) in
-        waits
-        ∙ by_oldest (oldest i ws) refl (λ z e. offers_reach laws (length q.stations) ws q i z known
-        (omega arith) e (sym kept.outstanding ∙ quiet) able empty)
       where
-        by_oldest : (o : Option Waiting)
-            → oldest i (settled_works (latest log) w).serial.commands.waiting ≡ o
-            → ((z : Waiting) → oldest i (settled_works (latest log) w).serial.commands.waiting
-            ≡ Some z → ⊥)
-            → option_map (λ (z : Waiting). z.octets) o ≡ None
-        by_oldest None e never = refl
-        by_oldest (Some z) e never = absurd (never z e)
+        out_none : (o : Option Outstanding) → IsOut o
+            → primary.sending_from w.serial.line o room (waiting_in w.serial.commands) ≡ None
+        out_none None h = absurd h
+        out_none (Some o) h = refl
 
     served : s.serial.line.outstanding ≡ None → (i : ℕ) → i < length p.addresses
         → IsServed p log (done_in p log a.course) i
     served out i within =
-        let left = laws.left s.serial.line room a.line.fits out (none_left w.is_due refl) i
-        (omega (arith, within, a.line.count)) in
+        let left = laws.left s.serial.line room (waiting_in s.serial.commands) a.line.fits out
+        (none_left w.is_due refl) i (omega (arith, within, a.line.count)) in
         let link : link_after p.link (address_at p.addresses i) Down (exchanges_with p i log)
         ≡ (station_at s.serial.line.stations i).link =
         subst (λ (o : Option primary.Outstanding). logging.AreLinks
@@ -188,8 +141,8 @@ rested laws p s log a spent quiet = record {
         (logging.past o (exchanges_of p log))) out
         a.line.links i in
         let flags = a.line.flags i in
-        let here = left_at_rest s.serial.line i (octets_waiting i s.serial.commands) left
-        (none_waits w.is_due refl out i within) in
+        let here = left_at_rest (station_at s.serial.line.stations i)
+        (octets_waiting i s.serial.commands) left in
         subst (λ (c : tasks.State). (octets_waiting i c ≡ None)
         ⊎ ((flags_after (address_at p.addresses i) clear (exchanges_with p i log)).dfc ≡ true)
         ⊎ (holds_poll (link_after p.link (address_at p.addresses i) Down (exchanges_with p i log))

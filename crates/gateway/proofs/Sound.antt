@@ -6,6 +6,7 @@ use Rattle.std.specs.Prelude.{IsTrue, ◌↔◌, ◌⊎◌}
 use Rattle.std.proofs.lemmas.Bool.{cases_lt, lt-ltb, le-ltb, false≢true}
 use Rattle.link.specs.Exchanges.{Sending}
 use Rattle.link.specs.Primary.{Primary, sending}
+use Rattle.link.specs.Turns.{CommandsWaiting}
 use Rattle.events.specs.Queue as queue
 use Rattle.events.specs.Queue.{Queue, free_places}
 use Rattle.link.specs.Leave.{is_poll_request, is_polling}
@@ -64,13 +65,14 @@ asked_sound l m q may is polls h = λ out. elim (polls out)
     [ inl was ↦ h was | inr leave ↦ room_means q (sym is ∙ leave) ]
 
 -- a poll goes out only where there is room
-pub poll_room : ((p : Primary) (s : Sending) → sending p false ≡ Some s → is_poll_request s.request
-    ≡ true
-    → is_polling p ≡ true) → (l : Primary) (q : Queue) (x : Sending) → HasPlaces l q
-    → sending l (has_room q) ≡ Some x
+pub poll_room : ((p : Primary) (waiting : CommandsWaiting) (s : Sending)
+    → sending p false waiting ≡ Some s → is_poll_request s.request ≡ true
+    → is_polling p ≡ true) → (l : Primary) (waiting : CommandsWaiting) (q : Queue) (x : Sending)
+    → HasPlaces l q → sending l (has_room q) waiting ≡ Some x
     → is_poll_request x.request ≡ true → 3 ≤ free_places q
-poll_room repeats l q x h is poll = go (has_room q) refl
+poll_room repeats l waiting q x h is poll = go (has_room q) refl
   where
     go : (b : Bool) → has_room q ≡ b → 3 ≤ free_places q
     go true room = room_means q room
-    go false none = h (repeats l x (subst (λ b. sending l b ≡ Some x) none is) poll)
+    go false none =
+        h (repeats l waiting x (subst (λ b. sending l b waiting ≡ Some x) none is) poll)

@@ -24,9 +24,6 @@ use Rattle.command.specs.CommandLaws.{CommandLaws}
 use Rattle.link.specs.LineLaws.{LineLaws}
 use Rattle.gateway.specs.Course.{first_course}
 use Rattle.gateway.specs.Phases.{Fresh}
-use Rattle.link.specs.Turns.{station_at}
-use Rattle.link.specs.Primary.{station_down}
-use Rattle.link.specs.Offers.{offered_at}
 use Rattle.gateway.specs.Setups.{link_of, session_of, setup_of}
 use Rattle.gateway.specs.State.{State, first_state}
 use Rattle.gateway.specs.Passing.{PassingLaws}
@@ -104,7 +101,6 @@ at_first c starts laws commands passing line_laws rules timely = record {
     answered = tt;
   };
   gaps = λ i. refl;
-  offers = λ k octets e. absurd (no_offer k octets e);
   plain = tt;
   here = fresh (first_state c).centre no_channel timely.range.k_small refl
       (λ h. refl) refl refl refl refl refl refl refl refl refl;
@@ -121,20 +117,6 @@ at_first c starts laws commands passing line_laws rules timely = record {
   };
   before = record { are = tt; orders = tt; times = tt; acts = tt; rests = tt };
 }
-  where
-    none_offered : (stations : List ℕ) (k : ℕ) → (station_at (map station_down stations) k).offered
-        ≡ None
-    none_offered [] k = refl
-    none_offered (a ∷ stations) zero = refl
-    none_offered (a ∷ stations) (suc k) = none_offered stations k
-
-    no_offer : (k : ℕ) (octets : List ℕ)
-        → offered_at (start (link_of c.line) (map (λ (s : StationSettings). s.address) c.stations))
-        k
-        ≡ Some octets → ⊥
-    no_offer k octets e =
-        let no : None ≡ Some octets =
-        sym (none_offered (map (λ (s : StationSettings). s.address) c.stations) k) ∙ e in cc
 
 -- the settings' ranges
 pub timely : (t : TcpSettings) → IsTimely (session_of t)

@@ -15,11 +15,12 @@ use Rattle.link.specs.Exchanges.{timed_current, received_current, reports_of_exc
 use Rattle.link.specs.declared.procedure.Link.TheVariants.{Down}
 use Rattle.link.specs.Procedure.{is_up, holds_command, link_after}
 use Rattle.link.specs.Requests.{request_frame, request_in}
-use Rattle.link.specs.Turns.{station_at}
+use Rattle.link.specs.Turns.{CommandsWaiting, station_at}
 use Rattle.link.specs.Primary.{Outstanding, Primary, asked, sending, received, received_outcome}
 use Rattle.link.specs.Primary.{timed_out}
 use Rattle.link.specs.Matching.{Matches, report_in, IsAwaited, IsReceived, IsSaid}
 use Rattle.link.specs.Matching as logging
+use Rattle.link.specs.Runs.{FitsLine}
 use Rattle.gateway.specs.Objects.{monitor_objects, pieces_of_report}
 use Rattle.gateway.specs.Log.{Log, LineIn, Came, Went, LineOut, latest}
 use Rattle.gateway.specs.Frames.{Connection}
@@ -116,12 +117,12 @@ octets_of p s =
 
 -- a request that went out is read back from its octets
 pub request_back : (laws : LineLaws) (p : Setup) (q : Primary) (log : Log) (may : Bool)
-    (s : Sending)
-    → AreFound p.addresses → Matches p.link p.addresses q (exchanges_of p log) → sending q may
-    ≡ Some s
+    (waiting : CommandsWaiting) (s : Sending) → FitsLine q may waiting
+    → AreFound p.addresses → Matches p.link p.addresses q (exchanges_of p log)
+    → sending q may waiting ≡ Some s
     → sending_in p (octets_of p s) ≡ Some s
-request_back laws p q log may s found h is =
-    let fits = laws.fit p.link p.addresses q (exchanges_of p log) may s h is in
+request_back laws p q log may waiting s line found h is =
+    let fits = laws.fit p.link p.addresses q (exchanges_of p log) may waiting s line h is in
     let reads : request_in p.link.size (octets_of p s)
     ≡ Some (address_at p.addresses s.station, s.request) =
     laws.back p.link.size (address_at p.addresses s.station) s.request fits.address fits.request in
@@ -131,20 +132,20 @@ request_back laws p q log may s found h is =
     (found s.station fits.station)
 
 pub after_request : (laws : LineLaws) (p : Setup) (q : Primary) (log : Log) (now : ℕ) (may : Bool)
-    (s : Sending)
-    → AreFound p.addresses → Matches p.link p.addresses q (exchanges_of p log) → sending q may
-    ≡ Some s →
-    LineGoesOn p (asked q now may) log (Went now (LineOut (octets_of p s)) ∷ log) []
-after_request laws p q log now may s found h is =
+    (waiting : CommandsWaiting) (s : Sending) → FitsLine q may waiting
+    → AreFound p.addresses → Matches p.link p.addresses q (exchanges_of p log)
+    → sending q may waiting ≡ Some s →
+    LineGoesOn p (asked q now may waiting) log (Went now (LineOut (octets_of p s)) ∷ log) []
+after_request laws p q log now may waiting s line found h is =
     let new : Log = Went now (LineOut (octets_of p s)) ∷ log in
-    let same : exchanges_of p new ≡ begun_by now (sending q may) (exchanges_of p log) =
-    ap (λ o. begun_by now o (exchanges_of p log)) (request_back laws p q log may s found h is
-    ∙ sym is) in
+    let same : exchanges_of p new ≡ begun_by now (sending q may waiting) (exchanges_of p log) =
+    ap (λ o. begun_by now o (exchanges_of p log))
+    (request_back laws p q log may waiting s line found h is ∙ sym is) in
     record {
-      matches = subst (Matches p.link p.addresses (asked q now may)) (sym same)
-          (laws.next p.link p.addresses q (exchanges_of p log) now may h);
+      matches = subst (Matches p.link p.addresses (asked q now may waiting)) (sym same)
+          (laws.next p.link p.addresses q (exchanges_of p log) now may waiting line h);
       reported = ap (reports_of_exchanges (front_of p.link.size) (address_at p.addresses)) same
-          ∙ laws.next_reports p.link.size (address_at p.addresses) now (sending q may)
+          ∙ laws.next_reports p.link.size (address_at p.addresses) now (sending q may waiting)
           (exchanges_of p log)
           ∙ sym (append-nil (reports_in p log));
     }
@@ -152,23 +153,24 @@ after_request laws p q log now may s found h is =
 -- Nothing is left to be asked
 
 asks_alone : (laws : LineLaws) (p : Setup) (q : Primary) (log : Log) (course : Course) (may : Bool)
-    → Matches p.link p.addresses q (exchanges_of p log) → q.outstanding ≡ None → sending q may
-    ≡ None
+    (waiting : CommandsWaiting)
+    → Matches p.link p.addresses q (exchanges_of p log) → q.outstanding ≡ None
+    → sending q may waiting ≡ None
     → (connections : List Connection) → (may ≡ false → IsFull p log connections)
     → ((i : ℕ) → i < length p.addresses → IsServed p log (done_in p log course) i)
     → LacksOnlyRoom p log course connections
-asks_alone laws p q log course may h out none connections full served =
+asks_alone laws p q log course may waiting h out none connections full served =
     let link : (i : ℕ) → link_after p.link (address_at p.addresses i) Down (exchanges_with p i log)
     ≡ (station_at q.stations i).link = λ i.
     subst (λ (o : Option Outstanding). logging.AreLinks (front_of p.link.size) p.link p.addresses
     q.stations
     (logging.past o (exchanges_of p log))) out h.links i in
     record {
-      full = full (laws.leave q may h.fits out none);
+      full = full (laws.leave q may waiting h.fits out none);
       up = λ i within. ap is_up (link i)
-          ∙ laws.up q may h.fits out none i (omega (arith, within, h.count));
+          ∙ laws.up q may waiting h.fits out none i (omega (arith, within, h.count));
       free = λ i within. ap holds_command (link i)
-          ∙ laws.free q may h.fits out none i (omega (arith, within, h.count));
+          ∙ laws.free q may waiting h.fits out none i (omega (arith, within, h.count));
       served = served;
     }
 
@@ -212,14 +214,15 @@ waits_for p q log o h out = go (exchanges_of p log).current refl
         record { exchange = x; latest_is = is; waits = (at_station x w, w.waits, w.stands) }
 
 pub line_rests : (laws : LineLaws) (p : Setup) (q : Primary) (log : Log) (course : Course)
-    (may : Bool)
-    → Matches p.link p.addresses q (exchanges_of p log) → sending q may ≡ None
+    (may : Bool) (waiting : CommandsWaiting)
+    → Matches p.link p.addresses q (exchanges_of p log) → sending q may waiting ≡ None
     → (connections : List Connection)
     → (may ≡ false → IsFull p log connections)
     → (q.outstanding ≡ None → (i : ℕ) → i < length p.addresses
     → IsServed p log (done_in p log course) i) → IsLineAtRest p log course connections
-line_rests laws p q log course may h none connections full served = go q.outstanding refl
+line_rests laws p q log course may waiting h none connections full served = go q.outstanding refl
   where
     go : (o : Option Outstanding) → q.outstanding ≡ o → IsLineAtRest p log course connections
-    go None out = inr (asks_alone laws p q log course may h out none connections full (served out))
+    go None out = inr (asks_alone laws p q log course may waiting h out none connections full
+        (served out))
     go (Some o) out = inl (waits_for p q log o h out)

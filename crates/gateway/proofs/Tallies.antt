@@ -34,7 +34,6 @@ use Rattle.gateway.specs.Serial.{listed, refusals, is_first_command, unless_sile
 use Rattle.gateway.specs.Works.{Works, tasks_of, logged_kept, is_command_by, is_command_report}
 use Rattle.gateway.specs.Works.{IsPassedOn, mirrored_works, LearnsReport, LearnsOf, received_works}
 use Rattle.gateway.specs.Works.{sent_works, answered_works, logged_silent, settled_works}
-use Rattle.gateway.specs.Works.{ready_works}
 use Rattle.gateway.specs.Works.{unasked_works, done_works, logged_put, asked_works, restarted_works}
 use Rattle.gateway.specs.Course.{Course, with_frames, closed_course, IsLeft, room_in, Runs}
 use Rattle.gateway.specs.Line.{done_in}
@@ -245,7 +244,7 @@ settled at w c = by_silent w.serial.silent
 done : (at : ℕ) (room : Bool) (w : Works) → IsCounted w → IsCounted (done_works at room w)
 done at room w c = by_due w.is_due
   where
-    by_due : (b : Bool) → IsCounted (if b then unasked_works at room (ready_works at w) else w)
+    by_due : (b : Bool) → IsCounted (if b then unasked_works at room (settled_works at w) else w)
     by_due true = settled at w c
     by_due false = c
 
@@ -302,7 +301,7 @@ so_far p (Came now Restarted ∷ log) d r = subst (λ (e : Course). IsCounted e.
     (restarted r.1.works (left p log r.0 r.1 r.4 (so_far p log r.0 r.2)))
 so_far p (Went now (LineOut octets) ∷ log) d r =
     subst (λ (e : Course). IsCounted e.works) (sym r.2.is)
-    (asked (latest log) (room_in p log r.0) r.2.request (ready_works (latest log) r.0.works)
+    (asked (latest log) (room_in p log r.0) r.2.request (settled_works (latest log) r.0.works)
     (settled (latest log) r.0.works (so_far p log r.0 r.1)))
 so_far p (Went now (GapOut station session) ∷ log) d r =
     subst (λ (e : Course). IsCounted e.works) (sym r.2.is) (so_far p log r.0 r.1)

@@ -6,7 +6,6 @@ use Rattle.std.specs.Prelude.{if◌then◌else◌}
 use Rattle.std.proofs.lemmas.Bool.{and_parts}
 use Rattle.apci.specs.declared.apdu.Apdu.{Apdu}
 use Rattle.apci.specs.declared.apdu.Apdu.TheVariants.{I, S, U}
-use Rattle.link.specs.Primary.{sending}
 use Rattle.command.specs.declared.waiting.Waiting.{Waiting}
 use Rattle.command.specs.State as tasks
 use Rattle.command.specs.State.{has_answer_place, first_answer, oldest_for}
@@ -15,10 +14,10 @@ use Rattle.command.specs.History.{Offered, History}
 use Rattle.command.specs.Calls.{Judge, after_answer, after_sending}
 use Rattle.gateway.specs.Serial as serial
 use Rattle.gateway.specs.Serial.{Serial, kept_until, all_kept, listed, has_place, unless_silent}
-use Rattle.gateway.specs.Serial.{settled, answered, without_gap}
+use Rattle.gateway.specs.Serial.{settled, answered, without_gap, next_request}
 use Rattle.gateway.specs.Works.{Works, tasks_of, logged, logged_kept, has_lacked_place}
 use Rattle.gateway.specs.Works.{received_works}
-use Rattle.gateway.specs.Works.{answered_works, logged_silent, settled_works, ready_works}
+use Rattle.gateway.specs.Works.{answered_works, logged_silent, settled_works}
 use Rattle.gateway.specs.Works.{unasked_works, done_works, logged_put}
 use Rattle.gateway.specs.Phases.{Phase, Fresh, Taking, Judged, Idle, Crowded, Timed, Asked}
 use Rattle.gateway.specs.Phases.{works_in, IsAsked}
@@ -62,22 +61,6 @@ kept_placed (x ∷ xs) s h all =
     (has_answer_place s) ∷ h)) both.0
     ∙ kept_placed xs (tasks.offered x s) (Offered x (has_answer_place s) ∷ h) both.1
     ∙ ap (λ b. has_lacked_place (Offered x b ∷ h)) both.0
-
--- nothing else of what is kept changes
-either_same : {A : Type 0} (b : Bool) (s t : tasks.State) (f : tasks.State → A) (x : A) → f s ≡ x
-    → f t ≡ x
-    → f (if b then s else t) ≡ x
-either_same true s t f x h k = h
-either_same false s t f x h k = k
-
-pub kept_waiting : (xs : List (List ℕ)) (s : tasks.State) → (kept_until xs s).waiting ≡ s.waiting
-kept_waiting [] s = refl
-kept_waiting (x ∷ xs) s =
-    let one : (tasks.offered x s).waiting ≡ s.waiting =
-    either_same (has_answer_place s) (tasks.kept x s) s (λ t. t.waiting) s.waiting refl refl in
-    either_same (has_answer_place s) (kept_until xs (tasks.offered x s)) (tasks.offered x s)
-    (λ t. t.waiting) s.waiting
-    (kept_waiting xs (tasks.offered x s) ∙ one) one
 
 pub more_plain : (xs ys : List (List ℕ)) → ArePlain xs → ArePlain ys → ArePlain (xs ++ ys)
 more_plain [] ys h k = k
@@ -133,7 +116,7 @@ pub done_placed : (at : ℕ) (room : Bool) (w : Works)
     ≡ has_lacked_place w.history
 done_placed at room w = by_due w.is_due
   where
-    by_due : (b : Bool) → has_lacked_place (if b then unasked_works at room (ready_works at w)
+    by_due : (b : Bool) → has_lacked_place (if b then unasked_works at room (settled_works at w)
         else w).history
         ≡ has_lacked_place w.history
     by_due true = settled_placed at w
@@ -169,11 +152,10 @@ module _ (w : Works) (x : List ℕ) (first : first_answer w.serial.commands.answ
   own_serial Asked at room = by_due w.is_due
     where
       by_due : (b : Bool)
-          → (if b then unasked_works at room (ready_works at (answered_works w))
+          → (if b then unasked_works at room (settled_works at (answered_works w))
           else answered_works w).serial
-          ≡ answered (if b then unasked_works at room (ready_works at w) else w).serial
-      by_due true = ap (λ (s : Serial). serial.asked at room None (serial.offered s))
-          (settled_own at w.serial)
+          ≡ answered (if b then unasked_works at room (settled_works at w) else w).serial
+      by_due true = ap (serial.asked at room None) (settled_own at w.serial)
       by_due false = refl
 
   pub asked_own : (phase : Phase) (at : ℕ) (room : Bool) → IsAsked phase at room w
@@ -185,8 +167,7 @@ module _ (w : Works) (x : List ℕ) (first : first_answer w.serial.commands.answ
   asked_own Crowded at room h = h
   asked_own Timed at room h = h
   asked_own Asked at room h = (
-    λ due. ap (λ (s : Serial). sending (serial.offered s).line room) (settled_own at w.serial)
-        ∙ h.0 due,
+    λ due. ap (next_request room) (settled_own at w.serial) ∙ h.0 due,
     h.1,
     h.2,
   )
@@ -212,7 +193,7 @@ answers_in Asked at room w = by_due w.is_due
     by_silent None = refl
     by_silent (Some i) = refl
 
-    by_due : (b : Bool) → (if b then unasked_works at room (ready_works at w)
+    by_due : (b : Bool) → (if b then unasked_works at room (settled_works at w)
         else w).serial.commands.answers
         ≡ w.serial.commands.answers
     by_due true = by_silent w.serial.silent
@@ -237,7 +218,7 @@ gap_in Crowded at room w = refl
 gap_in Timed at room w = settled_gap at w.serial
 gap_in Asked at room w = by_due w.is_due
   where
-    by_due : (b : Bool) → (if b then unasked_works at room (ready_works at w) else w).serial.gap
+    by_due : (b : Bool) → (if b then unasked_works at room (settled_works at w) else w).serial.gap
         ≡ w.serial.gap
     by_due true = settled_gap at w.serial
     by_due false = refl

@@ -5,10 +5,6 @@ use Rattle.std.specs.List.{flat_map, list_all, AllByRecursion}
 use Rattle.asdu.specs.InformationObjects.{InformationObject}
 use Rattle.apci.specs.declared.apdu.Apdu.{Apdu}
 use Rattle.apci.specs.Reading.{IsMore}
-use Rattle.link.specs.Primary.{Primary}
-use Rattle.link.specs.Offers.{offered_at}
-use Rattle.command.specs.State as tasks
-use Rattle.command.specs.State.{octets_waiting}
 use Rattle.link.specs.Matching.{Matches}
 use Rattle.session.specs.Session.{Session, is_open, is_transferring, is_from_queue, may_send}
 use Rattle.session.specs.Session.{pulled}
@@ -58,11 +54,6 @@ pub record IsAt (p : Setup) (log : Log) (phase : Phase) (s : State) (c : Course)
   pub phase_is : IsPhase phase log
   pub placed : IsPlaced phase log c.works.history
   pub answered : IsAnswered phase p log c
-
--- what is offered to a station is the oldest command that waits for it
-abbrev pub OffersWait : Primary → tasks.State → Type 0
-OffersWait q s = (k : ℕ) (octets : List ℕ) → offered_at q k ≡ Some octets →
-    octets_waiting k s ≡ Some octets
 
 -- the gaps that were reported, and the one that is still to be reported, are those of the exchanges
 abbrev pub GapsReported : Setup → Log → Option Gap → Type 0
@@ -185,7 +176,6 @@ pub record Agrees (p : Setup) (s : State) (log : Log) (unjudged : List ℕ)
   pub talk : Talks p s.centre.session log course
   pub stands : IsAt p log phase s course
   pub gaps : GapsReported p log s.serial.gap
-  pub offers : OffersWait s.serial.line s.serial.commands
   pub plain : ArePlain s.serial.commands.answers
   pub carries : Carries (taken_objects p log) (parts_of_all p.sizes (reports_in p log))
       (taken_pieces p log) course.earlier course.sent s.centre.queue.unsent

@@ -1,16 +1,15 @@
 -- The calls that a run makes of the line's primary station, as its log shows them: in each step the
--- octets of its event, its moment, what waits, and a request (this gateway's own profile, over the
--- procedures of IEC 60870-5-2).
+-- octets of its event, its moment, and a request, with the commands that wait (this gateway's own
+-- profile, over the procedures of IEC 60870-5-2).
 use Rattle.std.specs.Prelude.{◌≡◌, ℕ, zero, suc, Bool, true, false, if◌then◌else◌, List, [], ◌∷◌}
-use Rattle.std.specs.Prelude.{◌++◌, length, Option, Some, None}
+use Rattle.std.specs.Prelude.{◌++◌, length}
 use Rattle.ft12.specs.Fronts.{front_of}
-use Rattle.session.specs.declared.kinds.Close.TheVariants.{Replaced}
 use Rattle.link.specs.Exchanges.{Exchanges}
 use Rattle.link.specs.Carried.{awaits_command_in, given_up_upto}
-use Rattle.link.specs.Runs.{Call, Next, Octets, Due, Offer, Withdraw, GivesUp}
+use Rattle.link.specs.Runs.{Call, Next, Octets, Due, GivesUp}
+use Rattle.link.specs.Turns.{CommandsWaiting}
 use Rattle.command.specs.History.{History, next_octets}
-use Rattle.gateway.specs.Log.{Log, Input, LineIn, Opened, CutOff, Restarted}
-use Rattle.gateway.specs.Log.{Output, LineOut, Closed, Came, Went, latest}
+use Rattle.gateway.specs.Log.{Log, Input, LineIn, Restarted, LineOut, Came, Went, latest}
 use Rattle.gateway.specs.Connections.{present}
 use Rattle.gateway.specs.Reports.{Setup, exchanges_of}
 use Rattle.gateway.specs.Room.{IsFull}
@@ -24,33 +23,25 @@ is_asking (Came now event ∷ log) = true
 is_asking (Went now (LineOut octets) ∷ log) = false
 is_asking (Went now action ∷ log) = is_asking log
 
-abbrev pub offer_of : (station : ℕ) → Option (List ℕ) → List Call
-offer_of station None = []
-offer_of station (Some asdu) = Offer station asdu ∷ []
-
--- To each of so many stations, the first one first, the oldest command is offered that was
--- forwarded to it on the open connection and wasn't sent.
-abbrev pub offers : Setup → (count : ℕ) → History → List Call
-offers p zero h = []
-offers p (suc k) h =
-    offers p k h
-    ++ offer_of k (next_octets p.sizes p.stations p.select_ms p.max_age_ms k h)
+-- For each station the oldest command waits that was forwarded to it on the open connection and
+-- wasn't sent.
+abbrev pub waiting_by : Setup → History → CommandsWaiting
+waiting_by p h =
+    λ station. next_octets p.sizes p.stations p.select_ms p.max_age_ms station h
 
 -- There is leave to poll exactly where the queue has room, as the log shows.
 abbrev pub IsLeave : Setup → Log → Course → Bool → Type 0
 IsLeave p log c true = IsFull p log (here_of c ∷ c.earlier) → ⊥
 IsLeave p log c false = IsFull p log (here_of c ∷ c.earlier)
 
--- Once all that came is taken, what waits is offered, and a request is asked for at the step's
--- moment.
+-- Once all that came is taken, a request is asked for at the step's moment, with what waits then.
 pub record Asks (p : Setup) (log : Log) (calls : List Call) : Type 0 where
   pub course : Course
   pub runs : Runs p log course
   pub all : HasTakenAll (present log) course.talk
   pub leave : Bool
   pub room : IsLeave p log course leave
-  pub are : calls
-      ≡ offers p (length p.addresses) course.works.history ++ Next (latest log) leave ∷ []
+  pub are : calls ≡ Next (latest log) leave (waiting_by p course.works.history) ∷ []
 
 -- a step in which no request went out asked for one, too, and there was none
 abbrev pub EndsStep : Setup → Log → (asking : Bool) → List Call → Type 0
@@ -66,21 +57,11 @@ give_ups p (suc k) e =
     ++ (if awaits_command_in p.link (front_of p.link.size) p.addresses k
     (given_up_upto p.link (front_of p.link.size) p.addresses k e) then GivesUp k ∷ [] else [])
 
--- The octets of an event come, and then its moment; what waits is withdrawn where a connection
--- begins or ends.
+-- The octets of an event come, and then its moment.
 abbrev pub event_calls : Setup → (at : ℕ) → Input → Exchanges → List Call
 event_calls p at (LineIn octets) e = Octets octets ∷ Due at ∷ []
-event_calls p at Opened e = Due at ∷ Withdraw ∷ []
-event_calls p at CutOff e = Due at ∷ Withdraw ∷ []
 event_calls p at Restarted e = give_ups p (length p.addresses) e
 event_calls p at event e = Due at ∷ []
-
--- So it is where the gateway closes one. What waited on a connection that was replaced was
--- withdrawn when the new one began.
-abbrev pub action_calls : Output → List Call
-action_calls (Closed Replaced) = []
-action_calls (Closed cause) = Withdraw ∷ []
-action_calls action = []
 
 -- the calls of a log, the first one first
 abbrev pub CallsOf : Setup → Log → List Call → Type 0
@@ -93,5 +74,4 @@ CallsOf p (Came now event ∷ log) calls =
 CallsOf p (Went now (LineOut octets) ∷ log) calls =
     (before : List Call) × (asked : List Call) × CallsOf p log before × Asks p log asked
     × (calls ≡ before ++ asked)
-CallsOf p (Went now action ∷ log) calls =
-    (before : List Call) × CallsOf p log before × (calls ≡ before ++ action_calls action)
+CallsOf p (Went now action ∷ log) calls = CallsOf p log calls

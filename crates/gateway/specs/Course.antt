@@ -14,7 +14,6 @@ use Rattle.link.specs.declared.service.Service.TheVariants.{Command}
 use Rattle.link.specs.declared.service.Asked.TheVariants.{Counted}
 use Rattle.link.specs.Exchanges.{Sending}
 use Rattle.link.specs.Requests.{request_frame}
-use Rattle.link.specs.Primary.{sending}
 use Rattle.session.specs.declared.kinds.Close.{Close}
 use Rattle.session.specs.declared.kinds.Close.TheVariants.{Timeout, OwnAnswers, Replaced}
 use Rattle.session.specs.declared.kinds.FrameOrigin.{FrameOrigin}
@@ -34,11 +33,10 @@ use Rattle.gateway.specs.Frames.{monitor_objects_sent, acknowledged_reports, rep
 use Rattle.gateway.specs.Connections.{Channel, present, received_before, is_replaced, IsConnection}
 use Rattle.gateway.specs.Reports.{Setup, address_at, reports_in, parts_of_all, taken_objects}
 use Rattle.gateway.specs.Reports.{taken_pieces}
-use Rattle.gateway.specs.Serial.{is_first_command, answer_outcome}
+use Rattle.gateway.specs.Serial.{is_first_command, answer_outcome, next_request}
 use Rattle.gateway.specs.Works.{Works, first_works, has_lacked_place, LearnsOf, received_works}
 use Rattle.gateway.specs.Works.{sent_works, cut_works, octets_works, begun_works, settled_works}
-use Rattle.gateway.specs.Works.{ready_works, gapless_works, asked_works, done_works}
-use Rattle.gateway.specs.Works.{restarted_works}
+use Rattle.gateway.specs.Works.{gapless_works, asked_works, done_works, restarted_works}
 
 pub record Course : Type 0 where
   -- what was said on the open connection: frames that came and frames that went out, each with its
@@ -139,7 +137,7 @@ pub record HasAsked (p : Setup) (log : Log) (c : Course) : Type 0 where
   pub logged : c.works.serial.gap ≡ None
   pub in_time : NoAnswerLate p log c
   pub none : c.works.is_due ≡ true →
-      sending (ready_works (latest log) c.works).serial.line (room_in p log c) ≡ None
+      next_request (room_in p log c) (settled_works (latest log) c.works).serial ≡ None
 
 abbrev pub with_frame : Setup → Apdu → (now : ℕ) → (wall : Option ℕ) → Course → Course
 with_frame p frame now wall c =
@@ -303,7 +301,7 @@ closed_course p cause is_open at c = ended_course is_open (works_at cause at c.w
 pub record IsLeft (p : Setup) (log : Log) (before after : Course) : Type 0 where
   pub logged : before.works.serial.gap ≡ None
   pub none : before.works.is_due ≡ true →
-      sending (ready_works (latest log) before.works).serial.line (room_in p log before) ≡ None
+      next_request (room_in p log before) (settled_works (latest log) before.works).serial ≡ None
   pub is : after ≡ record {
     talk = before.talk;
     sent = before.sent;
@@ -357,17 +355,17 @@ pub record SendsNext (p : Setup) (log : Log) (octets : List ℕ)
   pub request : Sending
   -- the one that the turns give, as the line's machine has it: there are no shorter words
   -- (docs/DECISIONS.md, "Requests by the turns")
-  pub next : sending (ready_works (latest log) before.works).serial.line (room_in p log before)
+  pub next : next_request (room_in p log before) (settled_works (latest log) before.works).serial
       ≡ Some request
   pub spelled_so : octets ≡ line.spelling p.link.size
       (request_frame (address_at p.addresses request.station) request.request)
   pub waits : (fcb : Bool) (asdu : List ℕ) → request.request ≡ Counted fcb (Command asdu) →
-      is_first_command (ready_works (latest log) before.works).serial.line request ≡ true →
-      octets_waiting request.station (ready_works (latest log) before.works).serial.commands
+      is_first_command (settled_works (latest log) before.works).serial.line request ≡ true →
+      octets_waiting request.station (settled_works (latest log) before.works).serial.commands
       ≡ Some asdu
   pub is : after
       ≡ with_works (asked_works (latest log) (room_in p log before) request
-      (ready_works (latest log) before.works)) before
+      (settled_works (latest log) before.works)) before
 
 -- The course that the log shows. When an event comes all whole frames received before are taken,
 -- and the step before has done what was due. Frames are taken of an event's octets, before and

@@ -1,12 +1,13 @@
 -- How far a step is.
 use Rattle.std.specs.Prelude.{◌≡◌, ℕ, ◌+◌, ◌<◌, Bool, true, false, List, [], ◌∷◌, ◌++◌, length}
 use Rattle.std.specs.Prelude.{Option, Some, None}
-use Rattle.link.specs.Primary.{Outstanding, sending}
+use Rattle.link.specs.Primary.{Outstanding}
+use Rattle.gateway.specs.Serial.{next_request}
 use Rattle.gateway.specs.Log.{Log, TcpIn, Restarted, Came, Went, TcpOut}
 use Rattle.command.specs.History.{History}
 use Rattle.gateway.specs.Connections.{present, received_before}
 use Rattle.gateway.specs.Behind.{GoesBehindFrames}
-use Rattle.gateway.specs.Works.{Works, has_lacked_place, settled_works, ready_works, done_works}
+use Rattle.gateway.specs.Works.{Works, has_lacked_place, settled_works, done_works}
 
 -- nothing has come yet, or not since a restart; octets of the connection are being taken; a frame
 -- of them was taken, and
@@ -59,7 +60,7 @@ IsOut (Some o) = Unit {0}
 -- Until the request is asked for it is due. Then it is out, or there was none that might go out;
 -- and no gap is left to be reported.
 abbrev pub IsAsked : Phase → (at : ℕ) → (room : Bool) → Works → Type 0
-IsAsked Asked at room w = (w.is_due ≡ true → sending (ready_works at w).serial.line room ≡ None)
+IsAsked Asked at room w = (w.is_due ≡ true → next_request room (settled_works at w).serial ≡ None)
     × (w.is_due ≡ false → IsOut w.serial.line.outstanding) × (w.serial.gap ≡ None)
 IsAsked Fresh at room w = (w.is_due ≡ false) × (w.serial.gap ≡ None)
 IsAsked phase at room w = w.is_due ≡ true

@@ -1,24 +1,23 @@
 -- The line's side of a gateway: its primary station, commands, and what is counted; and what each
--- thing that happens makes of them (IEC 60870-5-101, 7.2.3; when own answers are kept, and when a
--- command is offered to the line, is this gateway's own profile).
-use Rattle.std.specs.Prelude.{ℕ, zero, suc, Bool, true, false, not, ◌&&◌, if◌then◌else◌, List, []}
-use Rattle.std.specs.Prelude.{◌∷◌, length, Option, Some, None}
+-- thing that happens makes of them (IEC 60870-5-101, 7.2.3; when own answers are kept is this
+-- gateway's own profile).
+use Rattle.std.specs.Prelude.{ℕ, Bool, true, false, not, ◌&&◌, if◌then◌else◌, List, [], ◌∷◌}
+use Rattle.std.specs.Prelude.{Option, Some, None}
 use Rattle.ft12.specs.Fronts.{front_of}
 use Rattle.asdu.specs.declared.sizes.Sizes.{Sizes}
 use Rattle.asdu.specs.Asdu.{AsduValue}
 use Rattle.apci.specs.declared.apdu.Apdu.{Apdu}
 use Rattle.apci.specs.declared.apdu.Apdu.TheVariants.{I}
 use Rattle.link.specs.Procedure.{is_held}
-use Rattle.link.specs.Turns.{station_at}
+use Rattle.link.specs.Turns.{CommandsWaiting, station_at}
 use Rattle.link.specs.Exchanges.{Sending}
 use Rattle.link.specs.declared.outcome.Outcome.{Outcome}
 use Rattle.link.specs.declared.outcome.Outcome.TheVariants as outcome
 use Rattle.link.specs.Primary as primary
 use Rattle.link.specs.Primary.{Primary, received, received_outcome, timed_out, due_outcome}
-use Rattle.link.specs.Primary.{is_command, offered_to, withdrawn}
-use Rattle.command.specs.declared.waiting.Waiting.{Waiting}
+use Rattle.link.specs.Primary.{is_command, sending}
 use Rattle.command.specs.State as tasks
-use Rattle.command.specs.State.{has_answer_place, line_of, refusal_of, is_used, oldest}
+use Rattle.command.specs.State.{has_answer_place, line_of, refusal_of, is_used, octets_waiting}
 use Rattle.command.specs.Judging as judging
 use Rattle.command.specs.Mirrors as mirrors
 use Rattle.gateway.specs.declared.counts.Tally.{Tally}
@@ -142,9 +141,9 @@ judged frame at wall s = record s { commands = received_commands frame at wall s
 abbrev pub answered : Serial → Serial
 answered s = record s { commands = tasks.answered s.commands }
 
--- commands that were never put on the line are taken back, and selections and own answers are gone
+-- commands that were never put on the line, selections and own answers are gone
 abbrev pub cut : Serial → Serial
-cut s = record s { line = withdrawn s.line; commands = tasks.closed s.commands }
+cut s = record s { commands = tasks.closed s.commands }
 
 -- A step: its event's octets, its moment, its timers, its request
 
@@ -176,18 +175,13 @@ settled at s =
       silent = None;
     }
 
--- the oldest command that waits for a station is offered to it
-abbrev pub offered_by : Option Waiting → (station : ℕ) → Primary → Primary
-offered_by None station q = q
-offered_by (Some w) station q = offered_to q station w.octets
+-- the command that waits for each station, the oldest first
+abbrev pub waiting_in : tasks.State → CommandsWaiting
+waiting_in s = λ station. octets_waiting station s
 
--- the same for so many stations, from the first on
-abbrev pub offered_upto : (count : ℕ) → List Waiting → Primary → Primary
-offered_upto zero ws q = q
-offered_upto (suc k) ws q = offered_by (oldest k ws) k (offered_upto k ws q)
-
-abbrev pub offered : Serial → Serial
-offered s = record s { line = offered_upto (length s.line.stations) s.commands.waiting s.line }
+-- the request that is next, where the queue has room or hasn't
+abbrev pub next_request : (room : Bool) → Serial → Option Sending
+next_request room s = sending s.line room (waiting_in s.commands)
 
 -- a command that goes out for the first time
 abbrev pub is_first_command : Primary → Sending → Bool
@@ -206,6 +200,6 @@ commands_after q (Some x) s = put_on_line (is_first_command q x) x.station s
 abbrev pub asked : (at : ℕ) → (room : Bool) → Option Sending → Serial → Serial
 asked at room next s =
     record s {
-      line = primary.asked s.line at room;
+      line = primary.asked s.line at room (waiting_in s.commands);
       commands = commands_after s.line next s.commands;
     }

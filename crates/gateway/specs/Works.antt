@@ -211,11 +211,6 @@ abbrev pub settled_works : (at : ℕ) → Works → Works
 settled_works at w =
     record w { serial = serial.settled at w.serial; history = logged_silent w.serial.silent w }
 
--- all that comes before the step's request: commands are offered to the line
-abbrev pub ready_works : (at : ℕ) → Works → Works
-ready_works at w =
-    let t : Works = settled_works at w in record t { serial = serial.offered t.serial }
-
 -- the gap is reported
 abbrev pub gapless_works : Works → Works
 gapless_works w = record w { serial = serial.without_gap w.serial }
@@ -237,4 +232,4 @@ abbrev pub unasked_works : (at : ℕ) → (room : Bool) → Works → Works
 unasked_works at room w = record w { serial = serial.asked at room None w.serial; is_due = false }
 
 abbrev pub done_works : (at : ℕ) → (room : Bool) → Works → Works
-done_works at room w = if w.is_due then unasked_works at room (ready_works at w) else w
+done_works at room w = if w.is_due then unasked_works at room (settled_works at w) else w

@@ -216,7 +216,6 @@ impl Gateway {
         ensures closed { OnTrue result (self.new ≡ disconnected self.old) }
         ensures puts { Puts P.log P.script P.failed port.old port.new (faults_unless result) }
     {
-        line_keeps_the_procedures();
         let went = port.put(self.moment(), &Action::Close(cause));
         if went {
             self.disconnect();
@@ -498,7 +497,6 @@ impl Gateway {
         ensures puts { Puts P.log P.script P.failed port.old port.new (faults_unless result) }
     {
         line_keeps_the_procedures();
-        self.offer_all();
         // Nothing is sought while an answer is awaited, as at each octet that comes in a piece.
         if self.is_awaiting() {
             return true;

@@ -9,14 +9,11 @@ ghost use Rattle.asdu.specs.InformationObjects.{monitor_objects_of};
 ghost use Rattle.asdu.specs.Reading.{value_of};
 ghost use Rattle.ft12.specs.Borrowed.{owned, FitsMemory};
 ghost use Rattle.link.specs.declared.outcome.Outcome.TheVariants as exchange;
-ghost use Rattle.link.specs.declared.settings.LinkSettings.{LinkSettings};
-ghost use Rattle.link.specs.Exchanges.{Sending, Exchanges};
+ghost use Rattle.link.specs.Exchanges.{Sending};
 ghost use Rattle.link.specs.Leave.{is_poll_request, is_polling, is_report};
-ghost use Rattle.link.specs.Primary.{offered_to, sending, request_of, answered_with};
+ghost use Rattle.link.specs.Primary.{request_of, answered_with};
 ghost use Rattle.link.specs.Primary.{answer_outcome as outcome_of_frame};
-ghost use Rattle.link.specs.Matching.{Matches};
 ghost use Rattle.command.specs.Judging.{judged};
-ghost use Rattle.command.specs.State.{oldest};
 ghost use Rattle.events.specs.Queue.{free_places, octets_of};
 ghost use Rattle.session.specs.Session.{may_send};
 ghost use Rattle.gateway.specs.Polls.{has_room};
@@ -24,7 +21,7 @@ ghost use Rattle.gateway.specs.Counting.{is_answer_type, one_skipped, one_mirror
 ghost use Rattle.gateway.specs.Serial.{kept_until, all_kept, listed, refused, refusal_fits};
 ghost use Rattle.gateway.specs.Serial.{arrived, answer_outcome, accepted, given_up, with_gap};
 ghost use Rattle.gateway.specs.Serial.{without_gap, timed, settled};
-ghost use Rattle.gateway.specs.Serial.{cut, offered_by, offered, asked};
+ghost use Rattle.gateway.specs.Serial.{cut, next_request, asked};
 ghost use Rattle.gateway.specs.State.{line_timed, settled as after_timers, after_request};
 ghost use Rattle.gateway.specs.State.{with_serial};
 ghost use Rattle.gateway.specs.Steps.{Mirrors, LearnsReport, Receives, Learns, SendsOwn};
@@ -40,10 +37,7 @@ use asdu::{Asdu, Piece, objects_are_those_of_the_asdu, pieces_carry_the_report, 
 use command::{Act, Commands};
 use elements::TypeId;
 use ft12::{Frame, FrameRef};
-use link::{
-    Master, Outcome, Request, RequestKind, master_matches_the_log, offers_wait,
-    polls_wait_for_leave,
-};
+use link::{LinkUser, Master, Outcome, Request, RequestKind, polls_wait_for_leave};
 use session::Close;
 use std::marker::Model;
 
@@ -105,18 +99,20 @@ fn is_answer(kind: TypeId) -> bool
     !kind.monitor() && !kind.tagged()
 }
 
-/// Offers a station user data that fit any frame.
-fn offer_to(line: &mut Master, station: usize, octets: &[u8])
-    requires station { station < length line.old.stations }
-    requires some { 1 ≤ length octets.now }
-    requires short { length octets.now ≤ 12 }
-    ensures state { line.new ≡ offered_to line.old station octets.now }
-    ensures matches { (settings : LinkSettings) (addresses : List ℕ) (e : Exchanges) →
-        Matches settings addresses line.old e → Matches settings addresses line.new e }
-{
-    master_matches_the_log();
-    // `false` says that one is offered already; what waits is offered again at each step.
-    let _is_new = line.offer(station, octets);
+/// The commands, lent to the line: each waits in them until it goes out.
+#[derive(Drop)]
+struct Lent<'a> {
+    commands: &'a Commands,
+}
+
+impl LinkUser for Lent<'_> {
+    ghost use Rattle.gateway.specs.Serial.{waiting_in};
+
+    ghost waiting = { λ user. waiting_in user.commands.now };
+
+    fn command(&self, station: usize) -> Option<&[u8]> {
+        self.commands.waiting(station)
+    }
 }
 
 /// Keeps own answers, up to the first that finds no place.
@@ -292,13 +288,10 @@ impl SerialSide {
         self.gap.take()
     }
 
-    /// Commands that were never put on the line are taken back, and selections and own answers go.
+    /// Commands that were never put on the line, selections and own answers go.
     pub(super) fn cut(&mut self)
-        ensures state { self.new ≡ cut self.old }
-        ensures polls { is_polling self.new.line ≡ true → is_polling self.old.line ≡ true }
+        ensures { self.new ≡ cut self.old }
     {
-        polls_wait_for_leave();
-        self.line.withdraw();
         self.commands.cut();
     }
 
@@ -333,15 +326,18 @@ impl SerialSide {
 
     /// The line's next request. A command that goes out for the first time waits no more.
     fn next(&mut self, moment: u64, may_poll: bool) -> Option<Request>
-        ensures state { self.new ≡ asked moment may_poll (sending self.old.line may_poll) self.old }
+        ensures state { self.new ≡ asked moment may_poll (next_request may_poll self.old) self.old }
         ensures request { result
-            ≡ option_map (request_of self.old.line) (sending self.old.line may_poll) }
+            ≡ option_map (request_of self.old.line) (next_request may_poll self.old) }
         ensures polls { is_polling self.new.line ≡ true →
             (is_polling self.old.line ≡ true) ⊎ (may_poll ≡ true) }
     {
         polls_wait_for_leave();
+        let user = Lent {
+            commands: &self.commands,
+        };
         // It is looked at where it stands: no request is moved.
-        let next = self.line.next(moment, may_poll);
+        let next = self.line.next(moment, may_poll, &user);
         if let Some(request) = &next {
             if request.kind == RequestKind::Command && !request.again {
                 self.commands.on_line(request.station);
@@ -373,38 +369,6 @@ impl SerialSide {
         let count = centre.write_own(octets, asdu, moment);
         self.commands.own_sent();
         Some(count)
-    }
-
-    /// Offers to each station the oldest command that waits for it.
-    fn offer_all(&mut self)
-        ensures state { self.new ≡ offered self.old }
-        ensures matches { (settings : LinkSettings) (addresses : List ℕ) (e : Exchanges) →
-            Matches settings addresses self.old.line e →
-            Matches settings addresses self.new.line e }
-        ensures polls { is_polling self.new.line ≡ true → is_polling self.old.line ≡ true }
-    {
-        offers_wait();
-        for station in 0..self.line.count() {
-            self.offer(station);
-        }
-    }
-
-    /// Offers to a station the oldest command that waits for it.
-    fn offer(&mut self, station: usize)
-        requires { station < length self.old.line.stations }
-        ensures state { self.new ≡ record self.old {
-          line =
-              offered_by (oldest station self.old.commands.waiting) station self.old.line;
-        } }
-        ensures matches { (settings : LinkSettings) (addresses : List ℕ) (e : Exchanges) →
-            Matches settings addresses self.old.line e →
-            Matches settings addresses self.new.line e }
-        ensures polls { is_polling self.new.line ≡ true → is_polling self.old.line ≡ true }
-    {
-        polls_wait_for_leave();
-        if let Some(octets) = self.commands.waiting(station) {
-            offer_to(&mut self.line, station, octets);
-        }
     }
 }
 
@@ -521,16 +485,6 @@ impl Gateway {
         self.serial.take_gap()
     }
 
-    /// Offers to each station the oldest command that waits for it.
-    pub(crate) fn offer_all(&mut self)
-        ensures state { self.new ≡ with_serial (offered self.old.serial) self.old }
-        ensures matches { (settings : LinkSettings) (addresses : List ℕ) (e : Exchanges) →
-            Matches settings addresses self.old.serial.line e →
-            Matches settings addresses self.new.serial.line e }
-    {
-        self.serial.offer_all();
-    }
-
     /// Whether a request of the line is outstanding, so that there is no next one.
     pub(crate) fn is_awaiting(&self) -> bool
         ensures { result ≡ is_some self.now.serial.line.outstanding }
@@ -542,11 +496,11 @@ impl Gateway {
     /// again at once. A command that goes out for the first time waits no more.
     pub(crate) fn next_request(&mut self) -> Option<Request>
         ensures state { self.new ≡ after_request self.old
-            (sending self.old.serial.line (has_room self.old.centre.queue)) }
+            (next_request (has_room self.old.centre.queue) self.old.serial) }
         ensures request { result ≡ option_map (request_of self.old.serial.line)
-            (sending self.old.serial.line (has_room self.old.centre.queue)) }
+            (next_request (has_room self.old.centre.queue) self.old.serial) }
         ensures room { (s : Sending) →
-            sending self.old.serial.line (has_room self.old.centre.queue) ≡ Some s →
+            next_request (has_room self.old.centre.queue) self.old.serial ≡ Some s →
             is_poll_request s.request ≡ true → 3 ≤ free_places self.old.centre.queue }
     {
         polls_wait_for_leave();

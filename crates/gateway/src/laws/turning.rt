@@ -24,11 +24,11 @@ use link::{
 /// class 1 goes on while ACD is set, and repeats and the poll behind a command come at once, each
 /// turn is one visit, and each request is awaited for `answer_ms`, as the laws of the link have it
 /// over lists of calls. The list is the one that the log shows
-/// (`CallsOf`): in each step what waits is offered and a request is asked for, at the step's
-/// moment, with leave to poll exactly where the queue has room. The log's exchanges are those of
-/// these calls. At a restart the calls give up the link to each station with a command without an
-/// answer; that ends its visit, and the next visit of that station resets its link. (Settings have
-/// 1 to 32 stations, each with an address, and a burst of at least one.)
+/// (`CallsOf`): in each step a request is asked for at the step's moment, with the commands that
+/// wait then, and with leave to poll exactly where the queue has room. The log's exchanges are
+/// those of these calls. At a restart the calls give up the link to each station with a command
+/// without an answer; that ends its visit, and the next visit of that station resets its link.
+/// (Settings have 1 to 32 stations, each with an address, and a burst of at least one.)
 pub fn logs_keep_turns()
     // None of it is read off the machine: a machine and a course that leave out a call together
     // break this law (docs/DECISIONS.md, "The calls of a log").
@@ -53,7 +53,7 @@ pub fn logs_keep_turns()
 }
 
 /// A log shows one list of calls. So `logs_keep_turns` speaks of no other: the moment and the leave
-/// of each call, and what was offered before it, are those of the log.
+/// of each call, and what waits at it, are those of the log.
 pub fn one_list_of_calls()
     ensures { (p : Setup) (log : Log) (calls other : List Call) → CallsOf p log calls →
         CallsOf p log other → calls ≡ other }

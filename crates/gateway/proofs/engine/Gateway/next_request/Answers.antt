@@ -1,9 +1,9 @@
 use Rattle.std.proofs.Common.{◌≡◌, ◌≤◌, true, Some, subst}
 use Rattle.link.specs.Exchanges.{Sending}
-use Rattle.link.specs.Primary.{sending}
 use Rattle.link.specs.Leave.{is_poll_request}
 use Rattle.events.specs.Queue.{free_places}
 use Rattle.gateway.specs.Polls.{has_room}
+use Rattle.gateway.specs.Serial.{next_request, waiting_in}
 use Rattle.gateway.specs.State.{State}
 use Rattle.gateway.proofs.Sound.{asked_sound, poll_room}
 use Rattle.gateway.proofs.engine.Gateway.next_request.Goals as goal
@@ -17,8 +17,7 @@ invariant_of-self c =
 pub returns-clause-room : goal.returns-clause-room
 returns-clause-room c =
     let a = c.self.inside in
-    subst (λ (s : State). (x : Sending) → sending s.serial.line (has_room s.centre.queue) ≡ Some x
+    subst (λ (s : State). (x : Sending) → next_request (has_room s.centre.queue) s.serial ≡ Some x
     → is_poll_request x.request ≡ true → 3 ≤ free_places s.centre.queue) c.self.view_is
-    (λ x is poll. poll_room c.polls_wait_for_leave.ensures.without a.serial.line a.centre.queue x
-    c.self.invariant is
-    poll)
+    (λ x is poll. poll_room c.polls_wait_for_leave.ensures.without a.serial.line
+    (waiting_in a.serial.commands) a.centre.queue x c.self.invariant is poll)
