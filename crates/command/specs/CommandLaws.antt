@@ -1,4 +1,5 @@
--- What this crate proves of every list of calls, and of its calls, gathered for crates above.
+-- What this crate proves, gathered for crates above: of each state and history that calls leave,
+-- for a crate that keeps these two and not the calls, and of each call.
 use Rattle.std.specs.Prelude.{◌≡◌, ℕ, ◌<◌, ◌≤◌, ◌+◌, ◌&&◌, ◌++◌, ◌==◌, true, false, List, []}
 use Rattle.std.specs.Prelude.{length, count_by, slice_get, slice_index, Option, Some, option_map}
 use Rattle.asdu.specs.Sizes.{tcp}
@@ -16,45 +17,9 @@ use Rattle.command.specs.History.{sent_in_all}
 use Rattle.command.specs.Rules.{no_place}
 use Rattle.command.specs.Standard.{is_for_station, must_be_selected, selects}
 use Rattle.command.specs.Calls.{Call, Run, after_call, first_run}
-use Rattle.command.specs.Laws.{AfterEachRun, IsRun, OfEachRun}
+use Rattle.command.specs.Laws.{IsRun, OfEachRun}
 
--- by the calls
 pub record CommandLaws : Type 0 where
-  pub forwarded : AfterEachRun (λ stations sizes select_ms max_age_ms s h.
-      ForwardsCommands sizes stations select_ms max_age_ms h)
-  pub selected : AfterEachRun (λ stations sizes select_ms max_age_ms s h.
-      ExecutesAreSelected sizes stations select_ms max_age_ms h)
-  pub right : AfterEachRun (λ stations sizes select_ms max_age_ms s h.
-      GivesOwnAnswers sizes stations select_ms max_age_ms h)
-  pub in_turn : AfterEachRun (λ stations sizes select_ms max_age_ms s h.
-      own_kept h ≡ own_sent h ++ s.answers)
-  pub kept : AfterEachRun (λ stations sizes select_ms max_age_ms s h. KeepsOwnAnswers h)
-  pub fresh : AfterEachRun (λ stations sizes select_ms max_age_ms s h.
-      SendsFreshCommands sizes stations select_ms max_age_ms h)
-  pub tags : AfterEachRun (λ stations sizes select_ms max_age_ms s h. (v : AsduValue) →
-      option_map (λ tag. tag.0) (tag_for v v.infos s)
-      ≡ mirror_tag sizes stations select_ms max_age_ms v v.infos h)
-  pub judged_waits : (xs : List ℕ) (now : ℕ) (wall : Option ℕ) (k : ℕ) (s : State)
-      (octets : List ℕ) → octets_waiting k s ≡ Some octets →
-      octets_waiting k (judged xs now wall s).1 ≡ Some octets
-  pub mirrored_waits : (v : AsduValue) (now : ℕ) (s : State) →
-      (mirrored v now s).waiting ≡ s.waiting
-  pub sent_waits : (j k : ℕ) (s : State) → (k == j) ≡ false →
-      octets_waiting k (sent j s) ≡ octets_waiting k s
-  pub judged_answers : (xs : List ℕ) (now : ℕ) (wall : Option ℕ) (s : State) →
-      (judged xs now wall s).1.answers ≡ s.answers
-  pub mirrored_answers : (v : AsduValue) (now : ℕ) (s : State) →
-      (mirrored v now s).answers ≡ s.answers
-  pub sent_answers : (j : ℕ) (s : State) → (sent j s).answers ≡ s.answers
-  pub judged_plain : (xs : List ℕ) (now : ℕ) (wall : Option ℕ) (s : State) (a : List ℕ) →
-      9 ≤ length xs → slice_index xs 2 < 256 → (judged xs now wall s).0 ≡ Some a →
-      monitor_objects_of tcp a ≡ []
-  pub busy_plain : AfterEachRun (λ stations sizes select_ms max_age_ms s h. (k : ℕ)
-      (a : List ℕ) → refusal_of (line_of k s) ≡ Some a → monitor_objects_of tcp a ≡ [])
-
--- The same by the state and the history that calls leave, for a crate that keeps these two and not
--- the calls.
-pub record RunLaws : Type 0 where
   pub first : (stations : List StationInfo) (sizes : Sizes) (select_ms max_age_ms : ℕ) →
       IsRun stations sizes select_ms max_age_ms (first_run stations sizes select_ms max_age_ms)
   pub next : (stations : List StationInfo) (sizes : Sizes) (select_ms max_age_ms : ℕ) (call : Call)
@@ -91,3 +56,19 @@ pub record RunLaws : Type 0 where
   pub kept : OfEachRun (λ stations sizes select_ms max_age_ms s h. KeepsOwnAnswers h)
   pub busy_plain : OfEachRun (λ stations sizes select_ms max_age_ms s h. (k : ℕ)
       (a : List ℕ) → refusal_of (line_of k s) ≡ Some a → monitor_objects_of tcp a ≡ [])
+  -- What a call leaves as it is.
+  pub judged_waits : (xs : List ℕ) (now : ℕ) (wall : Option ℕ) (k : ℕ) (s : State)
+      (octets : List ℕ) → octets_waiting k s ≡ Some octets →
+      octets_waiting k (judged xs now wall s).1 ≡ Some octets
+  pub mirrored_waits : (v : AsduValue) (now : ℕ) (s : State) →
+      (mirrored v now s).waiting ≡ s.waiting
+  pub sent_waits : (j k : ℕ) (s : State) → (k == j) ≡ false →
+      octets_waiting k (sent j s) ≡ octets_waiting k s
+  pub judged_answers : (xs : List ℕ) (now : ℕ) (wall : Option ℕ) (s : State) →
+      (judged xs now wall s).1.answers ≡ s.answers
+  pub mirrored_answers : (v : AsduValue) (now : ℕ) (s : State) →
+      (mirrored v now s).answers ≡ s.answers
+  pub sent_answers : (j : ℕ) (s : State) → (sent j s).answers ≡ s.answers
+  pub judged_plain : (xs : List ℕ) (now : ℕ) (wall : Option ℕ) (s : State) (a : List ℕ) →
+      9 ≤ length xs → slice_index xs 2 < 256 → (judged xs now wall s).0 ≡ Some a →
+      monitor_objects_of tcp a ≡ []

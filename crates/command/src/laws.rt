@@ -34,7 +34,7 @@ ghost use Rattle.command.specs.Examples.{mirror_examples};
 ghost use Rattle.command.specs.Numbers.{AddressesAreRead, ObjectsAreRead, TargetsAreCompared};
 ghost use Rattle.command.specs.Numbers.{ElementsAreRead, TimesAreKept};
 ghost use Rattle.command.specs.Laws.{AfterEachRun, AtEachMoment, AfterEachDue};
-ghost use Rattle.command.specs.CommandLaws.{CommandLaws, RunLaws};
+ghost use Rattle.command.specs.CommandLaws.{CommandLaws};
 ghost use Rattle.command.specs.Carried.{carried};
 
 /// The answer to an ASDU is the one that the first rule that applies gives; where none applies it
@@ -234,11 +234,9 @@ pub fn rules_hold_for_all_numbers()
     ensures times { TimesAreKept }
 {}
 
-/// What crates above use of these laws, in one record; and the same of a state and a history that
-/// calls leave, for those that keep no calls.
+/// What crates above use of these laws, in one record, of each state and history that calls leave.
 pub fn commands_keep_the_rules()
-    ensures calls { CommandLaws }
-    ensures runs { RunLaws }
+    ensures { CommandLaws }
 {}
 
 /// Nothing of a connection outlives a change of settings, as nothing does its end: no command waits

@@ -21,7 +21,6 @@ use Rattle.gateway.specs.Frames.{acknowledged_reports, reports_among, IsNumbered
 use Rattle.gateway.specs.Connections.{is_replaced, Channel, sending, present}
 use Rattle.gateway.specs.Reports.{Setup, taken_objects, taken_pieces, reports_in, parts_of_all}
 use Rattle.gateway.specs.Polls.{has_room}
-use Rattle.gateway.specs.Room.{IsFull}
 use Rattle.gateway.specs.Traffic.{IsFaithful}
 use Rattle.command.specs.State as tasks
 use Rattle.gateway.specs.Serial as serial
@@ -30,7 +29,7 @@ use Rattle.gateway.specs.Centre.{Centre, next_frame}
 use Rattle.gateway.specs.State.{State, with_session, piece_sent, own_sent}
 use Rattle.gateway.specs.Works.{has_lacked_place, Works, answered_works}
 use Rattle.command.specs.State.{oldest}
-use Rattle.gateway.specs.Course.{Course, here_of, came_frames, room_by, room_in, kind_of}
+use Rattle.gateway.specs.Course.{Course, here_of, came_frames, has_places, room_in, kind_of}
 use Rattle.gateway.specs.Course.{logged_sent, with_sent, IsFlushed, HasBegun, IsNextData, IsTouched}
 use Rattle.gateway.specs.Course.{HasAsked}
 use Rattle.gateway.specs.Phases.{Phase, IsFlushing}
@@ -93,31 +92,6 @@ faithful p s log unjudged phase a = record {
 
 -- What the queue's room shows of the log, and what stays of the line's part.
 
-pub is_full : (p : Setup) (s : State) (log : Log) (unjudged : List ℕ) (phase : Phase)
-    (a : Agrees p s log unjudged phase) → free_places s.centre.queue < 3
-    → IsFull p log (here_of a.course ∷ a.course.earlier)
-is_full p s log unjudged phase a few = omega (
-  arith,
-  few,
-  a.places,
-  a.carries.count,
-  split_reports (here_of a.course) s.centre.session s.centre.queue.sent a.here.tied,
-  length-append s.centre.queue.sent s.centre.queue.unsent,
-)
-
-pub has_places : (p : Setup) (s : State) (log : Log) (unjudged : List ℕ) (phase : Phase)
-    (a : Agrees p s log unjudged phase) → 3 ≤ free_places s.centre.queue
-    → IsFull p log (here_of a.course ∷ a.course.earlier) → ⊥
-has_places p s log unjudged phase a free full = omega (
-  arith,
-  full,
-  free,
-  a.places,
-  a.carries.count,
-  split_reports (here_of a.course) s.centre.session s.centre.queue.sent a.here.tied,
-  length-append s.centre.queue.sent s.centre.queue.unsent,
-)
-
 -- the room that the log shows is the queue's
 pub same_room : (p : Setup) (s : State) (log : Log) (unjudged : List ℕ) (phase : Phase)
     (a : Agrees p s log unjudged phase) → room_in p log a.course ≡ has_room s.centre.queue
@@ -129,25 +103,52 @@ same_room p s log unjudged phase a = by_places (cases_lt (free_places s.centre.q
     parts : ℕ
     parts = parts_of_all p.sizes (reports_in p log)
 
+    few : free_places s.centre.queue < 3 → used < parts + 3
+    few less = omega (
+      arith,
+      less,
+      a.places,
+      a.carries.count,
+      split_reports (here_of a.course) s.centre.session s.centre.queue.sent a.here.tied,
+      length-append s.centre.queue.sent s.centre.queue.unsent,
+    )
+
+    enough : 3 ≤ free_places s.centre.queue → parts + 3 ≤ used
+    enough free = omega (
+      arith,
+      free,
+      a.places,
+      a.carries.count,
+      split_reports (here_of a.course) s.centre.session s.centre.queue.sent a.here.tied,
+      length-append s.centre.queue.sent s.centre.queue.unsent,
+    )
+
     by_places : (free_places s.centre.queue < 3) ⊎ (3 ≤ free_places s.centre.queue)
         → room_in p log a.course ≡ has_room s.centre.queue
-    by_places (inl few) = ap not (lt-ltb used (parts + 3) (is_full p s log unjudged phase a few)
-        ∙ sym (lt-ltb (free_places s.centre.queue) 3 few))
-    by_places (inr free) =
-        ap not
-        (le-ltb used (parts + 3)
-        (not-less used (parts + 3) (has_places p s log unjudged phase a free))
+    by_places (inl less) = ap not (lt-ltb used (parts + 3) (few less)
+        ∙ sym (lt-ltb (free_places s.centre.queue) 3 less))
+    by_places (inr free) = ap not (le-ltb used (parts + 3) (enough free)
         ∙ sym (le-ltb (free_places s.centre.queue) 3 free))
-      where
-        not-less : (m n : ℕ) → (m < n → ⊥) → n ≤ m
-        not-less m n h = elim (cases_lt m n) [ inl lt ↦ absurd (h lt) | inr le ↦ le ]
+
+pub is_full : (p : Setup) (s : State) (log : Log) (unjudged : List ℕ) (phase : Phase)
+    (a : Agrees p s log unjudged phase) → free_places s.centre.queue < 3
+    → room_in p log a.course ≡ false
+is_full p s log unjudged phase a few = same_room p s log unjudged phase a
+    ∙ ap not (lt-ltb (free_places s.centre.queue) 3 few)
+
+pub has_room_left : (p : Setup) (s : State) (log : Log) (unjudged : List ℕ) (phase : Phase)
+    (a : Agrees p s log unjudged phase) → 3 ≤ free_places s.centre.queue
+    → room_in p log a.course ≡ true
+has_room_left p s log unjudged phase a free = same_room p s log unjudged phase a
+    ∙ ap not (le-ltb (free_places s.centre.queue) 3 free)
 
 -- as more is sent the same is acknowledged
 pub room_more : (p : Setup) (parts : ℕ) (received : List Apdu) (sent more : List Sent)
     (earlier : List Connection)
     → acknowledged_count received ≤ length sent →
-    room_by p parts (record { sent_frames = sent ++ more; received_frames = received }) earlier
-    ≡ room_by p parts (record { sent_frames = sent; received_frames = received }) earlier
+    has_places p parts
+    (record { sent_frames = sent ++ more; received_frames = received } ∷ earlier)
+    ≡ has_places p parts (record { sent_frames = sent; received_frames = received } ∷ earlier)
 room_more p parts received sent more earlier within =
     ap
     (λ (fs : List Sent). not (nat_lt (p.places + (reports_among fs + acknowledged_reports earlier))

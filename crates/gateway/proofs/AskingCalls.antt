@@ -26,7 +26,7 @@ use Rattle.gateway.specs.Serial as serial
 use Rattle.gateway.specs.Serial.{Serial, unless_silent, waiting_in, next_request}
 use Rattle.gateway.specs.Works.{Works, settled_works, unasked_works}
 use Rattle.gateway.specs.Course.{Course, room_in, HasTakenAll, IsLeft, Runs}
-use Rattle.gateway.specs.Calling.{is_asking, waiting_by, IsLeave, Asks, EndsStep}
+use Rattle.gateway.specs.Calling.{is_asking, waiting_by, Asks, EndsStep}
 use Rattle.gateway.proofs.Waiting.{AnswersStay}
 use Rattle.gateway.proofs.Called.{IsMade, all_made}
 use Rattle.gateway.proofs.Lending.{settled_waiting, are_user_data}
@@ -126,19 +126,6 @@ module _ (laws : Laws) (p : Setup) where
 
   -- A request is asked for
 
-  leave_is : (log : Log) (c : Course) → IsLeave p log c (room_in p log c)
-  leave_is log c = by_test (room_in p log c) refl
-    where
-      none_full : (a b : ℕ) → not (nat_lt a b) ≡ true → a < b → ⊥
-      none_full a b e h = grind (arith, nat_tests)
-
-      full : (a b : ℕ) → not (nat_lt a b) ≡ false → a < b
-      full a b e = grind (arith, nat_tests)
-
-      by_test : (b : Bool) → room_in p log c ≡ b → IsLeave p log c b
-      by_test true e = none_full _ _ e
-      by_test false e = full _ _ e
-
   -- what goes out fits the line
   pub line_fits : (log : Log) (c : Course) → Runs p log c → (at : ℕ) (room : Bool) (e : Exchanges)
       → Matches p.link p.addresses (settled_works at c.works).serial.line e
@@ -184,8 +171,6 @@ module _ (laws : Laws) (p : Setup) where
     course = c;
     runs = r;
     all = all;
-    leave = room_in p log c;
-    room = leave_is log c;
     are = refl;
   }
 

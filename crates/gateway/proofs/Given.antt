@@ -268,11 +268,8 @@ HasNewestTags p w = (v : AsduValue)
 left_tags : (p : Setup) → CommandLaws → (log : Log) (before after : Course) → Runs p log before
     → IsLeft p log before after → HasNewestTags p after.works
 left_tags p laws log before after r l =
-    let calls : IsReached p after.works = left_reached p log before after r l in
-    let P : Run → Type 0 = λ r. (v : AsduValue)
-    → option_map (λ tag. tag.0) (mirrors.tag_for v v.infos r.state)
-    ≡ mirror_tag p.sizes p.stations p.select_ms p.max_age_ms v v.infos r.history in
-    subst P calls.1 (laws.tags p.stations p.sizes p.select_ms p.max_age_ms calls.0)
+    laws.tags p.stations p.sizes p.select_ms p.max_age_ms (tasks_of after.works)
+    (left_reached p log before after r l)
 
 report_given : (p : Setup) (at : ℕ) (b : Bool) (report : List ℕ) (w z : Works) → b ≡ true
     → LearnsReport p at true b report w z → HasNewestTags p w

@@ -21,7 +21,7 @@ use Rattle.gateway.specs.Reports.{Setup}
 use Rattle.gateway.specs.Serial as serial
 use Rattle.gateway.specs.Serial.{Serial, refusals, mirrored}
 use Rattle.gateway.specs.State.{State, with_serial}
-use Rattle.gateway.specs.Works.{Works, has_lacked_place, logged, is_command_report, mirrored_works}
+use Rattle.gateway.specs.Works.{tasks_of, Works, has_lacked_place, logged, is_command_report, mirrored_works}
 use Rattle.gateway.specs.Works.{LearnsReport, accepted_works, given_up_works, refused_works}
 use Rattle.gateway.specs.Works.{LearnsOf, settled_works, unasked_works, done_works}
 use Rattle.gateway.specs.Course.{Course, room_in, IsLeft}
@@ -139,10 +139,9 @@ module _ (p : Setup) (at : ℕ) (s : State) (h : History) (is_due : Bool) (laws 
       → ArePlain (serial.listed o)
   refusal_plain i None e = tt
   refusal_plain i (Some a) e =
-      let none = subst (λ (r : Run). (a : List ℕ) → refusal_of (line_of i r.state) ≡ Some a
-      → monitor_objects_of tcp a ≡ []) reached.1
-      (λ a is. laws.busy_plain p.stations p.sizes p.select_ms p.max_age_ms reached.0 i a is) in
-      (no_monitor a (none a e), tt)
+      let none : monitor_objects_of tcp a ≡ [] =
+      laws.busy_plain p.stations p.sizes p.select_ms p.max_age_ms (tasks_of w) reached i a e in
+      (no_monitor a none, tt)
 
   learnt_busy : (is_transferring : Bool) (i : ℕ) (t : State) (fits : Bool)
       → (t ≡ with_serial (serial.refused i s.serial) s) × (fits ≡ serial.refusal_fits i s.serial)

@@ -4,32 +4,19 @@ use Rattle.std.proofs.Common.{◌∙◌, subst}
 use Rattle.link.specs.Runs.{Call, Next}
 use Rattle.gateway.specs.Log.{Log, LineOut, TcpOut, Closed, GapOut, Came, Went, latest}
 use Rattle.gateway.specs.Reports.{Setup, exchanges_of}
-use Rattle.gateway.specs.Room.{IsFull}
-use Rattle.gateway.specs.Course.{Course, here_of}
-use Rattle.gateway.specs.Calling.{is_asking, waiting_by, IsLeave, Asks, EndsStep, event_calls}
+use Rattle.gateway.specs.Course.{Course, room_in}
+use Rattle.gateway.specs.Calling.{is_asking, waiting_by, Asks, EndsStep, event_calls}
 use Rattle.gateway.specs.Calling.{CallsOf}
 use Rattle.gateway.proofs.OneCourse.{Laws, one_whole}
-
--- the room decides the leave
-one_leave : (p : Setup) (log : Log) (c d : Course) → c ≡ d → (a b : Bool) → IsLeave p log c a
-    → IsLeave p log d b → a ≡ b
-one_leave p log c d same true true h k = refl
-one_leave p log c d same true false h k =
-    absurd (h (subst (λ (x : Course). IsFull p log (here_of x ∷ x.earlier)) (sym same) k))
-one_leave p log c d same false true h k =
-    absurd (k (subst (λ (x : Course). IsFull p log (here_of x ∷ x.earlier)) same h))
-one_leave p log c d same false false h k = refl
 
 one_asking : Laws → (p : Setup) (log : Log) (xs ys : List Call) → Asks p log xs → Asks p log ys
     → xs ≡ ys
 one_asking laws p log xs ys a b =
     let same : a.course ≡ b.course =
     one_whole laws p log a.course b.course a.runs b.runs a.all b.all in
-    let leave : a.leave ≡ b.leave =
-    one_leave p log a.course b.course same a.leave b.leave a.room b.room in
     a.are
-    ∙ ap (λ (c : Course). Next (latest log) a.leave (waiting_by p c.works.history) ∷ []) same
-    ∙ ap (λ (l : Bool). Next (latest log) l (waiting_by p b.course.works.history) ∷ []) leave
+    ∙ ap (λ (c : Course). Next (latest log) (room_in p log c) (waiting_by p c.works.history) ∷ [])
+    same
     ∙ sym b.are
 
 one_end : Laws → (p : Setup) (log : Log) (asking : Bool) (xs ys : List Call)

@@ -8,7 +8,7 @@ use Rattle.command.specs.CommandLaws.{CommandLaws}
 use Rattle.gateway.specs.Log.{Log, latest}
 use Rattle.gateway.specs.Reports.{Setup}
 use Rattle.gateway.specs.Works.{Works, tasks_of}
-use Rattle.gateway.specs.Passing.{PassingLaws}
+use Rattle.gateway.specs.Passing.{PassesCommands, PassingLaws}
 use Rattle.gateway.specs.Conversation.{KeepsCommands}
 use Rattle.gateway.specs.Course.{Course, IsLeft, room_in, Runs}
 use Rattle.gateway.proofs.Called.{IsMade, IsCalled, called_more, finish, all_made}
@@ -34,23 +34,25 @@ module _ (p : Setup) where
       → own_kept c.works.history ≡ own_sent c.works.history ++ c.works.serial.commands.answers
   answers_kept laws log c r =
       let m : IsMade p (latest log) c.works = all_made p log c r in
-      subst (λ (r : Run). own_kept r.history ≡ own_sent r.history ++ r.state.answers) m.leave
-      (laws.in_turn p.stations p.sizes p.select_ms p.max_age_ms m.made)
+      laws.in_turn p.stations p.sizes p.select_ms p.max_age_ms (tasks_of c.works)
+      (m.made, m.leave)
 
   -- and so it is at each point
   pub kept_commands : CommandLaws → PassingLaws → (log : Log) (c : Course) → Runs p log c
       → KeepsCommands p (tasks_of c.works)
   kept_commands laws passing log c r =
       let m : IsMade p (latest log) c.works = all_made p log c r in
-      subst (KeepsCommands p) m.leave (record {
-        made = (m.made, refl, m.rise);
-        forwarded = laws.forwarded p.stations p.sizes p.select_ms p.max_age_ms m.made;
-        selected = laws.selected p.stations p.sizes p.select_ms p.max_age_ms m.made;
-        answered = laws.right p.stations p.sizes p.select_ms p.max_age_ms m.made;
-        fresh = laws.fresh p.stations p.sizes p.select_ms p.max_age_ms m.made;
-        tags = laws.tags p.stations p.sizes p.select_ms p.max_age_ms m.made;
-        in_turn = laws.in_turn p.stations p.sizes p.select_ms p.max_age_ms m.made;
-        kept = laws.kept p.stations p.sizes p.select_ms p.max_age_ms m.made;
-        places = passing.places p.stations p.sizes p.select_ms p.max_age_ms m.made;
-        passes = passes p passing m.made m.rise;
-      })
+      let run : IsReached p c.works = (m.made, m.leave) in
+      record {
+        made = (m.made, m.leave, m.rise);
+        forwarded = laws.forwarded p.stations p.sizes p.select_ms p.max_age_ms _ run;
+        selected = laws.selected p.stations p.sizes p.select_ms p.max_age_ms _ run;
+        answered = laws.right p.stations p.sizes p.select_ms p.max_age_ms _ run;
+        fresh = laws.fresh p.stations p.sizes p.select_ms p.max_age_ms _ run;
+        tags = laws.tags p.stations p.sizes p.select_ms p.max_age_ms _ run;
+        in_turn = laws.in_turn p.stations p.sizes p.select_ms p.max_age_ms _ run;
+        kept = laws.kept p.stations p.sizes p.select_ms p.max_age_ms _ run;
+        places = laws.places p.stations p.sizes p.select_ms p.max_age_ms _ run;
+        passes = subst (λ (r : Run). PassesCommands p r.history) m.leave
+            (passes p passing m.made m.rise);
+      }

@@ -39,7 +39,7 @@ use Rattle.gateway.specs.Agrees.{Talks, Agrees, ArePlain, Tracks, Leaves, Carrie
 use Rattle.gateway.proofs.Working.{gap_in, settled_placed, put_placed}
 use Rattle.gateway.proofs.Lending.{are_user_data}
 use Rattle.gateway.proofs.Closing.{stands_now}
-use Rattle.gateway.proofs.Agreement.{has_places, same_room}
+use Rattle.gateway.proofs.Agreement.{has_room_left, same_room}
 use Rattle.gateway.proofs.Put.{logged_faithful}
 use Rattle.gateway.proofs.Stations.{octets_of, taken_grows, pieces_grow, parts_grow, after_request}
 
@@ -226,7 +226,7 @@ module _ (laws : LineLaws) (p : Setup) (s : State) (log : Log) (a : Agrees p s l
                   course = a.course;
                   runs = a.talk.course_runs;
                   are = record { open_one = stands_now p s log Timed a; earlier = a.before.are };
-                  room = has_places p s log [] Timed a (poll polls);
+                  room = has_room_left p s log [] Timed a (poll polls);
                 };
               };
             },

@@ -28,7 +28,7 @@ use Rattle.gateway.specs.Reports.{Setup, address_at, AreFound, sent_to, sending_
 use Rattle.gateway.specs.Reports.{exchanges_with, reports_in, taken_objects, taken_pieces}
 use Rattle.gateway.specs.Reports.{parts_of_all, KeepsLinks}
 use Rattle.gateway.specs.Course.{Course}
-use Rattle.gateway.specs.Room.{IsFull}
+use Rattle.gateway.specs.Course.{has_places}
 use Rattle.gateway.specs.Line.{IsWaiting, IsServed, done_in, LacksOnlyRoom, IsLineAtRest}
 use Rattle.link.specs.LineLaws.{LineLaws}
 
@@ -156,7 +156,7 @@ asks_alone : (laws : LineLaws) (p : Setup) (q : Primary) (log : Log) (course : C
     (waiting : CommandsWaiting)
     → Matches p.link p.addresses q (exchanges_of p log) → q.outstanding ≡ None
     → sending q may waiting ≡ None
-    → (connections : List Connection) → (may ≡ false → IsFull p log connections)
+    → (connections : List Connection) → (may ≡ false → has_places p (parts_of_all p.sizes (reports_in p log)) connections ≡ false)
     → ((i : ℕ) → i < length p.addresses → IsServed p log (done_in p log course) i)
     → LacksOnlyRoom p log course connections
 asks_alone laws p q log course may waiting h out none connections full served =
@@ -217,7 +217,7 @@ pub line_rests : (laws : LineLaws) (p : Setup) (q : Primary) (log : Log) (course
     (may : Bool) (waiting : CommandsWaiting)
     → Matches p.link p.addresses q (exchanges_of p log) → sending q may waiting ≡ None
     → (connections : List Connection)
-    → (may ≡ false → IsFull p log connections)
+    → (may ≡ false → has_places p (parts_of_all p.sizes (reports_in p log)) connections ≡ false)
     → (q.outstanding ≡ None → (i : ℕ) → i < length p.addresses
     → IsServed p log (done_in p log course) i) → IsLineAtRest p log course connections
 line_rests laws p q log course may waiting h none connections full served = go q.outstanding refl

@@ -5,7 +5,7 @@ use Rattle.session.specs.Runs.{Run as SessionRun, run}
 use Rattle.session.specs.Restored.{HasSettings as HasSessionSettings}
 use Rattle.session.specs.Session.{Session}
 use Rattle.session.proofs.Keeps.{run_keeps}
-use Rattle.command.specs.CommandLaws.{RunLaws}
+use Rattle.command.specs.CommandLaws.{CommandLaws}
 use Rattle.command.specs.Restored.{HasSettings as HaveCommandSettings}
 use Rattle.gateway.specs.declared.settings.StationSettings.{StationSettings}
 use Rattle.gateway.specs.Config.{Settings}
@@ -22,7 +22,7 @@ use Rattle.gateway.specs.Restored.{HasSettings}
 use Rattle.gateway.proofs.Reached.{IsReached, left_reached}
 use Rattle.gateway.proofs.Learning.{left_of, at_rest_works, is_left}
 
-commands_set : RunLaws → (p : Setup) (w : Works) → IsReached p w
+commands_set : CommandLaws → (p : Setup) (w : Works) → IsReached p w
     → HaveCommandSettings p.stations p.sizes p.select_ms p.max_age_ms w.serial.commands
 commands_set laws p w h = record {
   same_stations = laws.stations p.stations p.sizes p.select_ms p.max_age_ms (tasks_of w) h;
@@ -40,7 +40,7 @@ session_set p s log c k =
     p.session.t3) same
     (record { k_is = set.0; w_is = set.1; t1_is = set.2; t2_is = set.3; t3_is = set.4 })
 
-works_set : RunLaws → (p : Setup) (s : State) (log : Log) → Agrees p s log [] (resting log)
+works_set : CommandLaws → (p : Setup) (s : State) (log : Log) → Agrees p s log [] (resting log)
     → HaveCommandSettings p.stations p.sizes p.select_ms p.max_age_ms s.serial.commands
 works_set laws p s log a =
     let left : Course = left_of p log a.course in
@@ -50,7 +50,7 @@ works_set laws p s log a =
     (commands_set laws p left.works (left_reached p log a.course left a.talk.course_runs
     (is_left p s log a)))
 
-pub settings_kept : RunLaws → (c : Settings) (s : State) (log : Log)
+pub settings_kept : CommandLaws → (c : Settings) (s : State) (log : Log)
     → Agrees (setup_of c) s log [] (resting log)
     → HasSettings c s
 settings_kept laws c s log a = record {

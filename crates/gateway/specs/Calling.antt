@@ -12,8 +12,7 @@ use Rattle.command.specs.History.{History, next_octets}
 use Rattle.gateway.specs.Log.{Log, Input, LineIn, Restarted, LineOut, Came, Went, latest}
 use Rattle.gateway.specs.Connections.{present}
 use Rattle.gateway.specs.Reports.{Setup, exchanges_of}
-use Rattle.gateway.specs.Room.{IsFull}
-use Rattle.gateway.specs.Course.{Course, here_of, HasTakenAll, Runs}
+use Rattle.gateway.specs.Course.{Course, room_in, HasTakenAll, Runs}
 
 -- a step has begun, and no request went out in it so far
 abbrev pub is_asking : Log → Bool
@@ -29,19 +28,14 @@ abbrev pub waiting_by : Setup → History → CommandsWaiting
 waiting_by p h =
     λ station. next_octets p.sizes p.stations p.select_ms p.max_age_ms station h
 
--- There is leave to poll exactly where the queue has room, as the log shows.
-abbrev pub IsLeave : Setup → Log → Course → Bool → Type 0
-IsLeave p log c true = IsFull p log (here_of c ∷ c.earlier) → ⊥
-IsLeave p log c false = IsFull p log (here_of c ∷ c.earlier)
-
--- Once all that came is taken, a request is asked for at the step's moment, with what waits then.
+-- Once all that came is taken, a request is asked for at the step's moment, with what waits then, and
+-- with leave to poll exactly where the queue has room.
 pub record Asks (p : Setup) (log : Log) (calls : List Call) : Type 0 where
   pub course : Course
   pub runs : Runs p log course
   pub all : HasTakenAll (present log) course.talk
-  pub leave : Bool
-  pub room : IsLeave p log course leave
-  pub are : calls ≡ Next (latest log) leave (waiting_by p course.works.history) ∷ []
+  pub are : calls
+      ≡ Next (latest log) (room_in p log course) (waiting_by p course.works.history) ∷ []
 
 -- a step in which no request went out asked for one, too, and there was none
 abbrev pub EndsStep : Setup → Log → (asking : Bool) → List Call → Type 0

@@ -64,12 +64,12 @@ here_of c = record { sent_frames = c.sent; received_frames = came_frames c.talk 
 
 -- There are places for the pieces of any report: each piece of a report taken has one until it is
 -- acknowledged.
-abbrev pub room_by : Setup → (parts : ℕ) → Connection → List Connection → Bool
-room_by p parts here earlier =
-    not (nat_lt (p.places + acknowledged_reports (here ∷ earlier)) (parts + 3))
+abbrev pub has_places : Setup → (parts : ℕ) → List Connection → Bool
+has_places p parts connections =
+    not (nat_lt (p.places + acknowledged_reports connections) (parts + 3))
 
 abbrev pub room_in : Setup → Log → Course → Bool
-room_in p log c = room_by p (parts_of_all p.sizes (reports_in p log)) (here_of c) c.earlier
+room_in p log c = has_places p (parts_of_all p.sizes (reports_in p log)) (here_of c ∷ c.earlier)
 
 -- What is left to be sent
 

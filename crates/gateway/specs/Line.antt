@@ -9,10 +9,10 @@ use Rattle.link.specs.Procedure.{IsUp, link_after, holds_command}
 use Rattle.command.specs.State.{octets_waiting}
 use Rattle.gateway.specs.Log.{Log, latest}
 use Rattle.gateway.specs.Frames.{Connection}
-use Rattle.gateway.specs.Reports.{Setup, address_at, exchanges_of, exchanges_with}
-use Rattle.gateway.specs.Room.{IsFull}
+use Rattle.gateway.specs.Reports.{Setup, address_at, exchanges_of, exchanges_with, parts_of_all}
+use Rattle.gateway.specs.Reports.{reports_in}
 use Rattle.gateway.specs.Works.{Works, done_works}
-use Rattle.gateway.specs.Course.{Course, room_in}
+use Rattle.gateway.specs.Course.{has_places, Course, room_in}
 
 -- an exchange is outstanding
 pub record IsWaiting (p : Setup) (log : Log) : Type 0 where
@@ -38,7 +38,7 @@ IsServed p log w i =
 -- command, and no command waits that may go.
 pub record LacksOnlyRoom (p : Setup) (log : Log) (c : Course)
     (connections : List Connection) : Type 0 where
-  pub full : IsFull p log connections
+  pub full : has_places p (parts_of_all p.sizes (reports_in p log)) connections ≡ false
   pub up : (i : ℕ) → i < length p.addresses →
       IsUp p.link (address_at p.addresses i) (exchanges_with p i log)
   pub free : (i : ℕ) → i < length p.addresses →

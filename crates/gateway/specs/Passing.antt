@@ -1,7 +1,6 @@
 -- Which commands pass (this gateway's own profile, over IEC 60870-5-101, 7.2.6: S/E).
-use Rattle.std.specs.Prelude.{◌≡◌, ◌+◌, ◌⊎◌, ◌&&◌, ◌||◌, ℕ, true, false, List, [], ◌∷◌, length}
-use Rattle.std.specs.Prelude.{Option, None}
-use Rattle.command.specs.History.{History, Judged, IsSelected, forwarded_in_all, sent_in_all}
+use Rattle.std.specs.Prelude.{◌≡◌, ◌⊎◌, ◌&&◌, ◌||◌, ℕ, true, false, List, [], ◌∷◌, Option, None}
+use Rattle.command.specs.History.{History, Judged, IsSelected}
 use Rattle.command.specs.Standard.{cause_of_fault, executes, selects, must_be_selected}
 use Rattle.command.specs.Passing.{FindsPlaces}
 use Rattle.command.specs.Judging.{judged}
@@ -24,10 +23,8 @@ PassesCommands p (Judged now wall xs answer ∷ h) =
     (MustPass p xs now wall h → answer ≡ None) × PassesCommands p h
 PassesCommands p (entry ∷ h) = PassesCommands p h
 
--- what `command` says of places, and of what passes
+-- what `command` says of what passes
 pub record PassingLaws : Type 0 where
-  pub places : AfterEachRun (λ stations sizes select_ms max_age_ms s h.
-      length s.waiting + sent_in_all h ≡ forwarded_in_all stations h)
   pub others : AfterEachRun (λ stations sizes select_ms max_age_ms s h. (xs : List ℕ)
       (now : ℕ) (wall : Option ℕ) →
       cause_of_fault sizes stations max_age_ms wall xs ≡ None

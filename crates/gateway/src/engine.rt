@@ -29,7 +29,7 @@ use crate::walls::Wall;
 use apci::Assembler;
 use asdu::Sizes;
 use command::{
-    Commands, StationInfo, commands_keep_the_rules, faultless_commands_pass, places_come_back,
+    Commands, StationInfo, commands_keep_the_rules, faultless_commands_pass,
 };
 use events::{Events, Kept};
 use link::{LinkSettings, Master, line_keeps_the_procedures, master_matches_the_log};
@@ -204,7 +204,6 @@ impl Gateway {
         line_keeps_the_procedures();
         session_keeps_the_standard();
         commands_keep_the_rules();
-        places_come_back();
         faultless_commands_pass();
         let _stations = config.stations();
         let gateway = Gateway::at_first(alloc, config)?;

@@ -36,7 +36,7 @@ ghost use Rattle.gateway.specs.Traffic.{HasCause};
 
 use apci::{one_front, spellings_cancel};
 use asdu::{objects_are_those_of_the_asdu, one_asdu_one_spelling};
-use command::{commands_keep_the_rules, faultless_commands_pass, places_come_back};
+use command::{commands_keep_the_rules, faultless_commands_pass};
 use link::line_keeps_the_procedures;
 
 /// The octets of a connection have one reading: its frames, and what closes it, if anything does;
@@ -95,7 +95,6 @@ pub fn courses_keep_commands()
         KeepsCommands p (tasks_of c.works) }
 {
     commands_keep_the_rules();
-    places_come_back();
     faultless_commands_pass();
 }
 

@@ -4,7 +4,6 @@ use Rattle.command.specs.declared.station.StationInfo.{StationInfo}
 use Rattle.command.specs.State.{State}
 use Rattle.command.specs.History.{History}
 use Rattle.command.specs.Calls.{Run, run, after_call}
-use Rattle.command.specs.CommandLaws.{CommandLaws}
 use Rattle.command.specs.Laws.{AfterEachRun, OfEachRun}
 use Rattle.command.proofs.Places.{run_counts, has_room}
 use Rattle.command.proofs.Runs.{run_holds}
@@ -24,41 +23,8 @@ of_runs P after stations sizes select_ms max_age_ms r is =
     subst (λ (x : Run). P stations sizes select_ms max_age_ms x.state x.history) is.1
     (after stations sizes select_ms max_age_ms is.0)
 
-heeded : CommandLaws
-heeded = record {
-  forwarded = λ stations sizes select_ms max_age_ms calls.
-      (run_holds sizes stations select_ms max_age_ms calls).keeps.queue.sends;
-  selected = λ stations sizes select_ms max_age_ms calls.
-      executes_selected sizes stations select_ms max_age_ms
-      (run stations sizes select_ms max_age_ms calls).history
-      (run_holds sizes stations select_ms max_age_ms calls).keeps.rightly
-      (run_holds sizes stations select_ms max_age_ms calls).keeps.executes;
-  right = λ stations sizes select_ms max_age_ms calls.
-      (run_holds sizes stations select_ms max_age_ms calls).keeps.rightly;
-  in_turn = λ stations sizes select_ms max_age_ms calls.
-      (run_holds sizes stations select_ms max_age_ms calls).keeps.own.in_turn;
-  kept = λ stations sizes select_ms max_age_ms calls. (run_holds sizes stations select_ms max_age_ms
-      calls).keeps.own.kept;
-  fresh = λ stations sizes select_ms max_age_ms calls. run_fresh stations sizes select_ms max_age_ms
-      calls;
-  tags = λ stations sizes select_ms max_age_ms calls v. run_tags stations sizes select_ms max_age_ms
-      calls v;
-  judged_waits = judging_leaves_waiting;
-  mirrored_waits = mirroring_leaves_waiting;
-  sent_waits = sending_leaves_others;
-  judged_answers = judging_leaves_answers;
-  mirrored_answers = mirroring_leaves_answers;
-  sent_answers = sending_leaves_answers;
-  judged_plain = of_judging;
-  busy_plain = λ stations sizes select_ms max_age_ms calls. of_busy sizes stations select_ms
-      max_age_ms calls;
-}
-
-pub returns-clause-calls : goal.returns-clause-calls
-returns-clause-calls c = heeded
-
-pub returns-clause-runs : goal.returns-clause-runs
-returns-clause-runs c = record {
+pub returns : goal.returns
+returns c = record {
   first = λ stations sizes select_ms max_age_ms. ([], refl);
   next = λ stations sizes select_ms max_age_ms call r is. (call ∷ is.0, ap (after_call call) is.1);
   stations = of_runs _ (λ stations sizes select_ms max_age_ms calls.
@@ -69,18 +35,36 @@ returns-clause-runs c = record {
       (run_holds sizes stations select_ms max_age_ms calls).same_time);
   max_age_ms = of_runs _ (λ stations sizes select_ms max_age_ms calls.
       (run_holds sizes stations select_ms max_age_ms calls).same_age);
-  forwarded = of_runs _ heeded.forwarded;
-  selected = of_runs _ heeded.selected;
+  forwarded = of_runs _ (λ stations sizes select_ms max_age_ms calls.
+      (run_holds sizes stations select_ms max_age_ms calls).keeps.queue.sends);
+  selected = of_runs _ (λ stations sizes select_ms max_age_ms calls.
+      executes_selected sizes stations select_ms max_age_ms
+      (run stations sizes select_ms max_age_ms calls).history
+      (run_holds sizes stations select_ms max_age_ms calls).keeps.rightly
+      (run_holds sizes stations select_ms max_age_ms calls).keeps.executes);
   each_station = of_runs _ run_guarded;
   wholly = of_runs _ run_wholly;
   places = of_runs _ (λ stations sizes select_ms max_age_ms calls.
       (run_counts stations sizes select_ms max_age_ms calls).waiting);
   room = of_runs _ (λ stations sizes select_ms max_age_ms calls xs.
       has_room stations sizes select_ms max_age_ms calls xs);
-  right = of_runs _ heeded.right;
-  fresh = of_runs _ heeded.fresh;
-  tags = of_runs _ heeded.tags;
-  in_turn = of_runs _ heeded.in_turn;
-  kept = of_runs _ heeded.kept;
-  busy_plain = of_runs _ heeded.busy_plain;
+  right = of_runs _ (λ stations sizes select_ms max_age_ms calls.
+      (run_holds sizes stations select_ms max_age_ms calls).keeps.rightly);
+  fresh = of_runs _ (λ stations sizes select_ms max_age_ms calls. run_fresh stations sizes select_ms max_age_ms
+      calls);
+  tags = of_runs _ (λ stations sizes select_ms max_age_ms calls v. run_tags stations sizes select_ms max_age_ms
+      calls v);
+  in_turn = of_runs _ (λ stations sizes select_ms max_age_ms calls.
+      (run_holds sizes stations select_ms max_age_ms calls).keeps.own.in_turn);
+  kept = of_runs _ (λ stations sizes select_ms max_age_ms calls. (run_holds sizes stations select_ms max_age_ms
+      calls).keeps.own.kept);
+  busy_plain = of_runs _ (λ stations sizes select_ms max_age_ms calls. of_busy sizes stations select_ms
+      max_age_ms calls);
+  judged_waits = judging_leaves_waiting;
+  mirrored_waits = mirroring_leaves_waiting;
+  sent_waits = sending_leaves_others;
+  judged_answers = judging_leaves_answers;
+  mirrored_answers = mirroring_leaves_answers;
+  sent_answers = sending_leaves_answers;
+  judged_plain = of_judging;
 }

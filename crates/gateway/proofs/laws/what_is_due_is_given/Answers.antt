@@ -3,4 +3,4 @@ use Rattle.gateway.proofs.laws.what_is_due_is_given.Goals as goal
 
 pub returns : goal.returns
 returns c =
-    record { answers = so_far; stations = stations_given c.commands_keep_the_rules.ensures.calls }
+    record { answers = so_far; stations = stations_given c.commands_keep_the_rules.ensures }

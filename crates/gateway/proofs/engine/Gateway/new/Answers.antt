@@ -6,9 +6,8 @@ pub returns-clause-begins : goal.returns-clause-begins
 returns-clause-begins c =
     let config = c.args.config.now in
     first_follows config c.in_ok-gateway.gateway (Some []) c.master_matches_the_log.ensures.start
-    c.session_keeps_the_standard.ensures c.commands_keep_the_rules.ensures.calls
+    c.session_keeps_the_standard.ensures c.commands_keep_the_rules.ensures
     (record {
-      places = c.places_come_back.ensures.waiting;
       others = c.faultless_commands_pass.ensures.others;
       executes_pass = c.faultless_commands_pass.ensures.executes;
     })
