@@ -1,7 +1,7 @@
 -- A command with which nothing is wrong is forwarded.
-use Rattle.std.proofs.Common.{◌≡◌, ℕ, suc, ◌+◌, ◌≤◌, ◌<◌, ◌&&◌, ◌||◌, Bool, true, false, not, List}
-use Rattle.std.proofs.Common.{[], ◌∷◌, length, count_by, refl, sym, subst, ap, ◌∙◌, arith}
-use Rattle.std.specs.Prelude.{◌==◌, Option, Some, None, if◌then◌else◌, option_map, nat_lt, nat_le}
+use Rattle.std.proofs.Common.{◌≡◌, ℕ, suc, ◌≤◌, ◌<◌, ◌&&◌, ◌||◌, Bool, true, false, not, List}
+use Rattle.std.proofs.Common.{[], ◌∷◌, length, refl, sym, ap, ◌∙◌, arith}
+use Rattle.std.specs.Prelude.{Option, Some, None, if◌then◌else◌, option_map, nat_lt, nat_le}
 use Rattle.std.specs.List.{list_any, filter_map, cons_option}
 use Rattle.std.proofs.lemmas.Bool.{and_parts}
 use Rattle.asdu.specs.declared.sizes.Sizes.{Sizes}
@@ -15,7 +15,7 @@ use Rattle.command.specs.State.{State}
 use Rattle.command.specs.Judging.{judged, others}
 use Rattle.command.specs.Rules.{not_selected, no_place, rules_for}
 use Rattle.command.specs.Standard.{first_cause, own_rules, cause_of_fault, executes, selects}
-use Rattle.command.specs.Standard.{must_be_selected, is_for_station, operates, is_activation}
+use Rattle.command.specs.Standard.{must_be_selected, operates, is_activation}
 use Rattle.command.specs.Standard.{last_octet}
 use Rattle.command.specs.History.{IsSelected}
 use Rattle.command.specs.Passing.{FindsPlaces, of_others}

@@ -1,16 +1,14 @@
 -- Places come back: what waits is what was forwarded less what went out.
-use Rattle.std.proofs.Common.{◌≡◌, ℕ, suc, ◌+◌, ◌≤◌, ◌&&◌, ◌||◌, Bool, true, false, not, List, []}
+use Rattle.std.proofs.Common.{◌≡◌, ℕ, suc, ◌+◌, ◌≤◌, ◌&&◌, ◌||◌, Bool, true, false, List, []}
 use Rattle.std.proofs.Common.{◌∷◌, length, count_by, refl, sym, subst, ap, ◌∙◌, arith}
-use Rattle.std.specs.Prelude.{◌==◌, Option, Some, None, if◌then◌else◌, option_map, nat_lt, nat_le}
-use Rattle.std.specs.List.{list_any}
+use Rattle.std.specs.Prelude.{◌==◌, Option, Some, None, if◌then◌else◌, nat_lt, nat_le}
 use Rattle.std.proofs.lemmas.List.{length-append}
 use Rattle.asdu.specs.declared.sizes.Sizes.{Sizes}
 use Rattle.command.specs.declared.content.Command.{Command}
 use Rattle.command.specs.declared.station.StationInfo.{StationInfo}
 use Rattle.command.specs.declared.waiting.Waiting.{Waiting}
-use Rattle.command.specs.Octets.{answer, negative}
+use Rattle.command.specs.Octets.{negative}
 use Rattle.command.specs.Command.{command_at}
-use Rattle.command.specs.Selection.{lets_through}
 use Rattle.command.specs.Stations.{is_addressed}
 use Rattle.command.specs.State as state
 use Rattle.command.specs.State.{State, oldest, without_oldest, put_out, has_answer_place}
@@ -19,16 +17,16 @@ use Rattle.command.specs.Judging as judging
 use Rattle.command.specs.Judging.{Judgement, copies, fault, ends_selection, lacks_selection}
 use Rattle.command.specs.Judging.{lacks_place, makes_selection}
 use Rattle.command.specs.Mirrors as mirrors
-use Rattle.command.specs.Rules.{not_selected, no_place, rules_for}
-use Rattle.command.specs.Standard.{first_cause, own_rules, cause_of_fault, executes, selects}
+use Rattle.command.specs.Rules.{no_place}
+use Rattle.command.specs.Standard.{selects}
 use Rattle.command.specs.Standard.{must_be_selected, is_for_station}
 use Rattle.command.specs.History.{Judged, History, forwarded_in_all, sent_in_all}
 use Rattle.command.specs.Passing.{FindsPlaces}
 use Rattle.command.specs.Calls.{Call, Judge, PutOnLine, Accept, Busy, Lose, Mirror, Own, SendOwn}
 use Rattle.command.specs.Calls.{Cut, Due, Run, after_call, run, after_sending, after_answer}
 use Rattle.command.proofs.Kept.{copies_count}
-use Rattle.command.proofs.Ruled.{counts_read, first_rule, more_rules}
-use Rattle.command.proofs.Runs.{run_holds, owned}
+use Rattle.command.proofs.Ruled.{counts_read}
+use Rattle.command.proofs.Runs.{run_holds}
 use Rattle.command.proofs.Staying.{mirroring_leaves_waiting}
 
 -- ---- judging

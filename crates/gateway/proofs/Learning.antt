@@ -21,7 +21,8 @@ use Rattle.gateway.specs.Reports.{Setup}
 use Rattle.gateway.specs.Serial as serial
 use Rattle.gateway.specs.Serial.{Serial, refusals, mirrored}
 use Rattle.gateway.specs.State.{State, with_serial}
-use Rattle.gateway.specs.Works.{tasks_of, Works, has_lacked_place, logged, is_command_report, mirrored_works}
+use Rattle.gateway.specs.Works.{tasks_of, Works, has_lacked_place, logged, is_command_report}
+use Rattle.gateway.specs.Works.{mirrored_works}
 use Rattle.gateway.specs.Works.{LearnsReport, accepted_works, given_up_works, refused_works}
 use Rattle.gateway.specs.Works.{LearnsOf, settled_works, unasked_works, done_works}
 use Rattle.gateway.specs.Course.{Course, room_in, IsLeft}

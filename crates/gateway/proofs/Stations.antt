@@ -156,7 +156,8 @@ asks_alone : (laws : LineLaws) (p : Setup) (q : Primary) (log : Log) (course : C
     (waiting : CommandsWaiting)
     → Matches p.link p.addresses q (exchanges_of p log) → q.outstanding ≡ None
     → sending q may waiting ≡ None
-    → (connections : List Connection) → (may ≡ false → has_places p (parts_of_all p.sizes (reports_in p log)) connections ≡ false)
+    → (connections : List Connection)
+    → (may ≡ false → has_places p (parts_of_all p.sizes (reports_in p log)) connections ≡ false)
     → ((i : ℕ) → i < length p.addresses → IsServed p log (done_in p log course) i)
     → LacksOnlyRoom p log course connections
 asks_alone laws p q log course may waiting h out none connections full served =

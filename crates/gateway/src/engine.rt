@@ -28,9 +28,7 @@ use crate::settings::{LineSettings, Silence};
 use crate::walls::Wall;
 use apci::Assembler;
 use asdu::Sizes;
-use command::{
-    Commands, StationInfo, commands_keep_the_rules, faultless_commands_pass,
-};
+use command::{Commands, StationInfo, commands_keep_the_rules, faultless_commands_pass};
 use events::{Events, Kept};
 use link::{LinkSettings, Master, line_keeps_the_procedures, master_matches_the_log};
 use session::{Session, session_keeps_the_standard};

@@ -1,19 +1,18 @@
-use Rattle.std.proofs.Common.{ℕ, List, [], ◌∷◌, ap, refl, subst}
+use Rattle.std.proofs.Common.{ℕ, List, subst}
 use Rattle.asdu.specs.declared.sizes.Sizes.{Sizes}
 use Rattle.command.specs.declared.station.StationInfo.{StationInfo}
 use Rattle.command.specs.State.{State}
 use Rattle.command.specs.History.{History}
-use Rattle.command.specs.Calls.{Run, run, after_call}
+use Rattle.command.specs.Calls.{Run, run}
 use Rattle.command.specs.Laws.{AfterEachRun, OfEachRun}
-use Rattle.command.proofs.Places.{run_counts, has_room}
+use Rattle.command.proofs.Places.{run_counts}
 use Rattle.command.proofs.Runs.{run_holds}
-use Rattle.command.proofs.Wholes.{run_guarded, run_wholly}
 use Rattle.command.proofs.Bridge.{executes_selected}
 use Rattle.command.proofs.Tagged.{run_fresh, run_tags}
 use Rattle.command.proofs.OwnAnswers.{of_judging, of_busy}
-use Rattle.command.proofs.Staying.{judging_leaves_waiting, judging_leaves_answers}
+use Rattle.command.proofs.Staying.{judging_leaves_answers}
 use Rattle.command.proofs.Staying.{mirroring_leaves_waiting, mirroring_leaves_answers}
-use Rattle.command.proofs.Staying.{sending_leaves_others, sending_leaves_answers}
+use Rattle.command.proofs.Staying.{sending_leaves_answers}
 use Rattle.command.proofs.laws.commands_keep_the_rules.Goals as goal
 
 -- what holds after each list of calls holds of the state and the history that it leaves
@@ -25,8 +24,6 @@ of_runs P after stations sizes select_ms max_age_ms r is =
 
 pub returns : goal.returns
 returns c = record {
-  first = λ stations sizes select_ms max_age_ms. ([], refl);
-  next = λ stations sizes select_ms max_age_ms call r is. (call ∷ is.0, ap (after_call call) is.1);
   stations = of_runs _ (λ stations sizes select_ms max_age_ms calls.
       (run_holds sizes stations select_ms max_age_ms calls).same_stations);
   sizes = of_runs _ (λ stations sizes select_ms max_age_ms calls.
@@ -42,27 +39,27 @@ returns c = record {
       (run stations sizes select_ms max_age_ms calls).history
       (run_holds sizes stations select_ms max_age_ms calls).keeps.rightly
       (run_holds sizes stations select_ms max_age_ms calls).keeps.executes);
-  each_station = of_runs _ run_guarded;
-  wholly = of_runs _ run_wholly;
   places = of_runs _ (λ stations sizes select_ms max_age_ms calls.
       (run_counts stations sizes select_ms max_age_ms calls).waiting);
-  room = of_runs _ (λ stations sizes select_ms max_age_ms calls xs.
-      has_room stations sizes select_ms max_age_ms calls xs);
   right = of_runs _ (λ stations sizes select_ms max_age_ms calls.
       (run_holds sizes stations select_ms max_age_ms calls).keeps.rightly);
-  fresh = of_runs _ (λ stations sizes select_ms max_age_ms calls. run_fresh stations sizes select_ms max_age_ms
+  fresh =
+      of_runs _ (λ stations sizes select_ms max_age_ms calls. run_fresh stations sizes select_ms
+      max_age_ms
       calls);
-  tags = of_runs _ (λ stations sizes select_ms max_age_ms calls v. run_tags stations sizes select_ms max_age_ms
+  tags = of_runs _ (λ stations sizes select_ms max_age_ms calls v. run_tags stations sizes select_ms
+      max_age_ms
       calls v);
   in_turn = of_runs _ (λ stations sizes select_ms max_age_ms calls.
       (run_holds sizes stations select_ms max_age_ms calls).keeps.own.in_turn);
-  kept = of_runs _ (λ stations sizes select_ms max_age_ms calls. (run_holds sizes stations select_ms max_age_ms
+  kept =
+      of_runs _ (λ stations sizes select_ms max_age_ms calls.
+      (run_holds sizes stations select_ms max_age_ms
       calls).keeps.own.kept);
-  busy_plain = of_runs _ (λ stations sizes select_ms max_age_ms calls. of_busy sizes stations select_ms
+  busy_plain =
+      of_runs _ (λ stations sizes select_ms max_age_ms calls. of_busy sizes stations select_ms
       max_age_ms calls);
-  judged_waits = judging_leaves_waiting;
   mirrored_waits = mirroring_leaves_waiting;
-  sent_waits = sending_leaves_others;
   judged_answers = judging_leaves_answers;
   mirrored_answers = mirroring_leaves_answers;
   sent_answers = sending_leaves_answers;

@@ -12,14 +12,16 @@ pub returns-in-Err : goal.returns-in-Err
 returns-in-Err g c = λ ss rest len all e.
     let inv = c.loop-i.invariant ss rest len all e in
     let lt : c.loop-i._i < length ss = omega (arith, len, c.loop-i-test.true) in
-    c.in-Err.ensures (station_at ss c.loop-i._i) no_command_numbers _ (fits_at ss c.loop-i._i all lt) (inv.1
+    c.in-Err.ensures (station_at ss c.loop-i._i) no_command_numbers _
+    (fits_at ss c.loop-i._i all lt) (inv.1
     ∙ lines_at ss c.loop-i._i rest lt)
 
 pub loop-i-preserved : goal.loop-i-preserved
 loop-i-preserved g c = λ ss rest len all e.
     let inv = c.loop-i.invariant ss rest len all e in
     let lt : c.loop-i._i < length ss = omega (arith, len, c.loop-i-test.true) in
-    let h = c.in-Ok.ensures (station_at ss c.loop-i._i) no_command_numbers _ (fits_at ss c.loop-i._i all lt) (inv.1
+    let h = c.in-Ok.ensures (station_at ss c.loop-i._i) no_command_numbers _
+    (fits_at ss c.loop-i._i all lt) (inv.1
     ∙ lines_at ss c.loop-i._i rest lt) in
     let one = read_one_more ss rest _ c.loop-i._i _ _ lt inv.0 h.0 h.1 in
     let ok : is_ok c.push.result ≡ true = c.is_err.ensures.negation ∙ ap not c.if-is_err.false in
