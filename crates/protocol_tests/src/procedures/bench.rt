@@ -85,27 +85,43 @@ fn is_expected(outcome: &Outcome<'_>, wanted: Expected<'_>) -> bool {
     }
 }
 
+/// A command of 1 to 12 octets.
+#[derive(Drop)]
+struct TestCommand {
+    octets: CommandOctets,
+}
+
+impl Model for TestCommand {
+    ghost use Rattle.std.specs.Prelude.{ℕ, ◌≤◌, List, length};
+
+    ghost Value = { List ℕ };
+
+    ghost view = { λ command. command.octets };
+
+    ghost invariant = { λ command. 1 ≤ length command.octets };
+}
+
+impl TestCommand {
+    fn octets(&self) -> &[u8]
+        ensures value { result.now ≡ self.now }
+        ensures some { 1 ≤ length result.now }
+        ensures fits { length result.now ≤ 12 }
+    {
+        self.octets.octets()
+    }
+}
+
 /// The user of the line: a command may wait for the first station.
 #[derive(Drop)]
-struct FirstWaits {
-    command: Option<CommandOctets>,
+struct FirstWaits<'a> {
+    command: &'a Option<TestCommand>,
 }
 
-impl Model for FirstWaits {
-    ghost use Rattle.std.specs.Prelude.{ℕ, ◌≤◌, List, Option, IfSome, length};
-
-    ghost Value = { Option (List ℕ) };
-
-    ghost view = { λ user. user.command };
-
-    ghost invariant = { λ user. IfSome user.command (λ octets. 1 ≤ length octets) };
-}
-
-impl LinkUser for FirstWaits {
-    ghost waiting = { λ user. λ station. if station == 0 then user else None };
+impl LinkUser for FirstWaits<'_> {
+    ghost waiting = { λ user. λ station. if station == 0 then user.command.now else None };
 
     fn command(&self, station: usize) -> Option<&[u8]> {
-        match &self.command {
+        match self.command {
             Some(command) if station == 0 => Some(command.octets()),
             _ => None,
         }
@@ -115,7 +131,8 @@ impl LinkUser for FirstWaits {
 #[derive(Drop)]
 pub(super) struct Bench {
     master: Master,
-    user: FirstWaits,
+    /// The command that waits for the first station, if one does.
+    waiting: Option<TestCommand>,
 }
 
 impl Model for Bench {
@@ -138,8 +155,10 @@ impl Bench {
     pub(super) fn new(alloc: Global, ways: Ways, is_pair: bool) -> Result<Bench, NoMemory> {
         let addresses: &[u16] = if is_pair { &[1, 2] } else { &[1] };
         let master = Master::new(alloc, settings(ways), addresses)?;
-        let user = FirstWaits { command: None };
-        Ok(Bench { master, user })
+        Ok(Bench {
+            master,
+            waiting: None,
+        })
     }
 
     /// How many of the calls, in their order, answer what they are to.
@@ -174,7 +193,7 @@ impl Bench {
             Step::Spoilt(count) => self.master.spoilt() == *count,
             Step::Waits(asdu) => self.waits(asdu),
             Step::WaitsNoMore => {
-                self.user.command = None;
+                self.waiting = None;
                 true
             }
         }
@@ -195,10 +214,13 @@ impl Bench {
 
     /// The next request. A command that goes out for the first time waits no more.
     fn next(&mut self, now: u64, may_poll: bool) -> Option<Request> {
-        let next = self.master.next(now, may_poll, &self.user);
+        let user = FirstWaits {
+            command: &self.waiting,
+        };
+        let next = self.master.next(now, may_poll, &user);
         if let Some(request) = &next {
             if request.kind == RequestKind::Command && !request.again {
-                self.user.command = None;
+                self.waiting = None;
             }
         }
         next
@@ -209,7 +231,9 @@ impl Bench {
         if asdu.is_empty() || asdu.len() > 12 {
             return false;
         }
-        self.user.command = Some(CommandOctets::new(asdu));
+        self.waiting = Some(TestCommand {
+            octets: CommandOctets::new(asdu),
+        });
         true
     }
 
