@@ -7,7 +7,7 @@ use Rattle.live.specs.declared.allow_list.AllowList.{AllowList}
 use Rattle.live.specs.Timing.{is_behind, moment_at, is_awaited}
 use Rattle.live.specs.Ends.{LiveEnds, Peer, IsAllowedPeer, accepted, Answers, after, found_at}
 use Rattle.live.specs.Ends.{looked_at}
-use Rattle.live.specs.Ends.{read_from, next_round, unless_found, look, nothing_more, round, turn}
+use Rattle.live.specs.Ends.{peer_read, next_round, unless_found, look, nothing_more, round, turn}
 use Rattle.live.specs.Ends.{turn_by, held_by, sources_by, IsFront, taken_by, clock_read_at, looking}
 use Rattle.live.specs.Ends.{IsTurn, GivesEvent, GivesWall, QuietRounds, OneRound, LooksOn}
 use Rattle.live.specs.Ends.{is_tick_due}
@@ -54,16 +54,15 @@ same_allow_list s t old new buf l = ap (λ (e : LiveEnds). e.allow_list) l.ends
     ∙ looked_same s t (answers_for None new) buf old
 
 -- and what is in the buffer then is no matter
-quiet_from : (c : Option Peer) (buf other : List ℕ) → read_from c Quiet buf
-    ≡ read_from c Quiet other
-quiet_from None buf other = refl
-quiet_from (Some peer) buf other = refl
+quiet_from : (c : Option Peer) (buf other : List ℕ) (e : LiveEnds) → peer_read c Quiet buf e
+    ≡ peer_read c Quiet other e
+quiet_from None buf other e = refl
+quiet_from (Some peer) buf other e = refl
 
 quiet_at : (s : EventSource) (t : ℕ) (old new : LiveEnds) (buf other : List ℕ)
     → looked_at s t (answers_for None new) buf old ≡ looked_at s t (answers_for None new) other old
 quiet_at Listener t old new buf other = refl
-quiet_at Connection t old new buf other =
-    ap (λ c. record old { connection = c }) (quiet_from old.connection buf other)
+quiet_at Connection t old new buf other = quiet_from old.connection buf other old
 quiet_at Line t old new buf other = refl
 
 quiet : (s : EventSource) (t : ℕ) (old new : LiveEnds) (buf other : List ℕ)

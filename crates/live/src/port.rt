@@ -10,6 +10,7 @@ ghost use Rattle.live.specs.Timing.{is_behind, moment_at};
 ghost use Rattle.live.specs.Looks.{LooksInRound, LooksAt};
 ghost use Rattle.gateway.specs.Log.{with_news, Went};
 ghost use Rattle.gateway.specs.declared.ports.Next.TheVariants.{Done};
+ghost use Rattle.live.specs.declared.ends.CutCause.TheVariants.{Restarted};
 
 use crate::allow_list::AllowList;
 use crate::ends::{
@@ -83,6 +84,7 @@ impl<S: OctetStream, L: Listener + Drop, C: RunClock + Drop> Model for Live<S, L
       first = a.first;
       is_cut_due = a.is_cut_due;
       goes_on = a.goes_on;
+      why_cut = a.why_cut;
       failed = a.failures;
       late = a.late_octets;
       timing = a.timing;
@@ -150,7 +152,8 @@ impl<S: OctetStream, L: Listener + Drop, C: RunClock + Drop> Live<S, L, C> {
     /// The same port, of a run that goes on after a restart: the connection that was open then is
     /// cut, which is its first event but the wall clock.
     pub fn cut_first(mut self) -> Live<S, L, C>
-        ensures { result ≡ record self { is_cut_due = true; goes_on = true } }
+        ensures { result
+            ≡ record self { is_cut_due = true; goes_on = true; why_cut = Restarted } }
     {
         self.is_cut_due = true;
         self.goes_on = true;
@@ -169,7 +172,9 @@ impl<S: OctetStream, L: Listener + Drop, C: RunClock + Drop> Live<S, L, C> {
     }
 
     /// Why the latest connection that was cut was cut.
-    pub(crate) fn why_cut(&self) -> CutCause {
+    pub(crate) fn why_cut(&self) -> CutCause
+        ensures { result ≡ self.now.why_cut }
+    {
         self.why_cut
     }
 
