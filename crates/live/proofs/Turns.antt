@@ -23,9 +23,12 @@ use Rattle.live.specs.declared.source.EventSource.TheVariants.{Listener, Connect
 
 -- the answers of the three sources of a round that begins here
 joined : EventSource → Answers → Answers → Answers → Answers
-joined Listener a b c = record { peer = a.peer; connection = b.connection; line = c.line }
-joined Connection a b c = record { peer = c.peer; connection = a.connection; line = b.line }
-joined Line a b c = record { peer = b.peer; connection = c.connection; line = a.line }
+joined Listener a b c =
+    record { peer = a.peer; connection = b.connection; line = c.line; presence = c.presence }
+joined Connection a b c =
+    record { peer = c.peer; connection = a.connection; line = b.line; presence = b.presence }
+joined Line a b c =
+    record { peer = b.peer; connection = c.connection; line = a.line; presence = a.presence }
 
 joined_peer : (g : AllowList) (s : EventSource) (a b c : Answers) → IfSome a.peer (IsAllowedPeer g)
     → IfSome b.peer (IsAllowedPeer g)
@@ -149,7 +152,7 @@ pub due_turn : (t : ℕ) (buf : List ℕ) (old new : LiveEnds) → old.is_cut_du
     }
     → IsTurn t old (Some Cut) buf new
 due_turn t buf old new due done = record {
-  answers = record { peer = None; connection = Quiet; line = Quiet };
+  answers = record { peer = None; connection = Quiet; line = Quiet; presence = None };
   peer = tt;
   front = let P : Bool → Type 0 = λ d. IsFront d (is_behind old.timing t) old.held buf in
       subst P (sym due) tt;
@@ -210,7 +213,7 @@ pub held_turn : (t : ℕ) (buf : List ℕ) (old new : LiveEnds) (f : SourceEvent
     → new ≡ record old { held = []; first = after Connection }
     → IsTurn t old (Some f) buf new
 held_turn t buf old new f due level some is front done =
-    let a : Answers = record { peer = None; connection = Quiet; line = Quiet } in
+    let a : Answers = record { peer = None; connection = Quiet; line = Quiet; presence = None } in
     record {
       answers = a;
       peer = tt;

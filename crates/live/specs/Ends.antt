@@ -24,6 +24,7 @@ use Rattle.live.specs.declared.found.SourceEvent.{SourceEvent}
 use Rattle.live.specs.declared.found.SourceEvent.TheVariants as found
 use Rattle.live.specs.declared.source.EventSource.{EventSource}
 use Rattle.live.specs.declared.source.EventSource.TheVariants.{Listener, Connection, Line}
+use Rattle.live.specs.declared.ends.Presence.{Presence}
 use Rattle.live.specs.declared.ends.CutCause.{CutCause}
 use Rattle.live.specs.declared.ends.CutCause.TheVariants as cause
 use Rattle.live.specs.declared.watched.Failure.{Failure}
@@ -39,8 +40,8 @@ pub record IsAllowedPeer (allow_list : AllowList) (peer : Peer) : Type 0 where
   pub is_new : IsNew peer.stream
   pub allows : Allows allow_list peer.address
 
--- Who may connect; what happened at the line, at the connection, if there is one, and at the
--- listener; octets of that connection that came and haven't been given; what the clock gave; the
+-- Who may connect; what happened at the line, and whether it is there, where it says that; what
+-- happened at the connection, if there is one, and at the listener; octets of that connection that came and haven't been given; what the clock gave; the
 -- source that is looked at first; whether a write to the connection failed, so that a cut is due;
 -- whether the run goes on after a restart; why the latest connection that was cut was cut; how
 -- often the line was gone; how many of its octets were dropped before requests; what decides the
@@ -49,6 +50,7 @@ pub record IsAllowedPeer (allow_list : AllowList) (peer : Peer) : Type 0 where
 pub record LiveEnds : Type 0 where
   pub allow_list : AllowList
   pub line : StreamHistory
+  pub presence : Option Presence
   pub connection : Option Peer
   pub held : List ℕ
   pub listener : Attempts
@@ -65,11 +67,12 @@ pub record LiveEnds : Type 0 where
   pub log : Log
 
 -- the ends where a run begins, before anything has come; an answer is awaited for so long, in ms
-abbrev pub begun_with : AllowList → (line : StreamHistory) → (listener : Attempts)
-    → (clock walls : Moments) → (answer_ms : ℕ) → LiveEnds
-begun_with allow_list line listener clock walls answer_ms = record {
+abbrev pub begun_with : AllowList → (line : StreamHistory) → Option Presence
+    → (listener : Attempts) → (clock walls : Moments) → (answer_ms : ℕ) → LiveEnds
+begun_with allow_list line presence listener clock walls answer_ms = record {
   allow_list = allow_list;
   line = line;
+  presence = presence;
   connection = None;
   held = [];
   listener = listener;
@@ -108,11 +111,12 @@ after Connection = Line
 after Line = Listener
 
 -- what the ends answer in one round, each if it is looked at: who connects, with what happened at
--- the stream so far
+-- the stream so far; and whether the line is there then, where it says that
 pub record Answers : Type 0 where
   pub peer : Option Peer
   pub connection : Got
   pub line : Got
+  pub presence : Option Presence
 
 -- a new connection is found
 abbrev pub of_peer : Option Peer → Option SourceEvent
@@ -187,6 +191,7 @@ looked_at Connection begun answers buf ends =
     peer_read ends.connection answers.connection buf ends
 looked_at Line begun answers buf ends = record ends {
   line = noted ends.line (looked answers.line buf);
+  presence = answers.presence;
   failed = failed_by answers.line ends.failed;
   timing = line_looked_at begun ends.timing;
 }

@@ -74,6 +74,7 @@ impl<S: OctetStream, L: Listener + Drop, C: RunClock + Drop> Model for Live<S, L
     ghost view = { λ a. record {
       allow_list = a.allow_list;
       line = S.history a.line;
+      presence = S.presence a.line;
       connection = option_map (λ v. record {
         address = v.address;
         stream = L.Stream.history v.stream;
@@ -107,7 +108,7 @@ impl<S: OctetStream, L: Listener + Drop, C: RunClock + Drop> Live<S, L, C> {
         allow_list: AllowList,
         config: &Config,
     ) -> Live<S, L, C>
-        ensures { result ≡ begun_with allow_list (S.history line) (L.attempts listener)
+        ensures { result ≡ begun_with allow_list (S.history line) (S.presence line) (L.attempts listener)
             (C.moments clock) (C.walls clock) config.now.line.answer_ms }
     {
         // Of the settings it needs how long an answer is awaited (docs/DECISIONS.md, "What
@@ -123,7 +124,7 @@ impl<S: OctetStream, L: Listener + Drop, C: RunClock + Drop> Live<S, L, C> {
         allow_list: AllowList,
         answer_ms: u64,
     ) -> Live<S, L, C>
-        ensures { result ≡ begun_with allow_list (S.history line) (L.attempts listener)
+        ensures { result ≡ begun_with allow_list (S.history line) (S.presence line) (L.attempts listener)
             (C.moments clock) (C.walls clock) answer_ms }
     {
         Live {
@@ -489,7 +490,9 @@ impl<S: OctetStream, L: Listener + Drop, C: RunClock + Drop> Live<S, L, C> {
 
 impl<S: OctetStream + Reached, L: Listener + Drop, C: RunClock + Drop> Live<S, L, C> {
     /// Whether the line is there.
-    pub(crate) fn line_presence(&self) -> Presence {
+    pub(crate) fn line_presence(&self) -> Presence
+        ensures { IfSome self.now.presence (λ presence. result ≡ presence) }
+    {
         self.line.presence()
     }
 }

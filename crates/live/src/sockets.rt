@@ -3,7 +3,7 @@
 //! Only a look at the line waits, for some milliseconds, and again behind octets that don't end a
 //! frame; the listener and a connection are asked without a wait. So a frame of the line is seen at
 //! once, octets of a control centre after one look at a quiet line.
-ghost use Rattle.std.specs.Prelude.{◌≡◌, ◌≤◌, IfOk, None, true, false};
+ghost use Rattle.std.specs.Prelude.{◌≡◌, ◌≤◌, IfOk, None, Some, true, false};
 ghost use Rattle.live.specs.AllowLists.{one_more_refused};
 ghost use Rattle.live.specs.Clocks.{BeginsAt};
 ghost use Rattle.live.specs.OctetStreams.{FitsBuffer, noted, looked, Dropped, Wrote};
@@ -111,7 +111,13 @@ fn connect<R: Net<Stream = TcpStream>>(rt: &R, place: &str) -> io::Result<TcpStr
 }
 
 impl<S: SystemStream + Drop> OctetStream for LineSocket<S> {
+    ghost use Rattle.std.specs.Prelude.{Some};
+    ghost use Rattle.live.specs.declared.ends.Presence.TheVariants.{There};
+
     ghost history = { λ _. None };
+
+    // It was reached before the run, which ends where it is gone.
+    ghost presence = { λ _. Some There };
 
     fn read(&mut self, buf: &mut [u8; 1024]) -> Got
         ensures fits { FitsBuffer result }
@@ -123,6 +129,7 @@ impl<S: SystemStream + Drop> OctetStream for LineSocket<S> {
 
     fn drop_waiting(&mut self) -> u64
         ensures noted { None ≡ noted None (Dropped result) }
+        ensures stays { Some There ≡ Some There }
         ensures drops { DropsWaiting self.old result self.new }
     {
         drop_waiting(&mut self.stream)
@@ -130,6 +137,7 @@ impl<S: SystemStream + Drop> OctetStream for LineSocket<S> {
 
     fn write(&mut self, octets: &[u8]) -> bool
         ensures noted { None ≡ noted None (Wrote octets.now result) }
+        ensures stays { Some There ≡ Some There }
         ensures writes { WritesAll self.old octets.now result self.new }
     {
         write_once(&mut self.stream, octets)
@@ -137,7 +145,6 @@ impl<S: SystemStream + Drop> OctetStream for LineSocket<S> {
 }
 
 impl<S: SystemStream + Drop> Reached for LineSocket<S> {
-    /// It was reached before the run, which ends where it is gone.
     fn presence(&self) -> Presence
         ensures { result ≡ There }
     {
