@@ -41,12 +41,12 @@ pub record IsAllowedPeer (allow_list : AllowList) (peer : Peer) : Type 0 where
   pub allows : Allows allow_list peer.address
 
 -- Who may connect; what happened at the line, and whether it is there, where it says that; what
--- happened at the connection, if there is one, and at the listener; octets of that connection that came and haven't been given; what the clock gave; the
--- source that is looked at first; whether a write to the connection failed, so that a cut is due;
--- whether the run goes on after a restart; why the latest connection that was cut was cut; how
--- often the line was gone; how many of its octets were dropped before requests; what decides the
--- moment of an event; what the wall clock showed, and when it was given last; and the log, the
--- newest entry first.
+-- happened at the connection, if there is one, and at the listener; octets of that connection that
+-- came and haven't been given; what the clock gave; the source that is looked at first; whether a
+-- write to the connection failed, so that a cut is due; whether the run goes on after a restart;
+-- why the latest connection that was cut was cut; how often the line was gone; how many of its
+-- octets were dropped before requests; what decides the moment of an event; what the wall clock
+-- showed, and when it was given last; and the log, the newest entry first.
 pub record LiveEnds : Type 0 where
   pub allow_list : AllowList
   pub line : StreamHistory

@@ -257,8 +257,13 @@ impl<E: Ends + Drop> Watched for Keeper<E> {
 
     ghost failure = { λ k. failure_of k.stops (E.failure k.ends) };
 
+    // Whatever of the ends isn't a failure is shown as they show it.
+    ghost shows = { λ k sight. E.shows k.ends (record sight { failure = E.failure k.ends }) };
+
     /// A port that isn't asked any more hasn't failed: the store has.
     fn sight(&self) -> EndsSight
+        ensures shows { E.shows self.now.ends
+            (record result { failure = E.failure self.now.ends }) }
         ensures failure { result.failure ≡ failure_of self.now.stops (E.failure self.now.ends) }
         ensures failed { is_some result.failure
             ≡ nat_lt 0 (E.failed self.now.ends + self.now.stops) }
