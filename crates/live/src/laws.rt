@@ -97,6 +97,14 @@ pub fn a_close_shuts_the_connection()
         (new.connection ≡ None) × (new.held ≡ []) × (new.is_cut_due ≡ false) }
 {}
 
+/// Behind a cut no connection is open, no octets of one are held and no other cut is due: so what
+/// the gateway sends then reaches nobody, and each connection is cut once.
+pub fn a_cut_shuts_the_connection()
+    ensures { (old new : LiveEnds) (event : Next) (buf : List ℕ) → LogsTurn old event buf new →
+        is_cut event ≡ true →
+        (new.connection ≡ None) × (new.held ≡ []) × (new.is_cut_due ≡ false) }
+{}
+
 /// Why a connection was cut. A cut that wasn't due has a stream that was gone. A cut comes to be due
 /// by a write that failed, and then that is its reason. No other event and no other action changes
 /// the reason: so a cut that is due has the one for which it came to be due.
