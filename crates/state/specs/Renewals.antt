@@ -30,6 +30,12 @@ has_passed ms (Some since) now = nat_le ms (now - since)
 abbrev pub is_try_due : Patience → Bool
 is_try_due p = has_passed 10000 p.tried p.moment
 
+-- A new log was tried: one that couldn't be begun counts from the latest event, and behind one that
+-- was begun nothing counts.
+abbrev pub after_try : (is_lost : Bool) → Patience → Patience
+after_try true p = record p { tried = Some p.moment }
+after_try false p = record p { tried = None }
+
 -- once it was reported
 abbrev pub again : Option ℕ → Option Notice
 again None = None
