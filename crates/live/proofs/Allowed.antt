@@ -11,7 +11,7 @@ use Rattle.live.specs.Ends.{LooksOn}
 use Rattle.live.specs.Ends.{Turns, LogsTurn, as_logged, looking, event_at, taken_by, clock_read_at}
 use Rattle.live.specs.Ends.{turn_by, sources_by, held_by, round, look, unless_found, next_round}
 use Rattle.live.specs.Ends.{looked_at, after, nothing_more, accepted, of_peer, of_open, of_line}
-use Rattle.live.specs.Ends.{read_from}
+use Rattle.live.specs.Ends.{read_from, peer_read}
 use Rattle.live.specs.Law.{IsOfAllowedPeer, IsSameOrNone, peer_of, KeepsOut}
 use Rattle.live.proofs.Apart.{allow_list_of}
 use Rattle.live.proofs.Rounds.{allow_list_aside, quiet_kept}
@@ -57,7 +57,7 @@ at_connection : (g : AllowList) (b : Option IpAddr) (c : Option Peer) (got : Got
     (e : LiveEnds) (others : LiveEnds
     → Option SourceEvent × LiveEnds) → KeepsOn g b others → IsSameOrNone b c →
     Out g b (unless_found (of_open c got) (next_round Connection (of_open c got)
-    (record e { connection = read_from c got buf })) others)
+    (peer_read c got buf e)) others)
 unfolding KeepsOn Out IsKeptOut
 at_connection g b None got buf e others on h = on (record e { connection = None }) tt
 at_connection g b (Some peer) (Octets len) buf e others on h = h

@@ -4,11 +4,12 @@ use Rattle.std.proofs.Common.{ap, ◌∙◌}
 use Rattle.gateway.specs.Log.{Output, LineOut, TcpOut, Closed, GapOut}
 use Rattle.session.specs.declared.kinds.Close.{Close}
 use Rattle.session.specs.declared.kinds.Close.TheVariants as close
+use Rattle.live.specs.declared.ends.CutCause.TheVariants as cause
 use Rattle.live.specs.Ends.{LiveEnds, Peer, written_open, closed_by, after_action}
 
--- the ends but for the connection, what is held of it, and a cut that is due
+-- the ends but for the connection, what is held of it, a cut that is due, and why it is cut
 abbrev pub beside : LiveEnds → LiveEnds
-beside e = record e { connection = None; held = []; is_cut_due = false }
+beside e = record e { connection = None; held = []; is_cut_due = false; why_cut = cause.Gone }
 
 pub written_beside : (b : Bool) (octets : List ℕ) (taken : Bool) (p : Option Peer) (e : LiveEnds)
     → beside (written_open b octets taken p e) ≡ beside e

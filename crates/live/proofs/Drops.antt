@@ -25,6 +25,12 @@ drained old begun mid new count is_set again set began drains done =
     let Q : Calls → Type 0 = λ c. Drains c count mid in
     Drained mid again (subst Q (subst P set began) drains) done
 
+-- of a stream that has calls before, these
+pub dropped_from : (seen old new : Calls) (count : ℕ) → seen ≡ old → DropsWaiting seen count new
+    → DropsWaiting old count new
+dropped_from seen old new count same drops =
+    let P : Calls → Type 0 = λ c. DropsWaiting c count new in subst P same drops
+
 -- what came is dropped
 pub drops_once : (old new : Calls) (octets : List ℕ) (n : ℕ) → ReceivesOnce old octets n new
     → DropsOnce old n new

@@ -17,6 +17,7 @@ use Rattle.live.specs.declared.found.SourceEvent.TheVariants as found
 use Rattle.live.specs.declared.source.EventSource.{EventSource}
 use Rattle.live.specs.declared.source.EventSource.TheVariants.{Listener, Connection, Line}
 use Rattle.live.specs.declared.timing.Timing.{Timing}
+use Rattle.live.specs.declared.ends.Presence.{Presence}
 use Rattle.live.specs.declared.ends.Got.{Got}
 use Rattle.live.specs.declared.ends.Got.TheVariants.{Octets, Quiet, Gone}
 use Rattle.live.proofs.Beside.{action_beside}
@@ -60,20 +61,21 @@ round_from s t a buf e =
 abbrev ends_with : LiveEnds → EventSource → Option Peer → LiveEnds
 ends_with e s k = record e { first = s; connection = k }
 
-by_answers : (s : EventSource) (v k : Option Peer) (c l : Got) (t : ℕ) (buf : List ℕ) (e : LiveEnds)
+by_answers : (s : EventSource) (v k : Option Peer) (c l : Got) (m : Option Presence) (t : ℕ)
+    (buf : List ℕ) (e : LiveEnds)
     → InRound s (ends_with e s k)
-    (round_from s t (record { peer = v; connection = c; line = l }) buf (ends_with e s k))
+    (round_from s t (record { peer = v; connection = c; line = l; presence = m }) buf (ends_with e s k))
 unfolding InRound Looked
-by_answers Listener (Some p) k c l t buf e = (refl, tt)
-by_answers Listener None None c (Octets len) t buf e = (refl, (attempted_more e.listener false, tt))
-by_answers Listener None None c Quiet t buf e =
+by_answers Listener (Some p) k c l m t buf e = (refl, tt)
+by_answers Listener None None c (Octets len) m t buf e = (refl, (attempted_more e.listener false, tt))
+by_answers Listener None None c Quiet m t buf e =
     (refl, attempted_more e.listener false, tt, noted_more e.line WasQuiet, refl, refl)
-by_answers Listener None None c Gone t buf e = (refl, (attempted_more e.listener false, tt))
-by_answers Listener None (Some p) (Octets n) l t buf e = (refl, attempted_more e.listener false)
-by_answers Listener None (Some p) Gone l t buf e = (refl, attempted_more e.listener false)
-by_answers Listener None (Some p) Quiet (Octets len) t buf e =
+by_answers Listener None None c Gone m t buf e = (refl, (attempted_more e.listener false, tt))
+by_answers Listener None (Some p) (Octets n) l m t buf e = (refl, attempted_more e.listener false)
+by_answers Listener None (Some p) Gone l m t buf e = (refl, attempted_more e.listener false)
+by_answers Listener None (Some p) Quiet (Octets len) m t buf e =
     (refl, (attempted_more e.listener false, noted_more p.stream WasQuiet))
-by_answers Listener None (Some p) Quiet Quiet t buf e = (
+by_answers Listener None (Some p) Quiet Quiet m t buf e = (
   refl,
   attempted_more e.listener false,
   noted_more p.stream WasQuiet,
@@ -81,19 +83,19 @@ by_answers Listener None (Some p) Quiet Quiet t buf e = (
   refl,
   refl,
 )
-by_answers Listener None (Some p) Quiet Gone t buf e =
+by_answers Listener None (Some p) Quiet Gone m t buf e =
     (refl, (attempted_more e.listener false, noted_more p.stream WasQuiet))
-by_answers Connection v None c (Octets len) t buf e = (refl, tt)
-by_answers Connection v None c Gone t buf e = (refl, tt)
-by_answers Connection (Some q) None c Quiet t buf e = (refl, noted_more e.line WasQuiet)
-by_answers Connection None None c Quiet t buf e =
+by_answers Connection v None c (Octets len) m t buf e = (refl, tt)
+by_answers Connection v None c Gone m t buf e = (refl, tt)
+by_answers Connection (Some q) None c Quiet m t buf e = (refl, noted_more e.line WasQuiet)
+by_answers Connection None None c Quiet m t buf e =
     (refl, attempted_more e.listener false, tt, noted_more e.line WasQuiet, refl, refl)
-by_answers Connection v (Some p) (Octets n) l t buf e = (refl, tt)
-by_answers Connection v (Some p) Gone l t buf e = (refl, tt)
-by_answers Connection v (Some p) Quiet (Octets len) t buf e = (refl, noted_more p.stream WasQuiet)
-by_answers Connection v (Some p) Quiet Gone t buf e = (refl, noted_more p.stream WasQuiet)
-by_answers Connection (Some q) (Some p) Quiet Quiet t buf e = (refl, noted_more e.line WasQuiet)
-by_answers Connection None (Some p) Quiet Quiet t buf e = (
+by_answers Connection v (Some p) (Octets n) l m t buf e = (refl, tt)
+by_answers Connection v (Some p) Gone l m t buf e = (refl, tt)
+by_answers Connection v (Some p) Quiet (Octets len) m t buf e = (refl, noted_more p.stream WasQuiet)
+by_answers Connection v (Some p) Quiet Gone m t buf e = (refl, noted_more p.stream WasQuiet)
+by_answers Connection (Some q) (Some p) Quiet Quiet m t buf e = (refl, noted_more e.line WasQuiet)
+by_answers Connection None (Some p) Quiet Quiet m t buf e = (
   refl,
   attempted_more e.listener false,
   noted_more p.stream WasQuiet,
@@ -101,16 +103,16 @@ by_answers Connection None (Some p) Quiet Quiet t buf e = (
   refl,
   refl,
 )
-by_answers Line v k c (Octets len) t buf e = (refl, tt)
-by_answers Line v k c Gone t buf e = (refl, tt)
-by_answers Line (Some q) k c Quiet t buf e = (refl, noted_more e.line WasQuiet)
-by_answers Line None None c Quiet t buf e =
+by_answers Line v k c (Octets len) m t buf e = (refl, tt)
+by_answers Line v k c Gone m t buf e = (refl, tt)
+by_answers Line (Some q) k c Quiet m t buf e = (refl, noted_more e.line WasQuiet)
+by_answers Line None None c Quiet m t buf e =
     (refl, attempted_more e.listener false, tt, noted_more e.line WasQuiet, refl, refl)
-by_answers Line None (Some p) (Octets n) Quiet t buf e =
+by_answers Line None (Some p) (Octets n) Quiet m t buf e =
     (refl, (noted_more e.line WasQuiet, attempted_more e.listener false))
-by_answers Line None (Some p) Gone Quiet t buf e =
+by_answers Line None (Some p) Gone Quiet m t buf e =
     (refl, (noted_more e.line WasQuiet, attempted_more e.listener false))
-by_answers Line None (Some p) Quiet Quiet t buf e = (
+by_answers Line None (Some p) Quiet Quiet m t buf e = (
   refl,
   attempted_more e.listener false,
   noted_more p.stream WasQuiet,
@@ -120,7 +122,8 @@ by_answers Line None (Some p) Quiet Quiet t buf e = (
 )
 
 in_round : (t : ℕ) (a : Answers) (buf : List ℕ) (e : LiveEnds) → InRound e.first e (round t a buf e)
-in_round t a buf e = by_answers e.first a.peer e.connection a.connection a.line t buf e
+in_round t a buf e = by_answers e.first a.peer e.connection a.connection a.line a.presence t
+    buf e
 
 -- where the next round begins, by what was found
 Begins : Option SourceEvent → EventSource → Type 0

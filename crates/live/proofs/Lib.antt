@@ -20,3 +20,4 @@ pub mod Fixed
 pub mod Passed
 pub mod Noting
 pub mod Late
+pub mod Reasons

@@ -1,7 +1,7 @@
 -- A look at a connection that is open.
 use Rattle.std.proofs.Common.{◌≡◌, ℕ, List, Some, None, sym, ap, ◌∙◌}
 use Rattle.live.specs.OctetStreams.{noted, looked}
-use Rattle.live.specs.Ends.{LiveEnds, Peer, of_open, read_from}
+use Rattle.live.specs.Ends.{LiveEnds, Peer, of_open, peer_read}
 use Rattle.live.specs.Looks.{LooksAt}
 use Rattle.live.specs.declared.found.SourceEvent.TheVariants.{Bytes}
 use Rattle.live.specs.declared.source.EventSource.TheVariants.{Connection}
@@ -18,7 +18,7 @@ pub octets_came : (old new : LiveEnds) (peer : Peer) (len : ℕ) (buf : List ℕ
 octets_came old new peer len buf there done = record {
   peer = tt;
   found = sym (ap (λ c. of_open c (Octets len)) there);
-  ends = done ∙ sym (ap (λ c. record old { connection = read_from c (Octets len) buf }) there);
+  ends = done ∙ sym (ap (λ c. peer_read c (Octets len) buf old) there);
 }
 
 pub nothing_came : (old new : LiveEnds) (peer : Peer) (buf : List ℕ) → old.connection ≡ Some peer →
@@ -29,5 +29,5 @@ pub nothing_came : (old new : LiveEnds) (peer : Peer) (buf : List ℕ) → old.c
 nothing_came old new peer buf there done = record {
   peer = tt;
   found = sym (ap (λ c. of_open c Quiet) there);
-  ends = done ∙ sym (ap (λ c. record old { connection = read_from c Quiet buf }) there);
+  ends = done ∙ sym (ap (λ c. peer_read c Quiet buf old) there);
 }

@@ -13,7 +13,7 @@ use Rattle.live.specs.Ends.{LiveEnds, Peer, IsAllowedPeer, Answers, QuietRounds,
 use Rattle.live.specs.Ends.{LooksOn, Turns, PutsOut, as_logged, looking, event_at, taken_by}
 use Rattle.live.specs.Ends.{clock_read_at, turn_by, sources_by, held_by, IsFront, round, look}
 use Rattle.live.specs.Ends.{unless_found, next_round, looked_at, after, nothing_more, accepted}
-use Rattle.live.specs.Ends.{of_peer, of_open, of_line, read_from, written_open, closed_by}
+use Rattle.live.specs.Ends.{of_peer, of_open, of_line, read_from, peer_read, written_open, closed_by}
 use Rattle.live.specs.Ends.{after_action}
 use Rattle.std.proofs.lemmas.List.{append-nil}
 use Rattle.live.specs.Passed.{given, line_in, line_out, centre_in, centre_out, LogsLine}
@@ -193,7 +193,7 @@ at_connection : (n : ℕ) (buf : List ℕ) (log : Log) (c : Option Peer) (got : 
     → LogsCentre e.is_cut_due e.held (centre_in log) (centre_out log) c
     → LogsListener (opened_in log) e.listener →
     LogsFound n buf log (unless_found (of_open c got) (next_round Connection (of_open c got)
-    (record e { connection = read_from c got buf })) others)
+    (peer_read c got buf e)) others)
 unfolding LogsOn LogsFound IsUnheld IsNone
 at_connection n buf log None got e others on none l h d =
     on (record e { connection = None }) none (l, tt, d)

@@ -5,7 +5,7 @@ use Rattle.live.specs.Timing.{is_behind, line_looked_at}
 use Rattle.live.specs.Ends.{LiveEnds, Peer, Answers, IsTurn, QuietRounds, NoRound, OneRound}
 use Rattle.live.specs.Ends.{LooksOn, clock_read_at, turn_by, sources_by, held_by, look}
 use Rattle.live.specs.Ends.{unless_found, next_round, looked_at, after, nothing_more, accepted}
-use Rattle.live.specs.Ends.{of_peer, of_open, of_line, read_from, Turns, looking, wall_given_at}
+use Rattle.live.specs.Ends.{of_peer, of_open, of_line, read_from, peer_read, Turns, looking, wall_given_at}
 use Rattle.live.proofs.Apart.{Apart, turn_same, log_of, log_apart, walled_of, walled_apart}
 use Rattle.live.proofs.Apart.{allow_list_of, allow_list_apart, taken_same}
 use Rattle.live.specs.declared.found.SourceEvent.{SourceEvent}
@@ -101,7 +101,7 @@ connection_reads : (begun : ℕ) (k t : Timing) (c : Option Peer) (got : Got) (b
     (others : LiveEnds → Option SourceEvent × LiveEnds) → IsLineReadOn begun k t others → e.timing
     ≡ t
     → IsLineRead begun k (unless_found (of_open c got) (next_round Connection (of_open c got)
-    (record e { connection = read_from c got buf })) others)
+    (peer_read c got buf e)) others)
 unfolding IsLineReadOn IsLineRead IsLineReadBy
 connection_reads begun k t None got buf e others on same = on (record e { connection = None }) same
 connection_reads begun k t (Some peer) (Octets len) buf e others on same = tt

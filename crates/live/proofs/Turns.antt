@@ -7,7 +7,7 @@ use Rattle.live.specs.declared.allow_list.AllowList.{AllowList}
 use Rattle.live.specs.Timing.{is_behind, moment_at, is_awaited}
 use Rattle.live.specs.Ends.{LiveEnds, Peer, IsAllowedPeer, accepted, Answers, after, found_at}
 use Rattle.live.specs.Ends.{looked_at}
-use Rattle.live.specs.Ends.{read_from, next_round, unless_found, look, nothing_more, round, turn}
+use Rattle.live.specs.Ends.{peer_read, next_round, unless_found, look, nothing_more, round, turn}
 use Rattle.live.specs.Ends.{turn_by, held_by, sources_by, IsFront, taken_by, clock_read_at, looking}
 use Rattle.live.specs.Ends.{IsTurn, GivesEvent, GivesWall, QuietRounds, OneRound, LooksOn}
 use Rattle.live.specs.Ends.{is_tick_due}
@@ -23,9 +23,12 @@ use Rattle.live.specs.declared.source.EventSource.TheVariants.{Listener, Connect
 
 -- the answers of the three sources of a round that begins here
 joined : EventSource → Answers → Answers → Answers → Answers
-joined Listener a b c = record { peer = a.peer; connection = b.connection; line = c.line }
-joined Connection a b c = record { peer = c.peer; connection = a.connection; line = b.line }
-joined Line a b c = record { peer = b.peer; connection = c.connection; line = a.line }
+joined Listener a b c =
+    record { peer = a.peer; connection = b.connection; line = c.line; presence = c.presence }
+joined Connection a b c =
+    record { peer = c.peer; connection = a.connection; line = b.line; presence = b.presence }
+joined Line a b c =
+    record { peer = b.peer; connection = c.connection; line = a.line; presence = a.presence }
 
 joined_peer : (g : AllowList) (s : EventSource) (a b c : Answers) → IfSome a.peer (IsAllowedPeer g)
     → IfSome b.peer (IsAllowedPeer g)
@@ -54,16 +57,15 @@ same_allow_list s t old new buf l = ap (λ (e : LiveEnds). e.allow_list) l.ends
     ∙ looked_same s t (answers_for None new) buf old
 
 -- and what is in the buffer then is no matter
-quiet_from : (c : Option Peer) (buf other : List ℕ) → read_from c Quiet buf
-    ≡ read_from c Quiet other
-quiet_from None buf other = refl
-quiet_from (Some peer) buf other = refl
+quiet_from : (c : Option Peer) (buf other : List ℕ) (e : LiveEnds) → peer_read c Quiet buf e
+    ≡ peer_read c Quiet other e
+quiet_from None buf other e = refl
+quiet_from (Some peer) buf other e = refl
 
 quiet_at : (s : EventSource) (t : ℕ) (old new : LiveEnds) (buf other : List ℕ)
     → looked_at s t (answers_for None new) buf old ≡ looked_at s t (answers_for None new) other old
 quiet_at Listener t old new buf other = refl
-quiet_at Connection t old new buf other =
-    ap (λ c. record old { connection = c }) (quiet_from old.connection buf other)
+quiet_at Connection t old new buf other = quiet_from old.connection buf other old
 quiet_at Line t old new buf other = refl
 
 quiet : (s : EventSource) (t : ℕ) (old new : LiveEnds) (buf other : List ℕ)
@@ -150,7 +152,7 @@ pub due_turn : (t : ℕ) (buf : List ℕ) (old new : LiveEnds) → old.is_cut_du
     }
     → IsTurn t old (Some Cut) buf new
 due_turn t buf old new due done = record {
-  answers = record { peer = None; connection = Quiet; line = Quiet };
+  answers = record { peer = None; connection = Quiet; line = Quiet; presence = None };
   peer = tt;
   front = let P : Bool → Type 0 = λ d. IsFront d (is_behind old.timing t) old.held buf in
       subst P (sym due) tt;
@@ -211,7 +213,7 @@ pub held_turn : (t : ℕ) (buf : List ℕ) (old new : LiveEnds) (f : SourceEvent
     → new ≡ record old { held = []; first = after Connection }
     → IsTurn t old (Some f) buf new
 held_turn t buf old new f due level some is front done =
-    let a : Answers = record { peer = None; connection = Quiet; line = Quiet } in
+    let a : Answers = record { peer = None; connection = Quiet; line = Quiet; presence = None } in
     record {
       answers = a;
       peer = tt;

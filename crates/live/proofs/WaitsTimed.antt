@@ -5,20 +5,19 @@ use Rattle.std.proofs.Common.{inl, inr}
 use Rattle.gateway.specs.Log.{Output, LineOut, TcpOut, Closed, GapOut}
 use Rattle.gateway.specs.declared.ports.Next.{Next}
 use Rattle.live.specs.OctetStreams.{StreamHistory, Dropped, Wrote, noted}
-use Rattle.live.specs.Timing.{Moments, read_at, moment_at, moment_by, is_waited_out, goes_on, eve}
+use Rattle.live.specs.Timing.{Moments, moment_at, moment_by, is_waited_out, goes_on, eve}
 use Rattle.live.specs.Timing.{line_looked_at, is_behind}
 use Rattle.live.specs.Walls.{is_wall}
 use Rattle.live.specs.Law.{AtMoment, AtClock, AtWall, AtRounds, AsksNothing, IsEve, IsOneOf}
 use Rattle.live.specs.Law.{IsWrittenBehind}
-use Rattle.live.specs.Ends.{LiveEnds, Peer, Answers, IsTurn, QuietRounds, NoRound, OneRound}
-use Rattle.live.specs.Ends.{Turns, LogsTurn, LogsPut, as_logged, TurnsToWall, TurnsToEnds}
-use Rattle.live.specs.Ends.{looking, event_at, clock_read_at, turn_by, sources_by, held_by, round}
+use Rattle.live.specs.Ends.{LiveEnds, Peer, Answers, IsTurn}
+use Rattle.live.specs.Ends.{Turns, LogsTurn, LogsPut, as_logged}
+use Rattle.live.specs.Ends.{event_at, turn_by, sources_by, held_by, round}
 use Rattle.live.specs.Ends.{look, unless_found, next_round, looked_at, found_at, after}
-use Rattle.live.specs.Ends.{nothing_more, accepted, written_open, closed_by}
+use Rattle.live.specs.Ends.{nothing_more, accepted}
 use Rattle.live.proofs.Beside.{written_beside, closed_beside}
 use Rattle.live.proofs.Law.{at_moment, at_clock, clock_read}
-use Rattle.live.proofs.Rounds.{quiet_reads}
-use Rattle.live.proofs.Ticks.{Begins, at_rounds, looked_timing, wall_of as no_wall_of}
+use Rattle.live.proofs.Ticks.{at_rounds, looked_timing, wall_of as no_wall_of}
 use Rattle.live.proofs.Walls.{of_ends, looked_walled}
 use Rattle.live.specs.declared.found.SourceEvent.{SourceEvent}
 use Rattle.live.specs.declared.found.SourceEvent.TheVariants as found

@@ -1,5 +1,5 @@
 -- Who may connect (this gateway's own profile).
-use Rattle.std.specs.Prelude.{Contains, ℕ, ◌+◌, ◌-◌, ◌^◌, min, Some}
+use Rattle.std.specs.Prelude.{Contains, ◌+◌, ◌-◌, ◌^◌, min, Some}
 use Rattle.std.specs.declared.net.ip_addr.IpAddr.{IpAddr}
 use Rattle.live.specs.declared.allow_list.AllowList.{AllowList}
 use Rattle.live.specs.declared.allow_list.AllowList.TheVariants.{Anyone, Only}

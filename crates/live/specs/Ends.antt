@@ -24,6 +24,9 @@ use Rattle.live.specs.declared.found.SourceEvent.{SourceEvent}
 use Rattle.live.specs.declared.found.SourceEvent.TheVariants as found
 use Rattle.live.specs.declared.source.EventSource.{EventSource}
 use Rattle.live.specs.declared.source.EventSource.TheVariants.{Listener, Connection, Line}
+use Rattle.live.specs.declared.ends.Presence.{Presence}
+use Rattle.live.specs.declared.ends.CutCause.{CutCause}
+use Rattle.live.specs.declared.ends.CutCause.TheVariants as cause
 use Rattle.live.specs.declared.watched.Failure.{Failure}
 use Rattle.live.specs.declared.watched.Failure.TheVariants as failure
 
@@ -37,15 +40,17 @@ pub record IsAllowedPeer (allow_list : AllowList) (peer : Peer) : Type 0 where
   pub is_new : IsNew peer.stream
   pub allows : Allows allow_list peer.address
 
--- Who may connect; what happened at the line, at the connection, if there is one, and at the
--- listener; octets of that connection that came and haven't been given; what the clock gave; the
--- source that is looked at first; whether a write to the connection failed, so that a cut is due;
--- whether the run goes on after a restart; how often the line was gone; how many of its octets were
--- dropped before requests; what decides the moment of an event; what the wall clock showed, and
--- when it was given last; and the log, the newest entry first.
+-- Who may connect; what happened at the line, and whether it is there, where it says that; what
+-- happened at the connection, if there is one, and at the listener; octets of that connection that
+-- came and haven't been given; what the clock gave; the source that is looked at first; whether a
+-- write to the connection failed, so that a cut is due; whether the run goes on after a restart;
+-- why the latest connection that was cut was cut; how often the line was gone; how many of its
+-- octets were dropped before requests; what decides the moment of an event; what the wall clock
+-- showed, and when it was given last; and the log, the newest entry first.
 pub record LiveEnds : Type 0 where
   pub allow_list : AllowList
   pub line : StreamHistory
+  pub presence : Option Presence
   pub connection : Option Peer
   pub held : List ℕ
   pub listener : Attempts
@@ -53,6 +58,7 @@ pub record LiveEnds : Type 0 where
   pub first : EventSource
   pub is_cut_due : Bool
   pub goes_on : Bool
+  pub why_cut : CutCause
   pub failed : ℕ
   pub late : ℕ
   pub timing : Timing
@@ -61,11 +67,12 @@ pub record LiveEnds : Type 0 where
   pub log : Log
 
 -- the ends where a run begins, before anything has come; an answer is awaited for so long, in ms
-abbrev pub begun_with : AllowList → (line : StreamHistory) → (listener : Attempts)
-    → (clock walls : Moments) → (answer_ms : ℕ) → LiveEnds
-begun_with allow_list line listener clock walls answer_ms = record {
+abbrev pub begun_with : AllowList → (line : StreamHistory) → Option Presence
+    → (listener : Attempts) → (clock walls : Moments) → (answer_ms : ℕ) → LiveEnds
+begun_with allow_list line presence listener clock walls answer_ms = record {
   allow_list = allow_list;
   line = line;
+  presence = presence;
   connection = None;
   held = [];
   listener = listener;
@@ -73,6 +80,7 @@ begun_with allow_list line listener clock walls answer_ms = record {
   first = Listener;
   is_cut_due = false;
   goes_on = false;
+  why_cut = cause.Gone;
   failed = 0;
   late = 0;
   timing = record { answer_ms = answer_ms; looked = 0; request = None };
@@ -103,11 +111,12 @@ after Connection = Line
 after Line = Listener
 
 -- what the ends answer in one round, each if it is looked at: who connects, with what happened at
--- the stream so far
+-- the stream so far; and whether the line is there then, where it says that
 pub record Answers : Type 0 where
   pub peer : Option Peer
   pub connection : Got
   pub line : Got
+  pub presence : Option Presence
 
 -- a new connection is found
 abbrev pub of_peer : Option Peer → Option SourceEvent
@@ -156,6 +165,18 @@ abbrev pub read_from : Option Peer → Got → (buf : List ℕ) → Option Peer
 read_from None got buf = None
 read_from (Some peer) got buf = at_address peer.address (read_open peer.stream got buf)
 
+-- a connection that is gone is cut for that reason
+abbrev pub why_by_look : Option Peer → Got → CutCause → CutCause
+why_by_look (Some peer) Gone why = cause.Gone
+why_by_look _ got why = why
+
+-- the ends after a look at the connection
+abbrev pub peer_read : Option Peer → Got → (buf : List ℕ) → LiveEnds → LiveEnds
+peer_read peer got buf ends = record ends {
+  connection = read_from peer got buf;
+  why_cut = why_by_look peer got ends.why_cut;
+}
+
 -- a line that is gone has failed once more
 abbrev pub failed_by : Got → ℕ → ℕ
 failed_by (Octets len) failed = failed
@@ -167,9 +188,10 @@ failed_by Gone failed = failed + 1
 abbrev pub looked_at : EventSource → ℕ → Answers → (buf : List ℕ) → LiveEnds → LiveEnds
 looked_at Listener begun answers buf ends = accepted answers.peer ends
 looked_at Connection begun answers buf ends =
-    record ends { connection = read_from ends.connection answers.connection buf }
+    peer_read ends.connection answers.connection buf ends
 looked_at Line begun answers buf ends = record ends {
   line = noted ends.line (looked answers.line buf);
+  presence = answers.presence;
   failed = failed_by answers.line ends.failed;
   timing = line_looked_at begun ends.timing;
 }
@@ -384,6 +406,11 @@ pub record LogsTurn (old : LiveEnds) (event : Next) (buf : List ℕ) (new : Live
   pub turns : Turns old event buf (as_logged old.log new)
   pub logged : new.log ≡ logged_by event buf ++ old.log
 
+-- a connection that didn't take what was written to it is cut for that reason
+abbrev pub why_by_write : (taken : Bool) → CutCause → CutCause
+why_by_write true why = why
+why_by_write false why = cause.NotTaken
+
 -- the ends after octets for the connection: they are dropped where there is none, and where a cut
 -- is due
 abbrev pub written_open : Bool → List ℕ → Bool → Option Peer → LiveEnds → LiveEnds
@@ -393,6 +420,7 @@ written_open false octets taken (Some peer) ends =
     record ends {
       connection = Some (record peer { stream = noted peer.stream (Wrote octets taken) });
       is_cut_due = not taken;
+      why_cut = why_by_write taken ends.why_cut;
     }
 
 -- octets for the connection were put out so, taken or not

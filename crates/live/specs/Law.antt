@@ -162,3 +162,14 @@ AsksNothing (LineOut octets) = ⊥
 AsksNothing (TcpOut octets) = Unit {0}
 AsksNothing (Closed cause) = Unit {0}
 AsksNothing (GapOut station session) = Unit {0}
+
+-- the event is a cut
+abbrev pub is_cut : Next → Bool
+is_cut (next.Cut now) = true
+is_cut (next.Line now len) = false
+is_cut (next.Open now) = false
+is_cut (next.Bytes now len) = false
+is_cut (next.Tick now) = false
+is_cut (next.Wall now number) = false
+is_cut next.Done = false
+is_cut next.Fault = false

@@ -12,3 +12,4 @@ pub mod Passed
 pub mod Memory
 pub mod Clocks
 pub mod Late
+pub mod Sights

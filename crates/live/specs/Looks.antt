@@ -26,6 +26,7 @@ answers_for f new = record {
   peer = peer_for f new.connection;
   connection = got_for f;
   line = got_for f;
+  presence = new.presence;
 }
 
 -- such answers of a source give what was found, and the ends after it

@@ -20,9 +20,14 @@ pub enum Got {
 pub trait OctetStream: Drop {
     ghost use Rattle.live.specs.OctetStreams.{StreamHistory, FitsBuffer, looked, Dropped, Wrote};
     ghost use Rattle.live.specs.OctetStreams.{noted};
+    ghost use Rattle.live.specs.declared.ends.Presence.{Presence};
+    ghost use Rattle.std.specs.Prelude.{None};
 
     /// What has happened at it, the newest first, where it notes that.
     ghost history: { Self → StreamHistory };
+
+    /// Whether it is there, where it says that.
+    ghost presence: { Self → Option Presence } = { λ _. None };
 
     /// Looks once, without a long wait. Octets are put at the front of the buffer.
     fn read(&mut self, buf: &mut [u8; 1024]) -> Got
@@ -31,11 +36,13 @@ pub trait OctetStream: Drop {
 
     /// Drops what has come and wasn't read, without a wait. Answers how many octets that was.
     fn drop_waiting(&mut self) -> u64
-        ensures noted { history self.new ≡ noted (history self.old) (Dropped result) };
+        ensures noted { history self.new ≡ noted (history self.old) (Dropped result) }
+        ensures stays { presence self.new ≡ presence self.old };
 
     /// Puts octets on it. `false` says that it didn't take them all.
     fn write(&mut self, octets: &[u8]) -> bool
-        ensures noted { history self.new ≡ noted (history self.old) (Wrote octets.now result) };
+        ensures noted { history self.new ≡ noted (history self.old) (Wrote octets.now result) }
+        ensures stays { presence self.new ≡ presence self.old };
 }
 
 /// Why a connection is cut.
@@ -62,9 +69,12 @@ pub enum Presence {
 }
 
 /// A stream that may be away.
-pub trait Reached {
+pub trait Reached: OctetStream {
+    ghost use Rattle.std.specs.Prelude.{◌≡◌, IfSome};
+
     /// Whether it is there.
-    fn presence(&self) -> Presence;
+    fn presence(&self) -> Presence
+        ensures { IfSome (Self.presence self.now) (λ presence. result ≡ presence) };
 }
 
 /// Who was accepted.

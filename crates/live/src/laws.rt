@@ -8,7 +8,8 @@ ghost use Rattle.gateway.specs.declared.ports.Next.{Next};
 ghost use Rattle.live.specs.Ends.{LiveEnds, LogsTurn, LogsPut};
 ghost use Rattle.live.specs.Law.{AtMoment, AtBytes, AtClock, AtBegun, IsWaitedOut, KeepsOut};
 ghost use Rattle.live.specs.Law.{AtRounds, first_of, IsTickDue, IfTick, AtWall, IsEve, IsOneOf};
-ghost use Rattle.live.specs.Law.{IsWrittenBehind, AsksNothing};
+ghost use Rattle.live.specs.Law.{IsWrittenBehind, AsksNothing, is_cut};
+ghost use Rattle.live.specs.declared.ends.CutCause.TheVariants.{Gone, NotTaken};
 ghost use Rattle.live.specs.AllowLists.{Allows};
 ghost use Rattle.live.specs.declared.allow_list.AllowList.TheVariants.{Anyone, Only};
 ghost use Rattle.gateway.specs.Log.{Closed, LineOut, Output};
@@ -94,6 +95,32 @@ pub fn a_close_shuts_the_connection()
     ensures { (old new : LiveEnds) (moment : ℕ) (cause : Close) →
         LogsPut old moment (Closed cause) new → cause ≢ Replaced →
         (new.connection ≡ None) × (new.held ≡ []) × (new.is_cut_due ≡ false) }
+{}
+
+/// Behind a cut no connection is open, no octets of one are held and no other cut is due: so what
+/// the gateway sends then reaches nobody, and each connection is cut once.
+pub fn a_cut_shuts_the_connection()
+    ensures { (old new : LiveEnds) (event : Next) (buf : List ℕ) → LogsTurn old event buf new →
+        is_cut event ≡ true →
+        (new.connection ≡ None) × (new.held ≡ []) × (new.is_cut_due ≡ false) }
+{}
+
+/// Why a connection was cut. A cut that wasn't due has a stream that was gone. A cut comes to be due
+/// by a write that failed, and then that is its reason. No other event and no other action changes
+/// the reason: so a cut that is due has the one for which it came to be due.
+pub fn a_cut_has_its_reason()
+    ensures gone { (old new : LiveEnds) (event : Next) (buf : List ℕ) → LogsTurn old event buf new →
+        is_cut event ≡ true → old.is_cut_due ≡ false → new.why_cut ≡ Gone }
+    ensures due { (old new : LiveEnds) (event : Next) (buf : List ℕ) → LogsTurn old event buf new →
+        is_cut event ≡ true → old.is_cut_due ≡ true → new.why_cut ≡ old.why_cut }
+    ensures others { (old new : LiveEnds) (event : Next) (buf : List ℕ) →
+        LogsTurn old event buf new → is_cut event ≡ false → new.why_cut ≡ old.why_cut }
+    ensures written { (old new : LiveEnds) (moment : ℕ) (action : Output) →
+        LogsPut old moment action new → old.is_cut_due ≡ false → new.is_cut_due ≡ true →
+        new.why_cut ≡ NotTaken }
+    ensures put { (old new : LiveEnds) (moment : ℕ) (action : Output) →
+        LogsPut old moment action new → new.is_cut_due ≡ old.is_cut_due →
+        new.why_cut ≡ old.why_cut }
 {}
 
 /// Of two events that follow each other, neither of which is the wall clock, the looks for the

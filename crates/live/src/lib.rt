@@ -80,8 +80,8 @@ pub use ends::{
     Accepted, CutCause, Got, Listener, OctetStream, Presence, Reached, RefusedPeers, RunClock,
 };
 pub use laws::{
-    a_close_shuts_the_connection, a_line_that_is_waited_out_holds_no_moment,
-    a_moment_is_held_only_before_the_end_of_an_exchange,
+    a_close_shuts_the_connection, a_cut_has_its_reason, a_cut_shuts_the_connection,
+    a_line_that_is_waited_out_holds_no_moment, a_moment_is_held_only_before_the_end_of_an_exchange,
     a_request_is_written_and_timed_behind_what_waits, a_tick_has_a_reason,
     allowed_addresses_by_example, an_exchange_that_is_over_gives_an_event_at_once,
     late_octets_are_those_that_were_dropped, looks_ask_nothing,

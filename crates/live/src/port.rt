@@ -10,6 +10,7 @@ ghost use Rattle.live.specs.Timing.{is_behind, moment_at};
 ghost use Rattle.live.specs.Looks.{LooksInRound, LooksAt};
 ghost use Rattle.gateway.specs.Log.{with_news, Went};
 ghost use Rattle.gateway.specs.declared.ports.Next.TheVariants.{Done};
+ghost use Rattle.live.specs.declared.ends.CutCause.TheVariants.{Restarted};
 
 use crate::allow_list::AllowList;
 use crate::ends::{
@@ -73,6 +74,7 @@ impl<S: OctetStream, L: Listener + Drop, C: RunClock + Drop> Model for Live<S, L
     ghost view = { λ a. record {
       allow_list = a.allow_list;
       line = S.history a.line;
+      presence = S.presence a.line;
       connection = option_map (λ v. record {
         address = v.address;
         stream = L.Stream.history v.stream;
@@ -83,6 +85,7 @@ impl<S: OctetStream, L: Listener + Drop, C: RunClock + Drop> Model for Live<S, L
       first = a.first;
       is_cut_due = a.is_cut_due;
       goes_on = a.goes_on;
+      why_cut = a.why_cut;
       failed = a.failures;
       late = a.late_octets;
       timing = a.timing;
@@ -105,7 +108,7 @@ impl<S: OctetStream, L: Listener + Drop, C: RunClock + Drop> Live<S, L, C> {
         allow_list: AllowList,
         config: &Config,
     ) -> Live<S, L, C>
-        ensures { result ≡ begun_with allow_list (S.history line) (L.attempts listener)
+        ensures { result ≡ begun_with allow_list (S.history line) (S.presence line) (L.attempts listener)
             (C.moments clock) (C.walls clock) config.now.line.answer_ms }
     {
         // Of the settings it needs how long an answer is awaited (docs/DECISIONS.md, "What
@@ -121,7 +124,7 @@ impl<S: OctetStream, L: Listener + Drop, C: RunClock + Drop> Live<S, L, C> {
         allow_list: AllowList,
         answer_ms: u64,
     ) -> Live<S, L, C>
-        ensures { result ≡ begun_with allow_list (S.history line) (L.attempts listener)
+        ensures { result ≡ begun_with allow_list (S.history line) (S.presence line) (L.attempts listener)
             (C.moments clock) (C.walls clock) answer_ms }
     {
         Live {
@@ -150,7 +153,8 @@ impl<S: OctetStream, L: Listener + Drop, C: RunClock + Drop> Live<S, L, C> {
     /// The same port, of a run that goes on after a restart: the connection that was open then is
     /// cut, which is its first event but the wall clock.
     pub fn cut_first(mut self) -> Live<S, L, C>
-        ensures { result ≡ record self { is_cut_due = true; goes_on = true } }
+        ensures { result
+            ≡ record self { is_cut_due = true; goes_on = true; why_cut = Restarted } }
     {
         self.is_cut_due = true;
         self.goes_on = true;
@@ -169,7 +173,9 @@ impl<S: OctetStream, L: Listener + Drop, C: RunClock + Drop> Live<S, L, C> {
     }
 
     /// Why the latest connection that was cut was cut.
-    pub(crate) fn why_cut(&self) -> CutCause {
+    pub(crate) fn why_cut(&self) -> CutCause
+        ensures { result ≡ self.now.why_cut }
+    {
         self.why_cut
     }
 
@@ -484,7 +490,9 @@ impl<S: OctetStream, L: Listener + Drop, C: RunClock + Drop> Live<S, L, C> {
 
 impl<S: OctetStream + Reached, L: Listener + Drop, C: RunClock + Drop> Live<S, L, C> {
     /// Whether the line is there.
-    pub(crate) fn line_presence(&self) -> Presence {
+    pub(crate) fn line_presence(&self) -> Presence
+        ensures { IfSome self.now.presence (λ presence. result ≡ presence) }
+    {
         self.line.presence()
     }
 }

@@ -1,5 +1,5 @@
 //! A stream that comes back.
-ghost use Rattle.std.specs.Prelude.{◌≡◌, ◌≢◌, ℕ, List, None, false};
+ghost use Rattle.std.specs.Prelude.{◌≡◌, ◌≢◌, ℕ, List, Some, None, IfSome, false};
 ghost use Rattle.live.specs.OctetStreams.{FitsBuffer};
 ghost use Rattle.live.specs.Redial.{IsRedialled, HasDropped, IsPut, IsTriedOn, IsTryAnswered};
 ghost use Rattle.live.specs.Redial.{dialled_map, is_due, grown, settled, clock_read_at};
@@ -215,8 +215,11 @@ impl<D: Dialler + Drop, C: RunClock + Drop> Reached for Redialled<D, C> {
 
 impl<D: Dialler + Drop, C: RunClock + Drop> OctetStream for Redialled<D, C> {
     ghost use Rattle.live.specs.OctetStreams.{noted, looked, Dropped, Wrote};
+    ghost use Rattle.std.specs.Prelude.{Some};
 
     ghost history = { λ _. None };
+
+    ghost presence = { λ r. Some r.presence };
 
     fn read(&mut self, buf: &mut [u8; 1024]) -> Got
         ensures fits { FitsBuffer result }
@@ -244,6 +247,7 @@ impl<D: Dialler + Drop, C: RunClock + Drop> OctetStream for Redialled<D, C> {
 
     fn drop_waiting(&mut self) -> u64
         ensures noted { None ≡ noted None (Dropped result) }
+        ensures stays { Some self.new.presence ≡ Some self.old.presence }
         ensures dropped { HasDropped self.old result self.new }
     {
         match &mut self.stream {
@@ -254,6 +258,7 @@ impl<D: Dialler + Drop, C: RunClock + Drop> OctetStream for Redialled<D, C> {
 
     fn write(&mut self, octets: &[u8]) -> bool
         ensures noted { None ≡ noted None (Wrote octets.now result) }
+        ensures stays { Some self.new.presence ≡ Some self.old.presence }
         ensures put { IsPut self.old octets.now result self.new }
     {
         match &mut self.stream {

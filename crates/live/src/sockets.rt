@@ -3,17 +3,24 @@
 //! Only a look at the line waits, for some milliseconds, and again behind octets that don't end a
 //! frame; the listener and a connection are asked without a wait. So a frame of the line is seen at
 //! once, octets of a control centre after one look at a quiet line.
-ghost use Rattle.std.specs.Prelude.{◌≡◌, ◌≤◌, IfOk, None, false};
+ghost use Rattle.std.specs.Prelude.{◌≡◌, ◌≤◌, IfOk, None, Some, true, false};
 ghost use Rattle.live.specs.AllowLists.{one_more_refused};
 ghost use Rattle.live.specs.Clocks.{BeginsAt};
+ghost use Rattle.live.specs.OctetStreams.{FitsBuffer, noted, looked, Dropped, Wrote};
+ghost use Rattle.live.specs.Streams.{ReadsOnce, ReadsLine, DropsWaiting, WritesAll, WritesFront};
+ghost use Rattle.live.specs.Streams.{called, Waits};
+ghost use Rattle.live.specs.declared.ends.Presence.TheVariants.{There};
 
 use crate::allow_list::AllowList;
 use crate::ends::{
     Accepted, Got, Listener, OctetStream, Presence, Reached, RefusedPeers, RunClock,
 };
 use crate::redial::{Dialled, Dialler};
-use crate::stream::{drop_waiting, read_line, read_once, write_in_two, write_once};
+use crate::stream::{
+    SocketStream, SystemStream, drop_waiting, read_line, read_once, write_in_two, write_once,
+};
 use std::io::{Eprint, ErrorKind};
+use std::marker::Model;
 use std::net::{
     HostAddrs, IpAddr, Net, OpenListener, OpenStream, SocketAddr, TcpListener, TcpStream,
     ToSocketAddrs,
@@ -39,13 +46,19 @@ const REACH_MS: u64 = 5000;
 // An end where somebody connects without a pause; who is left is accepted at the next look.
 const MOST_ACCEPTED: u32 = 256;
 
-/// The line: a serial device server, by TCP or by a Unix socket.
+/// The line: a serial device server, over a stream of the system, by TCP or by a Unix socket. Its
+/// calls wait, each as long as its timeout says.
 #[derive(Drop)]
-pub enum LineSocket {
-    /// By TCP.
-    Tcp(TcpStream),
-    /// By a Unix socket.
-    Unix(UnixStream),
+pub struct LineSocket<S: SystemStream + Drop = SocketStream> {
+    stream: S,
+}
+
+impl<S: SystemStream + Drop> Model for LineSocket<S> {
+    ghost use Rattle.live.specs.Streams.{Calls};
+
+    ghost Value = { Calls };
+
+    ghost view = { λ s. S.calls s.stream };
 }
 
 impl LineSocket {
@@ -70,13 +83,17 @@ impl LineSocket {
         stream.set_nodelay(true)?;
         stream.set_read_timeout(Some(Duration::from_millis(LOOK_MS)))?;
         stream.set_write_timeout(Some(Duration::from_millis(WRITE_MS)))?;
-        Ok(LineSocket::Tcp(stream))
+        Ok(LineSocket {
+            stream: SocketStream::Tcp(stream),
+        })
     }
 
     fn over_unix(stream: UnixStream) -> io::Result<LineSocket> {
         stream.set_read_timeout(Some(Duration::from_millis(LOOK_MS)))?;
         stream.set_write_timeout(Some(Duration::from_millis(WRITE_MS)))?;
-        Ok(LineSocket::Unix(stream))
+        Ok(LineSocket {
+            stream: SocketStream::Unix(stream),
+        })
     }
 }
 
@@ -93,33 +110,44 @@ fn connect<R: Net<Stream = TcpStream>>(rt: &R, place: &str) -> io::Result<TcpStr
     Err(last)
 }
 
-impl OctetStream for LineSocket {
+impl<S: SystemStream + Drop> OctetStream for LineSocket<S> {
+    ghost use Rattle.std.specs.Prelude.{Some};
+    ghost use Rattle.live.specs.declared.ends.Presence.TheVariants.{There};
+
     ghost history = { λ _. None };
 
-    fn read(&mut self, buf: &mut [u8; 1024]) -> Got {
-        match self {
-            LineSocket::Tcp(stream) => read_line(stream, buf),
-            LineSocket::Unix(stream) => read_line(stream, buf),
-        }
+    // It was reached before the run, which ends where it is gone.
+    ghost presence = { λ _. Some There };
+
+    fn read(&mut self, buf: &mut [u8; 1024]) -> Got
+        ensures fits { FitsBuffer result }
+        ensures noted { None ≡ noted None (looked result buf.new) }
+        ensures reads { ReadsLine self.old result buf.new self.new }
+    {
+        read_line(&mut self.stream, buf)
     }
 
-    fn drop_waiting(&mut self) -> u64 {
-        match self {
-            LineSocket::Tcp(stream) => drop_waiting(stream),
-            LineSocket::Unix(stream) => drop_waiting(stream),
-        }
+    fn drop_waiting(&mut self) -> u64
+        ensures noted { None ≡ noted None (Dropped result) }
+        ensures stays { Some There ≡ Some There }
+        ensures drops { DropsWaiting self.old result self.new }
+    {
+        drop_waiting(&mut self.stream)
     }
 
-    fn write(&mut self, octets: &[u8]) -> bool {
-        match self {
-            LineSocket::Tcp(stream) => write_once(stream, octets),
-            LineSocket::Unix(stream) => write_once(stream, octets),
-        }
+    fn write(&mut self, octets: &[u8]) -> bool
+        ensures noted { None ≡ noted None (Wrote octets.now result) }
+        ensures stays { Some There ≡ Some There }
+        ensures writes { WritesAll self.old octets.now result self.new }
+    {
+        write_once(&mut self.stream, octets)
     }
 }
 
-impl Reached for LineSocket {
-    fn presence(&self) -> Presence {
+impl<S: SystemStream + Drop> Reached for LineSocket<S> {
+    fn presence(&self) -> Presence
+        ensures { result ≡ There }
+    {
         Presence::There
     }
 }
@@ -249,69 +277,123 @@ impl<R: Net<Stream = TcpStream> + std::rt::Clock> Dialler for LineDialler<'_, R>
     }
 }
 
-/// The connection of a control centre. Its reads don't wait; a write waits for 20 ms at the most,
-/// where the system has no room.
+/// The connection of a control centre, over a stream of the system. Its reads don't wait; a write
+/// waits for 20 ms at the most, where the system has no room.
 #[derive(Drop)]
-pub struct CentreSocket(TcpStream);
+pub struct CentreSocket<S: SystemStream + Drop = TcpStream> {
+    stream: S,
+}
 
-impl CentreSocket {
-    fn new(stream: TcpStream) -> io::Result<CentreSocket> {
+impl<S: SystemStream + Drop> Model for CentreSocket<S> {
+    ghost use Rattle.live.specs.Streams.{Calls};
+
+    ghost Value = { Calls };
+
+    ghost view = { λ s. S.calls s.stream };
+}
+
+impl CentreSocket<TcpStream> {
+    fn new(stream: TcpStream) -> io::Result<CentreSocket<TcpStream>> {
         stream.set_nodelay(true)?;
         stream.set_write_timeout(Some(Duration::from_millis(WRITE_MS)))?;
         // Of use only where a write had waited and the stream then refused to wait no more.
         stream.set_read_timeout(Some(Duration::from_millis(LOOK_MS)))?;
-        stream.set_nonblocking(true)?;
-        Ok(CentreSocket(stream))
+        CentreSocket::unwaited(stream)
     }
 }
 
-impl OctetStream for CentreSocket {
+impl<S: SystemStream + Drop> CentreSocket<S> {
+    /// Over this stream, whose calls wait no more then.
+    fn unwaited(mut stream: S) -> io::Result<CentreSocket<S>>
+        ensures { IfOk result (λ socket. socket ≡ called (S.calls stream) (Waits false true)) }
+    {
+        stream.set_waiting(false)?;
+        Ok(CentreSocket { stream })
+    }
+}
+
+impl<S: SystemStream + Drop> OctetStream for CentreSocket<S> {
     ghost history = { λ _. None };
 
-    fn read(&mut self, buf: &mut [u8; 1024]) -> Got {
-        read_once(&mut self.0, buf)
+    fn read(&mut self, buf: &mut [u8; 1024]) -> Got
+        ensures fits { FitsBuffer result }
+        ensures noted { None ≡ noted None (looked result buf.new) }
+        ensures reads { ReadsOnce self.old result buf.new self.new }
+    {
+        read_once(&mut self.stream, buf)
     }
 
     /// A control centre's octets are all received.
-    fn drop_waiting(&mut self) -> u64 {
+    fn drop_waiting(&mut self) -> u64
+        ensures noted { None ≡ noted None (Dropped result) }
+        ensures none { result ≡ 0 }
+        ensures same { self.new ≡ self.old }
+    {
         0
     }
 
-    fn write(&mut self, octets: &[u8]) -> bool {
-        write_in_two(&mut self.0, octets)
+    fn write(&mut self, octets: &[u8]) -> bool
+        ensures noted { None ≡ noted None (Wrote octets.now result) }
+        ensures writes { WritesFront self.old octets.now result self.new }
+    {
+        write_in_two(&mut self.stream, octets)
     }
 }
 
-/// The connection of who is on this machine, by a Unix socket. Its calls don't wait.
+/// The connection of who is on this machine, over a stream of the system, by a Unix socket. Its
+/// calls don't wait.
 #[derive(Drop)]
-pub struct LocalSocket(UnixStream);
+pub struct LocalSocket<S: SystemStream + Drop = UnixStream> {
+    stream: S,
+}
 
-impl LocalSocket {
+impl<S: SystemStream + Drop> Model for LocalSocket<S> {
+    ghost use Rattle.live.specs.Streams.{Calls};
+
+    ghost Value = { Calls };
+
+    ghost view = { λ s. S.calls s.stream };
+}
+
+impl<S: SystemStream + Drop> LocalSocket<S> {
     /// Over this stream, whose calls wait no more then.
     ///
     /// # Errors
     ///
     /// Those of the system.
-    pub fn new(stream: UnixStream) -> io::Result<LocalSocket> {
-        stream.set_nonblocking(true)?;
-        Ok(LocalSocket(stream))
+    pub fn new(mut stream: S) -> io::Result<LocalSocket<S>>
+        ensures { IfOk result (λ socket. socket ≡ called (S.calls stream) (Waits false true)) }
+    {
+        stream.set_waiting(false)?;
+        Ok(LocalSocket { stream })
     }
 }
 
-impl OctetStream for LocalSocket {
+impl<S: SystemStream + Drop> OctetStream for LocalSocket<S> {
     ghost history = { λ _. None };
 
-    fn read(&mut self, buf: &mut [u8; 1024]) -> Got {
-        read_once(&mut self.0, buf)
+    fn read(&mut self, buf: &mut [u8; 1024]) -> Got
+        ensures fits { FitsBuffer result }
+        ensures noted { None ≡ noted None (looked result buf.new) }
+        ensures reads { ReadsOnce self.old result buf.new self.new }
+    {
+        read_once(&mut self.stream, buf)
     }
 
     /// Its octets are all received.
-    fn drop_waiting(&mut self) -> u64 {
+    fn drop_waiting(&mut self) -> u64
+        ensures noted { None ≡ noted None (Dropped result) }
+        ensures none { result ≡ 0 }
+        ensures same { self.new ≡ self.old }
+    {
         0
     }
 
-    fn write(&mut self, octets: &[u8]) -> bool {
-        write_once(&mut self.0, octets)
+    fn write(&mut self, octets: &[u8]) -> bool
+        ensures noted { None ≡ noted None (Wrote octets.now result) }
+        ensures writes { WritesAll self.old octets.now result self.new }
+    {
+        write_once(&mut self.stream, octets)
     }
 }
 

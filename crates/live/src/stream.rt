@@ -26,7 +26,7 @@ const FRAME_END: u8 = 0x16;
 const SINGLE: u8 = 0xE5;
 
 /// Octets both ways, as the system has them. A stream that notes its calls adds the answer of each.
-pub(crate) trait SystemStream {
+pub trait SystemStream {
     ghost use Rattle.std.specs.Prelude.{◌≡◌, ◌≤◌, length, IfOk};
     ghost use Rattle.live.specs.Streams.{Calls, received, Sent, Waits, called};
     ghost use Rattle.std.specs.Result.{is_ok};
@@ -82,6 +82,42 @@ impl SystemStream for UnixStream {
 
     fn set_waiting(&mut self, is_waiting: bool) -> io::Result<()> {
         self.set_nonblocking(!is_waiting)
+    }
+}
+
+/// A stream by TCP or by a Unix socket.
+#[derive(Drop)]
+pub enum SocketStream {
+    /// By TCP.
+    Tcp(TcpStream),
+    /// By a Unix socket.
+    Unix(UnixStream),
+}
+
+impl SystemStream for SocketStream {
+    ghost use Rattle.std.specs.Prelude.{None};
+
+    ghost calls = { λ _. None };
+
+    fn receive(&mut self, buf: &mut [u8]) -> io::Result<usize> {
+        match self {
+            SocketStream::Tcp(stream) => stream.receive(buf),
+            SocketStream::Unix(stream) => stream.receive(buf),
+        }
+    }
+
+    fn send(&mut self, octets: &[u8]) -> io::Result<usize> {
+        match self {
+            SocketStream::Tcp(stream) => stream.send(octets),
+            SocketStream::Unix(stream) => stream.send(octets),
+        }
+    }
+
+    fn set_waiting(&mut self, is_waiting: bool) -> io::Result<()> {
+        match self {
+            SocketStream::Tcp(stream) => stream.set_waiting(is_waiting),
+            SocketStream::Unix(stream) => stream.set_waiting(is_waiting),
+        }
     }
 }
 

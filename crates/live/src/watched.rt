@@ -1,7 +1,8 @@
 //! What can be seen of a port's ends from outside.
 ghost use Rattle.std.specs.Option.{is_some};
-ghost use Rattle.std.specs.Prelude.{◌≡◌, None, nat_lt, option_map};
-ghost use Rattle.live.specs.Ends.{Peer, failure_of};
+ghost use Rattle.std.specs.Prelude.{◌≡◌, None, nat_lt};
+ghost use Rattle.live.specs.Ends.{failure_of};
+ghost use Rattle.live.specs.Sights.{ShowsEnds};
 
 use crate::ends::{CutCause, Listener, OctetStream, Presence, Reached, RefusedPeers, RunClock};
 use crate::port::Live;
@@ -49,6 +50,7 @@ pub trait Watched: Port {
     ghost use Rattle.std.specs.Prelude.{Option, nat_lt};
     ghost use Rattle.std.specs.Option.{is_some};
     ghost use Rattle.gateway.specs.State.{State};
+    ghost use Rattle.live.specs.declared.watched.EndsSight.{EndsSight};
     ghost use Rattle.live.specs.declared.watched.Failure.{Failure};
     ghost use Rattle.live.specs.declared.watched.Notice.{Notice};
 
@@ -56,11 +58,15 @@ pub trait Watched: Port {
     /// report.
     ghost tends: { Self → State → Self → Option Notice → Type 0 } = { λ _ _ _ _. Unit {0} };
 
+    /// Such a sight shows its ends.
+    ghost shows: { Self → EndsSight → Type 0 } = { λ _ _. Unit {0} };
+
     /// What has failed, where its device has.
     ghost failure: { Self → Option Failure };
 
     /// Looks at its ends, and asks nothing of them.
     fn sight(&self) -> EndsSight
+        ensures shows { shows self.now result }
         ensures failure { result.failure ≡ failure self.now }
         ensures failed { is_some result.failure ≡ nat_lt 0 (Self.failed self.now) };
 
@@ -75,15 +81,18 @@ pub trait Watched: Port {
 }
 
 impl<S: OctetStream + Reached, L: Listener + Drop, C: RunClock + Drop> Watched for Live<S, L, C> {
+    ghost use Rattle.live.specs.Sights.{ShowsEnds};
+
     ghost tends = { λ old _ new notice. (new ≡ old) × (notice ≡ None) };
+
+    ghost shows = { λ ends sight. ShowsEnds ends sight };
 
     ghost failure = { λ ends. failure_of ends.failed };
 
     fn sight(&self) -> EndsSight
+        ensures shows { ShowsEnds self.now result }
         ensures failure { result.failure ≡ failure_of self.now.failed }
         ensures failed { is_some result.failure ≡ nat_lt 0 self.now.failed }
-        ensures peer { result.peer ≡ option_map (λ (p : Peer). p.address) self.now.connection }
-        ensures late { result.late_octets ≡ self.now.late }
     {
         EndsSight {
             line: self.line_presence(),

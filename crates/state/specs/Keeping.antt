@@ -6,7 +6,7 @@ use Rattle.live.specs.declared.watched.Failure.{Failure}
 use Rattle.live.specs.declared.watched.Failure.TheVariants as failures
 use Rattle.live.specs.declared.watched.Notice.{Notice}
 use Rattle.state.specs.Deeds.{Deeds, AreRight, IsInTime}
-use Rattle.state.specs.Renewals.{after_notice, is_try_due, notice_of}
+use Rattle.state.specs.Renewals.{after_notice, after_try, is_try_due, notice_of}
 use Rattle.state.specs.Standings.{IsStanding, Renews, is_lost}
 use Rattle.state.specs.declared.renewal.Patience.{Patience}
 use Rattle.state.specs.declared.standing.Standing.{Standing}
@@ -43,6 +43,7 @@ pub record HasLooked {E : Type 0} (deeds : E → Deeds) (old : Keeping E) (state
       Renews (deeds old.ends) state (deeds new.ends)
   pub waits : is_lost old.standing ≡ true → is_try_due old.patience ≡ false → new ≡ old
   pub looks : (new ≡ old) ⊎ Renews (deeds old.ends) state (deeds new.ends)
+  pub tried : (new ≡ old) ⊎ (new.patience ≡ after_try (is_lost new.standing) old.patience)
 
 -- it looks, and then gives what is to be reported
 pub record HasTended {E : Type 0} (deeds : E → Deeds) (old : Keeping E) (state : State)

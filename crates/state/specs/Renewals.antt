@@ -1,5 +1,5 @@
 -- When a log is begun anew, and when the keeper reports that none is kept (profile).
-use Rattle.std.specs.Prelude.{ℕ, ◌-◌, nat_le, nat_lt, Bool, true, false, if◌then◌else◌, Option}
+use Rattle.std.specs.Prelude.{ℕ, ◌+◌, ◌*◌, ◌-◌, nat_le, nat_lt, Bool, true, false, if◌then◌else◌, Option}
 use Rattle.std.specs.Prelude.{Some, None, [], ◌∷◌}
 use Rattle.gateway.specs.Log.{Log}
 use Rattle.state.specs.Deeds.{moment_of}
@@ -10,6 +10,11 @@ use Rattle.state.specs.declared.renewal.Patience.{Patience}
 -- its events take more than 3.9 million octets
 abbrev pub is_renewal_due : (events : ℕ) → Bool
 is_renewal_due events = nat_lt 3900000 events
+
+-- How many octets the line of an event has at most: a moment of 15 digits, a letter, 1,024 octets in
+-- hexadecimal digits, two spaces, and its end.
+abbrev pub longest_line : ℕ
+longest_line = 15 + 1 + 2 * 1024 + 2 + 1
 
 -- the moment of the latest event, where this was it before these
 abbrev pub moment_after : Log → ℕ → ℕ
@@ -24,6 +29,12 @@ has_passed ms (Some since) now = nat_le ms (now - since)
 -- where the state isn't kept, a new log is tried at once and then each 10 s
 abbrev pub is_try_due : Patience → Bool
 is_try_due p = has_passed 10000 p.tried p.moment
+
+-- A new log was tried: one that couldn't be begun counts from the latest event, and behind one that
+-- was begun nothing counts.
+abbrev pub after_try : (is_lost : Bool) → Patience → Patience
+after_try true p = record p { tried = Some p.moment }
+after_try false p = record p { tried = None }
 
 -- once it was reported
 abbrev pub again : Option ℕ → Option Notice

@@ -9,6 +9,7 @@ pub trait Ends {
     ghost use Rattle.gateway.specs.Log.{LogEntry, Went, with_news};
     ghost use Rattle.gateway.specs.Ports.{FitsBuffer, faults_of, output_of, logged_by};
     ghost use Rattle.gateway.specs.declared.ports.Next.TheVariants.{Done};
+    ghost use Rattle.live.specs.declared.watched.EndsSight.{EndsSight};
     ghost use Rattle.live.specs.declared.watched.Failure.{Failure};
     ghost use Rattle.state.specs.Deeds.{Appended, Begun, Deed, GivenUp, Received, IsSafe, PutOut};
     ghost use Rattle.state.specs.Deeds.{Synced, is_kept};
@@ -63,8 +64,12 @@ pub trait Ends {
     /// What has failed of the port's device, as a port says it.
     ghost failure: { Self → Option Failure };
 
+    /// Such a sight shows the port's ends.
+    ghost shows: { Self → EndsSight → Type 0 };
+
     /// Looks at the port's ends, and asks nothing of them.
     fn sight(&self) -> EndsSight
+        ensures shows { shows self.now result }
         ensures failure { result.failure ≡ failure self.now }
         ensures failed { is_some result.failure ≡ nat_lt 0 (failed self.now) };
 

@@ -30,7 +30,8 @@ pub trait Folder {
     ghost use Rattle.gateway.specs.Config.{Settings};
     ghost use Rattle.state.specs.Unread.{IsUnread};
     ghost use Rattle.std.specs.Prelude.{◌≡◌, ℕ, List, [], Option, Some, Bool, true, false, IfOk};
-    ghost use Rattle.std.specs.Prelude.{IsTrue};
+    ghost use Rattle.std.specs.Prelude.{IsTrue, ◌+◌, ◌*◌, ◌≤◌};
+    ghost use Rattle.state.specs.Renewals.{is_renewal_due, longest_line};
 
     type File: Disk + Drop;
 
@@ -44,8 +45,13 @@ pub trait Folder {
     ghost aside: { Self → Self.File → Self.File → Type 0 };
 
     /// How many blocks of 4,096 zeros stand behind a checkpoint, for the lines to come: a new log
-    /// is due before they are full.
-    fn blocks(&self) -> usize {
+    /// is due before they are full, whatever the last line was. Two logs have 8,000,000 octets of
+    /// them at most.
+    fn blocks(&self) -> usize
+        ensures room { (events : ℕ) → is_renewal_due events ≡ false →
+            events + longest_line ≤ result * 4096 }
+        ensures most { 2 * (result * 4096) ≤ 8000000 }
+    {
         BLOCKS
     }
 

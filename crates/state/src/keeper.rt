@@ -7,8 +7,8 @@ ghost use Rattle.gateway.specs.Ports.{FitsBuffer, faults_of, output_of, logged_b
 ghost use Rattle.gateway.specs.declared.ports.Next.TheVariants.{Done};
 ghost use Rattle.state.specs.Deeds.{passed};
 ghost use Rattle.state.specs.Keeping.{IsOrderly, failure_of};
-ghost use Rattle.state.specs.Renewals.{after_notice, is_renewal_due, is_try_due, moment_after};
-ghost use Rattle.state.specs.Renewals.{notice_of};
+ghost use Rattle.state.specs.Renewals.{after_notice, after_try, is_renewal_due, is_try_due};
+ghost use Rattle.state.specs.Renewals.{moment_after, notice_of};
 ghost use Rattle.state.specs.Standings.{IsPortLeft, Renews, is_lost, is_stopped};
 
 use crate::disk_store::DiskStore;
@@ -99,6 +99,8 @@ impl<E: Ends + Drop> Keeper<E> {
             is_renewal_due (E.grown self.old.ends) ≡ false → self.new ≡ self.old }
         ensures looks { (self.new ≡ self.old)
             ⊎ Renews (E.deeds self.old.ends) gateway.now (E.deeds self.new.ends) }
+        ensures tried { (self.new ≡ self.old)
+            ⊎ (self.new.patience ≡ after_try (is_lost self.new.standing) self.old.patience) }
     {
         match self.standing {
             Standing::Lost(_) => {
@@ -120,6 +122,8 @@ impl<E: Ends + Drop> Keeper<E> {
         ensures left { (self.new.stops ≡ self.old.stops)
             × (self.new.bears_loss ≡ self.old.bears_loss) }
         ensures renews { Renews (E.deeds self.old.ends) gateway.now (E.deeds self.new.ends) }
+        ensures tried { self.new.patience
+            ≡ after_try (is_lost self.new.standing) self.old.patience }
     {
         match self.ends.begin(gateway) {
             Ok(()) => {
@@ -257,8 +261,13 @@ impl<E: Ends + Drop> Watched for Keeper<E> {
 
     ghost failure = { λ k. failure_of k.stops (E.failure k.ends) };
 
+    // Whatever of the ends isn't a failure is shown as they show it.
+    ghost shows = { λ k sight. E.shows k.ends (record sight { failure = E.failure k.ends }) };
+
     /// A port that isn't asked any more hasn't failed: the store has.
     fn sight(&self) -> EndsSight
+        ensures shows { E.shows self.now.ends
+            (record result { failure = E.failure self.now.ends }) }
         ensures failure { result.failure ≡ failure_of self.now.stops (E.failure self.now.ends) }
         ensures failed { is_some result.failure
             ≡ nat_lt 0 (E.failed self.now.ends + self.now.stops) }

@@ -14,7 +14,8 @@ ghost use Rattle.live.specs.declared.watched.Notice.TheVariants.{NotKept, KeptAg
 ghost use Rattle.state.specs.Deeds.{AreRight, Deeds, IsAllOnDisk, IsSafe, PutOut, Received};
 ghost use Rattle.state.specs.Deeds.{appended, loss_of, moment_of, on_disk, waiting};
 ghost use Rattle.state.specs.Origins.{IsBegun};
-ghost use Rattle.state.specs.Renewals.{after_notice, is_renewal_due, is_try_due, notice_of};
+ghost use Rattle.state.specs.Renewals.{after_notice, after_try, is_renewal_due, is_try_due};
+ghost use Rattle.state.specs.Renewals.{notice_of};
 ghost use Rattle.state.specs.Replays.{last_gap, whole_lines};
 ghost use Rattle.state.specs.Returns.{HasReturned, IsBegunOver};
 ghost use Rattle.state.specs.Stores.{head, led_to_head, safe, written};
@@ -76,6 +77,8 @@ pub fn renewals_by_example()
     ensures tries { (p : Patience) → (is_try_due (record p { tried = None }) ≡ true)
         × (is_try_due (record p { tried = Some 5000; moment = 14999 }) ≡ false)
         × (is_try_due (record p { tried = Some 5000; moment = 15000 }) ≡ true) }
+    ensures tried { (p : Patience) → ((after_try true p).tried ≡ Some p.moment)
+        × ((after_try false p).tried ≡ None) }
     ensures notices { (p : Patience) →
         (notice_of true (record p { logged = None }) ≡ Some NotKept)
         × (notice_of true (record p { logged = Some 5000; moment = 64999 }) ≡ None)

@@ -136,6 +136,8 @@ impl<P: Watched + Drop, S: Store + Drop> Ends for Pair<P, S> {
 
     ghost failure = { λ p. P.failure p.port };
 
+    ghost shows = { λ p sight. P.shows p.port sight };
+
     ghost deeds = { λ p. p.deeds };
 
     ghost grown = { λ p. length (S.stored p.store).text };
