@@ -1,4 +1,8 @@
 //! A listener at the place where a live run looks for its line.
+ghost use Rattle.std.specs.Prelude.{◌≡◌, ◌++◌, ℕ, IfErr, IfOk, List, codes};
+ghost use Rattle.std.specs.IoError.{error_kind};
+ghost use Rattle.stations.specs.Listening.{BeginsAs, IsListeningAt};
+
 use live::{
     Accepted, AllowList, CentreListener, CentreSocket, Got, Listener, LocalSocket, OctetStream,
     RefusedPeers,
