@@ -65,31 +65,35 @@ off_here n line lines run whole off = record {
 
 means : (n : ℕ) (lines run : List (List ℕ)) → Means n lines run (first_difference n lines run)
 means n [] run = (run, refl)
-means n (line ∷ lines) run = by_cut (is_cut line) refl
+means n (line ∷ lines) run =
+    by_cut n line lines run (λ r. means (n + 1) lines r) (is_cut line) refl
   where
-    by_first : (first : Bool) → (ahead : List (List ℕ)) → is_first line ahead ≡ first
-        → is_cut line ≡ false
+    by_first : (n : ℕ) (line : List ℕ) (lines : List (List ℕ)) (first : Bool)
+        (ahead : List (List ℕ)) → is_first line ahead ≡ first → is_cut line ≡ false
+        → ((r : List (List ℕ)) → Means (n + 1) lines r (first_difference (n + 1) lines r))
         → Means n (line ∷ lines) ahead
         (if first then first_difference (n + 1) lines (behind_first ahead) else Some n)
-    by_first false ahead is whole = off_here n line lines ahead whole is
-    by_first true [] is whole = absurd (none is)
+    by_first n line lines false ahead is whole later = off_here n line lines ahead whole is
+    by_first n line lines true [] is whole later = absurd (none is)
       where
         none : false ≡ true → ⊥
         none e = cc
-    by_first true (other ∷ ahead) is whole =
+    by_first n line lines true (other ∷ ahead) is whole later =
         subst (λ (l : List ℕ). Means n (line ∷ lines) (l ∷ ahead)
         (first_difference (n + 1) lines ahead)) ((bytes_eq-Decides line other).0 is)
-        (same_more n line lines ahead (first_difference (n + 1) lines ahead) whole
-        (means (n + 1) lines ahead))
+        (same_more n line lines ahead (first_difference (n + 1) lines ahead) whole (later ahead))
 
-    by_cut : (cut : Bool) → is_cut line ≡ cut
+    by_cut : (n : ℕ) (line : List ℕ) (lines run : List (List ℕ))
+        → ((r : List (List ℕ)) → Means (n + 1) lines r (first_difference (n + 1) lines r))
+        → (cut : Bool) → is_cut line ≡ cut
         → Means n (line ∷ lines) run
         (if cut then first_difference (n + 1) lines run
         else if is_first line run then first_difference (n + 1) lines (behind_first run)
         else Some n)
-    by_cut true is =
-        cut_more n line lines run (first_difference (n + 1) lines run) is (means (n + 1) lines run)
-    by_cut false is = by_first (is_first line run) run refl is
+    by_cut n line lines run later true is =
+        cut_more n line lines run (first_difference (n + 1) lines run) is (later run)
+    by_cut n line lines run later false is =
+        by_first n line lines (is_first line run) run refl is later
 
 pub none_is_same : (n : ℕ) (lines run : List (List ℕ)) → first_difference n lines run ≡ None
     → BeginsWith (uncut lines) run

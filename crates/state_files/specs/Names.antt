@@ -1,5 +1,5 @@
 -- What is done to the names of files in a directory (this gateway's own profile).
-use Rattle.std.specs.Prelude.{◌≡◌, ℕ, ◌<◌, ◌≤◌, Bool, true, false, List, [], ◌∷◌, ◌++◌, codes, Option}
+use Rattle.std.specs.Prelude.{◌≡◌, ℕ, ◌<◌, ◌≤◌, Bool, true, false, List, ◌∷◌, ◌++◌, codes, Option}
 use Rattle.std.specs.Prelude.{Some, None, Result, Ok, Err}
 use Rattle.std.specs.Fmt.{decimal}
 
@@ -15,11 +15,10 @@ pub data NameStep : Type 0 where
 abbrev pub Steps : Type 0
 Steps = Option (List NameStep)
 
--- with calls that came then, of which the last is the newest
-abbrev pub more : Steps → List NameStep → Steps
-more None steps = None
-more (Some before) [] = Some before
-more (Some before) (step ∷ steps) = more (Some (step ∷ before)) steps
+-- with one call more
+abbrev pub noted : Steps → NameStep → Steps
+noted None step = None
+noted (Some before) step = Some (step ∷ before)
 
 abbrev pub answer_of : {A E : Type 0} → Result A E → Option A
 answer_of (Ok answer) = Some answer
@@ -34,17 +33,17 @@ is_done (Err fault) = false
 abbrev pub IsMarkedAs : (from to : List ℕ) → (before after : Steps) → Type 0
 IsMarkedAs from to before after =
     (was_there : Bool)
-    × (after
-    ≡ more before (Renamed from to (Some was_there) ∷ Sought to (Some true) ∷ Synced true ∷ []))
+    × (after ≡ noted (noted (noted before (Renamed from to (Some was_there)))
+    (Sought to (Some true))) (Synced true))
 
 -- A file that says that the state is good stands there, or one that says that it isn't. Where none
 -- stood there, the first is made, and the names are synced.
 pub data HasMark (before after : Steps) : Type 0 where
-  Kept : after ≡ more before (Sought (codes "kept") (Some true) ∷ []) → HasMark before after
-  Stale : after ≡ more before (Sought (codes "kept") (Some false)
-      ∷ Sought (codes "stale") (Some true) ∷ []) → HasMark before after
-  New : after ≡ more before (Sought (codes "kept") (Some false)
-      ∷ Sought (codes "stale") (Some false) ∷ Made (codes "kept") true ∷ Synced true ∷ [])
+  Kept : after ≡ noted before (Sought (codes "kept") (Some true)) → HasMark before after
+  Stale : after ≡ noted (noted before (Sought (codes "kept") (Some false)))
+      (Sought (codes "stale") (Some true)) → HasMark before after
+  New : after ≡ noted (noted (noted (noted before (Sought (codes "kept") (Some false)))
+      (Sought (codes "stale") (Some false))) (Made (codes "kept") true)) (Synced true)
       → HasMark before after
 
 -- the name under which a file that couldn't be read is kept
@@ -58,9 +57,10 @@ pub record IsPutAside (before after : Steps) : Type 0 where
   pub most : number ≤ 9
   pub between : Steps
   pub free : number < 9 → (earlier : Steps)
-      × (between ≡ more earlier (Sought (unread_name number) (Some false) ∷ []))
+      × (between ≡ noted earlier (Sought (unread_name number) (Some false)))
   pub first : Bool
   pub second : Bool
-  pub renamed : after ≡ more between (Renamed (codes "segments") (unread_name number) (Some first)
-      ∷ Renamed (codes "segments-wal") (unread_name number ++ codes "-wal") (Some second)
-      ∷ Synced true ∷ [])
+  pub renamed : after
+      ≡ noted (noted (noted between (Renamed (codes "segments") (unread_name number) (Some first)))
+      (Renamed (codes "segments-wal") (unread_name number ++ codes "-wal") (Some second)))
+      (Synced true)

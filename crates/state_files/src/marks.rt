@@ -1,7 +1,7 @@
 //! What the names of files in a directory say of the state there.
-ghost use Rattle.std.specs.Prelude.{◌≡◌, ◌<◌, ◌≤◌, ◌∷◌, [], codes, false, true, IfOk, None, Some};
+ghost use Rattle.std.specs.Prelude.{◌≡◌, ◌<◌, ◌≤◌, codes, false, true, IfOk, None, Some};
 ghost use Rattle.state_files.specs.Names.{HasMark, IsMarkedAs, IsPutAside, Sought, Steps, Synced};
-ghost use Rattle.state_files.specs.Names.{more, unread_name};
+ghost use Rattle.state_files.specs.Names.{noted, unread_name};
 
 use crate::names::{Names, named};
 use std::alloc::Global;
@@ -53,8 +53,8 @@ impl<N: Names> Marks<N> {
     /// Whether the mark stands on the disk.
     pub(crate) fn is_stale(&mut self) -> io::Result<bool>
         ensures found { IfOk result (λ is_stale. N.steps self.new.names
-            ≡ more (N.steps self.old.names)
-            (Synced true ∷ Sought (codes "stale") (Some is_stale) ∷ [])) }
+            ≡ noted (noted (N.steps self.old.names) (Synced true))
+            (Sought (codes "stale") (Some is_stale))) }
         ensures mark { IfOk result (λ is_stale. self.new.mark ≡ Some is_stale) }
     {
         self.names.sync()?;
@@ -97,7 +97,7 @@ impl<N: Names> Marks<N> {
     fn unread_number(&mut self, alloc: Global) -> io::Result<u32>
         ensures range { IfOk result (λ n. (1 ≤ n) × (n ≤ 9)) }
         ensures free { IfOk result (λ n. n < 9 → (earlier : Steps) × (N.steps self.new.names
-            ≡ more earlier (Sought (unread_name n) (Some false) ∷ []))) }
+            ≡ noted earlier (Sought (unread_name n) (Some false)))) }
         ensures mark { self.new.mark ≡ self.old.mark }
     {
         for number in 1..MOST_UNREAD {

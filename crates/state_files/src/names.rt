@@ -1,5 +1,5 @@
 //! The names of files in a directory.
-ghost use Rattle.std.specs.Prelude.{◌≡◌, ◌++◌, ◌∷◌, IfOk, None, string_bytes};
+ghost use Rattle.std.specs.Prelude.{◌≡◌, ◌++◌, ◌∷◌, IfOk, None, Ok, string_bytes};
 
 use std::alloc::AllocError;
 use std::fs::OpenOptions;
@@ -18,9 +18,9 @@ pub(crate) fn named(name: Result<String, AllocError>) -> io::Result<String>
 
 /// The names of files in a directory.
 pub(crate) trait Names: Drop {
-    ghost use Rattle.std.specs.Prelude.{◌≡◌, ◌∷◌, []};
+    ghost use Rattle.std.specs.Prelude.{◌≡◌};
     ghost use Rattle.state_files.specs.Names.{Made, Renamed, Sought, Steps, Synced, answer_of};
-    ghost use Rattle.state_files.specs.Names.{is_done, more};
+    ghost use Rattle.state_files.specs.Names.{is_done, noted};
 
     /// The calls that were made, where they are kept.
     ghost steps: { Self → Steps };
@@ -28,20 +28,19 @@ pub(crate) trait Names: Drop {
     /// Renames a file. `false`: it isn't there.
     fn rename(&mut self, from: &str, to: &str) -> io::Result<bool>
         ensures { steps self.new
-            ≡ more (steps self.old) (Renamed from.now to.now (answer_of result) ∷ []) };
+            ≡ noted (steps self.old) (Renamed from.now to.now (answer_of result)) };
 
     /// Whether a file stands there.
     fn has(&mut self, name: &str) -> io::Result<bool>
-        ensures { steps self.new
-            ≡ more (steps self.old) (Sought name.now (answer_of result) ∷ []) };
+        ensures { steps self.new ≡ noted (steps self.old) (Sought name.now (answer_of result)) };
 
     /// Makes a file that is empty, unless it is there.
     fn make(&mut self, name: &str) -> io::Result<()>
-        ensures { steps self.new ≡ more (steps self.old) (Made name.now (is_done result) ∷ []) };
+        ensures { steps self.new ≡ noted (steps self.old) (Made name.now (is_done result)) };
 
     /// Syncs the names.
     fn sync(&mut self) -> io::Result<()>
-        ensures { steps self.new ≡ more (steps self.old) (Synced (is_done result) ∷ []) };
+        ensures { steps self.new ≡ noted (steps self.old) (Synced (is_done result)) };
 }
 
 /// A directory of the system.

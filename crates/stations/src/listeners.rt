@@ -1,8 +1,4 @@
 //! A listener at the place where a live run looks for its line.
-ghost use Rattle.std.specs.Prelude.{◌≡◌, ◌++◌, ℕ, IfErr, IfOk, List, codes};
-ghost use Rattle.std.specs.IoError.{error_kind};
-ghost use Rattle.stations.specs.Listening.{BeginsAs, IsListeningAt};
-
 use live::{
     Accepted, AllowList, CentreListener, CentreSocket, Got, Listener, LocalSocket, OctetStream,
     RefusedPeers,
@@ -28,6 +24,8 @@ impl<'a, R: Net<Listener = TcpListener, Stream = TcpStream> + Eprint + Files> Li
     /// # Errors
     ///
     /// Those of the system, and `InvalidInput` where the text is neither.
+    // What the system binds, and where, no clause can say: a listener holds a number of the
+    // system's alone (checks/stations.py connects by both ways).
     pub fn listen(rt: &'a R, place: &str) -> io::Result<LineListener<'a, R>> {
         if let Some(address) = place.strip_prefix("tcp:") {
             return Ok(LineListener::Tcp(CentreListener::listen(rt, address)?));
