@@ -11,11 +11,13 @@
 #![tactic(auto)]
 
 mod driving;
+mod laws;
 mod paged;
 mod printing;
 mod progress;
 
 pub use driving::drive_printed;
+pub use laws::percents_are_whole;
 pub use paged::Paged;
 pub use printing::{print, print_behind};
 pub use progress::{blank_if, show_percent};

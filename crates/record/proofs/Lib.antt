@@ -4,5 +4,6 @@ pub mod Recorded
 pub mod LineLemmas
 pub mod PassingLemmas
 pub mod CompareLemmas
+pub mod DifferenceLaw
 pub mod RunLemmas
 pub mod BlockLemmas

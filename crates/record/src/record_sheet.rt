@@ -1,5 +1,5 @@
 //! Where the text of a record goes.
-ghost use Rattle.std.specs.Prelude.{None};
+ghost use Rattle.std.specs.Prelude.{◌≡◌, None};
 
 use gateway::{Action, Next};
 use std::io::{Eprint, Print};
@@ -50,7 +50,9 @@ pub struct StandardOutput<'a, R> {
 
 impl<'a, R> StandardOutput<'a, R> {
     /// That of this process.
-    pub fn new(rt: &'a R) -> StandardOutput<'a, R> {
+    pub fn new(rt: &'a R) -> StandardOutput<'a, R>
+        ensures { result.rt.now ≡ rt.entry.now }
+    {
         StandardOutput { rt }
     }
 }

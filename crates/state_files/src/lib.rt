@@ -15,21 +15,23 @@
 //! mark counts as made or taken away only where the rename and the sync behind it have succeeded.
 #![tactic(auto)]
 
-ghost use Rattle.std.specs.Prelude.{◌≡◌, true};
+ghost use Rattle.std.specs.Prelude.{◌≡◌, IfOk, None, false, true};
+ghost use Rattle.std.specs.Option.{is_some};
+ghost use Rattle.state_files.specs.Faults.{fault_by, refusal_of};
+ghost use Rattle.std.specs.IoError.{error_kind};
 
 mod looking;
+mod marks;
+mod names;
 
+use crate::marks::Marks;
+use crate::names::SystemNames;
 pub use looking::{Stood, stood_in};
 use sqlite_disk::Files;
 use sqlite_std_file::{File, OpenError, Unknown};
 use state::{Folder, FolderFault};
-use std::alloc::AllocError;
-use std::fs::OpenOptions;
 use std::io::ErrorKind;
 use std::{fs, io};
-
-/// How many files that couldn't be read are kept.
-const MOST_UNREAD: u32 = 9;
 
 /// How often the lock is tried: some milliseconds. Who looks at the directory ([`stood_in`]) has it
 /// for a few microseconds.
@@ -38,12 +40,9 @@ const TRIES: u32 = 10_000;
 /// The directory of a state. It is made, and locked, where its files are opened first.
 #[derive(Drop)]
 pub struct Directory {
-    rt: HostRuntime,
-    path: String,
+    marks: Marks<SystemNames>,
     /// The file that is locked.
     lock: Option<fs::File>,
-    /// Whether the mark stands on the disk, where that is known.
-    mark: Option<bool>,
     /// Files that couldn't be read were put aside.
     has_put_aside: bool,
 }
@@ -61,7 +60,9 @@ fn lock(file: &fs::File) -> io::Result<bool> {
 }
 
 /// Why the system refused.
-fn fault_of(error: &io::Error) -> FolderFault {
+fn fault_of(error: &io::Error) -> FolderFault
+    ensures { result ≡ fault_by (error_kind error.now) }
+{
     match error.kind() {
         ErrorKind::Unsupported => FolderFault::Foreign,
         ErrorKind::OutOfMemory => FolderFault::NoMemory,
@@ -70,7 +71,9 @@ fn fault_of(error: &io::Error) -> FolderFault {
 }
 
 /// Why the two files aren't opened.
-fn refusal(error: &OpenError) -> FolderFault {
+fn refusal(error: &OpenError) -> FolderFault
+    ensures { result ≡ refusal_of error.now }
+{
     match error {
         OpenError::Busy => FolderFault::InUse,
         OpenError::HotJournal => FolderFault::Foreign,
@@ -79,130 +82,48 @@ fn refusal(error: &OpenError) -> FolderFault {
     }
 }
 
-/// What became of a call, where memory may be refused.
-fn named(name: Result<String, AllocError>) -> io::Result<String> {
-    match name {
-        Ok(name) => Ok(name),
-        Err(AllocError) => Err(ErrorKind::OutOfMemory.into()),
-    }
-}
-
 impl Directory {
     /// The directory at a path. Nothing is asked of the system yet.
-    pub fn new(rt: HostRuntime, path: String) -> Directory {
+    pub fn new(rt: HostRuntime, path: String) -> Directory
+        ensures { result ≡ record {
+          marks = record { names = record { rt = rt; path = path }; mark = None };
+          lock = None;
+          has_put_aside = false;
+        } }
+    {
         Directory {
-            rt,
-            path,
+            marks: Marks {
+                names: SystemNames { rt, path },
+                mark: None,
+            },
             lock: None,
-            mark: None,
             has_put_aside: false,
         }
     }
 
-    /// The path of a file in it.
-    fn path_of(&self, name: &str) -> io::Result<String> {
-        named(format!(in self.rt.alloc(); "{}/{name}", self.path))
-    }
-
-    /// Whether a file stands in it.
-    fn has(&self, name: &str) -> io::Result<bool> {
-        match fs::symlink_metadata(&self.rt, self.path_of(name)?.as_str()) {
-            Ok(_) => Ok(true),
-            Err(error) if error.kind() == ErrorKind::NotFound => Ok(false),
-            Err(error) => Err(error),
-        }
-    }
-
-    /// Syncs the names in it.
-    fn sync(&self) -> io::Result<()> {
-        fs::File::open(&self.rt, self.path.as_str())?.sync_all()
-    }
-
-    /// Renames a file in it, where it is there.
-    fn rename(&self, from: &str, to: &str) -> io::Result<()> {
-        let (from, to) = (self.path_of(from)?, self.path_of(to)?);
-        match fs::rename(&self.rt, from.as_str(), to.as_str()) {
-            Err(error) if error.kind() == ErrorKind::NotFound => Ok(()),
-            done => done,
-        }
-    }
-
-    /// Renames a file in it, and makes sure that the name is on the disk. Where it isn't there, a
-    /// file of the new name is.
-    fn mark_as(&self, from: &str, to: &str) -> io::Result<()> {
-        self.rename(from, to)?;
-        if !self.has(to)? {
-            return Err(ErrorKind::NotFound.into());
-        }
-        self.sync()
-    }
-
-    /// Makes a file that is empty, or opens it.
-    fn make(&self, name: &str) -> io::Result<fs::File> {
-        OpenOptions::new()
-            .read(true)
-            .write(true)
-            .create(true)
-            .open(&self.rt, self.path_of(name)?.as_str())
-    }
-
     /// Locks the directory, which is made where it isn't there. `false`: another process has it.
     fn take_lock(&mut self) -> io::Result<bool>
-        ensures { self.new.mark ≡ self.old.mark }
+        ensures mark { self.new.marks ≡ self.old.marks }
+        ensures locked { IfOk result (λ is_locked. is_locked ≡ is_some self.new.lock) }
     {
         if self.lock.is_some() {
             return Ok(true);
         }
-        fs::create_dir_all(&self.rt, self.path.as_str())?;
-        let file = self.make("lock")?;
+        let names = &self.marks.names;
+        fs::create_dir_all(&names.rt, names.path.as_str())?;
+        let file = names.opened("lock")?;
         let is_locked = lock(&file)?;
         if is_locked {
             self.lock = Some(file);
         }
         Ok(is_locked)
     }
-
-    /// Makes the file that says that the state is good, where none says anything.
-    fn make_kept(&self) -> io::Result<()> {
-        if !self.has("kept")? && !self.has("stale")? {
-            let _file = self.make("kept")?;
-            self.sync()?;
-        }
-        Ok(())
-    }
-
-    /// The first number under which no file that couldn't be read is kept, or the last one.
-    fn unread_number(&self) -> io::Result<u32> {
-        for number in 1..MOST_UNREAD {
-            let name = named(format!(in self.rt.alloc(); "unread-{number}"))?;
-            if !self.has(name.as_str())? {
-                return Ok(number);
-            }
-        }
-        Ok(MOST_UNREAD)
-    }
-
-    /// Renames both files.
-    fn set_aside(&self) -> io::Result<()> {
-        let number = self.unread_number()?;
-        let name = named(format!(in self.rt.alloc(); "unread-{number}"))?;
-        self.rename("segments", name.as_str())?;
-        let name = named(format!(in self.rt.alloc(); "unread-{number}-wal"))?;
-        self.rename("segments-wal", name.as_str())?;
-        self.sync()
-    }
-
-    /// Whether the mark stands on the disk.
-    fn look(&self) -> io::Result<bool> {
-        self.sync()?;
-        self.has("stale")
-    }
 }
 
 impl Folder for Directory {
     type File = File;
 
-    ghost mark = { λ d. d.mark };
+    ghost mark = { λ d. d.marks.mark };
 
     ghost aside = { λ d _ _. d.has_put_aside ≡ true };
 
@@ -212,51 +133,40 @@ impl Folder for Directory {
             Ok(false) => return Err(FolderFault::InUse),
             Err(error) => return Err(fault_of(&error)),
         }
-        if let Err(error) = self.make_kept() {
+        if let Err(error) = self.marks.make_kept() {
             return Err(fault_of(&error));
         }
-        let path = match self.path_of("segments") {
+        let names = &self.marks.names;
+        let path = match names.path_of("segments") {
             Ok(path) => path,
             Err(error) => return Err(fault_of(&error)),
         };
-        match sqlite_std_file::open(&self.rt, path.as_str(), Unknown) {
+        match sqlite_std_file::open(&names.rt, path.as_str(), Unknown) {
             Ok(files) => Ok(files),
             Err(error) => Err(refusal(&error)),
         }
     }
 
     fn is_stale(&mut self) -> Result<bool, FolderFault> {
-        match self.look() {
-            Ok(is_stale) => {
-                self.mark = Some(is_stale);
-                Ok(is_stale)
-            }
+        match self.marks.is_stale() {
+            Ok(is_stale) => Ok(is_stale),
             Err(error) => Err(fault_of(&error)),
         }
     }
 
     fn mark_stale(&mut self) -> bool {
-        self.mark = None;
-        let is_made = self.mark_as("kept", "stale").is_ok();
-        if is_made {
-            self.mark = Some(true);
-        }
-        is_made
+        self.marks.mark_stale()
     }
 
     fn unmark(&mut self) -> bool {
-        self.mark = None;
-        let is_taken = self.mark_as("stale", "kept").is_ok();
-        if is_taken {
-            self.mark = Some(false);
-        }
-        is_taken
+        self.marks.unmark()
     }
 
     fn put_aside(&mut self, newest: File, other: File) -> bool {
         drop(newest);
         drop(other);
-        self.has_put_aside = self.set_aside().is_ok();
+        let alloc = self.marks.names.rt.alloc();
+        self.has_put_aside = self.marks.set_aside(alloc).is_ok();
         self.has_put_aside
     }
 }

@@ -1,6 +1,9 @@
 //! A look at the directory of a state that changes nothing in it.
-ghost use Rattle.std.specs.Prelude.{IfOk, IsTrue};
-ghost use Rattle.sqlite_disk.specs.Memory.{memory_is_usable};
+ghost use Rattle.std.specs.Prelude.{◌≡◌, ◌++◌, ◌∷◌, [], IfOk, IsTrue, MatchOption, length, string_bytes};
+ghost use Rattle.std.specs.Io.KnownBytes.{ReadConsumes};
+ghost use Rattle.std.specs.Io.{ReadsAtMost};
+ghost use Rattle.sqlite_disk.specs.Memory.{memory_bytes, memory_is_usable};
+ghost use Rattle.state_files.specs.Copying.{IsCopied};
 
 use gateway::History;
 use sqlite_disk::{Disk, Files, Memory};
@@ -32,7 +35,11 @@ pub struct Stood {
 /// # Errors
 ///
 /// There is no such directory, a file of it can't be read, or memory was refused.
-pub fn stood_in(rt: &HostRuntime, path: &str) -> io::Result<Stood> {
+// What stands there, whether it is marked and whether another process has it, no clause can say:
+// that is what the system answers (checks/state.py compares it with what a run left).
+pub fn stood_in(rt: &HostRuntime, path: &str) -> io::Result<Stood>
+    ensures before { IfOk result (λ stood. stood.before.entries ≡ []) }
+{
     if !fs::metadata(rt, path)?.is_dir() {
         return Err(ErrorKind::NotADirectory.into());
     }
@@ -50,7 +57,9 @@ pub fn stood_in(rt: &HostRuntime, path: &str) -> io::Result<Stood> {
 }
 
 /// The path of a file in a directory.
-fn path_of(alloc: Global, path: &str, name: &str) -> io::Result<String> {
+fn path_of(alloc: Global, path: &str, name: &str) -> io::Result<String>
+    ensures { IfOk result (λ text. string_bytes text ≡ path.now ++ 47 ∷ name.now) }
+{
     match format!(in alloc; "{path}/{name}") {
         Ok(path) => Ok(path),
         Err(_) => Err(ErrorKind::OutOfMemory.into()),
@@ -102,7 +111,9 @@ fn held_in_memory(rt: &HostRuntime, path: &str, name: &str) -> io::Result<Memory
 }
 
 /// So many octets.
-fn room(alloc: Global, octets: usize) -> io::Result<Vec<u8>> {
+fn room(alloc: Global, octets: usize) -> io::Result<Vec<u8>>
+    ensures { IfOk result (λ room. length room.items ≡ octets) }
+{
     match vec![in alloc; 0; octets] {
         Ok(room) => Ok(room),
         Err(_) => Err(ErrorKind::OutOfMemory.into()),
@@ -110,39 +121,43 @@ fn room(alloc: Global, octets: usize) -> io::Result<Vec<u8>> {
 }
 
 /// What comes next; nothing at the end. A call that a signal interrupts is made again.
-fn next_piece<R: Read>(from: &mut R, room: &mut Vec<u8>) -> io::Result<usize> {
+fn next_piece<R: Read>(from: &mut R, room: &mut [u8]) -> io::Result<usize>
+    ensures bound { ReadsAtMost result room.new }
+    ensures bytes { ReadConsumes (R.remaining from.old) (R.remaining from.new) result room.new }
+{
     'reading: for _ in 0..u64::MAX {
         match from.read(room) {
             Err(fault) if fault.kind() == ErrorKind::Interrupted => {}
             read => return read,
         }
     }
-    Ok(0)
+    // No reader is stopped so often.
+    Err(ErrorKind::Interrupted.into())
 }
 
 /// Copies what comes, up to its end.
 fn copy<R: Read>(alloc: Global, from: &mut R, to: &mut Memory) -> io::Result<()>
     requires { IsTrue (memory_is_usable to.old) }
-    ensures { IsTrue (memory_is_usable to.new) }
+    ensures usable { IsTrue (memory_is_usable to.new) }
+    ensures whole { IfOk result (λ _. IsCopied (R.remaining from.old) to.old to.new) }
 {
     let mut room = room(alloc, PIECE)?;
     'copying: for _ in 0..u64::MAX {
-        let octets = next_piece(from, &mut room)?;
-        let Some(piece) = room.get(..octets) else {
-            return Ok(());
-        };
-        if piece.is_empty() {
+        let octets = next_piece(from, room.as_mut_slice())?;
+        if octets == 0 {
             return Ok(());
         }
-        append(to, piece)?;
+        append(to, &room.as_slice()[..octets])?;
     }
-    Ok(())
+    // No file has so many octets.
+    Err(ErrorKind::FileTooLarge.into())
 }
 
 /// Appends octets.
 fn append(to: &mut Memory, piece: &[u8]) -> io::Result<()>
     requires { IsTrue (memory_is_usable to.old) }
-    ensures { IsTrue (memory_is_usable to.new) }
+    ensures usable { IsTrue (memory_is_usable to.new) }
+    ensures whole { IfOk result (λ _. memory_bytes to.new ≡ memory_bytes to.old ++ piece.now) }
 {
     let at = to.bytes().len();
     to.write_at(at, piece)

@@ -12,3 +12,5 @@ pub mod Requesting
 pub mod Sizes
 pub mod Reporting
 pub mod Timing
+pub mod PlayLaws
+pub mod ReplyLaws

@@ -9,3 +9,4 @@ pub mod Replying
 pub mod Scenarios
 pub mod TimedServers
 pub mod Reporting
+pub mod Law

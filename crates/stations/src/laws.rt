@@ -1,18 +1,26 @@
 //! What holds of all outstations at a line.
-ghost use Rattle.std.specs.Prelude.{◌≡◌, ◌-◌, ◌≤◌, ◌++◌, [], List, ℕ, Bool, Option, None, Some};
-ghost use Rattle.std.specs.Prelude.{length};
+ghost use Rattle.std.specs.Prelude.{◌≡◌, ◌≢◌, ◌-◌, ◌<◌, ◌≤◌, ◌++◌, [], List, ℕ, Bool, Option};
+ghost use Rattle.std.specs.Prelude.{◌%◌, None, Some, IsSome, false, true, length, map, slice_get};
+ghost use Rattle.asdu.specs.Asdu.{AsduValue, IsAsdu};
+ghost use Rattle.asdu.specs.declared.sizes.Sizes.{Sizes};
 ghost use Rattle.ft12.specs.Spelling.{spelling};
 ghost use Rattle.ft12.specs.declared.frame.Frame.{Frame};
 ghost use Rattle.ft12.specs.declared.frame.LinkSize.{LinkSize};
 ghost use Rattle.link.specs.Requests.{reading_of};
 ghost use Rattle.link.specs.declared.request.Reading.TheVariants.{Foreign};
 ghost use Rattle.link.specs.Secondary.{Secondary, ReceivesOctets};
+ghost use Rattle.live.specs.OctetStreams.{StreamHistory};
+ghost use Rattle.sim.specs.declared.directive.Class.{Class};
 ghost use Rattle.stations.specs.Cues.{AreInPeriods, IsOneFrom, given_moments};
 ghost use Rattle.stations.specs.Exchanges.{Brings, ComesBack, RequestExchange, IsRequestAnswered};
 ghost use Rattle.stations.specs.Exchanges.{OutstationsState};
 ghost use Rattle.stations.specs.Exchanges.{next_number, requests_joined};
-ghost use Rattle.stations.specs.Late.{delay_of, late_behind, late_now};
-ghost use Rattle.stations.specs.Places.{LooksOn};
+ghost use Rattle.stations.specs.Late.{LateAnswer, delay_of, late_behind, late_now};
+ghost use Rattle.stations.specs.Law.{CouldReply, HadItsTurn, HasOneMore, IsAnswering};
+ghost use Rattle.stations.specs.Places.{LooksOn, LooksOnce, OutstationServer};
+ghost use Rattle.stations.specs.Replies.{IsReply, fits_line, is_command, is_select};
+ghost use Rattle.stations.specs.Replying.{Replies};
+ghost use Rattle.stations.specs.Reporting.{IsReported};
 ghost use Rattle.stations.specs.TimedServers.{IsRound, RoundsAt, TimedServer, WasHeld};
 ghost use Rattle.stations.specs.declared.cue.Timer.{Timer};
 
@@ -78,4 +86,77 @@ pub fn without_lines_of_their_own_all_stays()
     ensures { (moments : List ℕ) (old new : TimedServer) → old.place.standing.cues ≡ [] →
         old.place.standing.late ≡ None → RoundsAt moments old new →
         LooksOn (length moments) old.place new.place }
+{}
+
+/// What came on a connection before, and an answer that would have gone out late to it, changes
+/// nothing of what a look finds at which another one is accepted.
+pub fn a_connection_begins_anew()
+    ensures { (old new : OutstationServer) (look : LooksOnce old new) (stream : StreamHistory)
+        (so_far : List ℕ) (late : Option LateAnswer) → look.accepted ≡ Some stream →
+        LooksOnce (record old {
+          standing = record old.standing { late = late; so_far = so_far };
+        }) new }
+{}
+
+/// The time of a play begins in the first round in which a gateway is there, at that round's
+/// moment. It goes on from there, whoever comes and goes.
+pub fn time_begins_with_a_gateway()
+    ensures nobody { (now : ℕ) (old new : TimedServer) (round : IsRound now old new) →
+        old.start ≡ None → round.looked.stream ≡ None → new.start ≡ None }
+    ensures somebody { (now : ℕ) (old new : TimedServer) (round : IsRound now old new)
+        (stream : StreamHistory) → old.start ≡ None → round.looked.stream ≡ Some stream →
+        new.start ≡ Some now }
+    ensures stays { (moments : List ℕ) (old new : TimedServer) (start : ℕ) →
+        RoundsAt moments old new → old.start ≡ Some start → new.start ≡ Some start }
+{}
+
+/// In a round each line has its turn, at so many ms as have passed since the start, and then each
+/// station has its turn to reply.
+pub fn all_have_a_turn_in_each_round()
+    ensures lines { (now start i : ℕ) (old new : TimedServer) (round : IsRound now old new) →
+        new.start ≡ Some start → now - start ≤ 999999999999999 →
+        i < length round.sent.standing.cues → HadItsTurn (now - start) i round.sent.standing }
+    ensures stations { (now i : ℕ) (old new : TimedServer) (round : IsRound now old new) →
+        i < length round.reported.standing.stations → CouldReply i round.reported.standing }
+{}
+
+/// A report that a station takes stands behind those of its class, of which at most 64 waited less
+/// one; no other class and no other station has anything more. One that it doesn't take changes
+/// nothing.
+pub fn reports_stand_behind_those_of_their_class()
+    ensures here { (i : ℕ) (class : Class) (report : List ℕ) (old new : OutstationsState)
+        (s : Secondary) → IsReported i class report old true new →
+        slice_get old.stations i ≡ Some s →
+        (t : Secondary) × (slice_get new.stations i ≡ Some t) × HasOneMore class report s t }
+    ensures others { (i j : ℕ) (class : Class) (report : List ℕ) (old new : OutstationsState)
+        (is_taken : Bool) → IsReported i class report old is_taken new → j ≢ i →
+        slice_get new.stations j ≡ slice_get old.stations j }
+    ensures few { (i n : ℕ) (class : Class) (report : List ℕ) (old new : OutstationsState)
+        (s : Secondary) → IsReported i class report old true new →
+        slice_get old.had i ≡ Some n → slice_get old.stations i ≡ Some s → n - s.given < 64 }
+    ensures left { (i : ℕ) (class : Class) (report : List ℕ) (old new : OutstationsState) →
+        IsReported i class report old false new → new ≡ old }
+{}
+
+/// A reply to a command has its octets but for the cause (IEC 60870-5-101, 7.2.3): the cause of the
+/// confirmation, which is negative if the station refuses, or of the termination. T stays as it is.
+/// An activation is confirmed, and then terminated, unless it is refused or selects. Replies are
+/// reports of class 1.
+pub fn replies_answer_their_commands()
+    ensures replies { (size : LinkSize) (sizes : Sizes) (refuses is_confirmed : Bool)
+        (command reply : List ℕ) (v : AsduValue) → IsAsdu sizes v command →
+        IsReply size sizes refuses is_confirmed command (Some reply) →
+        IsAnswering refuses is_confirmed v command reply }
+    ensures confirmed { (size : LinkSize) (sizes : Sizes) (refuses : Bool) (command : List ℕ)
+        (reply : Option (List ℕ)) (v : AsduValue) → IsAsdu sizes v command →
+        is_command v.kind ≡ true → v.cause % 64 ≡ 6 → fits_line size command ≡ true →
+        IsReply size sizes refuses false command reply → IsSome reply }
+    ensures terminated { (size : LinkSize) (sizes : Sizes) (command : List ℕ)
+        (reply : Option (List ℕ)) (v : AsduValue) → IsAsdu sizes v command →
+        is_command v.kind ≡ true → v.cause % 64 ≡ 6 → is_select v ≡ false →
+        fits_line size command ≡ true →
+        IsReply size sizes false true command reply → IsSome reply }
+    ensures urgent { (i : ℕ) (old new : OutstationsState) → Replies i old new →
+        map (λ (s : Secondary). s.class2) new.stations
+        ≡ map (λ (s : Secondary). s.class2) old.stations }
 {}

@@ -5,6 +5,7 @@
 
 mod cue;
 mod cue_line;
+mod examples;
 mod late;
 mod laws;
 mod listeners;
@@ -17,9 +18,13 @@ mod scenario;
 mod timed_server;
 
 pub use cue::{Cue, Timer};
+pub use examples::lines_are_read_by_example;
 pub use laws::{
-    late_answers_go_out_when_due, reports_come_at_their_moments, requests_are_what_came,
-    stations_take_their_own_requests_alone, without_lines_of_their_own_all_stays,
+    a_connection_begins_anew, all_have_a_turn_in_each_round, late_answers_go_out_when_due,
+    replies_answer_their_commands, reports_come_at_their_moments,
+    reports_stand_behind_those_of_their_class, requests_are_what_came,
+    stations_take_their_own_requests_alone, time_begins_with_a_gateway,
+    without_lines_of_their_own_all_stays,
 };
 pub use listeners::{GatewaySocket, LineListener};
 pub use outstations::Outstations;

@@ -1,3 +1,4 @@
 pub mod SeatLemmas
 pub mod Sheets
 pub mod WordLemmas
+pub mod JudgeLaws

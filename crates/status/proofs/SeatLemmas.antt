@@ -1,6 +1,6 @@
 -- What a visitor was written is a beginning of the answer.
 use Rattle.std.proofs.Common.{◌≡◌, ℕ, ◌+◌, ◌-◌, ◌<◌, ◌≤◌, List, [], ◌∷◌, ◌++◌, length, take, drop}
-use Rattle.std.proofs.Common.{set, suc, min, inl, inr, Some, None, refl, sym, ap, subst, ◌∙◌, arith}
+use Rattle.std.proofs.Common.{◌^◌, Bool, true, false, not, set, suc, min, inl, inr, Some, None, refl, sym, ap, subst, ◌∙◌, arith}
 use Rattle.std.proofs.Common.{append_assoc, length-append, length-drop}
 use Rattle.std.proofs.Math.Nat.{eq-or-lt_of_le}
 use Rattle.std.proofs.Math.Seq.{take-add, take-suc-set, drop-append-add}
@@ -9,11 +9,15 @@ use Rattle.std.proofs.lemmas.List.{take_rest, take_all, length-take-le}
 use Rattle.std.proofs.lemmas.List.Elements.{All-append, All-cons, All-nil}
 use Rattle.std.specs.List.{All}
 use Rattle.status.specs.TextPage.{Sheet, empty, put, text_with}
-use Rattle.status.specs.Seats.{IsNext, IsKept, Receives, answer_on, cleared}
-use Rattle.status.specs.Streams.{Passed, IsNew, more_passed}
+use Rattle.status.specs.Seats.{Hands, IsCallIn, IsKept, IsNext, IsTurn, Looks, Receives}
+use Rattle.status.specs.Seats.{answer_on, cleared}
+use Rattle.status.specs.Streams.{Calls, Finished, Handed, IsNew, Looked, Passed, is_over}
+use Rattle.status.specs.Streams.{more_passed}
 use Rattle.status.specs.declared.seat.Desk.{Desk}
 use Rattle.status.specs.declared.seat.VisitStage.{VisitStage}
 use Rattle.status.specs.declared.seat.VisitStage.TheVariants.{Receiving, Answering, Leaving}
+use Rattle.status.specs.declared.streams.StreamLook.{StreamLook}
+use Rattle.status.specs.declared.streams.Took.{Took}
 use Rattle.status.proofs.Sheets.{text_with_append}
 
 -- one piece more
@@ -82,7 +86,7 @@ next_in_body h b piece sent most le some is =
 none_some : {A : Type 0} {x : A} → None ≡ Some x → ⊥
 none_some e = cc
 
-some_same : {A : Type 0} {x y : A} → Some x ≡ Some y → x ≡ y
+pub some_same : {A : Type 0} {x y : A} → Some x ≡ Some y → x ≡ y
 some_same e = cc
 
 -- what keeps none goes on so; what keeps them had the beginning of what it has now
@@ -232,3 +236,69 @@ all_more P xs i x lt before here =
 pub all_done : {X : Type 0} (P : X → Type 0) (xs : List X) (i : ℕ) → length xs ≤ i
     → All P (take i xs) → All P xs
 all_done P xs i le all = subst (All P) (take_all i xs le) all
+
+-- The call of a turn
+
+looked_finished : {A : Type 0} (found : StreamLook) → Looked found ≡ Finished → A
+looked_finished found e = cc
+
+not_over : (b stays : Bool) → stays ≡ not b → b ≡ true → stays ≡ false
+not_over true stays is e = is
+not_over false stays is e = cc
+
+over : {A : Type 0} (b stays : Bool) → stays ≡ not b → stays ≡ false → b ≡ false → A
+over true stays is gone e = cc
+over false stays is gone e = cc
+
+-- a look while the request comes
+pub turn_received : (before after : Calls) (stage later : VisitStage) (stays : Bool) (d : Desk)
+    → stage ≡ Receiving → Looks before after stays → IsTurn before after stage later stays d
+turn_received before after stage later stays d at (found, calls, is) = record {
+  call = Looked found;
+  fits = subst (λ (v : VisitStage). IsCallIn v (Looked found)) (sym at) tt;
+  called = calls;
+  over = not_over (is_over (Looked found)) stays is;
+  goes = λ gone here. over (is_over (Looked found)) stays is gone here;
+  finished = looked_finished found;
+  unfinished = λ _ other _. absurd (answering_receiving (sym other ∙ at));
+  left = λ _ other. absurd (leaving_receiving (sym other ∙ at));
+}
+
+-- a look while the visitor leaves
+pub turn_left : (before after : Calls) (stage later : VisitStage) (stays : Bool) (d : Desk)
+    → stage ≡ Leaving → later ≡ stage → Looks before after stays
+    → IsTurn before after stage later stays d
+turn_left before after stage later stays d at same (found, calls, is) = record {
+  call = Looked found;
+  fits = subst (λ (v : VisitStage). IsCallIn v (Looked found)) (sym at) tt;
+  called = calls;
+  over = not_over (is_over (Looked found)) stays is;
+  goes = λ gone here. over (is_over (Looked found)) stays is gone here;
+  finished = looked_finished found;
+  unfinished = λ _ other _. absurd (answering_leaving (sym other ∙ at));
+  left = λ _ _. same ∙ at;
+}
+
+handed_finished : {A : Type 0} (taken : Took) → Handed taken ≡ Finished → A
+handed_finished taken e = cc
+
+-- octets were handed over
+pub turn_handed : (before after : Calls) (stage later : VisitStage) (there stays : Bool) (d : Desk)
+    → stage ≡ Answering → later ≡ stage → Hands before after there
+    → (there ≡ false → stays ≡ false)
+    → (there ≡ true → stays ≡ false → 2 ^ 64 ≤ length (answer_on d))
+    → IsTurn before after stage later stays d
+turn_handed before after stage later there stays d at same (taken, calls, is) gone long = record {
+  call = Handed taken;
+  fits = subst (λ (v : VisitStage). IsCallIn v (Handed taken)) (sym at) tt;
+  called = calls;
+  over = λ e. gone (not_over (is_over (Handed taken)) there is e);
+  goes = λ ends e. long (still (is_over (Handed taken)) there is e) ends;
+  finished = handed_finished taken;
+  unfinished = λ _ _ _. same ∙ at;
+  left = λ _ other. absurd (answering_leaving (sym at ∙ other));
+}
+  where
+    still : (b there : Bool) → there ≡ not b → b ≡ false → there ≡ true
+    still true there is e = cc
+    still false there is e = is

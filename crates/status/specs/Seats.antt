@@ -1,10 +1,11 @@
 -- A visitor's seat (this gateway's own profile).
-use Rattle.std.specs.Prelude.{◌≡◌, ◌≢◌, ℕ, ◌-◌, ◌<◌, ◌≤◌, List, ◌++◌, length, take, drop, Option}
-use Rattle.std.specs.Prelude.{Some, None}
+use Rattle.std.specs.Prelude.{◌≡◌, ◌≢◌, ℕ, ◌-◌, ◌^◌, ◌<◌, ◌≤◌, Bool, true, false, not, List, ◌++◌}
+use Rattle.std.specs.Prelude.{length, take, drop, Option, Some, None}
 use Rattle.status.specs.Answer.{body_sent, head_of}
 use Rattle.status.specs.TextPage.{Sheet, empty, put, shown}
 use Rattle.status.specs.Request.{Asks}
-use Rattle.status.specs.Streams.{Passed, more_passed}
+use Rattle.status.specs.Streams.{Calls, Finished, Handed, Looked, Passed, StreamCall, called}
+use Rattle.status.specs.Streams.{is_over, more_passed}
 use Rattle.status.specs.declared.request.Inquiry.{Inquiry}
 use Rattle.status.specs.declared.request.Inquiry.TheVariants.{Nothing, TooLong}
 use Rattle.status.specs.declared.seat.Desk.{Desk}
@@ -12,6 +13,8 @@ use Rattle.status.specs.declared.seat.VisitStage.{VisitStage}
 use Rattle.status.specs.declared.seat.VisitStage.TheVariants.{Receiving, Answering, Leaving}
 use Rattle.status.specs.declared.seat.TheConstants.{REQUEST_ROOM, HEAD_ROOM, BODY_ROOM}
 use Rattle.status.specs.declared.snapshot.Snapshot.{Snapshot}
+use Rattle.status.specs.declared.streams.StreamLook.{StreamLook}
+use Rattle.status.specs.declared.streams.Took.{Took}
 
 abbrev pub fresh_desk : Desk
 fresh_desk = record { request = empty REQUEST_ROOM; head = empty HEAD_ROOM; body = empty BODY_ROOM }
@@ -74,3 +77,42 @@ Turned Leaving now s before after = after ≡ before
 -- somebody who came then has been there for less than two seconds
 abbrev pub IsYoung : (now since : ℕ) → Type 0
 IsYoung now since = now - since < 2000
+
+-- a look at a stream, and whether the other end is still there
+abbrev pub Looks : (before after : Calls) → (is_there : Bool) → Type 0
+Looks before after is_there =
+    (found : StreamLook) × (after ≡ called before (Looked found))
+    × (is_there ≡ not (is_over (Looked found)))
+
+-- octets were handed over, and whether the other end is still there
+abbrev pub Hands : (before after : Calls) → (is_there : Bool) → Type 0
+Hands before after is_there =
+    (taken : Took) × (after ≡ called before (Handed taken))
+    × (is_there ≡ not (is_over (Handed taken)))
+
+-- The call of a turn: a look while the request comes, and while the visitor leaves. In between
+-- octets are handed over, or, once all have gone, the stream is finished.
+abbrev pub IsCallIn : VisitStage → StreamCall → Type 0
+IsCallIn Receiving (Looked found) = Unit {0}
+IsCallIn Receiving (Handed taken) = ⊥
+IsCallIn Receiving Finished = ⊥
+IsCallIn Answering (Looked found) = ⊥
+IsCallIn Answering (Handed taken) = Unit {0}
+IsCallIn Answering Finished = Unit {0}
+IsCallIn Leaving (Looked found) = Unit {0}
+IsCallIn Leaving (Handed taken) = ⊥
+IsCallIn Leaving Finished = ⊥
+
+-- A turn has one call of the stream. The visitor stays unless the other end isn't there any more,
+-- and leaves once the stream is finished; else the stage stays, or the answer has been made.
+pub record IsTurn (before after : Calls) (stage later : VisitStage) (stays : Bool) (d : Desk)
+    : Type 0 where
+  pub call : StreamCall
+  pub fits : IsCallIn stage call
+  pub called : after ≡ called before call
+  pub over : is_over call ≡ true → stays ≡ false
+  -- no answer is that long
+  pub goes : stays ≡ false → is_over call ≡ false → 2 ^ 64 ≤ length (answer_on d)
+  pub finished : call ≡ Finished → later ≡ Leaving
+  pub unfinished : stays ≡ true → stage ≡ Answering → call ≢ Finished → later ≡ Answering
+  pub left : stays ≡ true → stage ≡ Leaving → later ≡ Leaving

@@ -1,5 +1,6 @@
 -- What a stream gives and takes, and what it keeps of it (this gateway's own profile).
-use Rattle.std.specs.Prelude.{◌≡◌, ℕ, ◌≤◌, List, [], ◌++◌, take, Option, Some, None}
+use Rattle.std.specs.Prelude.{◌≡◌, ℕ, ◌≤◌, Bool, true, false, List, [], ◌∷◌, ◌++◌, take, Option}
+use Rattle.std.specs.Prelude.{Some, None}
 use Rattle.status.specs.declared.streams.StreamLook.{StreamLook}
 use Rattle.status.specs.declared.streams.StreamLook.TheVariants as got
 use Rattle.status.specs.declared.streams.Took.{Took}
@@ -39,3 +40,26 @@ IsNew (Some before) = before ≡ []
 abbrev pub Holds : Passed → List ℕ → Type 0
 Holds None octets = Unit {0}
 Holds (Some before) octets = before ≡ octets
+
+-- what a stream was called for, and what it answered
+pub data StreamCall : Type 0 where
+  Looked : StreamLook → StreamCall
+  Handed : Took → StreamCall
+  Finished : StreamCall
+
+-- the calls of a stream, the newest first, where it keeps them
+abbrev pub Calls : Type 0
+Calls = Option (List StreamCall)
+
+abbrev pub called : Calls → StreamCall → Calls
+called None call = None
+called (Some before) call = Some (call ∷ before)
+
+-- the other end isn't there any more
+abbrev pub is_over : StreamCall → Bool
+is_over (Looked (got.Octets len)) = false
+is_over (Looked got.Quiet) = false
+is_over (Looked got.Gone) = true
+is_over (Handed (took.Octets count)) = false
+is_over (Handed took.Nothing) = true
+is_over Finished = false

@@ -2,9 +2,11 @@
 ghost use Rattle.std.specs.Prelude.{◌≡◌, ◌∷◌, ◌++◌, [], codes, true, false, Some, None};
 ghost use Rattle.status.specs.Answer.{head_text};
 ghost use Rattle.status.specs.Hour.{noted};
+ghost use Rattle.status.specs.Json.{json_before_hour, json_before_peer, json_before_stations};
+ghost use Rattle.status.specs.Json.{json_of_station};
 ghost use Rattle.status.specs.Html.{depth};
 ghost use Rattle.status.specs.Judge.{is_lost};
-ghost use Rattle.status.specs.Metrics.{gauge_text};
+ghost use Rattle.status.specs.Metrics.{families_text, gauge_text, gauges_text};
 ghost use Rattle.status.specs.Reply.{exit_status};
 ghost use Rattle.status.specs.Request.{asked_by};
 ghost use Rattle.status.specs.Texts.{age_or, age_text};
@@ -12,6 +14,10 @@ ghost use Rattle.status.specs.Words.{escaped, listed, right};
 ghost use Rattle.std.specs.Fmt.{decimal};
 ghost use Rattle.status.specs.declared.request.Inquiry.TheVariants as asked;
 ghost use Rattle.status.specs.declared.request.View.TheVariants as view;
+ghost use Rattle.status.specs.declared.snapshot.Keeping.TheVariants.{NotKept};
+ghost use Rattle.status.specs.declared.snapshot.LinkState.TheVariants as stands;
+ghost use Rattle.status.specs.declared.snapshot.Snapshot.{Snapshot};
+ghost use Rattle.status.specs.declared.snapshot.StationView.{StationView};
 ghost use Rattle.status.specs.declared.words.Marks.TheVariants.{Json, Label, Html, Plain};
 
 /// What is written in place of octets that mean something else: in a JSON string (RFC 8259,
@@ -62,4 +68,44 @@ pub fn answers_by_example()
         ≡ record { numbers = 3 ∷ 7 ∷ []; noted_ms = Some 60000 })
         × (noted 59999 7 (record { numbers = 3 ∷ []; noted_ms = Some 0 })
         ≡ record { numbers = 3 ∷ []; noted_ms = Some 0 }) }
+{}
+
+/// Which number stands under which name, in JSON and for Prometheus: of a station, and of all
+/// else. Each number is another one.
+pub fn pages_by_example()
+    ensures station { (s : StationView) → s.name.now ≡ codes "Mill" →
+        json_of_station (record s {
+          address = 1; common_address = 2; standing = stands.Silent; since_ms = 3;
+          last_report_ms = Some 4; reports = 5; skipped = 6; gaps = 7; commands = 8;
+        })
+        ≡ codes "{\"name\":\"Mill\",\"address\":1,\"common_address\":2,"
+        ++ codes "\"standing\":\"silent\",\"since_ms\":3,\"last_report_ms\":4,\"reports\":5,"
+        ++ codes "\"skipped\":6,\"gaps\":7,\"commands\":8}" }
+    ensures centre { (s : Snapshot) →
+        json_before_hour (record s {
+          centre = record s.centre { is_started = true; since_ms = 1; unacknowledged = 2 };
+          queue = record s.queue { taken = 3; places = 4 };
+        })
+        ≡ codes ",\"started\":true,\"since_ms\":1,\"unacknowledged\":2},\"queue\":{"
+        ++ codes "\"taken\":3,\"places\":4,\"hour\":[" }
+    ensures state { (s : Snapshot) → json_before_stations (record s { keeping = NotKept })
+        ≡ codes "]},\"state\":\"not kept\",\"stations\":[" }
+    ensures families { (s : StationView) →
+        families_text (record s {
+          address = 1; standing = stands.Up; reports = 5; skipped = 6; gaps = 7; commands = 8;
+        } ∷ [])
+        ≡ codes "# HELP telegate_station_up Whether the outstation answers.\n"
+        ++ codes "# TYPE telegate_station_up gauge\ntelegate_station_up{station=\"1\"} 1\n"
+        ++ codes "# HELP telegate_station_reports_total Reports that the outstation has given.\n"
+        ++ codes "# TYPE telegate_station_reports_total counter\n"
+        ++ codes "telegate_station_reports_total{station=\"1\"} 5\n"
+        ++ codes "# HELP telegate_station_skipped_total Reports of the outstation that could not"
+        ++ codes " be used.\n# TYPE telegate_station_skipped_total counter\n"
+        ++ codes "telegate_station_skipped_total{station=\"1\"} 6\n"
+        ++ codes "# HELP telegate_station_gaps_total How often reports of the outstation may have"
+        ++ codes " been lost.\n# TYPE telegate_station_gaps_total counter\n"
+        ++ codes "telegate_station_gaps_total{station=\"1\"} 7\n"
+        ++ codes "# HELP telegate_station_commands_total Commands that went to the outstation.\n"
+        ++ codes "# TYPE telegate_station_commands_total counter\n"
+        ++ codes "telegate_station_commands_total{station=\"1\"} 8\n" }
 {}

@@ -1,6 +1,10 @@
 //! What the definitions mean.
 ghost use Rattle.std.specs.Prelude.{◌≡◌, ◌<◌, ◌≤◌, ℕ, List, length, Some, None};
+ghost use Rattle.status.specs.Judge.{judgement_of};
+ghost use Rattle.status.specs.Law.{IsTrouble, IsWell};
 ghost use Rattle.status.specs.TextPage.{empty, put};
+ghost use Rattle.status.specs.declared.judging.Judgement.TheVariants.{Critical, Ok};
+ghost use Rattle.status.specs.declared.snapshot.Snapshot.{Snapshot};
 
 /// What is put on an empty page stands there whole where it finds room, and else nothing does: no
 /// page goes out that breaks off.
@@ -9,4 +13,16 @@ pub fn a_text_stands_whole_or_not_at_all()
         (put text (empty room)).text ≡ Some text }
     ensures none { (room : ℕ) (text : List ℕ) → room < length text →
         (put text (empty room)).text ≡ None }
+{}
+
+/// What a monitor reads in a judgement, of every snapshot. It is critical exactly if the line has
+/// been away for a minute, no control centre is connected, fewer than three places are free, or the
+/// state is to be kept and can't be. All is well exactly if the line is there, a control centre is
+/// connected, at most half of the queue is taken and three places are free, each station that was
+/// asked answers, and the state is kept if it is to be.
+pub fn judgements_mean_what_they_say()
+    ensures critical { (s : Snapshot) → judgement_of s ≡ Critical → IsTrouble s }
+    ensures trouble { (s : Snapshot) → IsTrouble s → judgement_of s ≡ Critical }
+    ensures ok { (s : Snapshot) → judgement_of s ≡ Ok → IsWell s }
+    ensures well { (s : Snapshot) → IsWell s → judgement_of s ≡ Ok }
 {}

@@ -44,10 +44,10 @@ mod texts;
 mod visitors;
 mod words;
 
-pub use examples::{answers_by_example, texts_by_example};
+pub use examples::{answers_by_example, pages_by_example, texts_by_example};
 pub use hour::Hour;
 pub use judging::{Judgement, judge};
-pub use laws::a_text_stands_whole_or_not_at_all;
+pub use laws::{a_text_stands_whole_or_not_at_all, judgements_mean_what_they_say};
 pub use reply::{UNKNOWN, body_of, exit_status};
 pub use snapshot::{
     CentreView, Keeping, LineView, LinkState, Queue, Setting, Snapshot, StationView,

@@ -1,12 +1,15 @@
 //! A visitor's seat: what was received of who sits there, and the answer on its way.
 ghost use Rattle.std.specs.Prelude.{◌≡◌, ◌≤◌, ◌<◌, ◌^◌, length, min, take, IfOk, IfSome, None};
+ghost use Rattle.std.specs.Prelude.{Bool, Some, if◌then◌else◌};
 ghost use Rattle.std.proofs.Props.{props};
 ghost use Rattle.std.specs.Bool.{OnTrue};
-ghost use Rattle.std.specs.Option.{ForSome, is_none};
+ghost use Rattle.std.specs.Option.{ForSome, is_none, is_some};
 ghost use Rattle.status.specs.TextPage.{shown};
-ghost use Rattle.status.specs.Seats.{Answers, Turned, Receives, IsAsked, IsKept, IsNext, IsYoung};
+ghost use Rattle.status.specs.Seats.{Answers, Turned, Receives, IsAsked, IsKept, IsNext, IsTurn};
+ghost use Rattle.status.specs.Seats.{Hands, IsYoung, Looks};
 ghost use Rattle.status.specs.Seats.{answer_on, cleared, fresh_desk};
 ghost use Rattle.status.specs.Streams.{IsNew, more_passed};
+ghost use Rattle.status.specs.declared.seat.Client.{Client};
 
 use crate::answer::make_answer;
 use crate::page::TextPage;
@@ -108,6 +111,7 @@ impl Desk {
 fn receive<S: Stream>(stream: &mut S, request: &mut TextPage) -> bool
     ensures given { Receives (S.given stream.old) request.old (S.given stream.new) request.new }
     ensures taken { S.taken stream.new ≡ S.taken stream.old }
+    ensures looks { Looks (S.calls stream.old) (S.calls stream.new) result }
 {
     let mut octets = [0; 1024];
     match stream.read(&mut octets) {
@@ -123,6 +127,7 @@ fn receive<S: Stream>(stream: &mut S, request: &mut TextPage) -> bool
 /// Drops what still comes. `false` says that the visitor has gone.
 fn drain<S: Stream>(stream: &mut S) -> bool
     ensures taken { S.taken stream.new ≡ S.taken stream.old }
+    ensures looks { Looks (S.calls stream.old) (S.calls stream.new) result }
 {
     let mut octets = [0; 1024];
     !matches!(stream.read(&mut octets), StreamLook::Gone)
@@ -134,6 +139,7 @@ fn send<S: Stream>(stream: &mut S, octets: &[u8]) -> Option<usize>
     ensures taken { IfSome result (λ count.
         S.taken stream.new ≡ more_passed (S.taken stream.old) (take count octets.now)) }
     ensures given { S.given stream.new ≡ S.given stream.old }
+    ensures hands { Hands (S.calls stream.old) (S.calls stream.new) (is_some result) }
 {
     match stream.write(octets) {
         Took::Octets(count) => Some(count),
@@ -161,6 +167,8 @@ fn receive_more<S: Stream>(client: &mut Client<S>, desk: &mut Desk, snapshot: &S
         client.new.stage client.new.sent desk.new) }
     ensures since { client.new.since_ms ≡ client.old.since_ms }
     ensures answers { OnTrue result (Answers client.new.stage snapshot.now desk.old desk.new) }
+    ensures turn { IsTurn (S.calls client.old.stream) (S.calls client.new.stream) client.old.stage
+        client.new.stage result desk.old }
 {
     if !receive(&mut client.stream, &mut desk.request) {
         return false;
@@ -183,6 +191,8 @@ fn send_more<S: Stream>(client: &mut Client<S>, desk: &Desk) -> bool
     ensures kept { OnTrue result (IsKept (S.given client.new.stream) (S.taken client.new.stream)
         client.new.stage client.new.sent desk.now) }
     ensures since { client.new.since_ms ≡ client.old.since_ms }
+    ensures turn { IsTurn (S.calls client.old.stream) (S.calls client.new.stream) client.old.stage
+        client.new.stage result desk.now }
 {
     let piece = desk.next(client.sent);
     if piece.is_empty() {
@@ -210,6 +220,8 @@ fn take_turn<S: Stream>(client: &mut Client<S>, desk: &mut Desk, snapshot: &Snap
     ensures since { client.new.since_ms ≡ client.old.since_ms }
     ensures answers { OnTrue result (Turned client.old.stage client.new.stage snapshot.now
         desk.old desk.new) }
+    ensures turn { IsTurn (S.calls client.old.stream) (S.calls client.new.stream) client.old.stage
+        client.new.stage result desk.old }
 {
     match client.stage {
         VisitStage::Receiving => receive_more(client, desk, snapshot),
@@ -250,6 +262,13 @@ impl<S: Stream> Seat<S> {
     pub(crate) fn admit(&mut self, stream: S, now_ms: u64)
         requires given { IsNew (S.given stream) }
         requires taken { IsNew (S.taken stream) }
+        ensures here { self.new.client ≡ Some (record {
+          stream = stream;
+          since_ms = now_ms;
+          stage = VisitStage.Receiving;
+          sent = 0;
+        }) }
+        ensures clear { self.new.desk ≡ cleared self.old.desk }
     {
         self.client = None;
         self.desk.clear();
@@ -264,6 +283,11 @@ impl<S: Stream> Seat<S> {
     /// Reads once, or writes once. Who has been there for two seconds goes.
     pub(crate) fn turn(&mut self, now_ms: u64, snapshot: &Snapshot<'_>)
         ensures young { ForSome self.new.client (λ g. IsYoung now_ms g.since_ms) }
+        ensures free { self.old.client ≡ None → self.new.client ≡ None }
+        ensures turned { (g : Client S) → self.old.client ≡ Some g → IsYoung now_ms g.since_ms →
+            (after : Client S) × (stays : Bool) × IsTurn (S.calls g.stream) (S.calls after.stream)
+            g.stage after.stage stays self.old.desk
+            × (self.new.client ≡ (if stays then Some after else None)) }
     {
         // Who isn't put back is gone: dropping the stream closes it.
         let Some(mut client) = self.client.take() else {

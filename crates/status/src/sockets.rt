@@ -4,7 +4,7 @@ ghost use Rattle.std.specs.Prelude.{None};
 use crate::streams::{Stream, StreamLook, StreamSource, Took};
 use std::io;
 use std::io::{ErrorKind, Read, Write};
-use std::net::{Net, OpenListener, OpenStream, Shutdown, SocketAddr, TcpListener, TcpStream};
+use std::net::{Net, OpenListener, OpenStream, Shutdown, TcpListener, TcpStream};
 
 /// The connection of a visitor.
 #[derive(Drop)]
@@ -14,6 +14,8 @@ impl Stream for VisitorSocket {
     ghost given = { λ _. None };
 
     ghost taken = { λ _. None };
+
+    ghost calls = { λ _. None };
 
     fn read(&mut self, buf: &mut [u8; 1024]) -> StreamLook {
         match self.0.read(buf) {
@@ -56,6 +58,8 @@ impl VisitorListener {
     /// # Errors
     ///
     /// Those of the system.
+    // What the system binds, and where, no clause can say: a listener holds a number of the
+    // system's alone (checks/status.py connects to it).
     pub fn listen<R: Net<Listener = TcpListener, Stream = TcpStream>>(
         rt: &R,
         address: &str,
@@ -64,15 +68,6 @@ impl VisitorListener {
         // Who looks at the state doesn't hold the run up.
         listener.set_nonblocking(true)?;
         Ok(VisitorListener { listener })
-    }
-
-    /// Where it listens.
-    ///
-    /// # Errors
-    ///
-    /// Those of the system.
-    pub fn address(&self) -> io::Result<SocketAddr> {
-        self.listener.local_addr()
     }
 }
 

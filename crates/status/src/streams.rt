@@ -23,7 +23,8 @@ pub enum Took {
 /// Octets both ways. No call waits. Dropping it closes it.
 pub trait Stream: Drop {
     ghost use Rattle.std.specs.Prelude.{◌≡◌, ◌≤◌, length, take};
-    ghost use Rattle.status.specs.Streams.{Passed, FitsBuffer, got_of, more_passed, took_count};
+    ghost use Rattle.status.specs.Streams.{Calls, Finished, FitsBuffer, Handed, Looked, Passed};
+    ghost use Rattle.status.specs.Streams.{called, got_of, more_passed, took_count};
 
     /// The octets that it gave, where it keeps them.
     ghost given: { Self → Passed };
@@ -31,23 +32,29 @@ pub trait Stream: Drop {
     /// The octets that it took, where it keeps them.
     ghost taken: { Self → Passed };
 
+    /// What it was called for, the newest call first, where it keeps that.
+    ghost calls: { Self → Calls };
+
     /// Looks once. Octets are put at the front of the buffer.
     fn read(&mut self, buf: &mut [u8; 1024]) -> StreamLook
         ensures fits { FitsBuffer result }
         ensures given { given self.new ≡ more_passed (given self.old) (got_of result buf.new) }
-        ensures taken { taken self.new ≡ taken self.old };
+        ensures taken { taken self.new ≡ taken self.old }
+        ensures calls { calls self.new ≡ called (calls self.old) (Looked result) };
 
     /// Hands it octets.
     fn write(&mut self, octets: &[u8]) -> Took
         ensures fits { took_count result ≤ length octets.now }
         ensures taken { taken self.new
             ≡ more_passed (taken self.old) (take (took_count result) octets.now) }
-        ensures given { given self.new ≡ given self.old };
+        ensures given { given self.new ≡ given self.old }
+        ensures calls { calls self.new ≡ called (calls self.old) (Handed result) };
 
-    /// Holds the other end that nothing more will be written.
+    /// Lets the other end know that nothing more will be written.
     fn finish(&mut self)
         ensures given { given self.new ≡ given self.old }
-        ensures taken { taken self.new ≡ taken self.old };
+        ensures taken { taken self.new ≡ taken self.old }
+        ensures calls { calls self.new ≡ called (calls self.old) Finished };
 }
 
 /// Where streams come from.

@@ -1,5 +1,5 @@
 use Rattle.std.proofs.Common.{refl}
-use Rattle.status.proofs.SeatLemmas.{kept_received, kept_answered}
+use Rattle.status.proofs.SeatLemmas.{kept_received, kept_answered, turn_received}
 use Rattle.status.proofs.seat.receive_more.Goals as goal
 
 pub returns-in-Nothing-clause-kept : goal.returns-in-Nothing-clause-kept
@@ -25,4 +25,5 @@ returns-in_default g c = record {
     c.make_answer.ensures.head,
     c.make_answer.ensures.body,
   );
+  turn = turn_received _ _ _ _ _ _ c.requires.stage c.if-not-receive.ensures.looks;
 }

@@ -1,0 +1,66 @@
+-- What is done to the names of files in a directory (this gateway's own profile).
+use Rattle.std.specs.Prelude.{◌≡◌, ℕ, ◌<◌, ◌≤◌, Bool, true, false, List, ◌∷◌, ◌++◌, codes, Option}
+use Rattle.std.specs.Prelude.{Some, None, Result, Ok, Err}
+use Rattle.std.specs.Fmt.{decimal}
+
+-- A call that was made, and what the system answered: whether the file was there, or that the call
+-- failed.
+pub data NameStep : Type 0 where
+  Renamed : (from to : List ℕ) → (was_there : Option Bool) → NameStep
+  Sought : (name : List ℕ) → (is_there : Option Bool) → NameStep
+  Made : (name : List ℕ) → (is_made : Bool) → NameStep
+  Synced : (is_done : Bool) → NameStep
+
+-- the calls so far, the newest first, where they are kept
+abbrev pub Steps : Type 0
+Steps = Option (List NameStep)
+
+-- with one call more
+abbrev pub noted : Steps → NameStep → Steps
+noted None step = None
+noted (Some before) step = Some (step ∷ before)
+
+abbrev pub answer_of : {A E : Type 0} → Result A E → Option A
+answer_of (Ok answer) = Some answer
+answer_of (Err fault) = None
+
+abbrev pub is_done : {A E : Type 0} → Result A E → Bool
+is_done (Ok answer) = true
+is_done (Err fault) = false
+
+-- A mark is made: one name is replaced by another, then a file of that name is there, and then the
+-- names are synced.
+abbrev pub IsMarkedAs : (from to : List ℕ) → (before after : Steps) → Type 0
+IsMarkedAs from to before after =
+    (was_there : Bool)
+    × (after ≡ noted (noted (noted before (Renamed from to (Some was_there)))
+    (Sought to (Some true))) (Synced true))
+
+-- A file that says that the state is good stands there, or one that says that it isn't. Where none
+-- stood there, the first is made, and the names are synced.
+pub data HasMark (before after : Steps) : Type 0 where
+  Kept : after ≡ noted before (Sought (codes "kept") (Some true)) → HasMark before after
+  Stale : after ≡ noted (noted before (Sought (codes "kept") (Some false)))
+      (Sought (codes "stale") (Some true)) → HasMark before after
+  New : after ≡ noted (noted (noted (noted before (Sought (codes "kept") (Some false)))
+      (Sought (codes "stale") (Some false))) (Made (codes "kept") true)) (Synced true)
+      → HasMark before after
+
+-- the name under which a file that couldn't be read is kept
+abbrev pub unread_name : ℕ → List ℕ
+unread_name n = codes "unread-" ++ decimal n
+
+-- Both files get names with a number from 1 to 9. Unless that is 9, no file had its name.
+pub record IsPutAside (before after : Steps) : Type 0 where
+  pub number : ℕ
+  pub least : 1 ≤ number
+  pub most : number ≤ 9
+  pub between : Steps
+  pub free : number < 9 → (earlier : Steps)
+      × (between ≡ noted earlier (Sought (unread_name number) (Some false)))
+  pub first : Bool
+  pub second : Bool
+  pub renamed : after
+      ≡ noted (noted (noted between (Renamed (codes "segments") (unread_name number) (Some first)))
+      (Renamed (codes "segments-wal") (unread_name number ++ codes "-wal") (Some second)))
+      (Synced true)

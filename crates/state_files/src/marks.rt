@@ -1,0 +1,125 @@
+//! What the names of files in a directory say of the state there.
+ghost use Rattle.std.specs.Prelude.{◌≡◌, ◌<◌, ◌≤◌, codes, false, true, IfOk, None, Some};
+ghost use Rattle.state_files.specs.Names.{HasMark, IsMarkedAs, IsPutAside, Sought, Steps, Synced};
+ghost use Rattle.state_files.specs.Names.{noted, unread_name};
+
+use crate::names::{Names, named};
+use std::alloc::Global;
+use std::io;
+use std::io::ErrorKind;
+
+/// How many files that couldn't be read are kept.
+const MOST_UNREAD: u32 = 9;
+
+/// The names in the directory of a state.
+#[derive(Drop)]
+pub(crate) struct Marks<N: Names> {
+    pub(crate) names: N,
+    /// Whether the mark stands on the disk, where that is known.
+    pub(crate) mark: Option<bool>,
+}
+
+impl<N: Names> Marks<N> {
+    /// Renames a file, and makes sure that the name is on the disk. Where it isn't there, a file of
+    /// the new name is.
+    fn mark_as(&mut self, from: &str, to: &str) -> io::Result<()>
+        ensures marked { IfOk result (λ _. IsMarkedAs from.now to.now (N.steps self.old.names)
+            (N.steps self.new.names)) }
+        ensures mark { self.new.mark ≡ self.old.mark }
+    {
+        self.names.rename(from, to)?;
+        if !self.names.has(to)? {
+            return Err(ErrorKind::NotFound.into());
+        }
+        self.names.sync()
+    }
+
+    /// Makes the file that says that the state is good, where none says anything.
+    pub(crate) fn make_kept(&mut self) -> io::Result<()>
+        ensures made { IfOk result (λ _. HasMark (N.steps self.old.names)
+            (N.steps self.new.names)) }
+        ensures mark { self.new.mark ≡ self.old.mark }
+    {
+        if self.names.has("kept")? {
+            return Ok(());
+        }
+        if self.names.has("stale")? {
+            return Ok(());
+        }
+        self.names.make("kept")?;
+        self.names.sync()
+    }
+
+    /// Whether the mark stands on the disk.
+    pub(crate) fn is_stale(&mut self) -> io::Result<bool>
+        ensures found { IfOk result (λ is_stale. N.steps self.new.names
+            ≡ noted (noted (N.steps self.old.names) (Synced true))
+            (Sought (codes "stale") (Some is_stale))) }
+        ensures mark { IfOk result (λ is_stale. self.new.mark ≡ Some is_stale) }
+    {
+        self.names.sync()?;
+        let is_stale = self.names.has("stale")?;
+        self.mark = Some(is_stale);
+        Ok(is_stale)
+    }
+
+    /// Marks the state as stale, on the disk. `false`: it couldn't be done.
+    pub(crate) fn mark_stale(&mut self) -> bool
+        ensures marked { result ≡ true → IsMarkedAs (codes "kept") (codes "stale")
+            (N.steps self.old.names) (N.steps self.new.names) }
+        ensures mark { result ≡ true → self.new.mark ≡ Some true }
+        ensures unknown { result ≡ false → self.new.mark ≡ None }
+    {
+        self.mark = None;
+        let is_made = self.mark_as("kept", "stale").is_ok();
+        if is_made {
+            self.mark = Some(true);
+        }
+        is_made
+    }
+
+    /// Takes the mark away, on the disk. `false`: it couldn't be done.
+    pub(crate) fn unmark(&mut self) -> bool
+        ensures marked { result ≡ true → IsMarkedAs (codes "stale") (codes "kept")
+            (N.steps self.old.names) (N.steps self.new.names) }
+        ensures mark { result ≡ true → self.new.mark ≡ Some false }
+        ensures unknown { result ≡ false → self.new.mark ≡ None }
+    {
+        self.mark = None;
+        let is_taken = self.mark_as("stale", "kept").is_ok();
+        if is_taken {
+            self.mark = Some(false);
+        }
+        is_taken
+    }
+
+    /// The first number under which no file that couldn't be read is kept, or the last one.
+    fn unread_number(&mut self, alloc: Global) -> io::Result<u32>
+        ensures range { IfOk result (λ n. (1 ≤ n) × (n ≤ 9)) }
+        ensures free { IfOk result (λ n. n < 9 → (earlier : Steps) × (N.steps self.new.names
+            ≡ noted earlier (Sought (unread_name n) (Some false)))) }
+        ensures mark { self.new.mark ≡ self.old.mark }
+    {
+        for number in 1..MOST_UNREAD {
+            let name = named(format!(in alloc; "unread-{number}"))?;
+            if !self.names.has(name.as_str())? {
+                return Ok(number);
+            }
+        }
+        Ok(MOST_UNREAD)
+    }
+
+    /// Renames both files, so that a run begins anew.
+    pub(crate) fn set_aside(&mut self, alloc: Global) -> io::Result<()>
+        ensures aside { IfOk result (λ _. IsPutAside (N.steps self.old.names)
+            (N.steps self.new.names)) }
+        ensures mark { self.new.mark ≡ self.old.mark }
+    {
+        let number = self.unread_number(alloc)?;
+        let name = named(format!(in alloc; "unread-{number}"))?;
+        self.names.rename("segments", name.as_str())?;
+        let name = named(format!(in alloc; "unread-{number}-wal"))?;
+        self.names.rename("segments-wal", name.as_str())?;
+        self.names.sync()
+    }
+}

@@ -1,0 +1,101 @@
+//! The names of files in a directory.
+ghost use Rattle.std.specs.Prelude.{◌≡◌, ◌++◌, ◌∷◌, IfOk, None, Ok, string_bytes};
+
+use std::alloc::AllocError;
+use std::fs::OpenOptions;
+use std::io::ErrorKind;
+use std::{fs, io};
+
+/// What became of a call, where memory may be refused.
+pub(crate) fn named(name: Result<String, AllocError>) -> io::Result<String>
+    ensures { IfOk result (λ text. name ≡ Ok text) }
+{
+    match name {
+        Ok(name) => Ok(name),
+        Err(AllocError) => Err(ErrorKind::OutOfMemory.into()),
+    }
+}
+
+/// The names of files in a directory.
+pub(crate) trait Names: Drop {
+    ghost use Rattle.std.specs.Prelude.{◌≡◌};
+    ghost use Rattle.state_files.specs.Names.{Made, Renamed, Sought, Steps, Synced, answer_of};
+    ghost use Rattle.state_files.specs.Names.{is_done, noted};
+
+    /// The calls that were made, where they are kept.
+    ghost steps: { Self → Steps };
+
+    /// Renames a file. `false`: it isn't there.
+    fn rename(&mut self, from: &str, to: &str) -> io::Result<bool>
+        ensures { steps self.new
+            ≡ noted (steps self.old) (Renamed from.now to.now (answer_of result)) };
+
+    /// Whether a file stands there.
+    fn has(&mut self, name: &str) -> io::Result<bool>
+        ensures { steps self.new ≡ noted (steps self.old) (Sought name.now (answer_of result)) };
+
+    /// Makes a file that is empty, unless it is there.
+    fn make(&mut self, name: &str) -> io::Result<()>
+        ensures { steps self.new ≡ noted (steps self.old) (Made name.now (is_done result)) };
+
+    /// Syncs the names.
+    fn sync(&mut self) -> io::Result<()>
+        ensures { steps self.new ≡ noted (steps self.old) (Synced (is_done result)) };
+}
+
+/// A directory of the system.
+#[derive(Drop)]
+pub(crate) struct SystemNames {
+    pub(crate) rt: HostRuntime,
+    pub(crate) path: String,
+}
+
+impl SystemNames {
+    /// The path of a file in it.
+    pub(crate) fn path_of(&self, name: &str) -> io::Result<String>
+        ensures { IfOk result (λ path. string_bytes path
+            ≡ string_bytes self.now.path ++ 47 ∷ name.now) }
+    {
+        named(format!(in self.rt.alloc(); "{}/{name}", self.path))
+    }
+
+    /// Makes a file that is empty, or opens it.
+    pub(crate) fn opened(&self, name: &str) -> io::Result<fs::File> {
+        OpenOptions::new()
+            .read(true)
+            .write(true)
+            .create(true)
+            .open(&self.rt, self.path_of(name)?.as_str())
+    }
+}
+
+impl Names for SystemNames {
+    // What the system does no clause says (checks/state.py has starts over such directories).
+    ghost steps = { λ _. None };
+
+    fn rename(&mut self, from: &str, to: &str) -> io::Result<bool> {
+        let (from, to) = (self.path_of(from)?, self.path_of(to)?);
+        match fs::rename(&self.rt, from.as_str(), to.as_str()) {
+            Ok(()) => Ok(true),
+            Err(error) if error.kind() == ErrorKind::NotFound => Ok(false),
+            Err(error) => Err(error),
+        }
+    }
+
+    fn has(&mut self, name: &str) -> io::Result<bool> {
+        match fs::symlink_metadata(&self.rt, self.path_of(name)?.as_str()) {
+            Ok(_) => Ok(true),
+            Err(error) if error.kind() == ErrorKind::NotFound => Ok(false),
+            Err(error) => Err(error),
+        }
+    }
+
+    fn make(&mut self, name: &str) -> io::Result<()> {
+        let _file = self.opened(name)?;
+        Ok(())
+    }
+
+    fn sync(&mut self) -> io::Result<()> {
+        fs::File::open(&self.rt, self.path.as_str())?.sync_all()
+    }
+}

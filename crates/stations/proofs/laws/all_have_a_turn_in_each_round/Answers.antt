@@ -1,0 +1,5 @@
+use Rattle.stations.proofs.PlayLaws.{lines_have_turns, stations_have_turns}
+use Rattle.stations.proofs.laws.all_have_a_turn_in_each_round.Goals as goal
+
+pub returns : goal.returns
+returns c = record { lines = lines_have_turns; stations = stations_have_turns }

@@ -1,0 +1,12 @@
+use Rattle.stations.proofs.PlayLaws.{replies_are_class1}
+use Rattle.stations.proofs.ReplyLaws.{activations_are_confirmed, activations_are_terminated}
+use Rattle.stations.proofs.ReplyLaws.{replies_answer}
+use Rattle.stations.proofs.laws.replies_answer_their_commands.Goals as goal
+
+pub returns : goal.returns
+returns c = record {
+  replies = replies_answer;
+  confirmed = activations_are_confirmed;
+  terminated = activations_are_terminated;
+  urgent = replies_are_class1;
+}

@@ -1,0 +1,59 @@
+-- Words of the laws of outstations that are played (IEC 60870-5-101, 7.2.3 and 7.3.2).
+use Rattle.std.specs.Prelude.{◌≡◌, ◌≢◌, ℕ, ◌+◌, ◌-◌, ◌%◌, ◌<◌, ◌≤◌, Bool, true, false, List, []}
+use Rattle.std.specs.Prelude.{◌∷◌, ◌++◌, length, slice_index, slice_get, Option, Some, None}
+use Rattle.asdu.specs.Asdu.{AsduValue}
+use Rattle.link.specs.Secondary.{Secondary}
+use Rattle.sim.specs.declared.directive.Class.{Class}
+use Rattle.sim.specs.declared.directive.Class.TheVariants.{One, Two}
+use Rattle.stations.specs.Exchanges.{OutstationsState}
+use Rattle.stations.specs.Replies.{is_select}
+use Rattle.stations.specs.Replying.{Replies, RepliesEach}
+use Rattle.stations.specs.Reporting.{LineReports, LinesReport}
+
+-- the reports of a class that wait at a station
+abbrev pub waiting_in : Class → Secondary → List (List ℕ)
+waiting_in One s = s.class1
+waiting_in Two s = s.class2
+
+abbrev pub other_class : Class → Class
+other_class One = Two
+other_class Two = One
+
+-- a station has one report more, behind those of its class
+pub record HasOneMore (class : Class) (report : List ℕ) (old new : Secondary) : Type 0 where
+  pub behind : waiting_in class new ≡ waiting_in class old ++ report ∷ []
+  pub other : waiting_in (other_class class) new ≡ waiting_in (other_class class) old
+  pub address : new.address ≡ old.address
+  pub accepted : new.accepted ≡ old.accepted
+
+-- The cause of a reply beside that of its command. The confirmation of an activation (6) has cause
+-- 7, that of a deactivation (8) has 9, and the termination has 10. P/N is bit 6 of the octet, and T
+-- is bit 7.
+pub record IsAnsweringCause (refuses is_confirmed : Bool) (command reply : ℕ) : Type 0 where
+  pub activates : is_confirmed ≡ true → command % 64 ≡ 6
+  pub terminates : is_confirmed ≡ true → reply % 64 ≡ 10
+  pub confirms : is_confirmed ≡ false → reply % 64 ≡ command % 64 + 1
+  pub negative : is_confirmed ≡ false → refuses ≡ true → 64 ≤ reply % 128
+  pub positive : refuses ≡ false → reply % 128 < 64
+  pub test : 128 ≤ command → 128 ≤ reply
+  pub no_test : command < 128 → reply < 128
+
+-- A reply has the octets of its command but for the cause.
+pub record IsAnswering (refuses is_confirmed : Bool) (v : AsduValue) (command reply : List ℕ)
+    : Type 0 where
+  pub long : length reply ≡ length command
+  pub same : (i : ℕ) → i ≢ 2 → slice_index reply i ≡ slice_index command i
+  pub cause : IsAnsweringCause refuses is_confirmed v.cause (slice_index reply 2)
+  pub terminated : is_confirmed ≡ true → refuses ≡ false
+  pub executed : is_confirmed ≡ true → is_select v ≡ false
+
+-- the line at this place had its turn, behind those before it
+abbrev pub HadItsTurn : (passed line : ℕ) → (old : OutstationsState) → Type 0
+HadItsTurn passed i old =
+    (before after : OutstationsState) × LinesReport passed i old before
+    × LineReports passed i before after
+
+-- the station at this place had its turn to reply, behind those before it
+abbrev pub CouldReply : (station : ℕ) → (old : OutstationsState) → Type 0
+CouldReply i old =
+    (before after : OutstationsState) × RepliesEach i old before × Replies i before after

@@ -1,0 +1,33 @@
+//! Lines of a script for the outstations alone, by worked examples: literal texts.
+ghost use Rattle.std.specs.Prelude.{◌≡◌, ◌∷◌, [], codes, None, Some, false, true};
+ghost use Rattle.ft12.specs.declared.frame.LinkSize.TheVariants as link;
+ghost use Rattle.sim.specs.declared.directive.Class.TheVariants as class;
+ghost use Rattle.stations.specs.CueLines.{cue_in, is_cue_line, time_of};
+ghost use Rattle.stations.specs.declared.cue.Cue.TheVariants.{Confirm, Delayed, Refuse, Timed};
+
+/// What lines say where there are four stations (docs/STATIONS.md has them in words). Stations and
+/// requests are counted from 1, times are in ms, and each is 10 ms to a day.
+pub fn lines_are_read_by_example()
+    ensures timed { (cue_in link.One 4 (codes "at 500 report 2 1 0A0B")
+        ≡ Some (Timed (record {
+          station = 1; class = class.One; report = 10 ∷ 11 ∷ []; every = None; due = Some 500;
+        })))
+        × (cue_in link.One 4 (codes "every 60000 report 4 2 0A")
+        ≡ Some (Timed (record {
+          station = 3; class = class.Two; report = 10 ∷ []; every = Some 60000;
+          due = Some 60000;
+        })))
+        × (cue_in link.One 4 (codes "at 500 report 5 1 0A0B") ≡ None)
+        × (cue_in link.One 4 (codes "at 500 turns 2") ≡ None) }
+    ensures habits { (cue_in link.One 4 (codes "confirm 1") ≡ Some (Confirm 0))
+        × (cue_in link.One 4 (codes "refuse 4") ≡ Some (Refuse 3))
+        × (cue_in link.One 4 (codes "confirm 0") ≡ None)
+        × (cue_in link.One 4 (codes "refuse 5") ≡ None) }
+    ensures delays { (cue_in link.One 4 (codes "delay answer 7 250") ≡ Some (Delayed 7 250))
+        × (cue_in link.One 4 (codes "delay request 7 250") ≡ None)
+        × (cue_in link.One 4 (codes "delay answer 7") ≡ None) }
+    ensures times { (time_of (codes "9") ≡ None) × (time_of (codes "10") ≡ Some 10)
+        × (time_of (codes "86400000") ≡ Some 86400000) × (time_of (codes "86400001") ≡ None) }
+    ensures others { (is_cue_line (codes "report 1 1 0A") ≡ false)
+        × (is_cue_line (codes "at") ≡ true) × (is_cue_line (codes "atlas 1") ≡ false) }
+{}

@@ -1,0 +1,18 @@
+use Rattle.std.proofs.Common.{refl, ap}
+use Rattle.std.specs.Fmt.{digits}
+use Rattle.status.proofs.examples.pages_by_example.Goals as goal
+
+pub returns-clause-station : goal.returns-clause-station
+unfolding digits
+returns-clause-station c s name = rw name
+
+pub returns-clause-centre : goal.returns-clause-centre
+unfolding digits
+returns-clause-centre c s = refl
+
+pub returns-clause-state : goal.returns-clause-state
+returns-clause-state c s = refl
+
+pub returns-clause-families : goal.returns-clause-families
+unfolding digits
+returns-clause-families c s = refl
