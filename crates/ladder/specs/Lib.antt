@@ -1,3 +1,4 @@
 pub mod Rungs
 pub mod Described
 pub mod Scribing
+pub mod Remarks

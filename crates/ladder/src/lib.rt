@@ -10,11 +10,13 @@
 //! is that of the run's log (`IsLadder`), line by line in its order: each event and action once,
 //! each frame with the words of the octets that ended it, late answers and repeats as such; or a
 //! beginning of that text, where the output failed, or that of the run up to some turn, where
-//! memory was refused.
+//! memory was refused. What is a repeat and what is late is a law (`remarks_are_as_written`), and
+//! the words have worked examples (`rungs_by_example`).
 #![tactic(auto)]
 
 mod driving;
 mod ladder;
+mod laws;
 mod memory;
 mod notes;
 mod rungs;
@@ -23,5 +25,6 @@ mod taken;
 
 pub use driving::drive_in_words;
 pub use ladder::Ladder;
+pub use laws::{remarks_are_as_written, rungs_by_example};
 pub use rungs::Style;
 pub use scribe::Scribe;

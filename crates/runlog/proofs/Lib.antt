@@ -5,3 +5,4 @@ pub mod Firsts
 pub mod RulesRead
 pub mod Worded
 pub mod Apart
+pub mod Waits

@@ -1,13 +1,19 @@
 -- What the worked examples of the log speak of: lines, and those of a list of requests.
 use Rattle.std.specs.Prelude.{ℕ, List, [], ◌∷◌, ◌++◌, option_to_list, Some, None}
 use Rattle.ft12.specs.declared.frame.LinkSize.{LinkSize}
+use Rattle.ft12.specs.declared.frame.LinkSize.TheVariants.{One}
+use Rattle.asdu.specs.declared.sizes.CaSize.TheVariants as ca
+use Rattle.asdu.specs.declared.sizes.CauseSize.TheVariants as cause
+use Rattle.asdu.specs.declared.sizes.IoaSize.TheVariants as ioa
+use Rattle.gateway.specs.Log.{LineOut}
 use Rattle.gateway.specs.declared.counts.Counts.{Counts}
 use Rattle.live.specs.declared.ends.Presence.{Presence}
 use Rattle.runlog.specs.Ends.{connection_opened, line_seen, new_connection}
 use Rattle.runlog.specs.Exchange.{RequestWatch, new_exchange}
 use Rattle.runlog.specs.Gathering.{GatheringCall, Add, Look, nothing, added, line_of}
-use Rattle.runlog.specs.Stations.{asked, asking_of, station_asked, standing_of}
-use Rattle.runlog.specs.Traffic.{new_traffic, suffered, traffic_line}
+use Rattle.runlog.specs.Stations.{asked, asking_of, new_station, station_asked, standing_of}
+use Rattle.runlog.specs.Traffic.{first_line, new_traffic, suffered, traffic_line}
+use Rattle.runlog.specs.Watching.{Watching, put}
 use Rattle.runlog.specs.declared.fate.Mishap.{Mishap}
 use Rattle.runlog.specs.declared.gathered.Gathered.{Gathered}
 use Rattle.runlog.specs.declared.order.OrderKind.{OrderKind}
@@ -83,3 +89,50 @@ counting mirrors spoilt =
 -- a connection, which is the first, has been open since 5 ms
 abbrev pub one_open : ConnectionWatch
 one_open = (connection_opened None 5 new_connection).0
+
+-- two commands (C_SC_NA_1 to objects 100 and 101, of common addresses 1 and 300) with an S frame
+-- between them, and the beginning of a third APDU behind them
+abbrev pub two_commands : List ℕ
+two_commands =
+    0x68 ∷ 0x0E ∷ 0x00 ∷ 0x00 ∷ 0x00 ∷ 0x00 ∷ 0x2D ∷ 0x01 ∷ 0x06 ∷ 0x00 ∷ 0x01 ∷ 0x00 ∷ 0x64 ∷ 0x00
+    ∷ 0x00 ∷ 0x01 ∷ 0x68 ∷ 0x04 ∷ 0x01 ∷ 0x00 ∷ 0x00 ∷ 0x00 ∷ 0x68 ∷ 0x0E ∷ 0x02 ∷ 0x00 ∷ 0x00
+    ∷ 0x00 ∷ 0x2D ∷ 0x01 ∷ 0x06 ∷ 0x00 ∷ 0x2C ∷ 0x01 ∷ 0x65 ∷ 0x00 ∷ 0x00 ∷ 0x00 ∷ 0x68 ∷ 0x0E
+    ∷ 0x04 ∷ []
+
+-- two stations whose sizes are one octet each, but for object addresses of two, before any request
+abbrev pub two_watched : Watching → Watching
+two_watched w = record w {
+  link = One;
+  sizes = record { cause = cause.One; ca = ca.One; ioa = ioa.Two };
+  stations = new_station 2 7 ∷ new_station 2 8 ∷ [];
+  traffic = two_stations;
+  exchange = new_exchange 150;
+}
+
+-- C_SC_NA_1, on, to object 100 of station 8; the same as its positive confirmation; a poll of it
+-- (class 2); and that its link is busy (FT1.2)
+abbrev pub command_to_8 : List ℕ
+command_to_8 =
+    0x68 ∷ 0x09 ∷ 0x09 ∷ 0x68 ∷ 0x73 ∷ 0x08 ∷ 0x2D ∷ 0x01 ∷ 0x06 ∷ 0x01 ∷ 0x64 ∷ 0x00 ∷ 0x01 ∷ 0x15
+    ∷ 0x16 ∷ []
+
+abbrev pub confirmed_by_8 : List ℕ
+confirmed_by_8 =
+    0x68 ∷ 0x09 ∷ 0x09 ∷ 0x68 ∷ 0x08 ∷ 0x08 ∷ 0x2D ∷ 0x01 ∷ 0x07 ∷ 0x01 ∷ 0x64 ∷ 0x00 ∷ 0x01 ∷ 0xAB
+    ∷ 0x16 ∷ []
+
+abbrev pub poll_of_8 : List ℕ
+poll_of_8 = 0x10 ∷ 0x5B ∷ 0x08 ∷ 0x63 ∷ 0x16 ∷ []
+
+abbrev pub busy_8 : List ℕ
+busy_8 = 0x10 ∷ 0x11 ∷ 0x08 ∷ 0x19 ∷ 0x16 ∷ []
+
+-- the command has gone out to station 8, and that was logged
+abbrev pub commanded : Watching → Watching
+commanded w =
+    let asked = (put 5 (LineOut command_to_8) (two_watched w)).0 in
+    record asked { traffic = (first_line 5 asked.traffic).0 }
+
+-- and then the station is polled
+abbrev pub polled : Watching → Watching
+polled w = (put 6 (LineOut poll_of_8) (commanded w)).0

@@ -9,6 +9,7 @@ pub mod Gathering
 pub mod Inbox
 pub mod Stations
 pub mod Traffic
+pub mod Waiting
 pub mod Exchange
 pub mod Watching
 pub mod Logging

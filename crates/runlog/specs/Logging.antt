@@ -1,6 +1,6 @@
 -- The lines of a run, and what they are a function of (this gateway's own profile).
 use Rattle.std.specs.Io.Iter.{u64_saturate}
-use Rattle.std.specs.Prelude.{◌≡◌, ℕ, ◌-◌, ◌^◌, not, ◌&&◌, Bool, true, false, List, ◌∷◌}
+use Rattle.std.specs.Prelude.{◌≡◌, ℕ, not, ◌&&◌, Bool, true, false, List, ◌∷◌}
 use Rattle.std.specs.Prelude.{length, Option, Some, None, if◌then◌else◌}
 use Rattle.events.specs.Queue.{kept as pieces_kept}
 use Rattle.gateway.specs.Log.{Output}

@@ -21,8 +21,11 @@
 //! and the name behind them ([`NamedLine`]). Of all this there are literal examples
 //! ([`stations_by_example`], [`standings_by_example`], [`commands_by_example`],
 //! [`moments_by_example`], [`connections_by_example`], [`failures_and_walls_by_example`],
-//! [`severities_by_example`], [`late_answers_by_example`], [`log_lines_by_example`]). That a line's
-//! UTC time is right, and what standard error does with it, is no matter of a proof.
+//! [`severities_by_example`], [`late_answers_by_example`], [`log_lines_by_example`],
+//! [`each_word_by_example`], [`each_severity_by_example`]). What becomes of a command, and each
+//! mishap, is logged for the station that it befell ([`what_becomes_of_commands_is_logged`]), and
+//! nothing that may be logged waits ([`nothing_waits_that_may_be_logged`]). That a line's UTC time
+//! is right, and what standard error does with it, is no matter of a proof.
 #![tactic(auto)]
 
 mod content;
@@ -30,6 +33,7 @@ mod ends;
 mod examples;
 mod exchange;
 mod fate;
+mod fate_laws;
 mod gathered;
 mod inbox;
 mod laws;
@@ -46,6 +50,7 @@ mod sink;
 mod stations;
 mod traffic;
 mod watch;
+mod word_examples;
 
 pub use content::Skip;
 pub use ends::OpenConnection;
@@ -55,6 +60,11 @@ pub use examples::{
     standings_by_example, stations_by_example,
 };
 pub use fate::{CommandFate, Reason};
+pub use fate_laws::{
+    answers_are_read_by_their_causes, commands_are_logged_of_their_station,
+    commands_of_a_step_are_logged_one_by_one, nothing_waits_that_may_be_logged,
+    what_becomes_of_commands_is_logged,
+};
 pub use laws::{
     lines_of_a_kind_are_a_second_apart, refusals_are_logged_by_their_rules,
     what_is_gathered_is_logged_or_counted,
@@ -69,3 +79,4 @@ pub use sink::{LogSink, StandardError};
 pub use stations::{StationStanding, StationWatch};
 pub use traffic::Traffic;
 pub use watch::Watch;
+pub use word_examples::{each_severity_by_example, each_word_by_example};

@@ -1,5 +1,5 @@
 //! The texts by worked examples: literal lines beside literal octets.
-ghost use Rattle.std.specs.Prelude.{◌≡◌, ◌++◌, ◌∷◌, [], ℕ, codes, Some, None};
+ghost use Rattle.std.specs.Prelude.{◌≡◌, ◌++◌, ◌∷◌, [], ℕ, List, codes, Some, None};
 ghost use Rattle.ft12.specs.declared.frame.Frame.TheVariants.{Single, Fixed, Data};
 ghost use Rattle.ft12.specs.declared.frame.Front.TheVariants as line;
 ghost use Rattle.ft12.specs.declared.frame.LinkSize.TheVariants as link;
@@ -12,6 +12,8 @@ ghost use Rattle.apci.specs.declared.apdu.Why.TheVariants as reason;
 ghost use Rattle.asdu.specs.declared.sizes.CaSize.TheVariants as ca;
 ghost use Rattle.asdu.specs.declared.sizes.CauseSize.TheVariants as cause;
 ghost use Rattle.asdu.specs.declared.sizes.IoaSize.TheVariants as ioa;
+ghost use Rattle.std.specs.Fmt.{decimal};
+ghost use Rattle.elements.specs.TimeTag.{verdict_of};
 ghost use Rattle.elements.specs.declared.tag.Verdict.TheVariants.{Good, MarkedInvalid, OutOfRange};
 ghost use Rattle.elements.specs.declared.tag.Verdict.TheVariants.{NoSuchDay, WrongWeekday};
 ghost use Rattle.show.specs.declared.sizes.LineSizes.{LineSizes};
@@ -22,7 +24,11 @@ ghost use Rattle.show.specs.Condition.{rest_line, with_rest};
 ghost use Rattle.show.specs.Sizes.{sizes_of};
 ghost use Rattle.show.specs.Tcp.{function_text, apdu_line, front_lines as apdu_lines};
 ghost use Rattle.show.specs.Tcp.{number_of as number_of_reason};
-ghost use Rattle.show.specs.Units.{verdict_text, cause_text};
+ghost use Rattle.hex.specs.Hex.{encode_upper};
+ghost use Rattle.show.specs.Units.{verdict_text, cause_text, judged_text, unit_lines};
+ghost use Rattle.show.specs.Units.{unit_condition};
+ghost use Rattle.asdu.specs.declared.sizes.Sizes.{Sizes};
+ghost use Rattle.asdu.specs.Sizes.{tcp as tcp_sizes};
 
 /// The lines of frames of the line, field by field, of what begins none, and of octets behind a
 /// frame (docs/TEXTS.md has the texts in words; the fields are those of IEC 60870-5-2, 5.1.2).
@@ -91,4 +97,37 @@ pub fn connection_texts_by_example()
         × (verdict_text OutOfRange ≡ codes "out of range")
         × (verdict_text NoSuchDay ≡ codes "no such day")
         × (verdict_text WrongWeekday ≡ codes "wrong weekday") }
+{}
+
+/// Octets of ASDUs, and their lines (docs/TEXTS.md; IEC 60870-5-101, 7.2): a time tag; two objects
+/// under successive addresses (SQ 1) in sizes of two octets, with an originator, test and P/N; an
+/// object whose time tag is marked invalid; and octets that are none, with the reason.
+pub fn asdu_texts_by_example()
+    // Which moment a tag names `elements` says.
+    ensures tags { (octets : List ℕ) (instant : ℕ) → verdict_of octets ≡ Good instant →
+        judged_text octets
+        ≡ codes " tag=" ++ encode_upper octets ++ codes " " ++ (codes "good " ++ decimal instant) }
+    ensures successive { unit_lines (record { cause = cause.Two; ca = ca.Two; ioa = ioa.Two })
+        (0x0B ∷ 0x82 ∷ 0xD4 ∷ 0x07 ∷ 0x02 ∷ 0x01 ∷ 0xFE ∷ 0xFF ∷ 0xFE ∷ 0xFF ∷ 0x00 ∷ 0x2C ∷ 0x01
+        ∷ 0x80 ∷ [])
+        ≡ codes "asdu type=11 sq=1 number=2 test=1 negative=1 cause=20 originator=7 ca=258" ++ 10
+        ∷ codes "object address=65534 value=-2 element=FEFF00" ++ 10
+        ∷ codes "object address=65535 value=300 element=2C0180" ++ 10 ∷ [] }
+    ensures invalid { unit_lines tcp_sizes (0x1E ∷ 0x01 ∷ 0x03 ∷ 0x00 ∷ 0x01 ∷ 0x00 ∷ 0x64 ∷ 0x00
+        ∷ 0x00 ∷ 0x80 ∷ 0xD5 ∷ 0xDD ∷ 0xA2 ∷ 0x0C ∷ 0x1D ∷ 0x02 ∷ 0x18 ∷ [])
+        ≡ codes "asdu type=30 sq=0 number=1 test=0 negative=0 cause=3 originator=0 ca=1" ++ 10
+        ∷ codes "object address=100 value=0 element=80 tag=D5DDA20C1D0218 marked invalid" ++ 10
+        ∷ [] }
+    ensures refused { (unit_lines tcp_sizes (0x01 ∷ []) ≡ codes "asdu refused 1" ++ 10 ∷ [])
+        × (unit_lines tcp_sizes (0x02 ∷ 0x01 ∷ 0x03 ∷ 0x00 ∷ 0x01 ∷ 0x00 ∷ 0x64 ∷ 0x00 ∷ 0x00
+        ∷ 0x01 ∷ []) ≡ codes "asdu refused 2" ++ 10 ∷ [])
+        × (unit_lines tcp_sizes (0x01 ∷ 0x00 ∷ 0x03 ∷ 0x00 ∷ 0x01 ∷ 0x00 ∷ 0x64 ∷ 0x00 ∷ 0x00
+        ∷ []) ≡ codes "asdu refused 3" ++ 10 ∷ [])
+        × (unit_lines tcp_sizes (0x01 ∷ 0x02 ∷ 0x03 ∷ 0x00 ∷ 0x01 ∷ 0x00 ∷ 0x64 ∷ 0x00 ∷ 0x00
+        ∷ 0x01 ∷ []) ≡ codes "asdu refused 4" ++ 10 ∷ [])
+        × (unit_lines tcp_sizes (0x01 ∷ 0x82 ∷ 0x03 ∷ 0x00 ∷ 0x01 ∷ 0x00 ∷ 0xFF ∷ 0xFF ∷ 0xFF
+        ∷ 0x01 ∷ 0x00 ∷ []) ≡ codes "asdu refused 5" ++ 10 ∷ [])
+        × (unit_condition tcp_sizes (0x01 ∷ []) ≡ condition.Faulty) }
+    ensures nothing { (s : Sizes) → (unit_lines s [] ≡ [])
+        × (unit_condition s [] ≡ condition.Good) }
 {}

@@ -8,14 +8,16 @@
 //!
 //! Proved: the lines and the condition are those of the frame that stands at the front
 //! (`IsLineShown`, `IsTcpShown`), every field, object, value and time tag with its verdict; an
-//! `Err` is want of memory alone. Its texts have worked examples (`line_texts_by_example`,
-//! `connection_texts_by_example`).
+//! `Err` is want of memory alone. Octets that are an ASDU are shown as that, object by object
+//! (`asdus_are_shown`). The texts have worked examples (`line_texts_by_example`,
+//! `connection_texts_by_example`, `asdu_texts_by_example`).
 #![tactic(auto)]
 
 mod bits;
 mod condition;
 mod control;
 mod examples;
+mod laws;
 mod line;
 mod objects;
 mod sizes;
@@ -23,7 +25,8 @@ mod tcp;
 mod units;
 
 pub use condition::{Condition, Shown};
-pub use examples::{connection_texts_by_example, line_texts_by_example};
+pub use examples::{asdu_texts_by_example, connection_texts_by_example, line_texts_by_example};
+pub use laws::asdus_are_shown;
 pub use line::show_line;
 pub use sizes::{LineSizes, read_sizes};
 pub use tcp::show_tcp;

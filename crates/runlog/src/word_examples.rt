@@ -1,0 +1,97 @@
+//! The words of lines, and how severe they are, word by word (docs/TEXTS.md).
+ghost use Rattle.std.specs.Prelude.{◌≡◌, ◌++◌, [], ℕ, codes, Option, Some};
+ghost use Rattle.std.specs.Net.Text.{ip_text, socket_text};
+ghost use Rattle.std.specs.declared.net.ip_addr.IpAddr.{IpAddr};
+ghost use Rattle.std.specs.declared.net.socket_addr.SocketAddr.{SocketAddr};
+ghost use Rattle.live.specs.declared.ends.CutCause.{CutCause};
+ghost use Rattle.live.specs.declared.watched.Notice.TheVariants as notices;
+ghost use Rattle.session.specs.declared.kinds.Close.{Close};
+ghost use Rattle.runlog.specs.Notes.{last_words, peer_words, skip_words, words};
+ghost use Rattle.runlog.specs.OrderWords.{act_words, fate_words, reason_words, value_words};
+ghost use Rattle.runlog.specs.Severities.{severity_of};
+ghost use Rattle.runlog.specs.declared.content.Skip.{Skip};
+ghost use Rattle.runlog.specs.declared.content.Skip.TheVariants as skip;
+ghost use Rattle.runlog.specs.declared.fate.CommandFate.TheVariants as fate;
+ghost use Rattle.runlog.specs.declared.fate.Reason.{Reason};
+ghost use Rattle.runlog.specs.declared.fate.Reason.TheVariants as reason;
+ghost use Rattle.runlog.specs.declared.note.Note.TheVariants as note;
+ghost use Rattle.runlog.specs.declared.note.RunCounts.{RunCounts};
+ghost use Rattle.runlog.specs.declared.note.Trouble.{Trouble};
+ghost use Rattle.runlog.specs.declared.note.Trouble.TheVariants as trouble;
+ghost use Rattle.runlog.specs.declared.order.Order.{Order};
+ghost use Rattle.runlog.specs.declared.order.OrderKind.TheVariants as act;
+ghost use Rattle.runlog.specs.declared.order.Value.TheVariants as value;
+ghost use Rattle.runlog.specs.declared.severity.Severity.TheVariants.{Error, Warning, Notice, Info};
+
+/// The words for what a command wants, for its value and for what becomes of it; why a report isn't
+/// passed on; what is said of the state on the disk and of what can't begin; and whose address
+/// stands in a line.
+pub fn each_word_by_example()
+    ensures acts { (act_words act.Select ≡ codes " select")
+        × (act_words act.Execute ≡ codes " execute") × (act_words act.Activate ≡ codes " activate")
+        × (act_words act.Deactivate ≡ codes " deactivate") × (act_words act.Other ≡ []) }
+    ensures values { (value_words value.Off ≡ codes " off") × (value_words value.On ≡ codes " on")
+        × (value_words value.Lower ≡ codes " lower") × (value_words value.Higher ≡ codes " higher")
+        × (value_words (value.Number 32767) ≡ codes " 32767")
+        × (value_words (value.Below 32768) ≡ codes " -32768") × (value_words value.Unknown ≡ []) }
+    ensures fates { (fate_words fate.Sent 7 ≡ codes " sent to station 7")
+        × (fate_words fate.Confirmed 7 ≡ codes " confirmed by station 7")
+        × (fate_words fate.Denied 7 ≡ codes " refused by station 7")
+        × (fate_words fate.Terminated 7 ≡ codes " terminated by station 7")
+        × (fate_words fate.Busy 7 ≡ codes " not taken: station 7 is busy")
+        × (fate_words fate.GivenUp 7 ≡ codes " given up: station 7 doesn't answer")
+        × (reason_words reason.Closed ≡ codes "its connection was closed") }
+    ensures skips { (skip_words skip.TooShort ≡ codes "too short")
+        × (skip_words skip.TypeUnknown ≡ codes "type not known")
+        × (skip_words skip.NoObjects ≡ codes "no objects")
+        × (skip_words skip.OtherLength ≡ codes "length doesn't fit, look at line.ioa")
+        × (skip_words skip.PastSize ≡ codes "object address past its size")
+        × (skip_words skip.Negative ≡ codes "it says that a type is unknown") }
+    ensures states { (words note.StateBegins ≡ codes "state: begins anew")
+        × (words (note.StateGoesOn 12) ≡ codes "state: goes on, 12 queued")
+        × (words note.SettingsChanged ≡ codes "state: settings have changed")
+        × (words note.StateStale ≡ codes "state is stale: each link is reset")
+        × (words note.StatePutAside ≡ codes "state can't be read: put aside")
+        × (words (note.State notices.NotKept)
+        ≡ codes "state isn't kept: what is polled now is lost if the gateway stops")
+        × (words (note.State notices.KeptAgain) ≡ codes "state is kept again") }
+    ensures troubles { (words (note.Trouble trouble.StateInUse)
+        ≡ codes "state in use by another process")
+        × (words (note.Trouble trouble.StateUnusable) ≡ codes "state can't be kept there")
+        × (words (note.Trouble trouble.StatusUnusable) ≡ codes "status port can't be used") }
+    ensures addresses { (a : IpAddr) (s : SocketAddr) →
+        (words (note.Listening s) ≡ codes "listening at " ++ socket_text s)
+        × (peer_words (Some a) ≡ codes " by " ++ ip_text a)
+        × (words (note.Opened (Some a)) ≡ codes "connection opened" ++ peer_words (Some a))
+        × (last_words (Some a) ≡ codes ", the last at " ++ ip_text a) }
+{}
+
+/// How severe the lines are of which `severities_by_example` says nothing, whatever else they say:
+/// with these each line has its severity.
+pub fn each_severity_by_example()
+    ensures notices { (n : ℕ) → (severity_of note.LineReached ≡ Notice)
+        × (severity_of note.LineReachedAgain ≡ Notice) × (severity_of (note.Up n) ≡ Notice)
+        × (severity_of (note.Again n) ≡ Notice) × (severity_of note.QueueFree ≡ Notice)
+        × (severity_of note.StateBegins ≡ Notice) × (severity_of (note.StateGoesOn n) ≡ Notice)
+        × (severity_of note.SettingsChanged ≡ Notice)
+        × (severity_of (note.State notices.KeptAgain) ≡ Notice) }
+    ensures information { (n : ℕ) (peer : Option IpAddr) (s : SocketAddr) (c : RunCounts)
+        (o : Order) → (severity_of (note.Listening s) ≡ Info)
+        × (severity_of (note.Opened peer) ≡ Info) × (severity_of note.Started ≡ Info)
+        × (severity_of note.Stopped ≡ Info) × (severity_of (note.Asked n) ≡ Info)
+        × (severity_of (note.Counts c) ≡ Info) × (severity_of (note.Ordered o peer) ≡ Info)
+        × (severity_of (note.Fate o n fate.Sent) ≡ Info)
+        × (severity_of (note.Fate o n fate.Confirmed) ≡ Info)
+        × (severity_of (note.Fate o n fate.Terminated) ≡ Info) }
+    ensures warnings { (n kind : ℕ) (peer : Option IpAddr) (o : Order) (cut : CutCause)
+        (close : Close) (why : Reason) (skipped : Skip) →
+        (severity_of (note.Cut cut) ≡ Warning) × (severity_of (note.Closed close) ≡ Warning)
+        × (severity_of (note.RefusedPeers n peer) ≡ Warning)
+        × (severity_of (note.Refused o peer why) ≡ Warning)
+        × (severity_of (note.Fate o n fate.Denied) ≡ Warning)
+        × (severity_of (note.Fate o n fate.Busy) ≡ Warning)
+        × (severity_of (note.Fate o n fate.GivenUp) ≡ Warning)
+        × (severity_of (note.Skipped n kind skipped) ≡ Warning) }
+    ensures errors { (n : ℕ) (why : Trouble) → (severity_of (note.Trouble why) ≡ Error)
+        × (severity_of (note.Gap n) ≡ Error) }
+{}
