@@ -5,6 +5,7 @@ pub mod Counts
 pub mod Joined
 pub mod ObjectChecks
 pub mod ObjectLists
+pub mod OctetPlaces
 pub mod PassedOn
 pub mod Pieces
 pub mod Related

@@ -2,6 +2,7 @@ pub mod Asdu
 pub mod Examples
 pub mod Fields
 pub mod InformationObjects
+pub mod Layout
 pub mod Objects
 pub mod Reading
 pub mod Refusals

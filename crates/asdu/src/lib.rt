@@ -18,6 +18,7 @@
 mod examples;
 mod header;
 mod laws;
+mod layout;
 mod objects;
 mod reading;
 mod sizes;
@@ -33,6 +34,7 @@ pub use laws::{
     one_asdu_one_spelling, pieces_are_as_large_as_can_be, pieces_carry_the_report,
     tagged_types_are_thirteen_above, worked_examples_hold,
 };
+pub use layout::octets_stand_where_the_standard_has_them;
 pub use objects::{Object, Objects};
 pub use reading::{head, read};
 pub use sizes::{CaSize, CauseSize, IoaSize, Sizes};
