@@ -64,10 +64,12 @@ ends_with e s k = record e { first = s; connection = k }
 by_answers : (s : EventSource) (v k : Option Peer) (c l : Got) (m : Option Presence) (t : ℕ)
     (buf : List ℕ) (e : LiveEnds)
     → InRound s (ends_with e s k)
-    (round_from s t (record { peer = v; connection = c; line = l; presence = m }) buf (ends_with e s k))
+    (round_from s t (record { peer = v; connection = c; line = l; presence = m }) buf
+    (ends_with e s k))
 unfolding InRound Looked
 by_answers Listener (Some p) k c l m t buf e = (refl, tt)
-by_answers Listener None None c (Octets len) m t buf e = (refl, (attempted_more e.listener false, tt))
+by_answers Listener None None c (Octets len) m t buf e =
+    (refl, (attempted_more e.listener false, tt))
 by_answers Listener None None c Quiet m t buf e =
     (refl, attempted_more e.listener false, tt, noted_more e.line WasQuiet, refl, refl)
 by_answers Listener None None c Gone m t buf e = (refl, (attempted_more e.listener false, tt))

@@ -13,7 +13,8 @@ use Rattle.live.specs.Ends.{LiveEnds, Peer, IsAllowedPeer, Answers, QuietRounds,
 use Rattle.live.specs.Ends.{LooksOn, Turns, PutsOut, as_logged, looking, event_at, taken_by}
 use Rattle.live.specs.Ends.{clock_read_at, turn_by, sources_by, held_by, IsFront, round, look}
 use Rattle.live.specs.Ends.{unless_found, next_round, looked_at, after, nothing_more, accepted}
-use Rattle.live.specs.Ends.{of_peer, of_open, of_line, read_from, peer_read, written_open, closed_by}
+use Rattle.live.specs.Ends.{of_peer, of_open, of_line, read_from, peer_read, written_open}
+use Rattle.live.specs.Ends.{closed_by}
 use Rattle.live.specs.Ends.{after_action}
 use Rattle.std.proofs.lemmas.List.{append-nil}
 use Rattle.live.specs.Passed.{given, line_in, line_out, centre_in, centre_out, LogsLine}

@@ -5,7 +5,8 @@ use Rattle.live.specs.Timing.{is_behind, line_looked_at}
 use Rattle.live.specs.Ends.{LiveEnds, Peer, Answers, IsTurn, QuietRounds, NoRound, OneRound}
 use Rattle.live.specs.Ends.{LooksOn, clock_read_at, turn_by, sources_by, held_by, look}
 use Rattle.live.specs.Ends.{unless_found, next_round, looked_at, after, nothing_more, accepted}
-use Rattle.live.specs.Ends.{of_peer, of_open, of_line, read_from, peer_read, Turns, looking, wall_given_at}
+use Rattle.live.specs.Ends.{of_peer, of_open, of_line, read_from, peer_read, Turns, looking}
+use Rattle.live.specs.Ends.{wall_given_at}
 use Rattle.live.proofs.Apart.{Apart, turn_same, log_of, log_apart, walled_of, walled_apart}
 use Rattle.live.proofs.Apart.{allow_list_of, allow_list_apart, taken_same}
 use Rattle.live.specs.declared.found.SourceEvent.{SourceEvent}

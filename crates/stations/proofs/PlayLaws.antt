@@ -1,6 +1,7 @@
 -- Connections, time and turns of outstations that are played.
 use Rattle.std.proofs.Common.{◌≡◌, ◌≢◌, ℕ, zero, suc, ◌+◌, ◌-◌, ◌<◌, ◌≤◌, Bool, true, false, ◌&&◌}
-use Rattle.std.proofs.Common.{List, [], ◌∷◌, ◌++◌, length, map, min, Option, Some, None, ap, refl, sym}
+use Rattle.std.proofs.Common.{List, [], ◌∷◌, ◌++◌, length, map, min, Option, Some, None, ap, refl}
+use Rattle.std.proofs.Common.{sym}
 use Rattle.std.proofs.Common.{◌∙◌, subst, arith, inl, inr}
 use Rattle.std.proofs.Math.Nat.{eq-or-lt_of_le}
 use Rattle.std.proofs.lemmas.Bool.{ltb-true}
@@ -117,8 +118,20 @@ changed_other (y ∷ xs) (suc i) (suc j) change other =
 
 one_more_there : (class : Class) (report : List ℕ) (s : Secondary)
     → HasOneMore class report s (with_report class report s)
-one_more_there One report s = record { behind = refl; other = refl; address = refl; accepted = refl }
-one_more_there Two report s = record { behind = refl; other = refl; address = refl; accepted = refl }
+one_more_there One report s = record {
+  behind = refl;
+  other = refl;
+  address = refl;
+  accepted =
+      refl;
+}
+one_more_there Two report s = record {
+  behind = refl;
+  other = refl;
+  address = refl;
+  accepted =
+      refl;
+}
 
 pub report_here : (i : ℕ) (class : Class) (report : List ℕ) (old new : OutstationsState)
     (s : Secondary) → IsReported i class report old true new → slice_get old.stations i ≡ Some s

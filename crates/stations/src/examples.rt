@@ -10,11 +10,18 @@ ghost use Rattle.stations.specs.declared.cue.Cue.TheVariants.{Confirm, Delayed, 
 pub fn lines_are_read_by_example()
     ensures timed { (cue_in link.One 4 (codes "at 500 report 2 1 0A0B")
         ≡ Some (Timed (record {
-          station = 1; class = class.One; report = 10 ∷ 11 ∷ []; every = None; due = Some 500;
+          station = 1;
+          class = class.One;
+          report = 10 ∷ 11 ∷ [];
+          every = None;
+          due = Some 500;
         })))
         × (cue_in link.One 4 (codes "every 60000 report 4 2 0A")
         ≡ Some (Timed (record {
-          station = 3; class = class.Two; report = 10 ∷ []; every = Some 60000;
+          station = 3;
+          class = class.Two;
+          report = 10 ∷ [];
+          every = Some 60000;
           due = Some 60000;
         })))
         × (cue_in link.One 4 (codes "at 500 report 5 1 0A0B") ≡ None)

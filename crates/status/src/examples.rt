@@ -75,8 +75,15 @@ pub fn answers_by_example()
 pub fn pages_by_example()
     ensures station { (s : StationView) → s.name.now ≡ codes "Mill" →
         json_of_station (record s {
-          address = 1; common_address = 2; standing = stands.Silent; since_ms = 3;
-          last_report_ms = Some 4; reports = 5; skipped = 6; gaps = 7; commands = 8;
+          address = 1;
+          common_address = 2;
+          standing = stands.Silent;
+          since_ms = 3;
+          last_report_ms = Some 4;
+          reports = 5;
+          skipped = 6;
+          gaps = 7;
+          commands = 8;
         })
         ≡ codes "{\"name\":\"Mill\",\"address\":1,\"common_address\":2,"
         ++ codes "\"standing\":\"silent\",\"since_ms\":3,\"last_report_ms\":4,\"reports\":5,"
@@ -92,7 +99,12 @@ pub fn pages_by_example()
         ≡ codes "]},\"state\":\"not kept\",\"stations\":[" }
     ensures families { (s : StationView) →
         families_text (record s {
-          address = 1; standing = stands.Up; reports = 5; skipped = 6; gaps = 7; commands = 8;
+          address = 1;
+          standing = stands.Up;
+          reports = 5;
+          skipped = 6;
+          gaps = 7;
+          commands = 8;
         } ∷ [])
         ≡ codes "# HELP telegate_station_up Whether the outstation answers.\n"
         ++ codes "# TYPE telegate_station_up gauge\ntelegate_station_up{station=\"1\"} 1\n"
