@@ -98,13 +98,13 @@ stations_have_turns now i old new round lt =
 
 -- ---- Reports
 
+some_same : {A : Type 0} (y x : A) → Some y ≡ Some x → y ≡ x
+some_same y x e = cc
+
 changed_get : {A : Type 0} → (xs : List A) (i : ℕ) (change : A → A) (x : A)
     → slice_get xs i ≡ Some x → slice_get (changed_at i change xs) i ≡ Some (change x)
 changed_get [] i change x is = cc
-changed_get (y ∷ xs) zero change x is = ap (λ (z : A). Some (change z)) (some_same is)
-  where
-    some_same : Some y ≡ Some x → y ≡ x
-    some_same e = cc
+changed_get (y ∷ xs) zero change x is = ap (λ z. Some (change z)) (some_same y x is)
 changed_get (y ∷ xs) (suc i) change x is = changed_get xs i change x is
 
 changed_other : {A : Type 0} → (xs : List A) (i j : ℕ) (change : A → A) → j ≢ i
@@ -186,7 +186,7 @@ none_left i class report old new is = is.new_is
 
 -- ---- Replies are reports of class 1
 
-class2_of : List Secondary → List (List (List ℕ))
+abbrev class2_of : List Secondary → List (List (List ℕ))
 class2_of ss = map (λ (s : Secondary). s.class2) ss
 
 class2_kept : (ss : List Secondary) (i : ℕ) (report : List ℕ)

@@ -252,7 +252,7 @@ replied size sizes refuses is_confirmed command reply v cause is has fits (c, re
     let whole : reply ≡ Some (slice_set command 2 cause) =
     same ∙ ap (λ (b : Bool). if b then replied_with command c else None) fits
     ∙ ap (replied_with command) chosen in
-    subst IsSome (sym whole) omega
+    subst IsSome (sym whole) refl
 
 pub activations_are_confirmed : (size : LinkSize) (sizes : Sizes) (refuses : Bool)
     (command : List ℕ) (reply : Option (List ℕ)) (v : AsduValue) → IsAsdu sizes v command

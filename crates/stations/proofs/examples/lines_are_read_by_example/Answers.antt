@@ -1,10 +1,8 @@
 use Rattle.std.proofs.Common.{refl}
-use Rattle.sim.specs.Directives.{reporting_by}
 use Rattle.stations.proofs.examples.lines_are_read_by_example.Goals as goal
 
 pub returns-clause-timed : goal.returns-clause-timed
-unfolding reporting_by
-returns-clause-timed c = (refl, refl, refl, refl)
+returns-clause-timed c class report = (refl, refl, refl, refl)
 
 pub returns-clause-habits : goal.returns-clause-habits
 returns-clause-habits c = (refl, refl, refl, refl)
