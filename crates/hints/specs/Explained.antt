@@ -1,5 +1,5 @@
 -- What is said of a fault of settings or of a site's file (texts of this gateway's own profile).
-use Rattle.std.specs.Prelude.{◌≡◌, ◌≤◌, ◌==◌, ◌||◌, ◌⊎◌, ℕ, Bool, IsTrue, codes, List, [], ◌∷◌}
+use Rattle.std.specs.Prelude.{◌≡◌, ◌≤◌, ◌<◌, ◌==◌, ◌||◌, ◌⊎◌, ℕ, Bool, IsTrue, codes, List, [], ◌∷◌}
 use Rattle.std.specs.Prelude.{◌++◌, length, take}
 use Rattle.std.specs.Prelude.{slice_range, fold, Option, Some, None, string_bytes}
 use Rattle.std.specs.Borrow.{Bor}
@@ -106,11 +106,12 @@ abbrev pub IsItemOf : File → (path : List ℕ) → Members → Option ℕ → 
 IsItemOf Settings path root item = Unit {0}
 IsItemOf Site path root item = IsTrue (names_station path) → item ≡ wrong_station root
 
--- the same number under this key of another station, which may be none
+-- the same key of a station before this one, whose number it has, which may be none
 abbrev pub IsTwin : Spot → List ℕ → Option Span → Type 0
 IsTwin spot text None = Unit {0}
 IsTwin spot text (Some s) =
-    (other : ℕ) × IsValueFound (record spot { item = Some other }) text (Some s)
+    (item other : ℕ) × (spot.item ≡ Some item) × (other < item)
+    × IsValueFound (record spot { item = Some other }) text (Some s)
 
 -- the lines of a fault of this key
 pub record AreKeyLines (file : File) (text path lines : List ℕ) : Type 0 where

@@ -5,8 +5,8 @@
 //! [`explain`] gives these lines for the fault that `settings` found, and [`explain_site`] for that
 //! of `sitefile`. Proved: where a place is given, the value of that key stands there, or the key
 //! belongs there (`toml_places`); the words are those of `specs/Explained.antt`; of a site's
-//! stations the first that is wrong is meant. Which station of settings is meant is tested, and
-//! which other one has its number.
+//! stations the first that is wrong is meant; the other station that has its number is one before
+//! it. Which station of settings is meant is tested, and which one before it has its number.
 #![tactic(auto)]
 
 mod explaining;

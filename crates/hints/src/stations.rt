@@ -28,7 +28,9 @@ pub(crate) fn station_with(root: &Table, path: &str) -> Option<usize> {
 }
 
 /// The first station before this one with the same number under this key.
-pub(crate) fn twin_station(root: &Table, item: usize, key: &str) -> Option<usize> {
+pub(crate) fn twin_station(root: &Table, item: usize, key: &str) -> Option<usize>
+    ensures { IfSome result (λ other. other < item) }
+{
     let stations = stations(root);
     if item < stations.len() {
         twin(stations, item, key)
@@ -89,6 +91,7 @@ fn number(table: &Value, key: &str) -> Option<i64> {
 /// The first station before this one with the same number under this key.
 fn twin(stations: &[Value], item: usize, key: &str) -> Option<usize>
     requires { item < length stations.now }
+    ensures { IfSome result (λ other. other < item) }
 {
     let own = number(&stations[item], key)?;
     for other in 0..item {
