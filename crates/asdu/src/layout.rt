@@ -4,10 +4,14 @@ ghost use Rattle.std.specs.Prelude.{if◌then◌else◌, true, false, Some};
 ghost use Rattle.elements.specs.Octets.{AreOctets};
 ghost use Rattle.elements.specs.Types.{row};
 ghost use Rattle.asdu.specs.declared.sizes.CauseSize.TheVariants as causes;
-ghost use Rattle.asdu.specs.Asdu.{Info};
+ghost use Rattle.asdu.specs.Asdu.{AsduValue, Info};
 ghost use Rattle.asdu.specs.Layout.{OfEachAsdu, common_address_at, common_address_place};
 ghost use Rattle.asdu.specs.Layout.{objects_place, address_octets, content_octets};
-ghost use Rattle.asdu.specs.Layout.{StandsApart, StandsInSequence};
+ghost use Rattle.asdu.specs.Layout.{StandsApart, StandsInSequence, HaveOneHead, IsSameIn};
+ghost use Rattle.std.specs.List.{AllByRecursion};
+ghost use Rattle.asdu.specs.declared.sizes.Sizes.{Sizes};
+ghost use Rattle.asdu.specs.Translation.{report_pieces};
+ghost use Rattle.asdu.specs.Writing.{carried};
 
 /// Where each octet of an ASDU stands, whatever its sizes, its values and the number of its objects
 /// (IEC 60870-5-101).
@@ -42,4 +46,15 @@ pub fn octets_stand_where_the_standard_has_them()
     ensures together_length { OfEachAsdu (λ s u xs. u.sequence ≡ true →
         length xs ≡ objects_place s.cause s.ca + address_octets s.ioa
         + length u.infos * content_octets u.kind) }
+{}
+
+/// Each piece of a report has its type, its SQ and its cause octet, with the test bit and P/N.
+pub fn pieces_keep_the_head()
+    ensures { OfEachAsdu (λ s u xs. AllByRecursion (λ p. HaveOneHead xs p) (report_pieces u)) }
+{}
+
+/// What [`crate::write`] makes in other sizes has the same type, SQ, cause octet, addresses,
+/// elements and tags. It has the same originator, or none where causes have one octet.
+pub fn other_sizes_keep_the_asdu()
+    ensures { (s : Sizes) (u : AsduValue) → IsSameIn s u (carried s u) }
 {}

@@ -34,7 +34,9 @@ pub use laws::{
     one_asdu_one_spelling, pieces_are_as_large_as_can_be, pieces_carry_the_report,
     tagged_types_are_thirteen_above, worked_examples_hold,
 };
-pub use layout::octets_stand_where_the_standard_has_them;
+pub use layout::{
+    octets_stand_where_the_standard_has_them, other_sizes_keep_the_asdu, pieces_keep_the_head,
+};
 pub use objects::{Object, Objects};
 pub use reading::{head, read};
 pub use sizes::{CaSize, CauseSize, IoaSize, Sizes};
